@@ -1,0 +1,82 @@
+-- How what reads show is put together.
+use Rattle.std.proofs.Common.{◌≡◌, ℕ, List, [], ◌∷◌, ◌++◌, length, Option, Some, sym, ◌∙◌, ap}
+use Rattle.std.specs.List.{AllByRecursion}
+use Rattle.base_model.specs.Bytes.{range}
+use Rattle.base_model.specs.Shown.{HasPart, Shown, OnlyReads}
+
+-- what holds of each element of two lists holds of those of both
+both_all : {A : Type 0} (P : A → Type 0) (xs ys : List A) → AllByRecursion P xs → AllByRecursion P ys → AllByRecursion P (xs ++ ys)
+both_all P [] ys first second = second
+both_all P (x ∷ xs) ys first second = (first.0, both_all P xs ys first.1 second)
+
+front_all : {A : Type 0} (P : A → Type 0) (xs ys : List A) → AllByRecursion P (xs ++ ys) → AllByRecursion P xs
+front_all P [] ys all = tt
+front_all P (x ∷ xs) ys all = (all.0, front_all P xs ys all.1)
+
+back_all : {A : Type 0} (P : A → Type 0) (xs ys : List A) → AllByRecursion P (xs ++ ys) → AllByRecursion P ys
+back_all P [] ys all = all
+back_all P (x ∷ xs) ys all = back_all P xs ys all.1
+
+map_all : {A : Type 0} (P Q : A → Type 0) (xs : List A) → ((x : A) → P x → Q x) → AllByRecursion P xs → AllByRecursion Q xs
+map_all P Q [] each all = tt
+map_all P Q (x ∷ xs) each all = (each x all.0, map_all P Q xs each all.1)
+
+module _ {D : Type 0} (gave : D → D → ℕ → List ℕ → Type 0) (content : D → Option (List ℕ)) (size : D → ℕ) (same : D → D → Type 0) where
+  -- what holds of each image of the disk's size
+  pub shown_always : (old new : D) (P : List ℕ → Type 0) → ((image : List ℕ) → length image ≡ size old → P image) → Shown gave content size old new P
+  shown_always old new P always = record { parts = []; given = tt; told = λ image told. tt; shows = λ image sized has. always image sized }
+
+  -- what one read gave
+  pub shown_read : (old new : D) (at count : ℕ) (bytes : List ℕ) → length bytes ≡ count → gave old new at bytes → ((image : List ℕ) → content old ≡ Some image → bytes ≡ range at count image)
+      → Shown gave content size old new (λ image. range at count image ≡ bytes)
+  shown_read old new at count bytes long given told = record {
+    parts = record { at = at; bytes = bytes } ∷ [];
+    given = (given, tt);
+    told = λ image is. (ap (λ n. range at n image) long ∙ sym (told image is), tt);
+    shows = λ image sized has. ap (λ n. range at n image) (sym long) ∙ has.0;
+  }
+
+  pub shown_weaker : (old new : D) (P Q : List ℕ → Type 0) → ((image : List ℕ) → length image ≡ size old → P image → Q image) → Shown gave content size old new P → Shown gave content size old new Q
+  shown_weaker old new P Q weaker shown = record {
+    parts = shown.parts;
+    given = shown.given;
+    told = shown.told;
+    shows = λ image sized has. weaker image sized (shown.shows image sized has);
+  }
+
+  -- of a disk that tells its content it is shown of the content
+  pub shown_told : (old new : D) (P : List ℕ → Type 0) (image : List ℕ) → Shown gave content size old new P → content old ≡ Some image → length image ≡ size old → P image
+  shown_told old new P image shown told sized = shown.shows image sized (shown.told image told)
+
+  module _ (gave_after : (d e f : D) (at : ℕ) (bytes : List ℕ) → gave d e at bytes → same e f → gave d f at bytes) where
+    -- what was shown stays shown
+    pub shown_later : (old mid new : D) (P : List ℕ → Type 0) → Shown gave content size old mid P → same mid new → Shown gave content size old new P
+    shown_later old mid new P shown later = record {
+      parts = shown.parts;
+      given = map_all (λ part. gave old mid part.at part.bytes) (λ part. gave old new part.at part.bytes) shown.parts (λ part given. gave_after old mid new part.at part.bytes given later) shown.given;
+      told = shown.told;
+      shows = shown.shows;
+    }
+
+    module _ (gave_before : (d e f : D) (at : ℕ) (bytes : List ℕ) → same d e → gave e f at bytes → gave d f at bytes) where
+      -- what is shown after calls that only read
+      pub shown_after : (faults : D → ℕ) (old mid new : D) (Q : List ℕ → Type 0) → OnlyReads content size faults same old mid → Shown gave content size mid new Q → Shown gave content size old new Q
+      shown_after faults old mid new Q quiet shown = record {
+        parts = shown.parts;
+        given = map_all (λ part. gave mid new part.at part.bytes) (λ part. gave old new part.at part.bytes) shown.parts (λ part given. gave_before old mid new part.at part.bytes quiet.same_disk given) shown.given;
+        told = λ image is. shown.told image (quiet.content_is ∙ is);
+        shows = λ image sized has. shown.shows image (sized ∙ sym quiet.size_is) has;
+      }
+
+      -- what was shown before and what is shown now
+      pub shown_both : (faults : D → ℕ) (old mid new : D) (P Q : List ℕ → Type 0) → Shown gave content size old mid P → OnlyReads content size faults same old mid → Shown gave content size mid new Q → same mid new
+          → Shown gave content size old new (λ image. P image × Q image)
+      shown_both faults old mid new P Q first quiet second later =
+          let front = shown_later old mid new P first later in
+          let back = shown_after faults old mid new Q quiet second in
+          record {
+            parts = front.parts ++ back.parts;
+            given = both_all (λ part. gave old new part.at part.bytes) front.parts back.parts front.given back.given;
+            told = λ image is. both_all (HasPart image) front.parts back.parts (front.told image is) (back.told image is);
+            shows = λ image sized has. (front.shows image sized (front_all (HasPart image) front.parts back.parts has), back.shows image sized (back_all (HasPart image) front.parts back.parts has));
+          }

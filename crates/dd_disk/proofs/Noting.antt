@@ -1,0 +1,258 @@
+-- One more call of a disk in memory.
+use Rattle.std.proofs.Common.{◌≡◌, ◌⊎◌, inl, inr, ⊎_elim, ℕ, ◌+◌, ◌<◌, ◌≤◌, Bool, true, false, List, [], ◌∷◌, ◌++◌, ◌-◌, length, get_or, take, drop, refl, sym, ◌∙◌, ap, subst, arith, append_assoc, take-append-drop}
+use Rattle.std.proofs.lemmas.List.{append-nil}
+use Rattle.std.proofs.lemmas.Slice.{first_rest}
+use Rattle.dd_disk.specs.Disk.{Torn, Follows, Elapses}
+use Rattle.dd_disk.specs.Calls.{first_of, end_of, shown_by, image_by, images_by, shown_after, images_after, images_before, images_of, images_past, IsPast, Made, Skipped, Notes, as_read}
+use Rattle.dd_disk.specs.declared.mem.MemDisk.{MemDisk}
+use Rattle.dd_disk.specs.declared.call.Call.{Call}
+use Rattle.dd_disk.specs.declared.call.Asked.{Asked}
+use Rattle.dd_disk.specs.declared.call.Asked.TheVariants.{Read, Write, Sync}
+use Rattle.dd_disk.specs.declared.call.Noted.{Noted}
+use Rattle.dd_disk.specs.declared.call.Noted.TheVariants.{Done, Failed, Missed}
+use Rattle.base_model.proofs.Ranges.{length-written}
+use Rattle.dd_disk.proofs.Images.{torn_same, torn_length}
+
+module _ (last : Call) where
+  shown-push : (calls : List Call) (shown : List ℕ) → shown_after shown (calls ++ last ∷ []) ≡ shown_by last.asked (shown_after shown calls)
+  shown-push [] shown = refl
+  shown-push (call ∷ calls) shown = shown-push calls (shown_by call.asked shown)
+
+  images_push : (calls : List Call) (shown : List ℕ) (images : List ℕ → Type 0) (c : List ℕ) → images_after shown images (calls ++ last ∷ []) c
+      → images_by last.asked last.done (shown_after shown calls) (images_after shown images calls) c
+  images_push [] shown images c left = left
+  images_push (call ∷ calls) shown images c left = images_push calls _ _ c left
+
+  before_push : (calls : List Call) (shown : List ℕ) (images : List ℕ → Type 0) (t : ℕ) (c : List ℕ) → images_before shown images (calls ++ last ∷ []) t c
+      → images_before shown images calls t c ⊎ images_after shown images calls c
+  before_push [] shown images t c (inl here) = inr here.1
+  before_push [] shown images t c (inr none) = absurd none
+  before_push (call ∷ calls) shown images t c (inl here) = inl (inl here)
+  before_push (call ∷ calls) shown images t c (inr there) = ⊎_elim (λ old. inl (inr old)) (λ now. inr now) (before_push calls _ _ t c there)
+
+  before_kept : (calls : List Call) (shown : List ℕ) (images : List ℕ → Type 0) (t : ℕ) (c : List ℕ) → images_before shown images calls t c → images_before shown images (calls ++ last ∷ []) t c
+  before_kept [] shown images t c left = absurd left
+  before_kept (call ∷ calls) shown images t c (inl here) = inl here
+  before_kept (call ∷ calls) shown images t c (inr there) = inr (before_kept calls _ _ t c there)
+
+  before_last : (calls : List Call) (shown : List ℕ) (images : List ℕ → Type 0) (t : ℕ) (c : List ℕ) → t < last.number → images_after shown images calls c → images_before shown images (calls ++ last ∷ []) t c
+  before_last [] shown images t c lt left = inl (lt, left)
+  before_last (call ∷ calls) shown images t c lt left = inr (before_last calls _ _ t c lt left)
+
+  past_push : (calls : List Call) (size count : ℕ) → last.number ≡ count + 1 → end_of last.asked ≤ size → IsPast size count calls → IsPast size (count + 1) (calls ++ last ∷ [])
+  past_push [] size count is fits past = (omega (arith, is), (fits, tt))
+  past_push (call ∷ calls) size count is fits past = (omega (arith, past.0), (past.1.0, past_push calls size count is fits past.1.1))
+
+past_later : (calls : List Call) (size count now : ℕ) → count ≤ now → IsPast size count calls → IsPast size now calls
+past_later [] size count now le past = tt
+past_later (call ∷ calls) size count now le past = (omega (arith, le, past.0), (past.1.0, past_later calls size count now le past.1.1))
+
+-- a call keeps the length
+shown_length : (asked : Asked) (shown : List ℕ) → end_of asked ≤ length shown → length (shown_by asked shown) ≡ length shown
+shown_length (Read at count) shown fits = refl
+shown_length (Write at bytes) shown fits = length-written at bytes.items shown fits
+shown_length Sync shown fits = refl
+
+images_length : (asked : Asked) (done : Bool) (size : ℕ) (shown : List ℕ) (images : List ℕ → Type 0) → length shown ≡ size → end_of asked ≤ size → ((c : List ℕ) → images c → length c ≡ size)
+    → (c : List ℕ) → images_by asked done shown images c → length c ≡ size
+images_length (Read at count) done size shown images is fits each c left = each c left
+images_length (Write at bytes) done size shown images is fits each c left =
+    let was = each left.0 left.1 in
+    torn_length at (length bytes.items) left.0 c (omega (arith, fits, was)) left.2 ∙ was
+images_length Sync true size shown images is fits each c left = ap length left ∙ is
+images_length Sync false size shown images is fits each c left = each c left
+
+lengths : (calls : List Call) (size count : ℕ) (shown : List ℕ) (images : List ℕ → Type 0) → IsPast size count calls → length shown ≡ size → ((c : List ℕ) → images c → length c ≡ size)
+    → (length (shown_after shown calls) ≡ size) × ((c : List ℕ) → images_after shown images calls c → length c ≡ size)
+lengths [] size count shown images past is each = (is, each)
+lengths (call ∷ calls) size count shown images past is each =
+    lengths calls size count _ _ past.1.1 (shown_length call.asked shown (omega (arith, is, past.1.0)) ∙ is) (images_length call.asked call.done size shown images is past.1.0 each)
+
+-- what a disk in memory keeps: its calls made again give what reads give, and they lie in the past
+pub record Stands (first bytes : List ℕ) (count : ℕ) (calls : List Call) : Type 0 where
+  pub replayed : shown_after first calls ≡ bytes
+  pub past : IsPast (length first) count calls
+
+pub stands : (d : MemDisk) → Stands (first_of d.first d.bytes.items) d.bytes.items d.log.count d.log.calls.items
+stands d = record { replayed = d.replayed; past = d.past }
+
+module _ (first bytes : List ℕ) (count : ℕ) (calls : List Call) (before : Stands first bytes count calls) where
+  both : (length (shown_after first calls) ≡ length first) × ((c : List ℕ) → images_of first calls c → length c ≡ length first)
+  both = lengths calls (length first) count first (λ d. d ≡ first) before.past refl (λ c is. ap length is)
+
+  same_size : length bytes ≡ length first
+  same_size = ap length (sym before.replayed) ∙ both.0
+
+  module _ (first' : List ℕ) (kept : first' ≡ first) (new : List Call) (now : ℕ) where
+    -- a call that couldn't be noted
+    pub missed_stands : Skipped count now × (new ≡ calls) → Stands first' bytes now new
+    missed_stands missed = record {
+      replayed = ap (λ (f : List ℕ). shown_after f new) kept ∙ ap (shown_after first) missed.1 ∙ before.replayed;
+      past = subst (λ (f : List ℕ). IsPast (length f) now new) (sym kept) (
+          subst (λ (l : List Call). IsPast (length first) now l) (sym missed.1) (past_later calls (length first) count now missed.0.later before.past)
+          );
+    }
+
+    -- it leaves each image as after a write that didn't come to the disk
+    pub missed_follows : (at n : ℕ) → at + n ≤ length bytes → new ≡ calls → Follows (Torn at n) (images_of first calls) (images_of first' new)
+    missed_follows at n fits same c left =
+        let had = subst (λ (l : List Call). images_of first l c) same (subst (λ (f : List ℕ). images_of f new c) kept left) in
+        (c, had, torn_same at n c (omega (arith, fits, same_size, both.1 c had)))
+
+    -- a call that was noted
+    module _ (asked : Asked) (done : Bool) (made : Made asked done count now calls new) where
+      abbrev last : Call
+      last = record { number = now; done = done; asked = asked }
+
+      pub made_stands : (bytes' : List ℕ) → bytes' ≡ shown_by asked bytes → end_of asked ≤ length bytes → Stands first' bytes' now new
+      made_stands bytes' shows fits = record {
+        replayed = ap (λ (f : List ℕ). shown_after f new) kept ∙ ap (shown_after first) made.noted ∙ shown-push last calls first ∙ ap (shown_by asked) before.replayed ∙ sym shows;
+        past = subst (λ (f : List ℕ). IsPast (length f) now new) (sym kept) (
+            subst (λ n. IsPast (length first) n new) (sym made.time) (
+            subst (λ (l : List Call). IsPast (length first) (count + 1) l) (sym made.noted) (past_push last calls (length first) count made.time (omega (arith, fits, same_size)) before.past)
+            )
+            );
+      }
+
+      pub made_images : (c : List ℕ) → images_of first' new c → images_by asked done bytes (images_of first calls) c
+      made_images c left =
+          let had = subst (λ (f : List ℕ). images_of f new c) kept left in
+          subst (λ (s : List ℕ). images_by asked done s (images_of first calls) c) before.replayed (images_push last calls first _ c (subst (λ (l : List Call). images_of first l c) made.noted had))
+
+      time_of_first : Elapses count now (images_past first calls) (images_past first new) (images_of first new)
+      time_of_first = record {
+        later = omega (arith, made.time);
+        nothing_else = λ t c le left. ⊎_elim (λ here. inr here) (λ had. inl (was t c (before_push last calls first _ t c (subst (λ (l : List Call). images_before first (λ d. d ≡ first) l t c) made.noted had)))) left;
+        keeps = λ t c le left. inr (subst (λ (l : List Call). images_before first (λ d. d ≡ first) l t c) (sym made.noted) (⊎_elim (before_last last calls first _ t c (omega (arith, made.time, le))) (before_kept last calls first _ t c) left));
+      }
+        where
+          was : (t : ℕ) (c : List ℕ) → images_before first (λ d. d ≡ first) calls t c ⊎ images_of first calls c → images_past first calls t c
+          was t c (inl had) = inr had
+          was t c (inr here) = inl here
+
+      pub made_time : Elapses count now (images_past first calls) (images_past first' new) (images_of first' new)
+      made_time = subst (λ (f : List ℕ). Elapses count now (images_past first calls) (images_past f new) (images_of f new)) (sym kept) time_of_first
+
+    missed_time_of_first : Skipped count now × (new ≡ calls) → Elapses count now (images_past first calls) (images_past first new) (images_of first new)
+    missed_time_of_first missed = subst (λ (l : List Call). Elapses count now (images_past first calls) (images_past first l) (images_of first l)) (sym missed.1) record {
+      later = missed.0.later;
+      nothing_else = λ t c le left. inl left;
+      keeps = λ t c le left. left;
+    }
+
+    pub missed_time : Skipped count now × (new ≡ calls) → Elapses count now (images_past first calls) (images_past first' new) (images_of first' new)
+    missed_time missed = subst (λ (f : List ℕ). Elapses count now (images_past first calls) (images_past f new) (images_of f new)) (sym kept) (missed_time_of_first missed)
+
+  -- a call that changes no byte
+  pub still : (outcome : Noted) (asked : Asked) (now : ℕ) (new : List Call) → shown_by asked bytes ≡ bytes → end_of asked ≤ length bytes → Notes outcome asked count now calls new
+      → Stands first bytes now new
+  still Done asked now new same fits made = made_stands first refl new now asked true made bytes (sym same) fits
+  still Failed asked now new same fits made = made_stands first refl new now asked false made bytes (sym same) fits
+  still Missed asked now new same fits missed = missed_stands first refl new now missed
+
+-- one image goes on
+image_goes : (asked : Asked) (done : Bool) (shown : List ℕ) (images : List ℕ → Type 0) (d c : List ℕ) → images d → image_by asked done shown d c → images_by asked done shown images c
+image_goes (Read at count) done shown images d c was is = subst images (sym is) was
+image_goes (Write at bytes) done shown images d c was is = (d, was, is)
+image_goes Sync true shown images d c was is = is
+image_goes Sync false shown images d c was is = subst images (sym is) was
+
+image_keeps : (asked : Asked) (done : Bool) (shown d c : List ℕ) → length shown ≡ length d → end_of asked ≤ length d → image_by asked done shown d c → length c ≡ length d
+image_keeps (Read at count) done shown d c long fits is = ap length is
+image_keeps (Write at bytes) done shown d c long fits is = torn_length at (length bytes.items) d c fits is
+image_keeps Sync true shown d c long fits is = ap length is ∙ long
+image_keeps Sync false shown d c long fits is = ap length is
+
+module _ (last : Call) where
+  images_more_push : (calls : List Call) (shown : List ℕ) (images : List ℕ → Type 0) (c : List ℕ) → images_by last.asked last.done (shown_after shown calls) (images_after shown images calls) c
+      → images_after shown images (calls ++ last ∷ []) c
+  images_more_push [] shown images c left = left
+  images_more_push (next ∷ calls) shown images c left = images_more_push calls _ _ c left
+
+  before_at : (calls after : List Call) (shown : List ℕ) (images : List ℕ → Type 0) (t : ℕ) (c : List ℕ) → t < last.number → images_after shown images calls c → images_before shown images (calls ++ last ∷ after) t c
+  before_at [] after shown images t c lt left = inl (lt, left)
+  before_at (next ∷ calls) after shown images t c lt left = inr (before_at calls after _ _ t c lt left)
+
+-- the calls up to some place were made again, on what reads give and on one image
+pub record Going (first : List ℕ) (calls rest : List Call) (shown image : List ℕ) : Type 0 where
+  pub made : List Call
+  pub split : made ++ rest ≡ calls
+  pub shows : shown ≡ shown_after first made
+  pub leaves : images_of first made image
+  pub count : ℕ
+  pub past : IsPast (length first) count rest
+  pub shown_size : length shown ≡ length first
+  pub image_size : length image ≡ length first
+
+past_split : (calls after : List Call) (size count : ℕ) → IsPast size count (calls ++ after) → IsPast size count calls × IsPast size count after
+past_split [] after size count past = (tt, past)
+past_split (call ∷ calls) after size count past =
+    let rest = past_split calls after size count past.1.1 in
+    ((past.0, (past.1.0, rest.0)), rest.1)
+
+pub going : (first : List ℕ) (calls made rest : List Call) (shown image : List ℕ) (count : ℕ) → IsPast (length first) count calls → made ++ rest ≡ calls → shown ≡ shown_after first made → image ≡ shown
+    → Going first calls rest shown image
+going first calls made rest shown image count past split shows same =
+    let parts = past_split made rest (length first) count (subst (λ (l : List Call). IsPast (length first) count l) (sym split) past) in
+    let size = ap length shows ∙ (lengths made (length first) count first (λ d. d ≡ first) parts.0 refl (λ c is. ap length is)).0 in
+    record {
+      made = made;
+      split = split;
+      shows = shows;
+      leaves = subst (images_of first made) (sym (same ∙ shows)) (as_read made first (λ d. d ≡ first) refl);
+      count = count;
+      past = parts.1;
+      shown_size = size;
+      image_size = ap length same ∙ size;
+    }
+
+pub past_front : (calls : List Call) (n size count : ℕ) → IsPast size count calls → IsPast size count (take n calls)
+past_front calls n size count past = (past_split (take n calls) (drop n calls) size count (subst (λ (l : List Call). IsPast size count l) (sym (take-append-drop n calls)) past)).0
+
+-- what is left of a replay
+pub record Replaying (first : List ℕ) (calls rest : List Call) (shown : List ℕ) : Type 0 where
+  pub gives : shown_after shown rest ≡ shown_after first calls
+  pub count : ℕ
+  pub past : IsPast (length first) count rest
+  pub size : length shown ≡ length first
+
+pub replays_on : (first : List ℕ) (calls rest after : List Call) (call : Call) (shown shown' : List ℕ) → rest ≡ call ∷ after → Replaying first calls rest shown → shown' ≡ shown_by call.asked shown
+    → Replaying first calls after shown'
+replays_on first calls rest after call shown shown' is so_far shows =
+    let past = subst (λ (l : List Call). IsPast (length first) so_far.count l) is so_far.past in
+    record {
+      gives = ap (λ s. shown_after s after) shows ∙ ap (shown_after shown) (sym is) ∙ so_far.gives;
+      count = so_far.count;
+      past = past.1.1;
+      size = ap length shows ∙ shown_length call.asked shown (omega (arith, past.1.0, so_far.size)) ∙ so_far.size;
+    }
+
+pub goes_further : (first : List ℕ) (calls after : List Call) (call : Call) (shown image shown' image' : List ℕ) → Going first calls (call ∷ after) shown image → shown' ≡ shown_by call.asked shown
+    → image_by call.asked call.done shown image image' → Going first calls after shown' image'
+goes_further first calls after call shown image shown' image' so_far shows leaves =
+    let fits = so_far.past.1.0 in
+    record {
+      made = so_far.made ++ call ∷ [];
+      split = append_assoc so_far.made (call ∷ []) after ∙ so_far.split;
+      shows = shows ∙ ap (shown_by call.asked) so_far.shows ∙ sym (shown-push call so_far.made first);
+      leaves = images_more_push call so_far.made first _ image' (
+          image_goes call.asked call.done _ (images_of first so_far.made) image image' so_far.leaves (subst (λ s. image_by call.asked call.done s image image') so_far.shows leaves)
+          );
+      count = so_far.count;
+      past = so_far.past.1.1;
+      shown_size = ap length shows ∙ shown_length call.asked shown (omega (arith, fits, so_far.shown_size)) ∙ so_far.shown_size;
+      image_size = image_keeps call.asked call.done shown image image' (so_far.shown_size ∙ sym so_far.image_size) (omega (arith, fits, so_far.image_size)) leaves ∙ so_far.image_size;
+    }
+
+-- a stop before a call
+pub stops : (first : List ℕ) (calls after : List Call) (call : Call) (shown image : List ℕ) (t : ℕ) → Going first calls (call ∷ after) shown image → t < call.number → images_past first calls t image
+stops first calls after call shown image t so_far lt =
+    inr (subst (λ (l : List Call). images_before first (λ d. d ≡ first) l t image) so_far.split (before_at call so_far.made after first _ t image lt so_far.leaves))
+
+-- a stop behind the last
+pub ends : (first : List ℕ) (calls : List Call) (shown image : List ℕ) (t : ℕ) → Going first calls [] shown image → images_past first calls t image
+ends first calls shown image t so_far = inl (subst (λ (l : List Call). images_of first l image) (sym (append-nil so_far.made) ∙ so_far.split) so_far.leaves)
+
+-- the first of some calls, as a pattern gives it
+pub front : (calls : List Call) (call : Call) → 1 ≤ length calls → call ≡ get_or calls 0 call → calls ≡ call ∷ take (length calls - 1) (drop 1 calls)
+front calls call long is = first_rest calls call long ∙ ap (λ (x : Call). x ∷ take (length calls - 1) (drop 1 calls)) (sym is)

@@ -1,0 +1,20 @@
+use Rattle.std.proofs.Common.{refl, arith}
+use Rattle.dd_disk.proofs.Noting.{stands, still, made_images, made_time}
+use Rattle.dd_disk.proofs.mem.MemDiskDisk.read.Goals as goal
+
+pub invariant_of-self : goal.invariant_of-self
+invariant_of-self c =
+    let after = still _ _ _ _ (stands c.args.self.now) c.note.result _ _ _ refl (omega arith) c.note.ensures.noted in
+    record { replayed = after.replayed; past = after.past }
+
+pub returns-in-Done-clause-images : goal.returns-in-Done-clause-images
+returns-in-Done-clause-images c = made_images _ _ _ _ (stands c.args.self.now) _ refl _ _ _ _ c.in-Done.ensures.noted
+
+pub returns-in-Done-clause-time : goal.returns-in-Done-clause-time
+returns-in-Done-clause-time c = made_time _ _ _ _ (stands c.args.self.now) _ refl _ _ _ _ c.in-Done.ensures.noted
+
+pub returns-in-Failed-clause-images : goal.returns-in-Failed-clause-images
+returns-in-Failed-clause-images c = made_images _ _ _ _ (stands c.args.self.now) _ refl _ _ _ _ c.in-Failed.ensures.noted
+
+pub returns-in-Failed-clause-time : goal.returns-in-Failed-clause-time
+returns-in-Failed-clause-time c = made_time _ _ _ _ (stands c.args.self.now) _ refl _ _ _ _ c.in-Failed.ensures.noted

@@ -1,0 +1,99 @@
+// A disk in memory that tells nothing of its content, and may lie.
+ghost use Rattle.std.specs.Prelude.{◌≡◌, ℕ, length, None};
+
+use crate::bytes::{get, put};
+use crate::{Disk, DiskFault};
+
+/// A disk that gives these bytes, but other ones at the places of its lies. It never fails, and tells nothing.
+#[derive(Drop)]
+pub struct BlindDisk {
+    bytes: Vec<u8>,
+    lies: Vec<(u64, u8)>,
+}
+
+impl BlindDisk {
+    /// A lie is a place and the byte that reads give there. Of two at one place the later one is given.
+    pub fn new(bytes: Vec<u8>, lies: Vec<(u64, u8)>) -> BlindDisk
+        ensures size { ⟦<BlindDisk as Disk>⟧.size result ≡ length bytes.items }
+    {
+        BlindDisk { bytes, lies }
+    }
+
+    pub fn bytes(&self) -> &[u8] {
+        &self.bytes
+    }
+}
+
+// Puts the lies over what was read at a place.
+fn tell_lies(lies: &[(u64, u8)], at: u64, into: &mut [u8]) {
+    for &(place, byte) in lies {
+        if place >= at && place - at < into.len() as u64 {
+            into[(place - at) as usize] = byte;
+        }
+    }
+}
+
+impl Disk for BlindDisk {
+    ghost use Rattle.dd_disk.specs.Untold.{no_content};
+
+    ghost size = { λ d. length d.bytes.items };
+
+    ghost content = { λ _. None };
+
+    ghost images = { λ d c. length c ≡ length d.bytes.items };
+
+    ghost clock = { λ _. 0 };
+
+    ghost images_since = { λ d _ c. length c ≡ length d.bytes.items };
+
+    ghost faults = { λ _. 0 };
+
+    ghost same = { λ _ _. Unit {0} };
+
+    ghost gave = { λ _ _ _ _. Unit {0} };
+
+    ghost same_here = { λ _. tt };
+
+    ghost same_on = { λ _ _ _ _ _. tt };
+
+    ghost gave_after = { λ _ _ _ _ _ _ _. tt };
+
+    ghost gave_before = { λ _ _ _ _ _ _ _. tt };
+
+    ghost sized = { λ d bytes told. no_content bytes told };
+
+    ghost as_read = { λ d bytes told. no_content bytes told };
+
+    ghost counts_now = { λ d t c le now. now };
+
+    ghost only_now = { λ d c before left. left };
+
+    ghost earlier = { λ d t u c le left. left };
+
+    fn size(&self) -> u64 {
+        self.bytes.len() as u64
+    }
+
+    fn read(&mut self, at: u64, into: &mut [u8]) -> Result<(), DiskFault> {
+        get(&self.bytes, at as usize, into);
+        tell_lies(&self.lies, at, into);
+        Ok(())
+    }
+
+    fn write(&mut self, at: u64, from: &[u8]) -> Result<(), DiskFault> {
+        put(&mut self.bytes, at as usize, from);
+        Ok(())
+    }
+
+    fn sync(&mut self) -> Result<(), DiskFault> {
+        Ok(())
+    }
+
+    fn faults(&self) -> u64 {
+        0
+    }
+
+    fn moment(&self) -> u64 {
+        0
+    }
+}

@@ -1,0 +1,106 @@
+// A file of the operating system. Nothing is proved of what it holds: it tells no content, and a crash may leave
+// any bytes of its size.
+ghost use Rattle.std.specs.Prelude.{◌≡◌, ℕ, length, None};
+ghost use Rattle.base_model.specs.Fault.{HasCause};
+
+use crate::{Disk, DiskFault};
+use std::fs::File;
+use std::io;
+use std::os::unix::fs::FileExt;
+
+/// A disk over a file, which tells nothing.
+#[derive(Drop)]
+pub struct FileDisk {
+    file: File,
+    size: u64,
+    faults: u64,
+}
+
+impl FileDisk {
+    /// A disk of the first `size` bytes of a file.
+    pub fn new(file: File, size: u64) -> FileDisk
+        ensures size { ⟦<FileDisk as Disk>⟧.size result ≡ size }
+        ensures faults { ⟦<FileDisk as Disk>⟧.faults result ≡ 0 }
+    {
+        FileDisk {
+            file,
+            size,
+            faults: 0,
+        }
+    }
+}
+
+// The answer of the system, a fault counted.
+fn counted(faults: &mut u64, answer: io::Result<()>) -> Result<(), DiskFault>
+    ensures { HasCause faults.old faults.new result }
+{
+    match answer {
+        Ok(()) => Ok(()),
+        Err(_) => {
+            *faults = faults.saturating_add(1);
+            Err(DiskFault)
+        }
+    }
+}
+
+impl Disk for FileDisk {
+    ghost use Rattle.dd_disk.specs.Untold.{no_content};
+
+    ghost size = { λ d. d.size };
+
+    ghost content = { λ _. None };
+
+    ghost images = { λ d c. length c ≡ d.size };
+
+    ghost clock = { λ _. 0 };
+
+    ghost images_since = { λ d _ c. length c ≡ d.size };
+
+    ghost faults = { λ d. d.faults };
+
+    ghost same = { λ _ _. Unit {0} };
+
+    ghost gave = { λ _ _ _ _. Unit {0} };
+
+    ghost same_here = { λ _. tt };
+
+    ghost same_on = { λ _ _ _ _ _. tt };
+
+    ghost gave_after = { λ _ _ _ _ _ _ _. tt };
+
+    ghost gave_before = { λ _ _ _ _ _ _ _. tt };
+
+    ghost sized = { λ d bytes told. no_content bytes told };
+
+    ghost as_read = { λ d bytes told. no_content bytes told };
+
+    ghost counts_now = { λ d t c le now. now };
+
+    ghost only_now = { λ d c before left. left };
+
+    ghost earlier = { λ d t u c le left. left };
+
+    fn size(&self) -> u64 {
+        self.size
+    }
+
+    fn read(&mut self, at: u64, into: &mut [u8]) -> Result<(), DiskFault> {
+        counted(&mut self.faults, self.file.read_exact_at(into, at))
+    }
+
+    fn write(&mut self, at: u64, from: &[u8]) -> Result<(), DiskFault> {
+        counted(&mut self.faults, self.file.write_all_at(from, at))
+    }
+
+    fn sync(&mut self) -> Result<(), DiskFault> {
+        counted(&mut self.faults, self.file.sync_all())
+    }
+
+    fn faults(&self) -> u64 {
+        self.faults
+    }
+
+    fn moment(&self) -> u64 {
+        0
+    }
+}

@@ -1,0 +1,20 @@
+//! A disk of bytes, and what a crash may leave of it (docs/MODEL.md, 'The disk').
+#![tactic(auto)]
+
+mod blind;
+mod bytes;
+mod call;
+mod crash;
+mod disk;
+mod file;
+mod lent;
+mod mem;
+
+pub use blind::BlindDisk;
+pub use call::{Asked, Call, Fill};
+pub use disk::{Disk, DiskFault};
+pub use file::FileDisk;
+pub use mem::MemDisk;
+
+#[cfg(test)]
+mod tests;

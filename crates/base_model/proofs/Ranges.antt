@@ -1,6 +1,6 @@
 -- Parts of a list that was written to.
-use Rattle.std.proofs.Common.{◌≡◌, ℕ, ◌+◌, ◌-◌, ◌<◌, ◌≤◌, List, ◌++◌, length, take, drop, get_or, sym, ◌∙◌, ap, arith, append_assoc, length-append, length-drop, take-append-drop}
-use Rattle.std.proofs.lemmas.List.{drop-drop, length-take-le, take-append-le, drop-append-le, take-take, take_at, drop_at, get_or-take, get_or-drop, take_all, drop-take}
+use Rattle.std.proofs.Common.{◌≡◌, ℕ, ◌+◌, ◌-◌, ◌<◌, ◌≤◌, List, ◌++◌, length, take, drop, get_or, sym, ◌∙◌, ap, arith, append_assoc, length-append, length-drop, take-append-drop, ◌∷◌, [], drop-cons}
+use Rattle.std.proofs.lemmas.List.{drop-append-le, drop-drop, drop-take, drop_at, get_or-drop, get_or-take, length-take-le, take-append-le, take-take, take_all, take_at}
 use Rattle.base_model.specs.Bytes.{range, written}
 
 pub length-range : (at count : ℕ) (c : List ℕ) → at + count ≤ length c → length (range at count c) ≡ count
@@ -74,3 +74,51 @@ byte-range i at count c within = get_or-take count (drop at c) i 0 within ∙ ge
 pub range-whole : (count : ℕ) (c : List ℕ) → length c ≡ count → range 0 count c ≡ c
 unfolding range
 range-whole count c long = take_all count c (omega (arith, long))
+
+-- one byte, and then the bytes behind it
+pub written-behind : (at gate : ℕ) (body old : List ℕ) → at + 1 + length body ≤ length old → written at (gate ∷ []) (written (at + 1) body old) ≡ written at (gate ∷ body) old
+unfolding written
+written-behind at gate body old fits =
+    let front = take (at + 1) old in
+    let rest = drop (at + 1 + length body) old in
+    let long : length front ≡ at + 1 = length-take-le (at + 1) old (omega arith) in
+    let split : (front ++ body) ++ rest ≡ front ++ (body ++ rest) = append_assoc front body rest in
+    let before : take at ((front ++ body) ++ rest) ≡ take at old =
+    ap (λ (l : List ℕ). take at l) split ∙ take-append-le at front (body ++ rest) (omega (arith, long)) ∙ take-take at (at + 1) old (omega arith) in
+    let after : drop (at + 1) ((front ++ body) ++ rest) ≡ body ++ rest =
+    ap (λ (l : List ℕ). drop (at + 1) l) split ∙ drop_at front (body ++ rest) (at + 1) long in
+    let place : at + 1 + length body ≡ at + length (gate ∷ body) = omega arith in
+    ap (λ (l : List ℕ). (l ++ gate ∷ []) ++ drop (at + 1) ((front ++ body) ++ rest)) before
+    ∙ ap (λ (l : List ℕ). (take at old ++ gate ∷ []) ++ l) after
+    ∙ append_assoc (take at old) (gate ∷ []) (body ++ rest)
+    ∙ sym (append_assoc (take at old) (gate ∷ body) rest)
+    ∙ ap (λ (k : ℕ). (take at old ++ gate ∷ body) ++ drop k old) place
+
+-- two parts that meet are one
+pub range-join : (at m n place : ℕ) (c : List ℕ) → place ≡ at + m → range at m c ++ range place n c ≡ range at (m + n) c
+unfolding range
+range-join at m n place c meets =
+    ap (λ (k : ℕ). take m (drop at c) ++ take n (drop k c)) meets
+    ∙ ap (λ (l : List ℕ). take m (drop at c) ++ take n l) (sym (drop-drop m at c))
+    ∙ ap (λ (l : List ℕ). l ++ take n (drop m (drop at c))) (sym (take-take m (m + n) (drop at c) (omega arith)))
+    ∙ ap (λ (l : List ℕ). take m (take (m + n) (drop at c)) ++ l) (sym (drop-take m n (drop at c)))
+    ∙ take-append-drop m (take (m + n) (drop at c))
+
+-- a part of the first of two lists
+pub range-first : (at count : ℕ) (a b : List ℕ) → at + count ≤ length a → range at count (a ++ b) ≡ range at count a
+unfolding range
+range-first at count a b within =
+    ap (take count) (drop-append-le at a b (omega arith))
+    ∙ take-append-le count (drop at a) b (omega (arith, length-drop at a))
+
+-- a part of the second of two lists
+pub range-second : (at count first place : ℕ) (a b : List ℕ) → length a ≡ first → place ≡ first + at → range place count (a ++ b) ≡ range at count b
+unfolding range
+range-second at count first place a b long e =
+    ap (λ (k : ℕ). take count (drop k (a ++ b))) e
+    ∙ ap (take count) (sym (drop-drop at first (a ++ b)) ∙ ap (drop at) (drop_at a b first long))
+
+-- one byte
+pub range-one : (at : ℕ) (c : List ℕ) → at < length c → range at 1 c ≡ get_or c at 0 ∷ []
+unfolding range
+range-one at c within = ap (take 1) (drop-cons c at 0 within)

@@ -1,8 +1,9 @@
 -- How what reads show is put together.
-use Rattle.std.proofs.Common.{◌≡◌, ℕ, List, [], ◌∷◌, ◌++◌, length, Option, Some, sym, ◌∙◌, ap}
+use Rattle.std.proofs.Common.{◌≡◌, ℕ, List, [], ◌∷◌, ◌++◌, length, Option, Some, sym, ◌∙◌, ap, ◌≤◌, refl, arith}
 use Rattle.std.specs.List.{AllByRecursion}
 use Rattle.base_model.specs.Bytes.{range}
-use Rattle.base_model.specs.Shown.{HasPart, Shown, OnlyReads}
+use Rattle.base_model.specs.Fault.{Rose}
+use Rattle.base_model.specs.Shown.{HasPart, Shown, OnlyReads, IsLater}
 
 -- what holds of each element of two lists holds of those of both
 both_all : {A : Type 0} (P : A → Type 0) (xs ys : List A) → AllByRecursion P xs → AllByRecursion P ys → AllByRecursion P (xs ++ ys)
@@ -58,25 +59,59 @@ module _ {D : Type 0} (gave : D → D → ℕ → List ℕ → Type 0) (content 
       shows = shown.shows;
     }
 
-    module _ (gave_before : (d e f : D) (at : ℕ) (bytes : List ℕ) → same d e → gave e f at bytes → gave d f at bytes) where
-      -- what is shown after calls that only read
-      pub shown_after : (faults : D → ℕ) (old mid new : D) (Q : List ℕ → Type 0) → OnlyReads content size faults same old mid → Shown gave content size mid new Q → Shown gave content size old new Q
-      shown_after faults old mid new Q quiet shown = record {
-        parts = shown.parts;
-        given = map_all (λ part. gave mid new part.at part.bytes) (λ part. gave old new part.at part.bytes) shown.parts (λ part given. gave_before old mid new part.at part.bytes quiet.same_disk given) shown.given;
-        told = λ image is. shown.told image (quiet.content_is ∙ is);
-        shows = λ image sized has. shown.shows image (sized ∙ sym quiet.size_is) has;
-      }
+  module _ (gave_before : (d e f : D) (at : ℕ) (bytes : List ℕ) → same d e → gave e f at bytes → gave d f at bytes) where
+    -- what is shown after calls that only read
+    pub shown_after : (faults : D → ℕ) (old mid new : D) (Q : List ℕ → Type 0) → OnlyReads content size faults same old mid → Shown gave content size mid new Q → Shown gave content size old new Q
+    shown_after faults old mid new Q quiet shown = record {
+      parts = shown.parts;
+      given = map_all (λ part. gave mid new part.at part.bytes) (λ part. gave old new part.at part.bytes) shown.parts (λ part given. gave_before old mid new part.at part.bytes quiet.same_disk given) shown.given;
+      told = λ image is. shown.told image (quiet.content_is ∙ is);
+      shows = λ image sized has. shown.shows image (sized ∙ sym quiet.size_is) has;
+    }
 
-      -- what was shown before and what is shown now
-      pub shown_both : (faults : D → ℕ) (old mid new : D) (P Q : List ℕ → Type 0) → Shown gave content size old mid P → OnlyReads content size faults same old mid → Shown gave content size mid new Q → same mid new
-          → Shown gave content size old new (λ image. P image × Q image)
-      shown_both faults old mid new P Q first quiet second later =
-          let front = shown_later old mid new P first later in
-          let back = shown_after faults old mid new Q quiet second in
-          record {
-            parts = front.parts ++ back.parts;
-            given = both_all (λ part. gave old new part.at part.bytes) front.parts back.parts front.given back.given;
-            told = λ image is. both_all (HasPart image) front.parts back.parts (front.told image is) (back.told image is);
-            shows = λ image sized has. (front.shows image sized (front_all (HasPart image) front.parts back.parts has), back.shows image sized (back_all (HasPart image) front.parts back.parts has));
-          }
+  module _ (gave_after : (d e f : D) (at : ℕ) (bytes : List ℕ) → gave d e at bytes → same e f → gave d f at bytes) (gave_before : (d e f : D) (at : ℕ) (bytes : List ℕ) → same d e → gave e f at bytes → gave d f at bytes) where
+    -- what was shown before and what is shown now
+    pub shown_both : (faults : D → ℕ) (old mid new : D) (P Q : List ℕ → Type 0) → Shown gave content size old mid P → OnlyReads content size faults same old mid → Shown gave content size mid new Q → same mid new
+        → Shown gave content size old new (λ image. P image × Q image)
+    shown_both faults old mid new P Q first quiet second later =
+        let front = shown_later gave_after old mid new P first later in
+        let back = shown_after gave_before faults old mid new Q quiet second in
+        record {
+          parts = front.parts ++ back.parts;
+          given = both_all (λ part. gave old new part.at part.bytes) front.parts back.parts front.given back.given;
+          told = λ image is. both_all (HasPart image) front.parts back.parts (front.told image is) (back.told image is);
+          shows = λ image sized has. (front.shows image sized (front_all (HasPart image) front.parts back.parts has), back.shows image sized (back_all (HasPart image) front.parts back.parts has));
+        }
+
+module _ {D : Type 0} (content : D → Option (List ℕ)) (size faults : D → ℕ) (same : D → D → Type 0) where
+  -- nothing was called yet
+  pub reads_none : ((d : D) → same d d) → (d : D) → OnlyReads content size faults same d d
+  reads_none same_here d = record { content_is = refl; size_is = refl; later = omega arith; same_disk = same_here d }
+
+  module _ (same_on : (d e f : D) → same d e → same e f → same d f) where
+    -- one call after another
+    pub reads_on : (d e f : D) → OnlyReads content size faults same d e → OnlyReads content size faults same e f → OnlyReads content size faults same d f
+    reads_on d e f first second = record {
+      content_is = second.content_is ∙ first.content_is;
+      size_is = second.size_is ∙ first.size_is;
+      later = omega (arith, first.later, second.later);
+      same_disk = same_on d e f first.same_disk second.same_disk;
+    }
+
+    pub later_on : (d e f : D) → IsLater size faults same d e → IsLater size faults same e f → IsLater size faults same d f
+    later_on d e f first second = record {
+      size_is = second.size_is ∙ first.size_is;
+      later = omega (arith, first.later, second.later);
+      same_disk = same_on d e f first.same_disk second.same_disk;
+    }
+
+  pub later_of_reads : (d e : D) → OnlyReads content size faults same d e → IsLater size faults same d e
+  later_of_reads d e reads = record { size_is = reads.size_is; later = reads.later; same_disk = reads.same_disk }
+
+-- a count that rose since a later moment rose since an earlier one
+pub rose_since : (before mid now : ℕ) → before ≤ mid → Rose mid now → Rose before now
+rose_since before mid now later rose = omega (arith, later, rose)
+
+-- a count that rose and never falls has risen
+pub rose_until : (before mid now : ℕ) → Rose before mid → mid ≤ now → Rose before now
+rose_until before mid now rose later = omega (arith, later, rose)

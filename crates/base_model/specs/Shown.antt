@@ -26,3 +26,9 @@ pub record OnlyReads {D : Type 0} (content : D → Option (List ℕ)) (size faul
   pub size_is : size new ≡ size old
   pub later : faults old ≤ faults new
   pub same_disk : same old new
+
+-- the same disk, later
+pub record IsLater {D : Type 0} (size faults : D → ℕ) (same : D → D → Type 0) (old new : D) : Type 0 where
+  pub size_is : size new ≡ size old
+  pub later : faults old ≤ faults new
+  pub same_disk : same old new

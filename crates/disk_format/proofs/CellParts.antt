@@ -1,0 +1,78 @@
+-- The parts of a cell.
+use Rattle.std.proofs.Common.{◌≡◌, ℕ, ◌-◌, ◌≤◌, List, [], ◌∷◌, ◌++◌, length, take, refl, sym, ◌∙◌, ap, arith, append_assoc, length-append}
+use Rattle.std.proofs.lemmas.List.{length-replicate, take_at, drop_at}
+use Rattle.std.specs.Int.{w64, to_be_bytes}
+use Rattle.sha2.specs.Sha256.{sha256}
+use Rattle.sha2.proofs.Facts256.{length-sha256}
+use Rattle.base_model.specs.Bytes.{range, byte_at}
+use Rattle.disk_format.specs.Cells.{zeros, sealed, format_fields, selector_fields, put_fields, put_cell, Root, RECORD_GATE}
+
+pub length-zeros : (count : ℕ) → length (zeros count) ≡ count
+unfolding zeros
+length-zeros count = length-replicate count 0
+
+pub gate-sealed : (gate : ℕ) (fields : List ℕ) → byte_at 0 (sealed gate fields) ≡ gate
+unfolding sealed
+gate-sealed gate fields = refl
+
+pub length-sealed : (gate : ℕ) (fields : List ℕ) → length fields ≡ 479 → length (sealed gate fields) ≡ 512
+unfolding sealed
+length-sealed gate fields long = omega (arith, length-append fields (sha256 fields), length-sha256 fields)
+
+pub length-format_fields : (slots : ℕ) → length (format_fields slots) ≡ 479
+unfolding format_fields
+length-format_fields slots = omega (arith, length-zeros 464)
+
+pub length-selector_fields : (generation half last : ℕ) → length (selector_fields generation half last) ≡ 479
+unfolding selector_fields
+length-selector_fields generation half last = omega (arith, length-zeros 451)
+
+-- bytes behind others
+range-middle : (front x back : List ℕ) (at count : ℕ) → length front ≡ at → length x ≡ count → range at count (front ++ (x ++ back)) ≡ x
+unfolding range
+range-middle front x back at count before long = ap (take count) (drop_at front (x ++ back) at before) ∙ take_at x back count long
+
+grouped : (a b c d : List ℕ) → ((a ++ b) ++ c) ++ d ≡ a ++ (b ++ (c ++ d))
+grouped a b c d = append_assoc (a ++ b) c d ∙ append_assoc a b (c ++ d)
+
+module _ (name : List ℕ) (root : Root) where
+  -- what stands before the digest, without the gate
+  front : List ℕ
+  front = (1 ∷ length name ∷ []) ++ to_be_bytes w64 1 ++ to_be_bytes w64 root.length ++ (root.level ∷ [])
+
+  length-front : length front ≡ 19
+  unfolding front
+  length-front = refl
+
+  rest : List ℕ
+  rest = zeros (428 - length name) ++ sha256 (put_fields 1 name root)
+
+  regrouped : put_cell 1 name root ≡ (RECORD_GATE ∷ front) ++ (root.digest ++ (name ++ rest))
+  unfolding sealed put_fields front rest
+  regrouped = ap (λ (l : List ℕ). (RECORD_GATE ∷ front) ++ l) (grouped root.digest name (zeros (428 - length name)) (sha256 (put_fields 1 name root)))
+
+  pub size-put : byte_at 2 (put_cell 1 name root) ≡ length name
+  unfolding sealed put_fields
+  size-put = refl
+
+  pub length-put : range 11 8 (put_cell 1 name root) ≡ to_be_bytes w64 root.length
+  unfolding sealed put_fields range
+  length-put = refl
+
+  pub level-put : byte_at 19 (put_cell 1 name root) ≡ root.level
+  unfolding sealed put_fields
+  level-put = refl
+
+  module _ (digest_long : length root.digest ≡ 32) where
+    pub digest-put : range 20 32 (put_cell 1 name root) ≡ root.digest
+    digest-put =
+        ap (range 20 32) regrouped ∙ range-middle (RECORD_GATE ∷ front) root.digest (name ++ rest) 20 32 (omega (arith, length-front)) digest_long
+
+    pub name-put : range 52 (length name) (put_cell 1 name root) ≡ name
+    name-put =
+        ap (range 52 (length name)) (regrouped ∙ sym (append_assoc (RECORD_GATE ∷ front) root.digest (name ++ rest)))
+        ∙ range-middle ((RECORD_GATE ∷ front) ++ root.digest) name rest 52 (length name) (omega (arith, length-append (RECORD_GATE ∷ front) root.digest, length-front, digest_long)) refl
+
+    pub length-put_fields : length name ≤ 428 → length (put_fields 1 name root) ≡ 479
+    unfolding put_fields
+    length-put_fields short = omega (arith, length-zeros (428 - length name), digest_long, length-append (root.digest ++ name) (zeros (428 - length name)), length-append root.digest name)

@@ -1,4 +1,6 @@
+pub mod Blind
 pub mod Calls
 pub mod Disk
-pub mod Script
+pub mod Lies
+pub mod Memory
 pub mod Untold

@@ -1,5 +1,8 @@
 // A disk in memory that tells nothing of its content, and may lie.
-ghost use Rattle.std.specs.Prelude.{◌≡◌, ℕ, length, None};
+ghost use Rattle.std.specs.Prelude.{◌≡◌, ◌+◌, ◌≤◌, [], ◌∷◌, ℕ, length, None, IsOk};
+ghost use Rattle.base_model.specs.Bytes.{range, written};
+ghost use Rattle.dd_disk.specs.Disk.{Torn, Follows};
+ghost use Rattle.dd_disk.specs.Lies.{TellsLies};
 
 use crate::bytes::{get, put};
 use crate::{Disk, DiskFault};
@@ -12,28 +15,44 @@ pub struct BlindDisk {
 }
 
 impl BlindDisk {
+    ghost use Rattle.dd_disk.specs.Blind.{held, lies_of};
+
     /// A lie is a place and the byte that reads give there. Of two at one place the later one is given.
     pub fn new(bytes: Vec<u8>, lies: Vec<(u64, u8)>) -> BlindDisk
         ensures size { ⟦<BlindDisk as Disk>⟧.size result ≡ length bytes.items }
+        ensures held { held result ≡ bytes.items }
+        ensures lies { lies_of result ≡ lies.items }
     {
         BlindDisk { bytes, lies }
     }
 
-    pub fn bytes(&self) -> &[u8] {
+    pub fn bytes(&self) -> &[u8]
+        ensures { result.now ≡ held self.now }
+    {
         &self.bytes
     }
 }
 
 // Puts the lies over what was read at a place.
-fn tell_lies(lies: &[(u64, u8)], at: u64, into: &mut [u8]) {
-    for &(place, byte) in lies {
-        if place >= at && place - at < into.len() as u64 {
-            into[(place - at) as usize] = byte;
-        }
+fn tell_lies(lies: &[(u64, u8)], at: u64, into: &mut [u8])
+    ensures { TellsLies lies.now at into.old into.new }
+{
+    for lie in lies {
+        tell_lie(*lie, at, into);
+    }
+}
+
+fn tell_lie(lie: (u64, u8), at: u64, into: &mut [u8])
+    ensures { TellsLies (lie ∷ []) at into.old into.new }
+{
+    let (place, byte) = lie;
+    if place >= at && place - at < into.len() as u64 {
+        into[(place - at) as usize] = byte;
     }
 }
 
 impl Disk for BlindDisk {
+    ghost use Rattle.dd_disk.specs.Blind.{held, lies_of};
     ghost use Rattle.dd_disk.specs.Untold.{no_content};
 
     ghost size = { λ d. length d.bytes.items };
@@ -74,18 +93,34 @@ impl Disk for BlindDisk {
         self.bytes.len() as u64
     }
 
-    fn read(&mut self, at: u64, into: &mut [u8]) -> Result<(), DiskFault> {
+    fn read(&mut self, at: u64, into: &mut [u8]) -> Result<(), DiskFault>
+        requires { at + length into.old ≤ length (held self.old) }
+        ensures gives { TellsLies (lies_of self.old) at (range at (length into.old) (held self.old)) into.new }
+        ensures done { IsOk result }
+        ensures kept { self.new ≡ self.old }
+    {
         get(&self.bytes, at as usize, into);
         tell_lies(&self.lies, at, into);
         Ok(())
     }
 
-    fn write(&mut self, at: u64, from: &[u8]) -> Result<(), DiskFault> {
+    fn write(&mut self, at: u64, from: &[u8]) -> Result<(), DiskFault>
+        requires { at + length from.now ≤ length (held self.old) }
+        ensures held { held self.new ≡ written at from.now (held self.old) }
+        ensures lies { lies_of self.new ≡ lies_of self.old }
+        ensures done { IsOk result }
+        ensures size { length (held self.new) ≡ length (held self.old) }
+        ensures images { Follows (Torn at (length from.now))
+            (λ c. length c ≡ length (held self.old)) (λ c. length c ≡ length (held self.new)) }
+    {
         put(&mut self.bytes, at as usize, from);
         Ok(())
     }
 
-    fn sync(&mut self) -> Result<(), DiskFault> {
+    fn sync(&mut self) -> Result<(), DiskFault>
+        ensures done { IsOk result }
+        ensures kept { self.new ≡ self.old }
+    {
         Ok(())
     }
 

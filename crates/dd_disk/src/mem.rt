@@ -1,5 +1,8 @@
 // A disk in memory. It keeps what it held at first and each call, so that it knows what a crash may leave.
 ghost use Rattle.std.specs.Prelude.{◌≡◌, ◌+◌, ◌-◌, ◌≤◌, ℕ, List, length, IfOk, OnOk};
+ghost use Rattle.base_model.specs.Bytes.{range, written};
+ghost use Rattle.base_model.specs.Fault.{HasCause};
+ghost use Rattle.dd_disk.specs.Disk.{Torn, Follows, Elapses};
 ghost use Rattle.dd_disk.specs.Calls.{first_of, shown_after, IsPast, IsPast-prop};
 
 use crate::bytes::{get, put};
@@ -9,6 +12,7 @@ use crate::{Disk, DiskFault};
 use std::alloc::{AllocError, Global};
 
 /// A disk in memory. It tells its content, and fails the calls that it was made to fail.
+/// A call that there is no memory to note fails too.
 #[derive(Drop)]
 pub struct MemDisk {
     // What it held at first, from the first write on.
@@ -21,7 +25,7 @@ pub struct MemDisk {
 
 impl MemDisk {
     ghost use Rattle.std.specs.Prelude.{Some};
-    ghost use Rattle.dd_disk.specs.Script.{call_count, failing, missed_count};
+    ghost use Rattle.dd_disk.specs.Memory.{calls_of, failing, missed_count};
 
     /// A disk of these bytes, whose calls of these numbers fail. The first call has the number 1.
     pub fn new(bytes: Vec<u8>, fails: Vec<u64>) -> MemDisk
@@ -30,7 +34,6 @@ impl MemDisk {
         ensures clock { ⟦<MemDisk as Disk>⟧.clock result ≡ 0 }
         ensures faults { ⟦<MemDisk as Disk>⟧.faults result ≡ 0 }
         ensures script { failing result ≡ fails.items }
-        ensures count { call_count result ≡ 0 }
         ensures missed { missed_count result ≡ 0 }
     {
         MemDisk {
@@ -47,7 +50,9 @@ impl MemDisk {
     }
 
     /// The calls so far, but for those that there was no memory to note.
-    pub fn calls(&self) -> &[Call] {
+    pub fn calls(&self) -> &[Call]
+        ensures { result.now ≡ calls_of self.now }
+    {
         &self.log.calls
     }
 
@@ -93,19 +98,20 @@ fn keep(first: &mut Option<Vec<u8>>, bytes: &Vec<u8>, from: &[u8]) -> Result<Vec
 impl Disk for MemDisk {
     ghost use Rattle.std.specs.Prelude.{Some, length};
     ghost use Rattle.std.proofs.Common.{inl};
-    ghost use Rattle.dd_disk.specs.Calls.{images_of, images_past, told_length, told_as_read, only_past, past_earlier};
+    ghost use Rattle.dd_disk.specs.Memory.{shown, leaves, leaves_since, call_count, fault_count, FailsByScript};
+    ghost use Rattle.dd_disk.specs.Calls.{told_length, told_as_read, only_past, past_earlier};
 
-    ghost size = { λ d. length d.bytes.items };
+    ghost size = { λ d. length (shown d) };
 
-    ghost content = { λ d. Some d.bytes.items };
+    ghost content = { λ d. Some (shown d) };
 
-    ghost images = { λ d. images_of (first_of d.first d.bytes.items) d.log.calls.items };
+    ghost images = { leaves };
 
-    ghost clock = { λ d. d.log.count };
+    ghost clock = { call_count };
 
-    ghost images_since = { λ d. images_past (first_of d.first d.bytes.items) d.log.calls.items };
+    ghost images_since = { leaves_since };
 
-    ghost faults = { λ d. d.log.faults };
+    ghost faults = { fault_count };
 
     ghost same = { λ _ _. Unit {0} };
 
@@ -133,7 +139,16 @@ impl Disk for MemDisk {
         self.bytes.len() as u64
     }
 
-    fn read(&mut self, at: u64, into: &mut [u8]) -> Result<(), DiskFault> {
+    fn read(&mut self, at: u64, into: &mut [u8]) -> Result<(), DiskFault>
+        requires { at + length into.old ≤ length (shown self.old) }
+        ensures bytes { OnOk result (into.new ≡ range at (length into.old) (shown self.old)) }
+        ensures shown { shown self.new ≡ shown self.old }
+        ensures images { (c : List ℕ) → leaves self.new c → leaves self.old c }
+        ensures time { Elapses (call_count self.old) (call_count self.new)
+            (leaves_since self.old) (leaves_since self.new) (leaves self.new) }
+        ensures cause { HasCause (fault_count self.old) (fault_count self.new) result }
+        ensures script { FailsByScript self.old self.new result }
+    {
         match self.log.note(Asked::Read(at, into.len() as u64)) {
             Noted::Done => {
                 get(&self.bytes, at as usize, into);
@@ -144,7 +159,17 @@ impl Disk for MemDisk {
         }
     }
 
-    fn write(&mut self, at: u64, from: &[u8]) -> Result<(), DiskFault> {
+    fn write(&mut self, at: u64, from: &[u8]) -> Result<(), DiskFault>
+        requires { at + length from.now ≤ length (shown self.old) }
+        ensures ok { OnOk result (shown self.new ≡ written at from.now (shown self.old)) }
+        ensures torn { Torn at (length from.now) (shown self.old) (shown self.new) }
+        ensures images { Follows (Torn at (length from.now)) (leaves self.old) (leaves self.new) }
+        ensures time { Elapses (call_count self.old) (call_count self.new)
+            (leaves_since self.old) (leaves_since self.new) (leaves self.new) }
+        ensures cause { HasCause (fault_count self.old) (fault_count self.new) result }
+        ensures size { length (shown self.new) ≡ length (shown self.old) }
+        ensures script { FailsByScript self.old self.new result }
+    {
         let Ok(copy) = keep(&mut self.first, &self.bytes, from) else {
             self.log.miss();
             return Err(DiskFault);
@@ -162,7 +187,15 @@ impl Disk for MemDisk {
         }
     }
 
-    fn sync(&mut self) -> Result<(), DiskFault> {
+    fn sync(&mut self) -> Result<(), DiskFault>
+        ensures ok { OnOk result ((c : List ℕ) → leaves self.new c → c ≡ shown self.old) }
+        ensures shown { shown self.new ≡ shown self.old }
+        ensures images { (c : List ℕ) → leaves self.new c → leaves self.old c }
+        ensures time { Elapses (call_count self.old) (call_count self.new)
+            (leaves_since self.old) (leaves_since self.new) (leaves self.new) }
+        ensures cause { HasCause (fault_count self.old) (fault_count self.new) result }
+        ensures script { FailsByScript self.old self.new result }
+    {
         match self.log.note(Asked::Sync) {
             Noted::Done => Ok(()),
             Noted::Failed => Err(DiskFault),

@@ -9,8 +9,7 @@ invariant_of-self c =
     record { replayed = after.replayed; past = after.past }
 
 pub returns-in-Done-clause-ok : goal.returns-in-Done-clause-ok
-returns-in-Done-clause-ok c = λ bytes told e left.
-    made_images _ _ _ _ (stands c.args.self.now) _ refl _ _ _ _ c.in-Done.ensures.noted e left ∙ (cc told)
+returns-in-Done-clause-ok c = made_images _ _ _ _ (stands c.args.self.now) _ refl _ _ _ _ c.in-Done.ensures.noted
 
 pub returns-in-Done-clause-images : goal.returns-in-Done-clause-images
 returns-in-Done-clause-images c = λ e left.

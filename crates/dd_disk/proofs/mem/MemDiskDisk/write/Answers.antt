@@ -1,4 +1,4 @@
-use Rattle.std.proofs.Common.{◌≡◌, length, refl, sym, ◌∙◌, ap, subst, arith, rules}
+use Rattle.std.proofs.Common.{◌≡◌, length, sym, ◌∙◌, ap, subst, arith}
 use Rattle.base_model.specs.Bytes.{written}
 use Rattle.dd_disk.specs.Disk.{Torn, Follows}
 use Rattle.dd_disk.specs.Calls.{first_of, images_of}

@@ -1,0 +1,9 @@
+-- What a disk that lies holds, and its lies.
+use Rattle.std.specs.Prelude.{ℕ, List}
+use Rattle.dd_disk.specs.declared.blind.BlindDisk.{BlindDisk}
+
+abbrev pub held : BlindDisk → List ℕ
+held d = d.bytes.items
+
+abbrev pub lies_of : BlindDisk → List (ℕ × ℕ)
+lies_of d = d.lies.items

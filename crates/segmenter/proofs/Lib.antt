@@ -1,0 +1,5 @@
+pub mod Windows
+pub mod SegmentLemmas
+pub mod CutLemmas
+pub mod RunLemmas
+pub mod Examples

@@ -1,0 +1,178 @@
+-- What is spelled is read again.
+use Rattle.std.proofs.Common.{◌≡◌, ℕ, zero, suc, ◌+◌, ◌-◌, ◌*◌, ◌^◌, ◌≤◌, ◌<◌, Bool, true, false, List, [], ◌∷◌, ◌++◌, length, Option, Some, Result, Ok, refl, sym, ap, ◌∙◌, arith, append_assoc, length-append, eq-eqb}
+use Rattle.std.specs.Prelude.{◌==◌, nat_le, is_some, unwrap_or, if◌then◌else◌}
+use Rattle.std.specs.Int.{w16, w32, w64, to_be_bytes, from_be_bytes}
+use Rattle.std.proofs.lemmas.Bool.{le-leb, leb-true}
+use Rattle.std.proofs.Math.Dec.{eqb-suc-zero}
+use Rattle.std.proofs.lemmas.List.{append-nil}
+use Rattle.std.proofs.lemmas.List.Sums.{sum_by-append}
+use Rattle.std.proofs.lemmas.Nat.{from_be_bytes-to_be_bytes_2, from_be_bytes-to_be_bytes_4, from_be_bytes-to_be_bytes_8}
+use Rattle.std.proofs.lemmas.Slice.Eq.{bytes_eq-Decides}
+use Rattle.sha2.specs.Sha256.{sha256}
+use Rattle.base_model.specs.Bytes.{range, byte_at}
+use Rattle.base_model.proofs.Ranges.{range-range, range-first, range-second, range-whole}
+use Rattle.container_meta.specs.declared.kind.Kind.{Kind}
+use Rattle.container_meta.specs.declared.kind.Kind.TheVariants.{Leaf}
+use Rattle.container_meta.specs.declared.entry.Entry.{Entry}
+use Rattle.container_meta.specs.declared.fault.MetaFault.{MetaFault}
+use Rattle.container_meta.specs.Format.{magic, kind_of, is_id, is_count, is_data_length, is_length, is_level, zeros, number_at, entry_place}
+use Rattle.container_meta.specs.Spelling.{HeaderValue, IsNext, Follow, IsHeader, bytes_of, has_digest, entry_spelling, entries_spelling, fields_spelling, header_spelling}
+use Rattle.container_meta.specs.Reading.{◌>>=◌, behind, passes, opening_checks, digest_checks, field_checks, entry_checks, end_checks, count_at, kind_at, digest_at, entry_at, seven_at, is_end, zeros_in_front, zeros_end, entries_at, header_at}
+use Rattle.container_meta.proofs.Lists.{zeros_in_front-zeros}
+use Rattle.container_meta.proofs.Spelled.{entries_spelling-cons, bytes_of-push}
+use Rattle.container_meta.proofs.Entries.{next_read}
+use Rattle.container_meta.proofs.Checks.{AllHold, behind_all, both, both_true, not_false}
+use Rattle.container_meta.proofs.Numbers.{length-entry_spelling, entry_again}
+use Rattle.container_meta.proofs.Parts.{field_parts, Parts, parts_of_spelling, length-entries_spelling}
+
+-- a step that does not fail
+then_step : {A B : Type 0} (r : Result A MetaFault) (f : A → Result B MetaFault) (x : A) (y : Result B MetaFault) → r ≡ Ok x → f x ≡ y → (r >>= f) ≡ y
+then_step r f x y h e = ap (λ q. q >>= f) h ∙ e
+
+-- ---- the entries
+
+other_way : (b x y : Bool) → b ≡ false → (if b then x else y) ≡ y
+other_way true x y e = absurd cc
+other_way false x y e = refl
+
+end_right : (after data_length end : ℕ) → end ≤ data_length → (after ≡ 0 → end ≡ data_length) → is_end after data_length end ≡ true
+end_right zero data_length end within last = eq-eqb end data_length (last refl)
+end_right (suc after) data_length end within last = other_way (suc after == 0) (end == data_length) (nat_le end data_length) (eqb-suc-zero after) ∙ le-leb end data_length within
+
+-- the parts of a list whose front has 48 bytes
+first_part : (at n : ℕ) (bytes a b : List ℕ) → length a ≡ 48 → range at (48 + n) bytes ≡ a ++ b → range at 48 bytes ≡ a
+first_part at n bytes a b long h =
+    ap (λ (k : ℕ). range k 48 bytes) (omega arith) ∙ sym (range-range 0 48 at (48 + n) bytes (omega arith)) ∙ ap (range 0 48) h ∙ range-first 0 48 a b (omega arith) ∙ range-whole 48 a long
+
+second_part : (at n : ℕ) (bytes a b : List ℕ) → length a ≡ 48 → length b ≡ n → range at (48 + n) bytes ≡ a ++ b → range (at + 48) n bytes ≡ b
+second_part at n bytes a b long other h =
+    sym (range-range 48 n at (48 + n) bytes (omega arith)) ∙ ap (range 48 n) h ∙ range-second 0 n 48 48 a b long refl ∙ range-whole n b other
+
+-- the checks of an entry that stands in its place
+entry_passes : (kind : Kind) (data_length after : ℕ) (before : List Entry) (at : ℕ) (bytes : List ℕ) (e : Entry) → entry_at at bytes ≡ e → seven_at (at + 41) bytes ≡ 0 → IsNext kind before e → bytes_of before + e.length ≤ data_length → (after ≡ 0 → bytes_of before + e.length ≡ data_length) → AllHold (entry_checks kind data_length after before at bytes)
+entry_passes kind data_length after before at bytes e is none next within last =
+    let new : has_digest before (range at 32 bytes) ≡ false = ap (λ (y : Entry). has_digest before y.digest) is ∙ next.new in
+    let sized : is_length kind (number_at w32 (at + 36) bytes) ≡ true = ap (λ (y : Entry). is_length kind y.length) is ∙ next.length in
+    let ends : is_end after data_length (bytes_of before + number_at w32 (at + 36) bytes) ≡ true = ap (λ (y : Entry). is_end after data_length (bytes_of before + y.length)) is ∙ end_right after data_length (bytes_of before + e.length) within last in (
+      not_false (has_digest before (range at 32 bytes)) new,
+      (
+        eq-eqb (number_at w32 (at + 32) bytes) (bytes_of before) (ap (λ (y : Entry). y.offset) is ∙ next.offset),
+        (
+          both_true (is_length kind (number_at w32 (at + 36) bytes)) (is_end after data_length (bytes_of before + number_at w32 (at + 36) bytes)) sized ends,
+          (
+            ap (λ (y : Entry). is_level kind y.level) is ∙ next.level,
+            (eq-eqb (seven_at (at + 41) bytes) 0 none, tt),
+          ),
+        ),
+      ),
+    )
+
+no_more : (es : List Entry) → length es ≡ 0 → bytes_of es ≡ 0
+no_more [] h = refl
+no_more (e ∷ es) h = absurd (omega arith)
+
+pub entries_again : (kind : Kind) (data_length : ℕ) (before rest : List Entry) (bytes : List ℕ) → entry_place (length before + length rest) ≤ length bytes → Follow kind before rest → range (entry_place (length before)) (48 * length rest) bytes ≡ entries_spelling rest → bytes_of (before ++ rest) ≡ data_length → data_length ≤ 212480 → entries_at kind data_length (length rest) before bytes ≡ Ok (before ++ rest)
+unfolding entries_at
+entries_again kind data_length before [] bytes fits allowed here whole small = ap (λ (l : List Entry). Ok l) (sym (append-nil before))
+entries_again kind data_length before (e ∷ es) bytes fits allowed here whole small =
+    let at : ℕ = entry_place (length before) in
+    let n : ℕ = length es in
+    let next : IsNext kind before e = allowed.0 in
+    let long : length (entry_spelling e) ≡ 48 = length-entry_spelling e next.digest in
+    let rest_long : length (entries_spelling es) ≡ 48 * n = length-entries_spelling kind (before ++ e ∷ []) es allowed.1 in
+    let both_parts : range at (48 + 48 * n) bytes ≡ entry_spelling e ++ entries_spelling es = ap (λ (k : ℕ). range at k bytes) (omega arith) ∙ here ∙ entries_spelling-cons e es in
+    let total : (bytes_of before + e.length) + bytes_of es ≡ data_length =
+    ap (λ (k : ℕ). k + bytes_of es) (sym (bytes_of-push before e)) ∙ sym (sum_by-append (λ (y : Entry). y.length) (before ++ e ∷ []) es) ∙ ap bytes_of (append_assoc before (e ∷ []) es) ∙ whole in
+    let read = entry_again at bytes e (omega arith) next.digest (omega (arith, next.offset)) (omega arith) (first_part at (48 * n) bytes (entry_spelling e) (entries_spelling es) long both_parts) in
+    let one_more : length (before ++ e ∷ []) ≡ length before + 1 = length-append before (e ∷ []) in
+    let there : range (entry_place (length (before ++ e ∷ []))) (48 * n) bytes ≡ entries_spelling es = ap (λ (k : ℕ). range k (48 * n) bytes) (omega (arith, one_more)) ∙ second_part at (48 * n) bytes (entry_spelling e) (entries_spelling es) long rest_long both_parts in
+    let others = entries_again kind data_length (before ++ e ∷ []) es bytes (omega (arith, one_more)) allowed.1 there (ap bytes_of (append_assoc before (e ∷ []) es) ∙ whole) small in
+    let passed : next_read kind data_length n before bytes ≡ Ok (entry_at at bytes) = behind_all (entry_checks kind data_length n before at bytes) (entry_at at bytes) (entry_passes kind data_length n before at bytes e read.0 read.1 next (omega arith) (λ none. omega (arith, no_more es none))) in
+    then_step (next_read kind data_length n before bytes) (λ (y : Entry). entries_at kind data_length n (before ++ y ∷ []) bytes) (entry_at at bytes) (Ok (before ++ e ∷ es)) passed
+    (ap (λ (y : Entry). entries_at kind data_length n (before ++ y ∷ []) bytes) read.0 ∙ others ∙ ap (λ (l : List Entry). Ok l) (append_assoc before (e ∷ []) es))
+
+-- ---- the header
+
+zeros_end_of : (from count place : ℕ) (bytes : List ℕ) → place ≡ from + count → range from count bytes ≡ zeros count → (zeros_end from count bytes == place) ≡ true
+unfolding zeros_end
+zeros_end_of from count place bytes e h =
+    eq-eqb (from + zeros_in_front (range from count bytes)) place (ap (λ (l : List ℕ). from + zeros_in_front l) h ∙ ap (λ (k : ℕ). from + k) (zeros_in_front-zeros count) ∙ sym e)
+
+pub small_count : (n : ℕ) → is_count n ≡ true → n ≤ 1024
+small_count n h = leb-true n 1024 (both (nat_le 1 n) (nat_le n 1024) h).1
+
+small_id : (n : ℕ) → is_id n ≡ true → n ≤ 2 ^ 64 - 2
+small_id n h = leb-true n (2 ^ 64 - 2) (both (nat_le 1 n) (nat_le n (2 ^ 64 - 2)) h).1
+
+small_length : (n : ℕ) → is_data_length n ≡ true → n ≤ 212480
+small_length n h = leb-true n 212480 (both (nat_le 1 n) (nat_le n 212480) h).1
+
+number_2 : (at n : ℕ) (bytes : List ℕ) → n < 2 ^ 16 → range at 2 bytes ≡ to_be_bytes w16 n → number_at w16 at bytes ≡ n
+unfolding number_at
+number_2 at n bytes small h = ap (from_be_bytes w16) h ∙ from_be_bytes-to_be_bytes_2 n small
+
+number_4 : (at n : ℕ) (bytes : List ℕ) → n < 2 ^ 32 → range at 4 bytes ≡ to_be_bytes w32 n → number_at w32 at bytes ≡ n
+unfolding number_at
+number_4 at n bytes small h = ap (from_be_bytes w32) h ∙ from_be_bytes-to_be_bytes_4 n small
+
+number_8 : (at n : ℕ) (bytes : List ℕ) → n < 2 ^ 64 → range at 8 bytes ≡ to_be_bytes w64 n → number_at w64 at bytes ≡ n
+unfolding number_at
+number_8 at n bytes small h = ap (from_be_bytes w64) h ∙ from_be_bytes-to_be_bytes_8 n small
+
+same_header : (i i' : ℕ) (k k' : Kind) (d d' : ℕ) (es : List Entry) → i ≡ i' → k ≡ k' → d ≡ d' → (let v : HeaderValue = record { id = i; kind = k; data_length = d; entries = es } in v) ≡ record { id = i'; kind = k'; data_length = d'; entries = es }
+same_header i i' k k' d d' es hi hk hd = cc
+
+-- what the fields before the entries read as
+record FieldsRead (h : HeaderValue) (bytes : List ℕ) : Type 0 where
+  name : range 1 7 bytes ≡ magic
+  id_is : number_at w64 8 bytes ≡ h.id
+  kind_byte_is : kind_of (byte_at 16 bytes) ≡ Some h.kind
+  zero_is : byte_at 17 bytes ≡ 0
+  count_is : count_at bytes ≡ length h.entries
+  length_is : number_at w32 20 bytes ≡ h.data_length
+
+fields_read : (h : HeaderValue) (bytes : List ℕ) → IsHeader h → Parts h bytes → FieldsRead h bytes
+fields_read h bytes allowed p =
+    let f = field_parts h.id h.kind (length h.entries) h.data_length bytes p.fields in
+    record {
+      name = f.name;
+      id_is = number_8 8 h.id bytes (omega (arith, small_id h.id allowed.id)) f.id_is;
+      kind_byte_is = ap kind_of f.kind_is ∙ allowed.kind;
+      zero_is = f.zero_is;
+      count_is = number_2 18 (length h.entries) bytes (omega (arith, small_count (length h.entries) allowed.count)) f.count_is;
+      length_is = number_4 20 h.data_length bytes (omega (arith, small_length h.data_length allowed.data_length)) f.length_is;
+    }
+
+digest_read : (h : HeaderValue) (bytes : List ℕ) → Parts h bytes → count_at bytes ≡ length h.entries → range 24 32 bytes ≡ digest_at bytes
+digest_read h bytes p count =
+    let fields : List ℕ = fields_spelling h.id h.kind (length h.entries) h.data_length in
+    let entries : range 512 (48 * count_at bytes) bytes ≡ entries_spelling h.entries = ap (λ (n : ℕ). range 512 (48 * n) bytes) count ∙ p.entries in
+    p.digest ∙ sym (ap (λ (l : List ℕ). sha256 (l ++ range 512 (48 * count_at bytes) bytes)) p.fields ∙ ap (λ (l : List ℕ). sha256 (fields ++ l)) entries)
+
+pub header_again : (bytes : List ℕ) (h : HeaderValue) → length bytes ≡ 49664 → IsHeader h → bytes ≡ header_spelling h → header_at bytes ≡ Ok h
+unfolding header_at
+header_again bytes h long allowed is =
+    let few : length h.entries ≤ 1024 = small_count (length h.entries) allowed.count in
+    let p = parts_of_spelling h bytes few allowed.entries is in
+    let f = fields_read h bytes allowed p in
+    let count : ℕ = count_at bytes in
+    let data_length : ℕ = number_at w32 20 bytes in
+    let kind : kind_at bytes ≡ h.kind = ap (λ (o : Option Kind). unwrap_or o Leaf) f.kind_byte_is in
+    let opening : AllHold (opening_checks bytes) = (eq-eqb (byte_at 0 bytes) 0xC5 p.gate, ((bytes_eq-Decides (range 1 7 bytes) magic).1 f.name, (ap is_count f.count_is ∙ allowed.count, tt))) in
+    let digest : AllHold (digest_checks bytes) = ((bytes_eq-Decides (range 24 32 bytes) (digest_at bytes)).1 (digest_read h bytes p f.count_is), tt) in
+    let fields : AllHold (field_checks bytes) = (ap is_id f.id_is ∙ allowed.id, (ap is_some f.kind_byte_is, (eq-eqb (byte_at 17 bytes) 0 f.zero_is, (ap is_data_length f.length_is ∙ allowed.data_length, (zeros_end_of 56 456 512 bytes refl p.padding, tt))))) in
+    let entries : entries_at (kind_at bytes) data_length count [] bytes ≡ Ok h.entries =
+    ap (λ (k : Kind). entries_at k data_length count [] bytes) kind
+    ∙ ap (λ (d : ℕ). entries_at h.kind d count [] bytes) f.length_is
+    ∙ ap (λ (n : ℕ). entries_at h.kind h.data_length n [] bytes) f.count_is
+    ∙ entries_again h.kind h.data_length [] h.entries bytes (omega arith) allowed.entries p.entries allowed.whole (small_length h.data_length allowed.data_length) in
+    let from : entry_place count ≡ 512 + 48 * length h.entries = ap entry_place f.count_is in
+    let rest : range (entry_place count) (49664 - entry_place count) bytes ≡ zeros (49664 - entry_place count) =
+    ap (λ (k : ℕ). range k (49664 - k) bytes) from ∙ ap (λ (k : ℕ). range (512 + 48 * length h.entries) k bytes) (omega arith) ∙ p.rest ∙ ap zeros (omega arith) in
+    let end : AllHold (end_checks bytes) = (zeros_end_of (entry_place count) (49664 - entry_place count) 49664 bytes (omega arith) rest, tt) in
+    then_step (behind (opening_checks bytes) count) _ count (Ok h) (behind_all (opening_checks bytes) count opening)
+    (then_step (passes (digest_checks bytes)) _ tt (Ok h) (behind_all (digest_checks bytes) tt digest)
+    (then_step (behind (field_checks bytes) (kind_at bytes)) _ (kind_at bytes) (Ok h) (behind_all (field_checks bytes) (kind_at bytes) fields)
+    (then_step (entries_at (kind_at bytes) data_length count [] bytes) _ h.entries (Ok h) entries
+    (then_step (passes (end_checks bytes)) _ tt (Ok h) (behind_all (end_checks bytes) tt end)
+    (ap (λ (v : HeaderValue). Ok v) (same_header _ _ _ _ _ _ h.entries f.id_is kind f.length_is))))))

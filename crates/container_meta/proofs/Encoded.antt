@@ -1,0 +1,81 @@
+-- A container as it is written.
+use Rattle.std.proofs.Common.{◌≡◌, ℕ, ◌-◌, ◌*◌, ◌≤◌, true, List, [], ◌∷◌, ◌++◌, length, take, Some, refl, sym, ap, subst, ◌∙◌, arith, append_assoc}
+use Rattle.std.specs.Prelude.{nat_le}
+use Rattle.std.proofs.lemmas.Bool.{le-leb, leb-true}
+use Rattle.std.proofs.lemmas.List.{take_at}
+use Rattle.container_meta.specs.declared.kind.Kind.{Kind}
+use Rattle.container_meta.specs.declared.kind.Kind.TheVariants.{Leaf, Tree}
+use Rattle.container_meta.specs.declared.entry.Entry.{Entry}
+use Rattle.container_meta.specs.Format.{zeros, kind_byte, kind_of, is_id, is_within, is_length}
+use Rattle.container_meta.specs.Segments.{Segment, bytes_in, entries_from, segments_in}
+use Rattle.container_meta.specs.Spelling.{bytes_of, Follow, IsHeader, entries_spelling, fields_spelling, front_spelling, header_of, container_spelling}
+use Rattle.container_meta.proofs.Checks.{both, both_true}
+use Rattle.container_meta.proofs.Parts.{length-entries_spelling}
+use Rattle.container_meta.proofs.Packing.{bytes_of-cons, data-segments_in, bytes_in-segments_in}
+
+-- a container of these entries and this data
+abbrev spelled_with : ℕ → Kind → List Entry → ℕ → List ℕ → List ℕ
+spelled_with id kind es count bytes =
+    front_spelling (fields_spelling id kind (length es) count) (entries_spelling es) ++ entries_spelling es ++ zeros (49152 - 48 * length es) ++ bytes ++ zeros (212480 - count)
+
+joined : (a b c d e : List ℕ) → a ++ ((b ++ c) ++ (d ++ e)) ≡ (((a ++ b) ++ c) ++ d) ++ e
+joined a b c d e = simp append_assoc
+
+pub container_written : (id : ℕ) (kind : Kind) (es : List Entry) (bytes front entries rest part : List ℕ)
+    → es ≡ entries_from 0 (segments_in es bytes) → bytes_of es ≡ length bytes → Follow kind [] es
+    → entries ≡ entries_spelling es ++ zeros (49152 - 48 * length es) → part ≡ take (48 * length es) entries
+    → front ≡ front_spelling (fields_spelling id kind (length es) (length bytes)) part → rest ≡ bytes ++ zeros (212480 - length bytes)
+    → front ++ (entries ++ rest) ≡ container_spelling id kind (segments_in es bytes)
+container_written id kind es bytes front entries rest part exact whole allowed wrote_entries cut wrote_front wrote_rest =
+    let ss : List Segment = segments_in es bytes in
+    let fields : List ℕ = fields_spelling id kind (length es) (length bytes) in
+    let spelled : List ℕ = entries_spelling es in
+    let k : ℕ = 49152 - 48 * length es in
+    let long : length spelled ≡ 48 * length es = length-entries_spelling kind [] es allowed in
+    let part_is : part ≡ spelled = cut ∙ ap (take (48 * length es)) wrote_entries ∙ take_at spelled (zeros k) (48 * length es) long in
+    let front_is : front ≡ front_spelling fields spelled = wrote_front ∙ ap (front_spelling fields) part_is in
+    ap (λ (l : List ℕ). l ++ (entries ++ rest)) front_is
+    ∙ ap (λ (l : List ℕ). front_spelling fields spelled ++ (l ++ rest)) wrote_entries
+    ∙ ap (λ (l : List ℕ). front_spelling fields spelled ++ ((spelled ++ zeros k) ++ l)) wrote_rest
+    ∙ joined (front_spelling fields spelled) spelled (zeros k) bytes (zeros (212480 - length bytes))
+    ∙ ap (λ (l : List Entry). spelled_with id kind l (length bytes) bytes) exact
+    ∙ ap (λ (n : ℕ). spelled_with id kind (entries_from 0 ss) n bytes) (sym (bytes_in-segments_in es bytes whole))
+    ∙ ap (λ (l : List ℕ). spelled_with id kind (entries_from 0 ss) (bytes_in ss) l) (sym (data-segments_in es bytes whole))
+
+-- ---- its header
+
+kind_taken : (kind : Kind) (n : ℕ) → is_length kind n ≡ true → kind_of (kind_byte kind) ≡ Some kind
+kind_taken Leaf n h = refl
+kind_taken Tree n h = absurd cc
+
+some_length : (kind : Kind) (n : ℕ) → is_length kind n ≡ true → 1 ≤ n
+some_length Leaf n h = leb-true 1 n (both (nat_le 1 n) (nat_le n 16384) h).0
+some_length Tree n h = absurd cc
+
+within : (high n : ℕ) → 1 ≤ n → n ≤ high → is_within 1 high n ≡ true
+within high n low up = both_true (nat_le 1 n) (nat_le n high) (le-leb 1 n low) (le-leb n high up)
+
+record First (kind : Kind) (es : List Entry) : Type 0 where
+  taken : kind_of (kind_byte kind) ≡ Some kind
+  some : 1 ≤ bytes_of es
+
+first_tells : (kind : Kind) (es : List Entry) → Follow kind [] es → 1 ≤ length es → First kind es
+first_tells kind [] allowed there = absurd (omega arith)
+first_tells kind (e ∷ es) allowed there = record {
+  taken = kind_taken kind e.length allowed.0.length;
+  some = omega (arith, bytes_of-cons e es, some_length kind e.length allowed.0.length);
+}
+
+pub header_allowed : (id : ℕ) (kind : Kind) (es : List Entry) (bytes : List ℕ) → is_id id ≡ true → es ≡ entries_from 0 (segments_in es bytes) → bytes_of es ≡ length bytes → Follow kind [] es → 1 ≤ length es → length es ≤ 1024 → length bytes ≤ 212480 → IsHeader (header_of id kind (segments_in es bytes))
+header_allowed id kind es bytes right exact whole allowed there few fits =
+    let ss : List Segment = segments_in es bytes in
+    let first = first_tells kind es allowed there in
+    let held : bytes_in ss ≡ length bytes = bytes_in-segments_in es bytes whole in
+    record {
+      id = right;
+      kind = first.taken;
+      count = ap (λ (l : List Entry). is_within 1 1024 (length l)) (sym exact) ∙ within 1024 (length es) there few;
+      data_length = within 212480 (bytes_in ss) (omega (arith, held, first.some)) (omega (arith, held));
+      entries = subst (λ (l : List Entry). Follow kind [] l) exact allowed;
+      whole = ap bytes_of (sym exact) ∙ whole ∙ sym held;
+    }

@@ -1,0 +1,11 @@
+pub mod Lists
+pub mod Spelled
+pub mod Entries
+pub mod Checks
+pub mod Numbers
+pub mod Parts
+pub mod Found
+pub mod Again
+pub mod Packing
+pub mod Encoded
+pub mod Stored

@@ -1,0 +1,6 @@
+use Rattle.std.proofs.Common.{◌≡◌, ◌+◌, drop}
+use Rattle.container_meta.specs.Reading.{zeros_in_front}
+use Rattle.container_meta.proofs.reading.zeros_in_front.Given as goal
+
+abbrev pub invariant-loop-i : goal.invariant-loop-i
+invariant-loop-i l = l.i + zeros_in_front (drop l.i l.bytes) ≡ zeros_in_front l.bytes

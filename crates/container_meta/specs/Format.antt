@@ -1,0 +1,55 @@
+-- The rules of a container that speak of one number each. docs/FORMAT.md, 'Container slot', states them.
+use Rattle.std.specs.Prelude.{ℕ, zero, suc, ◌+◌, ◌*◌, ◌-◌, ◌^◌, List, [], ◌∷◌, replicate, Bool, false, ◌&&◌, ◌==◌, nat_le, Option, Some, None}
+use Rattle.std.specs.Int.{Width, byte_len, from_be_bytes}
+use Rattle.base_model.specs.Bytes.{range}
+use Rattle.container_meta.specs.declared.kind.Kind.{Kind}
+use Rattle.container_meta.specs.declared.kind.Kind.TheVariants.{Leaf, Tree}
+
+-- `DDFSCON`
+abbrev pub magic : List ℕ
+magic = 68 ∷ 68 ∷ 70 ∷ 83 ∷ 67 ∷ 79 ∷ 78 ∷ []
+
+-- low to high, both among them
+abbrev pub is_within : ℕ → ℕ → ℕ → Bool
+is_within low high n = nat_le low n && nat_le n high
+
+abbrev pub is_id : ℕ → Bool
+is_id id = is_within 1 (2 ^ 64 - 2) id
+
+abbrev pub is_count : ℕ → Bool
+is_count count = is_within 1 1024 count
+
+abbrev pub is_data_length : ℕ → Bool
+is_data_length bytes = is_within 1 212480 bytes
+
+-- a kind's number in headers and keys
+abbrev pub kind_byte : Kind → ℕ
+kind_byte Leaf = 0
+kind_byte Tree = 1
+
+-- the kinds that are taken, by their numbers
+abbrev pub kind_of : ℕ → Option Kind
+kind_of zero = Some Leaf
+kind_of (suc n) = None
+
+-- the lengths of segments of a kind
+abbrev pub is_length : Kind → ℕ → Bool
+is_length Leaf bytes = is_within 1 16384 bytes
+is_length Tree bytes = false
+
+-- the levels of segments of a kind
+abbrev pub is_level : Kind → ℕ → Bool
+is_level Leaf level = level == 0
+is_level Tree level = false
+
+-- so many zeros
+unfoldable pub zeros : ℕ → List ℕ
+zeros count = replicate count 0
+
+-- the number that the bytes at a place spell, the highest first
+unfoldable pub number_at : Width → ℕ → List ℕ → ℕ
+number_at width at bytes = from_be_bytes width (range at (byte_len width) bytes)
+
+-- where entry i stands
+abbrev pub entry_place : ℕ → ℕ
+entry_place i = 512 + 48 * i

@@ -1,0 +1,5 @@
+pub mod Format
+pub mod Segments
+pub mod Spelling
+pub mod Packed
+pub mod Reading

@@ -1,0 +1,137 @@
+-- What a reader finds in the 49,664 bytes of a header, or the first fault.
+use Rattle.std.specs.Prelude.{◌≡◌, ℕ, zero, suc, ◌+◌, ◌*◌, ◌-◌, List, [], ◌∷◌, ◌++◌, length, Bool, not, ◌&&◌, ◌==◌, nat_le, if◌then◌else◌, is_some, unwrap_or, Result, Ok, Err}
+use Rattle.std.specs.Str.{bytes_eq}
+use Rattle.std.specs.Int.{w16, w32, w64, from_be_bytes}
+use Rattle.sha2.specs.Sha256.{sha256}
+use Rattle.base_model.specs.Bytes.{range, byte_at}
+use Rattle.container_meta.specs.declared.kind.Kind.{Kind}
+use Rattle.container_meta.specs.declared.kind.Kind.TheVariants.{Leaf}
+use Rattle.container_meta.specs.declared.entry.Entry.{Entry}
+use Rattle.container_meta.specs.declared.fault.MetaFault.{MetaFault}
+use Rattle.container_meta.specs.declared.fault.MetaFault.TheVariants.{Gate, Magic, Field, Digest, Memory}
+use Rattle.container_meta.specs.Format.{magic, is_id, is_count, is_data_length, kind_of, is_length, is_level, number_at, entry_place}
+use Rattle.container_meta.specs.Spelling.{HeaderValue, bytes_of, has_digest}
+
+infixl 10 ◌>>=◌
+abbrev pub ◌>>=◌ : {A B : Type 0} → Result A MetaFault → (A → Result B MetaFault) → Result B MetaFault
+(Ok x) >>= f = f x
+(Err e) >>= f = Err e
+
+-- What a function returned, seen by view, is what reading gives, unless memory ran out.
+abbrev pub Fails : {Y : Type 0} → MetaFault → Result Y MetaFault → Type 0
+Fails Memory read = Unit {0}
+Fails (Gate byte) read = read ≡ Err (Gate byte)
+Fails Magic read = read ≡ Err Magic
+Fails (Field offset got) read = read ≡ Err (Field offset got)
+Fails (Digest want got) read = read ≡ Err (Digest want got)
+
+abbrev pub Gives : {X Y : Type 0} → (X → Y) → Result X MetaFault → Result Y MetaFault → Type 0
+Gives view (Ok x) read = read ≡ Ok (view x)
+Gives view (Err e) read = Fails e read
+
+-- What has to hold, and the fault where it doesn't.
+pub record Check : Type 0 where
+  pub holds : Bool
+  pub fault : MetaFault
+
+-- the value where each check holds, else the fault of the first that doesn't
+abbrev pub behind : {A : Type 0} → List Check → A → Result A MetaFault
+behind [] value = Ok value
+behind (c ∷ cs) value = if c.holds then behind cs value else Err c.fault
+
+-- nothing where each check holds, else the fault of the first that doesn't
+abbrev pub passes : List Check → Result (Unit {0}) MetaFault
+passes checks = behind checks tt
+
+-- a number in a field, which breaks its rule or keeps it
+abbrev pub field : ℕ → ℕ → Bool → Check
+field offset got holds = record { holds = holds; fault = Field offset got }
+
+-- how many zeros a list begins with
+abbrev pub zeros_in_front : List ℕ → ℕ
+zeros_in_front [] = 0
+zeros_in_front (b ∷ bs) = if b == 0 then suc (zeros_in_front bs) else 0
+
+-- the place of the first byte from a place on that isn't zero, or the end of the bytes that have to be
+unfoldable pub zeros_end : ℕ → ℕ → List ℕ → ℕ
+zeros_end from count bytes = from + zeros_in_front (range from count bytes)
+
+abbrev pub count_at : List ℕ → ℕ
+count_at bytes = number_at w16 18 bytes
+
+-- what has to hold before the digest can be taken
+abbrev pub opening_checks : List ℕ → List Check
+opening_checks bytes =
+    record { holds = byte_at 0 bytes == 0xC5; fault = Gate (byte_at 0 bytes) }
+    ∷ record { holds = bytes_eq (range 1 7 bytes) magic; fault = Magic }
+    ∷ field 18 (count_at bytes) (is_count (count_at bytes))
+    ∷ []
+
+-- the digest of bytes 1 to 23 and of the entries
+abbrev pub digest_at : List ℕ → List ℕ
+digest_at bytes = sha256 (range 1 23 bytes ++ range 512 (48 * count_at bytes) bytes)
+
+abbrev pub digest_checks : List ℕ → List Check
+digest_checks bytes =
+    record { holds = bytes_eq (range 24 32 bytes) (digest_at bytes); fault = Digest (range 24 32 bytes) (digest_at bytes) }
+    ∷ []
+
+-- the fields before the entries, by their offsets
+abbrev pub field_checks : List ℕ → List Check
+field_checks bytes =
+    field 8 (number_at w64 8 bytes) (is_id (number_at w64 8 bytes))
+    ∷ field 16 (byte_at 16 bytes) (is_some (kind_of (byte_at 16 bytes)))
+    ∷ field 17 (byte_at 17 bytes) (byte_at 17 bytes == 0)
+    ∷ field 20 (number_at w32 20 bytes) (is_data_length (number_at w32 20 bytes))
+    ∷ field 56 (byte_at (zeros_end 56 456 bytes) bytes) (zeros_end 56 456 bytes == 512)
+    ∷ []
+
+abbrev pub entry_at : ℕ → List ℕ → Entry
+entry_at at bytes = record { digest = range at 32 bytes; offset = number_at w32 (at + 32) bytes; length = number_at w32 (at + 36) bytes; level = byte_at (at + 40) bytes }
+
+-- seven bytes as a number
+unfoldable pub seven_at : ℕ → List ℕ → ℕ
+seven_at at bytes = from_be_bytes w64 (0 ∷ range at 7 bytes)
+
+-- the data of an entry ends where the next one's begins, and that of the last at the data's end
+abbrev pub is_end : ℕ → ℕ → ℕ → Bool
+is_end after data_length end = if after == 0 then end == data_length else nat_le end data_length
+
+-- an entry that stands at a place behind others, and before so many
+abbrev pub entry_checks : Kind → ℕ → ℕ → List Entry → ℕ → List ℕ → List Check
+entry_checks kind data_length after before at bytes =
+    let e = entry_at at bytes in
+    field at (byte_at at bytes) (not (has_digest before e.digest))
+    ∷ field (at + 32) e.offset (e.offset == bytes_of before)
+    ∷ field (at + 36) e.length (is_length kind e.length && is_end after data_length (bytes_of before + e.length))
+    ∷ field (at + 40) e.level (is_level kind e.level)
+    ∷ field (at + 41) (seven_at (at + 41) bytes) (seven_at (at + 41) bytes == 0)
+    ∷ []
+
+-- so many entries, behind those that were read before
+unfoldable pub entries_at : Kind → ℕ → ℕ → List Entry → List ℕ → Result (List Entry) MetaFault
+entries_at kind data_length zero before bytes = Ok before
+entries_at kind data_length (suc after) before bytes = do
+  e ← behind (entry_checks kind data_length after before (entry_place (length before)) bytes) (entry_at (entry_place (length before)) bytes)
+  entries_at kind data_length after (before ++ e ∷ []) bytes
+
+-- zeros behind the entries
+abbrev pub end_checks : List ℕ → List Check
+end_checks bytes =
+    let from = entry_place (count_at bytes) in
+    let end = zeros_end from (49664 - from) bytes in
+    field end (byte_at end bytes) (end == 49664)
+    ∷ []
+
+abbrev pub kind_at : List ℕ → Kind
+kind_at bytes = unwrap_or (kind_of (byte_at 16 bytes)) Leaf
+
+-- the header that the bytes spell, or the first fault
+unfoldable pub header_at : List ℕ → Result HeaderValue MetaFault
+header_at bytes = do
+  count ← behind (opening_checks bytes) (count_at bytes)
+  digest ← passes (digest_checks bytes)
+  kind ← behind (field_checks bytes) (kind_at bytes)
+  entries ← entries_at kind (number_at w32 20 bytes) count [] bytes
+  end ← passes (end_checks bytes)
+  Ok (record { id = number_at w64 8 bytes; kind = kind; data_length = number_at w32 20 bytes; entries = entries })

@@ -1,0 +1,169 @@
+//! Containers that are being filled.
+
+ghost use Rattle.std.specs.Prelude.{◌≡◌, ◌+◌, vec_len, vec_capacity, ◌<◌, ◌≤◌, ◌^◌, ◌-◌, ◌↔◌, [], ◌∷◌, ◌++◌, length, IfOk, IsTrue, true, false, if◌then◌else◌};
+
+use crate::entry::{Entry, stands_in};
+use crate::kind::{Kind, byte_of};
+use crate::segment::Seg;
+use crate::writing::{Fields, put_data, put_entries, put_front};
+use std::alloc::{AllocError, Global};
+use std::marker::Model;
+
+/// How many entries a container has room for.
+const MOST_ENTRIES: usize = 1_024;
+/// How many bytes of data a container has room for.
+const MOST_BYTES: usize = 212_480;
+
+/// Whether a segment was taken.
+#[derive(Clone, Copy, Debug, PartialEq, Eq)]
+pub enum Fit {
+    /// It stands in the container now.
+    Added,
+    /// The container has 1,024 entries, or the segment's bytes don't fit beside those that are there.
+    NoRoom,
+}
+
+/// Adds an entry, for which memory is there.
+fn push_entry(entries: &mut Vec<Entry>, entry: Entry)
+    requires { vec_len entries.old < vec_capacity entries.old }
+    ensures items { entries.new.items ≡ entries.old.items ++ entry ∷ [] }
+    ensures capacity { vec_capacity entries.old ≤ vec_capacity entries.new }
+{
+    entries.push(entry).unwrap();
+}
+
+/// Adds bytes, for which memory is there.
+fn push_bytes(bytes: &mut Vec<u8>, from: &[u8])
+    requires { vec_len bytes.old + length from.now ≤ vec_capacity bytes.old }
+    ensures items { bytes.new.items ≡ bytes.old.items ++ from.now }
+    ensures capacity { vec_capacity bytes.old ≤ vec_capacity bytes.new }
+{
+    bytes.extend_from_slice(from).unwrap();
+}
+
+/// A container that is being filled with segments of one kind, each there once.
+#[derive(Debug, Drop)]
+pub struct OpenContainer {
+    kind: Kind,
+    entries: Vec<Entry>,
+    bytes: Vec<u8>,
+}
+
+impl Model for OpenContainer {
+    ghost use Rattle.container_meta.specs.Segments.{Contents, segments_in};
+
+    ghost Value = { Contents };
+
+    ghost view = { λ c. record { kind = c.kind; segments = segments_in c.entries.items c.bytes.items } };
+
+    ghost use Rattle.container_meta.specs.Packed.{IsPacked};
+
+    ghost invariant = { λ c. IsPacked c.kind c.entries c.bytes };
+}
+
+impl OpenContainer {
+    ghost use Rattle.base_model.specs.Bytes.{range};
+    ghost use Rattle.container_meta.specs.Format.{is_id};
+    ghost use Rattle.container_meta.specs.Segments.{CanAdd, StandFrom, has_key, has_room as room_for};
+    ghost use Rattle.container_meta.specs.Spelling.{IsHeader, header_of, header_spelling, container_spelling};
+
+    /// An empty container, with all the memory that it will need.
+    pub fn new(alloc: Global, kind: Kind) -> Result<OpenContainer, AllocError>
+        ensures { IfOk result (λ c. c ≡ record { kind = kind; segments = [] }) }
+    {
+        Ok(OpenContainer {
+            kind,
+            entries: Vec::with_capacity(alloc, MOST_ENTRIES)?,
+            bytes: Vec::with_capacity(alloc, MOST_BYTES)?,
+        })
+    }
+
+    /// What the segments are.
+    pub fn kind(&self) -> Kind
+        ensures { result ≡ self.now.kind }
+    {
+        self.kind
+    }
+
+    /// How many segments it holds.
+    pub fn len(&self) -> usize
+        ensures { result ≡ length self.now.segments }
+    {
+        self.entries.len()
+    }
+
+    /// Whether it holds no segment.
+    pub fn is_empty(&self) -> bool
+        ensures { IsTrue result ↔ (self.now.segments ≡ []) }
+    {
+        self.entries.is_empty()
+    }
+
+    /// Whether a segment with this key is in it.
+    pub fn has(&self, key: &[u8; 33]) -> bool
+        ensures { result ≡ has_key self.now key.now }
+    {
+        byte_of(self.kind) == key[0] && stands_in(&self.entries, &key[1..])
+    }
+
+    /// Whether a segment of so many bytes fits.
+    pub fn has_room(&self, bytes: usize) -> bool
+        ensures { result ≡ room_for self.now bytes }
+    {
+        self.entries.len() < MOST_ENTRIES && bytes <= MOST_BYTES - self.bytes.len()
+    }
+
+    /// Adds a segment, unless the container has no room for it.
+    pub fn try_add(&mut self, seg: &Seg) -> Fit
+        requires { CanAdd self.old seg.now }
+        ensures added { result ≡ Fit.Added → self.new ≡ record self.old { segments = self.old.segments ++ seg.now.segment ∷ [] } }
+        ensures no_room { result ≡ Fit.NoRoom → self.new ≡ self.old }
+        ensures which { result ≡ (if room_for self.old (length seg.now.segment.bytes) then Fit.Added else Fit.NoRoom) }
+    {
+        let bytes = seg.bytes();
+        if !self.has_room(bytes.len()) {
+            return Fit::NoRoom;
+        }
+        let entry = Entry {
+            digest: seg.digest(),
+            offset: self.bytes.len() as u32,
+            length: bytes.len() as u32,
+            level: seg.level(),
+        };
+        push_entry(&mut self.entries, entry);
+        push_bytes(&mut self.bytes, bytes);
+        Fit::Added
+    }
+
+    /// Takes everything out. The memory stays.
+    pub fn clear(&mut self)
+        ensures { self.new ≡ record self.old { segments = [] } }
+    {
+        self.entries.clear();
+        self.bytes.clear();
+    }
+
+    /// Writes the container under an id, as the 262,144 bytes of a slot.
+    pub fn encode(&self, id: u64, image: &mut [u8])
+        requires there { 1 ≤ length self.now.segments }
+        requires id { is_id id ≡ true }
+        requires image { length image.old ≡ 262144 }
+        ensures image { image.new ≡ container_spelling id self.now.kind self.now.segments }
+        // Each segment stands where its entry says.
+        ensures stored { StandFrom 0 self.now.segments image.new }
+        ensures header { IsHeader (header_of id self.now.kind self.now.segments) }
+        ensures front { range 0 49664 image.new ≡ header_spelling (header_of id self.now.kind self.now.segments) }
+    {
+        let (front, rest) = image.split_at_mut(512);
+        let (entries, data) = rest.split_at_mut(49_152);
+        put_entries(entries, &self.entries);
+        let fields = Fields {
+            id,
+            kind: self.kind,
+            count: self.entries.len() as u16,
+            data_length: self.bytes.len() as u32,
+        };
+        put_front(front, &fields, &entries[..48 * self.entries.len()]);
+        put_data(data, &self.bytes);
+    }
+}

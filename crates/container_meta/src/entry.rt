@@ -1,0 +1,41 @@
+//! What a container's header says.
+
+ghost use Rattle.std.specs.Prelude.{◌≡◌};
+ghost use Rattle.container_meta.specs.Spelling.{has_digest};
+
+use crate::kind::Kind;
+
+/// Where a segment lies in its container.
+#[derive(Clone, Copy, Debug, PartialEq, Eq)]
+pub struct Entry {
+    /// The SHA-256 of the segment's bytes.
+    pub digest: [u8; 32],
+    /// The place of its first byte, from byte 49,664 of the slot on.
+    pub offset: u32,
+    /// How many bytes it has.
+    pub length: u32,
+    /// 0 for data, and for a node of a tree its height above the data.
+    pub level: u8,
+}
+
+/// A container's header and entries.
+#[derive(Debug, Drop)]
+pub struct Meta {
+    /// From 1 to 2^64 - 2.
+    pub id: u64,
+    /// What the container's segments are.
+    pub kind: Kind,
+    /// How many bytes its segments have together, from 1 to 212,480.
+    pub data_length: u32,
+    /// From 1 to 1,024 entries, in the order of their offsets, each with a digest of its own.
+    pub entries: Vec<Entry>,
+}
+
+/// Whether an entry has this digest.
+pub(crate) fn stands_in(entries: &[Entry], digest: &[u8]) -> bool
+    ensures { result ≡ has_digest entries.now digest.now }
+{
+    entries
+        .iter()
+        .any(|entry| entry.digest.as_slice() == digest)
+}

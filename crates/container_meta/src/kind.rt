@@ -1,0 +1,54 @@
+//! What a segment is to the store.
+
+ghost use Rattle.std.specs.Prelude.{◌≡◌, ◌≤◌, IsTrue};
+ghost use Rattle.container_meta.specs.Format.{kind_byte, kind_of, is_length, is_level};
+
+/// What a segment is to the store.
+#[derive(Clone, Copy, Debug, PartialEq, Eq)]
+pub enum Kind {
+    /// A part of a file.
+    Leaf,
+    /// A node of a file's tree. No container of this kind is taken yet.
+    Tree,
+}
+
+/// A kind's number in headers and keys.
+pub(crate) fn byte_of(kind: Kind) -> u8
+    ensures { result ≡ kind_byte kind }
+{
+    match kind {
+        Kind::Leaf => 0,
+        Kind::Tree => 1,
+    }
+}
+
+/// The kind of a number, where it is taken.
+pub(crate) fn kind_at(byte: u8) -> Option<Kind>
+    ensures { result ≡ kind_of byte }
+{
+    match byte {
+        0 => Some(Kind::Leaf),
+        _ => None,
+    }
+}
+
+/// Whether segments of a kind may have so many bytes.
+pub(crate) fn takes_length(kind: Kind, bytes: u32) -> bool
+    ensures value { result ≡ is_length kind bytes }
+    ensures few { IsTrue result → bytes ≤ 16384 }
+{
+    match kind {
+        Kind::Leaf => (1..=16_384).contains(&bytes),
+        Kind::Tree => false,
+    }
+}
+
+/// Whether segments of a kind may have this level.
+pub(crate) fn takes_level(kind: Kind, level: u8) -> bool
+    ensures { result ≡ is_level kind level }
+{
+    match kind {
+        Kind::Leaf => level == 0,
+        Kind::Tree => false,
+    }
+}

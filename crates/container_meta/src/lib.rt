@@ -1,0 +1,23 @@
+//! Segments, and the containers that hold them: a header with an entry for each segment, and the
+//! segments' bytes.
+//!
+//! The format is docs/FORMAT.md, 'Container slot'.
+#![tactic(auto)]
+
+mod container;
+mod entry;
+mod fault;
+mod kind;
+mod reading;
+mod segment;
+mod writing;
+
+pub use container::{Fit, OpenContainer};
+pub use entry::{Entry, Meta};
+pub use fault::MetaFault;
+pub use kind::Kind;
+pub use reading::decode;
+pub use segment::{Seg, digest_of};
+
+#[cfg(test)]
+mod tests;

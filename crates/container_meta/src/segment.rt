@@ -1,0 +1,88 @@
+//! Segments and their digests.
+
+ghost use Rattle.std.specs.Prelude.{◌≡◌, IfOk};
+ghost use Rattle.sha2.specs.Sha256.{sha256};
+
+use crate::kind::{Kind, byte_of};
+use sha2::{Digest, Sha256};
+use std::alloc::{AllocError, Global};
+use std::marker::Model;
+
+/// The SHA-256 of bytes (FIPS 180-4).
+pub fn digest_of(bytes: &[u8]) -> [u8; 32]
+    ensures { result ≡ sha256 bytes.now }
+{
+    Sha256::digest(bytes)
+}
+
+/// Bytes that the store keeps under their digest.
+#[derive(Debug, Drop)]
+pub struct Seg {
+    kind: Kind,
+    level: u8,
+    bytes: Vec<u8>,
+    digest: [u8; 32],
+}
+
+impl Model for Seg {
+    ghost use Rattle.std.specs.Prelude.{◌≡◌};
+    ghost use Rattle.sha2.specs.Sha256.{sha256};
+    ghost use Rattle.container_meta.specs.Segments.{KindSegment};
+
+    ghost Value = { KindSegment };
+
+    ghost view = { λ s. record { kind = s.kind; segment = record { level = s.level; bytes = s.bytes.items } } };
+
+    ghost invariant = { λ s. s.digest ≡ sha256 s.bytes.items };
+}
+
+impl Seg {
+    ghost use Rattle.container_meta.specs.Segments.{segment_key};
+
+    /// A segment of a file. The bytes are copied.
+    pub fn leaf(alloc: Global, bytes: &[u8]) -> Result<Seg, AllocError>
+        ensures { IfOk result (λ s. s ≡ record { kind = Kind.Leaf; segment = record { level = 0; bytes = bytes.now } }) }
+    {
+        Ok(Seg {
+            kind: Kind::Leaf,
+            level: 0,
+            bytes: Vec::from_slice(alloc, bytes)?,
+            digest: digest_of(bytes),
+        })
+    }
+
+    pub fn kind(&self) -> Kind
+        ensures { result ≡ self.now.kind }
+    {
+        self.kind
+    }
+
+    pub fn level(&self) -> u8
+        ensures { result ≡ self.now.segment.level }
+    {
+        self.level
+    }
+
+    pub fn bytes(&self) -> &[u8]
+        ensures { result.now ≡ self.now.segment.bytes }
+    {
+        self.bytes.as_slice()
+    }
+
+    /// The SHA-256 of the bytes.
+    pub fn digest(&self) -> [u8; 32]
+        ensures { result ≡ sha256 self.now.segment.bytes }
+    {
+        self.digest
+    }
+
+    /// The kind's number and the digest.
+    pub fn key(&self) -> [u8; 33]
+        ensures { result ≡ segment_key self.now.kind self.now.segment }
+    {
+        let mut key = [0u8; 33];
+        key[0] = byte_of(self.kind);
+        key[1..].copy_from_slice(&self.digest);
+        key
+    }
+}

@@ -1,0 +1,5 @@
+mod Differ
+mod Disks
+mod Gated
+mod Headers
+mod Outcome

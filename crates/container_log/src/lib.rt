@@ -1,0 +1,16 @@
+//! Containers in their slots on a disk: written, freed and read again.
+//!
+//! The format is docs/FORMAT.md, 'The disk' and 'Container slot'.
+#![tactic(auto)]
+
+mod device;
+mod fault;
+mod reading;
+mod writing;
+
+pub use fault::{LogFault, Why};
+pub use reading::{Spot, read_meta, read_segment};
+pub use writing::{free, seal};
+
+#[cfg(test)]
+mod tests;

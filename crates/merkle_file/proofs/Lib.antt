@@ -1,0 +1,11 @@
+pub mod Fields
+pub mod Nodes
+pub mod Placing
+pub mod Closing
+pub mod Pushing
+pub mod Finishing
+pub mod Progress
+pub mod Walking
+pub mod TreeLaws
+pub mod RightTrees
+pub mod Unfolding

@@ -1,0 +1,91 @@
+-- The trees to come on a walk, and the room that they take.
+use Rattle.std.proofs.Common.{◌≡◌, ℕ, zero, suc, ◌+◌, ◌-◌, ◌*◌, ◌<◌, ◌≤◌, List, [], ◌∷◌, ◌++◌, length, map, reverse, take, drop, get_or, refl, sym, ap, subst, ◌∙◌, append_assoc, arith}
+use Rattle.std.proofs.lemmas.List.{drop-drop, length-append, reverse-append, take-append-drop, drop_more}
+use Rattle.std.proofs.Math.Seq.{drop-length}
+use Rattle.merkle_file.specs.declared.node.Child.{Child}
+use Rattle.merkle_file.specs.declared.top.Top.{Top}
+use Rattle.merkle_file.specs.declared.node.TheConstants.{GREATEST_CHILDREN}
+use Rattle.merkle_file.specs.declared.stack.TheConstants.{STACK}
+use Rattle.merkle_file.specs.Node.{Contents, IsNode}
+use Rattle.merkle_file.specs.Reading.{child_in, children_in, IsAsked, IsWithin}
+use Rattle.merkle_file.specs.Walk.{HasRoom, IsNamed, IsNodeNext, asked_for, below, opened}
+
+-- ---- the children that bytes spell, one by one
+
+pub length-children_in : (n : ℕ) (bytes : List ℕ) → length (children_in n bytes) ≡ n
+unfolding children_in
+length-children_in zero bytes = refl
+length-children_in (suc n) bytes = ap suc (length-children_in n (drop 40 bytes))
+
+pub drop_child : (n i : ℕ) (bytes : List ℕ) → i < n → drop i (children_in n bytes) ≡ child_in (drop (40 * i) bytes) ∷ drop (i + 1) (children_in n bytes)
+unfolding children_in
+drop_child zero i bytes lt = absurd (omega arith)
+drop_child (suc n) zero bytes lt = refl
+drop_child (suc n) (suc i) bytes lt =
+    let ih = drop_child n i (drop 40 bytes) (omega arith) in
+    let place : drop (40 * i) (drop 40 bytes) ≡ drop (40 * suc i) bytes = drop-drop (40 * i) 40 bytes ∙ ap (λ (k : ℕ). drop k bytes) (omega arith) in
+    let next : suc i + 1 ≡ suc (i + 1) = omega arith in
+    rw (next, ← place) ih
+
+pub pushed_child : (before : List Top) (level : ℕ) (all : List Child) (i : ℕ) (c : Child) → drop i all ≡ c ∷ drop (i + 1) all
+    → (before ++ reverse (map (below level) (drop (i + 1) all))) ++ below level c ∷ [] ≡ before ++ reverse (map (below level) (drop i all))
+pushed_child before level all i c e =
+    let others : List Top = map (below level) (drop (i + 1) all) in
+    append_assoc before (reverse others) (below level c ∷ [])
+    ∙ ap (λ (ts : List Top). before ++ ts) (sym (reverse-append (below level c ∷ []) others) ∙ ap (λ (cs : List Child). reverse (map (below level) cs)) (sym e))
+
+-- ---- room
+
+room_below : (level : ℕ) (cs : List Child) (ts : List Top) → 1 ≤ level → length cs ≤ GREATEST_CHILDREN → length ts + (GREATEST_CHILDREN - 1) * level < STACK → HasRoom ts → HasRoom (map (below level) cs ++ ts)
+room_below level [] ts some few room rest = rest
+room_below level (c ∷ cs) ts some few room rest =
+    (λ _. omega (arith, length-append (map (below level) cs) ts, length_map cs, room, few, some), room_below level cs ts some (omega arith) room rest)
+  where
+    length_map : (ds : List Child) → length (map (below level) ds) ≡ length ds
+    length_map [] = refl
+    length_map (d ∷ ds) = ap suc (length_map ds)
+
+-- a node in the place of the tree that it is
+pub record IsOpened (n : Contents) (left : List Top) : Type 0 where
+  pub few : length left + GREATEST_CHILDREN ≤ STACK
+  pub room : HasRoom (opened n ++ left)
+
+open_tree : (t : Top) (ts : List Top) (n : Contents) → HasRoom (t ∷ ts) → IsNode n → n.level ≡ t.level → IsOpened n ts
+open_tree t ts n room right level =
+    let here = room.0 (omega (arith, right.level, level)) in
+    record {
+      few = omega (arith, here, right.above, level);
+      room = room_below n.level n.children ts right.above right.most (omega (arith, here, level)) room.1;
+    }
+
+pub nonempty : (items : List Top) → IsNodeNext (reverse items) → 0 < length items
+nonempty [] h = absurd h
+nonempty (t ∷ ts) h = omega arith
+
+-- the last element comes first in the reversed list
+pub reverse_last : (items : List Top) (d : Top) → 0 < length items → reverse items ≡ get_or items (length items - 1) d ∷ reverse (take (length items - 1) items)
+reverse_last items d some =
+    let i : ℕ = length items - 1 in
+    let lt : i < length items = omega arith in
+    let past : drop (i + 1) items ≡ [] = ap (λ (k : ℕ). drop k items) (omega arith) ∙ drop-length items in
+    let parts : items ≡ take i items ++ get_or items i d ∷ [] =
+    sym (take-append-drop i items) ∙ ap (λ (ts : List Top). take i items ++ ts) (drop_more items i d lt ∙ ap (λ (ts : List Top). get_or items i d ∷ ts) past) in
+    ap reverse parts ∙ reverse-append (take i items) (get_or items i d ∷ [])
+
+-- the node that is next, as it was asked for
+pub is_named : (t : Top) (n : Contents) → IsNode n → IsWithin (asked_for t) n → IsNamed t n
+is_named t n right within = record { level = omega (arith, within.lowest, within.greatest); length = omega (arith, within.least, within.most) }
+
+pub is_within : (t : Top) (n : Contents) → IsNode n → IsNamed t n → IsWithin (asked_for t) n
+is_within t n right named = record {
+  lowest = omega (arith, named.level);
+  greatest = omega (arith, named.level, right.level);
+  least = omega (arith, named.length);
+  most = omega (arith, named.length, right.total);
+}
+
+pub opened_next : (items left : List Top) (t : Top) (n : Contents) → reverse items ≡ t ∷ reverse left → HasRoom (reverse items) → IsNode n → IsNamed t n → IsOpened n (reverse left)
+opened_next items left t n e room right named = open_tree t (reverse left) n (subst HasRoom e room) right named.level
+
+pub may_ask : (t : Top) → 1 ≤ t.level → IsAsked (asked_for t)
+may_ask t some = record { lowest = some; greatest = omega arith; most = omega arith }

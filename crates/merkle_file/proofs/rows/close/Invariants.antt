@@ -1,0 +1,11 @@
+use Rattle.std.proofs.Common.{◌++◌, []}
+use Rattle.std.specs.Option.{option_to_list}
+use Rattle.merkle_file.specs.Steps.{close}
+use Rattle.merkle_file.specs.Rows.{items_of}
+use Rattle.merkle_file.proofs.Closing.{IsClosing}
+use Rattle.merkle_file.proofs.rows.close.Given as goal
+
+abbrev pub invariant-loop-level : goal.invariant-loop-level
+invariant-loop-level l =
+    let all = close 0 [] (items_of l.fn.rows) in
+    IsClosing l.level (option_to_list l.carried) (items_of l.rows) l.finished.items all.top (l.fn.finished.items ++ all.nodes)

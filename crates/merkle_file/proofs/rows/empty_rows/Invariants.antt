@@ -1,0 +1,6 @@
+use Rattle.std.proofs.Common.{◌≡◌, replicate, []}
+use Rattle.merkle_file.specs.Rows.{items_of}
+use Rattle.merkle_file.proofs.rows.empty_rows.Given as goal
+
+abbrev pub invariant-loop : goal.invariant-loop
+invariant-loop l = items_of l.rows.items ≡ replicate l.counter []

@@ -1,0 +1,7 @@
+pub mod Node
+pub mod Reading
+pub mod Tree
+pub mod Building
+pub mod Rows
+pub mod Walk
+pub mod Steps

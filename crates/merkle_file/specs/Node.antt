@@ -1,0 +1,47 @@
+-- Nodes of a Merkle tree of segments, and how each is spelled (docs/FORMAT.md, "Nodes").
+use Rattle.std.specs.Prelude.{◌≡◌, ◌≤◌, ℕ, ◌==◌, if◌then◌else◌, List, ◌∷◌, ◌++◌, length, sum_by}
+use Rattle.std.specs.List.{flat_map, AllByRecursion}
+use Rattle.std.specs.Int.{w16, w64, to_be_bytes}
+use Rattle.sha2.specs.Sha256.{sha256}
+use Rattle.merkle_file.specs.declared.node.Child.{Child}
+use Rattle.merkle_file.specs.declared.node.TheConstants.{FORM, GREATEST_CHILDREN, GREATEST_LENGTH, GREATEST_LEVEL, GREATEST_SEGMENT}
+
+-- what a node says: its level, and of each child the digest and the length of its subtree
+pub record Contents : Type 0 where
+  pub level : ℕ
+  pub children : List Child
+
+-- how many bytes of the file lie below these children
+abbrev pub total : List Child → ℕ
+total children = sum_by (λ c. c.length) children
+
+-- what a node says of one child: 32 bytes of digest and 8 of length
+abbrev pub entry : Child → List ℕ
+entry c = c.digest ++ to_be_bytes w64 c.length
+
+-- the one spelling of a node: its level, the form, the number of children, and of each its entry
+unfoldable pub spelling : Contents → List ℕ
+spelling n = (n.level ∷ FORM ∷ to_be_bytes w16 (length n.children)) ++ flat_map entry n.children
+
+-- the digest of a node is that of its spelling
+abbrev pub node_digest : Contents → List ℕ
+node_digest n = sha256 (spelling n)
+
+-- the greatest length of a child: those of a node of level 1 are segments
+abbrev pub greatest_child : ℕ → ℕ
+greatest_child level = if level == 1 then GREATEST_SEGMENT else GREATEST_LENGTH
+
+-- what a node of this level may have as a child
+pub record IsChild (level : ℕ) (c : Child) : Type 0 where
+  pub digest : length c.digest ≡ 32
+  pub some : 1 ≤ c.length
+  pub most : c.length ≤ greatest_child level
+
+-- the rules of a node
+pub record IsNode (n : Contents) : Type 0 where
+  pub above : 1 ≤ n.level
+  pub level : n.level ≤ GREATEST_LEVEL
+  pub some : 1 ≤ length n.children
+  pub most : length n.children ≤ GREATEST_CHILDREN
+  pub each : AllByRecursion (IsChild n.level) n.children
+  pub total : total n.children ≤ GREATEST_LENGTH

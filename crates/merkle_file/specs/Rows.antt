@@ -1,0 +1,42 @@
+-- Rows of children: what may be placed in them.
+use Rattle.std.specs.Prelude.{◌≡◌, ◌≤◌, ◌<◌, ℕ, ◌+◌, ◌*◌, ◌^◌, List, length, map}
+use Rattle.std.specs.Global.{Vec}
+use Rattle.std.specs.List.{AllByRecursion}
+use Rattle.merkle_file.specs.declared.node.Child.{Child}
+use Rattle.merkle_file.specs.declared.node.TheConstants.{GREATEST_CHILDREN, GREATEST_LENGTH, GREATEST_LEVEL}
+use Rattle.merkle_file.specs.Node.{total, IsChild, IsNode}
+use Rattle.merkle_file.specs.Building.{count_of, total_of, AreRows}
+
+-- rows as lists
+abbrev pub items_of : List (Vec Child) → List (List Child)
+items_of rows = map (λ row. row.items) rows
+
+-- a child may be added to a row of a level
+pub record CanTake (level : ℕ) (row : List Child) (c : Child) : Type 0 where
+  pub low : level < GREATEST_LEVEL
+  pub few : length row < GREATEST_CHILDREN
+  pub each : AllByRecursion (IsChild (level + 1)) row
+  pub child : IsChild (level + 1) c
+  pub total : total row + c.length ≤ GREATEST_LENGTH
+
+-- a child may be placed in the first of these rows, which go from a level to the last
+pub record CanPlace (level : ℕ) (c : Child) (rows : List (List Child)) : Type 0 where
+  pub levels : level + length rows ≡ GREATEST_LEVEL
+  pub right : AreRows level rows
+  pub child : IsChild (level + 1) c
+  pub room : count_of rows + 1 < GREATEST_CHILDREN ^ length rows
+  pub total : total_of rows + c.length ≤ GREATEST_LENGTH
+
+-- these rows, which go from a level to the last, may be closed with a child that the row below became
+pub record CanClose (level : ℕ) (carried : List Child) (rows : List (List Child)) : Type 0 where
+  pub levels : level + length rows ≡ GREATEST_LEVEL
+  pub some : 0 < length rows
+  pub right : AreRows level rows
+  pub one : length carried ≤ 1
+  pub each : AllByRecursion (IsChild (level + 1)) carried
+  pub room : GREATEST_CHILDREN * (count_of rows + length carried) ≤ GREATEST_CHILDREN ^ length rows
+  pub total : total_of rows + total carried ≤ GREATEST_LENGTH
+
+-- children are a node of a level, if there are any
+abbrev pub AreNode : ℕ → List Child → Type 0
+AreNode level children = 1 ≤ length children → IsNode (record { level = level; children = children })

@@ -1,0 +1,98 @@
+use crate::node::{Child, GREATEST_LEVEL, Node};
+use crate::rows::{clear, close, empty_rows, place_leaf};
+use crate::top::Top;
+use std::alloc::{AllocError, Global};
+use std::collections::VecDeque;
+use std::marker::Model;
+
+/// Builds the tree over the segments of a file as they come, and gives its nodes, children before parents.
+/// It keeps less than one node's children for each level, and the nodes that were not taken.
+///
+/// After an `Err` it is as new: what was pushed and not taken is forgotten.
+#[derive(Drop)]
+pub struct TreeBuilder {
+    alloc: Global,
+    rows: Vec<Vec<Child>>,
+    finished: VecDeque<Node>,
+}
+
+impl Model for TreeBuilder {
+    ghost use Rattle.merkle_file.specs.Building.{IsProgress, Progress};
+    ghost use Rattle.merkle_file.specs.Rows.{items_of};
+
+    ghost Value = { Progress };
+
+    ghost view = { λ b. record { rows = items_of b.rows.items; finished = b.finished.items } };
+
+    ghost invariant = { λ b. IsProgress (record { rows = items_of b.rows.items; finished = b.finished.items }) };
+}
+
+impl TreeBuilder {
+    ghost use Rattle.std.specs.Prelude.{◌≡◌, ◌+◌, [], ◌∷◌, ◌++◌, List, IfNone, IfOk, OnErr, OnOk, replicate};
+    ghost use Rattle.std.specs.Option.{option_to_list};
+    ghost use Rattle.merkle_file.specs.declared.node.Child.{Child};
+    ghost use Rattle.merkle_file.specs.Node.{Contents};
+    ghost use Rattle.merkle_file.specs.Tree.{itself, nodes_of, root_of, tree_of};
+    ghost use Rattle.merkle_file.specs.Building.{Holds, IsProgress, MayPush, count_of, total_of};
+
+    /// A builder that was pushed nothing.
+    pub fn new(alloc: Global) -> Result<TreeBuilder, AllocError>
+        ensures { IfOk result (λ b. Holds b [] []) }
+    {
+        Ok(TreeBuilder {
+            alloc,
+            rows: empty_rows(alloc)?,
+            finished: VecDeque::new(alloc),
+        })
+    }
+
+    /// Adds a segment at the end: its digest, and its length from 1 to 16,384. A tree has at most 2^29
+    /// segments and 2^40 bytes. Each node that is whole thereby is finished, from the lowest up.
+    pub fn push(&mut self, child: Child) -> Result<(), AllocError>
+        requires { MayPush self.old child }
+        ensures pushed { OnOk result ((pushed : List Child) (taken : List Contents) →
+            Holds self.old pushed taken → Holds self.new (pushed ++ child ∷ []) taken) }
+        ensures count { OnOk result (count_of self.new.rows ≡ count_of self.old.rows + 1) }
+        ensures length { OnOk result (total_of self.new.rows ≡ total_of self.old.rows + child.length) }
+        ensures few { IsProgress self.new }
+        ensures err { OnErr result (Holds self.new [] []) }
+    {
+        match place_leaf(self.alloc, &mut self.rows, &mut self.finished, child) {
+            Ok(()) => Ok(()),
+            Err(error) => {
+                clear(&mut self.rows);
+                self.finished.clear();
+                Err(error)
+            }
+        }
+    }
+
+    /// Takes the first finished node that was not taken.
+    pub fn take(&mut self) -> Option<Node>
+        ensures first { self.old.finished ≡ option_to_list result ++ self.new.finished }
+        ensures none { IfNone result (self.old.finished ≡ []) }
+        ensures rows { self.new.rows ≡ self.old.rows }
+        ensures taken { (pushed : List Child) (taken : List Contents) →
+            Holds self.old pushed taken → Holds self.new pushed (taken ++ option_to_list result) }
+    {
+        self.finished.pop_front()
+    }
+
+    /// Finishes the nodes that are not whole, and gives the root of the tree over all that was pushed. The
+    /// nodes that were not taken can still be taken, and nothing more is pushed.
+    pub fn finish(&mut self) -> Result<Top, AllocError>
+        ensures top { IfOk result (λ top. (pushed : List Child) (taken : List Contents) →
+            Holds self.old pushed taken → top ≡ root_of itself (tree_of pushed)) }
+        ensures nodes { OnOk result ((pushed : List Child) (taken : List Contents) →
+            Holds self.old pushed taken → taken ++ self.new.finished ≡ nodes_of itself (tree_of pushed)) }
+        ensures rows { self.new.rows ≡ replicate GREATEST_LEVEL [] }
+        ensures err { OnErr result (Holds self.new [] []) }
+    {
+        let closed = close(self.alloc, &mut self.rows, &mut self.finished);
+        clear(&mut self.rows);
+        if closed.is_err() {
+            self.finished.clear();
+        }
+        closed
+    }
+}

@@ -1,0 +1,26 @@
+//! Merkle trees of segments: nodes of at most 64 children, as bytes and back, the tree over a list of
+//! segments, built as they come, and a walk down a tree that is fed its nodes. `docs/FORMAT.md`, "Nodes",
+//! has the format.
+#![tactic(auto)]
+
+mod builder;
+mod cursor;
+mod fault;
+mod laws;
+mod node;
+mod reading;
+mod rows;
+mod stack;
+#[cfg(test)]
+mod tests;
+mod top;
+mod want;
+mod writing;
+
+pub use builder::TreeBuilder;
+pub use cursor::Cursor;
+pub use fault::{FieldFault, NodeFault};
+pub use laws::tree_of_segments;
+pub use node::{Child, Hash, Node};
+pub use top::Top;
+pub use want::Want;

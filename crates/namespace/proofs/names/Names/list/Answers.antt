@@ -1,0 +1,29 @@
+use Rattle.std.proofs.Common.{◌≡◌, map, ap, sym, subst, ◌∙◌, rules}
+use Rattle.std.specs.FinMap as finite
+use Rattle.std.proofs.lemmas.List.Elements.{same_from_all_zip}
+use Rattle.namespace.specs.Keys.{by_bytes}
+use Rattle.namespace.specs.Names.{AreNames, entry_of}
+use Rattle.namespace.proofs.Again.{replays, taken}
+use Rattle.namespace.proofs.Entries.{entries_seen}
+use Rattle.namespace.proofs.Listed.{none_listed, one_listed}
+use Rattle.namespace.proofs.names.Names.list.Goals as goal
+
+pub loop-name-init : goal.loop-name-init
+loop-name-init c =
+    let all = sym (entries_seen c.self.inside.entries.entries c.len.ensures.ordered) ∙ ap finite.entries c.self.view_is in
+    none_listed c.in_ok-records.records.items c.into_iter-name-iterator.result (finite.entries c.args.self.now) c.in_ok-records.ensures.items (ap by_bytes c.into_iter-name-iterator.ensures.into_iter_gives.0 ∙ all)
+
+pub loop-name-preserved : goal.loop-name-preserved
+loop-name-preserved c =
+    let name = same_from_all_zip _ c.in-Some.name.now.items c.in_ok-clone.field-0.items c.in_ok-clone.ensures.cases.0 (λ _ _ e. e) in
+    one_listed c.loop-name.records.items c.push.new.self.items _ (c.in-Some.name.now, c.in-Some.named.now) c.loop-name.name-iterator c.next.new.self (finite.entries c.args.self.now) c.in_ok-push.ensures.items c.in-Some.ensures.steps (ap (λ bytes. (bytes, c.in-Some.named.now)) name) c.loop-name.invariant
+
+pub returns-clause-replays : goal.returns-clause-replays
+returns-clause-replays c =
+    let listed : map entry_of c.loop-name.records.items ≡ finite.entries c.args.self.now = search rules in
+    replays c.loop-name.records.items c.args.self.now listed
+
+pub returns-clause-taken : goal.returns-clause-taken
+returns-clause-taken c =
+    let listed : map entry_of c.loop-name.records.items ≡ finite.entries c.args.self.now = search rules in
+    taken c.loop-name.records.items c.args.self.now (subst AreNames c.self.view_is c.self.invariant) listed

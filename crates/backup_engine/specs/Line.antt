@@ -1,0 +1,60 @@
+-- The table of commands: which line of it some words are (docs/FORMAT.md, 'Commands').
+use Rattle.std.specs.Prelude.{ℕ, List, [], ◌∷◌, codes, Bool, true, false, not, ◌==◌, ◌&&◌, nat_le, if◌then◌else◌, Option, Some, None, option_map, option_and_then}
+use Rattle.std.specs.List.{list_all}
+use Rattle.std.specs.Char.{is_ascii_digit}
+use Rattle.std.specs.Str.{bytes_eq}
+use Rattle.std.specs.Str.Parse.{digits_value}
+
+pub data CommandLine : Type 0 where
+  Format : (slots : ℕ) → CommandLine
+  Ingest : (name : List ℕ) → CommandLine
+  Restore : (name : List ℕ) → CommandLine
+
+-- `--` and each longer word that begins with a dash; a dash alone is a word like others
+abbrev pub is_dashed : List ℕ → Bool
+is_dashed [] = false
+is_dashed (first ∷ []) = false
+is_dashed (first ∷ second ∷ rest) = first == 45
+
+abbrev pub is_separator : List ℕ → Bool
+is_separator word = bytes_eq word (codes "--")
+
+-- The one argument of a command. One that begins with a dash stands behind `--`.
+abbrev pub argument_of : List (List ℕ) → Option (List ℕ)
+argument_of [] = None
+argument_of (word ∷ []) = if is_dashed word then None else Some word
+argument_of (first ∷ second ∷ []) =
+    if is_separator first then Some second
+    else if is_separator second && not (is_dashed first) then Some first
+    else None
+argument_of (first ∷ second ∷ third ∷ rest) = None
+
+-- not empty, and no zero before another digit
+abbrev pub begins_as_number : List ℕ → Bool
+begins_as_number [] = false
+begins_as_number (digit ∷ []) = true
+begins_as_number (digit ∷ next ∷ digits) = not (digit == 48)
+
+abbrev pub all_digits : List ℕ → Bool
+all_digits word = list_all is_ascii_digit word
+
+-- decimal digits with no sign and no leading zero
+abbrev pub is_number : List ℕ → Bool
+is_number word = all_digits word && begins_as_number word
+
+-- how many slots a word stands for, 4 to 65,536
+abbrev pub slots_of : List ℕ → Option ℕ
+slots_of word =
+    if is_number word && nat_le 4 (digits_value 10 word) && nat_le (digits_value 10 word) 65536 then Some (digits_value 10 word) else None
+
+abbrev pub command_of : List ℕ → List ℕ → Option CommandLine
+command_of command argument =
+    if bytes_eq command (codes "format") then option_map Format (slots_of argument)
+    else if bytes_eq command (codes "ingest") then Some (Ingest argument)
+    else if bytes_eq command (codes "restore") then Some (Restore argument)
+    else None
+
+-- the line of the table that the words are
+abbrev pub line_of : List (List ℕ) → Option CommandLine
+line_of [] = None
+line_of (command ∷ arguments) = option_and_then (command_of command) (argument_of arguments)

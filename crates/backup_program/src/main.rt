@@ -1,0 +1,138 @@
+//! The program `ddfs PATH COMMAND ..`: the top call over a file and the standard streams.
+#![tactic(auto)]
+
+use backup_engine::{backup, size_of_format};
+use dd_disk::FileDisk;
+use dd_io::{StdSink, StdSource};
+use std::env;
+use std::fs::{self, File, OpenOptions};
+use std::io::{self, ErrorKind, Write};
+use std::process::ExitCode;
+
+/// Why the program ends before a command runs.
+#[derive(Clone, Copy)]
+enum Failure {
+    /// The words of the command line have no file, or can't be read.
+    Words,
+    /// The file can't be opened, or made.
+    File,
+    Memory,
+}
+
+impl Failure {
+    fn status(&self) -> u8 {
+        match self {
+            Failure::Words => 2,
+            Failure::File => 9,
+            Failure::Memory => 1,
+        }
+    }
+
+    fn text(&self) -> &'static str {
+        match self {
+            Failure::Words => "fault words",
+            Failure::File => "fault file",
+            Failure::Memory => "fault 1 memory",
+        }
+    }
+}
+
+fn main(rt: HostRuntime) -> ExitCode {
+    let status = match run(&rt) {
+        Ok(status) => status,
+        Err(failure) => {
+            // A failure of standard error changes no status.
+            let _written = eprintln!(rt; "{}", failure.text());
+            failure.status()
+        }
+    };
+    ExitCode::from(status)
+}
+
+fn run(rt: &HostRuntime) -> Result<u8, Failure> {
+    let words = read_words(rt)?;
+    let (_program, words) = words.split_first().ok_or(Failure::Words)?;
+    let (path, command) = words.split_first().ok_or(Failure::Words)?;
+    let _held = hold_streams(rt)?;
+    let mut disk = open_disk(rt, path.as_str(), command)?;
+    Ok(run_command(rt, command, &mut disk))
+}
+
+// The words of the command line, the program's name first. Where they can't be had they are faulty.
+fn read_words(rt: &HostRuntime) -> Result<Vec<String>, Failure> {
+    let mut words = Vec::new(rt.alloc());
+    let args = env::args(rt).map_err(|error| match error.kind() {
+        ErrorKind::OutOfMemory => Failure::Memory,
+        _ => Failure::Words,
+    })?;
+    for word in args {
+        words.push(word).map_err(|_| Failure::Memory)?;
+    }
+    Ok(words)
+}
+
+// Takes the numbers of the standard streams that the caller closed. The image would get them else, and what is printed
+// would be written into it. A directory can be neither read nor written.
+fn hold_streams(rt: &HostRuntime) -> Result<[File; 3], Failure> {
+    let hold = || File::open(rt, "/").map_err(failure_of);
+    Ok([hold()?, hold()?, hold()?])
+}
+
+// The disk's file. One that is missing is made for a `format` alone, with the size that it wants.
+fn open_disk(rt: &HostRuntime, path: &str, command: &[String]) -> Result<FileDisk, Failure> {
+    let made = size_of_format(rt.alloc(), command).map_err(|_| Failure::Memory)?;
+    match OpenOptions::new().read(true).write(true).open(rt, path) {
+        Ok(file) => {
+            let size = file.metadata().map_err(failure_of)?.len();
+            Ok(FileDisk::new(file, size))
+        }
+        Err(error) => match (error.kind(), made) {
+            (ErrorKind::NotFound, Some(size)) => make_disk(rt, path, size),
+            _ => Err(failure_of(error)),
+        },
+    }
+}
+
+// A new file of so many zero bytes.
+fn make_disk(rt: &HostRuntime, path: &str, size: u64) -> Result<FileDisk, Failure> {
+    let file = OpenOptions::new()
+        .read(true)
+        .write(true)
+        .create_new(true)
+        .open(rt, path)
+        .map_err(failure_of)?;
+    if let Err(error) = file.set_len(size) {
+        // A file of another size would never become a store.
+        let _removed = fs::remove_file(rt, path);
+        return Err(failure_of(error));
+    }
+    Ok(FileDisk::new(file, size))
+}
+
+fn failure_of(error: io::Error) -> Failure {
+    match error.kind() {
+        ErrorKind::OutOfMemory => Failure::Memory,
+        _ => Failure::File,
+    }
+}
+
+fn run_command(rt: &HostRuntime, command: &[String], disk: &mut FileDisk) -> u8 {
+    let mut source = StdSource::new(rt.stdin());
+    let mut sink = StdSink::new(rt.stdout());
+    let mut notes = StdSink::new(rt.stderr());
+    let status = backup(
+        rt,
+        rt.alloc(),
+        command,
+        disk,
+        &mut source,
+        &mut sink,
+        &mut notes,
+    );
+    // What the streams hold back is written here: a reply that is lost now is a fault of the sink too.
+    if rt.stdout().flush().is_err() && status == 0 {
+        let _written = eprintln!(rt; "fault sink");
+        return 6;
+    }
+    status
+}

@@ -7,6 +7,11 @@ pub on_ok : {T E : Type 0} (result : Result T E) (P : Type 0) → P → OnOk res
 on_ok (Ok x) P holds = holds
 on_ok (Err e) P holds = tt
 
+-- what follows from two things that hold after an Ok
+pub both_ok : {T E : Type 0} (result : Result T E) {P Q R : Type 0} → (P → Q → R) → OnOk result P → OnOk result Q → OnOk result R
+both_ok (Ok x) follows first second = follows first second
+both_ok (Err e) follows first second = tt
+
 pub if_err : {T E : Type 0} (result : Result T E) (P : E → Type 0) → ((e : E) → P e) → IfErr result P
 if_err (Ok x) P holds = tt
 if_err (Err e) P holds = holds e

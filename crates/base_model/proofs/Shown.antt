@@ -49,6 +49,15 @@ module _ {D : Type 0} (gave : D → D → ℕ → List ℕ → Type 0) (content 
   pub shown_told : (old new : D) (P : List ℕ → Type 0) (image : List ℕ) → Shown gave content size old new P → content old ≡ Some image → length image ≡ size old → P image
   shown_told old new P image shown told sized = shown.shows image sized (shown.told image told)
 
+  -- two things that the same reads show
+  pub shown_also : (old new : D) (P Q : List ℕ → Type 0) → Shown gave content size old new P → Shown gave content size old new Q → Shown gave content size old new (λ image. P image × Q image)
+  shown_also old new P Q first second = record {
+    parts = first.parts ++ second.parts;
+    given = both_all (λ part. gave old new part.at part.bytes) first.parts second.parts first.given second.given;
+    told = λ image is. both_all (HasPart image) first.parts second.parts (first.told image is) (second.told image is);
+    shows = λ image sized has. (first.shows image sized (front_all (HasPart image) first.parts second.parts has), second.shows image sized (back_all (HasPart image) first.parts second.parts has));
+  }
+
   module _ (gave_after : (d e f : D) (at : ℕ) (bytes : List ℕ) → gave d e at bytes → same e f → gave d f at bytes) where
     -- what was shown stays shown
     pub shown_later : (old mid new : D) (P : List ℕ → Type 0) → Shown gave content size old mid P → same mid new → Shown gave content size old new P
@@ -74,14 +83,7 @@ module _ {D : Type 0} (gave : D → D → ℕ → List ℕ → Type 0) (content 
     pub shown_both : (faults : D → ℕ) (old mid new : D) (P Q : List ℕ → Type 0) → Shown gave content size old mid P → OnlyReads content size faults same old mid → Shown gave content size mid new Q → same mid new
         → Shown gave content size old new (λ image. P image × Q image)
     shown_both faults old mid new P Q first quiet second later =
-        let front = shown_later gave_after old mid new P first later in
-        let back = shown_after gave_before faults old mid new Q quiet second in
-        record {
-          parts = front.parts ++ back.parts;
-          given = both_all (λ part. gave old new part.at part.bytes) front.parts back.parts front.given back.given;
-          told = λ image is. both_all (HasPart image) front.parts back.parts (front.told image is) (back.told image is);
-          shows = λ image sized has. (front.shows image sized (front_all (HasPart image) front.parts back.parts has), back.shows image sized (back_all (HasPart image) front.parts back.parts has));
-        }
+        shown_also old new P Q (shown_later gave_after old mid new P first later) (shown_after gave_before faults old mid new Q quiet second)
 
 module _ {D : Type 0} (content : D → Option (List ℕ)) (size faults : D → ℕ) (same : D → D → Type 0) where
   -- nothing was called yet

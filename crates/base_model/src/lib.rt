@@ -1,3 +1,7 @@
-//! Words that the contracts of most crates cite: parts of a list of bytes, counts of faults, keys.
-//! Definitions and lemmas alone; the crate has no code.
+//! Words that most crates cite: bytes at a place of a list, counts of faults, what reads show, readers
+//! that name the first fault; and the reading of numbers.
 #![tactic(auto)]
+
+mod bytes;
+
+pub use bytes::{digest_at, first_other, magic_at, part, seven_at, u16_at, u32_at, u64_at};

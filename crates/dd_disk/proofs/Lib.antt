@@ -1,2 +1,4 @@
+pub mod Disks
+pub mod Gated
 mod Images
 mod Noting

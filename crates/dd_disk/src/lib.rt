@@ -4,6 +4,7 @@
 mod blind;
 mod bytes;
 mod call;
+mod calls;
 mod crash;
 mod disk;
 mod file;
@@ -12,6 +13,7 @@ mod mem;
 
 pub use blind::BlindDisk;
 pub use call::{Asked, Call, Fill};
+pub use calls::{read_at, sync_all, write_at, write_gated};
 pub use disk::{Disk, DiskFault};
 pub use file::FileDisk;
 pub use mem::MemDisk;

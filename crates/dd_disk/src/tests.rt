@@ -134,3 +134,27 @@ fn a_file_that_is_too_short_is_a_fault(rt: HostRuntime) -> Result<(), Fail> {
     assert!(rt; disk.faults() == 1);
     Ok(())
 }
+
+#[test]
+fn a_crash_leaves_no_gate_before_its_cell(rt: HostRuntime) -> Result<(), Fail> {
+    let alloc = rt.alloc();
+    let mut disk = MemDisk::new(vec![in alloc; 0u8; 8]?, Vec::new(alloc));
+    assert!(rt; disk.size() == 8);
+    assert!(rt; write_gated(&mut disk, 2, &[5, 6, 7]).is_ok());
+    // The third call writes the gate, and the fourth has it stand.
+    for call in 1..3u64 {
+        let image = disk.crash_image(alloc, call, Fill::Byte(9))?;
+        assert_eq!(rt; image.get(2), Some(&0));
+    }
+    let image = disk.crash_image(alloc, 5, Fill::Byte(9))?;
+    assert_eq!(rt; image.get(2), Some(&5));
+    let mut into = [0u8; 5];
+    assert!(rt; disk.size() == 8);
+    assert!(rt; read_at(&mut disk, 1, &mut into).is_ok());
+    assert_eq!(rt; into, [0, 5, 6, 7, 0]);
+    assert!(rt; write_at(&mut disk, 2, &[8]).is_ok());
+    assert!(rt; sync_all(&mut disk).is_ok());
+    assert_eq!(rt; disk.bytes().get(2), Some(&8));
+    assert!(rt; disk.moment() == 7);
+    Ok(())
+}

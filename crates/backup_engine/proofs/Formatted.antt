@@ -1,14 +1,14 @@
 -- What an image is that `format` wrote to.
 use Rattle.std.proofs.Common.{◌≡◌, ◌≢◌, ◌⊎◌, inl, inr, ℕ, zero, suc, ◌+◌, ◌-◌, ◌*◌, ◌<◌, ◌≤◌, List, [], ◌∷◌, length, drop, refl, sym, ◌∙◌, ap, arith, add-one, subst, Option, Some, None, option_map}
 use Rattle.std.proofs.lemmas.Bool.Decides.{eqb_tells}
-use Rattle.base_model.specs.Bytes.{range, written, byte_at}
-use Rattle.base_model.proofs.Ranges.{length-written, range-written, range-written-after}
+use Rattle.base_model.specs.Bytes.{range, written, byte_at, zeros}
+use Rattle.base_model.proofs.Ranges.{length-written, range-written, range-written-after, length-zeros}
 use Rattle.disk_format.specs.Layout.{IsSlotCount, size_of, slot_at}
-use Rattle.disk_format.specs.Cells.{FORMAT_GATE, zeros, sealed, format_fields, selector_fields, format_cell, selector_cell}
-use Rattle.disk_format.proofs.CellParts.{length-zeros, length-sealed, length-format_fields, length-selector_fields}
+use Rattle.disk_format.specs.Cells.{FORMAT_GATE, sealed, format_fields, selector_fields, format_cell, selector_cell}
+use Rattle.disk_format.proofs.CellParts.{length-sealed, length-format_fields, length-selector_fields}
 use Rattle.store_model.specs.Image.{Holding, HasFirstForm, IsBlank}
 use Rattle.backup_engine.specs.Clauses.{IsFormatted}
-use Rattle.backup_engine.specs.Gated.{CellTorn}
+use Rattle.dd_disk.specs.Gated.{CellTorn}
 use Rattle.backup_engine.specs.Formatting.{with_closed, laid_out, SameBelow}
 use Rattle.backup_engine.proofs.Written.{byte-written, byte-zeros, byte-written-before, byte-written-after, same_here, same_on, same_lower, same_byte, same_written, same_torn}
 

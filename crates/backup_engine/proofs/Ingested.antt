@@ -11,11 +11,11 @@ use Rattle.container_meta.specs.declared.entry.Entry.{Entry}
 use Rattle.container_meta.specs.Spelling.{HeaderValue}
 use Rattle.store_model.specs.Files.{no_files, root_of}
 use Rattle.store_model.specs.Image.{HasFirstForm, HoldsContainer, HoldsRoot, AreBytesOf, AreCopies, StandsFor, entry_with}
-use Rattle.backup_engine.specs.Gated.{CellTorn}
+use Rattle.dd_disk.specs.Gated.{CellTorn}
 use Rattle.backup_engine.specs.Storing.{SameOutside, IsContainerOf, IsSealed, IsLeftBySeal, first_header}
 use Rattle.backup_engine.proofs.Entries.{same_some, none_some}
 use Rattle.backup_engine.proofs.FirstParts.{gate-header}
-use Rattle.backup_engine.proofs.Gated.{whole_torn}
+use Rattle.dd_disk.proofs.Gated.{whole_torn}
 use Rattle.backup_engine.proofs.Stored.{same_cell, cell_cases, byte_before, byte_behind}
 
 -- past the first record no record is there

@@ -6,7 +6,7 @@ use Rattle.container_meta.specs.Spelling.{view}
 use Rattle.store_model.specs.Files.{Files, no_files, with_file}
 use Rattle.store_model.specs.Image.{Holding, AreFiles, StandsFor}
 use Rattle.backup_engine.specs.declared.open.Store.{Store}
-use Rattle.backup_engine.specs.Gated.{CellTorn}
+use Rattle.dd_disk.specs.Gated.{CellTorn}
 use Rattle.backup_engine.specs.Opening.{HoldsOnly, holding_of}
 use Rattle.backup_engine.specs.Clauses.{IsEmptyStore, IsShort, IsLeftByIngest, TakesIn}
 use Rattle.backup_engine.specs.Record.{named_of}

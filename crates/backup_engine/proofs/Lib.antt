@@ -1,10 +1,8 @@
 mod Bodies
-mod Disks
 mod Entries
 mod FirstParts
 mod Formatted
 mod Forms
-mod Gated
 mod Heads
 mod Ingested
 mod Ingesting

@@ -12,11 +12,11 @@ use Rattle.container_meta.specs.declared.entry.Entry.{Entry}
 use Rattle.container_meta.specs.Spelling.{HeaderValue}
 use Rattle.store_model.specs.Files.{no_files, with_file, root_of}
 use Rattle.store_model.specs.Image.{NamedRoot, HasFirstForm, HoldsRecord, HoldsContainer, IsSmallRoot, HoldsRoot, AreBytesOf, AreCopies, StandsFor}
-use Rattle.backup_engine.specs.Gated.{CellTorn}
+use Rattle.dd_disk.specs.Gated.{CellTorn}
 use Rattle.backup_engine.specs.Storing.{SameOutside}
 use Rattle.backup_engine.proofs.Entries.{same_some, none_some, both_empty}
 use Rattle.backup_engine.proofs.FirstParts.{gate-put}
-use Rattle.backup_engine.proofs.Gated.{whole_torn}
+use Rattle.dd_disk.proofs.Gated.{whole_torn}
 use Rattle.backup_engine.proofs.Ingested.{ArePastClosed, IsReady}
 use Rattle.backup_engine.proofs.Stored.{same_cell, cell_cases, byte_before, byte_behind}
 

@@ -3,7 +3,7 @@ use Rattle.std.proofs.Common.{◌≡◌, ◌≢◌, ◌⊎◌, inl, inr, ℕ, �
 use Rattle.std.proofs.lemmas.Bool.{eqb-true, eqb-false}
 use Rattle.base_model.specs.Bytes.{written, byte_at}
 use Rattle.base_model.proofs.Ranges.{length-written, range-written-before, range-written-after}
-use Rattle.backup_engine.specs.Gated.{CellTorn}
+use Rattle.dd_disk.specs.Gated.{CellTorn}
 use Rattle.backup_engine.specs.Storing.{SameOutside}
 use Rattle.backup_engine.proofs.Written.{byte_of_range, byte-written, byte-written-before}
 

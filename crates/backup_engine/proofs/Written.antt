@@ -1,10 +1,9 @@
 -- What stands in an image that was written to.
 use Rattle.std.proofs.Common.{◌≡◌, ℕ, ◌+◌, ◌<◌, ◌≤◌, List, length, refl, sym, ◌∙◌, ap, arith}
 use Rattle.std.proofs.lemmas.List.{get_or-replicate}
-use Rattle.base_model.specs.Bytes.{range, written, byte_at}
+use Rattle.base_model.specs.Bytes.{range, written, byte_at, zeros}
 use Rattle.base_model.proofs.Ranges.{length-written, range-written, range-written-before, range-written-after, byte-range}
 use Rattle.dd_disk.specs.Disk.{Torn}
-use Rattle.disk_format.specs.Cells.{zeros}
 use Rattle.backup_engine.specs.Formatting.{SameBelow}
 
 -- a part that is the same has the same byte

@@ -1,8 +1,8 @@
 -- What `format` writes before the format cell.
 use Rattle.std.specs.Prelude.{◌≡◌, ℕ, zero, suc, ◌+◌, ◌≤◌, List, [], ◌∷◌, length}
-use Rattle.base_model.specs.Bytes.{range, written}
+use Rattle.base_model.specs.Bytes.{range, written, zeros}
 use Rattle.disk_format.specs.Layout.{slot_at}
-use Rattle.disk_format.specs.Cells.{zeros, selector_cell}
+use Rattle.disk_format.specs.Cells.{selector_cell}
 
 -- an image with the first so many slots closed
 unfoldable pub with_closed : ℕ → List ℕ → List ℕ

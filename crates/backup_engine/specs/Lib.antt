@@ -2,7 +2,6 @@ pub mod Clauses
 pub mod Doing
 pub mod FirstParts
 pub mod Formatting
-pub mod Gated
 pub mod Line
 pub mod LineValue
 pub mod OpenRefusal

@@ -10,7 +10,7 @@ use Rattle.backup_engine.specs.declared.refusal.Refusal.TheVariants.{Memory, Bad
 use Rattle.backup_engine.specs.declared.ending.Ending.{Ending}
 use Rattle.backup_engine.specs.declared.ending.Ending.TheVariants.{Source, Refused}
 use Rattle.backup_engine.specs.declared.open.Store.{Store}
-use Rattle.backup_engine.specs.Gated.{CellTorn}
+use Rattle.dd_disk.specs.Gated.{CellTorn}
 
 -- two images of one length that are the same outside a range
 pub record SameOutside (at count : ℕ) (old new : List ℕ) : Type 0 where

@@ -1,6 +1,7 @@
 //! The cells of a disk image, as the engine writes them: docs/FORMAT.md, 'Cells'.
 ghost use Rattle.std.specs.Prelude.{◌≡◌, ◌≤◌, length, IfOk};
-ghost use Rattle.disk_format.specs.Cells.{zeros, sealed, format_fields, format_cell, selector_fields, selector_cell, put_fields, put_cell};
+ghost use Rattle.base_model.specs.Bytes.{zeros};
+ghost use Rattle.disk_format.specs.Cells.{sealed, format_fields, format_cell, selector_fields, selector_cell, put_fields, put_cell};
 ghost use Rattle.backup_engine.specs.Store.{root_value};
 
 use container_meta::digest_of;
@@ -23,7 +24,7 @@ pub(crate) struct Root {
     pub digest: [u8; 32],
 }
 
-#[tactic(auto, unfolding(disk_format::specs::Cells::zeros))]
+#[tactic(auto, unfolding(base_model::specs::Bytes::zeros))]
 pub(crate) fn zeros(alloc: Global, count: usize) -> Result<Vec<u8>, AllocError>
     ensures { IfOk result (λ bytes. bytes.items ≡ zeros count) }
 {

@@ -1,12 +1,12 @@
 //! The calls of a disk, with its faults as refusals.
-ghost use Rattle.std.specs.Prelude.{◌≡◌, ◌+◌, ◌-◌, ◌≤◌, length, take, drop, option_map, OnOk, IfOk, IfErr};
+ghost use Rattle.std.specs.Prelude.{◌≡◌, ◌+◌, ◌≤◌, length, option_map, OnOk, IfOk, IfErr};
 ghost use Rattle.base_model.specs.Bytes.{range, written};
 ghost use Rattle.base_model.specs.Fault.{Rose};
 ghost use Rattle.base_model.specs.Told.{Told, Became};
 ghost use Rattle.base_model.specs.Shown.{Shown, OnlyReads, IsLater};
 ghost use Rattle.backup_engine.specs.declared.refusal.Refusal.TheVariants.{DiskRead, DiskWrite};
 ghost use Rattle.backup_engine.specs.declared.ending.Ending.TheVariants.{Refused};
-ghost use Rattle.backup_engine.specs.Gated.{CellTorn};
+ghost use Rattle.dd_disk.specs.Gated.{CellTorn};
 ghost use Rattle.backup_engine.specs.ReadFault.{IsReadFault};
 ghost use Rattle.dd_disk.specs.Disk.{Torn, Only};
 
@@ -29,7 +29,7 @@ pub(crate) fn read_at<D: Disk>(disk: &mut D, at: u64, into: &mut [u8]) -> Result
     ensures reads { OnlyReads D.content D.size D.faults D.same disk.old disk.new }
     ensures fault { IfErr result (λ ending. (ending ≡ Refused DiskRead) × Rose (D.faults disk.old) (D.faults disk.new)) }
 {
-    match disk.read(at, into) {
+    match dd_disk::read_at(disk, at, into) {
         Ok(()) => Ok(()),
         Err(DiskFault) => Err(Ending::Refused(Refusal::DiskRead)),
     }
@@ -60,25 +60,13 @@ pub(crate) fn write_at<D: Disk>(disk: &mut D, at: u64, from: &[u8]) -> Result<()
     ensures later { IsLater D.size D.faults D.same disk.old disk.new }
     ensures fault { IfErr result (λ ending. (ending ≡ Refused DiskWrite) × Rose (D.faults disk.old) (D.faults disk.new)) }
 {
-    match disk.write(at, from) {
+    match dd_disk::write_at(disk, at, from) {
         Ok(()) => Ok(()),
         Err(DiskFault) => Err(Ending::Refused(Refusal::DiskWrite)),
     }
 }
 
-pub(crate) fn sync<D: Disk>(disk: &mut D) -> Result<(), Ending>
-    ensures content { D.content disk.new ≡ D.content disk.old }
-    ensures synced { OnOk result (Only (D.content disk.old) (D.images disk.new)) }
-    ensures later { IsLater D.size D.faults D.same disk.old disk.new }
-    ensures fault { IfErr result (λ ending. (ending ≡ Refused DiskWrite) × Rose (D.faults disk.old) (D.faults disk.new)) }
-{
-    match disk.sync() {
-        Ok(()) => Ok(()),
-        Err(DiskFault) => Err(Ending::Refused(Refusal::DiskWrite)),
-    }
-}
-
-/// Writes a cell or a container: the bytes behind its gate, and the gate once they are on the disk.
+/// Writes a cell or a container, its gate last.
 pub(crate) fn write_gated<D: Disk>(disk: &mut D, at: u64, cell: &[u8]) -> Result<(), Ending>
     requires room { at + length cell.now ≤ D.size disk.old }
     requires gate { 1 ≤ length cell.now }
@@ -88,10 +76,8 @@ pub(crate) fn write_gated<D: Disk>(disk: &mut D, at: u64, cell: &[u8]) -> Result
     ensures later { IsLater D.size D.faults D.same disk.old disk.new }
     ensures fault { IfErr result (λ ending. (ending ≡ Refused DiskWrite) × Rose (D.faults disk.old) (D.faults disk.new)) }
 {
-    // The proof takes from this call that the content has the disk's size.
-    let _size = disk.size();
-    write_at(disk, at + 1, &cell[1..])?;
-    sync(disk)?;
-    write_at(disk, at, &cell[..1])?;
-    sync(disk)
+    match dd_disk::write_gated(disk, at, cell) {
+        Ok(()) => Ok(()),
+        Err(DiskFault) => Err(Ending::Refused(Refusal::DiskWrite)),
+    }
 }

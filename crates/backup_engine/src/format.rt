@@ -1,11 +1,11 @@
 //! Making an empty store.
 ghost use Rattle.std.specs.Prelude.{◌≡◌, ◌≢◌, List, ℕ, None, option_map, IfOk, OnOk, IfErr};
-ghost use Rattle.base_model.specs.Bytes.{byte_at};
+ghost use Rattle.base_model.specs.Bytes.{byte_at, zeros};
 ghost use Rattle.base_model.specs.Fault.{Rose};
 ghost use Rattle.base_model.specs.Told.{Told, Became};
 ghost use Rattle.base_model.specs.Shown.{Shown, OnlyReads, IsLater};
 ghost use Rattle.disk_format.specs.Layout.{IsSlotCount, size_of};
-ghost use Rattle.disk_format.specs.Cells.{FORMAT_GATE as OPEN, zeros, selector_cell};
+ghost use Rattle.disk_format.specs.Cells.{FORMAT_GATE as OPEN, selector_cell};
 ghost use Rattle.dd_disk.specs.Disk.{Only};
 ghost use Rattle.backup_engine.specs.declared.refusal.Refusal.TheVariants.{DiskWrite};
 ghost use Rattle.backup_engine.specs.declared.ending.Ending.TheVariants.{Refused};

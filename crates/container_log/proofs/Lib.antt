@@ -1,5 +1,3 @@
 mod Differ
-mod Disks
-mod Gated
 mod Headers
-mod Outcome
+mod Slots

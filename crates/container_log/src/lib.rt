@@ -3,13 +3,14 @@
 //! The format is docs/FORMAT.md, 'The disk' and 'Container slot'.
 #![tactic(auto)]
 
-mod device;
 mod fault;
 mod reading;
+mod slot;
 mod writing;
 
 pub use fault::{LogFault, Why};
 pub use reading::{Spot, read_meta, read_segment};
+pub use slot::read_slot;
 pub use writing::{free, seal};
 
 #[cfg(test)]

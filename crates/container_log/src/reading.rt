@@ -5,16 +5,15 @@ ghost use Rattle.base_model.specs.Bytes.{range};
 ghost use Rattle.base_model.specs.Fault.{Rose};
 ghost use Rattle.base_model.specs.Shown.{Shown, OnlyReads};
 ghost use Rattle.disk_format.specs.Layout.{slot_at, data_at};
-ghost use Rattle.container_meta.specs.Reading.{seven_at};
 ghost use Rattle.container_meta.specs.Spelling.{HeaderValue, IsHeader, view, header_spelling};
 ghost use Rattle.container_log.specs.Faults.{why_of as named_by, GivesHeader, IsReadFault, IsHeaderFault, IsSegmentFault};
 ghost use Rattle.container_log.specs.declared.fault.LogFault.TheVariants.{Corrupt};
 
-use crate::device::read_at;
 use crate::fault::{LogFault, Why};
 use crate::writing::slot_place;
+use base_model::seven_at;
 use container_meta::{Meta, MetaFault, decode, digest_of};
-use dd_disk::{Disk, DiskFault};
+use dd_disk::{Disk, DiskFault, read_at};
 use std::alloc::{AllocError, Global};
 
 /// The bytes of a header and its entries.
@@ -86,17 +85,6 @@ pub fn read_segment<D: Disk>(disk: &mut D, place: &Spot, buf: &mut [u8]) -> Resu
     read_whole(disk, place, &mut buf[..length])
 }
 
-// The magic as a number.
-#[tactic(auto, unfolding(container_meta::specs::Reading::seven_at, base_model::specs::Bytes::range))]
-fn magic_number(bytes: &[u8]) -> u64
-    requires { length bytes.now ≡ 49664 }
-    ensures { result ≡ seven_at 1 bytes.now }
-{
-    let mut eight = [0u8; 8];
-    eight[1..].copy_from_slice(&bytes[1..8]);
-    u64::from_be_bytes(eight)
-}
-
 // How a header breaks the format, by its first fault; none where memory ran out.
 fn why_of(bytes: &[u8], fault: MetaFault) -> Option<Why>
     requires { length bytes.now ≡ 49664 }
@@ -109,7 +97,7 @@ fn why_of(bytes: &[u8], fault: MetaFault) -> Option<Why>
         }),
         MetaFault::Magic => Some(Why::Field {
             offset: 1,
-            got: magic_number(bytes),
+            got: seven_at(bytes, 1),
         }),
         MetaFault::Field { offset, got } => Some(Why::Field { offset, got }),
         MetaFault::Digest { want, got } => Some(Why::Digest { want, got }),
@@ -119,7 +107,7 @@ fn why_of(bytes: &[u8], fault: MetaFault) -> Option<Why>
 
 // The header in bytes that stand at a byte of the disk.
 #[tactic(auto, using(crate::proofs::Differ::fault_differs))]
-fn header_in(alloc: Global, at: u64, bytes: &[u8]) -> Result<Meta, LogFault>
+pub(crate) fn header_in(alloc: Global, at: u64, bytes: &[u8]) -> Result<Meta, LogFault>
     requires { length bytes.now ≡ 49664 }
     ensures found { IfOk result (λ m. IsHeader (view m) × (bytes.now ≡ header_spelling (view m))) }
     ensures only { (h : HeaderValue) → IsHeader h → bytes.now ≡ header_spelling h → GivesHeader h result }
@@ -135,7 +123,7 @@ fn header_in(alloc: Global, at: u64, bytes: &[u8]) -> Result<Meta, LogFault>
 }
 
 // Some bytes to read into.
-fn buffer(alloc: Global) -> Result<Vec<u8>, AllocError>
+pub(crate) fn buffer(alloc: Global) -> Result<Vec<u8>, AllocError>
     ensures { IfOk result (λ bytes. length bytes.items ≡ 49664) }
 {
     vec![in alloc; 0u8; HEADER]

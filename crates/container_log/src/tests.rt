@@ -179,3 +179,54 @@ fn a_lie_in_an_entry_is_damage_by_digest(rt: HostRuntime) -> Result<(), Fail> {
     assert!(rt; got[0] != 0);
     Ok(())
 }
+
+/// What slot 1 holds.
+fn held<D: Disk>(alloc: Global, disk: &mut D) -> Result<Result<Option<Meta>, LogFault>, Fail> {
+    if disk.size() < SIZE as u64 {
+        return Err("the disk is too small".into());
+    }
+    Ok(read_slot(alloc, disk, 1))
+}
+
+#[test]
+fn a_slot_holds_nothing_or_a_header(rt: HostRuntime) -> Result<(), Fail> {
+    let alloc = rt.alloc();
+    let mut disk = MemDisk::new(vec![in alloc; 0u8; SIZE]?, Vec::new(alloc));
+    assert!(rt; matches!(held(alloc, &mut disk)?, Ok(None)));
+    assert!(rt; seal_abc(alloc, &mut disk)?.is_ok());
+    let meta = held(alloc, &mut disk)?.ok().flatten().ok_or("it is open")?;
+    assert_eq!(rt; (meta.id, meta.data_length), (7, 3));
+    assert!(rt; close(&mut disk)?.is_ok());
+    assert!(rt; matches!(held(alloc, &mut disk)?, Ok(None)));
+    Ok(())
+}
+
+#[test]
+fn a_lie_behind_the_gate_of_a_slot_is_damage(rt: HostRuntime) -> Result<(), Fail> {
+    for (place, byte, offset, got) in LIES[1..].iter() {
+        let mut disk = lying(rt.alloc(), *place, *byte)?;
+        let why = Why::Field {
+            offset: *offset,
+            got: *got,
+        };
+        let fault = held(rt.alloc(), &mut disk)?.err();
+        assert_eq!(rt; fault, Some(damage(why)));
+    }
+    let mut disk = lying(rt.alloc(), 0, 0xC4)?;
+    assert!(rt; matches!(held(rt.alloc(), &mut disk)?, Ok(None)));
+    Ok(())
+}
+
+#[test]
+fn a_read_of_a_slot_that_fails_is_told(rt: HostRuntime) -> Result<(), Fail> {
+    let alloc = rt.alloc();
+    // The first four calls seal the container.
+    for call in 5..7u64 {
+        let fails = vec![in alloc; call]?;
+        let mut disk = MemDisk::new(vec![in alloc; 0u8; SIZE]?, fails);
+        assert!(rt; seal_abc(alloc, &mut disk)?.is_ok());
+        assert_eq!(rt; held(alloc, &mut disk)?.err(), Some(LogFault::DiskRead));
+        assert_eq!(rt; disk.faults(), 1);
+    }
+    Ok(())
+}

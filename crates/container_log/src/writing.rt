@@ -9,13 +9,12 @@ ghost use Rattle.dd_disk.specs.Disk.{Torn};
 ghost use Rattle.container_meta.specs.Format.{is_id};
 ghost use Rattle.container_meta.specs.Segments.{StandFrom};
 ghost use Rattle.container_meta.specs.Spelling.{IsHeader, header_of, header_spelling, container_spelling};
-ghost use Rattle.container_log.specs.Gated.{CellTorn};
+ghost use Rattle.dd_disk.specs.Gated.{CellTorn};
 ghost use Rattle.container_log.specs.declared.fault.LogFault.TheVariants.{DiskWrite};
 
-use crate::device::{sync, write_at, write_gated};
 use crate::fault::LogFault;
 use container_meta::OpenContainer;
-use dd_disk::{Disk, DiskFault};
+use dd_disk::{Disk, DiskFault, sync_all, write_at, write_gated};
 
 /// The first byte of a slot on the disk.
 pub(crate) fn slot_place(slot: u32) -> u64
@@ -65,7 +64,7 @@ fn write_gate<D: Disk>(disk: &mut D, at: u64, gate: u8) -> Result<(), DiskFault>
     ensures fault { OnErr result (Rose (D.faults disk.old) (D.faults disk.new)) }
 {
     write_at(disk, at, &[gate])?;
-    sync(disk)
+    sync_all(disk)
 }
 
 /// Closes a slot of the disk: writes 0 over its gate. The one error is `LogFault::DiskWrite`.

@@ -1,33 +1,30 @@
 -- What is spelled is read again.
-use Rattle.std.proofs.Common.{◌≡◌, ℕ, zero, suc, ◌+◌, ◌-◌, ◌*◌, ◌^◌, ◌≤◌, ◌<◌, Bool, true, false, List, [], ◌∷◌, ◌++◌, length, Option, Some, Result, Ok, refl, sym, ap, ◌∙◌, arith, append_assoc, length-append, eq-eqb}
+use Rattle.std.proofs.Common.{◌≡◌, ℕ, zero, suc, ◌+◌, ◌-◌, ◌*◌, ◌^◌, ◌≤◌, Bool, true, false, List, [], ◌∷◌, ◌++◌, length, Option, Some, Ok, refl, sym, ap, ◌∙◌, arith, append_assoc, length-append, eq-eqb}
 use Rattle.std.specs.Prelude.{◌==◌, nat_le, is_some, unwrap_or, if◌then◌else◌}
-use Rattle.std.specs.Int.{w16, w32, w64, to_be_bytes, from_be_bytes}
+use Rattle.std.specs.Int.{w32, w64}
 use Rattle.std.proofs.lemmas.Bool.{le-leb, leb-true}
 use Rattle.std.proofs.Math.Dec.{eqb-suc-zero}
 use Rattle.std.proofs.lemmas.List.{append-nil}
 use Rattle.std.proofs.lemmas.List.Sums.{sum_by-append}
-use Rattle.std.proofs.lemmas.Nat.{from_be_bytes-to_be_bytes_2, from_be_bytes-to_be_bytes_4, from_be_bytes-to_be_bytes_8}
 use Rattle.std.proofs.lemmas.Slice.Eq.{bytes_eq-Decides}
 use Rattle.sha2.specs.Sha256.{sha256}
-use Rattle.base_model.specs.Bytes.{range, byte_at}
+use Rattle.base_model.specs.Bytes.{range, byte_at, zeros}
+use Rattle.base_model.specs.Checks.{behind, passes}
+use Rattle.base_model.specs.Numbers.{number_at, seven_at}
+use Rattle.base_model.proofs.Checks.{AllHold, behind_all, then_step, both, both_true, not_false}
+use Rattle.base_model.proofs.Numbers.{number_2, number_4, number_8}
 use Rattle.base_model.proofs.Ranges.{range-range, range-first, range-second, range-whole}
 use Rattle.container_meta.specs.declared.kind.Kind.{Kind}
 use Rattle.container_meta.specs.declared.kind.Kind.TheVariants.{Leaf}
 use Rattle.container_meta.specs.declared.entry.Entry.{Entry}
-use Rattle.container_meta.specs.declared.fault.MetaFault.{MetaFault}
-use Rattle.container_meta.specs.Format.{magic, kind_of, is_id, is_count, is_data_length, is_length, is_level, zeros, number_at, entry_place}
+use Rattle.container_meta.specs.Format.{magic, kind_of, is_id, is_count, is_data_length, is_length, is_level, entry_place}
 use Rattle.container_meta.specs.Spelling.{HeaderValue, IsNext, Follow, IsHeader, bytes_of, has_digest, entry_spelling, entries_spelling, fields_spelling, header_spelling}
-use Rattle.container_meta.specs.Reading.{◌>>=◌, behind, passes, opening_checks, digest_checks, field_checks, entry_checks, end_checks, count_at, kind_at, digest_at, entry_at, seven_at, is_end, zeros_in_front, zeros_end, entries_at, header_at}
+use Rattle.container_meta.specs.Reading.{opening_checks, digest_checks, field_checks, entry_checks, end_checks, count_at, kind_at, digest_at, entry_at, is_end, zeros_in_front, zeros_end, entries_at, header_at}
 use Rattle.container_meta.proofs.Lists.{zeros_in_front-zeros}
 use Rattle.container_meta.proofs.Spelled.{entries_spelling-cons, bytes_of-push}
 use Rattle.container_meta.proofs.Entries.{next_read}
-use Rattle.container_meta.proofs.Checks.{AllHold, behind_all, both, both_true, not_false}
 use Rattle.container_meta.proofs.Numbers.{length-entry_spelling, entry_again}
 use Rattle.container_meta.proofs.Parts.{field_parts, Parts, parts_of_spelling, length-entries_spelling}
-
--- a step that does not fail
-then_step : {A B : Type 0} (r : Result A MetaFault) (f : A → Result B MetaFault) (x : A) (y : Result B MetaFault) → r ≡ Ok x → f x ≡ y → (r >>= f) ≡ y
-then_step r f x y h e = ap (λ q. q >>= f) h ∙ e
 
 -- ---- the entries
 
@@ -106,18 +103,6 @@ small_id n h = leb-true n (2 ^ 64 - 2) (both (nat_le 1 n) (nat_le n (2 ^ 64 - 2)
 
 small_length : (n : ℕ) → is_data_length n ≡ true → n ≤ 212480
 small_length n h = leb-true n 212480 (both (nat_le 1 n) (nat_le n 212480) h).1
-
-number_2 : (at n : ℕ) (bytes : List ℕ) → n < 2 ^ 16 → range at 2 bytes ≡ to_be_bytes w16 n → number_at w16 at bytes ≡ n
-unfolding number_at
-number_2 at n bytes small h = ap (from_be_bytes w16) h ∙ from_be_bytes-to_be_bytes_2 n small
-
-number_4 : (at n : ℕ) (bytes : List ℕ) → n < 2 ^ 32 → range at 4 bytes ≡ to_be_bytes w32 n → number_at w32 at bytes ≡ n
-unfolding number_at
-number_4 at n bytes small h = ap (from_be_bytes w32) h ∙ from_be_bytes-to_be_bytes_4 n small
-
-number_8 : (at n : ℕ) (bytes : List ℕ) → n < 2 ^ 64 → range at 8 bytes ≡ to_be_bytes w64 n → number_at w64 at bytes ≡ n
-unfolding number_at
-number_8 at n bytes small h = ap (from_be_bytes w64) h ∙ from_be_bytes-to_be_bytes_8 n small
 
 same_header : (i i' : ℕ) (k k' : Kind) (d d' : ℕ) (es : List Entry) → i ≡ i' → k ≡ k' → d ≡ d' → (let v : HeaderValue = record { id = i; kind = k; data_length = d; entries = es } in v) ≡ record { id = i'; kind = k'; data_length = d'; entries = es }
 same_header i i' k k' d d' es hi hk hd = cc

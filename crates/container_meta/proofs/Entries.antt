@@ -1,11 +1,12 @@
 -- Reading entries one after the other, as a loop does.
 use Rattle.std.proofs.Common.{◌≡◌, ℕ, suc, ◌+◌, ◌-◌, ◌≤◌, ◌<◌, List, [], ◌∷◌, ◌++◌, length, Result, Ok, Err, sym, ap, ◌∙◌, arith}
+use Rattle.base_model.specs.Checks.{behind, ◌>>=◌}
 use Rattle.container_meta.specs.declared.kind.Kind.{Kind}
 use Rattle.container_meta.specs.declared.entry.Entry.{Entry}
 use Rattle.container_meta.specs.declared.fault.MetaFault.{MetaFault}
 use Rattle.container_meta.specs.declared.fault.MetaFault.TheVariants.{Gate, Magic, Field, Digest, Memory}
 use Rattle.container_meta.specs.Format.{entry_place}
-use Rattle.container_meta.specs.Reading.{◌>>=◌, Fails, behind, entry_checks, entry_at, entries_at}
+use Rattle.container_meta.specs.Reading.{Fails, entry_checks, entry_at, entries_at}
 
 pub fails_so : {Y : Type 0} (e : MetaFault) (read : Result Y MetaFault) → read ≡ Err e → Fails e read
 fails_so Memory read h = tt

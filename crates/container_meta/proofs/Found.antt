@@ -7,21 +7,24 @@ use Rattle.std.proofs.lemmas.Bool.{cases_lt, eqb-true, leb-true}
 use Rattle.std.proofs.lemmas.List.{append-nil, nil_from_length}
 use Rattle.std.proofs.lemmas.Slice.Eq.{bytes_eq-Decides}
 use Rattle.sha2.specs.Sha256.{sha256}
-use Rattle.base_model.specs.Bytes.{range, byte_at}
+use Rattle.base_model.specs.Bytes.{range, byte_at, zeros}
+use Rattle.base_model.specs.Checks.{behind, passes, ◌>>=◌}
+use Rattle.base_model.specs.Numbers.{number_at, seven_at}
+use Rattle.base_model.proofs.Checks.{bind_ok, behind_ok, ok_is, both, not_true}
+use Rattle.base_model.proofs.Numbers.{IsBytes, spelled_2, spelled_4, spelled_8}
 use Rattle.base_model.proofs.Ranges.{length-range, range-join}
 use Rattle.container_meta.specs.declared.kind.Kind.{Kind}
 use Rattle.container_meta.specs.declared.kind.Kind.TheVariants.{Leaf}
 use Rattle.container_meta.specs.declared.entry.Entry.{Entry}
 use Rattle.container_meta.specs.declared.entry.Meta.{Meta}
 use Rattle.container_meta.specs.declared.fault.MetaFault.{MetaFault}
-use Rattle.container_meta.specs.Format.{magic, kind_byte, kind_of, is_count, is_length, zeros, number_at, entry_place}
+use Rattle.container_meta.specs.Format.{magic, kind_byte, kind_of, is_count, is_length, entry_place}
 use Rattle.container_meta.specs.Spelling.{HeaderValue, view, IsNext, Follow, IsHeader, bytes_of, has_digest, entry_spelling, entries_spelling, fields_spelling, header_spelling}
-use Rattle.container_meta.specs.Reading.{◌>>=◌, Gives, behind, passes, opening_checks, digest_checks, field_checks, entry_checks, end_checks, count_at, kind_at, digest_at, entry_at, seven_at, is_end, zeros_in_front, zeros_end, entries_at, header_at}
+use Rattle.container_meta.specs.Reading.{Gives, opening_checks, digest_checks, field_checks, entry_checks, end_checks, count_at, kind_at, digest_at, entry_at, is_end, zeros_in_front, zeros_end, entries_at, header_at}
 use Rattle.container_meta.proofs.Lists.{all_zeros}
 use Rattle.container_meta.proofs.Spelled.{entries_spelling-nil, entries_spelling-cons, bytes_of-push}
 use Rattle.container_meta.proofs.Entries.{next_read}
-use Rattle.container_meta.proofs.Checks.{bind_ok, behind_ok, ok_is, both, not_true}
-use Rattle.container_meta.proofs.Numbers.{IsBytes, spelled_2, spelled_4, spelled_8, entry_spelled}
+use Rattle.container_meta.proofs.Numbers.{entry_spelled}
 use Rattle.container_meta.proofs.Parts.{FieldParts, fields_from_parts, Parts, spelling_from_parts}
 
 -- ---- the entries

@@ -1,7 +1,6 @@
 pub mod Lists
 pub mod Spelled
 pub mod Entries
-pub mod Checks
 pub mod Numbers
 pub mod Parts
 pub mod Found

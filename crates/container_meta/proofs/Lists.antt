@@ -4,12 +4,8 @@ use Rattle.std.proofs.lemmas.List.{length-replicate, take_all, length-take, leng
 use Rattle.std.proofs.lemmas.Slice.{take-put_mid}
 use borrow.Rule.Slice.PartMut.{put_mid}
 use Rattle.std.proofs.lemmas.Bool.{eqb-true}
-use Rattle.container_meta.specs.Format.{zeros}
+use Rattle.base_model.specs.Bytes.{zeros}
 use Rattle.container_meta.specs.Reading.{zeros_in_front}
-
-pub length-zeros : (n : ℕ) → length (zeros n) ≡ n
-unfolding zeros
-length-zeros n = length-replicate n 0
 
 zeros_step : (b : Bool) (n m : ℕ) → n ≤ m → cond b (suc n) 0 ≤ suc m
 zeros_step true n m h = omega arith

@@ -1,41 +1,14 @@
 -- Numbers and entries, as read and as spelled.
-use Rattle.std.proofs.Common.{◌≡◌, ℕ, zero, suc, ◌+◌, ◌^◌, ◌≤◌, ◌<◌, List, [], ◌∷◌, ◌++◌, length, take, drop, get_or, refl, sym, ap, ◌∙◌, arith, append_assoc, length-append, inl, inr}
-use Rattle.std.specs.Int.{w16, w32, w64, to_be_bytes, from_be_bytes}
-use Rattle.std.proofs.lemmas.Bool.{cases_lt}
-use Rattle.std.proofs.lemmas.List.{get_or-drop, get_or-take, get_or_past, length-take}
-use Rattle.std.proofs.lemmas.Nat.{be_bytes_2, be_bytes_4, be_bytes_8, from_be_bytes-to_be_bytes_4}
-use Rattle.base_model.specs.Bytes.{range, byte_at}
-use Rattle.base_model.proofs.Ranges.{length-range, range-range, range-join, range-first, range-second, range-one, range-whole}
+use Rattle.std.proofs.Common.{◌≡◌, ℕ, zero, suc, ◌+◌, ◌^◌, ◌≤◌, ◌<◌, List, [], ◌∷◌, ◌++◌, length, drop, get_or, refl, sym, ap, ◌∙◌, arith, append_assoc, length-append}
+use Rattle.std.specs.Int.{w32, w64, to_be_bytes, from_be_bytes}
+use Rattle.std.proofs.lemmas.Nat.{be_bytes_8, from_be_bytes-to_be_bytes_4}
+use Rattle.base_model.specs.Bytes.{range, byte_at, zeros}
+use Rattle.base_model.specs.Numbers.{number_at, seven_at}
+use Rattle.base_model.proofs.Numbers.{IsBytes, IsBytes-range, spelled_4}
+use Rattle.base_model.proofs.Ranges.{length-range, range-range, range-join, range-first, range-second, range-one, range-whole, length-zeros}
 use Rattle.container_meta.specs.declared.entry.Entry.{Entry}
-use Rattle.container_meta.specs.Format.{zeros, number_at}
 use Rattle.container_meta.specs.Spelling.{entry_spelling}
-use Rattle.container_meta.specs.Reading.{entry_at, seven_at}
-use Rattle.container_meta.proofs.Lists.{length-zeros}
-
-abbrev pub IsBytes : List ℕ → Type 0
-IsBytes bytes = (i : ℕ) → get_or bytes i 0 < 256
-
-pub IsBytes-range : (at count : ℕ) (bytes : List ℕ) → IsBytes bytes → IsBytes (range at count bytes)
-unfolding range
-IsBytes-range at count bytes h i =
-    elim (cases_lt i count) [
-      | inl lt ↦ rw (get_or-take count (drop at bytes) i 0 lt, get_or-drop at bytes i 0) (h (at + i))
-      | inr le ↦ rw (get_or_past (take count (drop at bytes)) i 0 (omega (arith, length-take count (drop at bytes)))) (omega arith)
-    ]
-
--- ---- as read
-
-pub spelled_2 : (at : ℕ) (bytes : List ℕ) → at + 2 ≤ length bytes → IsBytes bytes → to_be_bytes w16 (number_at w16 at bytes) ≡ range at 2 bytes
-unfolding number_at
-spelled_2 at bytes fits h = be_bytes_2 (range at 2 bytes) _ (length-range at 2 bytes fits) (IsBytes-range at 2 bytes h) refl
-
-pub spelled_4 : (at : ℕ) (bytes : List ℕ) → at + 4 ≤ length bytes → IsBytes bytes → to_be_bytes w32 (number_at w32 at bytes) ≡ range at 4 bytes
-unfolding number_at
-spelled_4 at bytes fits h = be_bytes_4 (range at 4 bytes) _ (length-range at 4 bytes fits) (IsBytes-range at 4 bytes h) refl
-
-pub spelled_8 : (at : ℕ) (bytes : List ℕ) → at + 8 ≤ length bytes → IsBytes bytes → to_be_bytes w64 (number_at w64 at bytes) ≡ range at 8 bytes
-unfolding number_at
-spelled_8 at bytes fits h = be_bytes_8 (range at 8 bytes) _ (length-range at 8 bytes fits) (IsBytes-range at 8 bytes h) refl
+use Rattle.container_meta.specs.Reading.{entry_at}
 
 IsBytes-cons : (bytes : List ℕ) → IsBytes bytes → IsBytes (0 ∷ bytes)
 IsBytes-cons bytes h zero = omega arith

@@ -14,7 +14,7 @@ use Rattle.container_meta.specs.declared.entry.Entry.{Entry}
 use Rattle.container_meta.specs.Format.{kind_byte, is_length, is_level}
 use Rattle.container_meta.specs.Segments.{Segment, KindSegment, Contents, segment_key, has_key, bytes_in, data_of, entries_from, segments_in, CanAdd, has_room}
 use Rattle.container_meta.specs.Spelling.{bytes_of, has_digest, IsNext, Follow}
-use Rattle.container_meta.proofs.Checks.{both}
+use Rattle.base_model.proofs.Checks.{both}
 use Rattle.container_meta.proofs.Spelled.{bytes_of-push}
 
 pub length-segments_in : (es : List Entry) (bytes : List ℕ) → length (segments_in es bytes) ≡ length es

@@ -4,13 +4,12 @@ use Rattle.std.specs.Int.{w16, w32, w64, to_be_bytes}
 use Rattle.std.proofs.lemmas.List.{take_all}
 use Rattle.sha2.specs.Sha256.{sha256}
 use Rattle.sha2.proofs.Facts256.{length-sha256}
-use Rattle.base_model.specs.Bytes.{range, byte_at}
-use Rattle.base_model.proofs.Ranges.{range-range, byte-range, range-join, range-first, range-second, range-one, range-whole}
+use Rattle.base_model.specs.Bytes.{range, byte_at, zeros}
+use Rattle.base_model.proofs.Ranges.{range-range, byte-range, range-join, range-first, range-second, range-one, range-whole, length-zeros}
 use Rattle.container_meta.specs.declared.kind.Kind.{Kind}
 use Rattle.container_meta.specs.declared.entry.Entry.{Entry}
-use Rattle.container_meta.specs.Format.{zeros, magic, kind_byte}
+use Rattle.container_meta.specs.Format.{magic, kind_byte}
 use Rattle.container_meta.specs.Spelling.{HeaderValue, entry_spelling, entries_spelling, fields_spelling, front_spelling, header_spelling, Follow}
-use Rattle.container_meta.proofs.Lists.{length-zeros}
 use Rattle.container_meta.proofs.Spelled.{entries_spelling-nil, entries_spelling-cons, length-fields_spelling}
 use Rattle.container_meta.proofs.Numbers.{length-entry_spelling}
 

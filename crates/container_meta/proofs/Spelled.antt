@@ -1,5 +1,6 @@
 -- Spellings as they are written, part by part.
 use Rattle.std.proofs.Common.{◌≡◌, ℕ, ◌+◌, List, [], ◌∷◌, ◌++◌, length, take, drop, refl, sym, ap, ◌∙◌, arith, append_assoc}
+use Rattle.base_model.specs.Bytes.{zeros}
 use Rattle.std.specs.List.{flat_map}
 use Rattle.std.specs.Int.{w16, w32, w64, to_be_bytes}
 use Rattle.std.proofs.lemmas.List.{append-nil, drop-take}
@@ -9,7 +10,7 @@ use Rattle.std.proofs.lemmas.List.Concat.{flat_map-cons}
 use Rattle.sha2.specs.Sha256.{sha256}
 use Rattle.container_meta.specs.declared.kind.Kind.{Kind}
 use Rattle.container_meta.specs.declared.entry.Entry.{Entry}
-use Rattle.container_meta.specs.Format.{zeros, magic, kind_byte}
+use Rattle.container_meta.specs.Format.{magic, kind_byte}
 use Rattle.container_meta.specs.Spelling.{entry_spelling, entries_spelling, fields_spelling, front_spelling, bytes_of}
 
 pub entries_spelling-nil : entries_spelling [] ≡ []

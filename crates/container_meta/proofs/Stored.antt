@@ -3,13 +3,11 @@ use Rattle.std.proofs.Common.{◌≡◌, ℕ, ◌+◌, ◌-◌, ◌*◌, ◌≤�
 use Rattle.std.proofs.lemmas.List.Concat.{flat_map-cons, length-flat_map}
 use Rattle.sha2.specs.Sha256.{sha256}
 use Rattle.sha2.proofs.Facts256.{length-sha256}
-use Rattle.base_model.specs.Bytes.{range}
-use Rattle.base_model.proofs.Ranges.{range-first, range-second, range-whole}
+use Rattle.base_model.specs.Bytes.{range, zeros}
+use Rattle.base_model.proofs.Ranges.{range-first, range-second, range-whole, length-zeros}
 use Rattle.container_meta.specs.declared.kind.Kind.{Kind}
-use Rattle.container_meta.specs.Format.{zeros}
 use Rattle.container_meta.specs.Segments.{Segment, bytes_in, data_of, StandFrom}
 use Rattle.container_meta.specs.Spelling.{HeaderValue, IsHeader, entries_spelling, fields_spelling, front_spelling, header_spelling, header_of, container_spelling}
-use Rattle.container_meta.proofs.Lists.{length-zeros}
 use Rattle.container_meta.proofs.Spelled.{length-fields_spelling}
 use Rattle.container_meta.proofs.Parts.{length-entries_spelling}
 use Rattle.container_meta.proofs.Again.{small_count}

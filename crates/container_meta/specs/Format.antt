@@ -1,7 +1,5 @@
 -- The rules of a container that speak of one number each. docs/FORMAT.md, 'Container slot', states them.
-use Rattle.std.specs.Prelude.{ℕ, zero, suc, ◌+◌, ◌*◌, ◌-◌, ◌^◌, List, [], ◌∷◌, replicate, Bool, false, ◌&&◌, ◌==◌, nat_le, Option, Some, None}
-use Rattle.std.specs.Int.{Width, byte_len, from_be_bytes}
-use Rattle.base_model.specs.Bytes.{range}
+use Rattle.std.specs.Prelude.{ℕ, zero, suc, ◌+◌, ◌*◌, ◌-◌, ◌^◌, List, [], ◌∷◌, Bool, false, ◌&&◌, ◌==◌, nat_le, Option, Some, None}
 use Rattle.container_meta.specs.declared.kind.Kind.{Kind}
 use Rattle.container_meta.specs.declared.kind.Kind.TheVariants.{Leaf, Tree}
 
@@ -41,14 +39,6 @@ is_length Tree bytes = false
 abbrev pub is_level : Kind → ℕ → Bool
 is_level Leaf level = level == 0
 is_level Tree level = false
-
--- so many zeros
-unfoldable pub zeros : ℕ → List ℕ
-zeros count = replicate count 0
-
--- the number that the bytes at a place spell, the highest first
-unfoldable pub number_at : Width → ℕ → List ℕ → ℕ
-number_at width at bytes = from_be_bytes width (range at (byte_len width) bytes)
 
 -- where entry i stands
 abbrev pub entry_place : ℕ → ℕ

@@ -1,21 +1,18 @@
 -- What a reader finds in the 49,664 bytes of a header, or the first fault.
 use Rattle.std.specs.Prelude.{◌≡◌, ℕ, zero, suc, ◌+◌, ◌*◌, ◌-◌, List, [], ◌∷◌, ◌++◌, length, Bool, not, ◌&&◌, ◌==◌, nat_le, if◌then◌else◌, is_some, unwrap_or, Result, Ok, Err}
 use Rattle.std.specs.Str.{bytes_eq}
-use Rattle.std.specs.Int.{w16, w32, w64, from_be_bytes}
+use Rattle.std.specs.Int.{w16, w32, w64}
 use Rattle.sha2.specs.Sha256.{sha256}
 use Rattle.base_model.specs.Bytes.{range, byte_at}
+use Rattle.base_model.specs.Checks.{Check, behind, passes, ◌>>=◌}
+use Rattle.base_model.specs.Numbers.{number_at, seven_at}
 use Rattle.container_meta.specs.declared.kind.Kind.{Kind}
 use Rattle.container_meta.specs.declared.kind.Kind.TheVariants.{Leaf}
 use Rattle.container_meta.specs.declared.entry.Entry.{Entry}
 use Rattle.container_meta.specs.declared.fault.MetaFault.{MetaFault}
 use Rattle.container_meta.specs.declared.fault.MetaFault.TheVariants.{Gate, Magic, Field, Digest, Memory}
-use Rattle.container_meta.specs.Format.{magic, is_id, is_count, is_data_length, kind_of, is_length, is_level, number_at, entry_place}
+use Rattle.container_meta.specs.Format.{magic, is_id, is_count, is_data_length, kind_of, is_length, is_level, entry_place}
 use Rattle.container_meta.specs.Spelling.{HeaderValue, bytes_of, has_digest}
-
-infixl 10 ◌>>=◌
-abbrev pub ◌>>=◌ : {A B : Type 0} → Result A MetaFault → (A → Result B MetaFault) → Result B MetaFault
-(Ok x) >>= f = f x
-(Err e) >>= f = Err e
 
 -- What a function returned, seen by view, is what reading gives, unless memory ran out.
 abbrev pub Fails : {Y : Type 0} → MetaFault → Result Y MetaFault → Type 0
@@ -29,22 +26,8 @@ abbrev pub Gives : {X Y : Type 0} → (X → Y) → Result X MetaFault → Resul
 Gives view (Ok x) read = read ≡ Ok (view x)
 Gives view (Err e) read = Fails e read
 
--- What has to hold, and the fault where it doesn't.
-pub record Check : Type 0 where
-  pub holds : Bool
-  pub fault : MetaFault
-
--- the value where each check holds, else the fault of the first that doesn't
-abbrev pub behind : {A : Type 0} → List Check → A → Result A MetaFault
-behind [] value = Ok value
-behind (c ∷ cs) value = if c.holds then behind cs value else Err c.fault
-
--- nothing where each check holds, else the fault of the first that doesn't
-abbrev pub passes : List Check → Result (Unit {0}) MetaFault
-passes checks = behind checks tt
-
 -- a number in a field, which breaks its rule or keeps it
-abbrev pub field : ℕ → ℕ → Bool → Check
+abbrev pub field : ℕ → ℕ → Bool → Check MetaFault
 field offset got holds = record { holds = holds; fault = Field offset got }
 
 -- how many zeros a list begins with
@@ -60,7 +43,7 @@ abbrev pub count_at : List ℕ → ℕ
 count_at bytes = number_at w16 18 bytes
 
 -- what has to hold before the digest can be taken
-abbrev pub opening_checks : List ℕ → List Check
+abbrev pub opening_checks : List ℕ → List (Check MetaFault)
 opening_checks bytes =
     record { holds = byte_at 0 bytes == 0xC5; fault = Gate (byte_at 0 bytes) }
     ∷ record { holds = bytes_eq (range 1 7 bytes) magic; fault = Magic }
@@ -71,13 +54,13 @@ opening_checks bytes =
 abbrev pub digest_at : List ℕ → List ℕ
 digest_at bytes = sha256 (range 1 23 bytes ++ range 512 (48 * count_at bytes) bytes)
 
-abbrev pub digest_checks : List ℕ → List Check
+abbrev pub digest_checks : List ℕ → List (Check MetaFault)
 digest_checks bytes =
     record { holds = bytes_eq (range 24 32 bytes) (digest_at bytes); fault = Digest (range 24 32 bytes) (digest_at bytes) }
     ∷ []
 
 -- the fields before the entries, by their offsets
-abbrev pub field_checks : List ℕ → List Check
+abbrev pub field_checks : List ℕ → List (Check MetaFault)
 field_checks bytes =
     field 8 (number_at w64 8 bytes) (is_id (number_at w64 8 bytes))
     ∷ field 16 (byte_at 16 bytes) (is_some (kind_of (byte_at 16 bytes)))
@@ -89,16 +72,12 @@ field_checks bytes =
 abbrev pub entry_at : ℕ → List ℕ → Entry
 entry_at at bytes = record { digest = range at 32 bytes; offset = number_at w32 (at + 32) bytes; length = number_at w32 (at + 36) bytes; level = byte_at (at + 40) bytes }
 
--- seven bytes as a number
-unfoldable pub seven_at : ℕ → List ℕ → ℕ
-seven_at at bytes = from_be_bytes w64 (0 ∷ range at 7 bytes)
-
 -- the data of an entry ends where the next one's begins, and that of the last at the data's end
 abbrev pub is_end : ℕ → ℕ → ℕ → Bool
 is_end after data_length end = if after == 0 then end == data_length else nat_le end data_length
 
 -- an entry that stands at a place behind others, and before so many
-abbrev pub entry_checks : Kind → ℕ → ℕ → List Entry → ℕ → List ℕ → List Check
+abbrev pub entry_checks : Kind → ℕ → ℕ → List Entry → ℕ → List ℕ → List (Check MetaFault)
 entry_checks kind data_length after before at bytes =
     let e = entry_at at bytes in
     field at (byte_at at bytes) (not (has_digest before e.digest))
@@ -116,7 +95,7 @@ entries_at kind data_length (suc after) before bytes = do
   entries_at kind data_length after (before ++ e ∷ []) bytes
 
 -- zeros behind the entries
-abbrev pub end_checks : List ℕ → List Check
+abbrev pub end_checks : List ℕ → List (Check MetaFault)
 end_checks bytes =
     let from = entry_place (count_at bytes) in
     let end = zeros_end from (49664 - from) bytes in

@@ -1,5 +1,6 @@
 -- The one spelling of each header and of each container.
 use Rattle.std.specs.Prelude.{◌≡◌, ℕ, ◌*◌, ◌-◌, List, [], ◌∷◌, ◌++◌, length, sum_by, Bool, true, false, Some}
+use Rattle.base_model.specs.Bytes.{zeros}
 use Rattle.std.specs.List.{flat_map, list_any}
 use Rattle.std.specs.Str.{bytes_eq}
 use Rattle.std.specs.Int.{w16, w32, w64, to_be_bytes}
@@ -7,7 +8,7 @@ use Rattle.sha2.specs.Sha256.{sha256}
 use Rattle.container_meta.specs.declared.kind.Kind.{Kind}
 use Rattle.container_meta.specs.declared.entry.Entry.{Entry}
 use Rattle.container_meta.specs.declared.entry.Meta.{Meta}
-use Rattle.container_meta.specs.Format.{magic, is_id, is_count, is_data_length, kind_byte, kind_of, is_length, is_level, zeros}
+use Rattle.container_meta.specs.Format.{magic, is_id, is_count, is_data_length, kind_byte, kind_of, is_length, is_level}
 use Rattle.container_meta.specs.Segments.{Segment, bytes_in, data_of, entries_from}
 
 -- a header and its entries, without where they lie in memory

@@ -1,78 +1,22 @@
 //! Headers from bytes.
 
 ghost use Rattle.std.specs.Prelude.{◌≡◌, ℕ, ◌+◌, ◌*◌, ◌-◌, ◌^◌, ◌<◌, ◌≤◌, [], length, IfOk, Ok};
-ghost use Rattle.std.specs.Int.{w16, w32, w64};
-ghost use Rattle.base_model.specs.Bytes.{range};
+ghost use Rattle.std.specs.Int.{w32};
+ghost use Rattle.base_model.specs.Checks.{behind, passes};
+ghost use Rattle.base_model.specs.Numbers.{number_at};
 ghost use Rattle.container_meta.specs.declared.fault.MetaFault.TheVariants.{Field};
-ghost use Rattle.container_meta.specs.Format.{number_at, entry_place};
+ghost use Rattle.container_meta.specs.Format.{entry_place};
 ghost use Rattle.container_meta.specs.Spelling.{HeaderValue, IsHeader, view, header_spelling, bytes_of};
-ghost use Rattle.container_meta.specs.Reading.{Gives, behind, passes, count_at, kind_at as kind_in, opening_checks, digest_checks, field_checks, entry_checks, end_checks, entry_at, entries_at, header_at, seven_at, is_end, zeros_in_front as zeros_before, zeros_end as end_of_zeros};
+ghost use Rattle.container_meta.specs.Reading.{Gives, count_at, kind_at as kind_in, opening_checks, digest_checks, field_checks, entry_checks, end_checks, entry_at, entries_at, header_at, is_end, zeros_in_front as zeros_before, zeros_end as end_of_zeros};
 
 use crate::entry::{Entry, Meta, stands_in};
 use crate::fault::MetaFault;
 use crate::kind::{Kind, kind_at, takes_length, takes_level};
+use base_model::{digest_at, part, seven_at, u16_at, u32_at, u64_at};
 use sha2::{Digest, Sha256};
 use std::alloc::Global;
 
 const MAGIC: [u8; 7] = *b"DDFSCON";
-
-#[tactic(auto, unfolding(base_model::specs::Bytes::range))]
-fn part(bytes: &[u8], at: usize, count: usize) -> &[u8]
-    requires { at + count ≤ length bytes.now }
-    ensures value { result.now ≡ range at count bytes.now }
-    ensures length { length result.now ≡ count }
-{
-    &bytes[at..at + count]
-}
-
-#[tactic(auto, unfolding(crate::specs::Format::number_at, base_model::specs::Bytes::range))]
-fn u16_at(bytes: &[u8], at: usize) -> u16
-    requires { at + 2 ≤ length bytes.now }
-    ensures { result ≡ number_at w16 at bytes.now }
-{
-    let mut two = [0u8; 2];
-    two.copy_from_slice(&bytes[at..at + 2]);
-    u16::from_be_bytes(two)
-}
-
-#[tactic(auto, unfolding(crate::specs::Format::number_at, base_model::specs::Bytes::range))]
-fn u32_at(bytes: &[u8], at: usize) -> u32
-    requires { at + 4 ≤ length bytes.now }
-    ensures { result ≡ number_at w32 at bytes.now }
-{
-    let mut four = [0u8; 4];
-    four.copy_from_slice(&bytes[at..at + 4]);
-    u32::from_be_bytes(four)
-}
-
-#[tactic(auto, unfolding(crate::specs::Format::number_at, base_model::specs::Bytes::range))]
-fn u64_at(bytes: &[u8], at: usize) -> u64
-    requires { at + 8 ≤ length bytes.now }
-    ensures { result ≡ number_at w64 at bytes.now }
-{
-    let mut eight = [0u8; 8];
-    eight.copy_from_slice(&bytes[at..at + 8]);
-    u64::from_be_bytes(eight)
-}
-
-#[tactic(auto, unfolding(crate::specs::Reading::seven_at, base_model::specs::Bytes::range))]
-fn seven_bytes_at(bytes: &[u8], at: usize) -> u64
-    requires { at + 7 ≤ length bytes.now }
-    ensures { result ≡ seven_at at bytes.now }
-{
-    let mut eight = [0u8; 8];
-    eight[1..].copy_from_slice(&bytes[at..at + 7]);
-    u64::from_be_bytes(eight)
-}
-
-fn digest_in(bytes: &[u8], at: usize) -> [u8; 32]
-    requires { at + 32 ≤ length bytes.now }
-    ensures { result ≡ range at 32 bytes.now }
-{
-    let mut digest = [0u8; 32];
-    digest.copy_from_slice(part(bytes, at, 32));
-    digest
-}
 
 /// How many zeros come before the first other byte.
 fn zeros_in_front(bytes: &[u8]) -> usize
@@ -127,7 +71,7 @@ fn check_digest(bytes: &[u8], count: u16) -> Result<(), MetaFault>
     hasher.update(part(bytes, 1, 23));
     hasher.update(part(bytes, 512, 48 * usize::from(count)));
     let got = hasher.finalize();
-    let want = digest_in(bytes, 24);
+    let want = digest_at(bytes, 24);
     if want != got {
         return Err(MetaFault::Digest { want, got });
     }
@@ -212,7 +156,7 @@ fn next_entry(
 {
     let at = 512 + 48 * before.len();
     let entry = Entry {
-        digest: digest_in(bytes, at),
+        digest: digest_at(bytes, at),
         offset: u32_at(bytes, at + 32),
         length: u32_at(bytes, at + 36),
         level: bytes[at + 40],
@@ -229,7 +173,7 @@ fn next_entry(
     if !takes_level(kind, entry.level) {
         return Err(field_fault(at + 40, u64::from(entry.level)));
     }
-    let zeros = seven_bytes_at(bytes, at + 41);
+    let zeros = seven_at(bytes, at + 41);
     if zeros != 0 {
         return Err(field_fault(at + 41, zeros));
     }

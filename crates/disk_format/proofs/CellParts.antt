@@ -1,15 +1,12 @@
 -- The parts of a cell.
 use Rattle.std.proofs.Common.{◌≡◌, ℕ, ◌-◌, ◌≤◌, List, [], ◌∷◌, ◌++◌, length, take, refl, sym, ◌∙◌, ap, arith, append_assoc, length-append}
-use Rattle.std.proofs.lemmas.List.{length-replicate, take_at, drop_at}
+use Rattle.std.proofs.lemmas.List.{take_at, take_all, drop_at}
 use Rattle.std.specs.Int.{w64, to_be_bytes}
 use Rattle.sha2.specs.Sha256.{sha256}
 use Rattle.sha2.proofs.Facts256.{length-sha256}
-use Rattle.base_model.specs.Bytes.{range, byte_at}
-use Rattle.disk_format.specs.Cells.{zeros, sealed, format_fields, selector_fields, put_fields, put_cell, Root, RECORD_GATE}
-
-pub length-zeros : (count : ℕ) → length (zeros count) ≡ count
-unfolding zeros
-length-zeros count = length-replicate count 0
+use Rattle.base_model.specs.Bytes.{range, byte_at, zeros}
+use Rattle.base_model.proofs.Ranges.{length-zeros, range-join, range-one, range-whole, range-first, range-second}
+use Rattle.disk_format.specs.Cells.{sealed, format_fields, selector_fields, put_fields, put_cell, Root, RECORD_GATE}
 
 pub gate-sealed : (gate : ℕ) (fields : List ℕ) → byte_at 0 (sealed gate fields) ≡ gate
 unfolding sealed
@@ -76,3 +73,31 @@ module _ (name : List ℕ) (root : Root) where
     pub length-put_fields : length name ≤ 428 → length (put_fields 1 name root) ≡ 479
     unfolding put_fields
     length-put_fields short = omega (arith, length-zeros (428 - length name), digest_long, length-append (root.digest ++ name) (zeros (428 - length name)), length-append root.digest name)
+
+-- ---- a cell by its parts
+
+pub record Sealed (gate : ℕ) (fields cell : List ℕ) : Type 0 where
+  pub gate_is : byte_at 0 cell ≡ gate
+  pub fields_are : range 1 479 cell ≡ fields
+  pub digest_is : range 480 32 cell ≡ sha256 fields
+
+pub sealed_from_parts : (gate : ℕ) (fields cell : List ℕ) → length cell ≡ 512 → Sealed gate fields cell → cell ≡ sealed gate fields
+unfolding sealed
+sealed_from_parts gate fields cell long p =
+    let a : range 0 480 cell ≡ gate ∷ fields =
+    sym (range-join 0 1 479 1 cell refl) ∙ ap (λ (l : List ℕ). l ++ range 1 479 cell) (range-one 0 cell (omega arith) ∙ ap (λ (b : ℕ). b ∷ []) p.gate_is) ∙ ap (λ (l : List ℕ). gate ∷ l) p.fields_are in
+    sym (range-whole 512 cell long) ∙ sym (range-join 0 480 32 480 cell refl) ∙ ap (λ (l : List ℕ). l ++ range 480 32 cell) a ∙ ap (λ (l : List ℕ). (gate ∷ fields) ++ l) p.digest_is
+
+behind_gate : (gate : ℕ) (fields : List ℕ) → length fields ≡ 479 → range 1 479 (gate ∷ fields) ≡ fields
+unfolding range
+behind_gate gate fields long = take_all 479 fields (omega (arith, long))
+
+pub parts_of_sealed : (gate : ℕ) (fields cell : List ℕ) → length fields ≡ 479 → cell ≡ sealed gate fields → Sealed gate fields cell
+unfolding sealed
+parts_of_sealed gate fields cell long is =
+    let front : length (gate ∷ fields) ≡ 480 = omega (arith, long) in
+    record {
+      gate_is = ap (byte_at 0) is;
+      fields_are = ap (range 1 479) is ∙ range-first 1 479 (gate ∷ fields) (sha256 fields) (omega (arith, front)) ∙ behind_gate gate fields long;
+      digest_is = ap (range 480 32) is ∙ range-second 0 32 480 480 (gate ∷ fields) (sha256 fields) front refl ∙ range-whole 32 (sha256 fields) (length-sha256 fields);
+    }

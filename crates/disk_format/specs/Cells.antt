@@ -1,7 +1,8 @@
 -- The cells of 512 bytes (docs/FORMAT.md, 'Cells'). A cell is open where its first byte, the gate, has its stated
 -- value, and closed where it has any other.
-use Rattle.std.specs.Prelude.{ℕ, ◌-◌, ◌≤◌, List, [], ◌∷◌, ◌++◌, length, replicate, codes, All}
+use Rattle.std.specs.Prelude.{◌≡◌, ℕ, ◌-◌, ◌^◌, ◌<◌, ◌≤◌, List, [], ◌∷◌, ◌++◌, length, codes, All, Bool, true, ◌&&◌, ◌==◌, nat_le, if◌then◌else◌}
 use Rattle.std.specs.Int.{w32, w64, to_be_bytes}
+use Rattle.base_model.specs.Bytes.{zeros}
 use Rattle.sha2.specs.Sha256.{sha256}
 
 abbrev pub FORMAT_GATE : ℕ
@@ -16,9 +17,6 @@ RECORD_GATE = 0xA5
 -- of a container slot
 abbrev pub CONTAINER_GATE : ℕ
 CONTAINER_GATE = 0xC5
-
-unfoldable pub zeros : ℕ → List ℕ
-zeros count = replicate count 0
 
 -- 479 bytes of fields behind a gate, and their digest
 unfoldable pub sealed : ℕ → List ℕ → List ℕ
@@ -54,6 +52,75 @@ pub record IsName (name : List ℕ) : Type 0 where
 unfoldable pub put_fields : ℕ → List ℕ → Root → List ℕ
 put_fields sequence name root =
     (1 ∷ length name ∷ []) ++ to_be_bytes w64 sequence ++ to_be_bytes w64 root.length ++ (root.level ∷ []) ++ root.digest ++ name ++ zeros (428 - length name)
+
+-- what a record says of its name
+pub data Change : Type 0 where
+  Put : (root : Root) → Change
+  Delete : Change
+
+-- what a record says: from this sequence number on, this of this name
+pub record RecordValue : Type 0 where
+  pub sequence : ℕ
+  pub name : List ℕ
+  pub change : Change
+
+abbrev pub operation_of : Change → ℕ
+operation_of (Put root) = 1
+operation_of Delete = 2
+
+-- the root's fields; zeros in a record that deletes
+abbrev pub root_in : Change → Root
+root_in (Put root) = root
+root_in Delete = record { length = 0; level = 0; digest = zeros 32 }
+
+-- bytes 1 to 51
+unfoldable pub record_front : RecordValue → List ℕ
+record_front r =
+    let root = root_in r.change in
+    (operation_of r.change ∷ length r.name ∷ []) ++ to_be_bytes w64 r.sequence ++ to_be_bytes w64 root.length ++ (root.level ∷ []) ++ root.digest
+
+unfoldable pub record_fields : RecordValue → List ℕ
+record_fields r = record_front r ++ r.name ++ zeros (428 - length r.name)
+
+abbrev pub record_cell : RecordValue → List ℕ
+record_cell r = sealed RECORD_GATE (record_fields r)
+
+-- how long a file may be whose root is at a level: at level 0 it is one segment or empty, above it isn't empty
+abbrev pub is_root_length : ℕ → ℕ → Bool
+is_root_length level count = nat_le count (2 ^ 40) && (if level == 0 then nat_le count 16384 else nat_le 1 count)
+
+abbrev pub is_root_level : ℕ → Bool
+is_root_level level = nat_le level 6
+
+-- a root that a file may have
+pub record IsRoot (root : Root) : Type 0 where
+  pub bytes : is_root_length root.level root.length ≡ true
+  pub level : is_root_level root.level ≡ true
+  pub digest : length root.digest ≡ 32
+  pub empty : root.level ≡ 0 → root.length ≡ 0 → root.digest ≡ sha256 []
+
+abbrev pub IsChange : Change → Type 0
+IsChange (Put root) = IsRoot root
+IsChange Delete = Unit {0}
+
+-- what has a spelling
+pub record IsRecord (r : RecordValue) : Type 0 where
+  pub from_one : 1 ≤ r.sequence
+  pub sequence : r.sequence < 2 ^ 64
+  pub name : IsName r.name
+  pub change : IsChange r.change
+
+-- a selector: which half counts, and the last sequence number before that half was begun
+pub record SelectorValue : Type 0 where
+  pub generation : ℕ
+  pub half : ℕ
+  pub last : ℕ
+
+pub record IsSelector (s : SelectorValue) : Type 0 where
+  pub from_one : 1 ≤ s.generation
+  pub generation : s.generation < 2 ^ 64
+  pub half : s.half ≤ 1
+  pub last : s.last < 2 ^ 64
 
 abbrev pub put_cell : ℕ → List ℕ → Root → List ℕ
 put_cell sequence name root = sealed RECORD_GATE (put_fields sequence name root)

@@ -1,7 +1,7 @@
 use Rattle.std.proofs.Common.{◌≡◌, ◌∙◌, ap, sym, length, arith}
 use Rattle.std.proofs.lemmas.List.{take_at}
 use Rattle.base_model.specs.Bytes.{range}
-use Rattle.backup_engine.proofs.Disks.{weaker}
+use Rattle.dd_disk.proofs.Disks.{weaker}
 use Rattle.backup_engine.proofs.device.read_bytes.Goals as goal
 
 pub returns-clause-shown : goal.returns-clause-shown

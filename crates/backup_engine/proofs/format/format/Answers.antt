@@ -2,7 +2,7 @@ use Rattle.std.proofs.Common.{◌≡◌, ◌≢◌, inl, inr, ℕ, List, length,
 use Rattle.base_model.specs.Bytes.{written, byte_at}
 use Rattle.base_model.proofs.Shown.{shown_told, shown_later}
 use Rattle.disk_format.specs.Cells.{FORMAT_GATE, format_cell}
-use Rattle.backup_engine.specs.Gated.{CellTorn}
+use Rattle.dd_disk.specs.Gated.{CellTorn}
 use Rattle.backup_engine.specs.Formatting.{laid_out}
 use Rattle.backup_engine.proofs.Written.{same_lower}
 use Rattle.backup_engine.proofs.Formatted.{length-format_cell, blank_of, is_formatted, blank_or_formatted}

@@ -1,8 +1,7 @@
 use Rattle.std.proofs.Common.{◌≡◌, ◌+◌, ◌*◌, ℕ, List, length, Some, option_map, arith, ap, ◌∙◌}
 use Rattle.std.proofs.lemmas.Result.{on_ok_weaker}
 use Rattle.base_model.specs.Bytes.{written}
-use Rattle.base_model.proofs.Ranges.{length-written}
-use Rattle.disk_format.proofs.CellParts.{length-zeros}
+use Rattle.base_model.proofs.Ranges.{length-written, length-zeros}
 use Rattle.backup_engine.specs.Formatting.{with_closed, SameBelow}
 use Rattle.backup_engine.proofs.Written.{same_on, same_lower, same_written, same_torn}
 use Rattle.backup_engine.proofs.Formatted.{length-first_selector, laid_told, same_closed}

@@ -1,5 +1,5 @@
 use Rattle.std.proofs.Common.{◌≡◌, ◌∙◌, ◌+◌, ◌*◌, sym, arith}
-use Rattle.backup_engine.proofs.Disks.{weaker}
+use Rattle.dd_disk.proofs.Disks.{weaker}
 use Rattle.backup_engine.proofs.Written.{first_byte}
 use Rattle.backup_engine.proofs.format.may_format.Goals as goal
 

@@ -3,11 +3,11 @@ use Rattle.base_model.specs.Bytes.{written}
 use Rattle.base_model.proofs.Shown.{shown_told, shown_later}
 use Rattle.disk_format.specs.Cells.{put_cell}
 use Rattle.store_model.specs.Files.{root_of}
-use Rattle.backup_engine.specs.Gated.{CellTorn}
+use Rattle.dd_disk.specs.Gated.{CellTorn}
 use Rattle.backup_engine.specs.Storing.{IsSealed, IsLeftBySeal}
 use Rattle.backup_engine.specs.Store.{root_value}
 use Rattle.backup_engine.specs.Text.{stored_line}
-use Rattle.backup_engine.proofs.Disks.{weaker}
+use Rattle.dd_disk.proofs.Disks.{weaker}
 use Rattle.backup_engine.proofs.Ingesting.{only_nothing, empty_store, left_by_seal, left_by_record, record_is}
 use Rattle.backup_engine.proofs.Recorded.{record_of, length-record_of}
 use Rattle.backup_engine.proofs.ingest.ingest.Goals as goal

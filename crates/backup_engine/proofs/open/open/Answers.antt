@@ -1,6 +1,6 @@
 use Rattle.std.proofs.Common.{arith}
 use Rattle.backup_engine.specs.Opening.{holding_of}
-use Rattle.backup_engine.proofs.Disks.{weaker, both, also}
+use Rattle.dd_disk.proofs.Disks.{weaker, both, also}
 use Rattle.backup_engine.proofs.Forms.{no_head, no_body, whole_form}
 use Rattle.backup_engine.proofs.open.open.Goals as goal
 

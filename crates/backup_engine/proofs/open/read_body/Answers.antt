@@ -1,7 +1,7 @@
 use Rattle.std.proofs.Common.{option_map}
 use Rattle.container_meta.specs.Spelling.{view}
 use Rattle.backup_engine.specs.Record.{named_of}
-use Rattle.backup_engine.proofs.Disks.{weaker, until, since, both, reads_on}
+use Rattle.dd_disk.proofs.Disks.{weaker, until, since, both, reads_on}
 use Rattle.backup_engine.proofs.Bodies.{not_closed, no_container, not_held, body_sole}
 use Rattle.backup_engine.proofs.open.read_body.Goals as goal
 

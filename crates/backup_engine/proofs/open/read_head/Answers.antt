@@ -1,7 +1,7 @@
 use Rattle.std.proofs.Common.{◌∙◌, subst}
 use Rattle.backup_engine.specs.Opening.{AreFormatSlots}
 use Rattle.backup_engine.proofs.Opening.{true_false}
-use Rattle.backup_engine.proofs.Disks.{weaker, until, since, both}
+use Rattle.dd_disk.proofs.Disks.{weaker, until, since, both}
 use Rattle.backup_engine.proofs.Heads.{head_seen, find_head, wrong_selectors}
 use Rattle.backup_engine.proofs.open.read_head.Goals as goal
 

@@ -1,5 +1,5 @@
 use Rattle.std.proofs.Common.{◌∙◌, sym}
-use Rattle.backup_engine.proofs.Disks.{weaker}
+use Rattle.dd_disk.proofs.Disks.{weaker}
 use Rattle.backup_engine.proofs.FirstParts.{find_slot}
 use Rattle.backup_engine.proofs.open.read_slot.Goals as goal
 

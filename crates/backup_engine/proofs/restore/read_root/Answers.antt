@@ -1,5 +1,5 @@
 use Rattle.std.proofs.Common.{arith, sym, ◌∙◌}
-use Rattle.backup_engine.proofs.Disks.{always}
+use Rattle.dd_disk.proofs.Disks.{always}
 use Rattle.backup_engine.proofs.Entries.{empty_bytes, found_within}
 use Rattle.backup_engine.proofs.restore.read_root.Goals as goal
 

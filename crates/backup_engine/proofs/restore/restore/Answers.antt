@@ -5,7 +5,7 @@ use Rattle.store_model.specs.Image.{HoldsRoot}
 use Rattle.backup_engine.specs.Opening.{holding_of}
 use Rattle.backup_engine.specs.Record.{named_of}
 use Rattle.backup_engine.specs.Store.{root_value}
-use Rattle.backup_engine.proofs.Disks.{Saw, weaker, until, both}
+use Rattle.dd_disk.proofs.Disks.{Saw, weaker, until, both}
 use Rattle.base_model.proofs.Outcome.{passed_on}
 use Rattle.base_model.proofs.Shown.{shown_told, rose_since}
 use Rattle.backup_engine.proofs.Restoring.{restored_file, given_up_by_root, is_damaged}

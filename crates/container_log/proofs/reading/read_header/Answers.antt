@@ -1,7 +1,7 @@
 use Rattle.std.proofs.Common.{◌≡◌, ◌∙◌, ap, sym, length, arith}
 use Rattle.std.proofs.lemmas.List.{take_at}
 use Rattle.base_model.specs.Bytes.{range}
-use Rattle.container_log.proofs.Disks.{weaker}
+use Rattle.dd_disk.proofs.Disks.{weaker}
 use Rattle.container_log.proofs.reading.read_header.Goals as goal
 
 pub returns-in-Ok-clause-shown : goal.returns-in-Ok-clause-shown

@@ -1,7 +1,7 @@
 use Rattle.std.proofs.Common.{IfErr, ◌∙◌, sym, subst}
 use Rattle.disk_format.specs.Layout.{slot_at}
 use Rattle.container_log.specs.Faults.{IsHeaderFault}
-use Rattle.container_log.proofs.Disks.{Saw, always, weaker}
+use Rattle.dd_disk.proofs.Disks.{Saw, always, weaker}
 use Rattle.container_log.proofs.Headers.{header_shown, fault_shown, only_shown, none_for_read}
 use Rattle.container_log.proofs.reading.read_meta.Goals as goal
 

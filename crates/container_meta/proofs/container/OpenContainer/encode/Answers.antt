@@ -2,11 +2,10 @@ use Rattle.std.proofs.Common.{◌≡◌, ℕ, ◌-◌, ◌*◌, List, ◌++◌, 
 use Rattle.container_meta.specs.declared.entry.Entry.{Entry}
 use Rattle.container_meta.specs.Segments.{Contents, StandFrom}
 use Rattle.container_meta.specs.Spelling.{IsHeader, header_of, container_spelling, entries_spelling, fields_spelling, front_spelling}
-use Rattle.container_meta.specs.Format.{zeros}
 use Rattle.container_meta.proofs.Packing.{length-segments_in}
 use Rattle.container_meta.proofs.Encoded.{container_written, header_allowed}
 use Rattle.container_meta.proofs.Stored.{stand_in_spelling, header-container_spelling}
-use Rattle.base_model.specs.Bytes.{range}
+use Rattle.base_model.specs.Bytes.{range, zeros}
 use Rattle.container_meta.proofs.container.OpenContainer.encode.Goals as goal
 
 pub returns-clause-image : goal.returns-clause-image

@@ -1,0 +1,97 @@
+//! An index in memory.
+ghost use Rattle.std.specs.Prelude.{◌≡◌, Some, refl, OnOk, OnErr};
+ghost use Rattle.std.specs.FinMap as finite;
+ghost use Rattle.segment_index.specs.Places.{PlaceMap, coded_places};
+
+use crate::fault::IndexFault;
+use crate::index::Index;
+use crate::place::{Key, Place};
+use dd_disk::Disk;
+use std::alloc::{AllocError, Global};
+use std::collections::BTreeMap;
+use std::marker::Model;
+
+/// An index in memory. It calls the disk for nothing.
+#[derive(Debug, Drop)]
+pub struct MapIndex {
+    entries: BTreeMap<Key, Place>,
+}
+
+impl Model for MapIndex {
+    ghost use Rattle.std.specs.FinMap as finite;
+    ghost use Rattle.segment_index.specs.Places.{PlaceMap, coded_places};
+
+    ghost Value = { PlaceMap };
+
+    ghost coded = { coded_places };
+
+    ghost view = { λ i. finite.from_entries i.entries.entries };
+}
+
+impl MapIndex {
+    /// No keys. The allocator is kept, so that `put` takes none.
+    pub fn new(alloc: Global) -> MapIndex
+        ensures { result ≡ finite.empty }
+    {
+        MapIndex {
+            entries: BTreeMap::new(alloc),
+        }
+    }
+
+    /// The place of a key.
+    pub fn find(&self, key: &Key) -> Option<Place>
+        ensures { result ≡ finite.get self.now key.now }
+    {
+        self.entries.get(key).copied()
+    }
+
+    /// Gives a key a place, instead of the one that it had. An error leaves the map as it was.
+    pub fn set(&mut self, key: &Key, place: Place) -> Result<(), AllocError>
+        ensures ok { OnOk result (self.new ≡ finite.insert self.old key.now place) }
+        ensures err { OnErr result (self.new ≡ self.old) }
+    {
+        self.entries.insert(*key, place)?;
+        Ok(())
+    }
+
+    /// Takes a key away, if it is there.
+    pub fn forget(&mut self, key: &Key)
+        ensures { self.new ≡ finite.remove self.old key.now }
+    {
+        self.entries.remove(key);
+    }
+}
+
+impl Index for MapIndex {
+    ghost use Rattle.segment_index.specs.Laws.{keeps_slots};
+
+    ghost places = { λ i _. Some i };
+
+    ghost serves = { λ _ _. Unit {0} };
+
+    ghost takes = { λ _ _ _. Unit {0} };
+
+    ghost kept = { λ _ size. size };
+
+    ghost breaks = { λ _ _ _ _. ⊥ };
+
+    ghost places_stay = { λ _ _ _ _. refl };
+
+    ghost keeps_slots = { λ _ slots _. keeps_slots slots };
+
+    ghost takes_all = { λ _ _ _ _ _. tt };
+
+    fn get<D: Disk>(&mut self, _disk: &mut D, key: &Key) -> Result<Option<Place>, IndexFault> {
+        Ok(self.find(key))
+    }
+
+    fn put<D: Disk>(&mut self, _disk: &mut D, key: &Key, place: Place) -> Result<(), IndexFault> {
+        self.set(key, place)?;
+        Ok(())
+    }
+
+    fn remove<D: Disk>(&mut self, _disk: &mut D, key: &Key) -> Result<(), IndexFault> {
+        self.forget(key);
+        Ok(())
+    }
+}

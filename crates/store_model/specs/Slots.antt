@@ -1,0 +1,74 @@
+-- What the container slots of a disk image hold (docs/MODEL.md, 'Containers').
+use Rattle.std.specs.Prelude.{◌≡◌, ◌≢◌, ℕ, ◌+◌, List, [], ◌∷◌, max, nat_lt, if◌then◌else◌, Option, Some, None, find, option_map}
+use Rattle.std.specs.Str.{bytes_eq}
+use Rattle.std.specs.FinMap as finite
+use Rattle.base_model.specs.Bytes.{key_of}
+use Rattle.container_meta.specs.declared.entry.Entry.{Entry}
+use Rattle.container_meta.specs.Format.{kind_byte}
+use Rattle.container_meta.specs.Spelling.{HeaderValue, IsHeader}
+use Rattle.container_log.specs.Slots.{HoldsSlot}
+use Rattle.segment_index.specs.declared.place.Place.{Place}
+use Rattle.segment_index.specs.Places.{PlaceMap}
+
+-- so many slots, from one on
+abbrev pub HoldSlots : ℕ → List (Option HeaderValue) → List ℕ → Type 0
+HoldSlots slot [] image = Unit {0}
+HoldSlots slot (c ∷ cs) image = HoldsSlot image slot c × HoldSlots (slot + 1) cs image
+
+-- the headers are such
+abbrev pub AreHeaders : List (Option HeaderValue) → Type 0
+AreHeaders [] = Unit {0}
+AreHeaders (None ∷ cs) = AreHeaders cs
+AreHeaders (Some h ∷ cs) = IsHeader h × AreHeaders cs
+
+-- no container has this id
+abbrev pub IsFresh : ℕ → List (Option HeaderValue) → Type 0
+IsFresh id [] = Unit {0}
+IsFresh id (None ∷ cs) = IsFresh id cs
+IsFresh id (Some h ∷ cs) = (h.id ≢ id) × IsFresh id cs
+
+abbrev pub DifferentIds : List (Option HeaderValue) → Type 0
+DifferentIds [] = Unit {0}
+DifferentIds (None ∷ cs) = DifferentIds cs
+DifferentIds (Some h ∷ cs) = IsFresh h.id cs × DifferentIds cs
+
+-- a copy of a segment: the id of its container, and where it lies
+pub record Copy : Type 0 where
+  pub id : ℕ
+  pub place : Place
+
+abbrev pub place_of : ℕ → Entry → Place
+place_of slot e = record { slot = slot; offset = e.offset; length = e.length; level = e.level }
+
+-- the copy of a key that a slot holds
+abbrev pub copy_in : ℕ → Option HeaderValue → List ℕ → Option Copy
+copy_in slot None key = None
+copy_in slot (Some h) key =
+    option_map (λ e. record { id = h.id; place = place_of slot e }) (find (λ e. bytes_eq (key_of (kind_byte h.kind) e.digest) key) h.entries)
+
+-- the one of the greater id; ids differ
+abbrev pub newer : Option Copy → Option Copy → Option Copy
+newer None b = b
+newer (Some a) None = Some a
+newer (Some a) (Some b) = if nat_lt a.id b.id then Some b else Some a
+
+-- the newest copy of a key in slots from one on: that in the container of the greatest id
+abbrev pub newest : ℕ → List (Option HeaderValue) → List ℕ → Option Copy
+newest slot [] key = None
+newest slot (c ∷ cs) key = newer (copy_in slot c key) (newest (slot + 1) cs key)
+
+-- the index gives each key its newest copy
+abbrev pub IsIndexOf : List (Option HeaderValue) → PlaceMap → Type 0
+IsIndexOf containers places = (key : List ℕ) → finite.get places key ≡ option_map (λ c. c.place) (newest 0 containers key)
+
+-- the greatest id, 0 where there is no container
+abbrev pub last_id : List (Option HeaderValue) → ℕ
+last_id [] = 0
+last_id (None ∷ cs) = last_id cs
+last_id (Some h ∷ cs) = max h.id (last_id cs)
+
+-- the id in each slot, 0 where it is closed; ids are from 1 on
+abbrev pub ids_of : List (Option HeaderValue) → List ℕ
+ids_of [] = []
+ids_of (None ∷ cs) = 0 ∷ ids_of cs
+ids_of (Some h ∷ cs) = h.id ∷ ids_of cs

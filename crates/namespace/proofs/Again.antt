@@ -9,12 +9,10 @@ use Rattle.std.specs.Cmp.Lexicographic.{slice_cmp, nat_list_cmp_total}
 use Rattle.std.specs.FinMap as finite
 use Rattle.std.specs.FinMap.Entries.{below_all}
 use Rattle.std.proofs.lemmas.Map.Lookups.{exact_bytes}
-use Rattle.std.proofs.lemmas.List.{length-map}
 use Rattle.std.proofs.lemmas.List.Elements.{All-head, All-tail}
-use Rattle.disk_format.specs.Cells.{IsName}
+use Rattle.disk_format.specs.Cells.{RecordValue, IsName}
 use Rattle.namespace.specs.declared.record.Named.{Named}
-use Rattle.namespace.specs.declared.record.Record.{Record}
-use Rattle.namespace.specs.Names.{NameMap, MOST_NAMES, AreNames, AreTaken, entry_of, named_by, names_with, names_after}
+use Rattle.namespace.specs.Names.{NameMap, MOST_NAMES, AreNames, AreTaken, put_of, names_after}
 
 first : (a b : Bool) → T (a && b) → T a
 first true b h = tt
@@ -53,40 +51,37 @@ none_below q k (e ∷ es) same h =
     let less : slice_cmp nat_cmp q e.0 ≡ Less = nat_list_cmp_total.congr q k e.0 same ∙ is_less _ (first _ _ h) in
     ap (λ o. cond (is_eq o) (Some e.1) (finite.find (slice_cmp nat_cmp) q es)) less ∙ none_below q k es same (second _ _ h)
 
-get_after : (puts : List Record) (names : NameMap) (q : List ℕ) → T (finite.is_sorted (slice_cmp nat_cmp) (map entry_of puts)) → finite.get (names_after puts names) q ≡ or_else (finite.find (slice_cmp nat_cmp) q (map entry_of puts)) (finite.get names q)
+get_after : (es : List (List ℕ × Named)) (names : NameMap) (q : List ℕ) → T (finite.is_sorted (slice_cmp nat_cmp) es) → finite.get (names_after (map put_of es) names) q ≡ or_else (finite.find (slice_cmp nat_cmp) q es) (finite.get names q)
 get_after [] names q h = refl
-get_after (put ∷ puts) names q h =
-    let name = put.name.items in
-    let found = finite.find (slice_cmp nat_cmp) q (map entry_of puts) in
-    get_after puts (names_with put names) q (second _ _ h)
-    ∙ ap (or_else found) (finite.get-insert nat_list_cmp_total names name (named_by put) q)
-    ∙ swapped (eq_by_cmp (slice_cmp nat_cmp) q name) found (finite.get names q) (named_by put) (λ t. none_below q name (map entry_of puts) (is_equal (slice_cmp nat_cmp q name) t) (first _ _ h))
+get_after (e ∷ es) names q h =
+    let found = finite.find (slice_cmp nat_cmp) q es in
+    get_after es (finite.insert names e.0 e.1) q (second _ _ h)
+    ∙ ap (or_else found) (finite.get-insert nat_list_cmp_total names e.0 e.1 q)
+    ∙ swapped (eq_by_cmp (slice_cmp nat_cmp) q e.0) found (finite.get names q) e.1 (λ t. none_below q e.0 es (is_equal (slice_cmp nat_cmp q e.0) t) (first _ _ h))
 
 -- what is listed replays to the names
-pub replays : (puts : List Record) (names : NameMap) → map entry_of puts ≡ finite.entries names → names_after puts finite.empty ≡ names
+pub replays : (puts : List RecordValue) (names : NameMap) → puts ≡ map put_of (finite.entries names) → names_after puts finite.empty ≡ names
 replays puts names e =
-    let sorted = subst (λ es. T (finite.is_sorted (slice_cmp nat_cmp) es)) (sym e) (finite.entries_sorted names) in
-    finite.same_map nat_list_cmp_total exact_bytes (names_after puts finite.empty) names (λ q.
-    get_after puts finite.empty q sorted
-    ∙ ap (or_else (finite.find (slice_cmp nat_cmp) q (map entry_of puts))) (finite.get-empty (slice_cmp nat_cmp) q)
-    ∙ or_none (finite.find (slice_cmp nat_cmp) q (map entry_of puts))
-    ∙ ap (finite.find (slice_cmp nat_cmp) q) e
+    let es = finite.entries names in
+    ap (λ rs. names_after rs finite.empty) e
+    ∙ finite.same_map nat_list_cmp_total exact_bytes (names_after (map put_of es) finite.empty) names (λ q.
+    get_after es finite.empty q (finite.entries_sorted names)
+    ∙ ap (or_else (finite.find (slice_cmp nat_cmp) q es)) (finite.get-empty (slice_cmp nat_cmp) q)
+    ∙ or_none (finite.find (slice_cmp nat_cmp) q es)
     ∙ sym (finite.get-entries names q))
 
 room_later : (b : Bool) (n m k : ℕ) → m ≡ cond b n (n + 1) → (n + (k + 1)) ≤ MOST_NAMES → (m + k) ≤ MOST_NAMES
 room_later true n m k e h = omega (arith, e, h)
 room_later false n m k e h = omega (arith, e, h)
 
-taken_each : (puts : List Record) (names : NameMap) → All IsName (map (λ e. e.0) (map entry_of puts)) → (finite.len names + length puts) ≤ MOST_NAMES → AreTaken names puts
+taken_each : (es : List (List ℕ × Named)) (names : NameMap) → All IsName (map (λ e. e.0) es) → (finite.len names + length es) ≤ MOST_NAMES → AreTaken names (map put_of es)
 taken_each [] names named room = tt
-taken_each (put ∷ puts) names named room =
-    let name = put.name.items in
-    let rest = map (λ e. e.0) (map entry_of puts) in
-    ((All-head IsName name rest named, inr (omega (arith, room))), taken_each puts (names_with put names) (All-tail IsName name rest named) (room_later (is_some (finite.get names name)) (finite.len names) _ (length puts) (finite.len-insert nat_list_cmp_total names name (named_by put)) (omega (arith, room))))
+taken_each (e ∷ es) names named room =
+    let rest = map (λ x. x.0) es in
+    ((All-head IsName e.0 rest named, inr (omega (arith, room))), taken_each es (finite.insert names e.0 e.1) (All-tail IsName e.0 rest named) (room_later (is_some (finite.get names e.0)) (finite.len names) _ (length es) (finite.len-insert nat_list_cmp_total names e.0 e.1) (omega (arith, room))))
 
 -- and no put of it is refused
-pub taken : (puts : List Record) (names : NameMap) → AreNames names → map entry_of puts ≡ finite.entries names → AreTaken finite.empty puts
+pub taken : (puts : List RecordValue) (names : NameMap) → AreNames names → puts ≡ map put_of (finite.entries names) → AreTaken finite.empty puts
 taken puts names h e =
-    let n : length puts ≡ length (finite.entries names) = sym (length-map puts entry_of) ∙ ap length e in
     let none : finite.len (finite.empty {R = slice_cmp nat_cmp}) ≡ 0 = finite.len-empty (slice_cmp nat_cmp) Named in
-    taken_each puts finite.empty (subst (λ es. All IsName (map (λ e. e.0) es)) (sym e) h.named) (omega (arith, none, n, h.few, finite.len-entries names))
+    subst (AreTaken finite.empty) (sym e) (taken_each (finite.entries names) finite.empty h.named (omega (arith, none, h.few, finite.len-entries names)))

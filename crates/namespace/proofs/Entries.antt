@@ -1,12 +1,13 @@
 -- A `BTreeMap` whose keys are byte vectors, seen as a finite map.
-use Rattle.std.proofs.Common.{◌≡◌, ℕ, suc, Bool, true, false, cond, ◌&&◌, List, [], ◌∷◌, length, Vec, Some, refl, sym, ap, subst, ◌∙◌}
-use Rattle.std.specs.Ordering.{nat_cmp, match_ordering, is_lt}
+use Rattle.std.proofs.Common.{◌≡◌, ℕ, suc, Bool, true, false, cond, ◌&&◌, None, List, [], ◌∷◌, length, Vec, Option, Some, is_some, IsSome, rules, refl, sym, ap, subst, ◌∙◌}
+use Rattle.std.specs.Ordering.{nat_cmp, match_ordering, is_lt, is_eq, eq_by_cmp}
+use Rattle.std.specs.Cmp.{eq_by_cmp_equiv}
 use Rattle.std.specs.declared.cmp.Ordering.{Ordering}
 use Rattle.std.specs.declared.cmp.Ordering.TheVariants.{Less, Equal, Greater}
 use Rattle.std.specs.Cmp.Lexicographic.{slice_cmp, nat_list_cmp_total}
 use Rattle.std.specs.List.{AllByRecursion}
 use Rattle.std.specs.List.Sorted.{IsStrictlySortedBy}
-use Rattle.std.specs.Map.{keys_of, lookup}
+use Rattle.std.specs.Map.{keys_of, lookup, KeepsOthers}
 use Rattle.std.specs.BTreeMap.{is_at, insert_entry}
 use Rattle.std.specs.FinMap as finite
 use Rattle.std.specs.FinMap.Entries.{put, by_order, below_all}
@@ -18,6 +19,19 @@ use Rattle.namespace.specs.Keys.{by_bytes}
 both : (a b : Bool) → T a → T b → T (a && b)
 both true b p q = q
 both false b p q = p
+
+pub is_equal : (o : Ordering) → is_eq o ≡ true → o ≡ Equal
+is_equal Less h = cc
+is_equal Equal h = refl
+is_equal Greater h = cc
+
+pub some_of : {X : Type 0} (o : Option X) → is_some o ≡ true → IsSome o
+some_of None e = cc
+some_of (Some x) e = search rules
+
+pub none_of : {X : Type 0} (o : Option X) → is_some o ≡ false → o ≡ None
+none_of None e = search rules
+none_of (Some x) e = cc
 
 abbrev pub vec_cmp : {A : Type 0} → Vec ℕ A → Vec ℕ A → Ordering
 vec_cmp x y = slice_cmp nat_cmp x.items y.items
@@ -68,3 +82,16 @@ module _ {X A : Type 0} where
   inserted_seen es fs k v h g e =
       finite.same_entries_map _ _
       (entries_seen fs g ∙ ap by_bytes e ∙ put_bytes es k v ∙ ap (put (slice_cmp nat_cmp) k.items v) (sym (entries_seen es h)) ∙ sym (finite.entries-insert nat_list_cmp_total (seen es) k.items v))
+
+  -- a removal, where another name finds the same before it and after it
+  pub removed_seen : (es fs : List (Vec ℕ A × X)) (k : List ℕ) → KeepsOthers (eq_by_cmp vec_cmp) (is_at (λ y. slice_cmp nat_cmp k y.items)) es fs → lookup (is_at (λ y. slice_cmp nat_cmp k y.items)) fs ≡ None → seen fs ≡ finite.remove (seen es) k
+  unfolding KeepsOthers
+  removed_seen es fs k others gone =
+      let laws = eq_by_cmp_equiv nat_list_cmp_total in
+      finite.same_map nat_list_cmp_total exact_bytes (seen fs) (finite.remove (seen es) k) (λ q.
+      get_seen fs q
+      ∙ elim (eq_by_cmp (slice_cmp nat_cmp) q k) as (λ b. eq_by_cmp (slice_cmp nat_cmp) q k ≡ b → lookup (is_at (λ y. slice_cmp nat_cmp q y.items)) fs ≡ cond b None (finite.get (seen es) q)) [
+        | true ↦ λ same. ap (λ n. lookup (is_at (λ y. slice_cmp nat_cmp n y.items)) fs) (exact_bytes q k (is_equal _ same)) ∙ gone
+        | false ↦ λ apart. others (is_at (λ y. slice_cmp nat_cmp q y.items)) (λ x y h. laws.congr q x.items y.items h) (λ x h. laws.symm q x.items ∙ sym (laws.congr k x.items q h) ∙ laws.symm k q ∙ apart) ∙ sym (get_seen es q)
+      ] refl
+      ∙ sym (finite.get-remove nat_list_cmp_total (seen es) k q))

@@ -1,17 +1,19 @@
--- What holds of the names of a store is kept by each put.
-use Rattle.std.proofs.Common.{◌≡◌, ℕ, ◌+◌, ◌<◌, ◌≤◌, ◌⊎◌, List, [], ◌∷◌, cond, Option, None, Some, is_some, IsSome, map, length, sym, ap, subst, ◌∙◌, inl, inr, arith, rules}
+-- What holds of the names of a store is kept by each record.
+use Rattle.std.proofs.Common.{◌≡◌, ℕ, ◌+◌, ◌-◌, ◌<◌, ◌≤◌, ◌⊎◌, Bool, true, false, List, [], ◌∷◌, cond, Option, None, Some, is_some, IsSome, map, length, refl, sym, ap, subst, ◌∙◌, inl, inr, arith, rules}
 use Rattle.std.specs.List.{All}
-use Rattle.std.specs.Ordering.{nat_cmp}
+use Rattle.std.specs.Ordering.{nat_cmp, eq_by_cmp, is_eq}
+use Rattle.std.specs.Cmp.{tied_itself}
 use Rattle.std.specs.declared.cmp.Ordering.{Ordering}
 use Rattle.std.specs.declared.cmp.Ordering.TheVariants.{Less, Equal, Greater}
 use Rattle.std.specs.Cmp.Lexicographic.{slice_cmp, nat_list_cmp_total}
 use Rattle.std.specs.FinMap as finite
 use Rattle.std.specs.FinMap.Entries.{put, by_order}
+use Rattle.std.proofs.lemmas.Map.Lookups.{exact_bytes}
 use Rattle.std.proofs.lemmas.List.Elements.{All-nil, All-cons, All-head, All-tail}
 use Rattle.disk_format.specs.Cells.{IsName}
 use Rattle.namespace.specs.declared.record.Named.{Named}
-use Rattle.namespace.specs.declared.record.Record.{Record}
-use Rattle.namespace.specs.Names.{NameMap, MOST_NAMES, AreNames, IsTaken, named_by, names_with}
+use Rattle.namespace.proofs.Entries.{is_equal}
+use Rattle.namespace.specs.Names.{NameMap, MOST_NAMES, AreNames, HasRoom}
 
 module _ {K X : Type 0} (R : K → K → Ordering) (P : K → Type 0) where
   keys_put : (k : K) (v : X) (es : List (K × X)) → P k → All P (map (λ e. e.0) es) → All P (map (λ e. e.0) (put R k v es))
@@ -37,11 +39,54 @@ no_names names e =
     let none : finite.len names ≡ 0 = ap finite.len e ∙ finite.len-empty (slice_cmp nat_cmp) Named in
     record { few = omega (arith, none); named = no_keys (finite.entries names) (sym (finite.len-entries names) ∙ none) }
 
-pub kept : (names : NameMap) (given : Record) → AreNames names → IsTaken names given → AreNames (names_with given names)
-kept names given h taken =
-    let name = given.name.items in
-    let named = named_by given in
+-- the names after a put that has room
+pub with_put : (names : NameMap) (name : List ℕ) (named : Named) → AreNames names → IsName name → HasRoom names name → AreNames (finite.insert names name named)
+with_put names name named h good room =
     record {
-      few = few_after (finite.get names name) (finite.len names) _ (finite.len-insert nat_list_cmp_total names name named) taken.1 h.few;
-      named = subst (λ es. All IsName (map (λ e. e.0) es)) (sym (finite.entries-insert nat_list_cmp_total names name named)) (keys_put (slice_cmp nat_cmp) IsName name named (finite.entries names) taken.0 h.named);
+      few = few_after (finite.get names name) (finite.len names) _ (finite.len-insert nat_list_cmp_total names name named) room h.few;
+      named = subst (λ es. All IsName (map (λ e. e.0) es)) (sym (finite.entries-insert nat_list_cmp_total names name named)) (keys_put (slice_cmp nat_cmp) IsName name named (finite.entries names) good h.named);
+    }
+
+no_more : (b : Bool) (n m : ℕ) → m ≡ cond b (n - 1) n → n ≤ MOST_NAMES → m ≤ MOST_NAMES
+no_more true n m e h = omega (arith, e, h)
+no_more false n m e h = omega (arith, e, h)
+
+earlier : (b : Bool) (o : Option Named) → is_some (cond b None o) ≡ true → is_some o ≡ true
+earlier true o h = cc
+earlier false o h = h
+
+later : (b : Bool) (x : Named) (o : Option Named) → is_some o ≡ true → is_some (cond b (Some x) o) ≡ true
+later true x o h = refl
+later false x o h = h
+
+-- what is found is among the keys
+found_name : (q : List ℕ) (es : List (List ℕ × Named)) → All IsName (map (λ e. e.0) es) → is_some (finite.find (slice_cmp nat_cmp) q es) ≡ true → IsName q
+found_name q [] h found = cc
+found_name q (e ∷ es) h found =
+    elim (eq_by_cmp (slice_cmp nat_cmp) q e.0) as (λ b. eq_by_cmp (slice_cmp nat_cmp) q e.0 ≡ b → is_some (cond b (Some e.1) (finite.find (slice_cmp nat_cmp) q es)) ≡ true → IsName q) [
+      | true ↦ λ same _. subst IsName (sym (exact_bytes q e.0 (is_equal _ same))) (All-head IsName e.0 (map (λ x. x.0) es) h)
+      | false ↦ λ _ rest. found_name q es (All-tail IsName e.0 (map (λ x. x.0) es) h) rest
+    ] refl found
+
+-- and each key is found
+all_found : (es : List (List ℕ × Named)) → ((q : List ℕ) → is_some (finite.find (slice_cmp nat_cmp) q es) ≡ true → IsName q) → All IsName (map (λ e. e.0) es)
+all_found [] each = All-nil IsName
+all_found (e ∷ es) each =
+    All-cons IsName e.0 (map (λ x. x.0) es)
+    (each e.0 (ap (λ o. is_some (cond (is_eq o) (Some e.1) (finite.find (slice_cmp nat_cmp) e.0 es))) (tied_itself nat_list_cmp_total e.0)))
+    (all_found es (λ q found. each q (later (eq_by_cmp (slice_cmp nat_cmp) q e.0) e.1 (finite.find (slice_cmp nat_cmp) q es) found)))
+
+keys_without : (names : NameMap) (name : List ℕ) → All IsName (finite.keys names) → All IsName (finite.keys (finite.remove names name))
+keys_without names name h =
+    all_found (finite.entries (finite.remove names name)) (λ q found.
+    found_name q (finite.entries names) h
+    (ap is_some (sym (finite.get-entries names q))
+    ∙ earlier (eq_by_cmp (slice_cmp nat_cmp) q name) (finite.get names q) (ap is_some (sym (finite.get-remove nat_list_cmp_total names name q) ∙ finite.get-entries (finite.remove names name) q) ∙ found)))
+
+-- the names without one of them
+pub without : (names : NameMap) (name : List ℕ) → AreNames names → AreNames (finite.remove names name)
+without names name h =
+    record {
+      few = no_more (is_some (finite.get names name)) (finite.len names) _ (finite.len-remove nat_list_cmp_total names name) h.few;
+      named = keys_without names name h.named;
     }

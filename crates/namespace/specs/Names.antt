@@ -4,14 +4,30 @@ use Rattle.std.specs.Coded.{Coded, code_by, coded×, coded_list, coded_ℕ}
 use Rattle.std.specs.Ordering.{nat_cmp}
 use Rattle.std.specs.Cmp.Lexicographic.{slice_cmp}
 use Rattle.std.specs.FinMap as finite
-use Rattle.disk_format.specs.Cells.{Root, IsName}
+use Rattle.disk_format.specs.Cells.{Root, Change, RecordValue, IsName}
+use Rattle.disk_format.specs.Cells.Change.{Put, Delete}
 use Rattle.namespace.specs.declared.fault.NameFault.{NameFault}
 use Rattle.namespace.specs.declared.fault.NameFault.TheVariants.{NoFile, BadName, TooMany, Memory}
+use Rattle.namespace.specs.declared.record.Change as declared
+use Rattle.namespace.specs.declared.record.Change.TheVariants as variants
 use Rattle.namespace.specs.declared.record.Named.{Named}
 use Rattle.namespace.specs.declared.record.Record.{Record}
 
 abbrev pub MOST_NAMES : ℕ
 MOST_NAMES = 512
+
+-- a record without where its name lies in memory
+abbrev pub change_value : declared.Change → Change
+change_value (variants.Put root) = Put root
+change_value variants.Delete = Delete
+
+abbrev pub record_value : Record → RecordValue
+record_value r = record { sequence = r.sequence; name = r.name.items; change = change_value r.change }
+
+-- a record that gives its name a root
+abbrev pub IsPut : declared.Change → Type 0
+IsPut (variants.Put root) = Unit {0}
+IsPut variants.Delete = ⊥
 
 -- from names, in the order of their bytes, to what each has
 abbrev pub NameMap : Type 0
@@ -29,13 +45,9 @@ pub record AreNames (names : NameMap) : Type 0 where
   pub few : finite.len names ≤ MOST_NAMES
   pub named : All IsName (finite.keys names)
 
--- what a put gives its name
-abbrev pub named_by : Record → Named
-named_by put = record { sequence = put.sequence; root = put.root }
-
--- the name of a put, with what it gives it
-abbrev pub entry_of : Record → List ℕ × Named
-entry_of put = (put.name.items, named_by put)
+-- the put that gives a name what it has
+abbrev pub put_of : List ℕ × Named → RecordValue
+put_of entry = record { sequence = entry.1.sequence; name = entry.0; change = Put entry.1.root }
 
 -- the name is there already, or there is room for one more
 abbrev pub HasRoom : NameMap → List ℕ → Type 0
@@ -45,34 +57,48 @@ HasRoom names name = IsSome (finite.get names name) ⊎ (finite.len names < MOST
 abbrev pub IsFull : NameMap → List ℕ → Type 0
 IsFull names name = (finite.get names name ≡ None) × (MOST_NAMES ≤ finite.len names)
 
--- the names after a put
-abbrev pub names_with : Record → NameMap → NameMap
-names_with put names = finite.insert names put.name.items (named_by put)
+-- the names after a change of one of them
+abbrev pub names_changed : ℕ → List ℕ → Change → NameMap → NameMap
+names_changed sequence name (Put root) names = finite.insert names name (record { sequence = sequence; root = root })
+names_changed sequence name Delete names = finite.remove names name
+
+-- the names after a record
+abbrev pub names_with : RecordValue → NameMap → NameMap
+names_with r names = names_changed r.sequence r.name r.change names
 
 -- the names after records, the first of them first
-abbrev pub names_after : List Record → NameMap → NameMap
+abbrev pub names_after : List RecordValue → NameMap → NameMap
 names_after [] names = names
-names_after (put ∷ puts) names = names_after puts (names_with put names)
+names_after (r ∷ rs) names = names_after rs (names_with r names)
 
--- why a put is refused: first its name, and then the room for it
-abbrev pub IsRefused : NameMap → Record → NameFault → Type 0
-IsRefused names put NoFile = ⊥
-IsRefused names put BadName = ¬ (IsName put.name.items)
-IsRefused names put TooMany = IsName put.name.items × IsFull names put.name.items
-IsRefused names put Memory = ⊥
+-- the names have room for a put, and a delete's name among them
+abbrev pub HasPlace : NameMap → List ℕ → Change → Type 0
+HasPlace names name (Put root) = HasRoom names name
+HasPlace names name Delete = IsSome (finite.get names name)
 
-abbrev pub IsTaken : NameMap → Record → Type 0
-IsTaken names put = IsName put.name.items × HasRoom names put.name.items
+abbrev pub IsTaken : NameMap → RecordValue → Type 0
+IsTaken names r = IsName r.name × HasPlace names r.name r.change
+
+-- why a change of a good name is refused
+abbrev pub HasNoPlace : NameMap → List ℕ → Change → NameFault → Type 0
+HasNoPlace names name (Put root) TooMany = IsFull names name
+HasNoPlace names name Delete NoFile = finite.get names name ≡ None
+HasNoPlace names name change fault = ⊥
+
+-- why a record is refused: first its name, and then the names that are there
+abbrev pub IsRefused : NameMap → RecordValue → NameFault → Type 0
+IsRefused names r BadName = ¬ (IsName r.name)
+IsRefused names r fault = IsName r.name × HasNoPlace names r.name r.change fault
 
 -- each record is taken by the names that those before it leave
-abbrev pub AreTaken : NameMap → List Record → Type 0
+abbrev pub AreTaken : NameMap → List RecordValue → Type 0
 AreTaken names [] = Unit {0}
-AreTaken names (put ∷ puts) = IsTaken names put × AreTaken (names_with put names) puts
+AreTaken names (r ∷ rs) = IsTaken names r × AreTaken (names_with r names) rs
 
 -- why the first record that is refused is refused
-abbrev pub AreRefused : NameMap → List Record → NameFault → Type 0
+abbrev pub AreRefused : NameMap → List RecordValue → NameFault → Type 0
 AreRefused names [] fault = ⊥
-AreRefused names (put ∷ puts) fault = IsRefused names put fault ⊎ (IsTaken names put × AreRefused (names_with put names) puts fault)
+AreRefused names (r ∷ rs) fault = IsRefused names r fault ⊎ (IsTaken names r × AreRefused (names_with r names) rs fault)
 
 -- what is answered to one who asks for a name's root
 abbrev pub IsAnswer : NameMap → List ℕ → Result Root NameFault → Type 0

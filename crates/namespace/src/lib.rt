@@ -11,7 +11,7 @@ mod record;
 
 pub use fault::NameFault;
 pub use names::Names;
-pub use record::{Named, Record, Root};
+pub use record::{Change, Named, Record, Root};
 
 #[cfg(test)]
 mod tests;

@@ -1,13 +1,13 @@
 //! The names of a store.
 
-ghost use Rattle.std.specs.Prelude.{◌≡◌, ◌⊎◌, IfOk, IfErr, OnOk, OnErr, IsTrue, not, map};
+ghost use Rattle.std.specs.Prelude.{◌≡◌, ◌⊎◌, IfOk, IfErr, OnOk, OnErr, IsTrue, IsSome, None, not, map};
 ghost use Rattle.std.specs.FinMap as finite;
 ghost use Rattle.disk_format.specs.Cells.{IsName};
-ghost use Rattle.namespace.specs.Names.{HasRoom, IsFull, IsTaken, IsRefused, AreTaken, AreRefused, IsAnswer, AreNames, entry_of, names_with, names_after};
+ghost use Rattle.namespace.specs.Names.{HasRoom, IsFull, IsTaken, IsRefused, AreTaken, AreRefused, IsAnswer, AreNames, IsPut, record_value, put_of, names_with, names_after};
 
 use crate::fault::NameFault;
 use crate::name::is_name;
-use crate::record::{Named, Record, Root};
+use crate::record::{Change, Named, Record, Root};
 use std::alloc::{AllocError, Global};
 use std::collections::BTreeMap;
 use std::marker::Model;
@@ -49,46 +49,89 @@ impl Names {
         }
     }
 
+    /// Whether a name is there.
+    fn has(&self, name: &[u8]) -> bool
+        ensures there { IsTrue result → IsSome (finite.get self.now name.now) }
+        ensures absent { IsTrue (not result) → finite.get self.now name.now ≡ None }
+    {
+        self.entries.contains_key(name)
+    }
+
     /// Whether a name has room: it is there already, or fewer than 512 are.
     fn has_room(&self, name: &[u8]) -> bool
         ensures room { IsTrue result → HasRoom self.now name.now }
         ensures full { IsTrue (not result) → IsFull self.now name.now }
     {
-        self.entries.contains_key(name) || self.entries.len() < MOST
+        self.has(name) || self.entries.len() < MOST
     }
 
-    /// Gives a name what a put says. An error leaves the names as they were.
-    fn set(&mut self, put: &Record) -> Result<(), AllocError>
-        requires { IsTaken self.old put.now }
-        ensures ok { OnOk result (self.new ≡ names_with put.now self.old) }
-        ensures err { OnErr result (self.new ≡ self.old) }
-        ensures names { OnOk result (AreNames self.new) }
+    /// Whether `apply` takes a record, but for want of memory.
+    pub fn check(&self, given: &Record) -> Result<(), NameFault>
+        ensures taken { OnOk result (IsTaken self.now (record_value given.now)) }
+        ensures cause { IfErr result (λ fault. IsRefused self.now (record_value given.now) fault) }
     {
-        let named = Named {
-            sequence: put.sequence,
-            root: put.root,
-        };
-        self.entries.insert(put.name.clone()?, named)?;
+        if !is_name(&given.name) {
+            return Err(NameFault::BadName);
+        }
+        match given.change {
+            Change::Put(_) => {
+                if !self.has_room(&given.name) {
+                    return Err(NameFault::TooMany);
+                }
+            }
+            Change::Delete => {
+                if !self.has(&given.name) {
+                    return Err(NameFault::NoFile);
+                }
+            }
+        }
         Ok(())
     }
 
-    /// Applies a put. An error leaves the names as they were.
-    pub fn apply(&mut self, put: &Record) -> Result<(), NameFault>
-        ensures ok { OnOk result (self.new ≡ names_with put.now self.old) }
+    /// Gives a name what a put says. An error leaves the names as they were.
+    fn set(&mut self, name: &Vec<u8>, named: Named) -> Result<(), AllocError>
+        requires named { IsName name.now.items }
+        requires room { HasRoom self.old name.now.items }
+        ensures ok { OnOk result (self.new ≡ finite.insert self.old name.now.items named) }
         ensures err { OnErr result (self.new ≡ self.old) }
-        ensures taken { OnOk result (IsTaken self.old put.now) }
-        ensures cause { IfErr result (λ fault. (fault ≡ NameFault.Memory) ⊎ IsRefused self.old put.now fault) }
-        ensures bad_name { ¬ (IsName put.now.name.items) → result ≡ Err NameFault.BadName }
-        ensures too_many { IsName put.now.name.items → IsFull self.old put.now.name.items → result ≡ Err NameFault.TooMany }
         ensures names { OnOk result (AreNames self.new) }
     {
-        if !is_name(&put.name) {
-            return Err(NameFault::BadName);
+        self.entries.insert(name.clone()?, named)?;
+        Ok(())
+    }
+
+    /// Takes a name away.
+    fn remove(&mut self, name: &[u8])
+        ensures removed { self.new ≡ finite.remove self.old name.now }
+        ensures names { AreNames self.new }
+    {
+        self.entries.remove(name);
+    }
+
+    /// Applies a record. An error leaves the names as they were. A delete takes no memory.
+    pub fn apply(&mut self, given: &Record) -> Result<(), NameFault>
+        ensures ok { OnOk result (self.new ≡ names_with (record_value given.now) self.old) }
+        ensures err { OnErr result (self.new ≡ self.old) }
+        ensures taken { OnOk result (IsTaken self.old (record_value given.now)) }
+        ensures cause { IfErr result (λ fault. (fault ≡ NameFault.Memory) ⊎ IsRefused self.old (record_value given.now) fault) }
+        ensures taken_cause { IsTaken self.old (record_value given.now) → IfErr result (λ fault. fault ≡ NameFault.Memory) }
+        ensures delete_cause { given.now.change ≡ Change.Delete → IfErr result (λ fault. IsRefused self.old (record_value given.now) fault) }
+        ensures bad_name { ¬ (IsName given.now.name.items) → result ≡ Err NameFault.BadName }
+        ensures too_many { IsName given.now.name.items → IsPut given.now.change → IsFull self.old given.now.name.items → result ≡ Err NameFault.TooMany }
+        ensures no_file { IsName given.now.name.items → given.now.change ≡ Change.Delete → finite.get self.old given.now.name.items ≡ None → result ≡ Err NameFault.NoFile }
+        ensures names { OnOk result (AreNames self.new) }
+    {
+        self.check(given)?;
+        match given.change {
+            Change::Put(root) => {
+                let named = Named {
+                    sequence: given.sequence,
+                    root,
+                };
+                self.set(&given.name, named)?;
+            }
+            Change::Delete => self.remove(&given.name),
         }
-        if !self.has_room(&put.name) {
-            return Err(NameFault::TooMany);
-        }
-        self.set(put)?;
         Ok(())
     }
 
@@ -107,9 +150,9 @@ impl Names {
 
     /// The puts that give the names what they have, in the order of the names' bytes.
     pub fn list(&self, alloc: Global) -> Result<Vec<Record>, AllocError>
-        ensures listed { IfOk result (λ puts. map entry_of puts.items ≡ finite.entries self.now) }
-        ensures replays { IfOk result (λ puts. names_after puts.items finite.empty ≡ self.now) }
-        ensures taken { IfOk result (λ puts. AreTaken finite.empty puts.items) }
+        ensures listed { IfOk result (λ puts. map record_value puts.items ≡ map put_of (finite.entries self.now)) }
+        ensures replays { IfOk result (λ puts. names_after (map record_value puts.items) finite.empty ≡ self.now) }
+        ensures taken { IfOk result (λ puts. AreTaken finite.empty (map record_value puts.items)) }
         ensures names { AreNames self.now }
     {
         let mut records = Vec::with_capacity(alloc, self.entries.len())?;
@@ -117,7 +160,7 @@ impl Names {
             records.push(Record {
                 sequence: named.sequence,
                 name: name.clone()?,
-                root: named.root,
+                change: Change::Put(named.root),
             })?;
         }
         Ok(records)
@@ -125,14 +168,14 @@ impl Names {
 
     /// The names after records, the first of them first. The first that is refused refuses all.
     pub fn replay(alloc: Global, records: &[Record]) -> Result<Names, NameFault>
-        ensures ok { IfOk result (λ names. names ≡ names_after records.now finite.empty) }
+        ensures ok { IfOk result (λ names. names ≡ names_after (map record_value records.now) finite.empty) }
         ensures names { IfOk result (λ names. AreNames names) }
-        ensures taken { OnOk result (AreTaken finite.empty records.now) }
-        ensures cause { IfErr result (λ fault. (fault ≡ NameFault.Memory) ⊎ AreRefused finite.empty records.now fault) }
+        ensures taken { OnOk result (AreTaken finite.empty (map record_value records.now)) }
+        ensures cause { IfErr result (λ fault. (fault ≡ NameFault.Memory) ⊎ AreRefused finite.empty (map record_value records.now) fault) }
     {
         let mut names = Names::new(alloc);
-        for put in records {
-            names.apply(put)?;
+        for record in records {
+            names.apply(record)?;
         }
         Ok(names)
     }

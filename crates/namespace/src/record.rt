@@ -32,13 +32,22 @@ pub struct Named {
     pub root: Root,
 }
 
-/// A put: the name has this root from the sequence number on.
+/// What a record says of its name.
+#[derive(Clone, Copy, Debug, PartialEq, Eq)]
+pub enum Change {
+    /// The name has this root.
+    Put(Root),
+    /// The name is gone.
+    Delete,
+}
+
+/// From the sequence number on this holds of the name.
 #[derive(Debug, PartialEq, Eq, Drop)]
 pub struct Record {
-    /// The place of the put among all changes.
+    /// The place of the record among all changes.
     pub sequence: u64,
     /// The name's bytes.
     pub name: Vec<u8>,
-    /// The root of the file.
-    pub root: Root,
+    /// What is said of the name.
+    pub change: Change,
 }

@@ -2,7 +2,7 @@ use Rattle.std.proofs.Common.{◌≡◌, map, ap, sym, subst, ◌∙◌, rules}
 use Rattle.std.specs.FinMap as finite
 use Rattle.std.proofs.lemmas.List.Elements.{same_from_all_zip}
 use Rattle.namespace.specs.Keys.{by_bytes}
-use Rattle.namespace.specs.Names.{AreNames, entry_of}
+use Rattle.namespace.specs.Names.{AreNames, record_value, put_of}
 use Rattle.namespace.proofs.Again.{replays, taken}
 use Rattle.namespace.proofs.Entries.{entries_seen}
 use Rattle.namespace.proofs.Listed.{none_listed, one_listed}
@@ -16,14 +16,14 @@ loop-name-init c =
 pub loop-name-preserved : goal.loop-name-preserved
 loop-name-preserved c =
     let name = same_from_all_zip _ c.in-Some.name.now.items c.in_ok-clone.field-0.items c.in_ok-clone.ensures.cases.0 (λ _ _ e. e) in
-    one_listed c.loop-name.records.items c.push.new.self.items _ (c.in-Some.name.now, c.in-Some.named.now) c.loop-name.name-iterator c.next.new.self (finite.entries c.args.self.now) c.in_ok-push.ensures.items c.in-Some.ensures.steps (ap (λ bytes. (bytes, c.in-Some.named.now)) name) c.loop-name.invariant
+    one_listed c.loop-name.records.items c.push.new.self.items _ (c.in-Some.name.now, c.in-Some.named.now) c.loop-name.name-iterator c.next.new.self (map put_of (finite.entries c.args.self.now)) c.in_ok-push.ensures.items c.in-Some.ensures.steps (ap (λ bytes. put_of (bytes, c.in-Some.named.now)) name) c.loop-name.invariant
 
 pub returns-clause-replays : goal.returns-clause-replays
 returns-clause-replays c =
-    let listed : map entry_of c.loop-name.records.items ≡ finite.entries c.args.self.now = search rules in
-    replays c.loop-name.records.items c.args.self.now listed
+    let listed : map record_value c.loop-name.records.items ≡ map put_of (finite.entries c.args.self.now) = search rules in
+    replays (map record_value c.loop-name.records.items) c.args.self.now listed
 
 pub returns-clause-taken : goal.returns-clause-taken
 returns-clause-taken c =
-    let listed : map entry_of c.loop-name.records.items ≡ finite.entries c.args.self.now = search rules in
-    taken c.loop-name.records.items c.args.self.now (subst AreNames c.self.view_is c.self.invariant) listed
+    let listed : map record_value c.loop-name.records.items ≡ map put_of (finite.entries c.args.self.now) = search rules in
+    taken (map record_value c.loop-name.records.items) c.args.self.now (subst AreNames c.self.view_is c.self.invariant) listed

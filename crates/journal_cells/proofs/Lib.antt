@@ -1,0 +1,14 @@
+pub mod Again
+pub mod Appended
+pub mod Chosen
+pub mod Damage
+pub mod Formats
+pub mod Found
+pub mod Names
+pub mod Outcomes
+pub mod Parts
+pub mod Replays
+pub mod Scanned
+pub mod Selectors
+pub mod Zeros
+pub mod Whole

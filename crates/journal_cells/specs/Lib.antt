@@ -1,0 +1,6 @@
+pub mod Checks
+pub mod Faults
+pub mod Heads
+pub mod Journal
+pub mod Records
+pub mod Scanning

@@ -1,0 +1,143 @@
+//! The journal, read from a disk.
+ghost use Rattle.std.specs.Prelude.{◌≡◌, ◌<◌, ◌≤◌, List, option_map, IfOk, IfErr, OnOk, Err};
+ghost use Rattle.base_model.specs.Fault.{Rose};
+ghost use Rattle.base_model.specs.Shown.{Shown, OnlyReads};
+ghost use Rattle.disk_format.specs.Cells.{RecordValue, SelectorValue, IsSelector};
+ghost use Rattle.disk_format.specs.Layout.{least_size, half_cells};
+ghost use Rattle.namespace.specs.Names.{IsTaken, record_value};
+ghost use Rattle.journal_cells.specs.Faults.{Differs, Gives, IsCellFault};
+ghost use Rattle.journal_cells.specs.Records.{nothing_yet, behind_record, replayed};
+ghost use Rattle.journal_cells.specs.Journal.{HoldsRecords, HoldsJournal, IsScanned, IsTold, journal_in};
+ghost use Rattle.journal_cells.specs.Scanning.{replay, opened, IsNext, IsNextFault, IsWhole};
+
+use crate::device::read_at;
+use crate::fault::CellFault;
+use crate::heads::Selector;
+use crate::journal::{Journal, cell_place};
+use crate::opening::read_selectors;
+use crate::record::record_in;
+use crate::spelling::RECORD_GATE;
+use dd_disk::Disk;
+use namespace::{Names, Record};
+use std::alloc::Global;
+
+/// The records that a half has room for.
+const HALF_CELLS: u32 = 1_024;
+
+/// What the records that were read leave.
+#[derive(Debug, Drop)]
+struct Replayed {
+    count: u32,
+    /// The sequence number of the last of them, 0 where there is none.
+    previous: u64,
+    names: Names,
+}
+
+impl Replayed {
+    fn new(alloc: Global) -> Replayed
+        ensures { replay result ≡ nothing_yet }
+    {
+        Replayed {
+            count: 0,
+            previous: 0,
+            names: Names::new(alloc),
+        }
+    }
+
+    // Takes one more record, which the names have to take.
+    fn add(&mut self, value: &Record) -> Result<(), CellFault>
+        requires room { self.old.count < half_cells }
+        requires taken { IsTaken self.old.names (record_value value.now) }
+        ensures ok { OnOk result (replay self.new ≡ behind_record (replay self.old) (record_value value.now)) }
+        ensures fault { IfErr result (λ fault. fault ≡ CellFault.Memory) }
+    {
+        match self.names.apply(value) {
+            Ok(()) => {
+                self.count += 1;
+                self.previous = value.sequence;
+                Ok(())
+            }
+            Err(_) => Err(CellFault::Memory),
+        }
+    }
+}
+
+// The record behind those that were read, where the next cell is open.
+fn read_next<D: Disk>(
+    alloc: Global,
+    disk: &mut D,
+    half: u8,
+    before: &Replayed,
+) -> Result<Option<Record>, CellFault>
+    requires half { half ≤ 1 }
+    requires room { before.now.count < half_cells }
+    requires size { least_size ≤ D.size disk.old }
+    ensures next { IfOk result (λ next. IsNext (Shown D.gave D.content D.size disk.old disk.new) half (replay before.now) (option_map record_value next)) }
+    ensures reads { OnlyReads D.content D.size D.faults D.same disk.old disk.new }
+    ensures fault { IfErr result (IsCellFault (λ fault. IsNextFault (Shown D.gave D.content D.size disk.old disk.new) half (replay before.now) fault × Differs fault)
+        (Rose (D.faults disk.old) (D.faults disk.new))) }
+{
+    let mut cell = [0u8; 512];
+    let at = cell_place(half, before.count);
+    read_at(disk, at, &mut cell)?;
+    if cell[0] != RECORD_GATE {
+        return Ok(None);
+    }
+    let next = record_in(alloc, at, before.previous, &before.names, &cell)?;
+    Ok(Some(next))
+}
+
+// What the records of a half leave.
+fn read_half<D: Disk>(alloc: Global, disk: &mut D, half: u8) -> Result<Replayed, CellFault>
+    requires half { half ≤ 1 }
+    requires size { least_size ≤ D.size disk.old }
+    ensures whole { IfOk result (λ read. IsWhole (Shown D.gave D.content D.size disk.old disk.new) half (replay read)) }
+    ensures reads { OnlyReads D.content D.size D.faults D.same disk.old disk.new }
+    ensures fault { IfErr result (IsCellFault (λ fault. Shown D.gave D.content D.size disk.old disk.new (λ image. replayed half half_cells nothing_yet image ≡ Err fault) × Differs fault)
+        (Rose (D.faults disk.old) (D.faults disk.new))) }
+{
+    let mut before = Replayed::new(alloc);
+    for _ in 0..HALF_CELLS {
+        match read_next(alloc, disk, half, &before)? {
+            Some(next) => before.add(&next)?,
+            None => return Ok(before),
+        }
+    }
+    Ok(before)
+}
+
+// The journal of a selector and of what the records of its half leave.
+fn journal_of(selector: &Selector, left: &Replayed) -> Journal
+    requires right { IsSelector selector.now }
+    requires few { left.now.count ≤ half_cells }
+    ensures { result ≡ opened selector.now (replay left.now) }
+{
+    Journal {
+        half: selector.half,
+        generation: selector.generation,
+        count: left.count,
+        previous: left.previous,
+        last: selector.last.max(left.previous),
+    }
+}
+
+/// Reads the journal: which half counts, the names that its records leave, and the last sequence number.
+///
+/// It reads the selectors, and then the cells of the half that counts, up to the first closed gate. `Damaged` and
+/// `Version` come by the first check that fails, in the order of docs/FORMAT.md, 'Cells', the earlier cell first.
+pub fn scan<D: Disk>(alloc: Global, disk: &mut D) -> Result<(Journal, Names, u64), CellFault>
+    requires { least_size ≤ D.size disk.old }
+    ensures found { IfOk result (λ read. IsScanned (Shown D.gave D.content D.size disk.old disk.new) read.0 read.1 read.2) }
+    // A journal that stands there is read, unless memory or the disk fails.
+    ensures only { Shown D.gave D.content D.size disk.old disk.new (λ image. (s : SelectorValue) (records : List RecordValue) → HoldsJournal image s records
+        → Gives (λ read. IsTold s records read.0 read.1 read.2) result) }
+    ensures reads { OnlyReads D.content D.size D.faults D.same disk.old disk.new }
+    ensures fault { IfErr result (IsCellFault (λ fault. Shown D.gave D.content D.size disk.old disk.new (λ image. journal_in image ≡ Err fault) × Differs fault)
+        (Rose (D.faults disk.old) (D.faults disk.new))) }
+{
+    let selector = read_selectors(disk)?;
+    let left = read_half(alloc, disk, selector.half)?;
+    let journal = journal_of(&selector, &left);
+    let last = journal.last();
+    Ok((journal, left.names, last))
+}

@@ -1,0 +1,6 @@
+//! What the steps of a store may be refused by.
+#![tactic(auto)]
+
+mod refusal;
+
+pub use refusal::{Refusal, Why};

@@ -1,0 +1,6 @@
+mod Closed
+mod Entered
+mod JournalFaults
+mod Newest
+mod Reading
+mod Steps

@@ -1,0 +1,8 @@
+use Rattle.dd_disk.proofs.Disks.{always}
+use Rattle.recovery.proofs.slots.read_one.Goals as goal
+
+pub returns-in-Err-Memory-clause-only : goal.returns-in-Err-Memory-clause-only
+returns-in-Err-Memory-clause-only g c = always g.D.Disk _ _ _ (λ image sized held holds. tt)
+
+pub returns-in-Err-DiskRead-clause-only : goal.returns-in-Err-DiskRead-clause-only
+returns-in-Err-DiskRead-clause-only g c = always g.D.Disk _ _ _ (λ image sized held holds. tt)

@@ -1,0 +1,10 @@
+//! Opening a store: what is on its disk, in the order in which it is looked at.
+//!
+//! The rules are docs/MODEL.md, 'Opening'.
+#![tactic(auto)]
+
+mod opening;
+mod slots;
+
+pub use opening::{Opened, open};
+pub use slots::Containers;

@@ -1,5 +1,5 @@
 -- How what reads show is put together.
-use Rattle.std.proofs.Common.{◌≡◌, ℕ, List, [], ◌∷◌, ◌++◌, length, Option, Some, sym, ◌∙◌, ap, ◌≤◌, refl, arith}
+use Rattle.std.proofs.Common.{◌≡◌, ◌⊎◌, inl, inr, ℕ, List, [], ◌∷◌, ◌++◌, length, Option, Some, sym, ◌∙◌, ap, ◌≤◌, refl, arith}
 use Rattle.std.specs.List.{AllByRecursion}
 use Rattle.base_model.specs.Bytes.{range}
 use Rattle.base_model.specs.Fault.{Rose}
@@ -70,8 +70,8 @@ module _ {D : Type 0} (gave : D → D → ℕ → List ℕ → Type 0) (content 
 
   module _ (gave_before : (d e f : D) (at : ℕ) (bytes : List ℕ) → same d e → gave e f at bytes → gave d f at bytes) where
     -- what is shown after calls that only read
-    pub shown_after : (faults : D → ℕ) (old mid new : D) (Q : List ℕ → Type 0) → OnlyReads content size faults same old mid → Shown gave content size mid new Q → Shown gave content size old new Q
-    shown_after faults old mid new Q quiet shown = record {
+    pub shown_after : (images : D → List ℕ → Type 0) (clock : D → ℕ) (images_since : D → ℕ → List ℕ → Type 0) (faults : D → ℕ) (old mid new : D) (Q : List ℕ → Type 0) → OnlyReads content images clock images_since size faults same old mid → Shown gave content size mid new Q → Shown gave content size old new Q
+    shown_after images clock images_since faults old mid new Q quiet shown = record {
       parts = shown.parts;
       given = map_all (λ part. gave mid new part.at part.bytes) (λ part. gave old new part.at part.bytes) shown.parts (λ part given. gave_before old mid new part.at part.bytes quiet.same_disk given) shown.given;
       told = λ image is. shown.told image (quiet.content_is ∙ is);
@@ -80,21 +80,41 @@ module _ {D : Type 0} (gave : D → D → ℕ → List ℕ → Type 0) (content 
 
   module _ (gave_after : (d e f : D) (at : ℕ) (bytes : List ℕ) → gave d e at bytes → same e f → gave d f at bytes) (gave_before : (d e f : D) (at : ℕ) (bytes : List ℕ) → same d e → gave e f at bytes → gave d f at bytes) where
     -- what was shown before and what is shown now
-    pub shown_both : (faults : D → ℕ) (old mid new : D) (P Q : List ℕ → Type 0) → Shown gave content size old mid P → OnlyReads content size faults same old mid → Shown gave content size mid new Q → same mid new
+    pub shown_both : (images : D → List ℕ → Type 0) (clock : D → ℕ) (images_since : D → ℕ → List ℕ → Type 0) (faults : D → ℕ) (old mid new : D) (P Q : List ℕ → Type 0) → Shown gave content size old mid P → OnlyReads content images clock images_since size faults same old mid → Shown gave content size mid new Q → same mid new
         → Shown gave content size old new (λ image. P image × Q image)
-    shown_both faults old mid new P Q first quiet second later =
-        shown_also old new P Q (shown_later gave_after old mid new P first later) (shown_after gave_before faults old mid new Q quiet second)
+    shown_both images clock images_since faults old mid new P Q first quiet second later =
+        shown_also old new P Q (shown_later gave_after old mid new P first later) (shown_after gave_before images clock images_since faults old mid new Q quiet second)
 
-module _ {D : Type 0} (content : D → Option (List ℕ)) (size faults : D → ℕ) (same : D → D → Type 0) where
+-- an image since some moment, from one call to the next
+since_on : {A B C E : Type 0} → (A → B ⊎ C) → (B → E ⊎ C) → A → E ⊎ C
+since_on first second image = elim (first image) [ inl earlier ↦ second earlier | inr here ↦ inr here ]
+
+since_mapped : {A B C : Type 0} → (B → C) → A ⊎ B → A ⊎ C
+since_mapped each (inl earlier) = inl earlier
+since_mapped each (inr here) = inr (each here)
+
+module _ {D : Type 0} (content : D → Option (List ℕ)) (images : D → List ℕ → Type 0) (clock : D → ℕ) (images_since : D → ℕ → List ℕ → Type 0) (size faults : D → ℕ) (same : D → D → Type 0) where
   -- nothing was called yet
-  pub reads_none : ((d : D) → same d d) → (d : D) → OnlyReads content size faults same d d
-  reads_none same_here d = record { content_is = refl; size_is = refl; later = omega arith; same_disk = same_here d }
+  pub reads_none : ((d : D) → same d d) → (d : D) → OnlyReads content images clock images_since size faults same d d
+  reads_none same_here d = record {
+    content_is = refl;
+    images_are = λ c image. image;
+    clock_is = omega arith;
+    since_is = λ t c before image. inl image;
+    size_is = refl;
+    later = omega arith;
+    same_disk = same_here d;
+  }
 
   module _ (same_on : (d e f : D) → same d e → same e f → same d f) where
     -- one call after another
-    pub reads_on : (d e f : D) → OnlyReads content size faults same d e → OnlyReads content size faults same e f → OnlyReads content size faults same d f
+    pub reads_on : (d e f : D) → OnlyReads content images clock images_since size faults same d e → OnlyReads content images clock images_since size faults same e f → OnlyReads content images clock images_since size faults same d f
     reads_on d e f first second = record {
       content_is = second.content_is ∙ first.content_is;
+      images_are = λ c image. first.images_are c (second.images_are c image);
+      clock_is = omega (arith, first.clock_is, second.clock_is);
+      since_is = λ t c before image.
+          since_on (λ (i : images_since f t c). since_mapped (first.images_are c) (second.since_is t c (omega (arith, before, first.clock_is)) i)) (first.since_is t c before) image;
       size_is = second.size_is ∙ first.size_is;
       later = omega (arith, first.later, second.later);
       same_disk = same_on d e f first.same_disk second.same_disk;
@@ -107,7 +127,7 @@ module _ {D : Type 0} (content : D → Option (List ℕ)) (size faults : D → �
       same_disk = same_on d e f first.same_disk second.same_disk;
     }
 
-  pub later_of_reads : (d e : D) → OnlyReads content size faults same d e → IsLater size faults same d e
+  pub later_of_reads : (d e : D) → OnlyReads content images clock images_since size faults same d e → IsLater size faults same d e
   later_of_reads d e reads = record { size_is = reads.size_is; later = reads.later; same_disk = reads.same_disk }
 
 -- a count that rose since a later moment rose since an earlier one

@@ -30,3 +30,16 @@ pub record Elapses (before now : ℕ) (past since : ℕ → List ℕ → Type 0)
   pub later : before ≤ now
   pub nothing_else : (t : ℕ) (c : List ℕ) → t ≤ before → since t c → past t c ⊎ images c
   pub keeps : (t : ℕ) (c : List ℕ) → t ≤ before → past t c → since t c
+
+-- Calls that go one step at most: what a crash may leave at their end, and what it might have left at a moment between,
+-- is an image from before them, but for a step.
+pub record StepsBy {D : Type 0} (images : D → List ℕ → Type 0) (clock : D → ℕ) (images_since : D → ℕ → List ℕ → Type 0) (step : List ℕ → List ℕ → Type 0) (old new : D) : Type 0 where
+  pub later : clock old ≤ clock new
+  pub now : Follows step (images old) (images new)
+  pub since : (t : ℕ) (c : List ℕ) → t ≤ clock old → images_since new t c → images_since old t c ⊎ ((d : List ℕ) × images old d × step d c)
+
+-- Calls at whose end a crash leaves only images that have P, and at a moment between such, or ones from before the calls.
+pub record LeavesOnly {D : Type 0} (images : D → List ℕ → Type 0) (clock : D → ℕ) (images_since : D → ℕ → List ℕ → Type 0) (P : List ℕ → Type 0) (old new : D) : Type 0 where
+  pub later : clock old ≤ clock new
+  pub now : (c : List ℕ) → images new c → P c
+  pub since : (t : ℕ) (c : List ℕ) → t ≤ clock old → images_since new t c → images_since old t c ⊎ P c

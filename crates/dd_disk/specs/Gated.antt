@@ -3,7 +3,12 @@ use Rattle.std.specs.Prelude.{◌≡◌, ◌⊎◌, ℕ, ◌+◌, ◌-◌, List,
 use Rattle.base_model.specs.Bytes.{written}
 use Rattle.dd_disk.specs.Disk.{Torn}
 
--- the bytes behind the gate are torn, or they are whole and some gate stands before them
+-- From an image old, of a disk that gives these bytes: the bytes behind the gate are torn; or all of them stand, on what
+-- the disk gave, with some gate before them.
+abbrev pub TornFrom : ℕ → List ℕ → List ℕ → List ℕ → List ℕ → Type 0
+TornFrom at cell bytes old new =
+    Torn (at + 1) (length cell - 1) old new ⊎ ((gate : ℕ) × (new ≡ written at (gate ∷ drop 1 cell) bytes))
+
+-- from what the disk gave
 abbrev pub CellTorn : ℕ → List ℕ → List ℕ → List ℕ → Type 0
-CellTorn at cell old new =
-    Torn (at + 1) (length cell - 1) old new ⊎ ((gate : ℕ) × (new ≡ written at (gate ∷ drop 1 cell) old))
+CellTorn at cell old new = TornFrom at cell old old new

@@ -1,5 +1,5 @@
 // A disk in memory that tells nothing of its content, and may lie.
-ghost use Rattle.std.specs.Prelude.{◌≡◌, ◌+◌, ◌≤◌, [], ◌∷◌, ℕ, length, None, IsOk};
+ghost use Rattle.std.specs.Prelude.{◌≡◌, ◌+◌, ◌-◌, ◌^◌, ◌≤◌, [], ◌∷◌, ℕ, min, length, None, IsOk};
 ghost use Rattle.base_model.specs.Bytes.{range, written};
 ghost use Rattle.dd_disk.specs.Disk.{Torn, Follows};
 ghost use Rattle.dd_disk.specs.Lies.{TellsLies};
@@ -12,6 +12,7 @@ use crate::{Disk, DiskFault};
 pub struct BlindDisk {
     bytes: Vec<u8>,
     lies: Vec<(u64, u8)>,
+    moment: u64,
 }
 
 impl BlindDisk {
@@ -23,7 +24,11 @@ impl BlindDisk {
         ensures held { held result ≡ bytes.items }
         ensures lies { lies_of result ≡ lies.items }
     {
-        BlindDisk { bytes, lies }
+        BlindDisk {
+            bytes,
+            lies,
+            moment: 0,
+        }
     }
 
     pub fn bytes(&self) -> &[u8]
@@ -52,7 +57,7 @@ fn tell_lie(lie: (u64, u8), at: u64, into: &mut [u8])
 }
 
 impl Disk for BlindDisk {
-    ghost use Rattle.dd_disk.specs.Blind.{held, lies_of};
+    ghost use Rattle.dd_disk.specs.Blind.{held, lies_of, moment_of};
     ghost use Rattle.dd_disk.specs.Untold.{no_content};
 
     ghost size = { λ d. length d.bytes.items };
@@ -61,7 +66,7 @@ impl Disk for BlindDisk {
 
     ghost images = { λ d c. length c ≡ length d.bytes.items };
 
-    ghost clock = { λ _. 0 };
+    ghost clock = { moment_of };
 
     ghost images_since = { λ d _ c. length c ≡ length d.bytes.items };
 
@@ -108,19 +113,26 @@ impl Disk for BlindDisk {
         requires { at + length from.now ≤ length (held self.old) }
         ensures held { held self.new ≡ written at from.now (held self.old) }
         ensures lies { lies_of self.new ≡ lies_of self.old }
+        ensures moment { moment_of self.new ≡ min (moment_of self.old + 1) (2 ^ 64 - 1) }
+        ensures later { moment_of self.old ≤ moment_of self.new }
         ensures done { IsOk result }
         ensures size { length (held self.new) ≡ length (held self.old) }
         ensures images { Follows (Torn at (length from.now))
             (λ c. length c ≡ length (held self.old)) (λ c. length c ≡ length (held self.new)) }
     {
+        self.moment = self.moment.saturating_add(1);
         put(&mut self.bytes, at as usize, from);
         Ok(())
     }
 
     fn sync(&mut self) -> Result<(), DiskFault>
         ensures done { IsOk result }
-        ensures kept { self.new ≡ self.old }
+        ensures held { held self.new ≡ held self.old }
+        ensures lies { lies_of self.new ≡ lies_of self.old }
+        ensures moment { moment_of self.new ≡ min (moment_of self.old + 1) (2 ^ 64 - 1) }
+        ensures later { moment_of self.old ≤ moment_of self.new }
     {
+        self.moment = self.moment.saturating_add(1);
         Ok(())
     }
 
@@ -129,6 +141,6 @@ impl Disk for BlindDisk {
     }
 
     fn moment(&self) -> u64 {
-        0
+        self.moment
     }
 }

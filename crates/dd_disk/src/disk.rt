@@ -21,7 +21,7 @@ pub trait Disk {
     /// What a crash at this moment may leave.
     ghost images: { Self → List ℕ → Type 0 };
 
-    /// The moment, as a number that never falls.
+    /// The moment, as a number that never falls, and rises with each write and sync.
     ghost clock: { Self → ℕ };
 
     /// What a crash at some moment from that one on might have left.
@@ -58,7 +58,7 @@ pub trait Disk {
         ensures torn { Both (Torn at (length from.now)) (content self.old) (content self.new) }
         ensures images { Follows (Torn at (length from.now)) (images self.old) (images self.new) }
         ensures time { Elapses (clock self.old) (clock self.new) (images_since self.old) (images_since self.new) (images self.new) }
-        ensures rises { Told (content self.old) (λ _. Rose (clock self.old) (clock self.new)) }
+        ensures rises { Rose (clock self.old) (clock self.new) }
         ensures cause { HasCause (faults self.old) (faults self.new) result }
         ensures size { size self.new ≡ size self.old }
         ensures same { same self.old self.new };
@@ -69,7 +69,7 @@ pub trait Disk {
         ensures content { content self.new ≡ content self.old }
         ensures images { (c : List ℕ) → images self.new c → images self.old c }
         ensures time { Elapses (clock self.old) (clock self.new) (images_since self.old) (images_since self.new) (images self.new) }
-        ensures rises { Told (content self.old) (λ _. Rose (clock self.old) (clock self.new)) }
+        ensures rises { Rose (clock self.old) (clock self.new) }
         ensures cause { HasCause (faults self.old) (faults self.new) result }
         ensures size { size self.new ≡ size self.old }
         ensures same { same self.old self.new };

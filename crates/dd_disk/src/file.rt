@@ -14,6 +14,7 @@ pub struct FileDisk {
     file: File,
     size: u64,
     faults: u64,
+    moment: u64,
 }
 
 impl FileDisk {
@@ -26,6 +27,7 @@ impl FileDisk {
             file,
             size,
             faults: 0,
+            moment: 0,
         }
     }
 }
@@ -52,7 +54,7 @@ impl Disk for FileDisk {
 
     ghost images = { λ d c. length c ≡ d.size };
 
-    ghost clock = { λ _. 0 };
+    ghost clock = { λ d. d.moment };
 
     ghost images_since = { λ d _ c. length c ≡ d.size };
 
@@ -89,10 +91,12 @@ impl Disk for FileDisk {
     }
 
     fn write(&mut self, at: u64, from: &[u8]) -> Result<(), DiskFault> {
+        self.moment = self.moment.saturating_add(1);
         counted(&mut self.faults, self.file.write_all_at(from, at))
     }
 
     fn sync(&mut self) -> Result<(), DiskFault> {
+        self.moment = self.moment.saturating_add(1);
         counted(&mut self.faults, self.file.sync_all())
     }
 
@@ -101,6 +105,6 @@ impl Disk for FileDisk {
     }
 
     fn moment(&self) -> u64 {
-        0
+        self.moment
     }
 }

@@ -89,8 +89,9 @@ record_cell r = sealed RECORD_GATE (record_fields r)
 abbrev pub is_root_length : ℕ → ℕ → Bool
 is_root_length level count = nat_le count (2 ^ 40) && (if level == 0 then nat_le count 16384 else nat_le 1 count)
 
+-- until files have trees, the root of each is at level 0
 abbrev pub is_root_level : ℕ → Bool
-is_root_level level = nat_le level 6
+is_root_level level = level == 0
 
 -- a root that a file may have
 pub record IsRoot (root : Root) : Type 0 where

@@ -51,7 +51,7 @@ fn read_whole<D: Disk>(disk: &mut D, place: &Spot, into: &mut [u8]) -> Result<()
     ensures digest { OnOk result (sha256 into.new ≡ place.now.digest) }
     ensures shown { OnOk result (Shown D.gave D.content D.size disk.old disk.new (λ image.
         range (data_at place.now.slot + place.now.offset) place.now.length image ≡ into.new)) }
-    ensures reads { OnlyReads D.content D.size D.faults D.same disk.old disk.new }
+    ensures reads { OnlyReads D.content D.images D.clock D.images_since D.size D.faults D.same disk.old disk.new }
     ensures fault { IfErr result (IsSegmentFault (Shown D.gave D.content D.size disk.old disk.new) (Rose (D.faults disk.old) (D.faults disk.new)) place.now) }
 {
     let at = slot_place(place.slot) + HEADER as u64 + u64::from(place.offset);
@@ -78,7 +78,7 @@ pub fn read_segment<D: Disk>(disk: &mut D, place: &Spot, buf: &mut [u8]) -> Resu
     ensures shown { OnOk result (Shown D.gave D.content D.size disk.old disk.new (λ image.
         range (data_at place.now.slot + place.now.offset) place.now.length image ≡ take place.now.length buf.new)) }
     ensures rest { drop place.now.length buf.new ≡ drop place.now.length buf.old }
-    ensures reads { OnlyReads D.content D.size D.faults D.same disk.old disk.new }
+    ensures reads { OnlyReads D.content D.images D.clock D.images_since D.size D.faults D.same disk.old disk.new }
     ensures fault { IfErr result (IsSegmentFault (Shown D.gave D.content D.size disk.old disk.new) (Rose (D.faults disk.old) (D.faults disk.new)) place.now) }
 {
     let length = place.length as usize;
@@ -134,7 +134,7 @@ fn read_header<D: Disk>(alloc: Global, disk: &mut D, slot: u32) -> Result<Vec<u8
     requires { slot_at slot + 262144 ≤ D.size disk.old }
     ensures shown { IfOk result (λ bytes. Shown D.gave D.content D.size disk.old disk.new (λ image. range (slot_at slot) 49664 image ≡ bytes.items)) }
     ensures length { IfOk result (λ bytes. length bytes.items ≡ 49664) }
-    ensures reads { OnlyReads D.content D.size D.faults D.same disk.old disk.new }
+    ensures reads { OnlyReads D.content D.images D.clock D.images_since D.size D.faults D.same disk.old disk.new }
     ensures fault { IfErr result (IsReadFault (Rose (D.faults disk.old) (D.faults disk.new))) }
 {
     let mut bytes = buffer(alloc)?;
@@ -155,7 +155,7 @@ pub fn read_meta<D: Disk>(alloc: Global, disk: &mut D, slot: u32) -> Result<Meta
     // What is spelled there is read, unless memory or the disk fails.
     ensures only { Shown D.gave D.content D.size disk.old disk.new (λ image.
         (h : HeaderValue) → IsHeader h → range (slot_at slot) 49664 image ≡ header_spelling h → GivesHeader h result) }
-    ensures reads { OnlyReads D.content D.size D.faults D.same disk.old disk.new }
+    ensures reads { OnlyReads D.content D.images D.clock D.images_since D.size D.faults D.same disk.old disk.new }
     ensures fault { IfErr result (IsHeaderFault (λ P. Shown D.gave D.content D.size disk.old disk.new (λ image. P (range (slot_at slot) 49664 image)))
         (Rose (D.faults disk.old) (D.faults disk.new)) (slot_at slot)) }
 {

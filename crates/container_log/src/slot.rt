@@ -23,7 +23,7 @@ const GATE: u8 = 0xC5;
 fn read_gate<D: Disk>(disk: &mut D, slot: u32) -> Result<u8, LogFault>
     requires { slot_at slot + 262144 ≤ D.size disk.old }
     ensures shown { IfOk result (λ gate. Shown D.gave D.content D.size disk.old disk.new (λ image. byte_at (slot_at slot) image ≡ gate)) }
-    ensures reads { OnlyReads D.content D.size D.faults D.same disk.old disk.new }
+    ensures reads { OnlyReads D.content D.images D.clock D.images_since D.size D.faults D.same disk.old disk.new }
     ensures fault { IfErr result (IsReadFault (Rose (D.faults disk.old) (D.faults disk.new))) }
 {
     let mut gate = [0u8];
@@ -39,7 +39,7 @@ fn fill<D: Disk>(disk: &mut D, slot: u32, bytes: &mut [u8]) -> Result<(), LogFau
     requires length { length bytes.old ≡ 49664 }
     ensures shown { OnOk result (Shown D.gave D.content D.size disk.old disk.new (λ image.
         byte_at (slot_at slot) image ≡ CONTAINER_GATE → range (slot_at slot) 49664 image ≡ bytes.new)) }
-    ensures reads { OnlyReads D.content D.size D.faults D.same disk.old disk.new }
+    ensures reads { OnlyReads D.content D.images D.clock D.images_since D.size D.faults D.same disk.old disk.new }
     ensures fault { IfErr result (IsReadFault (Rose (D.faults disk.old) (D.faults disk.new))) }
 {
     bytes[0] = GATE;
@@ -55,7 +55,7 @@ fn read_behind<D: Disk>(alloc: Global, disk: &mut D, slot: u32) -> Result<Vec<u8
     ensures shown { IfOk result (λ bytes. Shown D.gave D.content D.size disk.old disk.new (λ image.
         byte_at (slot_at slot) image ≡ CONTAINER_GATE → range (slot_at slot) 49664 image ≡ bytes.items)) }
     ensures length { IfOk result (λ bytes. length bytes.items ≡ 49664) }
-    ensures reads { OnlyReads D.content D.size D.faults D.same disk.old disk.new }
+    ensures reads { OnlyReads D.content D.images D.clock D.images_since D.size D.faults D.same disk.old disk.new }
     ensures fault { IfErr result (IsReadFault (Rose (D.faults disk.old) (D.faults disk.new))) }
 {
     let mut bytes = buffer(alloc)?;
@@ -71,7 +71,7 @@ fn read_open<D: Disk>(alloc: Global, disk: &mut D, slot: u32) -> Result<Meta, Lo
         byte_at (slot_at slot) image ≡ CONTAINER_GATE → range (slot_at slot) 49664 image ≡ header_spelling (view m))) }
     ensures only { Shown D.gave D.content D.size disk.old disk.new (λ image. byte_at (slot_at slot) image ≡ CONTAINER_GATE →
         (h : HeaderValue) → IsHeader h → range (slot_at slot) 49664 image ≡ header_spelling h → GivesHeader h result) }
-    ensures reads { OnlyReads D.content D.size D.faults D.same disk.old disk.new }
+    ensures reads { OnlyReads D.content D.images D.clock D.images_since D.size D.faults D.same disk.old disk.new }
     ensures fault { IfErr result (IsHeaderFault (λ P. Shown D.gave D.content D.size disk.old disk.new (λ image. byte_at (slot_at slot) image ≡ CONTAINER_GATE → P (range (slot_at slot) 49664 image)))
         (Rose (D.faults disk.old) (D.faults disk.new)) (slot_at slot)) }
 {
@@ -89,7 +89,7 @@ pub fn read_slot<D: Disk>(alloc: Global, disk: &mut D, slot: u32) -> Result<Opti
     ensures shown { IfOk result (λ held. Shown D.gave D.content D.size disk.old disk.new (λ image. HoldsSlot image slot (option_map view held))) }
     // What the slot holds is answered, unless memory or the disk fails.
     ensures only { Shown D.gave D.content D.size disk.old disk.new (λ image. (held : Option HeaderValue) → HoldsSlot image slot held → GivesSlot held result) }
-    ensures reads { OnlyReads D.content D.size D.faults D.same disk.old disk.new }
+    ensures reads { OnlyReads D.content D.images D.clock D.images_since D.size D.faults D.same disk.old disk.new }
     ensures fault { IfErr result (IsHeaderFault (λ P. Shown D.gave D.content D.size disk.old disk.new (λ image. (byte_at (slot_at slot) image ≡ CONTAINER_GATE) × P (range (slot_at slot) 49664 image)))
         (Rose (D.faults disk.old) (D.faults disk.new)) (slot_at slot)) }
 {

@@ -1,20 +1,20 @@
 //! Containers written to their slots, and slots made free.
-ghost use Rattle.std.specs.Prelude.{◌≡◌, ◌+◌, ◌≤◌, true, [], ◌∷◌, length, option_map, OnOk, OnErr, IfErr};
+ghost use Rattle.std.specs.Prelude.{◌≡◌, ◌+◌, ◌≤◌, true, [], ◌∷◌, length, option_map, OnOk, IfErr};
 ghost use Rattle.base_model.specs.Bytes.{range, written};
 ghost use Rattle.base_model.specs.Fault.{Rose};
 ghost use Rattle.base_model.specs.Told.{Told, Became};
 ghost use Rattle.base_model.specs.Shown.{IsLater};
 ghost use Rattle.disk_format.specs.Layout.{slot_at};
-ghost use Rattle.dd_disk.specs.Disk.{Torn};
+ghost use Rattle.dd_disk.specs.Disk.{Torn, Only, StepsBy};
 ghost use Rattle.container_meta.specs.Format.{is_id};
 ghost use Rattle.container_meta.specs.Segments.{StandFrom};
 ghost use Rattle.container_meta.specs.Spelling.{IsHeader, header_of, header_spelling, container_spelling};
-ghost use Rattle.dd_disk.specs.Gated.{CellTorn};
+ghost use Rattle.dd_disk.specs.Gated.{TornFrom, CellTorn};
 ghost use Rattle.container_log.specs.declared.fault.LogFault.TheVariants.{DiskWrite};
 
 use crate::fault::LogFault;
 use container_meta::OpenContainer;
-use dd_disk::{Disk, DiskFault, sync_all, write_at, write_gated};
+use dd_disk::{Disk, DiskFault, write_gated, write_synced};
 
 /// The first byte of a slot on the disk.
 pub(crate) fn slot_place(slot: u32) -> u64
@@ -43,8 +43,12 @@ pub fn seal<D: Disk>(
     ensures header { IsHeader (header_of id filled.now.kind filled.now.segments) }
     ensures front { range 0 49664 image.new ≡ header_spelling (header_of id filled.now.kind filled.now.segments) }
     ensures ok { OnOk result (D.content disk.new ≡ option_map (written (slot_at slot) image.new) (D.content disk.old)) }
+    // A crash after it leaves what reads give.
+    ensures synced { OnOk result (Only (D.content disk.new) (D.images disk.new)) }
     // What a disk that fails in the middle leaves.
     ensures torn { Told (D.content disk.old) (λ old. Became (D.content disk.new) (CellTorn (slot_at slot) image.new old)) }
+    // What a crash at any moment leaves: the bytes behind the gate torn, or all of them behind some gate.
+    ensures crash { Told (D.content disk.old) (λ old. StepsBy D.images D.clock D.images_since (TornFrom (slot_at slot) image.new old) disk.old disk.new) }
     ensures later { IsLater D.size D.faults D.same disk.old disk.new }
     ensures fault { IfErr result (λ fault. (fault ≡ DiskWrite) × Rose (D.faults disk.old) (D.faults disk.new)) }
 {
@@ -55,28 +59,18 @@ pub fn seal<D: Disk>(
     }
 }
 
-// Writes a byte, and has it on the disk.
-fn write_gate<D: Disk>(disk: &mut D, at: u64, gate: u8) -> Result<(), DiskFault>
-    requires { at + 1 ≤ D.size disk.old }
-    ensures ok { OnOk result (D.content disk.new ≡ option_map (written at (gate ∷ [])) (D.content disk.old)) }
-    ensures torn { Told (D.content disk.old) (λ old. Became (D.content disk.new) (Torn at 1 old)) }
-    ensures later { IsLater D.size D.faults D.same disk.old disk.new }
-    ensures fault { OnErr result (Rose (D.faults disk.old) (D.faults disk.new)) }
-{
-    write_at(disk, at, &[gate])?;
-    sync_all(disk)
-}
-
 /// Closes a slot of the disk: writes 0 over its gate. The one error is `LogFault::DiskWrite`.
 pub fn free<D: Disk>(disk: &mut D, slot: u32) -> Result<(), LogFault>
     requires { slot_at slot + 262144 ≤ D.size disk.old }
     ensures ok { OnOk result (D.content disk.new ≡ option_map (written (slot_at slot) (0 ∷ [])) (D.content disk.old)) }
+    ensures synced { OnOk result (Only (D.content disk.new) (D.images disk.new)) }
     // What a disk that fails in the middle leaves: some gate.
     ensures torn { Told (D.content disk.old) (λ old. Became (D.content disk.new) (Torn (slot_at slot) 1 old)) }
+    ensures crash { StepsBy D.images D.clock D.images_since (Torn (slot_at slot) 1) disk.old disk.new }
     ensures later { IsLater D.size D.faults D.same disk.old disk.new }
     ensures fault { IfErr result (λ fault. (fault ≡ DiskWrite) × Rose (D.faults disk.old) (D.faults disk.new)) }
 {
-    match write_gate(disk, slot_place(slot), 0) {
+    match write_synced(disk, slot_place(slot), &[0]) {
         Ok(()) => Ok(()),
         Err(DiskFault) => Err(LogFault::DiskWrite),
     }

@@ -1,10 +1,13 @@
 -- What an append leaves in a half: the records that stood there, and the new one behind them.
-use Rattle.std.proofs.Common.{◌≡◌, ℕ, ◌+◌, ◌≤◌, ◌<◌, List, [], ◌∷◌, ◌++◌, length, Option, Some, option_map, sym, ap, ◌∙◌, subst, arith, length-append}
+use Rattle.std.proofs.Common.{◌≡◌, ◌⊎◌, inr, ℕ, ◌+◌, ◌≤◌, ◌<◌, List, [], ◌∷◌, ◌++◌, length, Option, Some, option_map, sym, ap, ◌∙◌, subst, arith, length-append}
 use Rattle.std.specs.FinMap as finite
 use Rattle.base_model.specs.Bytes.{range, byte_at, written}
 use Rattle.base_model.proofs.Ranges.{range-written, range-written-before, range-written-after, length-written, range-one}
 use Rattle.disk_format.specs.Cells.{RecordValue, IsRecord, record_cell}
 use Rattle.disk_format.specs.Layout.{cell_at, half_cells}
+use Rattle.dd_disk.specs.declared.disk.Disk.{Ghosts}
+use Rattle.dd_disk.specs.Gated.{TornFrom}
+use Rattle.dd_disk.proofs.Steps.{Steps, steps_weaker}
 use Rattle.namespace.specs.Names.{IsTaken, names_after}
 use Rattle.journal_cells.specs.Journal.{StandFrom, HoldsRecords, ClosedFrom, JournalValue, IsJournalOf, Precedes, with_record, last_of}
 use Rattle.journal_cells.proofs.Parts.{digest_long, length-cell}
@@ -93,3 +96,10 @@ kept_told journal after rs r old before now at cell place spelled grown is told 
       (subst (λ (p : ℕ). IsJournalOf (with_record r journal) (rs ++ r ∷ []) (written p cell old)) (sym place)
       (subst (λ (l : List ℕ). IsJournalOf (with_record r journal) (rs ++ r ∷ []) (written (cell_at journal.half journal.count) l old)) (sym spelled) (journal_kept journal rs r old held precedes taken fits))),
 )
+
+-- what a crash may leave of a cell that is written, where some calls wrote nothing
+pub cell_steps : {D : Type 0} (disk : Ghosts D) (old new : D) (at place : ℕ) (cell spelled content : List ℕ) → at ≡ place → cell ≡ spelled
+    → Steps disk (TornFrom at cell content) old new → Steps disk (λ d c. (c ≡ d) ⊎ TornFrom place spelled content d c) old new
+cell_steps disk old new at place cell spelled content here is steps =
+    steps_weaker disk (TornFrom at cell content) (λ d c. (c ≡ d) ⊎ TornFrom place spelled content d c) old new
+    (λ d c torn. inr (subst (λ (p : ℕ). TornFrom p spelled content d c) here (subst (λ (l : List ℕ). TornFrom at l content d c) is torn))) steps

@@ -1,5 +1,5 @@
 //! The journal of a store: which half counts, and where its next record goes.
-ghost use Rattle.std.specs.Prelude.{◌≡◌, ◌⊎◌, ◌≤◌, ◌∷◌, ◌++◌, [], List, option_map, OnOk, OnErr, IfErr};
+ghost use Rattle.std.specs.Prelude.{◌≡◌, ◌⊎◌, ◌≤◌, ◌∷◌, ◌++◌, [], List, ℕ, option_map, OnOk, OnErr, IfErr};
 ghost use Rattle.std.specs.FinMap as finite;
 ghost use Rattle.base_model.specs.Bytes.{written};
 ghost use Rattle.base_model.specs.Fault.{Rose};
@@ -7,8 +7,8 @@ ghost use Rattle.base_model.specs.Told.{Told, Became};
 ghost use Rattle.base_model.specs.Shown.{IsLater};
 ghost use Rattle.disk_format.specs.Cells.{RecordValue, record_cell};
 ghost use Rattle.disk_format.specs.Layout.{least_size, cell_at, half_cells};
-ghost use Rattle.dd_disk.specs.Disk.{Only};
-ghost use Rattle.dd_disk.specs.Gated.{CellTorn};
+ghost use Rattle.dd_disk.specs.Disk.{Only, StepsBy};
+ghost use Rattle.dd_disk.specs.Gated.{TornFrom, CellTorn};
 ghost use Rattle.namespace.specs.Names.{IsTaken, names_after, record_value};
 ghost use Rattle.journal_cells.specs.declared.fault.CellFault.TheVariants.{Memory};
 ghost use Rattle.journal_cells.specs.Faults.{IsWriteFault};
@@ -62,7 +62,9 @@ impl Journal {
 
     /// The last sequence number that was given out, 0 where none was.
     pub fn last(&self) -> u64
-        ensures { result ≡ self.now.last }
+        ensures last { result ≡ self.now.last }
+        // It isn't below that of the last record.
+        ensures rises { self.now.previous ≤ result }
     {
         self.last
     }
@@ -80,7 +82,9 @@ impl Journal {
         ensures synced { OnOk result (Only (D.content disk.new) (D.images disk.new)) }
         ensures torn { Told (D.content disk.old) (λ old. Became (D.content disk.new) (λ new.
             (new ≡ old) ⊎ CellTorn (cell_at self.old.half self.old.count) (record_cell (record_value value.now)) old new)) }
-        ensures untouched { result ≡ Err CellFault.Memory → D.content disk.new ≡ D.content disk.old }
+        ensures crash { Told (D.content disk.old) (λ old. StepsBy D.images D.clock D.images_since
+            (λ d c. (c ≡ d) ⊎ TornFrom (cell_at self.old.half self.old.count) (record_cell (record_value value.now)) old d c) disk.old disk.new) }
+        ensures untouched { result ≡ Err CellFault.Memory → (D.content disk.new ≡ D.content disk.old) × ((c : List ℕ) → D.images disk.new c → D.images disk.old c) }
         ensures journal { OnOk result (self.new ≡ with_record (record_value value.now) self.old) }
         ensures unchanged { OnErr result (self.new ≡ self.old) }
         ensures later { IsLater D.size D.faults D.same disk.old disk.new }
@@ -119,7 +123,10 @@ impl Journal {
             → IsTaken (names_after records finite.empty) (record_value value.now) → Became (D.content disk.new) (IsJournalOf self.new (records ++ record_value value.now ∷ [])))) }
         ensures torn { Told (D.content disk.old) (λ old. Became (D.content disk.new) (λ new.
             (new ≡ old) ⊎ CellTorn (cell_at self.old.half self.old.count) (record_cell (record_value value.now)) old new)) }
-        ensures untouched { result ≡ Err CellFault.Memory → D.content disk.new ≡ D.content disk.old }
+        // A crash at any moment leaves what was there, the bytes behind the gate torn, or all of the cell behind some gate.
+        ensures crash { Told (D.content disk.old) (λ old. StepsBy D.images D.clock D.images_since
+            (λ d c. (c ≡ d) ⊎ TornFrom (cell_at self.old.half self.old.count) (record_cell (record_value value.now)) old d c) disk.old disk.new) }
+        ensures untouched { result ≡ Err CellFault.Memory → (D.content disk.new ≡ D.content disk.old) × ((c : List ℕ) → D.images disk.new c → D.images disk.old c) }
         ensures journal { OnOk result (self.new ≡ with_record (record_value value.now) self.old) }
         ensures unchanged { OnErr result (self.new ≡ self.old) }
         ensures later { IsLater D.size D.faults D.same disk.old disk.new }

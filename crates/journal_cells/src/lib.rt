@@ -14,10 +14,11 @@ mod scanning;
 mod spelling;
 
 pub use fault::{CellFault, Why};
-pub use heads::{FORMAT_GATE, SELECTOR_GATE, Selector};
+pub use heads::FORMAT_GATE;
 pub use journal::Journal;
 pub use opening::slots_of;
 pub use scanning::scan;
+pub use spelling::{encode_format, encode_selector};
 
 #[cfg(test)]
 mod record_tests;

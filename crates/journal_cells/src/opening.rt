@@ -26,7 +26,7 @@ pub fn slots_of<D: Disk>(disk: &mut D) -> Result<u32, CellFault>
     // What is spelled there is read, unless memory or the disk fails.
     ensures only { Shown D.gave D.content D.size disk.old disk.new (λ image.
         (slots : ℕ) → IsSlotCount slots → range 0 512 image ≡ format_cell slots → Gives (λ n. n ≡ slots) result) }
-    ensures reads { OnlyReads D.content D.size D.faults D.same disk.old disk.new }
+    ensures reads { OnlyReads D.content D.images D.clock D.images_since D.size D.faults D.same disk.old disk.new }
     ensures fault { IfErr result (IsCellFault (λ fault. Shown D.gave D.content D.size disk.old disk.new (λ image. format_read (range 0 512 image) ≡ Err fault) × Differs fault)
         (Rose (D.faults disk.old) (D.faults disk.new))) }
 {
@@ -40,7 +40,7 @@ fn read_both<D: Disk>(disk: &mut D) -> Result<([u8; 512], [u8; 512]), CellFault>
     requires { least_size ≤ D.size disk.old }
     ensures shown { IfOk result (λ cells. Shown D.gave D.content D.size disk.old disk.new (λ image.
         (range (selector_at 0) 512 image ≡ cells.0) × (range (selector_at 1) 512 image ≡ cells.1))) }
-    ensures reads { OnlyReads D.content D.size D.faults D.same disk.old disk.new }
+    ensures reads { OnlyReads D.content D.images D.clock D.images_since D.size D.faults D.same disk.old disk.new }
     ensures fault { IfErr result (λ fault. (fault ≡ DiskRead) × Rose (D.faults disk.old) (D.faults disk.new)) }
 {
     let mut first = [0u8; 512];
@@ -59,7 +59,7 @@ pub(crate) fn read_selectors<D: Disk>(disk: &mut D) -> Result<Selector, CellFaul
         (s : SelectorValue) → HoldsSelector image s → IsOlder image s → Gives (λ t. t ≡ s) result) }
     ensures read { IfOk result (λ s. Shown D.gave D.content D.size disk.old disk.new (λ image.
         selectors_read (range (selector_at 0) 512 image) (range (selector_at 1) 512 image) ≡ Ok s)) }
-    ensures reads { OnlyReads D.content D.size D.faults D.same disk.old disk.new }
+    ensures reads { OnlyReads D.content D.images D.clock D.images_since D.size D.faults D.same disk.old disk.new }
     ensures fault { IfErr result (IsCellFault (λ fault. Shown D.gave D.content D.size disk.old disk.new (λ image.
         selectors_read (range (selector_at 0) 512 image) (range (selector_at 1) 512 image) ≡ Err fault) × Differs fault)
         (Rose (D.faults disk.old) (D.faults disk.new))) }

@@ -12,8 +12,8 @@ const AT: u64 = 2_048;
 /// The put of sequence number 5.
 fn put(alloc: Global) -> Result<Record, Fail> {
     let root = Root {
-        length: 20_000,
-        level: 1,
+        length: 2_000,
+        level: 0,
         digest: [7; 32],
     };
     Ok(Record {
@@ -88,9 +88,9 @@ fn records_have_the_bytes_of_the_format(rt: HostRuntime) -> Result<(), Fail> {
     assert_eq!(rt;
         digest_of(&spelled(rt.alloc(), &put(rt.alloc())?)?),
         [
-            0xf5, 0xf8, 0x60, 0x2c, 0xc9, 0xed, 0x40, 0x57, 0xd9, 0x44, 0xb2, 0xe0, 0x24, 0x30,
-            0x0d, 0xaf, 0x8f, 0x17, 0xbd, 0xd8, 0x55, 0xd4, 0x00, 0x79, 0x14, 0xd0, 0xb2, 0xa0,
-            0x68, 0x88, 0x42, 0x6f,
+            0x1f, 0xa2, 0x97, 0xde, 0xe3, 0xc9, 0x08, 0xbd, 0x0f, 0xa3, 0xd5, 0x09, 0x23, 0x3d,
+            0x25, 0xcd, 0xa2, 0xa1, 0x5a, 0x99, 0xe0, 0x04, 0xf0, 0xb4, 0xf7, 0xca, 0x96, 0x2a,
+            0x71, 0x8c, 0xc8, 0xbf,
         ]
     );
     assert_eq!(rt;
@@ -137,10 +137,10 @@ fn the_first_fault_is_named(rt: HostRuntime) -> Result<(), Fail> {
     assert_eq!(rt; fault(rt.alloc(), &first, 10, 4)?, (3, 4));
     assert_eq!(rt;
         fault(rt.alloc(), &first, 12, 2)?,
-        (11, 0x0002_0000_0000_4E20)
+        (11, 0x0002_0000_0000_07D0)
     );
-    assert_eq!(rt; fault(rt.alloc(), &first, 19, 0)?, (11, 20_000));
-    assert_eq!(rt; fault(rt.alloc(), &first, 19, 7)?, (19, 7));
+    assert_eq!(rt; fault(rt.alloc(), &first, 16, 1)?, (11, 67_536));
+    assert_eq!(rt; fault(rt.alloc(), &first, 19, 1)?, (19, 1));
     assert_eq!(rt;
         fault(rt.alloc(), &put_of_empty(rt.alloc())?, 21, 9)?,
         (20, 9)

@@ -73,7 +73,7 @@ fn read_next<D: Disk>(
     requires room { before.now.count < half_cells }
     requires size { least_size ≤ D.size disk.old }
     ensures next { IfOk result (λ next. IsNext (Shown D.gave D.content D.size disk.old disk.new) half (replay before.now) (option_map record_value next)) }
-    ensures reads { OnlyReads D.content D.size D.faults D.same disk.old disk.new }
+    ensures reads { OnlyReads D.content D.images D.clock D.images_since D.size D.faults D.same disk.old disk.new }
     ensures fault { IfErr result (IsCellFault (λ fault. IsNextFault (Shown D.gave D.content D.size disk.old disk.new) half (replay before.now) fault × Differs fault)
         (Rose (D.faults disk.old) (D.faults disk.new))) }
 {
@@ -92,7 +92,7 @@ fn read_half<D: Disk>(alloc: Global, disk: &mut D, half: u8) -> Result<Replayed,
     requires half { half ≤ 1 }
     requires size { least_size ≤ D.size disk.old }
     ensures whole { IfOk result (λ read. IsWhole (Shown D.gave D.content D.size disk.old disk.new) half (replay read)) }
-    ensures reads { OnlyReads D.content D.size D.faults D.same disk.old disk.new }
+    ensures reads { OnlyReads D.content D.images D.clock D.images_since D.size D.faults D.same disk.old disk.new }
     ensures fault { IfErr result (IsCellFault (λ fault. Shown D.gave D.content D.size disk.old disk.new (λ image. replayed half half_cells nothing_yet image ≡ Err fault) × Differs fault)
         (Rose (D.faults disk.old) (D.faults disk.new))) }
 {
@@ -131,7 +131,7 @@ pub fn scan<D: Disk>(alloc: Global, disk: &mut D) -> Result<(Journal, Names, u64
     // A journal that stands there is read, unless memory or the disk fails.
     ensures only { Shown D.gave D.content D.size disk.old disk.new (λ image. (s : SelectorValue) (records : List RecordValue) → HoldsJournal image s records
         → Gives (λ read. IsTold s records read.0 read.1 read.2) result) }
-    ensures reads { OnlyReads D.content D.size D.faults D.same disk.old disk.new }
+    ensures reads { OnlyReads D.content D.images D.clock D.images_since D.size D.faults D.same disk.old disk.new }
     ensures fault { IfErr result (IsCellFault (λ fault. Shown D.gave D.content D.size disk.old disk.new (λ image. journal_in image ≡ Err fault) × Differs fault)
         (Rose (D.faults disk.old) (D.faults disk.new))) }
 {

@@ -3,6 +3,7 @@ ghost use Rattle.disk_format.specs.Cells.{IsChange};
 ghost use Rattle.namespace.specs.Names.{change_value};
 
 use super::*;
+use crate::heads::SELECTOR_GATE;
 use crate::spelling::sealed;
 use dd_disk::{Asked, Disk, MemDisk};
 use namespace::{Change, Names, Record, Root};

@@ -40,7 +40,7 @@ pub trait Index {
         ensures map { places self.new (D.content disk.new) ≡ places self.old (D.content disk.old) }
         ensures fault { IfErr result (IsGetFault (Rose (D.faults disk.old) (D.faults disk.new)) (λ at why.
             (places self.old (D.content disk.old) ≡ None) × Shown D.gave D.content D.size disk.old disk.new (breaks self.old at why))) }
-        ensures reads { OnlyReads D.content D.size D.faults D.same disk.old disk.new }
+        ensures reads { OnlyReads D.content D.images D.clock D.images_since D.size D.faults D.same disk.old disk.new }
         ensures disk { ChangesBy D.content D.images D.clock D.images_since Same disk.old disk.new }
         ensures served { serves self.new (D.size disk.new) };
 

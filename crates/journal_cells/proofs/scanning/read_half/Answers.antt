@@ -14,7 +14,7 @@ loop-init g c =
     let disk = g.D.Disk in
     let law = g.met.D.Disk in (
       ap (λ r. r.count) c.new-before.ensures,
-      reads_none disk.content disk.size disk.faults disk.same law.same_here c.args.disk.now,
+      reads_none disk.content disk.images disk.clock disk.images_since disk.size disk.faults disk.same law.same_here c.args.disk.now,
       subst (IsPart (Saw disk c.args.disk.now c.args.disk.now) c.args.half) (sym c.new-before.ensures) (part_none disk law.gave_after law.gave_before c.args.half c.args.disk.now),
     )
 

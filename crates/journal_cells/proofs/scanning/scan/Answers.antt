@@ -36,7 +36,7 @@ returns-clause-found g c =
     let law = g.met.D.Disk in
     let whole = subst (λ (h : ℕ). IsWhole (Saw g.D.Disk c.read_selectors.new.disk c.read_half.new.disk) h (replay c.in_ok-left.left)) (ap (λ v. v.half) c.selector.view_is) c.in_ok-left.ensures.whole in
     let is = scanned g.D.Disk law.gave_after law.gave_before c.in_ok-selector.selector (replay c.in_ok-left.left) _ _ _ c.in_ok-selector.ensures.right c.in_ok-selector.ensures.shown c.in_ok-selector.ensures.reads whole c.in_ok-left.ensures.reads in
-    subst (λ last. IsScanned (Saw g.D.Disk c.args.disk.now c.read_half.new.disk) c.journal_of-journal.result c.in_ok-left.left.names last) (sym c.last-last.ensures)
+    subst (λ last. IsScanned (Saw g.D.Disk c.args.disk.now c.read_half.new.disk) c.journal_of-journal.result c.in_ok-left.left.names last) (sym c.last-last.ensures.last)
     (subst (λ (j : JournalValue). IsScanned (Saw g.D.Disk c.args.disk.now c.read_half.new.disk) j c.in_ok-left.left.names j.last) (sym c.journal_of-journal.ensures) is)
 
 pub returns-clause-only : goal.returns-clause-only
@@ -44,6 +44,6 @@ returns-clause-only g c =
     let law = g.met.D.Disk in
     let whole = subst (λ (h : ℕ). IsWhole (Saw g.D.Disk c.read_selectors.new.disk c.read_half.new.disk) h (replay c.in_ok-left.left)) (ap (λ v. v.half) c.selector.view_is) c.in_ok-left.ensures.whole in
     weaker g.D.Disk _ _ (λ image sized is t records held.
-    subst (λ last. IsTold t records c.journal_of-journal.result c.in_ok-left.left.names last) (sym c.last-last.ensures)
+    subst (λ last. IsTold t records c.journal_of-journal.result c.in_ok-left.left.names last) (sym c.last-last.ensures.last)
     (subst (λ (j : JournalValue). IsTold t records j c.in_ok-left.left.names j.last) (sym c.journal_of-journal.ensures) (is t records held)))
     (only_one g.D.Disk law.gave_after law.gave_before c.in_ok-selector.selector (replay c.in_ok-left.left) _ _ _ c.in_ok-selector.ensures.only c.in_ok-selector.ensures.reads whole c.in_ok-left.ensures.reads)

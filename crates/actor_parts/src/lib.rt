@@ -3,4 +3,4 @@
 
 mod refusal;
 
-pub use refusal::{Refusal, Why};
+pub use refusal::{Difference, Refusal, Why};

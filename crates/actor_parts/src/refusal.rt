@@ -23,26 +23,76 @@ pub enum Why {
     },
 }
 
-/// Why a step was refused, with what it carries. docs/FORMAT.md, 'Refusals', has the texts and statuses of those that a
-/// command answers; 6, 17 and 18 have none yet.
+/// How two segments of one key differ.
+#[derive(Clone, Copy, Debug, PartialEq, Eq)]
+pub enum Difference {
+    /// Their lengths in bytes.
+    Length { offered: u64, held: u64 },
+}
+
+/// Why a step or a command was refused, with what it carries. docs/FORMAT.md, 'Refusals', has their texts and statuses.
 #[derive(Clone, Copy, Debug, PartialEq, Eq)]
 pub enum Refusal {
     /// 1: there was no memory.
     Memory,
-    /// 6: fewer than two container slots are free.
-    Full { free: u32 },
+    /// 2: no file has the name.
+    NoFile,
+    /// 3: the name isn't 1 to 255 bytes from 0x21 to 0x7E.
+    BadName,
+    /// 4: there is no room for one more name, or for one more record.
+    TooMany,
+    /// 5: the file is longer than the store takes.
+    TooLong,
+    /// 6: too few container slots are free.
+    Full {
+        free: u32,
+    },
+    /// 7: a segment that is held and one that was offered have one key, and differ.
+    Clash {
+        key: [u8; 33],
+        at: Difference,
+    },
     /// 10: a read of the disk failed.
     DiskRead,
     /// 11: a write or a sync of the disk failed.
     DiskWrite,
+    /// 13: the bytes read at a place have another digest than the one wanted.
+    Corrupt {
+        slot: u32,
+        /// The first byte, counted from the slot's data section.
+        offset: u32,
+        /// How many bytes.
+        length: u32,
+        want: [u8; 32],
+        got: [u8; 32],
+    },
+    /// 14: no segment with this key is held, and a root names it.
+    Missing {
+        key: [u8; 33],
+    },
+    /// 15: a number that has to rise is at its end.
+    Numbers,
     /// 16: the image is no store; the format cell's gate and magic, as read.
-    NotAStore { gate: u8, magic: [u8; 7] },
+    NotAStore {
+        gate: u8,
+        magic: [u8; 7],
+    },
     /// 17: a layout or form that is not known.
-    Version { n: u32 },
+    Version {
+        n: u32,
+    },
     /// 18: what stands at a byte of the disk is damaged.
-    Damaged { at: u64, why: Why },
+    Damaged {
+        at: u64,
+        why: Why,
+    },
+    /// 20: the disk has a store already.
+    AlreadyStore,
     /// 21: the disk has another size, in bytes, than the one wanted.
-    WrongSize { want: u64, got: u64 },
+    WrongSize {
+        want: u64,
+        got: u64,
+    },
 }
 
 impl From<AllocError> for Refusal {

@@ -1,0 +1,51 @@
+-- The pieces of a line that carries something are that line. What is not here the check finds by itself.
+use Rattle.std.proofs.Common.{◌≡◌, ℕ, List, [], ◌∷◌, ◌++◌, append_assoc, codes, decimal, Result, OnOk, OnErr, Option, subst}
+use Rattle.hex.specs.Hex.{encode_lower}
+use Rattle.base_model.specs.Told.{Appended}
+use Rattle.dd_io.specs.Flow.{AppendedPart}
+use Rattle.actor_parts.specs.declared.refusal.Refusal.TheVariants.{Corrupt, Missing, NotAStore, Version, WrongSize}
+use Rattle.reply_text.specs.declared.ending.Ending.TheVariants.{Refused}
+use Rattle.reply_text.specs.Text.{fault_line, ending_text, refusal_text}
+
+-- the line of `Corrupt`, of its pieces
+pub corrupt_text : (slot offset length : ℕ) (want got slot_text offset_text length_text want_digits got_digits : List ℕ) → slot_text ≡ decimal slot → offset_text ≡ decimal offset → length_text ≡ decimal length → want_digits ≡ encode_lower want → got_digits ≡ encode_lower got
+    → codes "fault 13 corrupt " ++ (slot_text ++ (codes " " ++ (offset_text ++ (codes " " ++ (length_text ++ (codes " " ++ (want_digits ++ (codes " " ++ (got_digits ++ (codes "\n" ++ []))))))))))
+    ≡ fault_line (Refused (Corrupt slot offset length want got))
+unfolding fault_line ending_text refusal_text
+corrupt_text slot offset length want got slot_text offset_text length_text want_digits got_digits is_slot is_offset is_length is_want is_got = rw (is_slot, is_offset, is_length, is_want, is_got) (simp append_assoc)
+
+-- the line of `Missing`, of its pieces
+pub missing_text : (key key_digits : List ℕ) → key_digits ≡ encode_lower key
+    → codes "fault 14 missing " ++ (key_digits ++ (codes "\n" ++ []))
+    ≡ fault_line (Refused (Missing key))
+unfolding fault_line ending_text refusal_text
+missing_text key key_digits is_key = rw is_key (simp append_assoc)
+
+-- the line of `NotAStore`, of its pieces
+pub not_a_store_text : (gate : ℕ) (magic gate_digits magic_digits : List ℕ) → gate_digits ≡ encode_lower (gate ∷ []) → magic_digits ≡ encode_lower magic
+    → codes "fault 16 notastore " ++ (gate_digits ++ (codes " " ++ (magic_digits ++ (codes "\n" ++ []))))
+    ≡ fault_line (Refused (NotAStore gate magic))
+unfolding fault_line ending_text refusal_text
+not_a_store_text gate magic gate_digits magic_digits is_gate is_magic = rw (is_gate, is_magic) (simp append_assoc)
+
+-- the line of `Version`, of its pieces
+pub version_text : (n : ℕ) (n_text : List ℕ) → n_text ≡ decimal n
+    → codes "fault 17 version " ++ (n_text ++ (codes "\n" ++ []))
+    ≡ fault_line (Refused (Version n))
+unfolding fault_line ending_text refusal_text
+version_text n n_text is_n = rw is_n (simp append_assoc)
+
+-- the line of `WrongSize`, of its pieces
+pub wrong_size_text : (want got : ℕ) (want_text got_text : List ℕ) → want_text ≡ decimal want → got_text ≡ decimal got
+    → codes "fault 21 wrongsize " ++ (want_text ++ (codes " " ++ (got_text ++ (codes "\n" ++ []))))
+    ≡ fault_line (Refused (WrongSize want got))
+unfolding fault_line ending_text refusal_text
+wrong_size_text want got want_text got_text is_want is_got = rw (is_want, is_got) (simp append_assoc)
+
+-- what was written whole, by another name
+pub ok_as : {T E : Type 0} (result : Result T E) (before now : Option (List ℕ)) (text same : List ℕ) → text ≡ same → OnOk result (Appended before now text) → OnOk result (Appended before now same)
+ok_as result before now text same is = subst (λ (t : List ℕ). OnOk result (Appended before now t)) is
+
+-- what was written in part, by another name
+pub err_as : {T E : Type 0} (result : Result T E) (before now : Option (List ℕ)) (text same : List ℕ) → text ≡ same → OnErr result (AppendedPart before now text) → OnErr result (AppendedPart before now same)
+err_as result before now text same is = subst (λ (t : List ℕ). OnErr result (AppendedPart before now t)) is

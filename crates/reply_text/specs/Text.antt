@@ -1,0 +1,62 @@
+-- What the program writes (docs/FORMAT.md, 'Texts' and 'Refusals').
+use Rattle.std.specs.Prelude.{ℕ, List, [], ◌∷◌, ◌++◌, codes, decimal}
+use Rattle.hex.specs.Hex.{encode_lower}
+use Rattle.disk_format.specs.Cells.{Root}
+use Rattle.actor_parts.specs.declared.refusal.Difference.{Difference}
+use Rattle.actor_parts.specs.declared.refusal.Difference.TheVariants.{Length}
+use Rattle.actor_parts.specs.declared.refusal.Why.{Why}
+use Rattle.actor_parts.specs.declared.refusal.Why.TheVariants.{Digest, Field}
+use Rattle.actor_parts.specs.declared.refusal.Refusal.{Refusal}
+use Rattle.actor_parts.specs.declared.refusal.Refusal.TheVariants.{Memory, NoFile, BadName, TooMany, TooLong, Full, Clash, DiskRead, DiskWrite, Corrupt, Missing, Numbers, NotAStore, Version, Damaged, AlreadyStore, WrongSize}
+use Rattle.reply_text.specs.declared.ending.Ending.{Ending}
+use Rattle.reply_text.specs.declared.ending.Ending.TheVariants.{Words, Source, Sink, Refused}
+
+-- `formatted N`
+unfoldable pub formatted_line : ℕ → List ℕ
+formatted_line slots = codes "formatted " ++ decimal slots ++ codes "\n"
+
+-- `stored NAME LENGTH LEVEL DIGEST`
+unfoldable pub stored_line : List ℕ → Root → List ℕ
+stored_line name root =
+    codes "stored " ++ name ++ codes " " ++ decimal root.length ++ codes " " ++ decimal root.level ++ codes " " ++ encode_lower root.digest ++ codes "\n"
+
+-- how two segments of one key differ
+unfoldable pub difference_text : Difference → List ℕ
+difference_text (Length offered held) = codes "length " ++ decimal offered ++ codes " " ++ decimal held
+
+-- how a cell or a header breaks the format
+unfoldable pub why_text : Why → List ℕ
+why_text (Digest want got) = codes "digest " ++ encode_lower want ++ codes " " ++ encode_lower got
+why_text (Field offset got) = codes "field " ++ decimal offset ++ codes " " ++ decimal got
+
+-- a refusal's number, its word, and what it carries
+unfoldable pub refusal_text : Refusal → List ℕ
+refusal_text Memory = codes "1 memory"
+refusal_text NoFile = codes "2 nofile"
+refusal_text BadName = codes "3 badname"
+refusal_text TooMany = codes "4 toomany"
+refusal_text TooLong = codes "5 toolong"
+refusal_text (Full free) = codes "6 full " ++ decimal free
+refusal_text (Clash key at) = codes "7 clash " ++ encode_lower key ++ codes " " ++ difference_text at
+refusal_text DiskRead = codes "10 diskread"
+refusal_text DiskWrite = codes "11 diskwrite"
+refusal_text (Corrupt slot offset length want got) =
+    codes "13 corrupt " ++ decimal slot ++ codes " " ++ decimal offset ++ codes " " ++ decimal length ++ codes " " ++ encode_lower want ++ codes " " ++ encode_lower got
+refusal_text (Missing key) = codes "14 missing " ++ encode_lower key
+refusal_text Numbers = codes "15 numbers"
+refusal_text (NotAStore gate magic) = codes "16 notastore " ++ encode_lower (gate ∷ []) ++ codes " " ++ encode_lower magic
+refusal_text (Version n) = codes "17 version " ++ decimal n
+refusal_text (Damaged at why) = codes "18 damaged " ++ decimal at ++ codes " " ++ why_text why
+refusal_text AlreadyStore = codes "20 alreadystore"
+refusal_text (WrongSize want got) = codes "21 wrongsize " ++ decimal want ++ codes " " ++ decimal got
+
+-- how a command that was not done ended
+unfoldable pub ending_text : Ending → List ℕ
+ending_text Words = codes "words"
+ending_text Source = codes "source"
+ending_text Sink = codes "sink"
+ending_text (Refused refusal) = refusal_text refusal
+
+-- the line in the notes of a command that was not done
+unfoldable pub fault_line : Ending → List ℕ
+fault_line ending = codes "fault " ++ ending_text ending ++ codes "\n"

@@ -1,0 +1,44 @@
+//! How a command that was not done ended.
+ghost use Rattle.std.specs.Prelude.{◌≡◌};
+ghost use Rattle.actor_parts.specs.declared.refusal.Refusal.TheVariants.{Memory};
+ghost use Rattle.reply_text.specs.declared.ending.Ending.TheVariants.{Refused};
+
+use actor_parts::Refusal;
+use std::alloc::{AllocError, AllocFailed};
+
+/// Why a command was not done.
+#[derive(Clone, Copy, Debug, PartialEq, Eq)]
+pub enum Ending {
+    /// The words are no line of the table of commands.
+    Words,
+    /// The source failed.
+    Source,
+    /// The sink failed.
+    Sink,
+    /// A step was refused.
+    Refused(Refusal),
+}
+
+impl From<AllocError> for Ending {
+    ghost from_gives = { λ _ e. e ≡ Refused Memory };
+
+    fn from(_error: AllocError) -> Ending {
+        Ending::Refused(Refusal::Memory)
+    }
+}
+
+impl<T: Drop> From<AllocFailed<T>> for Ending {
+    ghost from_gives = { λ _ e. e ≡ Refused Memory };
+
+    fn from(_error: AllocFailed<T>) -> Ending {
+        Ending::Refused(Refusal::Memory)
+    }
+}
+
+impl From<Refusal> for Ending {
+    ghost from_gives = { λ r e. e ≡ Refused r };
+
+    fn from(refusal: Refusal) -> Ending {
+        Ending::Refused(refusal)
+    }
+}

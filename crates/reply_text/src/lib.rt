@@ -1,0 +1,15 @@
+//! What a command says: the lines of its reply, the line in the notes where it was not done, and its exit status.
+#![tactic(auto)]
+
+mod ending;
+mod notes;
+mod status;
+mod text;
+
+pub use ending::Ending;
+pub use notes::write_fault;
+pub use status::status_of;
+pub use text::{formatted_line, stored_line};
+
+#[cfg(test)]
+mod tests;

@@ -1,0 +1,312 @@
+//! The line in the notes of a command that was not done: docs/FORMAT.md, 'Texts'.
+ghost use Rattle.std.specs.Prelude.{◌≡◌, ◌*◌, length, OnOk, OnErr};
+ghost use Rattle.std.specs.List.{flat_map};
+ghost use Rattle.hex.specs.Hex.{encode_lower};
+ghost use Rattle.base_model.specs.Fault.{HasCause};
+ghost use Rattle.base_model.specs.Told.{Appended};
+ghost use Rattle.dd_io.specs.Flow.{AppendedPart};
+ghost use Rattle.actor_parts.specs.declared.refusal.Difference.TheVariants.{Length};
+ghost use Rattle.actor_parts.specs.declared.refusal.Why.TheVariants.{Digest, Field};
+ghost use Rattle.reply_text.specs.declared.ending.Ending.TheVariants.{Refused};
+ghost use Rattle.actor_parts.specs.declared.refusal.Refusal.TheVariants.{Full, Clash, Corrupt, Missing, NotAStore, Version, Damaged, WrongSize};
+ghost use Rattle.reply_text.specs.Text.{fault_line};
+
+use crate::ending::Ending;
+use actor_parts::{Difference, Refusal, Why};
+use dd_io::{Sink, SinkFault};
+use itoa::Buffer;
+
+// Writes some pieces, one after another.
+fn write_pieces<Q: Sink>(notes: &mut Q, pieces: &[&[u8]]) -> Result<(), SinkFault>
+    ensures ok { OnOk result (Appended (Q.written notes.old) (Q.written notes.new) (flat_map (λ piece. piece.now) pieces.now)) }
+    ensures err { OnErr result (AppendedPart (Q.written notes.old) (Q.written notes.new) (flat_map (λ piece. piece.now) pieces.now)) }
+    ensures cause { HasCause (Q.faults notes.old) (Q.faults notes.new) result }
+{
+    for piece in pieces {
+        notes.write_all(piece)?;
+    }
+    Ok(())
+}
+
+/// Writes the line of a command that was not done. It takes no memory.
+#[tactic(auto, unfolding(crate::specs::Text::fault_line, crate::specs::Text::ending_text))]
+pub fn write_fault<Q: Sink>(notes: &mut Q, ending: &Ending) -> Result<(), SinkFault>
+    ensures ok { OnOk result (Appended (Q.written notes.old) (Q.written notes.new) (fault_line ending.now)) }
+    ensures err { OnErr result (AppendedPart (Q.written notes.old) (Q.written notes.new) (fault_line ending.now)) }
+    ensures cause { HasCause (Q.faults notes.old) (Q.faults notes.new) result }
+{
+    match ending {
+        Ending::Words => write_pieces(notes, &[b"fault words\n"]),
+        Ending::Source => write_pieces(notes, &[b"fault source\n"]),
+        Ending::Sink => write_pieces(notes, &[b"fault sink\n"]),
+        Ending::Refused(refusal) => write_refusal(notes, refusal),
+    }
+}
+
+#[tactic(auto, unfolding(crate::specs::Text::fault_line, crate::specs::Text::ending_text, crate::specs::Text::refusal_text))]
+fn write_refusal<Q: Sink>(notes: &mut Q, refusal: &Refusal) -> Result<(), SinkFault>
+    ensures ok { OnOk result (Appended (Q.written notes.old) (Q.written notes.new) (fault_line (Refused refusal.now))) }
+    ensures err { OnErr result (AppendedPart (Q.written notes.old) (Q.written notes.new) (fault_line (Refused refusal.now))) }
+    ensures cause { HasCause (Q.faults notes.old) (Q.faults notes.new) result }
+{
+    match refusal {
+        Refusal::Memory => write_pieces(notes, &[b"fault 1 memory\n"]),
+        Refusal::NoFile => write_pieces(notes, &[b"fault 2 nofile\n"]),
+        Refusal::BadName => write_pieces(notes, &[b"fault 3 badname\n"]),
+        Refusal::TooMany => write_pieces(notes, &[b"fault 4 toomany\n"]),
+        Refusal::TooLong => write_pieces(notes, &[b"fault 5 toolong\n"]),
+        Refusal::Full { free } => write_full(notes, *free),
+        Refusal::Clash { key, at } => write_clash(notes, key, at),
+        Refusal::DiskRead => write_pieces(notes, &[b"fault 10 diskread\n"]),
+        Refusal::DiskWrite => write_pieces(notes, &[b"fault 11 diskwrite\n"]),
+        Refusal::Corrupt {
+            slot,
+            offset,
+            length,
+            want,
+            got,
+        } => write_corrupt(notes, *slot, *offset, *length, want, got),
+        Refusal::Missing { key } => write_missing(notes, key),
+        Refusal::Numbers => write_pieces(notes, &[b"fault 15 numbers\n"]),
+        Refusal::NotAStore { gate, magic } => write_not_a_store(notes, *gate, magic),
+        Refusal::Version { n } => write_version(notes, *n),
+        Refusal::Damaged { at, why } => write_damaged(notes, *at, why),
+        Refusal::AlreadyStore => write_pieces(notes, &[b"fault 20 alreadystore\n"]),
+        Refusal::WrongSize { want, got } => write_wrong_size(notes, *want, *got),
+    }
+}
+
+#[tactic(auto, unfolding(crate::specs::Text::fault_line, crate::specs::Text::ending_text, crate::specs::Text::refusal_text))]
+fn write_full<Q: Sink>(notes: &mut Q, free: u32) -> Result<(), SinkFault>
+    ensures ok { OnOk result (Appended (Q.written notes.old) (Q.written notes.new) (fault_line (Refused (Full free)))) }
+    ensures err { OnErr result (AppendedPart (Q.written notes.old) (Q.written notes.new) (fault_line (Refused (Full free)))) }
+    ensures cause { HasCause (Q.faults notes.old) (Q.faults notes.new) result }
+{
+    let mut free_text = Buffer::new();
+    write_pieces(
+        notes,
+        &[b"fault 6 full ", free_text.format(free).as_bytes(), b"\n"],
+    )
+}
+
+#[tactic(auto, unfolding(crate::specs::Text::fault_line, crate::specs::Text::ending_text, crate::specs::Text::refusal_text))]
+fn write_clash<Q: Sink>(notes: &mut Q, key: &[u8; 33], at: &Difference) -> Result<(), SinkFault>
+    ensures ok { OnOk result (Appended (Q.written notes.old) (Q.written notes.new) (fault_line (Refused (Clash key.now at.now)))) }
+    ensures err { OnErr result (AppendedPart (Q.written notes.old) (Q.written notes.new) (fault_line (Refused (Clash key.now at.now)))) }
+    ensures cause { HasCause (Q.faults notes.old) (Q.faults notes.new) result }
+{
+    match at {
+        Difference::Length { offered, held } => write_clash_length(notes, key, *offered, *held),
+    }
+}
+
+#[tactic(auto, unfolding(crate::specs::Text::fault_line, crate::specs::Text::ending_text, crate::specs::Text::refusal_text, crate::specs::Text::difference_text))]
+fn write_clash_length<Q: Sink>(
+    notes: &mut Q,
+    key: &[u8; 33],
+    offered: u64,
+    held: u64,
+) -> Result<(), SinkFault>
+    ensures ok { OnOk result (Appended (Q.written notes.old) (Q.written notes.new) (fault_line (Refused (Clash key.now (Length offered held))))) }
+    ensures err { OnErr result (AppendedPart (Q.written notes.old) (Q.written notes.new) (fault_line (Refused (Clash key.now (Length offered held))))) }
+    ensures cause { HasCause (Q.faults notes.old) (Q.faults notes.new) result }
+{
+    let mut key_digits = [0u8; 66];
+    put_digits(key, &mut key_digits);
+    let (mut offered_text, mut held_text) = (Buffer::new(), Buffer::new());
+    write_pieces(
+        notes,
+        &[
+            b"fault 7 clash ",
+            &key_digits,
+            b" length ",
+            offered_text.format(offered).as_bytes(),
+            b" ",
+            held_text.format(held).as_bytes(),
+            b"\n",
+        ],
+    )
+}
+
+#[tactic(auto, unfolding(crate::specs::Text::fault_line, crate::specs::Text::ending_text, crate::specs::Text::refusal_text))]
+fn write_corrupt<Q: Sink>(
+    notes: &mut Q,
+    slot: u32,
+    offset: u32,
+    length: u32,
+    want: &[u8; 32],
+    got: &[u8; 32],
+) -> Result<(), SinkFault>
+    ensures ok { OnOk result (Appended (Q.written notes.old) (Q.written notes.new) (fault_line (Refused (Corrupt slot offset length want.now got.now)))) }
+    ensures err { OnErr result (AppendedPart (Q.written notes.old) (Q.written notes.new) (fault_line (Refused (Corrupt slot offset length want.now got.now)))) }
+    ensures cause { HasCause (Q.faults notes.old) (Q.faults notes.new) result }
+{
+    let (mut slot_text, mut offset_text, mut length_text) = (
+        Buffer::new(),
+        Buffer::new(),
+        Buffer::new(),
+    );
+    let (mut want_digits, mut got_digits) = ([0u8; 64], [0u8; 64]);
+    put_digits(want, &mut want_digits);
+    put_digits(got, &mut got_digits);
+    write_pieces(
+        notes,
+        &[
+            b"fault 13 corrupt ",
+            slot_text.format(slot).as_bytes(),
+            b" ",
+            offset_text.format(offset).as_bytes(),
+            b" ",
+            length_text.format(length).as_bytes(),
+            b" ",
+            &want_digits,
+            b" ",
+            &got_digits,
+            b"\n",
+        ],
+    )
+}
+
+#[tactic(auto, unfolding(crate::specs::Text::fault_line, crate::specs::Text::ending_text, crate::specs::Text::refusal_text))]
+fn write_missing<Q: Sink>(notes: &mut Q, key: &[u8; 33]) -> Result<(), SinkFault>
+    ensures ok { OnOk result (Appended (Q.written notes.old) (Q.written notes.new) (fault_line (Refused (Missing key.now)))) }
+    ensures err { OnErr result (AppendedPart (Q.written notes.old) (Q.written notes.new) (fault_line (Refused (Missing key.now)))) }
+    ensures cause { HasCause (Q.faults notes.old) (Q.faults notes.new) result }
+{
+    let mut key_digits = [0u8; 66];
+    put_digits(key, &mut key_digits);
+    write_pieces(notes, &[b"fault 14 missing ", &key_digits, b"\n"])
+}
+
+#[tactic(auto, unfolding(crate::specs::Text::fault_line, crate::specs::Text::ending_text, crate::specs::Text::refusal_text))]
+fn write_not_a_store<Q: Sink>(notes: &mut Q, gate: u8, magic: &[u8; 7]) -> Result<(), SinkFault>
+    ensures ok { OnOk result (Appended (Q.written notes.old) (Q.written notes.new) (fault_line (Refused (NotAStore gate magic.now)))) }
+    ensures err { OnErr result (AppendedPart (Q.written notes.old) (Q.written notes.new) (fault_line (Refused (NotAStore gate magic.now)))) }
+    ensures cause { HasCause (Q.faults notes.old) (Q.faults notes.new) result }
+{
+    let (mut gate_digits, mut magic_digits) = ([0u8; 2], [0u8; 14]);
+    put_digits(&[gate], &mut gate_digits);
+    put_digits(magic, &mut magic_digits);
+    write_pieces(
+        notes,
+        &[
+            b"fault 16 notastore ",
+            &gate_digits,
+            b" ",
+            &magic_digits,
+            b"\n",
+        ],
+    )
+}
+
+#[tactic(auto, unfolding(crate::specs::Text::fault_line, crate::specs::Text::ending_text, crate::specs::Text::refusal_text))]
+fn write_version<Q: Sink>(notes: &mut Q, n: u32) -> Result<(), SinkFault>
+    ensures ok { OnOk result (Appended (Q.written notes.old) (Q.written notes.new) (fault_line (Refused (Version n)))) }
+    ensures err { OnErr result (AppendedPart (Q.written notes.old) (Q.written notes.new) (fault_line (Refused (Version n)))) }
+    ensures cause { HasCause (Q.faults notes.old) (Q.faults notes.new) result }
+{
+    let mut number = Buffer::new();
+    write_pieces(
+        notes,
+        &[b"fault 17 version ", number.format(n).as_bytes(), b"\n"],
+    )
+}
+
+#[tactic(auto, unfolding(crate::specs::Text::fault_line, crate::specs::Text::ending_text, crate::specs::Text::refusal_text))]
+fn write_damaged<Q: Sink>(notes: &mut Q, at: u64, why: &Why) -> Result<(), SinkFault>
+    ensures ok { OnOk result (Appended (Q.written notes.old) (Q.written notes.new) (fault_line (Refused (Damaged at why.now)))) }
+    ensures err { OnErr result (AppendedPart (Q.written notes.old) (Q.written notes.new) (fault_line (Refused (Damaged at why.now)))) }
+    ensures cause { HasCause (Q.faults notes.old) (Q.faults notes.new) result }
+{
+    match why {
+        Why::Digest { want, got } => write_damaged_digest(notes, at, want, got),
+        Why::Field { offset, got } => write_damaged_field(notes, at, *offset, *got),
+    }
+}
+
+#[tactic(auto, unfolding(crate::specs::Text::fault_line, crate::specs::Text::ending_text, crate::specs::Text::refusal_text, crate::specs::Text::why_text))]
+fn write_damaged_digest<Q: Sink>(
+    notes: &mut Q,
+    at: u64,
+    want: &[u8; 32],
+    got: &[u8; 32],
+) -> Result<(), SinkFault>
+    ensures ok { OnOk result (Appended (Q.written notes.old) (Q.written notes.new) (fault_line (Refused (Damaged at (Digest want.now got.now))))) }
+    ensures err { OnErr result (AppendedPart (Q.written notes.old) (Q.written notes.new) (fault_line (Refused (Damaged at (Digest want.now got.now))))) }
+    ensures cause { HasCause (Q.faults notes.old) (Q.faults notes.new) result }
+{
+    let mut at_text = Buffer::new();
+    let (mut want_digits, mut got_digits) = ([0u8; 64], [0u8; 64]);
+    put_digits(want, &mut want_digits);
+    put_digits(got, &mut got_digits);
+    write_pieces(
+        notes,
+        &[
+            b"fault 18 damaged ",
+            at_text.format(at).as_bytes(),
+            b" digest ",
+            &want_digits,
+            b" ",
+            &got_digits,
+            b"\n",
+        ],
+    )
+}
+
+#[tactic(auto, unfolding(crate::specs::Text::fault_line, crate::specs::Text::ending_text, crate::specs::Text::refusal_text, crate::specs::Text::why_text))]
+fn write_damaged_field<Q: Sink>(
+    notes: &mut Q,
+    at: u64,
+    offset: u32,
+    got: u64,
+) -> Result<(), SinkFault>
+    ensures ok { OnOk result (Appended (Q.written notes.old) (Q.written notes.new) (fault_line (Refused (Damaged at (Field offset got))))) }
+    ensures err { OnErr result (AppendedPart (Q.written notes.old) (Q.written notes.new) (fault_line (Refused (Damaged at (Field offset got))))) }
+    ensures cause { HasCause (Q.faults notes.old) (Q.faults notes.new) result }
+{
+    let (mut at_text, mut offset_text, mut got_text) = (
+        Buffer::new(),
+        Buffer::new(),
+        Buffer::new(),
+    );
+    write_pieces(
+        notes,
+        &[
+            b"fault 18 damaged ",
+            at_text.format(at).as_bytes(),
+            b" field ",
+            offset_text.format(offset).as_bytes(),
+            b" ",
+            got_text.format(got).as_bytes(),
+            b"\n",
+        ],
+    )
+}
+
+#[tactic(auto, unfolding(crate::specs::Text::fault_line, crate::specs::Text::ending_text, crate::specs::Text::refusal_text))]
+fn write_wrong_size<Q: Sink>(notes: &mut Q, want: u64, got: u64) -> Result<(), SinkFault>
+    ensures ok { OnOk result (Appended (Q.written notes.old) (Q.written notes.new) (fault_line (Refused (WrongSize want got)))) }
+    ensures err { OnErr result (AppendedPart (Q.written notes.old) (Q.written notes.new) (fault_line (Refused (WrongSize want got)))) }
+    ensures cause { HasCause (Q.faults notes.old) (Q.faults notes.new) result }
+{
+    let (mut want_text, mut got_text) = (Buffer::new(), Buffer::new());
+    write_pieces(
+        notes,
+        &[
+            b"fault 21 wrongsize ",
+            want_text.format(want).as_bytes(),
+            b" ",
+            got_text.format(got).as_bytes(),
+            b"\n",
+        ],
+    )
+}
+
+// Puts the hexadecimal digits of some bytes, in lower case.
+fn put_digits(bytes: &[u8], digits: &mut [u8])
+    requires { length digits.old ≡ 2 * length bytes.now }
+    ensures { digits.new ≡ encode_lower bytes.now }
+{
+    let done = hex::encode_to_slice(bytes, digits);
+    prove!(done.is_ok());
+}

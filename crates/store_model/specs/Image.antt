@@ -1,103 +1,110 @@
--- What a disk image stands for (docs/MODEL.md, 'Images'). For now an image holds one file of one segment at most:
--- the first form.
-use Rattle.std.specs.Prelude.{◌≡◌, ◌≢◌, ◌⊎◌, ℕ, ◌+◌, ◌*◌, ◌<◌, ◌≤◌, List, [], length, Option, Some, None, find}
+-- What a disk image stands for (docs/MODEL.md, 'Images').
+use Rattle.std.specs.Prelude.{◌≡◌, ◌≢◌, ◌⊎◌, ℕ, ◌+◌, ◌≤◌, List, [], ◌∷◌, length, max, Option, Some, None}
+use Rattle.std.specs.FinMap as finite
 use Rattle.std.specs.List.{AllByRecursion}
-use Rattle.std.specs.Str.{bytes_eq}
 use Rattle.sha2.specs.Sha256.{sha256}
-use Rattle.base_model.specs.Bytes.{range, byte_at}
-use Rattle.disk_format.specs.Layout.{IsSlotCount, size_of, slot_at, data_at}
-use Rattle.disk_format.specs.Cells.{FORMAT_GATE, SELECTOR_GATE, RECORD_GATE, CONTAINER_GATE, format_cell, selector_cell, put_cell, Root, IsName}
-use Rattle.container_meta.specs.declared.entry.Entry.{Entry}
-use Rattle.container_meta.specs.declared.kind.Kind.TheVariants.{Leaf}
-use Rattle.container_meta.specs.Spelling.{HeaderValue, header_spelling, IsHeader}
-use Rattle.store_model.specs.Files.{Files, no_files, with_file}
+use Rattle.base_model.specs.Bytes.{range, byte_at, key_of}
+use Rattle.disk_format.specs.Layout.{IsSlotCount, size_of, data_at, half_cells}
+use Rattle.disk_format.specs.Cells.{FORMAT_GATE, RecordValue, SelectorValue, IsSelector, format_cell}
+use Rattle.container_meta.specs.Spelling.{HeaderValue}
+use Rattle.namespace.specs.declared.record.Named.{Named}
+use Rattle.namespace.specs.Names.{NameMap, names_after}
+use Rattle.journal_cells.specs.Journal.{HoldsJournal, Follow, ClosedFrom, last_of}
+use Rattle.segment_index.specs.declared.place.Place.{Place}
+use Rattle.store_model.specs.Files.{Files, root_of}
+use Rattle.store_model.specs.Slots.{HoldSlots, AreHeaders, DifferentIds, Copy, newest, free_slots}
 
--- a name and the root that it has
-pub record NamedRoot : Type 0 where
-  pub name : List ℕ
-  pub root : Root
-
--- what an image of the first form holds
-pub record Holding : Type 0 where
+-- what an image holds: how many slots it has, the selector that counts, the records of its half, and what is in each slot
+pub record Store : Type 0 where
   pub slots : ℕ
-  pub file : Option NamedRoot
-  pub container : Option HeaderValue
+  pub selector : SelectorValue
+  pub records : List RecordValue
+  pub held : List (Option HeaderValue)
 
--- a root of a file of one segment or none
-pub record IsSmallRoot (root : Root) : Type 0 where
-  pub level : root.level ≡ 0
-  pub at_most : root.length ≤ 16384
-  pub digest : length root.digest ≡ 32
-  pub empty : root.length ≡ 0 → root.digest ≡ sha256 []
+-- the format cell is right, and says this many slots
+abbrev pub HasFormat : ℕ → List ℕ → Type 0
+HasFormat slots image = range 0 512 image ≡ format_cell slots
 
--- the first record is open and right, and the next is closed
-pub record IsFirstPut (image : List ℕ) (file : NamedRoot) : Type 0 where
-  pub name : IsName file.name
-  pub root : IsSmallRoot file.root
-  pub cell : range 1536 512 image ≡ put_cell 1 file.name file.root
-  pub next : byte_at 2048 image ≢ RECORD_GATE
+-- The image holds this: its cells and headers are right, and no two containers have one id.
+pub record IsRight (store : Store) (image : List ℕ) : Type 0 where
+  pub count : IsSlotCount store.slots
+  pub size : length image ≡ size_of store.slots
+  pub format : HasFormat store.slots image
+  pub journal : HoldsJournal image store.selector store.records
+  pub many : length store.held ≡ store.slots
+  pub slots_are : HoldSlots 0 store.held image
+  pub different : DifferentIds store.held
 
-abbrev pub HoldsRecord : List ℕ → Option NamedRoot → Type 0
-HoldsRecord image None = byte_at 1536 image ≢ RECORD_GATE
-HoldsRecord image (Some file) = IsFirstPut image file
+-- what is so of anything that an image of this size may hold
+pub record IsSound (size : ℕ) (store : Store) : Type 0 where
+  pub count : IsSlotCount store.slots
+  pub size_is : size ≡ size_of store.slots
+  pub selector_right : IsSelector store.selector
+  pub few : length store.records ≤ half_cells
+  pub follow : Follow 0 finite.empty store.records
+  pub many : length store.held ≡ store.slots
+  pub headers : AreHeaders store.held
+  pub different : DifferentIds store.held
 
--- slot 0 has a right data container of id 1
-pub record IsFirstContainer (image : List ℕ) (header : HeaderValue) : Type 0 where
-  pub right : IsHeader header
-  pub spelled : range (slot_at 0) 49664 image ≡ header_spelling header
-  pub id : header.id ≡ 1
-  pub kind : header.kind ≡ Leaf
+-- the names that the records leave
+abbrev pub names_of : Store → NameMap
+names_of store = names_after store.records finite.empty
 
-abbrev pub HoldsContainer : List ℕ → Option HeaderValue → Type 0
-HoldsContainer image None = byte_at (slot_at 0) image ≢ CONTAINER_GATE
-HoldsContainer image (Some header) = IsFirstContainer image header
+-- the last sequence number that was given out
+abbrev pub last_sequence : Store → ℕ
+last_sequence store = max store.selector.last (last_of 0 store.records)
 
-abbrev pub entry_with : List ℕ → HeaderValue → Option Entry
-entry_with digest header = find (λ e. bytes_eq e.digest digest) header.entries
+-- the bytes at the place of a segment
+abbrev pub bytes_at : Place → List ℕ → List ℕ
+bytes_at place image = range (data_at place.slot + place.offset) place.length image
 
--- the container has an entry of the root's digest and length; the empty file needs none
-abbrev pub HoldsRoot : Option HeaderValue → Root → Type 0
-HoldsRoot container root = (root.length ≡ 0) ⊎ ((header : HeaderValue) × (entry : Entry) × (container ≡ Some header) × (entry_with root.digest header ≡ Some entry) × (entry.length ≡ root.length))
+-- each entry's bytes have its digest, in slots from one on
+abbrev pub AreCopies : ℕ → List (Option HeaderValue) → List ℕ → Type 0
+AreCopies slot [] image = Unit {0}
+AreCopies slot (None ∷ cs) image = AreCopies (slot + 1) cs image
+AreCopies slot (Some h ∷ cs) image =
+    AllByRecursion (λ e. sha256 (range (data_at slot + e.offset) e.length image) ≡ e.digest) h.entries × AreCopies (slot + 1) cs image
 
--- the form of an image that holds one file at most
-pub record HasFirstForm (image : List ℕ) (held : Holding) : Type 0 where
-  pub slots : IsSlotCount held.slots
-  pub size : length image ≡ size_of held.slots
-  pub format : range 0 512 image ≡ format_cell held.slots
-  pub selector : range 512 512 image ≡ selector_cell 1 0 0
-  pub other_selector : byte_at 1024 image ≢ SELECTOR_GATE
-  pub record_cell : HoldsRecord image held.file
-  pub container : HoldsContainer image held.container
-  pub other_slots : (slot : ℕ) → 1 ≤ slot → slot < held.slots → byte_at (slot_at slot) image ≢ CONTAINER_GATE
-  pub named : (file : NamedRoot) → held.file ≡ Some file → HoldsRoot held.container file.root
+-- The newest copy of the segment of some bytes is these bytes. The empty file has no segment.
+abbrev pub HasCopy : List (Option HeaderValue) → List ℕ → List ℕ → Type 0
+HasCopy held bytes image = (bytes ≡ []) ⊎ ((copy : Copy) × (newest 0 held (key_of 0 (sha256 bytes)) ≡ Some copy) × (bytes_at copy.place image ≡ bytes))
 
--- The bytes of a file: those of the entry that its root names, and they have the root's length and digest.
-pub record AreBytesOf (image : List ℕ) (container : Option HeaderValue) (root : Root) (bytes : List ℕ) : Type 0 where
-  pub length : length bytes ≡ root.length
-  pub digest : sha256 bytes ≡ root.digest
-  pub place : (header : HeaderValue) (entry : Entry) → container ≡ Some header → entry_with root.digest header ≡ Some entry → root.length ≢ 0
-      → bytes ≡ range (data_at 0 + entry.offset) entry.length image
+-- what a name has, and its file: neither, or the root of the file, whose bytes are held
+abbrev pub IsFileOf : List (Option HeaderValue) → List ℕ → Option Named → Option (List ℕ) → Type 0
+IsFileOf held image None None = Unit {0}
+IsFileOf held image None (Some bytes) = ⊥
+IsFileOf held image (Some named) None = ⊥
+IsFileOf held image (Some named) (Some bytes) = (named.root ≡ root_of bytes) × HasCopy held bytes image
 
-abbrev pub AreFiles : List ℕ → Option HeaderValue → Option NamedRoot → Files → Type 0
-AreFiles image container None files = files ≡ no_files
-AreFiles image container (Some file) files = (bytes : List ℕ) × AreBytesOf image container file.root bytes × (files ≡ with_file no_files file.name bytes)
+-- the files are those of the names
+abbrev pub AreFilesOf : List (Option HeaderValue) → NameMap → List ℕ → Files → Type 0
+AreFilesOf held names image files = (name : List ℕ) → IsFileOf held image (finite.get names name) (finite.get files name)
 
--- each entry's bytes have its digest
-abbrev pub AreCopies : List ℕ → Option HeaderValue → Type 0
-AreCopies image container = (header : HeaderValue) → container ≡ Some header
-    → AllByRecursion (λ entry. sha256 (range (data_at 0 + entry.offset) entry.length image) ≡ entry.digest) header.entries
+-- The image holds this store, and is a store of these files. Past its records no record is open, each entry's bytes have
+-- its digest, and two slots or more are closed.
+pub record IsStoreOf (image : List ℕ) (store : Store) (files : Files) : Type 0 where
+  pub right : IsRight store image
+  pub past : ClosedFrom store.selector.half (length store.records) image
+  pub copies : AreCopies 0 store.held image
+  pub files_are : AreFilesOf store.held (names_of store) image files
+  pub reserve : 2 ≤ free_slots store.held
 
--- The image is a store of these files. Past the first record no record is open.
-pub record StandsFor (image : List ℕ) (files : Files) : Type 0 where
-  pub held : Holding
-  pub form : HasFirstForm image held
-  pub past : (cell : ℕ) → 1 ≤ cell → cell < 1024 → byte_at (1536 + 512 * cell) image ≢ RECORD_GATE
-  pub copies : AreCopies image held.container
-  pub files_are : AreFiles image held.container held.file files
+-- The image is a store of these files, with this last sequence number.
+pub record StandsFor (image : List ℕ) (files : Files) (last : ℕ) : Type 0 where
+  pub store : Store
+  pub holds : IsStoreOf image store files
+  pub last_is : last ≡ last_sequence store
 
--- the size of a disk, and no store on it
-pub record IsBlank (image : List ℕ) : Type 0 where
-  pub slots : ℕ
+-- the image is a store of these files, whatever its last sequence number
+abbrev pub StandsForFiles : List ℕ → Files → Type 0
+StandsForFiles image files = (last : ℕ) × StandsFor image files last
+
+-- the size of a disk of so many slots, and no store on it
+pub record IsBlankOf (slots : ℕ) (image : List ℕ) : Type 0 where
   pub count : IsSlotCount slots
   pub size : length image ≡ size_of slots
   pub closed : byte_at 0 image ≢ FORMAT_GATE
+
+-- the size of a disk, and no store on it
+abbrev pub IsBlank : List ℕ → Type 0
+IsBlank image = (slots : ℕ) × IsBlankOf slots image

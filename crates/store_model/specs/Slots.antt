@@ -1,11 +1,12 @@
 -- What the container slots of a disk image hold (docs/MODEL.md, 'Containers').
-use Rattle.std.specs.Prelude.{◌≡◌, ◌≢◌, ℕ, ◌+◌, List, [], ◌∷◌, max, nat_lt, if◌then◌else◌, Option, Some, None, find, option_map}
+use Rattle.std.specs.Prelude.{◌≡◌, ◌≢◌, ℕ, zero, suc, ◌+◌, List, [], ◌∷◌, length, max, nat_lt, if◌then◌else◌, Option, Some, None, find, option_map}
 use Rattle.std.specs.Str.{bytes_eq}
 use Rattle.std.specs.FinMap as finite
-use Rattle.base_model.specs.Bytes.{key_of}
+use Rattle.base_model.specs.Bytes.{range, key_of}
 use Rattle.container_meta.specs.declared.entry.Entry.{Entry}
+use Rattle.container_meta.specs.declared.kind.Kind.TheVariants.{Leaf}
 use Rattle.container_meta.specs.Format.{kind_byte}
-use Rattle.container_meta.specs.Spelling.{HeaderValue, IsHeader}
+use Rattle.container_meta.specs.Spelling.{HeaderValue, IsHeader, header_of, header_spelling}
 use Rattle.container_log.specs.Slots.{HoldsSlot}
 use Rattle.segment_index.specs.declared.place.Place.{Place}
 use Rattle.segment_index.specs.Places.{PlaceMap}
@@ -61,6 +62,10 @@ newest slot (c ∷ cs) key = newer (copy_in slot c key) (newest (slot + 1) cs ke
 abbrev pub IsIndexOf : List (Option HeaderValue) → PlaceMap → Type 0
 IsIndexOf containers places = (key : List ℕ) → finite.get places key ≡ option_map (λ c. c.place) (newest 0 containers key)
 
+-- the header of a container of one segment of a file
+abbrev pub one_segment : ℕ → List ℕ → HeaderValue
+one_segment id bytes = header_of id Leaf (record { level = 0; bytes = bytes } ∷ [])
+
 -- the greatest id, 0 where there is no container
 abbrev pub last_id : List (Option HeaderValue) → ℕ
 last_id [] = 0
@@ -72,3 +77,28 @@ abbrev pub ids_of : List (Option HeaderValue) → List ℕ
 ids_of [] = []
 ids_of (None ∷ cs) = 0 ∷ ids_of cs
 ids_of (Some h ∷ cs) = h.id ∷ ids_of cs
+
+-- how many slots are closed
+abbrev pub free_slots : List (Option HeaderValue) → ℕ
+free_slots [] = 0
+free_slots (None ∷ cs) = suc (free_slots cs)
+free_slots (Some h ∷ cs) = free_slots cs
+
+-- the closed slot of least number; where none is, how many there are
+abbrev pub first_free : List (Option HeaderValue) → ℕ
+first_free [] = 0
+first_free (None ∷ cs) = 0
+first_free (Some h ∷ cs) = suc (first_free cs)
+
+-- the slots once a container is in one of them
+abbrev pub with_slot : ℕ → HeaderValue → List (Option HeaderValue) → List (Option HeaderValue)
+with_slot slot h [] = []
+with_slot zero h (c ∷ cs) = Some h ∷ cs
+with_slot (suc slot) h (c ∷ cs) = c ∷ with_slot slot h cs
+
+-- the 262,144 bytes of a slot with a container of this one segment of a file
+pub record IsContainerOf (id : ℕ) (bytes slot : List ℕ) : Type 0 where
+  pub size : length slot ≡ 262144
+  pub right : IsHeader (one_segment id bytes)
+  pub header : range 0 49664 slot ≡ header_spelling (one_segment id bytes)
+  pub «data» : range 49664 (length bytes) slot ≡ bytes

@@ -1,0 +1,109 @@
+-- Closed slots, by the id in each slot: 0 where it is closed.
+use Rattle.std.proofs.Common.{◌≡◌, ℕ, ◌+◌, ◌-◌, ◌^◌, ◌<◌, ◌≤◌, Bool, true, false, cond, List, [], ◌∷◌, length, Option, Some, None, refl, sym, ap, ◌∙◌, arith}
+use Rattle.std.specs.Prelude.{◌==◌, ◌&&◌, nat_le, nat_lt}
+use Rattle.std.specs.List.{count_by, position, position_or_len, slice_get}
+use Rattle.std.proofs.lemmas.Bool.{leb-true, ltb-false, eqb-true}
+use Rattle.std.proofs.lemmas.List.Quantifiers.{position-Some}
+use Rattle.std.proofs.lemmas.List.Sums.{position_or_len_is}
+use Rattle.std.proofs.lemmas.List.Recursion.{is_count_by, is_position_or_len}
+use Rattle.container_meta.specs.Spelling.{HeaderValue, IsHeader}
+use Rattle.store_model.specs.Slots.{HoldSlots, AreHeaders, ids_of, free_slots, first_free}
+
+abbrev pub is_zero : ℕ → Bool
+is_zero id = id == 0
+
+-- a container's id isn't 0
+id_not_zero : (h : HeaderValue) → IsHeader h → is_zero h.id ≡ false
+id_not_zero h right = by_test (is_zero h.id) refl (both_true (nat_le 1 h.id) (nat_le h.id (2 ^ 64 - 2)) right.id)
+  where
+    both_true : (a b : Bool) → a && b ≡ true → a ≡ true
+    both_true true b e = refl
+    both_true false b e = e
+
+    by_test : (b : Bool) → is_zero h.id ≡ b → nat_le 1 h.id ≡ true → b ≡ false
+    by_test false is from_one = refl
+    by_test true is from_one = absurd (omega (arith, eqb-true h.id 0 is, leb-true 1 h.id from_one))
+
+-- the ids that are 0, and the place of the first of them
+zeros_in : List ℕ → ℕ
+zeros_in [] = 0
+zeros_in (id ∷ ids) = cond (is_zero id) (1 + zeros_in ids) (zeros_in ids)
+
+first_in : List ℕ → ℕ
+first_in [] = 0
+first_in (id ∷ ids) = cond (is_zero id) 0 (1 + first_in ids)
+
+zeros_are_free : (held : List (Option HeaderValue)) → AreHeaders held → zeros_in (ids_of held) ≡ free_slots held
+unfolding zeros_in
+zeros_are_free [] right = refl
+zeros_are_free (None ∷ held) right = omega (arith, zeros_are_free held right)
+zeros_are_free (Some h ∷ held) right =
+    ap (λ (b : Bool). cond b (1 + zeros_in (ids_of held)) (zeros_in (ids_of held))) (id_not_zero h right.0) ∙ zeros_are_free held right.1
+
+first_is_free : (held : List (Option HeaderValue)) → AreHeaders held → first_in (ids_of held) ≡ first_free held
+unfolding first_in
+first_is_free [] right = refl
+first_is_free (None ∷ held) right = refl
+first_is_free (Some h ∷ held) right =
+    ap (λ (b : Bool). cond b 0 (1 + first_in (ids_of held))) (id_not_zero h right.0) ∙ omega (arith, first_is_free held right.1)
+
+-- as many ids are 0 as slots are closed
+pub zeros_free : (held : List (Option HeaderValue)) → AreHeaders held → count_by is_zero (ids_of held) ≡ free_slots held
+unfolding zeros_in
+zeros_free held right = sym (is_count_by zeros_in is_zero refl (λ x xs. refl) (ids_of held)) ∙ zeros_are_free held right
+
+-- the first id that is 0 is that of the closed slot of least number
+pub first_zero : (held : List (Option HeaderValue)) → AreHeaders held → position_or_len is_zero (ids_of held) ≡ first_free held
+unfolding first_in
+first_zero held right = sym (is_position_or_len first_in is_zero refl (λ x xs. refl) (ids_of held)) ∙ first_is_free held right
+
+-- that slot is closed
+pub first_closed : (held : List (Option HeaderValue)) → first_free held < length held → slice_get held (first_free held) ≡ Some None
+first_closed [] within = absurd (omega arith)
+first_closed (None ∷ held) within = refl
+first_closed (Some h ∷ held) within = first_closed held (omega arith)
+
+-- where no slot is closed, the number of slots stands in its place
+pub none_free : (held : List (Option HeaderValue)) → length held ≤ first_free held → free_slots held ≡ 0
+none_free [] all = refl
+none_free (None ∷ held) all = absurd (omega arith)
+none_free (Some h ∷ held) all = none_free held (omega arith)
+
+-- where a slot is closed, there is one of least number
+pub some_free : (held : List (Option HeaderValue)) → 1 ≤ free_slots held → first_free held < length held
+some_free [] some = absurd (omega arith)
+some_free (None ∷ held) some = omega arith
+some_free (Some h ∷ held) some = omega (arith, some_free held some)
+
+-- each slot has an id
+pub as_many : (held : List (Option HeaderValue)) → length (ids_of held) ≡ length held
+as_many [] = refl
+as_many (None ∷ held) = omega (arith, as_many held)
+as_many (Some h ∷ held) = omega (arith, as_many held)
+
+-- the place of the first id that is 0 is that slot
+pub place_free : (held : List (Option HeaderValue)) (slot : ℕ) → AreHeaders held → position is_zero (ids_of held) ≡ Some slot
+    → (slot ≡ first_free held) × (slot < length held) × (slice_get held slot ≡ Some None)
+place_free held slot right is =
+    let found = position-Some is_zero (ids_of held) slot 0 is in
+    let few : slot < length held = omega (arith, found.0, as_many held) in
+    let first : slot ≡ first_free held =
+    sym (position_or_len_is is_zero (ids_of held) slot 0 (omega (arith, found.0)) found.2 (λ within. found.1)) ∙ first_zero held right in
+    (first, few, ap (slice_get held) first ∙ first_closed held (omega (arith, first, few)))
+
+-- where there is none, no slot is closed
+pub no_place_free : (held : List (Option HeaderValue)) → AreHeaders held → position is_zero (ids_of held) ≡ None → free_slots held ≡ 0
+no_place_free held right is = none_free held (omega (arith, first_zero held right, as_many held, past))
+  where
+    by_test : (b : Bool) (place : ℕ) → nat_lt place (length (ids_of held)) ≡ b → cond b (Some place) None ≡ None → nat_lt place (length (ids_of held)) ≡ false
+    by_test false place e none = e
+    by_test true place e none = absurd cc
+
+    past : length (ids_of held) ≤ position_or_len is_zero (ids_of held)
+    past = ltb-false (position_or_len is_zero (ids_of held)) (length (ids_of held)) (by_test _ (position_or_len is_zero (ids_of held)) refl is)
+
+-- slots that an image holds have right headers
+pub headers_held : (slot : ℕ) (held : List (Option HeaderValue)) (image : List ℕ) → HoldSlots slot held image → AreHeaders held
+headers_held slot [] image holds = tt
+headers_held slot (None ∷ held) image holds = headers_held (slot + 1) held image holds.1
+headers_held slot (Some h ∷ held) image holds = (holds.0.0, headers_held (slot + 1) held image holds.1)

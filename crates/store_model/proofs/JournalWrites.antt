@@ -1,0 +1,100 @@
+-- What an image keeps of a store where bytes of its journal alone change.
+use Rattle.std.proofs.Common.{◌≡◌, ◌≢◌, inl, inr, ℕ, ◌+◌, ◌-◌, ◌≤◌, List, [], ◌∷◌, length, Option, Some, None, sym, ◌∙◌, ap, arith}
+use Rattle.std.proofs.lemmas.Bool.Decides.{eqb_tells}
+use Rattle.std.specs.FinMap as finite
+use Rattle.std.specs.List.{AllByRecursion}
+use Rattle.sha2.specs.Sha256.{sha256}
+use Rattle.base_model.specs.Bytes.{range, byte_at}
+use Rattle.disk_format.specs.Cells.{RecordValue, SelectorValue, RECORD_GATE}
+use Rattle.disk_format.specs.Layout.{slot_at, data_at, selector_at, cell_at}
+use Rattle.container_meta.specs.declared.entry.Entry.{Entry}
+use Rattle.container_meta.specs.Spelling.{HeaderValue}
+use Rattle.container_log.specs.Slots.{HoldsSlot}
+use Rattle.namespace.specs.declared.record.Named.{Named}
+use Rattle.namespace.specs.Names.{NameMap}
+use Rattle.journal_cells.specs.Journal.{HoldsSelector, IsOlder, StandFrom, HoldsRecords, ClosedFrom}
+use Rattle.store_model.specs.Files.{Files}
+use Rattle.store_model.specs.Slots.{HoldSlots}
+use Rattle.store_model.specs.Image.{HasFormat, AreCopies, HasCopy, IsFileOf, AreFilesOf}
+use Rattle.dd_disk.proofs.Outside.{SameOutside, byte_before, byte_behind}
+
+module _ (at count : ℕ) (old new : List ℕ) (same : SameOutside at count old new) where
+  -- ---- where the range ends before the slots
+  module _ (ends : at + count ≤ 1050112) where
+    kept_slot : (slot : ℕ) (container : Option HeaderValue) → HoldsSlot old slot container → HoldsSlot new slot container
+    kept_slot slot None closed = λ opened. closed (sym (byte_behind (slot_at slot) at count old new (omega (arith, ends)) same) ∙ opened)
+    kept_slot slot (Some h) held = (held.0, same.behind (slot_at slot) 49664 (omega (arith, ends)) ∙ held.1)
+
+    -- each slot has what it had
+    pub kept_slots : (slot : ℕ) (held : List (Option HeaderValue)) → HoldSlots slot held old → HoldSlots slot held new
+    kept_slots slot [] all = tt
+    kept_slots slot (c ∷ cs) all = (kept_slot slot c all.0, kept_slots (slot + 1) cs all.1)
+
+    kept_entries : (slot : ℕ) (entries : List Entry) → AllByRecursion (λ e. sha256 (range (data_at slot + e.offset) e.length old) ≡ e.digest) entries
+        → AllByRecursion (λ e. sha256 (range (data_at slot + e.offset) e.length new) ≡ e.digest) entries
+    kept_entries slot [] all = tt
+    kept_entries slot (e ∷ es) all = (ap sha256 (same.behind (data_at slot + e.offset) e.length (omega (arith, ends))) ∙ all.0, kept_entries slot es all.1)
+
+    -- each entry's bytes have its digest still
+    pub kept_copies : (slot : ℕ) (held : List (Option HeaderValue)) → AreCopies slot held old → AreCopies slot held new
+    kept_copies slot [] all = tt
+    kept_copies slot (None ∷ cs) all = kept_copies (slot + 1) cs all
+    kept_copies slot (Some h ∷ cs) all = (kept_entries slot h.entries all.0, kept_copies (slot + 1) cs all.1)
+
+    -- the copy of a file's segment is its bytes still
+    pub kept_copy : (held : List (Option HeaderValue)) (bytes : List ℕ) → HasCopy held bytes old → HasCopy held bytes new
+    kept_copy held bytes (inl none) = inl none
+    kept_copy held bytes (inr (copy, found, is)) = inr (copy, found, same.behind (data_at copy.place.slot + copy.place.offset) copy.place.length (omega (arith, ends)) ∙ is)
+
+    -- a name has its file still
+    pub kept_file : (held : List (Option HeaderValue)) (named : Option Named) (file : Option (List ℕ)) → IsFileOf held old named file → IsFileOf held new named file
+    kept_file held None None is = tt
+    kept_file held None (Some bytes) is = absurd is
+    kept_file held (Some named) None is = absurd is
+    kept_file held (Some named) (Some bytes) is = (is.0, kept_copy held bytes is.1)
+
+    pub kept_files : (held : List (Option HeaderValue)) (names : NameMap) (files : Files) → AreFilesOf held names old files → AreFilesOf held names new files
+    kept_files held names files are name = kept_file held (finite.get names name) (finite.get files name) (are name)
+
+  -- ---- where the range is behind the selectors
+  module _ (behind : 1536 ≤ at) where
+    pub kept_format : (slots : ℕ) → HasFormat slots old → HasFormat slots new
+    kept_format slots is = same.before 0 512 (omega (arith, behind)) ∙ is
+
+    pub kept_selector : (s : SelectorValue) → HoldsSelector old s → HoldsSelector new s
+    kept_selector s held = (held.0, same.before (selector_at s.half) 512 (omega (arith, behind, held.0.half)) ∙ held.1)
+
+    pub kept_older : (s : SelectorValue) → IsOlder old s → IsOlder new s
+    kept_older s (inl closed) = inl (λ opened. closed (sym (byte_before (selector_at (1 - s.half)) at count old new (omega (arith, behind)) same) ∙ opened))
+    kept_older s (inr (t, half, held, less)) = inr (t, half, kept_selector t held, less)
+
+-- ---- the cell behind the records of a half
+
+module _ (half place : ℕ) (old new : List ℕ) (same : SameOutside (cell_at half place) 512 old new) where
+  -- records in the cells before it stand
+  pub stand_before : (cell : ℕ) (rs : List RecordValue) → cell + length rs ≤ place → StandFrom half cell rs old → StandFrom half cell rs new
+  stand_before cell [] before stands = tt
+  stand_before cell (r ∷ rs) before stands = (same.before (cell_at half cell) 512 (omega arith) ∙ stands.0, stand_before (cell + 1) rs (omega arith) stands.1)
+
+  -- the cells behind it are closed
+  closed_behind : ClosedFrom half place old → ClosedFrom half (place + 1) new
+  closed_behind closed cell from within opened =
+      closed cell (omega arith) within (sym (byte_behind (cell_at half cell) (cell_at half place) 512 old new (omega arith) same) ∙ opened)
+
+  -- and so is each from it on, where its own gate is closed
+  pub closed_still : ClosedFrom half place old → byte_at (cell_at half place) new ≢ RECORD_GATE → ClosedFrom half place new
+  closed_still closed here cell from within =
+      elim (eqb_tells cell place) [
+        | inl at ↦ λ opened. here (ap (λ (k : ℕ). byte_at (cell_at half k) new) (sym at.1) ∙ opened)
+        | inr other ↦ closed_behind closed cell (omega (arith, other.1)) within
+      ]
+
+-- where the cell behind the records changes and its gate is closed, the same records stand
+pub records_still : (half : ℕ) (rs : List RecordValue) (old new : List ℕ) → SameOutside (cell_at half (length rs)) 512 old new → HoldsRecords half rs old
+    → byte_at (cell_at half (length rs)) new ≢ RECORD_GATE → HoldsRecords half rs new
+records_still half rs old new same held closed = record {
+  few = held.few;
+  right = held.right;
+  stand = stand_before half (length rs) old new same 0 rs (omega arith) held.stand;
+  ends = λ less. closed;
+}

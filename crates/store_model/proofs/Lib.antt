@@ -1,0 +1,14 @@
+pub mod Copies
+pub mod Empty
+pub mod Filled
+pub mod Frames
+pub mod Free
+pub mod JournalWrites
+pub mod Kept
+pub mod Lookups
+pub mod NewestWith
+pub mod Placed
+pub mod Put
+pub mod Roots
+pub mod Sealed
+pub mod Sound

@@ -1,5 +1,7 @@
+mod Blank
 mod Closed
 mod Entered
+mod Formatted
 mod JournalFaults
 mod Newest
 mod Reading

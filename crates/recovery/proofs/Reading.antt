@@ -12,7 +12,7 @@ use Rattle.container_log.specs.Slots.{HoldsSlot}
 use Rattle.dd_disk.specs.declared.disk.Disk.{Ghosts}
 use Rattle.dd_disk.proofs.Disks.{Saw, Reads, always, weaker, both}
 use Rattle.actor_parts.specs.declared.refusal.Refusal.{Refusal}
-use Rattle.actor_parts.specs.declared.refusal.Refusal.TheVariants.{Memory, Full, DiskRead, DiskWrite, NotAStore, Version, Damaged, WrongSize}
+use Rattle.actor_parts.specs.declared.refusal.Refusal.TheVariants.{Memory, DiskRead, Damaged}
 use Rattle.actor_parts.specs.declared.refusal.Why.TheVariants.{Field}
 use Rattle.store_model.specs.Slots.{HoldSlots, AreHeaders, IsFresh, DifferentIds}
 use Rattle.recovery.specs.declared.slots.Containers.{Containers}
@@ -125,11 +125,7 @@ module _ {D : Type 0} (disk : Ghosts D) where
   damage_of old new before slot failed Memory is = tt
   damage_of old new before slot failed DiskRead is = is
   damage_of old new before slot failed (Damaged at why) is = (is.0, weaker disk old new (λ image sized seen. (seen.0, inl seen.1)) is.1)
-  damage_of old new before slot failed (Full free) is = absurd is
-  damage_of old new before slot failed DiskWrite is = absurd is
-  damage_of old new before slot failed (NotAStore g m) is = absurd is
-  damage_of old new before slot failed (Version n) is = absurd is
-  damage_of old new before slot failed (WrongSize w g) is = absurd is
+  damage_of old new before slot failed refusal is = absurd is
 
   pub none_yet : (d : D) (told : Containers) → AreTold [] told → ArePartOf (Saw disk d d) 0 told
   none_yet d told are =
@@ -213,21 +209,12 @@ module _ {D : Type 0} (disk : Ghosts D) where
           different = part.different;
           damage = weaker disk old new (λ image sized seen. (seen.0.0, seen.1.0, seen.1.1)) (both disk gave_after gave_before old mid new part.seen before is.1 reads);
         }
-    refused old mid new slots slot told (Full free) part within before is reads = absurd is
-    refused old mid new slots slot told DiskWrite part within before is reads = absurd is
-    refused old mid new slots slot told (NotAStore g m) part within before is reads = absurd is
-    refused old mid new slots slot told (Version n) part within before is reads = absurd is
-    refused old mid new slots slot told (WrongSize w g) part within before is reads = absurd is
+    refused old mid new slots slot told refusal part within before is reads = absurd is
 
 unanswered : {A : Type 0} (P : A → Type 0) (e : Refusal) → Unanswered e → Gives P (Err e)
 unanswered P Memory is = tt
 unanswered P DiskRead is = tt
-unanswered P (Damaged at why) is = absurd is
-unanswered P (Full free) is = absurd is
-unanswered P DiskWrite is = absurd is
-unanswered P (NotAStore g m) is = absurd is
-unanswered P (Version n) is = absurd is
-unanswered P (WrongSize w g) is = absurd is
+unanswered P refusal is = absurd is
 
 pub gives_passed : {A : Type 0} (P : A → Type 0) (result : Result A Refusal) (e : Refusal) → IsErrAnd result (λ y. y ≡ e) → Unanswered e → Gives P result
 gives_passed P (Ok x) e passed is = absurd passed

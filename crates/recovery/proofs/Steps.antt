@@ -1,5 +1,5 @@
 -- The steps of an opening, one behind the other.
-use Rattle.std.proofs.Common.{◌≡◌, inl, inr, ℕ, ◌≤◌, List, Option, Result, Ok, Err, refl, sym, subst, arith}
+use Rattle.std.proofs.Common.{◌≡◌, inl, inr, ℕ, ◌≤◌, List, Result, Ok, Err, refl, sym, ◌∙◌, subst, arith}
 use Rattle.std.specs.Result.{IsErrAnd}
 use Rattle.base_model.specs.Bytes.{range}
 use Rattle.base_model.specs.Fault.{Rose}
@@ -8,7 +8,6 @@ use Rattle.disk_format.specs.Cells.{RecordValue, SelectorValue}
 use Rattle.disk_format.specs.Layout.{IsSlotCount, size_of, least_size}
 use Rattle.dd_disk.specs.declared.disk.Disk.{Ghosts}
 use Rattle.dd_disk.proofs.Disks.{Saw, Reads, weaker, also, until, since, both}
-use Rattle.container_meta.specs.Spelling.{HeaderValue}
 use Rattle.namespace.specs.Names.{NameMap}
 use Rattle.journal_cells.specs.declared.fault.CellFault.{CellFault}
 use Rattle.journal_cells.specs.declared.fault.CellFault.TheVariants as fault
@@ -18,12 +17,12 @@ use Rattle.journal_cells.specs.Heads.{format_in}
 use Rattle.journal_cells.specs.Journal.{JournalValue, IsScanned, IsTold, journal_in}
 use Rattle.actor_parts.specs.declared.refusal.Why.{Why}
 use Rattle.actor_parts.specs.declared.refusal.Refusal.{Refusal}
-use Rattle.actor_parts.specs.declared.refusal.Refusal.TheVariants.{Memory, Full, DiskRead, DiskWrite, NotAStore, Version, Damaged, WrongSize}
+use Rattle.actor_parts.specs.declared.refusal.Refusal.TheVariants.{Memory, DiskRead, DiskWrite, Damaged, WrongSize}
+use Rattle.store_model.specs.Image.{Store}
 use Rattle.recovery.specs.declared.opening.Opened.{Opened}
-use Rattle.recovery.specs.declared.slots.Containers.{Containers}
 use Rattle.recovery.specs.Slots.{AreSlots, AreTold, IsDamagedSlot, IsSlotsRefusal}
 use Rattle.recovery.specs.Slots as slot
-use Rattle.recovery.specs.Opening.{IsSized, Opens, IsFailure, Answers, IsBeginRefusal, IsOpenRefusal, BreaksFormat, BreaksJournal, BreaksSlots, cell_refusal}
+use Rattle.recovery.specs.Opening.{IsSized, IsFound, Opens, IsFailure, Answers, IsBeginRefusal, IsOpenRefusal, BreaksFormat, BreaksJournal, BreaksSlots, cell_refusal}
 use Rattle.recovery.proofs.JournalFaults.{is_store}
 
 -- ---- a refusal that says nothing of a right image
@@ -46,54 +45,34 @@ cell_failure P (fault.Version n) is = absurd is
 pub slot_failure : {A : Type 0} (P : A → Type 0) (r : Refusal) → slot.Gives P (Err r) → IsFailure r
 slot_failure P Memory is = tt
 slot_failure P DiskRead is = tt
-slot_failure P DiskWrite is = absurd is
-slot_failure P (WrongSize want got) is = absurd is
-slot_failure P (NotAStore gate magic) is = absurd is
-slot_failure P (Version n) is = absurd is
-slot_failure P (Damaged at why) is = absurd is
-slot_failure P (Full free) is = absurd is
+slot_failure P refusal is = absurd is
 
 -- a disk that is large enough
 pub begin_failure : (size : ℕ) (failed : Type 0) (r : Refusal) → IsBeginRefusal size failed r → least_size ≤ size → IsFailure r
-begin_failure size failed Memory is large = absurd is
-begin_failure size failed DiskRead is large = absurd is
 begin_failure size failed DiskWrite is large = tt
 begin_failure size failed (WrongSize want got) is large = absurd (omega (arith, is.1, large))
-begin_failure size failed (NotAStore gate magic) is large = absurd is
-begin_failure size failed (Version n) is large = absurd is
-begin_failure size failed (Damaged at why) is large = absurd is
-begin_failure size failed (Full free) is large = absurd is
+begin_failure size failed refusal is large = absurd is
 
 pub is_large : (slots size : ℕ) → IsSlotCount slots → size ≡ size_of slots → least_size ≤ size
 is_large slots size count is = omega (arith, count.0, is)
 
 -- what is refused before the last check
-pub opens_passed : (slots : ℕ) (selector : SelectorValue) (records : List RecordValue) (held : List (Option HeaderValue)) (result : Result Opened Refusal) (e : Refusal)
-    → IsErrAnd result (λ y. y ≡ e) → IsFailure e → Opens slots selector records held result
-opens_passed slots selector records held (Ok o) e passed is = absurd passed
-opens_passed slots selector records held (Err f) e passed is = by_refusal f (subst IsFailure (sym passed) is)
+pub opens_passed : (store : Store) (result : Result Opened Refusal) (e : Refusal) → IsErrAnd result (λ y. y ≡ e) → IsFailure e → Opens store result
+opens_passed store (Ok o) e passed is = absurd passed
+opens_passed store (Err f) e passed is = by_refusal f (subst IsFailure (sym passed) is)
   where
-    by_refusal : (f : Refusal) → IsFailure f → Opens slots selector records held (Err f)
+    by_refusal : (f : Refusal) → IsFailure f → Opens store (Err f)
     by_refusal Memory is = tt
     by_refusal DiskRead is = tt
     by_refusal DiskWrite is = tt
-    by_refusal (WrongSize want got) is = absurd is
-    by_refusal (NotAStore gate magic) is = absurd is
-    by_refusal (Version n) is = absurd is
-    by_refusal (Damaged at why) is = absurd is
-    by_refusal (Full free) is = absurd is
+    by_refusal refusal is = absurd is
 
 -- ---- why a disk was not opened
 
 pub begin_refusal : (shown : (List ℕ → Type 0) → Type 0) (size : ℕ) (failed : Type 0) (r : Refusal) → IsBeginRefusal size failed r → IsOpenRefusal shown size failed r
-begin_refusal shown size failed Memory is = absurd is
-begin_refusal shown size failed DiskRead is = absurd is
 begin_refusal shown size failed DiskWrite is = is
 begin_refusal shown size failed (WrongSize want got) is = (is.0, inl (is.1, is.2))
-begin_refusal shown size failed (NotAStore gate magic) is = absurd is
-begin_refusal shown size failed (Version n) is = absurd is
-begin_refusal shown size failed (Damaged at why) is = absurd is
-begin_refusal shown size failed (Full free) is = absurd is
+begin_refusal shown size failed refusal is = absurd is
 
 -- the journal with its own last sequence number
 pub own_last : (shown : (List ℕ → Type 0) → Type 0) (journal : JournalValue) (names : NameMap) (last : ℕ) → IsScanned shown journal names last → IsScanned shown journal names journal.last
@@ -175,28 +154,10 @@ module _ {D : Type 0} (disk : Ghosts D) (gave_after : (d e f : D) (at : ℕ) (by
       by_refusal : (r : Refusal) → IsSlotsRefusal (Saw disk mid new) (Rose (disk.faults mid) (disk.faults new)) slots r → IsOpenRefusal (Saw disk old new) (disk.size old) (Rose (disk.faults old) (disk.faults new)) r
       by_refusal Memory is = tt
       by_refusal DiskRead is = rose_since (disk.faults old) (disk.faults mid) (disk.faults new) before.later is
-      by_refusal DiskWrite is = absurd is
-      by_refusal (WrongSize want got) is = absurd is
-      by_refusal (NotAStore gate magic) is = absurd is
-      by_refusal (Version n) is = absurd is
       by_refusal (Damaged at why) is = inr (inr (breaks at why is))
-      by_refusal (Full free) is = absurd is
+      by_refusal refusal is = absurd is
 
   -- ---- what is known after later calls that read
-
-  pub sized_until : (old mid new : D) (slots : ℕ) → IsSized (Saw disk old mid) (disk.size old) slots → Reads disk mid new → IsSized (Saw disk old new) (disk.size old) slots
-  sized_until old mid new slots sized after = record { count = sized.count; size_is = sized.size_is; format = until disk gave_after old mid new sized.format after }
-
-  pub scanned_until : (old mid new : D) (journal : JournalValue) (names : NameMap) (last : ℕ) → IsScanned (Saw disk old mid) journal names last → Reads disk mid new → IsScanned (Saw disk old new) journal names last
-  scanned_until old mid new journal names last is after = record {
-    selector = is.selector;
-    records = is.records;
-    holds = until disk gave_after old mid new is.holds after;
-    selector_right = is.selector_right;
-    few = is.few;
-    right = is.right;
-    told = is.told;
-  }
 
   pub scanned_since : (old mid new : D) (journal : JournalValue) (names : NameMap) (last : ℕ) → Reads disk old mid → IsScanned (Saw disk mid new) journal names last → IsScanned (Saw disk old new) journal names last
   scanned_since old mid new journal names last before is = record {
@@ -209,12 +170,29 @@ module _ {D : Type 0} (disk : Ghosts D) (gave_after : (d e f : D) (at : ℕ) (by
     told = is.told;
   }
 
-  pub slots_since : (old mid new : D) (slots : ℕ) (told : Containers) → Reads disk old mid → AreSlots (Saw disk mid new) slots told → AreSlots (Saw disk old new) slots told
-  slots_since old mid new slots told before is = record {
-    held = is.held;
-    many = is.many;
-    right = is.right;
-    holds = since disk gave_before old mid new before is.holds;
-    different = is.different;
-    are_told = is.are_told;
+  -- what was read, as one store
+  pub found_all : (old mid new : D) (o : Opened) → IsSized (Saw disk old mid) (disk.size old) o.slots → IsScanned (Saw disk old mid) o.journal o.names o.journal.last
+      → Reads disk old mid → AreSlots (Saw disk mid new) o.slots o.containers → Reads disk mid new → IsFound (Saw disk old new) (disk.size old) o
+  found_all old mid new o sized scanned before slots after = record {
+    store = record { slots = o.slots; selector = scanned.selector; records = scanned.records; held = slots.held };
+    keeps = record { slots_are = refl; journal = scanned.told; containers = slots.are_told };
+    sound = record {
+      count = sized.count;
+      size_is = sized.size_is;
+      selector_right = scanned.selector_right;
+      few = scanned.few;
+      follow = scanned.right;
+      many = slots.many;
+      headers = slots.right;
+      different = slots.different;
+    };
+    right = weaker disk old new (λ image long seen. record {
+      count = sized.count;
+      size = long ∙ sized.size_is;
+      format = seen.0.0;
+      journal = seen.0.1;
+      many = slots.many;
+      slots_are = seen.1;
+      different = slots.different;
+    }) (both disk gave_after gave_before old mid new (also disk old mid sized.format scanned.holds) before slots.holds after);
   }

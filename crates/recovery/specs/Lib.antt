@@ -1,2 +1,4 @@
+pub mod Formatting
 pub mod Opening
 pub mod Slots
+pub mod State

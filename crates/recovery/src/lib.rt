@@ -1,10 +1,12 @@
-//! Opening a store: what is on its disk, in the order in which it is looked at.
+//! Making an empty store, and opening a store: what is on its disk, in the order in which it is looked at.
 //!
 //! The rules are docs/MODEL.md, 'Opening'.
 #![tactic(auto)]
 
+mod formatting;
 mod opening;
 mod slots;
 
+pub use formatting::format;
 pub use opening::{Opened, open};
 pub use slots::Containers;

@@ -1,14 +1,12 @@
 //! Opening a store.
-ghost use Rattle.std.specs.Prelude.{◌≡◌, ◌≤◌, ℕ, List, Option, length, OnOk, IfOk, IfErr};
+ghost use Rattle.std.specs.Prelude.{◌≡◌, ◌≤◌, OnOk, IfOk, IfErr};
 ghost use Rattle.base_model.specs.Fault.{Rose};
 ghost use Rattle.base_model.specs.Shown.{Shown, OnlyReads};
 ghost use Rattle.dd_disk.specs.Disk.{Only};
-ghost use Rattle.disk_format.specs.Cells.{RecordValue, SelectorValue};
 ghost use Rattle.disk_format.specs.Layout.{IsSlotCount, size_of, least_size};
-ghost use Rattle.container_meta.specs.Spelling.{HeaderValue};
 ghost use Rattle.journal_cells.specs.Journal.{IsScanned, IsTold};
-ghost use Rattle.recovery.specs.Slots.{AreTold};
-ghost use Rattle.recovery.specs.Opening.{Answers, HasFormat, IsSized, IsFound, IsOpened, IsRight, Opens, IsBeginRefusal, IsOpenRefusal, cell_why, cell_refusal, closed_in};
+ghost use Rattle.store_model.specs.Image.{Store, IsRight, HasFormat};
+ghost use Rattle.recovery.specs.Opening.{Answers, Keeps, IsSized, IsFound, IsOpened, Opens, IsBeginRefusal, IsOpenRefusal, cell_why, cell_refusal};
 
 use crate::slots::{Containers, read_slots};
 use actor_parts::{Refusal, Why};
@@ -20,7 +18,7 @@ use std::alloc::Global;
 /// The bytes of the smallest disk.
 const LEAST_SIZE: u64 = 2_622_976;
 /// The bytes before the container slots.
-const HEAD: u64 = 1_050_112;
+pub(crate) const HEAD: u64 = 1_050_112;
 /// The bytes of a container slot, and of its share of what lies behind the slots.
 const SLOT: u64 = 393_216;
 
@@ -68,22 +66,8 @@ fn refused_by(fault: CellFault) -> Refusal
     }
 }
 
-// How many slots are closed, by the ids in them.
-fn closed_in(ids: &[u64]) -> u32
-    requires { length ids.now ≤ 65536 }
-    ensures { result ≡ closed_in ids.now }
-{
-    let mut closed = 0u32;
-    for id in ids {
-        if *id == 0 {
-            closed += 1;
-        }
-    }
-    closed
-}
-
 // The size of a disk of so many slots.
-fn size_for(slots: u32) -> u64
+pub(crate) fn size_for(slots: u32) -> u64
     ensures { result ≡ size_of slots }
 {
     HEAD + SLOT * u64::from(slots)
@@ -91,9 +75,9 @@ fn size_for(slots: u32) -> u64
 
 // Syncs the disk, and sees that it isn't smaller than each may be.
 fn begin<D: Disk>(disk: &mut D) -> Result<(), Refusal>
-    ensures synced { OnOk result (Only (D.content disk.old) (D.images disk.new)) }
     ensures least { OnOk result (least_size ≤ D.size disk.old) }
-    ensures reads { OnlyReads D.content D.size D.faults D.same disk.old disk.new }
+    ensures synced { OnOk result (Only (D.content disk.new) (D.images disk.new)) }
+    ensures reads { OnlyReads D.content D.images D.clock D.images_since D.size D.faults D.same disk.old disk.new }
     ensures refused { IfErr result (IsBeginRefusal (D.size disk.old) (Rose (D.faults disk.old) (D.faults disk.new))) }
 {
     match sync_all(disk) {
@@ -115,9 +99,9 @@ fn count_slots<D: Disk>(disk: &mut D) -> Result<u32, Refusal>
     ensures least { OnOk result (least_size ≤ D.size disk.old) }
     ensures count { IfOk result (λ slots. IsSlotCount slots) }
     ensures format { IfOk result (λ slots. Shown D.gave D.content D.size disk.old disk.new (HasFormat slots)) }
-    ensures only { Shown D.gave D.content D.size disk.old disk.new (λ image. (slots : ℕ) (selector : SelectorValue) (records : List RecordValue) (held : List (Option HeaderValue))
-        → IsRight slots selector records held image → Answers (λ n. n ≡ slots) result) }
-    ensures reads { OnlyReads D.content D.size D.faults D.same disk.old disk.new }
+    ensures only { Shown D.gave D.content D.size disk.old disk.new (λ image. (store : Store) → IsRight store image → Answers (λ n. n ≡ store.slots) result) }
+    ensures synced { OnOk result (Only (D.content disk.new) (D.images disk.new)) }
+    ensures reads { OnlyReads D.content D.images D.clock D.images_since D.size D.faults D.same disk.old disk.new }
     ensures refused { IfErr result (IsOpenRefusal (Shown D.gave D.content D.size disk.old disk.new) (D.size disk.old) (Rose (D.faults disk.old) (D.faults disk.new))) }
 {
     begin(disk)?;
@@ -130,9 +114,9 @@ fn count_slots<D: Disk>(disk: &mut D) -> Result<u32, Refusal>
 // The number of slots of a disk that has their size.
 fn read_format<D: Disk>(disk: &mut D) -> Result<u32, Refusal>
     ensures sized { IfOk result (λ slots. IsSized (Shown D.gave D.content D.size disk.old disk.new) (D.size disk.old) slots) }
-    ensures only { Shown D.gave D.content D.size disk.old disk.new (λ image. (slots : ℕ) (selector : SelectorValue) (records : List RecordValue) (held : List (Option HeaderValue))
-        → IsRight slots selector records held image → Answers (λ n. n ≡ slots) result) }
-    ensures reads { OnlyReads D.content D.size D.faults D.same disk.old disk.new }
+    ensures only { Shown D.gave D.content D.size disk.old disk.new (λ image. (store : Store) → IsRight store image → Answers (λ n. n ≡ store.slots) result) }
+    ensures synced { OnOk result (Only (D.content disk.new) (D.images disk.new)) }
+    ensures reads { OnlyReads D.content D.images D.clock D.images_since D.size D.faults D.same disk.old disk.new }
     ensures refused { IfErr result (IsOpenRefusal (Shown D.gave D.content D.size disk.old disk.new) (D.size disk.old) (Rose (D.faults disk.old) (D.faults disk.new))) }
 {
     let slots = count_slots(disk)?;
@@ -148,9 +132,9 @@ fn read_format<D: Disk>(disk: &mut D) -> Result<u32, Refusal>
 fn read_front<D: Disk>(alloc: Global, disk: &mut D) -> Result<Front, Refusal>
     ensures sized { IfOk result (λ front. IsSized (Shown D.gave D.content D.size disk.old disk.new) (D.size disk.old) front.slots) }
     ensures scanned { IfOk result (λ front. IsScanned (Shown D.gave D.content D.size disk.old disk.new) front.journal front.names front.journal.last) }
-    ensures only { Shown D.gave D.content D.size disk.old disk.new (λ image. (slots : ℕ) (selector : SelectorValue) (records : List RecordValue) (held : List (Option HeaderValue))
-        → IsRight slots selector records held image → Answers (λ front. (front.slots ≡ slots) × IsTold selector records front.journal front.names front.journal.last) result) }
-    ensures reads { OnlyReads D.content D.size D.faults D.same disk.old disk.new }
+    ensures only { Shown D.gave D.content D.size disk.old disk.new (λ image. (store : Store) → IsRight store image → Answers (λ front. (front.slots ≡ store.slots) × IsTold store.selector store.records front.journal front.names front.journal.last) result) }
+    ensures synced { OnOk result (Only (D.content disk.new) (D.images disk.new)) }
+    ensures reads { OnlyReads D.content D.images D.clock D.images_since D.size D.faults D.same disk.old disk.new }
     ensures refused { IfErr result (IsOpenRefusal (Shown D.gave D.content D.size disk.old disk.new) (D.size disk.old) (Rose (D.faults disk.old) (D.faults disk.new))) }
 {
     let slots = read_format(disk)?;
@@ -167,9 +151,9 @@ fn read_front<D: Disk>(alloc: Global, disk: &mut D) -> Result<Front, Refusal>
 // All that a store holds, however few slots are free.
 fn open_all<D: Disk>(alloc: Global, disk: &mut D) -> Result<Opened, Refusal>
     ensures found { IfOk result (IsFound (Shown D.gave D.content D.size disk.old disk.new) (D.size disk.old)) }
-    ensures only { Shown D.gave D.content D.size disk.old disk.new (λ image. (slots : ℕ) (selector : SelectorValue) (records : List RecordValue) (held : List (Option HeaderValue))
-        → IsRight slots selector records held image → Answers (λ o. (o.slots ≡ slots) × IsTold selector records o.journal o.names o.journal.last × AreTold held o.containers) result) }
-    ensures reads { OnlyReads D.content D.size D.faults D.same disk.old disk.new }
+    ensures only { Shown D.gave D.content D.size disk.old disk.new (λ image. (store : Store) → IsRight store image → Answers (Keeps store) result) }
+    ensures synced { OnOk result (Only (D.content disk.new) (D.images disk.new)) }
+    ensures reads { OnlyReads D.content D.images D.clock D.images_since D.size D.faults D.same disk.old disk.new }
     ensures refused { IfErr result (IsOpenRefusal (Shown D.gave D.content D.size disk.old disk.new) (D.size disk.old) (Rose (D.faults disk.old) (D.faults disk.new))) }
 {
     let front = read_front(alloc, disk)?;
@@ -193,13 +177,14 @@ pub fn open<D: Disk>(alloc: Global, disk: &mut D) -> Result<Opened, Refusal>
     ensures opened { IfOk result (IsOpened (Shown D.gave D.content D.size disk.old disk.new) (D.size disk.old)) }
     // A store of the right size, whose cells and headers are right and whose ids differ, is opened, unless memory or the
     // disk fails, or too few slots are free.
-    ensures only { Shown D.gave D.content D.size disk.old disk.new (λ image. (slots : ℕ) (selector : SelectorValue) (records : List RecordValue) (held : List (Option HeaderValue))
-        → IsRight slots selector records held image → Opens slots selector records held result) }
-    ensures reads { OnlyReads D.content D.size D.faults D.same disk.old disk.new }
+    ensures only { Shown D.gave D.content D.size disk.old disk.new (λ image. (store : Store) → IsRight store image → Opens store result) }
+    // All that was written stands after a crash.
+    ensures synced { OnOk result (Only (D.content disk.new) (D.images disk.new)) }
+    ensures reads { OnlyReads D.content D.images D.clock D.images_since D.size D.faults D.same disk.old disk.new }
     ensures refused { IfErr result (IsOpenRefusal (Shown D.gave D.content D.size disk.old disk.new) (D.size disk.old) (Rose (D.faults disk.old) (D.faults disk.new))) }
 {
     let opened = open_all(alloc, disk)?;
-    let free = closed_in(&opened.containers.ids);
+    let free = opened.containers.free();
     if free < 2 {
         return Err(Refusal::Full { free });
     }

@@ -1,14 +1,14 @@
 //! The containers of a store, slot by slot.
-ghost use Rattle.std.specs.Prelude.{◌≡◌, ◌∷◌, ◌++◌, [], List, Option, None, Some, length, not, false, ◌≤◌, IsTrue, ◌+◌, option_map, OnOk, IfOk, IfErr, IfSome};
+ghost use Rattle.std.specs.Prelude.{◌≡◌, ◌∷◌, ◌++◌, [], List, Option, None, Some, length, not, false, count_by, position, ◌==◌, ◌≤◌, IsTrue, ◌+◌, option_map, OnOk, IfOk, IfErr, IfSome};
 ghost use Rattle.base_model.specs.Bytes.{key_of};
 ghost use Rattle.container_meta.specs.Spelling.{HeaderValue, IsHeader, view, has_digest};
 ghost use Rattle.container_meta.specs.declared.entry.Entry.{Entry as EntryValue};
-ghost use Rattle.store_model.specs.Slots.{HoldSlots, IsFresh, DifferentIds, place_of};
+ghost use Rattle.store_model.specs.Slots.{HoldSlots, AreHeaders, IsFresh, DifferentIds, place_of, free_slots};
 ghost use Rattle.base_model.specs.Fault.{Rose};
 ghost use Rattle.base_model.specs.Shown.{Shown, OnlyReads};
 ghost use Rattle.disk_format.specs.Layout.{IsSlotCount, size_of, slot_at};
 ghost use Rattle.container_log.specs.Slots.{HoldsSlot};
-ghost use Rattle.recovery.specs.Slots.{AreTold, ArePart, AreSlots, Gives, MayFollow, Unanswered, BreaksHeader, IsSlotDamage, IsSlotRefusal, IsSlotsRefusal, is_newer, why_of as why_in};
+ghost use Rattle.recovery.specs.Slots.{AreTold, IsFirstFree, ArePart, AreSlots, Gives, MayFollow, Unanswered, BreaksHeader, IsSlotDamage, IsSlotRefusal, IsSlotsRefusal, is_newer, why_of as why_in};
 
 use actor_parts::{Refusal, Why};
 use container_log::{LogFault, Why as LogWhy, read_slot};
@@ -46,6 +46,21 @@ fn place_in(slot: u32, entry: &Entry) -> Place
         length: entry.length,
         level: entry.level,
     }
+}
+
+// How many ids are 0.
+fn zeros_in(ids: &[u64]) -> u32
+    requires { length ids.now ≤ 65536 }
+    ensures { result ≡ count_by (λ id. id == 0) ids.now }
+{
+    ids.iter().filter(|id| **id == 0).count() as u32
+}
+
+// The place of the first id that is 0.
+fn first_zero(ids: &[u64]) -> Option<usize>
+    ensures { result ≡ position (λ id. id == 0) ids.now }
+{
+    ids.iter().position(|id| *id == 0)
 }
 
 impl Containers {
@@ -124,6 +139,24 @@ impl Containers {
         !self.ids.contains(&id)
     }
 
+    /// How many slots are closed.
+    pub fn free(&self) -> u32
+        requires { length self.now.ids.items ≤ 65536 }
+        ensures { (held : List (Option HeaderValue)) → AreTold held self.now → AreHeaders held → result ≡ free_slots held }
+    {
+        zeros_in(&self.ids)
+    }
+
+    /// The closed slot of least number, if there is one.
+    pub fn first_free(&self) -> Option<u32>
+        requires { length self.now.ids.items ≤ 65536 }
+        ensures some { IfSome result (λ slot. (held : List (Option HeaderValue)) → AreTold held self.now → AreHeaders held → IsFirstFree slot held) }
+        ensures none { result ≡ None → (held : List (Option HeaderValue)) → AreTold held self.now → AreHeaders held → free_slots held ≡ 0 }
+    {
+        let slot = first_zero(&self.ids)?;
+        Some(slot as u32)
+    }
+
     // Takes what the next slot holds; `slot` is its number.
     fn take(&mut self, slot: u32, held: &Option<Meta>) -> Result<(), AllocError>
         requires { IfSome held.now (λ m. IsHeader (view m)) }
@@ -157,7 +190,7 @@ fn read_one<D: Disk>(alloc: Global, disk: &mut D, slot: u32) -> Result<Option<Me
     ensures right { IfOk result (λ held. IfSome held (λ m. IsHeader (view m))) }
     ensures shown { IfOk result (λ held. Shown D.gave D.content D.size disk.old disk.new (λ image. HoldsSlot image slot (option_map view held))) }
     ensures only { Shown D.gave D.content D.size disk.old disk.new (λ image. (held : Option HeaderValue) → HoldsSlot image slot held → Gives (λ m. held ≡ option_map view m) result) }
-    ensures reads { OnlyReads D.content D.size D.faults D.same disk.old disk.new }
+    ensures reads { OnlyReads D.content D.images D.clock D.images_since D.size D.faults D.same disk.old disk.new }
     ensures refused { IfErr result (IsSlotRefusal (Shown D.gave D.content D.size disk.old disk.new) (Rose (D.faults disk.old) (D.faults disk.new)) BreaksHeader slot) }
 {
     match read_slot(alloc, disk, slot) {
@@ -188,7 +221,7 @@ fn read_next<D: Disk>(
     ensures one { IfOk result (λ held. Shown D.gave D.content D.size disk.old disk.new (λ image. (other : Option HeaderValue) → HoldsSlot image slot other → other ≡ option_map view held)) }
     ensures none { IfErr result (λ refusal. (before : List (Option HeaderValue)) → AreTold before told.now → Shown D.gave D.content D.size disk.old disk.new (λ image.
         (held : Option HeaderValue) → HoldsSlot image slot held → MayFollow before held → Unanswered refusal)) }
-    ensures reads { OnlyReads D.content D.size D.faults D.same disk.old disk.new }
+    ensures reads { OnlyReads D.content D.images D.clock D.images_since D.size D.faults D.same disk.old disk.new }
     ensures refused { IfErr result (λ refusal. (before : List (Option HeaderValue)) → AreTold before told.now
         → IsSlotRefusal (Shown D.gave D.content D.size disk.old disk.new) (Rose (D.faults disk.old) (D.faults disk.new)) (IsSlotDamage before) slot refusal) }
 {
@@ -222,7 +255,7 @@ pub(crate) fn read_slots<D: Disk>(
     // Right slots are read, unless memory or the disk fails.
     ensures only { Shown D.gave D.content D.size disk.old disk.new (λ image. (held : List (Option HeaderValue)) → length held ≡ slots
         → HoldSlots 0 held image → DifferentIds held → Gives (AreTold held) result) }
-    ensures reads { OnlyReads D.content D.size D.faults D.same disk.old disk.new }
+    ensures reads { OnlyReads D.content D.images D.clock D.images_since D.size D.faults D.same disk.old disk.new }
     ensures refused { IfErr result (IsSlotsRefusal (Shown D.gave D.content D.size disk.old disk.new) (Rose (D.faults disk.old) (D.faults disk.new)) slots) }
 {
     let mut told = Containers::new(alloc);

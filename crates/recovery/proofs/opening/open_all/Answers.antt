@@ -1,19 +1,17 @@
-use Rattle.std.proofs.Common.{◌≡◌, ◌∙◌, sym}
+use Rattle.std.proofs.Common.{◌∙◌, sym}
 use Rattle.base_model.proofs.Outcome.{passed_on}
-use Rattle.dd_disk.proofs.Disks.{weaker, until, both}
-use Rattle.journal_cells.specs.Journal.{IsTold}
-use Rattle.recovery.specs.declared.opening.Opened.{Opened}
+use Rattle.dd_disk.proofs.Disks.{weaker, both}
+use Rattle.recovery.specs.Opening.{Keeps}
 use Rattle.recovery.specs.Slots.{AreTold}
-use Rattle.recovery.proofs.Steps.{answers_passed, slot_failure, slots_refusal, scanned_until, slots_since}
+use Rattle.recovery.proofs.Steps.{answers_passed, slot_failure, slots_refusal, found_all}
 use Rattle.recovery.proofs.opening.open_all.Goals as goal
 
 pub returns-in_err-containers-clause-only : goal.returns-in_err-containers-clause-only
 returns-in_err-containers-clause-only g c =
     let law = g.met.D.Disk in
-    weaker g.D.Disk _ _ (λ image sized seen slots selector records held right.
-    answers_passed (λ (o : Opened). (o.slots ≡ slots) × IsTold selector records o.journal o.names o.journal.last × AreTold held o.containers)
-    c.from_residual-in_err-containers.result c.in_err-containers.field-0.0 c.from_residual-in_err-containers.ensures.1
-    (slot_failure (AreTold held) c.in_err-containers.field-0.0 (seen.1 held (right.many ∙ sym (seen.0 slots selector records held right).0) right.slots_are right.different)))
+    weaker g.D.Disk _ _ (λ image sized seen store right.
+    answers_passed (Keeps store) c.from_residual-in_err-containers.result c.in_err-containers.field-0.0 c.from_residual-in_err-containers.ensures.1
+    (slot_failure (AreTold store.held) c.in_err-containers.field-0.0 (seen.1 store.held (right.many ∙ sym (seen.0 store right).0) right.slots_are right.different)))
     (both g.D.Disk law.gave_after law.gave_before _ _ _ c.in_ok-front.ensures.only c.in_ok-front.ensures.reads c.in_err-containers.ensures.only c.in_err-containers.ensures.reads)
 
 pub returns-in_err-containers-clause-refused : goal.returns-in_err-containers-clause-refused
@@ -26,18 +24,12 @@ returns-in_err-containers-clause-refused g c =
 pub returns-clause-found : goal.returns-clause-found
 returns-clause-found g c =
     let law = g.met.D.Disk in
-    record {
-      count = c.in_ok-front.ensures.sized.count;
-      size_is = c.in_ok-front.ensures.sized.size_is;
-      format = until g.D.Disk law.gave_after _ _ _ c.in_ok-front.ensures.sized.format c.in_ok-containers.ensures.reads;
-      scanned = scanned_until g.D.Disk law.gave_after law.gave_before _ _ _ _ _ _ c.in_ok-front.ensures.scanned c.in_ok-containers.ensures.reads;
-      containers = slots_since g.D.Disk law.gave_after law.gave_before _ _ _ _ _ c.in_ok-front.ensures.reads c.in_ok-containers.ensures.found;
-    }
+    found_all g.D.Disk law.gave_after law.gave_before _ _ _ _ c.in_ok-front.ensures.sized c.in_ok-front.ensures.scanned c.in_ok-front.ensures.reads c.in_ok-containers.ensures.found c.in_ok-containers.ensures.reads
 
 pub returns-clause-only : goal.returns-clause-only
 returns-clause-only g c =
     let law = g.met.D.Disk in
-    weaker g.D.Disk _ _ (λ image sized seen slots selector records held right.
-    let front = seen.0 slots selector records held right in
-    (front.0, front.1, seen.1 held (right.many ∙ sym front.0) right.slots_are right.different))
+    weaker g.D.Disk _ _ (λ image sized seen store right.
+    let front = seen.0 store right in
+    record { slots_are = front.0; journal = front.1; containers = seen.1 store.held (right.many ∙ sym front.0) right.slots_are right.different })
     (both g.D.Disk law.gave_after law.gave_before _ _ _ c.in_ok-front.ensures.only c.in_ok-front.ensures.reads c.in_ok-containers.ensures.only c.in_ok-containers.ensures.reads)

@@ -12,7 +12,7 @@ use Rattle.recovery.proofs.slots.read_slots.Goals as goal
 pub loop-slot-init : goal.loop-slot-init
 loop-slot-init g c =
     let disk = g.D.Disk in
-    (reads_none disk.content disk.size disk.faults disk.same g.met.D.Disk.same_here c.args.disk.now, none_yet disk c.args.disk.now c.new-told.result c.new-told.ensures)
+    (reads_none disk.content disk.images disk.clock disk.images_since disk.size disk.faults disk.same g.met.D.Disk.same_here c.args.disk.now, none_yet disk c.args.disk.now c.new-told.result c.new-told.ensures)
 
 pub returns-in_err-held-clause-only : goal.returns-in_err-held-clause-only
 returns-in_err-held-clause-only g c =

@@ -1,67 +1,98 @@
--- The bytes that a restore gives are those of the file.
-use Rattle.std.proofs.Common.{◌≡◌, ℕ, List, cond, Option, None, Some, ◌∙◌, ap, subst}
-use Rattle.std.specs.Cmp.{eq_by_cmp_equiv}
-use Rattle.std.specs.Cmp.Lexicographic.{nat_list_cmp_total}
-use Rattle.std.specs.FinMap as map
-use Rattle.disk_format.specs.Cells.{Root}
-use Rattle.store_model.specs.Files.{Files, no_files, with_file}
-use Rattle.store_model.specs.Image.{Holding, HoldsRoot, AreBytesOf, AreFiles, StandsFor}
-use Rattle.container_meta.specs.Spelling.{HeaderValue}
-use Rattle.backup_engine.specs.declared.refusal.Refusal.TheVariants.{Memory, NoFile, BadName, TooMany, TooLong, DiskRead, DiskWrite, Corrupt, NotAStore, AlreadyStore, WrongSize}
-use Rattle.backup_engine.specs.declared.ending.Ending.{Ending}
-use Rattle.backup_engine.specs.declared.ending.Ending.TheVariants.{Words, Source, Sink, Refused}
+-- Why a file is not given back.
+use Rattle.std.proofs.Common.{◌≡◌, ◌≢◌, inl, inr, ℕ, ◌≤◌, List, length, Some, None, sym, ◌∙◌, ap}
+use Rattle.sha2.specs.Sha256.{sha256}
+use Rattle.disk_format.specs.Cells.{Root, IsName}
+use Rattle.actor_parts.specs.declared.refusal.Why.TheVariants.{Digest, Field}
+use Rattle.actor_parts.specs.declared.refusal.Refusal.{Refusal}
+use Rattle.actor_parts.specs.declared.refusal.Refusal.TheVariants.{Memory, NoFile, BadName, DiskRead, Corrupt, Missing, Damaged}
+use Rattle.dd_disk.specs.declared.disk.Disk.{Ghosts}
+use Rattle.dd_disk.proofs.Disks.{Saw, weaker}
+use Rattle.reply_text.specs.declared.ending.Ending.TheVariants.{Refused}
+use Rattle.store_model.specs.Files.{Files}
+use Rattle.store_model.specs.Slots.{Copy, free_slots}
+use Rattle.store_model.specs.Image.{Store, IsRight, IsStoreOf, HasCopy, bytes_at}
+use Rattle.store_model.specs.Commands.{HasRoot, IsRootRefusal, IsRestoreRefusal, IsPlausible, root_key, copy_of}
+use Rattle.store_model.proofs.Copies.{some_same}
+use Rattle.store_model.proofs.Roots.{HasFile, file_of_root, key_of_file, length_of_copy}
+use Rattle.recovery.specs.declared.opening.Opened.{Opened}
+use Rattle.recovery.specs.Opening.{IsOpened}
+use Rattle.read_steps.specs.Reading.{IsReadFault, IsNameRefusal}
 use Rattle.backup_engine.specs.Line.{Restore}
-use Rattle.backup_engine.specs.Clauses.{IsDamaged, IsGivenUp}
-use Rattle.backup_engine.specs.Reading.{IsRootFault, IsWrongCopy}
-use Rattle.backup_engine.specs.Opening.{HoldsOnly}
-use Rattle.backup_engine.proofs.Entries.{same_bytes}
+use Rattle.backup_engine.specs.Doing.{IsHarmless}
+use Rattle.backup_engine.specs.Clauses.{HoldsWith, IsRefused}
 
-pub get_same : (files : Files) (name bytes : List ℕ) → map.get (with_file files name bytes) name ≡ Some bytes
-get_same files name bytes = map.get-insert nat_list_cmp_total files name bytes name ∙ ap (λ b. cond b (Some bytes) (map.get files name)) ((eq_by_cmp_equiv nat_list_cmp_total).refl name)
+-- a fault of a read, in other words
+pub fault_mapped : (failed since : Type 0) (P Q : Refusal → Type 0) (refusal : Refusal) → (failed → since) → ((r : Refusal) → P r → Q r) → IsReadFault failed P refusal → IsReadFault since Q refusal
+fault_mapped failed since P Q Memory rose each fault = tt
+fault_mapped failed since P Q DiskRead rose each fault = rose fault
+fault_mapped failed since P Q refusal rose each fault = each refusal fault
 
-module _ (image : List ℕ) (held : Holding) (only : HoldsOnly held image) where
-  pub restored_file : (name : List ℕ) (root : Root) (bytes : List ℕ) → held.file ≡ Some (record { name = name; root = root }) → HoldsRoot held.container root
-      → AreBytesOf image held.container root bytes → (files : Files) → StandsFor image files → map.get files name ≡ Some bytes
-  restored_file name root bytes is root_held bytes_are files stands =
-      let same : stands.held ≡ held = only.alone stands.held stands.form in
-      let are : AreFiles image held.container held.file files = subst (λ (h : Holding). AreFiles image h.container h.file files) same stands.files_are in
-      let file : AreFiles image held.container (Some (record { name = name; root = root })) files = subst (λ f. AreFiles image held.container f files) is are in
-      ap (λ (m : Files). map.get m name) file.2 ∙ get_same no_files name file.0 ∙ ap Some (same_bytes image held.container root file.0 bytes root_held file.1 bytes_are)
+-- what is wrong with a root, of the name that has it
+restore_refusal : (name : List ℕ) (root : Root) (refusal : Refusal) (store : Store) (image : List ℕ) → IsName name → HasRoot name root store → IsRootRefusal root refusal store image → IsRestoreRefusal name refusal store image
+restore_refusal name root BadName store image good has wrong = absurd wrong
+restore_refusal name root NoFile store image good has wrong = absurd wrong
+restore_refusal name root refusal store image good has wrong = (good, (root, has, wrong))
 
--- why the bytes are not given is why the file is not
-pub given_up_by_root : (shown inner : (List ℕ → Type 0) → Type 0) (size : ℕ) (inner_failed failed : Type 0) (before after : Option (List ℕ)) (name : List ℕ) (container : Option HeaderValue) (root : Root) (ending : Ending) → after ≡ before → (inner_failed → failed)
-    → ((slot offset count : ℕ) (want got : List ℕ) → inner (IsWrongCopy container root slot offset count want got) → shown (IsDamaged name slot offset count want got))
-    → IsRootFault inner inner_failed container root ending → IsGivenUp shown size failed ⊥ None before after (Restore name) ending
-given_up_by_root shown inner size inner_failed failed before after name container root Words same rises damaged fault = fault
-given_up_by_root shown inner size inner_failed failed before after name container root Source same rises damaged fault = absurd fault
-given_up_by_root shown inner size inner_failed failed before after name container root Sink same rises damaged fault = fault
-given_up_by_root shown inner size inner_failed failed before after name container root (Refused Memory) same rises damaged fault = (tt, same)
-given_up_by_root shown inner size inner_failed failed before after name container root (Refused NoFile) same rises damaged fault = absurd fault
-given_up_by_root shown inner size inner_failed failed before after name container root (Refused BadName) same rises damaged fault = absurd fault
-given_up_by_root shown inner size inner_failed failed before after name container root (Refused TooMany) same rises damaged fault = absurd fault
-given_up_by_root shown inner size inner_failed failed before after name container root (Refused TooLong) same rises damaged fault = absurd fault
-given_up_by_root shown inner size inner_failed failed before after name container root (Refused DiskRead) same rises damaged fault = (rises fault, same)
-given_up_by_root shown inner size inner_failed failed before after name container root (Refused DiskWrite) same rises damaged fault = absurd fault
-given_up_by_root shown inner size inner_failed failed before after name container root (Refused (Corrupt slot offset count want got)) same rises damaged fault = (damaged slot offset count want got fault, same)
-given_up_by_root shown inner size inner_failed failed before after name container root (Refused (NotAStore gate magic)) same rises damaged fault = absurd fault
-given_up_by_root shown inner size inner_failed failed before after name container root (Refused AlreadyStore) same rises damaged fault = absurd fault
-given_up_by_root shown inner size inner_failed failed before after name container root (Refused (WrongSize want got)) same rises damaged fault = absurd fault
+module _ {D : Type 0} (disk : Ghosts D) (old new : D) where
+  -- a disk that was opened holds an open store, and what holds of it anyway
+  pub holds_open : (o : Opened) (opened : IsOpened (Saw disk old new) (disk.size old) o) (P : Store → List ℕ → Type 0) → ((image : List ℕ) → P opened.found.store image) → Saw disk old new (HoldsWith P)
+  holds_open o opened P each = weaker disk old new (λ image sized right. (opened.found.store, right, opened.reserve, each image)) opened.found.right
 
--- a wrong copy of a store's file is damage
-pub is_damaged : (image : List ℕ) (held : Holding) (name : List ℕ) (root : Root) (slot offset count : ℕ) (want got : List ℕ) → HoldsOnly held image → held.file ≡ Some (record { name = name; root = root })
-    → IsWrongCopy held.container root slot offset count want got image → IsDamaged name slot offset count want got image
-is_damaged image held name root slot offset count want got only is wrong = record {
-  held = held;
-  form = only;
-  root = root;
-  named = is;
-  not_empty = wrong.not_empty;
-  header = wrong.header;
-  entry = wrong.entry;
-  container = wrong.container_is;
-  entry_is = wrong.entry_is;
-  place = wrong.place;
-  wanted = wrong.wanted;
-  found = wrong.found;
-  differ = wrong.differ;
-}
+  -- a name without a root
+  pub refused_by_name : (o : Opened) (failed : Type 0) (name : List ℕ) (refusal : Refusal) → IsOpened (Saw disk old new) (disk.size old) o → IsNameRefusal o name refusal
+      → IsRefused (Saw disk old new) (disk.size old) failed None None (Restore name) refusal
+  refused_by_name o failed name BadName opened wrong = inr (tt, holds_open o opened (IsRestoreRefusal name BadName) (λ image. wrong))
+  refused_by_name o failed name NoFile opened wrong = inr (tt, holds_open o opened (IsRestoreRefusal name NoFile) (λ image. (wrong.0, wrong.1 opened.found.store opened.found.keeps.journal)))
+  refused_by_name o failed name refusal opened wrong = absurd wrong
+
+  refused_by : (failed : Type 0) (name : List ℕ) (refusal : Refusal) → IsReadFault failed (λ r. IsPlausible r × Saw disk old new (HoldsWith (IsRestoreRefusal name r))) refusal
+      → IsRefused (Saw disk old new) (disk.size old) failed None None (Restore name) refusal
+  refused_by failed name Memory fault = tt
+  refused_by failed name DiskRead fault = inr fault
+  refused_by failed name refusal fault = inr fault
+
+  -- a root whose bytes are not given
+  pub refused_by_root : (failed since : Type 0) (name : List ℕ) (root : Root) (store : Store) (refusal : Refusal) → IsName name → HasRoot name root store → 2 ≤ free_slots store.held → (failed → since)
+      → IsReadFault failed (λ r. IsPlausible r × Saw disk old new (λ image. IsRight store image × IsRootRefusal root r store image)) refusal
+      → IsRefused (Saw disk old new) (disk.size old) since None None (Restore name) refusal
+  refused_by_root failed since name root store refusal good has reserve rose fault =
+      let Found : Refusal → Type 0 = λ r. IsPlausible r × Saw disk old new (λ image. IsRight store image × IsRootRefusal root r store image) in
+      let Wrong : Refusal → Type 0 = λ r. IsPlausible r × Saw disk old new (HoldsWith (IsRestoreRefusal name r)) in
+      refused_by since name refusal (fault_mapped failed since Found Wrong refusal rose
+      (λ (r : Refusal) (wrong : Found r). (wrong.0, weaker disk old new (λ image sized shown. (store, shown.0, reserve, restore_refusal name root r store image good has shown.1)) wrong.1)) fault)
+
+-- ---- over a store of some files
+
+-- a file that isn't empty has its copy
+copy_there : (name : List ℕ) (root : Root) (store : Store) (image : List ℕ) (files : Files) (file : HasFile name root store image files) → root.length ≢ 0 → HasCopy store.held file.bytes image
+    → (copy : Copy) × (copy_of store (root_key root) ≡ Some copy) × (bytes_at copy.place image ≡ file.bytes)
+copy_there name root store image files file some (inl none) = absurd (some (ap (λ (r : Root). r.length) file.root_is ∙ ap length none))
+copy_there name root store image files file some (inr held) = (held.0, ap (copy_of store) (key_of_file root file.bytes file.root_is) ∙ held.1, held.2)
+
+-- no root is found to be wrong
+pub harmless_root : (name : List ℕ) (root : Root) (refusal : Refusal) (store : Store) (image : List ℕ) (files : Files) → IsStoreOf image store files → HasRoot name root store → IsRootRefusal root refusal store image
+    → IsHarmless (Refused refusal)
+harmless_root name root (Missing key) store image files holds has wrong =
+    let file = file_of_root name root store image files holds has in
+    let there = copy_there name root store image files file wrong.0 file.copy in
+    let none = sym wrong.2 ∙ ap (copy_of store) wrong.1 ∙ there.1 in
+    absurd cc
+harmless_root name root (Corrupt slot offset count want got) store image files holds has wrong =
+    let file = file_of_root name root store image files holds has in
+    let there = copy_there name root store image files file wrong.there.not_empty file.copy in
+    let same = some_same wrong.copy there.0 (sym wrong.there.copy_is ∙ there.1) in
+    wrong.differ (wrong.want_is ∙ ap (λ (r : Root). r.digest) file.root_is ∙ ap sha256 (sym there.2 ∙ ap (λ (c : Copy). bytes_at c.place image) (sym same)) ∙ sym wrong.got_is)
+harmless_root name root (Damaged at (Field offset got)) store image files holds has wrong =
+    let file = file_of_root name root store image files holds has in
+    let there = copy_there name root store image files file wrong.there.not_empty file.copy in
+    let same = some_same wrong.copy there.0 (sym wrong.there.copy_is ∙ there.1) in
+    let long = length_of_copy store image (root_key root) wrong.copy holds.right wrong.there.copy_is in
+    wrong.differ (wrong.got_is ∙ sym long ∙ ap (λ (c : Copy). length (bytes_at c.place image)) same ∙ ap length there.2 ∙ sym (ap (λ (r : Root). r.length) file.root_is))
+harmless_root name root (Damaged at (Digest want got)) store image files holds has wrong = absurd wrong
+harmless_root name root refusal store image files holds has wrong = absurd wrong
+
+-- nor is one by a read of it
+pub harmless_read : (failed : Type 0) (refusal : Refusal) → IsReadFault failed (λ r. IsHarmless (Refused r)) refusal → IsHarmless (Refused refusal)
+harmless_read failed Memory fault = tt
+harmless_read failed DiskRead fault = tt
+harmless_read failed refusal fault = fault

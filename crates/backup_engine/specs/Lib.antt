@@ -1,16 +1,6 @@
 pub mod Clauses
 pub mod Doing
-pub mod FirstParts
-pub mod Formatting
 pub mod Line
 pub mod LineValue
-pub mod OpenRefusal
-pub mod Opening
-pub mod ReadFault
-pub mod Reading
-pub mod Record
-pub mod Store
 pub mod Storing
-pub mod Table
-pub mod Text
 pub mod TopCall

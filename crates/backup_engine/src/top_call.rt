@@ -1,25 +1,27 @@
 //! The top call.
-ghost use Rattle.std.specs.Prelude.{◌≡◌, length, map, string_bytes, OnOk, IfOk, IfErr};
+ghost use Rattle.std.specs.Prelude.{◌≡◌, ◌≢◌, ◌⊎◌, ◌<◌, ◌-◌, ◌^◌, false, List, ℕ, length, map, string_bytes, OnOk, IfOk, IfErr};
 ghost use Rattle.base_model.specs.Fault.{Rose};
 ghost use Rattle.base_model.specs.Told.{Told, Became};
 ghost use Rattle.base_model.specs.Shown.{Shown, IsLater};
-ghost use Rattle.dd_disk.specs.Disk.{Only};
-ghost use Rattle.backup_engine.specs.Doing.{IsRightLine, IsDone, IsLeftBy, KeepsDisk, KeepsSource, IsSynced, size_made};
+ghost use Rattle.dd_disk.specs.Disk.{Only, LeavesOnly};
+ghost use Rattle.store_model.specs.Files.{Files};
+ghost use Rattle.store_model.specs.Image.{StandsForFiles};
+ghost use Rattle.actor_parts.specs.declared.refusal.Refusal.TheVariants.{DiskWrite};
+ghost use Rattle.reply_text.specs.declared.ending.Ending.TheVariants.{Refused};
+ghost use Rattle.reply_text.specs.Table.{status_of as table_status};
+ghost use Rattle.backup_engine.specs.Doing.{IsRightLine, IsDone, IsLeftBy, IsKeptBy, KeepsDisk, KeepsSource, KeepsFiles, CrashesTo, IsSynced, IsHarmless, size_made};
 ghost use Rattle.backup_engine.specs.Line.{line_of};
 ghost use Rattle.backup_engine.specs.LineValue.{line_value};
-ghost use Rattle.backup_engine.specs.Clauses.{IsGivenUp, IsNoted};
-ghost use Rattle.backup_engine.specs.Table.{status_of, status_of_refusal};
-ghost use Rattle.backup_engine.specs.TopCall.{Promise};
+ghost use Rattle.backup_engine.specs.Clauses.{IsGivenUp, IsNoted, may_write};
+ghost use Rattle.backup_engine.specs.TopCall.{Promise, SurvivesCrash};
 
-use crate::ending::Ending;
 use crate::format::format;
 use crate::ingest::ingest;
-use crate::notes::write_fault;
-use crate::refusal::Refusal;
 use crate::restore::restore;
 use crate::words::{Line, read_words};
 use dd_disk::Disk;
 use dd_io::{Sink, Source};
+use reply_text::{Ending, status_of, write_fault};
 use std::alloc::{AllocError, Global};
 
 /// Runs one command, by its words, over a disk, and gives the exit status (docs/FORMAT.md, 'Commands').
@@ -37,9 +39,11 @@ pub fn backup<R, D: Disk + Send, S: Source, K: Sink, Q: Sink>(
     notes: &mut Q,
 ) -> u8
     ensures promise { Promise (line_of (map string_bytes words.now)) result
-        (Shown D.gave D.content D.size disk.old disk.new) (D.gave disk.old disk.new) (D.size disk.old) (D.content disk.old) (D.content disk.new) (Only (D.content disk.new) (D.images disk.new)) (Rose (D.faults disk.old) (D.faults disk.new))
+        (Shown D.gave D.content D.size disk.old disk.new) (D.size disk.old) (D.content disk.old) (D.content disk.new) (Only (D.content disk.new) (D.images disk.new)) (Rose (D.faults disk.old) (D.faults disk.new))
         (S.left source.old) (S.left source.new) (Rose (S.faults source.old) (S.faults source.new)) (K.written sink.old) (K.written sink.new) (Rose (K.faults sink.old) (K.faults sink.new))
         (Q.written notes.old) (Q.written notes.new) (Rose (Q.faults notes.old) (Q.faults notes.new)) }
+    ensures crash { SurvivesCrash (line_of (map string_bytes words.now)) result (S.left source.old) (D.content disk.old) (D.images disk.old) (D.images disk.new)
+        (λ c. D.images disk.new c ⊎ ((D.clock disk.old < 2 ^ 64 - 1) × D.images_since disk.new (D.clock disk.old) c)) }
     ensures later { IsLater D.size D.faults D.same disk.old disk.new }
 {
     backup_alone(rt, alloc, words, disk, source, sink, notes)
@@ -56,9 +60,11 @@ pub fn backup_alone<R, D: Disk + Send, S: Source, K: Sink, Q: Sink>(
     notes: &mut Q,
 ) -> u8
     ensures promise { Promise (line_of (map string_bytes words.now)) result
-        (Shown D.gave D.content D.size disk.old disk.new) (D.gave disk.old disk.new) (D.size disk.old) (D.content disk.old) (D.content disk.new) (Only (D.content disk.new) (D.images disk.new)) (Rose (D.faults disk.old) (D.faults disk.new))
+        (Shown D.gave D.content D.size disk.old disk.new) (D.size disk.old) (D.content disk.old) (D.content disk.new) (Only (D.content disk.new) (D.images disk.new)) (Rose (D.faults disk.old) (D.faults disk.new))
         (S.left source.old) (S.left source.new) (Rose (S.faults source.old) (S.faults source.new)) (K.written sink.old) (K.written sink.new) (Rose (K.faults sink.old) (K.faults sink.new))
         (Q.written notes.old) (Q.written notes.new) (Rose (Q.faults notes.old) (Q.faults notes.new)) }
+    ensures crash { SurvivesCrash (line_of (map string_bytes words.now)) result (S.left source.old) (D.content disk.old) (D.images disk.old) (D.images disk.new)
+        (λ c. D.images disk.new c ⊎ ((D.clock disk.old < 2 ^ 64 - 1) × D.images_since disk.new (D.clock disk.old) c)) }
     ensures later { IsLater D.size D.faults D.same disk.old disk.new }
 {
     let Some(line) = read_words(words) else {
@@ -91,14 +97,48 @@ fn run_line<D: Disk, S: Source>(
     source: &mut S,
 ) -> Result<Vec<u8>, Ending>
     requires { IsRightLine line.now }
-    ensures done { IfOk result (λ reply. IsDone (Shown D.gave D.content D.size disk.old disk.new) (D.gave disk.old disk.new) (D.size disk.old) (S.left source.old)
+    ensures done { IfOk result (λ reply. IsDone (Shown D.gave D.content D.size disk.old disk.new) (D.size disk.old) (S.left source.old)
         (D.content disk.old) (D.content disk.new) (line_value line.now) reply.items) }
     ensures synced { OnOk result (IsSynced (line_value line.now) (Only (D.content disk.new) (D.images disk.new))) }
     ensures left { Told (D.content disk.old) (λ old. Became (D.content disk.new) (IsLeftBy (line_value line.now) (S.left source.old) old)) }
+    ensures refused { IfErr result (λ ending. ending ≢ Refused DiskWrite → Told (D.content disk.old) (λ old. Became (D.content disk.new) (IsKeptBy (line_value line.now) (S.left source.old) old))) }
+    ensures untouched { IfErr result (λ ending. may_write (line_value line.now) ending ≡ false → D.content disk.new ≡ D.content disk.old) }
     ensures kept { KeepsDisk (line_value line.now) (D.content disk.old) (D.content disk.new) }
     ensures source { KeepsSource (line_value line.now) (S.left source.old) (S.left source.new) }
+    // What a crash leaves that comes at the end or at a moment since the start.
+    ensures crash { Told (D.content disk.old) (λ old. CrashesTo (line_value line.now) (S.left source.old) old (D.images disk.old)
+        (λ P. (c : List ℕ) → D.images disk.new c ⊎ ((D.clock disk.old < 2 ^ 64 - 1) × D.images_since disk.new (D.clock disk.old) c) → P c)) }
+    ensures files { IfErr result (λ ending. ending ≢ Refused DiskWrite → Told (D.content disk.old) (λ _. KeepsFiles (line_value line.now) (D.images disk.old) (D.images disk.new))) }
     ensures given_up { IfErr result (IsGivenUp (Shown D.gave D.content D.size disk.old disk.new) (D.size disk.old) (Rose (D.faults disk.old) (D.faults disk.new))
-        (Rose (S.faults source.old) (S.faults source.new)) (S.left source.old) (D.content disk.old) (D.content disk.new) (line_value line.now)) }
+        (Rose (S.faults source.old) (S.faults source.new)) (S.left source.old) (S.left source.new) (line_value line.now)) }
+    ensures harmless { Told (D.content disk.old) (λ old. (files : Files) → StandsForFiles old files → IfErr result IsHarmless) }
+    ensures sized { Told (D.content disk.old) (λ old. length old ≡ D.size disk.old) }
+    ensures later { IsLater D.size D.faults D.same disk.old disk.new }
+{
+    do_line(alloc, line, disk, source)
+}
+
+// `run_line`, with what a crash leaves by one call after another.
+fn do_line<D: Disk, S: Source>(
+    alloc: Global,
+    line: &Line<'_>,
+    disk: &mut D,
+    source: &mut S,
+) -> Result<Vec<u8>, Ending>
+    requires { IsRightLine line.now }
+    ensures done { IfOk result (λ reply. IsDone (Shown D.gave D.content D.size disk.old disk.new) (D.size disk.old) (S.left source.old)
+        (D.content disk.old) (D.content disk.new) (line_value line.now) reply.items) }
+    ensures synced { OnOk result (IsSynced (line_value line.now) (Only (D.content disk.new) (D.images disk.new))) }
+    ensures left { Told (D.content disk.old) (λ old. Became (D.content disk.new) (IsLeftBy (line_value line.now) (S.left source.old) old)) }
+    ensures refused { IfErr result (λ ending. ending ≢ Refused DiskWrite → Told (D.content disk.old) (λ old. Became (D.content disk.new) (IsKeptBy (line_value line.now) (S.left source.old) old))) }
+    ensures untouched { IfErr result (λ ending. may_write (line_value line.now) ending ≡ false → D.content disk.new ≡ D.content disk.old) }
+    ensures kept { KeepsDisk (line_value line.now) (D.content disk.old) (D.content disk.new) }
+    ensures source { KeepsSource (line_value line.now) (S.left source.old) (S.left source.new) }
+    ensures crash { Told (D.content disk.old) (λ old. CrashesTo (line_value line.now) (S.left source.old) old (D.images disk.old) (λ P. LeavesOnly D.images D.clock D.images_since P disk.old disk.new)) }
+    ensures files { IfErr result (λ ending. ending ≢ Refused DiskWrite → Told (D.content disk.old) (λ _. KeepsFiles (line_value line.now) (D.images disk.old) (D.images disk.new))) }
+    ensures given_up { IfErr result (IsGivenUp (Shown D.gave D.content D.size disk.old disk.new) (D.size disk.old) (Rose (D.faults disk.old) (D.faults disk.new))
+        (Rose (S.faults source.old) (S.faults source.new)) (S.left source.old) (S.left source.new) (line_value line.now)) }
+    ensures harmless { Told (D.content disk.old) (λ old. (files : Files) → StandsForFiles old files → IfErr result IsHarmless) }
     ensures sized { Told (D.content disk.old) (λ old. length old ≡ D.size disk.old) }
     ensures later { IsLater D.size D.faults D.same disk.old disk.new }
 {
@@ -111,38 +151,9 @@ fn run_line<D: Disk, S: Source>(
 
 // Notes why a command was not done, and gives its status.
 fn give_up<Q: Sink>(notes: &mut Q, ending: &Ending) -> u8
-    ensures status { result ≡ status_of ending.now }
+    ensures status { result ≡ table_status ending.now }
     ensures noted { IsNoted (Q.written notes.old) (Q.written notes.new) (Rose (Q.faults notes.old) (Q.faults notes.new)) ending.now }
 {
     let _noted = write_fault(notes, ending);
     status_of(ending)
-}
-
-fn status_of(ending: &Ending) -> u8
-    ensures { result ≡ status_of ending.now }
-{
-    match ending {
-        Ending::Words => 2,
-        Ending::Source => 5,
-        Ending::Sink => 6,
-        Ending::Refused(refusal) => status_of_refusal(refusal),
-    }
-}
-
-fn status_of_refusal(refusal: &Refusal) -> u8
-    ensures { result ≡ status_of_refusal refusal.now }
-{
-    match refusal {
-        Refusal::Memory => 1,
-        Refusal::NoFile => 3,
-        Refusal::BadName => 3,
-        Refusal::TooMany => 3,
-        Refusal::TooLong => 3,
-        Refusal::DiskRead => 4,
-        Refusal::DiskWrite => 4,
-        Refusal::Corrupt { .. } => 7,
-        Refusal::NotAStore { .. } => 8,
-        Refusal::AlreadyStore => 3,
-        Refusal::WrongSize { .. } => 3,
-    }
 }

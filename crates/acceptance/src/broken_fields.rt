@@ -123,7 +123,8 @@ fn a_put_names_its_first_fault(rt: HostRuntime) -> Result<(), Fail> {
         // The length, at level 0 and above.
         right(PUT, &[(11, b"\0\0\0\0\0\0\x40\0")]),
         field(PUT, &[(11, b"\0\0\0\0\0\0\x40\x01")], 11, 16_385),
-        right(PUT, &[(11, b"\0\0\x01\0\0\0\0\0\x01")]),
+        // Until files have trees, the root of each is at level 0.
+        field(PUT, &[(11, b"\0\0\x01\0\0\0\0\0\x01")], 19, 1),
         field(
             PUT,
             &[(11, b"\0\0\x01\0\0\0\0\x01\x01")],
@@ -131,7 +132,7 @@ fn a_put_names_its_first_fault(rt: HostRuntime) -> Result<(), Fail> {
             1_099_511_627_777,
         ),
         field(PUT, &[(11, b"\0\0\0\0\0\0\0\0\x01")], 11, 0),
-        right(PUT, &[(19, b"\x06")]),
+        field(PUT, &[(19, b"\x01")], 19, 1),
         field(PUT, &[(19, b"\x07")], 19, 7),
         // The empty file has the digest of the empty list.
         field(PUT, &[(11, b"\0\0\0\0\0\0\0\0")], 20, 0xBA),

@@ -8,7 +8,15 @@ mod broken;
 #[cfg(test)]
 mod broken_fields;
 #[cfg(test)]
+mod crashes;
+#[cfg(test)]
+mod damaged;
+#[cfg(test)]
+mod limits;
+#[cfg(test)]
 mod opened;
+#[cfg(test)]
+mod putting;
 #[cfg(test)]
 mod rows;
 #[cfg(test)]

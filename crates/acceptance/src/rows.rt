@@ -1,4 +1,5 @@
 //! Rows of a table of runs: the words and the source, and what is to come of them.
+use crate::spelled::LEAST;
 use backup_engine::backup;
 use dd_disk::{Disk, MemDisk};
 use dd_io::{MemSink, MemSource, Source};
@@ -96,9 +97,34 @@ pub(crate) fn check_all<D: Disk + Send>(
     Ok(())
 }
 
+/// A disk of these bytes, none of whose calls fails.
+pub(crate) fn disk_of(alloc: Global, bytes: Vec<u8>) -> MemDisk {
+    MemDisk::new(bytes, Vec::new(alloc))
+}
+
+/// Runs rows on a disk of these bytes.
+pub(crate) fn check_image(
+    rt: &(impl Abort + AllocGlobal),
+    bytes: Vec<u8>,
+    rows: &[Row<'_>],
+) -> Result<(), Fail> {
+    check_all(rt, &mut disk_of(rt.alloc(), bytes), rows)
+}
+
 /// A disk of zero bytes.
 pub(crate) fn zeros(alloc: Global, size: usize) -> Result<MemDisk, AllocError> {
     Ok(MemDisk::new(vec![in alloc; 0u8; size]?, Vec::new(alloc)))
+}
+
+/// An empty store of 4 slots.
+pub(crate) fn least(rt: &(impl Abort + AllocGlobal)) -> Result<MemDisk, Fail> {
+    let mut disk = zeros(rt.alloc(), LEAST)?;
+    check(
+        rt,
+        &mut disk,
+        &done(&["format", "4"], b"", b"formatted 4\n"),
+    )?;
+    Ok(disk)
 }
 
 /// An empty store of 8 slots.

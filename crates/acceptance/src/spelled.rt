@@ -105,16 +105,20 @@ pub(crate) fn put_record(
     Ok(cell)
 }
 
-/// The header of a container of `abc`.
-fn header_of_one(alloc: Global) -> Result<Vec<u8>, Fail> {
+/// The header of a container of one entry.
+pub(crate) fn header_of_one(
+    alloc: Global,
+    id: u64,
+    digest: &[u8; 32],
+    length: u32,
+) -> Result<Vec<u8>, Fail> {
     let mut header = vec![in alloc; 0u8; HEADER]?;
-    put(
-        &mut header,
-        0,
-        b"\xc5DDFSCON\0\0\0\0\0\0\0\x01\0\0\0\x01\0\0\0\x03",
-    )?;
-    put(&mut header, 512, &ABC)?;
-    put(&mut header, 544, b"\0\0\0\0\0\0\0\x03")?;
+    put(&mut header, 0, b"\xc5DDFSCON")?;
+    put(&mut header, 8, &id.to_be_bytes())?;
+    put(&mut header, 18, b"\0\x01")?;
+    put(&mut header, 20, &length.to_be_bytes())?;
+    put(&mut header, 512, digest)?;
+    put(&mut header, 548, &length.to_be_bytes())?;
     seal(&mut header)?;
     Ok(header)
 }
@@ -149,7 +153,7 @@ pub(crate) fn image(alloc: Global) -> Result<Vec<u8>, Fail> {
     let mut image = bare(alloc)?;
     put(&mut image, 1_536, &put_record(7, b"a", 3, &ABC)?)?;
     put(&mut image, 2_048, &put_record(8, b"b", 0, &EMPTY)?)?;
-    put(&mut image, 1_050_112, &header_of_one(alloc)?)?;
+    put(&mut image, 1_050_112, &header_of_one(alloc, 1, &ABC, 3)?)?;
     put(&mut image, 1_099_776, b"abc")?;
     put(&mut image, 1_312_256, &header_of_two(alloc)?)?;
     put(&mut image, 1_361_920, b"abca")?;

@@ -1,11 +1,14 @@
 use crate::rows::{SIZE, call, check, check_all, done, fresh, owned, refused, zeros};
 use backup_engine::{backup_alone, size_of_format};
-use dd_disk::{Asked, BlindDisk, Call, MemDisk};
+use dd_disk::{Asked, BlindDisk, Call, FileDisk, MemDisk};
 use dd_io::{MemSink, MemSource};
 use std::test::Fail;
 
 const ABC: &[u8] =
     b"stored a 3 0 ba7816bf8f01cfea414140de5dae2223b00361a396177a9cb410ff61f20015ad\n";
+
+const B_ABC: &[u8] =
+    b"stored b 3 0 ba7816bf8f01cfea414140de5dae2223b00361a396177a9cb410ff61f20015ad\n";
 
 const EMPTY: &[u8] =
     b"stored e 0 0 e3b0c44298fc1c149afbf4c8996fb92427ae41e4649b934ca495991b7852b855\n";
@@ -20,6 +23,31 @@ const DIGEST: &[u8] =
 const CORRUPT: &str =
     "fault 13 corrupt 0 0 1 ca978112ca1bbdcafac231b39a23dc4da786eff8147c4e72b9807785afee48bb 3e23e8160039594a33894f6564e1b1348bbd7a0088d42c4acb73eeaed59c009d\n";
 
+// A real file tells nothing of what it holds, so that no theorem does.
+#[test]
+fn files_stand_in_a_real_file(rt: HostRuntime) -> Result<(), Fail> {
+    let file = std::fs::File::options()
+        .read(true)
+        .write(true)
+        .create(true)
+        .truncate(true)
+        .open(&rt, "store.img")?;
+    file.set_len(SIZE as u64)?;
+    let mut disk = FileDisk::new(file, SIZE as u64);
+    check_all(
+        &rt,
+        &mut disk,
+        &[
+            done(&["format", "8"], b"", b"formatted 8\n"),
+            done(&["ingest", "a"], b"abc", ABC),
+            done(&["ingest", "b"], b"abc", B_ABC),
+            done(&["restore", "a"], b"", b"abc"),
+            done(&["restore", "b"], b"", b"abc"),
+            refused(&["format", "8"], b"", 3, "fault 20 alreadystore\n"),
+        ],
+    )
+}
+
 #[test]
 fn a_file_comes_back(rt: HostRuntime) -> Result<(), Fail> {
     let mut disk = fresh(&rt)?;
@@ -32,7 +60,8 @@ fn a_file_comes_back(rt: HostRuntime) -> Result<(), Fail> {
             done(&["ingest", "a"], b"abc", ABC),
             done(&["restore", "a"], b"", b"abc"),
             refused(&["restore", "b"], b"", 3, "fault 2 nofile\n"),
-            refused(&["ingest", "b"], b"abc", 3, "fault 4 toomany\n"),
+            done(&["ingest", "b"], b"abc", B_ABC),
+            done(&["restore", "b"], b"", b"abc"),
             refused(&["format", "8"], b"", 3, "fault 20 alreadystore\n"),
             done(&["restore", "a"], b"", b"abc"),
         ],
@@ -311,17 +340,27 @@ fn a_write_that_fails_is_status_4(rt: HostRuntime) -> Result<(), Fail> {
     )
 }
 
+// Of the opening's calls the first is the sync; behind it the format cell, both selectors, a closed record and the
+// gates of eight slots are read.
 #[test]
-fn a_read_that_fails_is_status_4(rt: HostRuntime) -> Result<(), Fail> {
+fn a_call_of_an_opening_that_fails_is_status_4(rt: HostRuntime) -> Result<(), Fail> {
     let alloc = rt.alloc();
     let store = fresh(&rt)?;
-    let mut disk = MemDisk::new(store.bytes().to_vec(alloc)?, vec![in alloc; 1u64]?);
-    check_all(
-        &rt,
-        &mut disk,
-        &[
-            refused(&["restore", "a"], b"", 4, "fault 10 diskread\n"),
-            refused(&["restore", "a"], b"", 3, "fault 2 nofile\n"),
-        ],
-    )
+    let mut bytes = store.bytes().to_vec(alloc)?;
+    for number in 1..15u64 {
+        let (status, notes) = match number {
+            1 => (4, "fault 11 diskwrite\n"),
+            14 => (3, "fault 2 nofile\n"),
+            _ => (4, "fault 10 diskread\n"),
+        };
+        let mut disk = MemDisk::new(bytes, vec![in alloc; number]?);
+        check(
+            &rt,
+            &mut disk,
+            &refused(&["restore", "a"], b"", status, notes),
+        )?;
+        assert!(rt; disk.calls().len() as u64 == number.min(13), "{}", number);
+        bytes = disk.bytes().to_vec(alloc)?;
+    }
+    Ok(())
 }

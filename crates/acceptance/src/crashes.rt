@@ -60,24 +60,12 @@ enum Found {
     Else,
 }
 
-/// The digits of bytes.
-fn put_digits(text: &mut Vec<u8>, bytes: &[u8]) -> Result<(), AllocError> {
-    let digits = b"0123456789abcdef";
-    for byte in bytes {
-        text.push(digits.get(usize::from(*byte / 16)).copied().unwrap_or(0))?;
-        text.push(digits.get(usize::from(*byte % 16)).copied().unwrap_or(0))?;
-    }
-    Ok(())
-}
-
 /// The note of a disk of these bytes, if it is no store.
 fn blank_note(alloc: Global, bytes: &[u8]) -> Result<Vec<u8>, AllocError> {
-    let mut text = b"fault 16 notastore ".as_slice().to_vec(alloc)?;
-    put_digits(&mut text, bytes.get(..1).unwrap_or(b""))?;
-    text.push(b' ')?;
-    put_digits(&mut text, bytes.get(1..8).unwrap_or(b""))?;
-    text.push(b'\n')?;
-    Ok(text)
+    let gate = hex::encode(alloc, bytes.get(..1).unwrap_or(b""))?;
+    let magic = hex::encode(alloc, bytes.get(1..8).unwrap_or(b""))?;
+    let note = format!(in alloc; "fault 16 notastore {} {}\n", gate, magic)?;
+    note.as_bytes().to_vec(alloc)
 }
 
 fn restore_a(rt: &(impl Abort + AllocGlobal), disk: &mut MemDisk) -> Result<Found, Fail> {

@@ -12,6 +12,3 @@ pub use fault::{LogFault, Why};
 pub use reading::{Spot, read_meta, read_segment};
 pub use slot::read_slot;
 pub use writing::{free, seal};
-
-#[cfg(test)]
-mod tests;

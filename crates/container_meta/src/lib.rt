@@ -18,6 +18,3 @@ pub use fault::MetaFault;
 pub use kind::Kind;
 pub use reading::decode;
 pub use segment::{Seg, digest_of};
-
-#[cfg(test)]
-mod tests;

@@ -17,6 +17,3 @@ pub use calls::{read_at, sync_all, write_at, write_gated, write_synced};
 pub use disk::{Disk, DiskFault};
 pub use file::FileDisk;
 pub use mem::MemDisk;
-
-#[cfg(test)]
-mod tests;

@@ -11,6 +11,3 @@ pub use mem::{MemSink, MemSource};
 pub use sink::{Sink, SinkFault};
 pub use source::{Source, SourceFault};
 pub use std_streams::{StdSink, StdSource};
-
-#[cfg(test)]
-mod tests;

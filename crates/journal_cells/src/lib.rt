@@ -19,8 +19,3 @@ pub use journal::Journal;
 pub use opening::slots_of;
 pub use scanning::scan;
 pub use spelling::{encode_format, encode_selector};
-
-#[cfg(test)]
-mod record_tests;
-#[cfg(test)]
-mod tests;

@@ -11,8 +11,6 @@ mod node;
 mod reading;
 mod rows;
 mod stack;
-#[cfg(test)]
-mod tests;
 mod top;
 mod want;
 mod writing;

@@ -12,6 +12,3 @@ mod record;
 pub use fault::NameFault;
 pub use names::Names;
 pub use record::{Change, Named, Record, Root};
-
-#[cfg(test)]
-mod tests;

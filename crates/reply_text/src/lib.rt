@@ -10,6 +10,3 @@ pub use ending::Ending;
 pub use notes::write_fault;
 pub use status::status_of;
 pub use text::{formatted_line, stored_line};
-
-#[cfg(test)]
-mod tests;

@@ -12,6 +12,3 @@ pub use fault::{IndexFault, Why};
 pub use index::Index;
 pub use map_index::MapIndex;
 pub use place::{Key, Place};
-
-#[cfg(test)]
-mod tests;

@@ -4,8 +4,6 @@
 
 mod cutting;
 mod rolling;
-#[cfg(test)]
-mod tests;
 mod whole;
 
 pub use cutting::{Cutter, GREATEST, LEAST, Taken};

@@ -1,6 +1,6 @@
 -- What a crash leaves of a line that was run.
 use Rattle.std.proofs.Common.{◌≡◌, ◌≢◌, ◌⊎◌, inl, inr, ℕ, ◌-◌, ◌^◌, ◌<◌, List, Option, Some, refl, ap, sym, ◌∙◌, subst, arith}
-use Rattle.base_model.specs.Told.{Told}
+use Rattle.base_model.specs.Known.{Known}
 use Rattle.dd_disk.specs.declared.disk.Disk.{Ghosts}
 use Rattle.dd_disk.proofs.Steps.{Leaves}
 use Rattle.recovery.specs.Formatting.{IsBlankOrFormatted}
@@ -37,8 +37,8 @@ keeps_images (Restore name) images images_now other keeps c image = keeps c imag
 
 -- a line that was run
 pub survives : (line : Option CommandLine) (status : ℕ) (left content : Option (List ℕ)) (images images_now since : List ℕ → Type 0) (command : CommandLine) → line ≡ Some command
-    → Told content (λ bytes. CrashesTo command left bytes images (λ P. (c : List ℕ) → since c → P c))
-    → (status ≢ 0 → status ≢ 4 → status ≢ 6 → Told content (λ bytes. KeepsFiles command images images_now))
+    → Known content (λ bytes. CrashesTo command left bytes images (λ P. (c : List ℕ) → since c → P c))
+    → (status ≢ 0 → status ≢ 4 → status ≢ 6 → Known content (λ bytes. KeepsFiles command images images_now))
     → SurvivesCrash line status left content images images_now since
 survives line status left content images images_now since command is crash kept =
     let named = λ (k : CommandLine) (line_is : line ≡ Some k). some_same command k (sym is ∙ line_is) in

@@ -10,7 +10,7 @@ use Rattle.dd_disk.proofs.Disks.{Saw, weaker}
 use Rattle.reply_text.specs.declared.ending.Ending.TheVariants.{Refused}
 use Rattle.store_model.specs.Files.{Files}
 use Rattle.store_model.specs.Slots.{Copy, free_slots}
-use Rattle.store_model.specs.Image.{Store, IsRight, IsStoreOf, HasCopy, bytes_at}
+use Rattle.store_model.specs.Image.{Store, Encodes, IsStoreOf, HasCopy, bytes_at}
 use Rattle.store_model.specs.Commands.{HasRoot, IsRootRefusal, IsRestoreRefusal, IsPlausible, root_key, copy_of}
 use Rattle.store_model.proofs.Copies.{some_same}
 use Rattle.store_model.proofs.Roots.{HasFile, file_of_root, key_of_file, length_of_copy}
@@ -53,10 +53,10 @@ module _ {D : Type 0} (disk : Ghosts D) (old new : D) where
 
   -- a root whose bytes are not given
   pub refused_by_root : (failed since : Type 0) (name : List ℕ) (root : Root) (store : Store) (refusal : Refusal) → IsName name → HasRoot name root store → 2 ≤ free_slots store.held → (failed → since)
-      → IsReadFault failed (λ r. IsPlausible r × Saw disk old new (λ image. IsRight store image × IsRootRefusal root r store image)) refusal
+      → IsReadFault failed (λ r. IsPlausible r × Saw disk old new (λ image. Encodes image store × IsRootRefusal root r store image)) refusal
       → IsRefused (Saw disk old new) (disk.size old) since None None (Restore name) refusal
   refused_by_root failed since name root store refusal good has reserve rose fault =
-      let Found : Refusal → Type 0 = λ r. IsPlausible r × Saw disk old new (λ image. IsRight store image × IsRootRefusal root r store image) in
+      let Found : Refusal → Type 0 = λ r. IsPlausible r × Saw disk old new (λ image. Encodes image store × IsRootRefusal root r store image) in
       let Wrong : Refusal → Type 0 = λ r. IsPlausible r × Saw disk old new (HoldsWith (IsRestoreRefusal name r)) in
       refused_by since name refusal (fault_mapped failed since Found Wrong refusal rose
       (λ (r : Refusal) (wrong : Found r). (wrong.0, weaker disk old new (λ image sized shown. (store, shown.0, reserve, restore_refusal name root r store image good has shown.1)) wrong.1)) fault)

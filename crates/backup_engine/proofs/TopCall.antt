@@ -1,6 +1,6 @@
 -- A command that gave up keeps what the top call promises.
 use Rattle.std.proofs.Common.{◌≡◌, ◌≢◌, ◌⊎◌, inl, inr, ℕ, false, List, Option, Some, None, refl, sym, ◌∙◌, ap, subst, arith}
-use Rattle.base_model.specs.Told.{Told, Became}
+use Rattle.base_model.specs.Known.{Known, KnownWith}
 use Rattle.store_model.specs.Files.{Files}
 use Rattle.store_model.specs.Image.{StandsForFiles}
 use Rattle.actor_parts.specs.declared.refusal.Refusal.{Refusal}
@@ -115,14 +115,14 @@ module _ (shown : (List ℕ → Type 0) → Type 0) (size : ℕ) (disk_failed so
     refused_only whole source command (Refused refusal) given harmless = inl refl
 
   module _ (content after written noted noted_now : Option (List ℕ)) (synced notes_failed : Type 0) where
-    pub gives_up : ((P : List ℕ → Type 0) → shown P → Told content P)
+    pub gives_up : ((P : List ℕ → Type 0) → shown P → Known content P)
         → (line : Option CommandLine) (status : ℕ) (command : CommandLine) (ending : Ending) → line ≡ Some command → status ≡ status_of ending
         → IsGivenUp shown size disk_failed source_failed left left_now command ending
-        → Told content (λ old. Became after (IsLeftBy command left old))
-        → (ending ≢ Refused DiskWrite → Told content (λ old. Became after (IsKeptBy command left old)))
+        → Known content (λ old. KnownWith after (IsLeftBy command left old))
+        → (ending ≢ Refused DiskWrite → Known content (λ old. KnownWith after (IsKeptBy command left old)))
         → (may_write command ending ≡ false → after ≡ content)
         → KeepsDisk command content after → KeepsSource command left left_now
-        → Told content (λ old. (files : Files) → StandsForFiles old files → IsHarmless ending)
+        → Known content (λ old. (files : Files) → StandsForFiles old files → IsHarmless ending)
         → IsNoted noted noted_now notes_failed ending
         → Promise line status shown size content after synced disk_failed left left_now source_failed written written sink_failed noted noted_now notes_failed
     gives_up told line status command ending line_is status_is given left_by kept_by untouched keeps keeps_source harmless in_notes =
@@ -136,10 +136,10 @@ module _ (shown : (List ℕ → Type 0) → Type 0) (size : ℕ) (disk_failed so
           restored = λ name is took. absurd (none_took took);
           format_is_synced = λ slots is took. absurd (none_took took);
           ingest_is_synced = λ name is took. absurd (none_took took);
-          format_failed = λ slots is four. subst (λ (k : CommandLine). Told content (λ old. Became after (IsLeftBy k left old))) (named (Format slots) is) left_by;
-          ingest_failed = λ name is four. subst (λ (k : CommandLine). Told content (λ old. Became after (IsLeftBy k left old))) (named (Ingest name) is) left_by;
+          format_failed = λ slots is four. subst (λ (k : CommandLine). Known content (λ old. KnownWith after (IsLeftBy k left old))) (named (Format slots) is) left_by;
+          ingest_failed = λ name is four. subst (λ (k : CommandLine). Known content (λ old. KnownWith after (IsLeftBy k left old))) (named (Ingest name) is) left_by;
           ingest_refused = λ name is failed read sent.
-              subst (λ (k : CommandLine). Told content (λ old. Became after (IsKeptBy k left old))) (named (Ingest name) is) (kept_by (λ wrote. read (status_is ∙ ap status_of wrote)));
+              subst (λ (k : CommandLine). Known content (λ old. KnownWith after (IsKeptBy k left old))) (named (Ingest name) is) (kept_by (λ wrote. read (status_is ∙ ap status_of wrote)));
           restore_reads = λ name is. subst (λ (k : CommandLine). KeepsDisk k content after) (named (Restore name) is) keeps;
           untouched = λ other failed read sent.
               untouched (writes_not command ending (λ name is. other name (line_is ∙ ap Some is)) (λ e. read (status_is ∙ e)) (λ e. sent (status_is ∙ e)));

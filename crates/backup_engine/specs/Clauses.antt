@@ -3,7 +3,7 @@ use Rattle.std.specs.Prelude.{◌≡◌, ◌≢◌, ◌⊎◌, ℕ, suc, ◌<◌
 use Rattle.std.specs.FinMap as map
 use Rattle.sha2.specs.Sha256.{sha256}
 use Rattle.base_model.specs.Bytes.{byte_at}
-use Rattle.base_model.specs.Told.{Told, Became, Appended}
+use Rattle.base_model.specs.Known.{Known, KnownWith, Appended}
 use Rattle.dd_io.specs.Flow.{AppendedPart}
 use Rattle.disk_format.specs.Layout.{IsSlotCount, size_of}
 use Rattle.disk_format.specs.Cells.{FORMAT_GATE, Root, IsName}
@@ -32,7 +32,7 @@ pub record Replies (status : ℕ) (before now : Option (List ℕ)) (reply : List
 -- The bytes of a file that is taken in: all that the source had left, at most 2,048.
 pub record TakesIn (left : Option (List ℕ)) (bytes : List ℕ) : Type 0 where
   pub at_most : length bytes ≤ 2048
-  pub all : Told left (λ all. bytes ≡ all)
+  pub all : Known left (λ all. bytes ≡ all)
 
 -- a store that is opened
 abbrev pub IsOpen : List ℕ → Type 0
@@ -45,7 +45,7 @@ HoldsWith P image = HoldsOpen (λ store. P store image) image
 -- why a file is not put into a store that was opened, by the order of the steps: the source first
 abbrev pub IsTakeRefusal : ((List ℕ → Type 0) → Type 0) → Type 0 → Option (List ℕ) → List ℕ → Refusal → Type 0
 IsTakeRefusal shown failed left name DiskWrite = failed
-IsTakeRefusal shown failed left name TooLong = shown IsOpen × Told left (λ bytes. 2048 < length bytes)
+IsTakeRefusal shown failed left name TooLong = shown IsOpen × Known left (λ bytes. 2048 < length bytes)
 IsTakeRefusal shown failed left name refusal = IsPlausible refusal × ((bytes : List ℕ) × TakesIn left bytes × shown (HoldsOpen (λ store. IsPutRefusal name bytes store refusal)))
 
 -- why a file is not given back by a store that was opened
@@ -96,7 +96,7 @@ pub record Formats (slots : ℕ) (shown : (List ℕ → Type 0) → Type 0) (siz
   pub count : IsSlotCount slots
   pub size_is : size ≡ size_of slots
   pub closed : shown (λ image. byte_at 0 image ≢ FORMAT_GATE)
-  pub stands : Told content (λ old. Became now (IsFormatted slots))
+  pub stands : Known content (λ old. KnownWith now (IsFormatted slots))
 
 -- `ingest` that took effect: the store could take the file, and has it now. Where segments have no collisions, an image
 -- that stood for some files now stands for these and the file, and holds the segment once.
@@ -104,8 +104,8 @@ pub record Ingests (name bytes : List ℕ) (shown : (List ℕ → Type 0) → Ty
   pub name_is_good : IsName name
   pub taken : TakesIn left bytes
   pub can : shown (HoldsOpen (λ store. CanPlace bytes store × CanCommit name store))
-  pub stands : Told content (λ old. Became now (λ new. IsApart old bytes → (files : Files) (last : ℕ) → StandsFor old files last → StandsFor new (with_file files name bytes) (suc last)))
-  pub adds : Told content (λ old. Became now (λ new. IsApart old bytes → (store : Store) (files : Files) → IsStoreOf old store files → IsStoreOf new (with_file_put name bytes store) (with_file files name bytes)))
+  pub stands : Known content (λ old. KnownWith now (λ new. IsApart old bytes → (files : Files) (last : ℕ) → StandsFor old files last → StandsFor new (with_file files name bytes) (suc last)))
+  pub adds : Known content (λ old. KnownWith now (λ new. IsApart old bytes → (store : Store) (files : Files) → IsStoreOf old store files → IsStoreOf new (with_file_put name bytes store) (with_file files name bytes)))
 
 -- `restore` that took effect: the bytes have the length and digest of the root that the name was read to have, and lie at
 -- its newest copy; and are those of the file where the disk tells its content.
@@ -115,7 +115,7 @@ pub record Restores (name bytes : List ℕ) (shown : (List ℕ → Type 0) → T
   pub length_is : length bytes ≡ root.length
   pub digest_is : sha256 bytes ≡ root.digest
   pub held : shown (HoldsWith (λ store image. HasRoot name root store × AreBytesOf root bytes store image))
-  pub file : Told content (λ old. (files : Files) → StandsForFiles old files → map.get files name ≡ Some bytes)
+  pub file : Known content (λ old. (files : Files) → StandsForFiles old files → map.get files name ≡ Some bytes)
 
 -- What stands after a device failed in mid-command: what stood before, or what the command makes of a store that was opened
 -- (`IsLeftByFormat` is recovery's).

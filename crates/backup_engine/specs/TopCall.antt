@@ -10,7 +10,7 @@
 -- leave, or might have left at a moment since it began.
 use Rattle.std.specs.Prelude.{◌≡◌, ◌≢◌, ◌⊎◌, ℕ, List, false, Option, Some, None}
 use Rattle.base_model.specs.Bytes.{byte_at}
-use Rattle.base_model.specs.Told.{Told, Became}
+use Rattle.base_model.specs.Known.{Known, KnownWith}
 use Rattle.disk_format.specs.Cells.{FORMAT_GATE}
 use Rattle.store_model.specs.Files.{Files, root_of}
 use Rattle.store_model.specs.Image.{StandsForFiles}
@@ -49,9 +49,9 @@ pub record Promise (line : Option CommandLine) (status : ℕ)
   pub format_is_synced : (slots : ℕ) → line ≡ Some (Format slots) → TookEffect status → synced
   pub ingest_is_synced : (name : List ℕ) → line ≡ Some (Ingest name) → TookEffect status → synced
   -- What a device that fails in mid-command leaves, and what a refusal does.
-  pub format_failed : (slots : ℕ) → line ≡ Some (Format slots) → status ≡ 4 → Told content (λ old. Became content_now (IsLeftByFormat slots old))
-  pub ingest_failed : (name : List ℕ) → line ≡ Some (Ingest name) → status ≡ 4 → Told content (λ old. Became content_now (IsLeftByIngest name left old))
-  pub ingest_refused : (name : List ℕ) → line ≡ Some (Ingest name) → status ≢ 0 → status ≢ 4 → status ≢ 6 → Told content (λ old. Became content_now (IsKeptByIngest left old))
+  pub format_failed : (slots : ℕ) → line ≡ Some (Format slots) → status ≡ 4 → Known content (λ old. KnownWith content_now (IsLeftByFormat slots old))
+  pub ingest_failed : (name : List ℕ) → line ≡ Some (Ingest name) → status ≡ 4 → Known content (λ old. KnownWith content_now (IsLeftByIngest name left old))
+  pub ingest_refused : (name : List ℕ) → line ≡ Some (Ingest name) → status ≢ 0 → status ≢ 4 → status ≢ 6 → Known content (λ old. KnownWith content_now (IsKeptByIngest left old))
   -- In all other cases the disk is as it was, and nothing is written. `ingest` alone reads the source.
   pub restore_reads : (name : List ℕ) → line ≡ Some (Restore name) → content_now ≡ content
   pub untouched : ((name : List ℕ) → line ≢ Some (Ingest name)) → status ≢ 0 → status ≢ 4 → status ≢ 6 → content_now ≡ content
@@ -63,21 +63,21 @@ pub record Promise (line : Option CommandLine) (status : ℕ)
   pub ended : status ≢ 0 → Ended line status shown size content content_now disk_failed left left_now source_failed sink_failed noted noted_now notes_failed
   pub done : status ≡ 0 → noted_now ≡ noted
   -- A disk that tells its content and stands for files is never found damaged or foreign.
-  pub undamaged : Told content (λ old. (files : Files) → StandsForFiles old files → (status ≢ 7) × (status ≢ 8))
+  pub undamaged : Known content (λ old. (files : Files) → StandsForFiles old files → (status ≢ 7) × (status ≢ 8))
   -- Over such a disk, where neither it nor the source fails, a command takes effect, or is refused by its cause, or finds no memory.
   pub complete : line ≢ None → ¬ disk_failed → ¬ source_failed
-      → Told content (λ old. (files : Files) → StandsForFiles old files → TookEffect status ⊎ (status ≡ 3) ⊎ (status ≡ 1))
+      → Known content (λ old. (files : Files) → StandsForFiles old files → TookEffect status ⊎ (status ≡ 3) ⊎ (status ≡ 1))
 
 -- What a crash leaves, of a disk that tells its content, at each moment of the call.
 pub record SurvivesCrash (line : Option CommandLine) (status : ℕ) (left content : Option (List ℕ)) (images images_now since : List ℕ → Type 0) : Type 0 where
   -- `format` of a disk that may be blank only: it is blank, or an empty store. Of one that has a store: as it was.
-  pub format : (slots : ℕ) → line ≡ Some (Format slots) → Told content (λ old. AreBlank slots images → (c : List ℕ) → since c → IsBlankOrFormatted slots c)
-  pub format_of_store : (slots : ℕ) → line ≡ Some (Format slots) → Told content (λ old. byte_at 0 old ≡ FORMAT_GATE → (c : List ℕ) → since c → images c)
+  pub format : (slots : ℕ) → line ≡ Some (Format slots) → Known content (λ old. AreBlank slots images → (c : List ℕ) → since c → IsBlankOrFormatted slots c)
+  pub format_of_store : (slots : ℕ) → line ≡ Some (Format slots) → Known content (λ old. byte_at 0 old ≡ FORMAT_GATE → (c : List ℕ) → since c → images c)
   -- `ingest` of a disk that stands for these files: as it was, or the files from before or after it.
-  pub ingest : (name : List ℕ) → line ≡ Some (Ingest name) → Told content (λ old. (files : Files) → StandsForFiles old files → (c : List ℕ) → since c → images c ⊎ MayStandFor name left old files c)
-  pub restore : (name : List ℕ) → line ≡ Some (Restore name) → Told content (λ old. (c : List ℕ) → since c → images c)
+  pub ingest : (name : List ℕ) → line ≡ Some (Ingest name) → Known content (λ old. (files : Files) → StandsForFiles old files → (c : List ℕ) → since c → images c ⊎ MayStandFor name left old files c)
+  pub restore : (name : List ℕ) → line ≡ Some (Restore name) → Known content (λ old. (c : List ℕ) → since c → images c)
   pub words : line ≡ None → (c : List ℕ) → since c → images c
   -- What it leaves once a command was refused, but for a write that failed: no more than before, or the same files.
-  pub refused : ((name : List ℕ) → line ≢ Some (Ingest name)) → status ≢ 0 → status ≢ 4 → status ≢ 6 → Told content (λ old. (c : List ℕ) → images_now c → images c)
-  pub ingest_refused : (name : List ℕ) → line ≡ Some (Ingest name) → status ≢ 0 → status ≢ 4 → status ≢ 6 → Told content (λ old. (files : Files) → ((c : List ℕ) → images c → StandsForFiles c files)
+  pub refused : ((name : List ℕ) → line ≢ Some (Ingest name)) → status ≢ 0 → status ≢ 4 → status ≢ 6 → Known content (λ old. (c : List ℕ) → images_now c → images c)
+  pub ingest_refused : (name : List ℕ) → line ≡ Some (Ingest name) → status ≢ 0 → status ≢ 4 → status ≢ 6 → Known content (λ old. (files : Files) → ((c : List ℕ) → images c → StandsForFiles c files)
       → (c : List ℕ) → images_now c → StandsForFiles c files)

@@ -2,7 +2,7 @@
 ghost use Rattle.std.specs.Prelude.{◌≡◌, ◌≢◌, ◌⊎◌, List, ℕ, None, IfOk, OnOk, IfErr};
 ghost use Rattle.base_model.specs.Bytes.{byte_at};
 ghost use Rattle.base_model.specs.Fault.{Rose};
-ghost use Rattle.base_model.specs.Told.{Told, Became};
+ghost use Rattle.base_model.specs.Known.{Known, KnownWith};
 ghost use Rattle.base_model.specs.Shown.{Shown, OnlyReads, IsLater};
 ghost use Rattle.disk_format.specs.Layout.{IsSlotCount};
 ghost use Rattle.disk_format.specs.Cells.{FORMAT_GATE};
@@ -24,21 +24,21 @@ use std::alloc::Global;
 /// Makes an empty store of so many slots, on a disk of their size that has none, and gives the reply.
 pub(crate) fn format<D: Disk>(alloc: Global, disk: &mut D, slots: u32) -> Result<Vec<u8>, Ending>
     requires { IsSlotCount slots }
-    ensures done { OnOk result (Formats slots (Shown D.gave D.content D.size disk.old disk.new) (D.size disk.old) (D.content disk.old) (D.content disk.new)) }
+    ensures done { OnOk result (Formats slots (Shows (D.view disk.old) (D.view disk.new)) (D.view disk.old).size (D.view disk.old).content (D.view disk.new).content) }
     ensures reply { IfOk result (λ reply. reply.items ≡ formatted_text slots) }
-    ensures synced { OnOk result (Only (D.content disk.new) (D.images disk.new)) }
+    ensures synced { OnOk result (IsDurable (D.view disk.new)) }
     // What a disk that fails in the middle leaves.
-    ensures left { Told (D.content disk.old) (λ old. Became (D.content disk.new) (IsLeftByFormat slots old)) }
-    ensures untouched { IfErr result (λ ending. ending ≢ Refused DiskWrite → OnlyReads D.content D.images D.clock D.images_since D.size D.faults D.same disk.old disk.new) }
+    ensures left { Known (D.view disk.old).content (λ old. KnownWith (D.view disk.new).content (IsLeftByFormat slots old)) }
+    ensures untouched { IfErr result (λ ending. ending ≢ Refused DiskWrite → OnlyReads (D.view disk.old) (D.view disk.new)) }
     // A disk that tells of a store is only read.
-    ensures store { Told (D.content disk.old) (λ old. byte_at 0 old ≡ FORMAT_GATE → OnlyReads D.content D.images D.clock D.images_since D.size D.faults D.same disk.old disk.new) }
+    ensures store { Known (D.view disk.old).content (λ old. byte_at 0 old ≡ FORMAT_GATE → OnlyReads (D.view disk.old) (D.view disk.new)) }
     // What a crash leaves, at any moment.
-    ensures crash { Told (D.content disk.old) (λ _. AreBlank slots (D.images disk.old)
-        → LeavesOnly D.images D.clock D.images_since (IsBlankOrFormatted slots) disk.old disk.new) }
-    ensures given_up { IfErr result (IsGivenUp (Shown D.gave D.content D.size disk.old disk.new) (D.size disk.old) (Rose (D.faults disk.old) (D.faults disk.new)) ⊥
+    ensures crash { Known (D.view disk.old).content (λ _. AreBlank slots (D.view disk.old).images
+        → CrashLeaves (IsBlankOrFormatted slots) (D.view disk.old) (D.view disk.new)) }
+    ensures given_up { IfErr result (IsGivenUp (Shows (D.view disk.old) (D.view disk.new)) (D.view disk.old).size (Rose (D.view disk.old).faults (D.view disk.new).faults) ⊥
         None None (Format slots)) }
     ensures harmless { IfErr result IsHarmless }
-    ensures later { IsLater D.size D.faults D.same disk.old disk.new }
+    ensures later { IsLater (D.view disk.old) (D.view disk.new) }
 {
     // Its memory is taken before the first write.
     let reply = formatted_line(alloc, slots)?;

@@ -1,7 +1,7 @@
 //! Taking a file in.
 ghost use Rattle.std.specs.Prelude.{◌≡◌, ◌≢◌, ◌⊎◌, List, ℕ, false, IfOk, OnOk, IfErr};
 ghost use Rattle.base_model.specs.Fault.{Rose};
-ghost use Rattle.base_model.specs.Told.{Told, Became};
+ghost use Rattle.base_model.specs.Known.{Known, KnownWith};
 ghost use Rattle.base_model.specs.Shown.{Shown, IsLater};
 ghost use Rattle.store_model.specs.Files.{Files, root_of as file_root};
 ghost use Rattle.store_model.specs.Image.{StandsForFiles};
@@ -52,23 +52,23 @@ pub(crate) fn ingest<D: Disk, S: Source>(
     name: &str,
 ) -> Result<Vec<u8>, Ending>
     ensures done { IfOk result (λ reply. (bytes : List ℕ)
-        × Ingests name.now bytes (Shown D.gave D.content D.size disk.old disk.new) (S.left source.old) (D.content disk.old) (D.content disk.new)
+        × Ingests name.now bytes (Shows (D.view disk.old) (D.view disk.new)) (S.left source.old) (D.view disk.old).content (D.view disk.new).content
         × (reply.items ≡ stored_text name.now (file_root bytes))) }
-    ensures synced { OnOk result (Only (D.content disk.new) (D.images disk.new)) }
+    ensures synced { OnOk result (IsDurable (D.view disk.new)) }
     // What a disk that fails in the middle leaves.
-    ensures left { Told (D.content disk.old) (λ old. Became (D.content disk.new) (IsLeftByIngest name.now (S.left source.old) old)) }
+    ensures left { Known (D.view disk.old).content (λ old. KnownWith (D.view disk.new).content (IsLeftByIngest name.now (S.left source.old) old)) }
     // What a refusal leaves, but for a write that failed.
-    ensures kept { IfErr result (λ ending. ending ≢ Refused DiskWrite → Told (D.content disk.old) (λ old. Became (D.content disk.new) (IsKeptByIngest (S.left source.old) old))) }
-    ensures untouched { IfErr result (λ ending. may_write (Ingest name.now) ending ≡ false → D.content disk.new ≡ D.content disk.old) }
+    ensures kept { IfErr result (λ ending. ending ≢ Refused DiskWrite → Known (D.view disk.old).content (λ old. KnownWith (D.view disk.new).content (IsKeptByIngest (S.left source.old) old))) }
+    ensures untouched { IfErr result (λ ending. may_write (Ingest name.now) ending ≡ false → (D.view disk.new).content ≡ (D.view disk.old).content) }
     // What a crash leaves, at any moment.
-    ensures crash { Told (D.content disk.old) (λ old. (files : Files) → StandsForFiles old files
-        → LeavesOnly D.images D.clock D.images_since (λ c. D.images disk.old c ⊎ MayStandFor name.now (S.left source.old) old files c) disk.old disk.new) }
-    ensures files { IfErr result (λ ending. ending ≢ Refused DiskWrite → Told (D.content disk.old) (λ _. (files : Files) → ((c : List ℕ) → D.images disk.old c → StandsForFiles c files)
-        → (c : List ℕ) → D.images disk.new c → StandsForFiles c files)) }
-    ensures given_up { IfErr result (IsGivenUp (Shown D.gave D.content D.size disk.old disk.new) (D.size disk.old) (Rose (D.faults disk.old) (D.faults disk.new))
+    ensures crash { Known (D.view disk.old).content (λ old. (files : Files) → StandsForFiles old files
+        → CrashLeaves (λ c. (D.view disk.old).images c ⊎ MayStandFor name.now (S.left source.old) old files c) (D.view disk.old) (D.view disk.new)) }
+    ensures files { IfErr result (λ ending. ending ≢ Refused DiskWrite → Known (D.view disk.old).content (λ _. (files : Files) → ((c : List ℕ) → (D.view disk.old).images c → StandsForFiles c files)
+        → (c : List ℕ) → (D.view disk.new).images c → StandsForFiles c files)) }
+    ensures given_up { IfErr result (IsGivenUp (Shows (D.view disk.old) (D.view disk.new)) (D.view disk.old).size (Rose (D.view disk.old).faults (D.view disk.new).faults)
         (Rose (S.faults source.old) (S.faults source.new)) (S.left source.old) (S.left source.new) (Ingest name.now)) }
-    ensures harmless { Told (D.content disk.old) (λ old. (files : Files) → StandsForFiles old files → IfErr result IsHarmless) }
-    ensures later { IsLater D.size D.faults D.same disk.old disk.new }
+    ensures harmless { Known (D.view disk.old).content (λ old. (files : Files) → StandsForFiles old files → IfErr result IsHarmless) }
+    ensures later { IsLater (D.view disk.old) (D.view disk.new) }
 {
     let mut opened = open(alloc, disk)?;
     let bytes = take_in(alloc, source)?;

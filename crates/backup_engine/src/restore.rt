@@ -1,7 +1,7 @@
 //! Giving a file back.
 ghost use Rattle.std.specs.Prelude.{None, IfOk, IfErr};
 ghost use Rattle.base_model.specs.Fault.{Rose};
-ghost use Rattle.base_model.specs.Told.{Told};
+ghost use Rattle.base_model.specs.Known.{Known};
 ghost use Rattle.base_model.specs.Shown.{Shown, OnlyReads};
 ghost use Rattle.store_model.specs.Files.{Files};
 ghost use Rattle.store_model.specs.Image.{StandsForFiles};
@@ -17,11 +17,11 @@ use std::alloc::Global;
 
 /// The bytes of the file of a name.
 pub(crate) fn restore<D: Disk>(alloc: Global, disk: &mut D, name: &str) -> Result<Vec<u8>, Ending>
-    ensures done { IfOk result (λ bytes. Restores name.now bytes.items (Shown D.gave D.content D.size disk.old disk.new) (D.content disk.old)) }
-    ensures given_up { IfErr result (IsGivenUp (Shown D.gave D.content D.size disk.old disk.new) (D.size disk.old) (Rose (D.faults disk.old) (D.faults disk.new)) ⊥
+    ensures done { IfOk result (λ bytes. Restores name.now bytes.items (Shows (D.view disk.old) (D.view disk.new)) (D.view disk.old).content) }
+    ensures given_up { IfErr result (IsGivenUp (Shows (D.view disk.old) (D.view disk.new)) (D.view disk.old).size (Rose (D.view disk.old).faults (D.view disk.new).faults) ⊥
         None None (Restore name.now)) }
-    ensures harmless { Told (D.content disk.old) (λ old. (files : Files) → StandsForFiles old files → IfErr result IsHarmless) }
-    ensures reads { OnlyReads D.content D.images D.clock D.images_since D.size D.faults D.same disk.old disk.new }
+    ensures harmless { Known (D.view disk.old).content (λ old. (files : Files) → StandsForFiles old files → IfErr result IsHarmless) }
+    ensures reads { OnlyReads (D.view disk.old) (D.view disk.new) }
 {
     let opened = open(alloc, disk)?;
     let root = root_named(&opened, name)?;

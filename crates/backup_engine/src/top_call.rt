@@ -1,7 +1,7 @@
 //! The top call.
 ghost use Rattle.std.specs.Prelude.{◌≡◌, ◌≢◌, ◌⊎◌, ◌<◌, ◌-◌, ◌^◌, false, List, ℕ, length, map, string_bytes, OnOk, IfOk, IfErr};
 ghost use Rattle.base_model.specs.Fault.{Rose};
-ghost use Rattle.base_model.specs.Told.{Told, Became};
+ghost use Rattle.base_model.specs.Known.{Known, KnownWith};
 ghost use Rattle.base_model.specs.Shown.{Shown, IsLater};
 ghost use Rattle.dd_disk.specs.Disk.{Only, LeavesOnly};
 ghost use Rattle.store_model.specs.Files.{Files};
@@ -39,12 +39,12 @@ pub fn backup<R, D: Disk + Send, S: Source, K: Sink, Q: Sink>(
     notes: &mut Q,
 ) -> u8
     ensures promise { Promise (line_of (map string_bytes words.now)) result
-        (Shown D.gave D.content D.size disk.old disk.new) (D.size disk.old) (D.content disk.old) (D.content disk.new) (Only (D.content disk.new) (D.images disk.new)) (Rose (D.faults disk.old) (D.faults disk.new))
+        (Shows (D.view disk.old) (D.view disk.new)) (D.view disk.old).size (D.view disk.old).content (D.view disk.new).content (IsDurable (D.view disk.new)) (Rose (D.view disk.old).faults (D.view disk.new).faults)
         (S.left source.old) (S.left source.new) (Rose (S.faults source.old) (S.faults source.new)) (K.written sink.old) (K.written sink.new) (Rose (K.faults sink.old) (K.faults sink.new))
         (Q.written notes.old) (Q.written notes.new) (Rose (Q.faults notes.old) (Q.faults notes.new)) }
-    ensures crash { SurvivesCrash (line_of (map string_bytes words.now)) result (S.left source.old) (D.content disk.old) (D.images disk.old) (D.images disk.new)
-        (λ c. D.images disk.new c ⊎ ((D.clock disk.old < 2 ^ 64 - 1) × D.images_since disk.new (D.clock disk.old) c)) }
-    ensures later { IsLater D.size D.faults D.same disk.old disk.new }
+    ensures crash { SurvivesCrash (line_of (map string_bytes words.now)) result (S.left source.old) (D.view disk.old).content (D.view disk.old).images (D.view disk.new).images
+        (λ c. (D.view disk.new).images c ⊎ (((D.view disk.old).clock < 2 ^ 64 - 1) × (D.view disk.new).images_since (D.view disk.old).clock c)) }
+    ensures later { IsLater (D.view disk.old) (D.view disk.new) }
 {
     backup_alone(rt, alloc, words, disk, source, sink, notes)
 }
@@ -60,12 +60,12 @@ pub fn backup_alone<R, D: Disk + Send, S: Source, K: Sink, Q: Sink>(
     notes: &mut Q,
 ) -> u8
     ensures promise { Promise (line_of (map string_bytes words.now)) result
-        (Shown D.gave D.content D.size disk.old disk.new) (D.size disk.old) (D.content disk.old) (D.content disk.new) (Only (D.content disk.new) (D.images disk.new)) (Rose (D.faults disk.old) (D.faults disk.new))
+        (Shows (D.view disk.old) (D.view disk.new)) (D.view disk.old).size (D.view disk.old).content (D.view disk.new).content (IsDurable (D.view disk.new)) (Rose (D.view disk.old).faults (D.view disk.new).faults)
         (S.left source.old) (S.left source.new) (Rose (S.faults source.old) (S.faults source.new)) (K.written sink.old) (K.written sink.new) (Rose (K.faults sink.old) (K.faults sink.new))
         (Q.written notes.old) (Q.written notes.new) (Rose (Q.faults notes.old) (Q.faults notes.new)) }
-    ensures crash { SurvivesCrash (line_of (map string_bytes words.now)) result (S.left source.old) (D.content disk.old) (D.images disk.old) (D.images disk.new)
-        (λ c. D.images disk.new c ⊎ ((D.clock disk.old < 2 ^ 64 - 1) × D.images_since disk.new (D.clock disk.old) c)) }
-    ensures later { IsLater D.size D.faults D.same disk.old disk.new }
+    ensures crash { SurvivesCrash (line_of (map string_bytes words.now)) result (S.left source.old) (D.view disk.old).content (D.view disk.old).images (D.view disk.new).images
+        (λ c. (D.view disk.new).images c ⊎ (((D.view disk.old).clock < 2 ^ 64 - 1) × (D.view disk.new).images_since (D.view disk.old).clock c)) }
+    ensures later { IsLater (D.view disk.old) (D.view disk.new) }
 {
     let Some(line) = read_words(words) else {
         return give_up(notes, &Ending::Words);
@@ -97,23 +97,23 @@ fn run_line<D: Disk, S: Source>(
     source: &mut S,
 ) -> Result<Vec<u8>, Ending>
     requires { IsRightLine line.now }
-    ensures done { IfOk result (λ reply. IsDone (Shown D.gave D.content D.size disk.old disk.new) (D.size disk.old) (S.left source.old)
-        (D.content disk.old) (D.content disk.new) (line_value line.now) reply.items) }
-    ensures synced { OnOk result (IsSynced (line_value line.now) (Only (D.content disk.new) (D.images disk.new))) }
-    ensures left { Told (D.content disk.old) (λ old. Became (D.content disk.new) (IsLeftBy (line_value line.now) (S.left source.old) old)) }
-    ensures refused { IfErr result (λ ending. ending ≢ Refused DiskWrite → Told (D.content disk.old) (λ old. Became (D.content disk.new) (IsKeptBy (line_value line.now) (S.left source.old) old))) }
-    ensures untouched { IfErr result (λ ending. may_write (line_value line.now) ending ≡ false → D.content disk.new ≡ D.content disk.old) }
-    ensures kept { KeepsDisk (line_value line.now) (D.content disk.old) (D.content disk.new) }
+    ensures done { IfOk result (λ reply. IsDone (Shows (D.view disk.old) (D.view disk.new)) (D.view disk.old).size (S.left source.old)
+        (D.view disk.old).content (D.view disk.new).content (line_value line.now) reply.items) }
+    ensures synced { OnOk result (IsSynced (line_value line.now) (IsDurable (D.view disk.new))) }
+    ensures left { Known (D.view disk.old).content (λ old. KnownWith (D.view disk.new).content (IsLeftBy (line_value line.now) (S.left source.old) old)) }
+    ensures refused { IfErr result (λ ending. ending ≢ Refused DiskWrite → Known (D.view disk.old).content (λ old. KnownWith (D.view disk.new).content (IsKeptBy (line_value line.now) (S.left source.old) old))) }
+    ensures untouched { IfErr result (λ ending. may_write (line_value line.now) ending ≡ false → (D.view disk.new).content ≡ (D.view disk.old).content) }
+    ensures kept { KeepsDisk (line_value line.now) (D.view disk.old).content (D.view disk.new).content }
     ensures source { KeepsSource (line_value line.now) (S.left source.old) (S.left source.new) }
     // What a crash leaves that comes at the end or at a moment since the start.
-    ensures crash { Told (D.content disk.old) (λ old. CrashesTo (line_value line.now) (S.left source.old) old (D.images disk.old)
-        (λ P. (c : List ℕ) → D.images disk.new c ⊎ ((D.clock disk.old < 2 ^ 64 - 1) × D.images_since disk.new (D.clock disk.old) c) → P c)) }
-    ensures files { IfErr result (λ ending. ending ≢ Refused DiskWrite → Told (D.content disk.old) (λ _. KeepsFiles (line_value line.now) (D.images disk.old) (D.images disk.new))) }
-    ensures given_up { IfErr result (IsGivenUp (Shown D.gave D.content D.size disk.old disk.new) (D.size disk.old) (Rose (D.faults disk.old) (D.faults disk.new))
+    ensures crash { Known (D.view disk.old).content (λ old. CrashesTo (line_value line.now) (S.left source.old) old (D.view disk.old).images
+        (λ P. (c : List ℕ) → (D.view disk.new).images c ⊎ (((D.view disk.old).clock < 2 ^ 64 - 1) × (D.view disk.new).images_since (D.view disk.old).clock c) → P c)) }
+    ensures files { IfErr result (λ ending. ending ≢ Refused DiskWrite → Known (D.view disk.old).content (λ _. KeepsFiles (line_value line.now) (D.view disk.old).images (D.view disk.new).images)) }
+    ensures given_up { IfErr result (IsGivenUp (Shows (D.view disk.old) (D.view disk.new)) (D.view disk.old).size (Rose (D.view disk.old).faults (D.view disk.new).faults)
         (Rose (S.faults source.old) (S.faults source.new)) (S.left source.old) (S.left source.new) (line_value line.now)) }
-    ensures harmless { Told (D.content disk.old) (λ old. (files : Files) → StandsForFiles old files → IfErr result IsHarmless) }
-    ensures sized { Told (D.content disk.old) (λ old. length old ≡ D.size disk.old) }
-    ensures later { IsLater D.size D.faults D.same disk.old disk.new }
+    ensures harmless { Known (D.view disk.old).content (λ old. (files : Files) → StandsForFiles old files → IfErr result IsHarmless) }
+    ensures sized { Known (D.view disk.old).content (λ old. length old ≡ (D.view disk.old).size) }
+    ensures later { IsLater (D.view disk.old) (D.view disk.new) }
 {
     do_line(alloc, line, disk, source)
 }
@@ -126,21 +126,21 @@ fn do_line<D: Disk, S: Source>(
     source: &mut S,
 ) -> Result<Vec<u8>, Ending>
     requires { IsRightLine line.now }
-    ensures done { IfOk result (λ reply. IsDone (Shown D.gave D.content D.size disk.old disk.new) (D.size disk.old) (S.left source.old)
-        (D.content disk.old) (D.content disk.new) (line_value line.now) reply.items) }
-    ensures synced { OnOk result (IsSynced (line_value line.now) (Only (D.content disk.new) (D.images disk.new))) }
-    ensures left { Told (D.content disk.old) (λ old. Became (D.content disk.new) (IsLeftBy (line_value line.now) (S.left source.old) old)) }
-    ensures refused { IfErr result (λ ending. ending ≢ Refused DiskWrite → Told (D.content disk.old) (λ old. Became (D.content disk.new) (IsKeptBy (line_value line.now) (S.left source.old) old))) }
-    ensures untouched { IfErr result (λ ending. may_write (line_value line.now) ending ≡ false → D.content disk.new ≡ D.content disk.old) }
-    ensures kept { KeepsDisk (line_value line.now) (D.content disk.old) (D.content disk.new) }
+    ensures done { IfOk result (λ reply. IsDone (Shows (D.view disk.old) (D.view disk.new)) (D.view disk.old).size (S.left source.old)
+        (D.view disk.old).content (D.view disk.new).content (line_value line.now) reply.items) }
+    ensures synced { OnOk result (IsSynced (line_value line.now) (IsDurable (D.view disk.new))) }
+    ensures left { Known (D.view disk.old).content (λ old. KnownWith (D.view disk.new).content (IsLeftBy (line_value line.now) (S.left source.old) old)) }
+    ensures refused { IfErr result (λ ending. ending ≢ Refused DiskWrite → Known (D.view disk.old).content (λ old. KnownWith (D.view disk.new).content (IsKeptBy (line_value line.now) (S.left source.old) old))) }
+    ensures untouched { IfErr result (λ ending. may_write (line_value line.now) ending ≡ false → (D.view disk.new).content ≡ (D.view disk.old).content) }
+    ensures kept { KeepsDisk (line_value line.now) (D.view disk.old).content (D.view disk.new).content }
     ensures source { KeepsSource (line_value line.now) (S.left source.old) (S.left source.new) }
-    ensures crash { Told (D.content disk.old) (λ old. CrashesTo (line_value line.now) (S.left source.old) old (D.images disk.old) (λ P. LeavesOnly D.images D.clock D.images_since P disk.old disk.new)) }
-    ensures files { IfErr result (λ ending. ending ≢ Refused DiskWrite → Told (D.content disk.old) (λ _. KeepsFiles (line_value line.now) (D.images disk.old) (D.images disk.new))) }
-    ensures given_up { IfErr result (IsGivenUp (Shown D.gave D.content D.size disk.old disk.new) (D.size disk.old) (Rose (D.faults disk.old) (D.faults disk.new))
+    ensures crash { Known (D.view disk.old).content (λ old. CrashesTo (line_value line.now) (S.left source.old) old (D.view disk.old).images (λ P. CrashLeaves P (D.view disk.old) (D.view disk.new))) }
+    ensures files { IfErr result (λ ending. ending ≢ Refused DiskWrite → Known (D.view disk.old).content (λ _. KeepsFiles (line_value line.now) (D.view disk.old).images (D.view disk.new).images)) }
+    ensures given_up { IfErr result (IsGivenUp (Shows (D.view disk.old) (D.view disk.new)) (D.view disk.old).size (Rose (D.view disk.old).faults (D.view disk.new).faults)
         (Rose (S.faults source.old) (S.faults source.new)) (S.left source.old) (S.left source.new) (line_value line.now)) }
-    ensures harmless { Told (D.content disk.old) (λ old. (files : Files) → StandsForFiles old files → IfErr result IsHarmless) }
-    ensures sized { Told (D.content disk.old) (λ old. length old ≡ D.size disk.old) }
-    ensures later { IsLater D.size D.faults D.same disk.old disk.new }
+    ensures harmless { Known (D.view disk.old).content (λ old. (files : Files) → StandsForFiles old files → IfErr result IsHarmless) }
+    ensures sized { Known (D.view disk.old).content (λ old. length old ≡ (D.view disk.old).size) }
+    ensures later { IsLater (D.view disk.old) (D.view disk.new) }
 {
     match line {
         Line::Format(slots) => format(alloc, disk, *slots),

@@ -1,6 +1,5 @@
 pub mod Bytes
 pub mod Checks
 pub mod Fault
+pub mod Known
 pub mod Numbers
-pub mod Shown
-pub mod Told

@@ -46,13 +46,13 @@ fn corrupt(place: &Spot, got: [u8; 32]) -> LogFault
 
 // Reads a segment's bytes and checks them.
 fn read_whole<D: Disk>(disk: &mut D, place: &Spot, into: &mut [u8]) -> Result<(), LogFault>
-    requires place { data_at place.now.slot + place.now.offset + place.now.length ≤ D.size disk.old }
+    requires place { data_at place.now.slot + place.now.offset + place.now.length ≤ (D.view disk.old).size }
     requires length { length into.old ≡ place.now.length }
     ensures digest { OnOk result (sha256 into.new ≡ place.now.digest) }
-    ensures shown { OnOk result (Shown D.gave D.content D.size disk.old disk.new (λ image.
+    ensures shown { OnOk result (Shows (D.view disk.old) (D.view disk.new) (λ image.
         range (data_at place.now.slot + place.now.offset) place.now.length image ≡ into.new)) }
-    ensures reads { OnlyReads D.content D.images D.clock D.images_since D.size D.faults D.same disk.old disk.new }
-    ensures fault { IfErr result (IsSegmentFault (Shown D.gave D.content D.size disk.old disk.new) (Rose (D.faults disk.old) (D.faults disk.new)) place.now) }
+    ensures reads { OnlyReads (D.view disk.old) (D.view disk.new) }
+    ensures fault { IfErr result (IsSegmentFault (Shows (D.view disk.old) (D.view disk.new)) (Rose (D.view disk.old).faults (D.view disk.new).faults) place.now) }
 {
     let at = slot_place(place.slot) + HEADER as u64 + u64::from(place.offset);
     match read_at(disk, at, into) {
@@ -71,15 +71,15 @@ fn read_whole<D: Disk>(disk: &mut D, place: &Spot, into: &mut [u8]) -> Result<()
 /// Bytes of another digest are `LogFault::Corrupt`, and then, as where the read fails, `buf` has any bytes.
 /// It takes no memory.
 pub fn read_segment<D: Disk>(disk: &mut D, place: &Spot, buf: &mut [u8]) -> Result<(), LogFault>
-    requires place { data_at place.now.slot + place.now.offset + place.now.length ≤ D.size disk.old }
+    requires place { data_at place.now.slot + place.now.offset + place.now.length ≤ (D.view disk.old).size }
     requires room { place.now.length ≤ length buf.old }
     // On any disk, whatever it gives.
     ensures digest { OnOk result (sha256 (take place.now.length buf.new) ≡ place.now.digest) }
-    ensures shown { OnOk result (Shown D.gave D.content D.size disk.old disk.new (λ image.
+    ensures shown { OnOk result (Shows (D.view disk.old) (D.view disk.new) (λ image.
         range (data_at place.now.slot + place.now.offset) place.now.length image ≡ take place.now.length buf.new)) }
     ensures rest { drop place.now.length buf.new ≡ drop place.now.length buf.old }
-    ensures reads { OnlyReads D.content D.images D.clock D.images_since D.size D.faults D.same disk.old disk.new }
-    ensures fault { IfErr result (IsSegmentFault (Shown D.gave D.content D.size disk.old disk.new) (Rose (D.faults disk.old) (D.faults disk.new)) place.now) }
+    ensures reads { OnlyReads (D.view disk.old) (D.view disk.new) }
+    ensures fault { IfErr result (IsSegmentFault (Shows (D.view disk.old) (D.view disk.new)) (Rose (D.view disk.old).faults (D.view disk.new).faults) place.now) }
 {
     let length = place.length as usize;
     read_whole(disk, place, &mut buf[..length])
@@ -131,11 +131,11 @@ pub(crate) fn buffer(alloc: Global) -> Result<Vec<u8>, AllocError>
 
 // Reads the bytes of the header and entries in a slot.
 fn read_header<D: Disk>(alloc: Global, disk: &mut D, slot: u32) -> Result<Vec<u8>, LogFault>
-    requires { slot_at slot + 262144 ≤ D.size disk.old }
-    ensures shown { IfOk result (λ bytes. Shown D.gave D.content D.size disk.old disk.new (λ image. range (slot_at slot) 49664 image ≡ bytes.items)) }
+    requires { slot_at slot + 262144 ≤ (D.view disk.old).size }
+    ensures shown { IfOk result (λ bytes. Shows (D.view disk.old) (D.view disk.new) (λ image. range (slot_at slot) 49664 image ≡ bytes.items)) }
     ensures length { IfOk result (λ bytes. length bytes.items ≡ 49664) }
-    ensures reads { OnlyReads D.content D.images D.clock D.images_since D.size D.faults D.same disk.old disk.new }
-    ensures fault { IfErr result (IsReadFault (Rose (D.faults disk.old) (D.faults disk.new))) }
+    ensures reads { OnlyReads (D.view disk.old) (D.view disk.new) }
+    ensures fault { IfErr result (IsReadFault (Rose (D.view disk.old).faults (D.view disk.new).faults)) }
 {
     let mut bytes = buffer(alloc)?;
     match read_at(disk, slot_place(slot), bytes.as_mut_slice()) {
@@ -149,15 +149,15 @@ fn read_header<D: Disk>(alloc: Global, disk: &mut D, slot: u32) -> Result<Vec<u8
 /// A header that breaks the format is `LogFault::Damaged`, by the first check that fails in the order of docs/FORMAT.md,
 /// 'Container slot'; so is a slot whose gate is closed.
 pub fn read_meta<D: Disk>(alloc: Global, disk: &mut D, slot: u32) -> Result<Meta, LogFault>
-    requires { slot_at slot + 262144 ≤ D.size disk.old }
+    requires { slot_at slot + 262144 ≤ (D.view disk.old).size }
     ensures header { IfOk result (λ m. IsHeader (view m)) }
-    ensures shown { IfOk result (λ m. Shown D.gave D.content D.size disk.old disk.new (λ image. range (slot_at slot) 49664 image ≡ header_spelling (view m))) }
+    ensures shown { IfOk result (λ m. Shows (D.view disk.old) (D.view disk.new) (λ image. range (slot_at slot) 49664 image ≡ header_spelling (view m))) }
     // What is spelled there is read, unless memory or the disk fails.
-    ensures only { Shown D.gave D.content D.size disk.old disk.new (λ image.
+    ensures only { Shows (D.view disk.old) (D.view disk.new) (λ image.
         (h : HeaderValue) → IsHeader h → range (slot_at slot) 49664 image ≡ header_spelling h → GivesHeader h result) }
-    ensures reads { OnlyReads D.content D.images D.clock D.images_since D.size D.faults D.same disk.old disk.new }
-    ensures fault { IfErr result (IsHeaderFault (λ P. Shown D.gave D.content D.size disk.old disk.new (λ image. P (range (slot_at slot) 49664 image)))
-        (Rose (D.faults disk.old) (D.faults disk.new)) (slot_at slot)) }
+    ensures reads { OnlyReads (D.view disk.old) (D.view disk.new) }
+    ensures fault { IfErr result (IsHeaderFault (λ P. Shows (D.view disk.old) (D.view disk.new) (λ image. P (range (slot_at slot) 49664 image)))
+        (Rose (D.view disk.old).faults (D.view disk.new).faults) (slot_at slot)) }
 {
     let bytes = read_header(alloc, disk, slot)?;
     header_in(alloc, slot_place(slot), &bytes)

@@ -21,10 +21,10 @@ const GATE: u8 = 0xC5;
 
 // Reads the gate of a slot.
 fn read_gate<D: Disk>(disk: &mut D, slot: u32) -> Result<u8, LogFault>
-    requires { slot_at slot + 262144 ≤ D.size disk.old }
-    ensures shown { IfOk result (λ gate. Shown D.gave D.content D.size disk.old disk.new (λ image. byte_at (slot_at slot) image ≡ gate)) }
-    ensures reads { OnlyReads D.content D.images D.clock D.images_since D.size D.faults D.same disk.old disk.new }
-    ensures fault { IfErr result (IsReadFault (Rose (D.faults disk.old) (D.faults disk.new))) }
+    requires { slot_at slot + 262144 ≤ (D.view disk.old).size }
+    ensures shown { IfOk result (λ gate. Shows (D.view disk.old) (D.view disk.new) (λ image. byte_at (slot_at slot) image ≡ gate)) }
+    ensures reads { OnlyReads (D.view disk.old) (D.view disk.new) }
+    ensures fault { IfErr result (IsReadFault (Rose (D.view disk.old).faults (D.view disk.new).faults)) }
 {
     let mut gate = [0u8];
     match read_at(disk, slot_place(slot), &mut gate) {
@@ -35,12 +35,12 @@ fn read_gate<D: Disk>(disk: &mut D, slot: u32) -> Result<u8, LogFault>
 
 // Fills a buffer with the gate of an open slot and the bytes behind it, which it reads.
 fn fill<D: Disk>(disk: &mut D, slot: u32, bytes: &mut [u8]) -> Result<(), LogFault>
-    requires place { slot_at slot + 262144 ≤ D.size disk.old }
+    requires place { slot_at slot + 262144 ≤ (D.view disk.old).size }
     requires length { length bytes.old ≡ 49664 }
-    ensures shown { OnOk result (Shown D.gave D.content D.size disk.old disk.new (λ image.
+    ensures shown { OnOk result (Shows (D.view disk.old) (D.view disk.new) (λ image.
         byte_at (slot_at slot) image ≡ CONTAINER_GATE → range (slot_at slot) 49664 image ≡ bytes.new)) }
-    ensures reads { OnlyReads D.content D.images D.clock D.images_since D.size D.faults D.same disk.old disk.new }
-    ensures fault { IfErr result (IsReadFault (Rose (D.faults disk.old) (D.faults disk.new))) }
+    ensures reads { OnlyReads (D.view disk.old) (D.view disk.new) }
+    ensures fault { IfErr result (IsReadFault (Rose (D.view disk.old).faults (D.view disk.new).faults)) }
 {
     bytes[0] = GATE;
     match read_at(disk, slot_place(slot) + 1, &mut bytes[1..]) {
@@ -51,12 +51,12 @@ fn fill<D: Disk>(disk: &mut D, slot: u32, bytes: &mut [u8]) -> Result<(), LogFau
 
 // Reads the bytes of the header and entries in an open slot.
 fn read_behind<D: Disk>(alloc: Global, disk: &mut D, slot: u32) -> Result<Vec<u8>, LogFault>
-    requires { slot_at slot + 262144 ≤ D.size disk.old }
-    ensures shown { IfOk result (λ bytes. Shown D.gave D.content D.size disk.old disk.new (λ image.
+    requires { slot_at slot + 262144 ≤ (D.view disk.old).size }
+    ensures shown { IfOk result (λ bytes. Shows (D.view disk.old) (D.view disk.new) (λ image.
         byte_at (slot_at slot) image ≡ CONTAINER_GATE → range (slot_at slot) 49664 image ≡ bytes.items)) }
     ensures length { IfOk result (λ bytes. length bytes.items ≡ 49664) }
-    ensures reads { OnlyReads D.content D.images D.clock D.images_since D.size D.faults D.same disk.old disk.new }
-    ensures fault { IfErr result (IsReadFault (Rose (D.faults disk.old) (D.faults disk.new))) }
+    ensures reads { OnlyReads (D.view disk.old) (D.view disk.new) }
+    ensures fault { IfErr result (IsReadFault (Rose (D.view disk.old).faults (D.view disk.new).faults)) }
 {
     let mut bytes = buffer(alloc)?;
     fill(disk, slot, bytes.as_mut_slice())?;
@@ -65,15 +65,15 @@ fn read_behind<D: Disk>(alloc: Global, disk: &mut D, slot: u32) -> Result<Vec<u8
 
 // Reads the header and entries of an open slot.
 fn read_open<D: Disk>(alloc: Global, disk: &mut D, slot: u32) -> Result<Meta, LogFault>
-    requires { slot_at slot + 262144 ≤ D.size disk.old }
+    requires { slot_at slot + 262144 ≤ (D.view disk.old).size }
     ensures right { IfOk result (λ m. IsHeader (view m)) }
-    ensures shown { IfOk result (λ m. Shown D.gave D.content D.size disk.old disk.new (λ image.
+    ensures shown { IfOk result (λ m. Shows (D.view disk.old) (D.view disk.new) (λ image.
         byte_at (slot_at slot) image ≡ CONTAINER_GATE → range (slot_at slot) 49664 image ≡ header_spelling (view m))) }
-    ensures only { Shown D.gave D.content D.size disk.old disk.new (λ image. byte_at (slot_at slot) image ≡ CONTAINER_GATE →
+    ensures only { Shows (D.view disk.old) (D.view disk.new) (λ image. byte_at (slot_at slot) image ≡ CONTAINER_GATE →
         (h : HeaderValue) → IsHeader h → range (slot_at slot) 49664 image ≡ header_spelling h → GivesHeader h result) }
-    ensures reads { OnlyReads D.content D.images D.clock D.images_since D.size D.faults D.same disk.old disk.new }
-    ensures fault { IfErr result (IsHeaderFault (λ P. Shown D.gave D.content D.size disk.old disk.new (λ image. byte_at (slot_at slot) image ≡ CONTAINER_GATE → P (range (slot_at slot) 49664 image)))
-        (Rose (D.faults disk.old) (D.faults disk.new)) (slot_at slot)) }
+    ensures reads { OnlyReads (D.view disk.old) (D.view disk.new) }
+    ensures fault { IfErr result (IsHeaderFault (λ P. Shows (D.view disk.old) (D.view disk.new) (λ image. byte_at (slot_at slot) image ≡ CONTAINER_GATE → P (range (slot_at slot) 49664 image)))
+        (Rose (D.view disk.old).faults (D.view disk.new).faults) (slot_at slot)) }
 {
     let bytes = read_behind(alloc, disk, slot)?;
     header_in(alloc, slot_place(slot), &bytes)
@@ -84,14 +84,14 @@ fn read_open<D: Disk>(alloc: Global, disk: &mut D, slot: u32) -> Result<Meta, Lo
 /// It reads the gate and, where that is open, the bytes behind it, each byte once. A header that breaks the format is
 /// `LogFault::Damaged`, by the first check that fails in the order of docs/FORMAT.md, 'Container slot'.
 pub fn read_slot<D: Disk>(alloc: Global, disk: &mut D, slot: u32) -> Result<Option<Meta>, LogFault>
-    requires { slot_at slot + 262144 ≤ D.size disk.old }
+    requires { slot_at slot + 262144 ≤ (D.view disk.old).size }
     ensures right { IfOk result (λ held. IfSome held (λ m. IsHeader (view m))) }
-    ensures shown { IfOk result (λ held. Shown D.gave D.content D.size disk.old disk.new (λ image. HoldsSlot image slot (option_map view held))) }
+    ensures shown { IfOk result (λ held. Shows (D.view disk.old) (D.view disk.new) (λ image. HoldsSlot image slot (option_map view held))) }
     // What the slot holds is answered, unless memory or the disk fails.
-    ensures only { Shown D.gave D.content D.size disk.old disk.new (λ image. (held : Option HeaderValue) → HoldsSlot image slot held → GivesSlot held result) }
-    ensures reads { OnlyReads D.content D.images D.clock D.images_since D.size D.faults D.same disk.old disk.new }
-    ensures fault { IfErr result (IsHeaderFault (λ P. Shown D.gave D.content D.size disk.old disk.new (λ image. (byte_at (slot_at slot) image ≡ CONTAINER_GATE) × P (range (slot_at slot) 49664 image)))
-        (Rose (D.faults disk.old) (D.faults disk.new)) (slot_at slot)) }
+    ensures only { Shows (D.view disk.old) (D.view disk.new) (λ image. (held : Option HeaderValue) → HoldsSlot image slot held → GivesSlot held result) }
+    ensures reads { OnlyReads (D.view disk.old) (D.view disk.new) }
+    ensures fault { IfErr result (IsHeaderFault (λ P. Shows (D.view disk.old) (D.view disk.new) (λ image. (byte_at (slot_at slot) image ≡ CONTAINER_GATE) × P (range (slot_at slot) 49664 image)))
+        (Rose (D.view disk.old).faults (D.view disk.new).faults) (slot_at slot)) }
 {
     let gate = read_gate(disk, slot)?;
     if gate != GATE {

@@ -1,15 +1,13 @@
 //! Containers written to their slots, and slots made free.
-ghost use Rattle.std.specs.Prelude.{◌≡◌, ◌+◌, ◌≤◌, true, [], ◌∷◌, length, option_map, OnOk, IfErr};
-ghost use Rattle.base_model.specs.Bytes.{range, written};
-ghost use Rattle.base_model.specs.Fault.{Rose};
-ghost use Rattle.base_model.specs.Told.{Told, Became};
-ghost use Rattle.base_model.specs.Shown.{IsLater};
+ghost use Rattle.std.specs.Prelude.{◌≡◌, ◌+◌, ◌≤◌, true, [], ◌∷◌, length, IfErr};
+ghost use Rattle.base_model.specs.Bytes.{range};
 ghost use Rattle.disk_format.specs.Layout.{slot_at};
-ghost use Rattle.dd_disk.specs.Disk.{Torn, Only, StepsBy};
+ghost use Rattle.dd_disk.specs.Ending.{ending};
+ghost use Rattle.dd_disk.specs.Writes.{Puts, Torn, Writes};
+ghost use Rattle.dd_disk.specs.Gated.{TornFrom};
 ghost use Rattle.container_meta.specs.Format.{is_id};
 ghost use Rattle.container_meta.specs.Segments.{StandFrom};
 ghost use Rattle.container_meta.specs.Spelling.{IsHeader, header_of, header_spelling, container_spelling};
-ghost use Rattle.dd_disk.specs.Gated.{TornFrom, CellTorn};
 ghost use Rattle.container_log.specs.declared.fault.LogFault.TheVariants.{DiskWrite};
 
 use crate::fault::LogFault;
@@ -33,7 +31,7 @@ pub fn seal<D: Disk>(
     filled: &OpenContainer,
     image: &mut [u8],
 ) -> Result<(), LogFault>
-    requires place { slot_at slot + 262144 ≤ D.size disk.old }
+    requires place { slot_at slot + 262144 ≤ (D.view disk.old).size }
     requires there { 1 ≤ length filled.now.segments }
     requires id { is_id id ≡ true }
     requires image { length image.old ≡ 262144 }
@@ -42,15 +40,8 @@ pub fn seal<D: Disk>(
     ensures stored { StandFrom 0 filled.now.segments image.new }
     ensures header { IsHeader (header_of id filled.now.kind filled.now.segments) }
     ensures front { range 0 49664 image.new ≡ header_spelling (header_of id filled.now.kind filled.now.segments) }
-    ensures ok { OnOk result (D.content disk.new ≡ option_map (written (slot_at slot) image.new) (D.content disk.old)) }
-    // A crash after it leaves what reads give.
-    ensures synced { OnOk result (Only (D.content disk.new) (D.images disk.new)) }
-    // What a disk that fails in the middle leaves.
-    ensures torn { Told (D.content disk.old) (λ old. Became (D.content disk.new) (CellTorn (slot_at slot) image.new old)) }
-    // What a crash at any moment leaves: the bytes behind the gate torn, or all of them behind some gate.
-    ensures crash { Told (D.content disk.old) (λ old. StepsBy D.images D.clock D.images_since (TornFrom (slot_at slot) image.new old) disk.old disk.new) }
-    ensures later { IsLater D.size D.faults D.same disk.old disk.new }
-    ensures fault { IfErr result (λ fault. (fault ≡ DiskWrite) × Rose (D.faults disk.old) (D.faults disk.new)) }
+    ensures writes { Writes (TornFrom (slot_at slot) image.new) (Puts (slot_at slot) image.new) (ending (λ _. WriteCall) result) (D.view disk.old) (D.view disk.new) }
+    ensures fault { IfErr result (λ fault. fault ≡ DiskWrite) }
 {
     filled.encode(id, image);
     match write_gated(disk, slot_place(slot), image) {
@@ -61,14 +52,9 @@ pub fn seal<D: Disk>(
 
 /// Closes a slot of the disk: writes 0 over its gate. The one error is `LogFault::DiskWrite`.
 pub fn free<D: Disk>(disk: &mut D, slot: u32) -> Result<(), LogFault>
-    requires { slot_at slot + 262144 ≤ D.size disk.old }
-    ensures ok { OnOk result (D.content disk.new ≡ option_map (written (slot_at slot) (0 ∷ [])) (D.content disk.old)) }
-    ensures synced { OnOk result (Only (D.content disk.new) (D.images disk.new)) }
-    // What a disk that fails in the middle leaves: some gate.
-    ensures torn { Told (D.content disk.old) (λ old. Became (D.content disk.new) (Torn (slot_at slot) 1 old)) }
-    ensures crash { StepsBy D.images D.clock D.images_since (Torn (slot_at slot) 1) disk.old disk.new }
-    ensures later { IsLater D.size D.faults D.same disk.old disk.new }
-    ensures fault { IfErr result (λ fault. (fault ≡ DiskWrite) × Rose (D.faults disk.old) (D.faults disk.new)) }
+    requires { slot_at slot + 262144 ≤ (D.view disk.old).size }
+    ensures writes { Writes (λ _. Torn (slot_at slot) 1) (Puts (slot_at slot) (0 ∷ [])) (ending (λ _. WriteCall) result) (D.view disk.old) (D.view disk.new) }
+    ensures fault { IfErr result (λ fault. fault ≡ DiskWrite) }
 {
     match write_synced(disk, slot_place(slot), &[0]) {
         Ok(()) => Ok(()),

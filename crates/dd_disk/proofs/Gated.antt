@@ -1,10 +1,13 @@
 -- What is left where bytes are written and then the gate before them.
-use Rattle.std.proofs.Common.{◌≡◌, ◌-◌, inl, inr, ℕ, ◌+◌, ◌≤◌, List, [], ◌∷◌, length, take, drop, Option, Some, None, option_map, length-drop, refl, ◌∙◌, ap, subst, arith}
-use Rattle.std.proofs.lemmas.List.{take_rest}
+use Rattle.std.proofs.Common.{◌≡◌, ◌-◌, inl, inr, ℕ, ◌+◌, ◌≤◌, List, [], ◌∷◌, length, take, drop, Some, length-drop, refl, ◌∙◌, ap, subst, arith}
+use Rattle.std.proofs.lemmas.List.{length-take-le, take_rest}
 use Rattle.base_model.specs.Bytes.{written}
 use Rattle.base_model.proofs.Ranges.{written-behind}
-use Rattle.dd_disk.specs.Disk.{Torn}
+use Rattle.dd_disk.specs.Writes.{Puts, Torn, Writes}
 use Rattle.dd_disk.specs.Gated.{TornFrom, CellTorn}
+use Rattle.dd_disk.specs.View.{DiskView}
+use Rattle.dd_disk.specs.Ending.{Ending, Done}
+use Rattle.dd_disk.proofs.Writes.{IsUnrefused, writes_on}
 
 -- a list of one
 one : (bytes : List ℕ) → length bytes ≡ 1 → (b : ℕ) × (bytes ≡ b ∷ [])
@@ -27,11 +30,6 @@ pub gate_written : (at : ℕ) (cell old : List ℕ) → 1 ≤ length cell → at
 gate_written at [] old some room = absurd (omega arith)
 gate_written at (first ∷ body) old some room = written-behind at first body old (omega arith)
 
-pub gate_written_told : (at : ℕ) (cell : List ℕ) (content : Option (List ℕ)) → 1 ≤ length cell → ((old : List ℕ) → content ≡ Some old → at + length cell ≤ length old)
-    → option_map (written at (take 1 cell)) (option_map (written (at + 1) (drop 1 cell)) content) ≡ option_map (written at cell) content
-gate_written_told at cell None some room = refl
-gate_written_told at cell (Some old) some room = ap Some (gate_written at cell old some (room old refl))
-
 -- the whole cell is one that a write may leave
 pub whole_torn : (at : ℕ) (cell old : List ℕ) → 1 ≤ length cell → CellTorn at cell old (written at cell old)
 whole_torn at [] old some = absurd (omega arith)
@@ -40,3 +38,18 @@ whole_torn at (first ∷ body) old some = inr (first, refl)
 -- bytes torn behind the gate
 pub body_torn : (at : ℕ) (cell bytes old new : List ℕ) → Torn (at + 1) (length (take (length cell - 1) (drop 1 cell))) old new → TornFrom at cell bytes old new
 body_torn at cell bytes old new torn = inl (subst (λ n. Torn (at + 1) n old new) (length_rest cell) torn)
+
+-- the bytes behind the gate, and then the gate
+pub writes_gated : (at : ℕ) (cell : List ℕ) (e : Ending) (old mid new : DiskView) → 1 ≤ length cell → at + length cell ≤ old.size → IsUnrefused e
+    → Writes (λ _. Torn (at + 1) (length (take (length cell - 1) (drop 1 cell)))) (Puts (at + 1) (take (length cell - 1) (drop 1 cell))) Done old mid
+    → Writes (λ _. Torn at (length (take 1 cell))) (Puts at (take 1 cell)) e mid new
+    → Writes (TornFrom at cell) (Puts at cell) e old new
+writes_gated at cell e old mid new some room un first second =
+    let body = take (length cell - 1) (drop 1 cell) in
+    let fits : (given : List ℕ) → old.content ≡ Some given → at + length cell ≤ length given = λ given known. omega (arith, room, old.sized given known) in
+    let behind : (given m : List ℕ) → Puts (at + 1) body given m → m ≡ written (at + 1) (drop 1 cell) given = λ given m is. is ∙ ap (λ (l : List ℕ). written (at + 1) l given) (take_rest cell 1) in
+    writes_on (λ _. Torn (at + 1) (length body)) (λ _. Torn at (length (take 1 cell))) (TornFrom at cell) (Puts (at + 1) body) (Puts at (take 1 cell)) (Puts at cell) old mid new first
+    (λ given m c known is stands. stands ∙ ap (written at (take 1 cell)) (behind given m is) ∙ gate_written at cell given some (fits given known))
+    e un second
+    (λ given d c known torn. body_torn at cell given d c torn)
+    (λ given m c known is torn. gate_torn at (length (take 1 cell)) cell given m c (behind given m is) some (fits given known) (length-take-le 1 cell some) torn)

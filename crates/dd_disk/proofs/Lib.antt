@@ -1,6 +1,12 @@
-pub mod Disks
+pub mod Ended
 pub mod Gated
+mod Blinds
 mod Images
-mod Noting
+pub mod Later
+mod Memories
+pub mod Moves
 pub mod Outside
-pub mod Steps
+mod Noting
+pub mod Shows
+mod Stops
+pub mod Writes

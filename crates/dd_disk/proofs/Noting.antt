@@ -2,8 +2,8 @@
 use Rattle.std.proofs.Common.{◌≡◌, ◌⊎◌, inl, inr, ⊎_elim, ℕ, ◌+◌, ◌<◌, ◌≤◌, Bool, true, false, List, [], ◌∷◌, ◌++◌, ◌-◌, length, get_or, take, drop, refl, sym, ◌∙◌, ap, subst, arith, append_assoc, take-append-drop}
 use Rattle.std.proofs.lemmas.List.{append-nil}
 use Rattle.std.proofs.lemmas.Slice.{first_rest}
-use Rattle.dd_disk.specs.Disk.{Torn, Follows, Elapses}
-use Rattle.dd_disk.specs.Calls.{first_of, end_of, shown_by, image_by, images_by, shown_after, images_after, images_before, images_of, images_past, IsPast, Made, Skipped, Notes, as_read}
+use Rattle.dd_disk.specs.Writes.{Torn}
+use Rattle.dd_disk.specs.Calls.{CrashSteps, TimeAdvances, first_of, end_of, shown_by, image_by, images_by, shown_after, images_after, images_before, images_of, images_past, IsPast, Made, Skipped, Notes, as_read}
 use Rattle.dd_disk.specs.declared.mem.MemDisk.{MemDisk}
 use Rattle.dd_disk.specs.declared.call.Call.{Call}
 use Rattle.dd_disk.specs.declared.call.Asked.{Asked}
@@ -22,6 +22,11 @@ module _ (last : Call) where
       → images_by last.asked last.done (shown_after shown calls) (images_after shown images calls) c
   images_push [] shown images c left = left
   images_push (call ∷ calls) shown images c left = images_push calls _ _ c left
+
+  images_more : (calls : List Call) (shown : List ℕ) (images : List ℕ → Type 0) (c : List ℕ) → images_by last.asked last.done (shown_after shown calls) (images_after shown images calls) c
+      → images_after shown images (calls ++ last ∷ []) c
+  images_more [] shown images c left = left
+  images_more (call ∷ calls) shown images c left = images_more calls _ _ c left
 
   before_push : (calls : List Call) (shown : List ℕ) (images : List ℕ → Type 0) (t : ℕ) (c : List ℕ) → images_before shown images (calls ++ last ∷ []) t c
       → images_before shown images calls t c ⊎ images_after shown images calls c
@@ -48,7 +53,7 @@ past_later [] size count now le past = tt
 past_later (call ∷ calls) size count now le past = (omega (arith, le, past.0), (past.1.0, past_later calls size count now le past.1.1))
 
 -- a call keeps the length
-shown_length : (asked : Asked) (shown : List ℕ) → end_of asked ≤ length shown → length (shown_by asked shown) ≡ length shown
+pub shown_length : (asked : Asked) (shown : List ℕ) → end_of asked ≤ length shown → length (shown_by asked shown) ≡ length shown
 shown_length (Read at count) shown fits = refl
 shown_length (Write at bytes) shown fits = length-written at bytes.items shown fits
 shown_length Sync shown fits = refl
@@ -94,7 +99,7 @@ module _ (first bytes : List ℕ) (count : ℕ) (calls : List Call) (before : St
     }
 
     -- it leaves each image as after a write that didn't come to the disk
-    pub missed_follows : (at n : ℕ) → at + n ≤ length bytes → new ≡ calls → Follows (Torn at n) (images_of first calls) (images_of first' new)
+    pub missed_follows : (at n : ℕ) → at + n ≤ length bytes → new ≡ calls → CrashSteps (Torn at n) (images_of first calls) (images_of first' new)
     missed_follows at n fits same c left =
         let had = subst (λ (l : List Call). images_of first l c) same (subst (λ (f : List ℕ). images_of f new c) kept left) in
         (c, had, torn_same at n c (omega (arith, fits, same_size, both.1 c had)))
@@ -119,7 +124,13 @@ module _ (first bytes : List ℕ) (count : ℕ) (calls : List Call) (before : St
           let had = subst (λ (f : List ℕ). images_of f new c) kept left in
           subst (λ (s : List ℕ). images_by asked done s (images_of first calls) c) before.replayed (images_push last calls first _ c (subst (λ (l : List Call). images_of first l c) made.noted had))
 
-      time_of_first : Elapses count now (images_past first calls) (images_past first new) (images_of first new)
+      -- and the other way round
+      pub made_leaves : (c : List ℕ) → images_by asked done bytes (images_of first calls) c → images_of first' new c
+      made_leaves c left =
+          let had = images_more last calls first _ c (subst (λ (s : List ℕ). images_by asked done s (images_of first calls) c) (sym before.replayed) left) in
+          subst (λ (f : List ℕ). images_of f new c) (sym kept) (subst (λ (l : List Call). images_of first l c) (sym made.noted) had)
+
+      time_of_first : TimeAdvances count now (images_past first calls) (images_past first new) (images_of first new)
       time_of_first = record {
         later = omega (arith, made.time);
         nothing_else = λ t c le left. ⊎_elim (λ here. inr here) (λ had. inl (was t c (before_push last calls first _ t c (subst (λ (l : List Call). images_before first (λ d. d ≡ first) l t c) made.noted had)))) left;
@@ -130,18 +141,18 @@ module _ (first bytes : List ℕ) (count : ℕ) (calls : List Call) (before : St
           was t c (inl had) = inr had
           was t c (inr here) = inl here
 
-      pub made_time : Elapses count now (images_past first calls) (images_past first' new) (images_of first' new)
-      made_time = subst (λ (f : List ℕ). Elapses count now (images_past first calls) (images_past f new) (images_of f new)) (sym kept) time_of_first
+      pub made_time : TimeAdvances count now (images_past first calls) (images_past first' new) (images_of first' new)
+      made_time = subst (λ (f : List ℕ). TimeAdvances count now (images_past first calls) (images_past f new) (images_of f new)) (sym kept) time_of_first
 
-    missed_time_of_first : Skipped count now × (new ≡ calls) → Elapses count now (images_past first calls) (images_past first new) (images_of first new)
-    missed_time_of_first missed = subst (λ (l : List Call). Elapses count now (images_past first calls) (images_past first l) (images_of first l)) (sym missed.1) record {
+    missed_time_of_first : Skipped count now × (new ≡ calls) → TimeAdvances count now (images_past first calls) (images_past first new) (images_of first new)
+    missed_time_of_first missed = subst (λ (l : List Call). TimeAdvances count now (images_past first calls) (images_past first l) (images_of first l)) (sym missed.1) record {
       later = missed.0.later;
       nothing_else = λ t c le left. inl left;
       keeps = λ t c le left. left;
     }
 
-    pub missed_time : Skipped count now × (new ≡ calls) → Elapses count now (images_past first calls) (images_past first' new) (images_of first' new)
-    missed_time missed = subst (λ (f : List ℕ). Elapses count now (images_past first calls) (images_past f new) (images_of f new)) (sym kept) (missed_time_of_first missed)
+    pub missed_time : Skipped count now × (new ≡ calls) → TimeAdvances count now (images_past first calls) (images_past first' new) (images_of first' new)
+    missed_time missed = subst (λ (f : List ℕ). TimeAdvances count now (images_past first calls) (images_past f new) (images_of f new)) (sym kept) (missed_time_of_first missed)
 
   -- a call that changes no byte
   pub still : (outcome : Noted) (asked : Asked) (now : ℕ) (new : List Call) → shown_by asked bytes ≡ bytes → end_of asked ≤ length bytes → Notes outcome asked count now calls new
@@ -150,61 +161,16 @@ module _ (first bytes : List ℕ) (count : ℕ) (calls : List Call) (before : St
   still Failed asked now new same fits made = made_stands first refl new now asked false made bytes (sym same) fits
   still Missed asked now new same fits missed = missed_stands first refl new now missed
 
--- one image goes on
-image_goes : (asked : Asked) (done : Bool) (shown : List ℕ) (images : List ℕ → Type 0) (d c : List ℕ) → images d → image_by asked done shown d c → images_by asked done shown images c
-image_goes (Read at count) done shown images d c was is = subst images (sym is) was
-image_goes (Write at bytes) done shown images d c was is = (d, was, is)
-image_goes Sync true shown images d c was is = is
-image_goes Sync false shown images d c was is = subst images (sym is) was
-
-image_keeps : (asked : Asked) (done : Bool) (shown d c : List ℕ) → length shown ≡ length d → end_of asked ≤ length d → image_by asked done shown d c → length c ≡ length d
-image_keeps (Read at count) done shown d c long fits is = ap length is
-image_keeps (Write at bytes) done shown d c long fits is = torn_length at (length bytes.items) d c fits is
-image_keeps Sync true shown d c long fits is = ap length is ∙ long
-image_keeps Sync false shown d c long fits is = ap length is
-
 module _ (last : Call) where
-  images_more_push : (calls : List Call) (shown : List ℕ) (images : List ℕ → Type 0) (c : List ℕ) → images_by last.asked last.done (shown_after shown calls) (images_after shown images calls) c
-      → images_after shown images (calls ++ last ∷ []) c
-  images_more_push [] shown images c left = left
-  images_more_push (next ∷ calls) shown images c left = images_more_push calls _ _ c left
-
-  before_at : (calls after : List Call) (shown : List ℕ) (images : List ℕ → Type 0) (t : ℕ) (c : List ℕ) → t < last.number → images_after shown images calls c → images_before shown images (calls ++ last ∷ after) t c
+  pub before_at : (calls after : List Call) (shown : List ℕ) (images : List ℕ → Type 0) (t : ℕ) (c : List ℕ) → t < last.number → images_after shown images calls c → images_before shown images (calls ++ last ∷ after) t c
   before_at [] after shown images t c lt left = inl (lt, left)
   before_at (next ∷ calls) after shown images t c lt left = inr (before_at calls after _ _ t c lt left)
-
--- the calls up to some place were made again, on what reads give and on one image
-pub record Going (first : List ℕ) (calls rest : List Call) (shown image : List ℕ) : Type 0 where
-  pub made : List Call
-  pub split : made ++ rest ≡ calls
-  pub shows : shown ≡ shown_after first made
-  pub leaves : images_of first made image
-  pub count : ℕ
-  pub past : IsPast (length first) count rest
-  pub shown_size : length shown ≡ length first
-  pub image_size : length image ≡ length first
 
 past_split : (calls after : List Call) (size count : ℕ) → IsPast size count (calls ++ after) → IsPast size count calls × IsPast size count after
 past_split [] after size count past = (tt, past)
 past_split (call ∷ calls) after size count past =
     let rest = past_split calls after size count past.1.1 in
     ((past.0, (past.1.0, rest.0)), rest.1)
-
-pub going : (first : List ℕ) (calls made rest : List Call) (shown image : List ℕ) (count : ℕ) → IsPast (length first) count calls → made ++ rest ≡ calls → shown ≡ shown_after first made → image ≡ shown
-    → Going first calls rest shown image
-going first calls made rest shown image count past split shows same =
-    let parts = past_split made rest (length first) count (subst (λ (l : List Call). IsPast (length first) count l) (sym split) past) in
-    let size = ap length shows ∙ (lengths made (length first) count first (λ d. d ≡ first) parts.0 refl (λ c is. ap length is)).0 in
-    record {
-      made = made;
-      split = split;
-      shows = shows;
-      leaves = subst (images_of first made) (sym (same ∙ shows)) (as_read made first (λ d. d ≡ first) refl);
-      count = count;
-      past = parts.1;
-      shown_size = size;
-      image_size = ap length same ∙ size;
-    }
 
 pub past_front : (calls : List Call) (n size count : ℕ) → IsPast size count calls → IsPast size count (take n calls)
 past_front calls n size count past = (past_split (take n calls) (drop n calls) size count (subst (λ (l : List Call). IsPast size count l) (sym (take-append-drop n calls)) past)).0
@@ -226,33 +192,3 @@ replays_on first calls rest after call shown shown' is so_far shows =
       past = past.1.1;
       size = ap length shows ∙ shown_length call.asked shown (omega (arith, past.1.0, so_far.size)) ∙ so_far.size;
     }
-
-pub goes_further : (first : List ℕ) (calls after : List Call) (call : Call) (shown image shown' image' : List ℕ) → Going first calls (call ∷ after) shown image → shown' ≡ shown_by call.asked shown
-    → image_by call.asked call.done shown image image' → Going first calls after shown' image'
-goes_further first calls after call shown image shown' image' so_far shows leaves =
-    let fits = so_far.past.1.0 in
-    record {
-      made = so_far.made ++ call ∷ [];
-      split = append_assoc so_far.made (call ∷ []) after ∙ so_far.split;
-      shows = shows ∙ ap (shown_by call.asked) so_far.shows ∙ sym (shown-push call so_far.made first);
-      leaves = images_more_push call so_far.made first _ image' (
-          image_goes call.asked call.done _ (images_of first so_far.made) image image' so_far.leaves (subst (λ s. image_by call.asked call.done s image image') so_far.shows leaves)
-          );
-      count = so_far.count;
-      past = so_far.past.1.1;
-      shown_size = ap length shows ∙ shown_length call.asked shown (omega (arith, fits, so_far.shown_size)) ∙ so_far.shown_size;
-      image_size = image_keeps call.asked call.done shown image image' (so_far.shown_size ∙ sym so_far.image_size) (omega (arith, fits, so_far.image_size)) leaves ∙ so_far.image_size;
-    }
-
--- a stop before a call
-pub stops : (first : List ℕ) (calls after : List Call) (call : Call) (shown image : List ℕ) (t : ℕ) → Going first calls (call ∷ after) shown image → t < call.number → images_past first calls t image
-stops first calls after call shown image t so_far lt =
-    inr (subst (λ (l : List Call). images_before first (λ d. d ≡ first) l t image) so_far.split (before_at call so_far.made after first _ t image lt so_far.leaves))
-
--- a stop behind the last
-pub ends : (first : List ℕ) (calls : List Call) (shown image : List ℕ) (t : ℕ) → Going first calls [] shown image → images_past first calls t image
-ends first calls shown image t so_far = inl (subst (λ (l : List Call). images_of first l image) (sym (append-nil so_far.made) ∙ so_far.split) so_far.leaves)
-
--- the first of some calls, as a pattern gives it
-pub front : (calls : List Call) (call : Call) → 1 ≤ length calls → call ≡ get_or calls 0 call → calls ≡ call ∷ take (length calls - 1) (drop 1 calls)
-front calls call long is = first_rest calls call long ∙ ap (λ (x : Call). x ∷ take (length calls - 1) (drop 1 calls)) (sym is)

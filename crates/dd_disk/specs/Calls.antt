@@ -1,17 +1,29 @@
 -- What the calls of a disk in memory made of it.
-use Rattle.std.specs.Prelude.{◌≡◌, ◌⊎◌, ℕ, ◌+◌, ◌-◌, ◌^◌, ◌<◌, ◌≤◌, ◌==◌, min, Option, Some, None, Vec, Bool, true, false, List, [], ◌∷◌, ◌++◌, length, refl, ⊤}
+use Rattle.std.specs.Prelude.{◌≡◌, ◌⊎◌, ℕ, ◌+◌, ◌-◌, ◌^◌, ◌<◌, ◌≤◌, ◌==◌, min, Option, Some, None, Vec, Bool, true, false, List, [], ◌∷◌, ◌++◌, length, replicate, nat_lt, nat_le, if◌then◌else◌, refl, ⊤}
 use Rattle.std.specs.Global.{Global}
 use Rattle.std.specs.List.{list_any}
 use Rattle.std.proofs.Common.{inl, inr, arith, subst}
 use Rattle.std.specs.Coded.{×_prop, Unit-prop, le_prop}
-use Rattle.base_model.specs.Bytes.{written}
+use Rattle.base_model.specs.Bytes.{range, written}
 use Rattle.base_model.specs.Fault.{Rose}
-use Rattle.dd_disk.specs.Disk.{Torn}
+use Rattle.dd_disk.specs.Writes.{Torn}
 use Rattle.dd_disk.specs.declared.call.Call.{Call}
 use Rattle.dd_disk.specs.declared.call.Asked.{Asked}
 use Rattle.dd_disk.specs.declared.call.Asked.TheVariants.{Read, Write, Sync}
+use Rattle.dd_disk.specs.declared.call.Fill.{Fill}
+use Rattle.dd_disk.specs.declared.call.Fill.TheVariants.{Old, New, Byte}
 use Rattle.dd_disk.specs.declared.call.Noted.{Noted}
 use Rattle.dd_disk.specs.declared.call.Noted.TheVariants.{Done, Failed, Missed}
+
+-- each image that a crash may leave now is one from before, but for a step
+abbrev pub CrashSteps : (List ℕ → List ℕ → Type 0) → (List ℕ → Type 0) → (List ℕ → Type 0) → Type 0
+CrashSteps step old new = (c : List ℕ) → new c → (d : List ℕ) × old d × step d c
+
+-- what happens inside a call has the time of its start
+pub record TimeAdvances (before now : ℕ) (past since : ℕ → List ℕ → Type 0) (images : List ℕ → Type 0) : Type 0 where
+  pub later : before ≤ now
+  pub nothing_else : (t : ℕ) (c : List ℕ) → t ≤ before → since t c → past t c ⊎ images c
+  pub keeps : (t : ℕ) (c : List ℕ) → t ≤ before → past t c → since t c
 
 -- What the disk held at first. It is kept from the first write on; until then it is what reads give.
 abbrev pub first_of : Option (Vec ℕ Global) → List ℕ → List ℕ
@@ -92,9 +104,9 @@ Notes Done asked before now old new = Made asked true before now old new
 Notes Failed asked before now old new = Made asked false before now old new
 Notes Missed asked before now old new = Skipped before now × (new ≡ old)
 
--- a call that isn't done is a fault
+-- a call that isn't done is a fault, and no other is
 abbrev pub Counts : Noted → ℕ → ℕ → Type 0
-Counts Done before now = before ≤ now
+Counts Done before now = now ≡ before
 Counts Failed before now = (before ≤ now) × Rose before now
 Counts Missed before now = (before ≤ now) × Rose before now
 
@@ -108,6 +120,59 @@ AsScripted Done fails number missed_before missed_now = is_to_fail fails number 
 AsScripted Failed fails number missed_before missed_now = is_to_fail fails number ≡ true
 AsScripted Missed fails number missed_before missed_now = Rose missed_before missed_now
 
+-- ---- what was asked
+
+-- a read of so many bytes at this place
+abbrev pub IsReadOf : ℕ → ℕ → Asked → Type 0
+IsReadOf at count asked = asked ≡ Read at count
+
+-- a write of these bytes at this place
+abbrev pub IsWriteOf : ℕ → List ℕ → Asked → Type 0
+IsWriteOf at bytes (Read place count) = ⊥
+IsWriteOf at bytes (Write place copy) = (place ≡ at) × (copy.items ≡ bytes)
+IsWriteOf at bytes Sync = ⊥
+
+abbrev pub IsSync : Asked → Type 0
+IsSync asked = asked ≡ Sync
+
+-- ---- a stop inside a call
+
+-- what stands in the range of a write that was not synced
+abbrev pub filled : Fill → List ℕ → List ℕ → List ℕ
+filled Old old new = old
+filled New old new = new
+filled (Byte byte) old new = replicate (length new) byte
+
+-- The crash comes before this call, or inside of it with nothing written.
+abbrev pub left_out : ℕ → ℕ → Asked → Bool
+left_out stop number (Read at count) = nat_le stop number
+left_out stop number (Write at bytes) = nat_lt stop number
+left_out stop number Sync = nat_le stop number
+
+abbrev pub is_left_out : ℕ → Call → Bool
+is_left_out stop call = left_out stop call.number call.asked
+
+-- one image after a call, of which a write is filled so
+abbrev pub filled_by : Fill → Asked → Bool → List ℕ → List ℕ → List ℕ
+filled_by fill (Read at count) done shown image = image
+filled_by fill (Write at bytes) done shown image = written at (filled fill (range at (length bytes.items) image) bytes.items) image
+filled_by fill Sync true shown image = shown
+filled_by fill Sync false shown image = image
+
+-- one image after these calls, the first of them first
+abbrev pub filled_after : Fill → List Call → List ℕ → List ℕ → List ℕ
+filled_after fill [] shown image = image
+filled_after fill (call ∷ calls) shown image = filled_after fill calls (shown_by call.asked shown) (filled_by fill call.asked call.done shown image)
+
+-- the calls that a stop inside the call of this number lets through
+abbrev pub reached : ℕ → List Call → List Call
+reached stop [] = []
+reached stop (call ∷ calls) = if is_left_out stop call then [] else call ∷ reached stop calls
+
+-- The image of a stop inside the call of this number: the calls are made again up to it, and what was not synced by then
+-- is filled so.
+abbrev pub stop_image : List ℕ → List Call → ℕ → Fill → List ℕ
+stop_image first calls stop fill = filled_after fill (reached stop calls) first first
 -- The laws of a disk, of one in memory.
 
 -- what reads give may be left
@@ -140,10 +205,10 @@ pub past_earlier : (first : List ℕ) (calls : List Call) (t u : ℕ) (c : List 
 past_earlier first calls t u c le (inl now) = inl now
 past_earlier first calls t u c le (inr left) = inr (before_earlier calls first _ t u c le left)
 
-pub told_length : (bytes told : List ℕ) → Some bytes ≡ Some told → length told ≡ length bytes
-told_length bytes told is = cc
+pub known_length : (bytes known : List ℕ) → Some bytes ≡ Some known → length known ≡ length bytes
+known_length bytes known is = cc
 
-pub told_as_read : (first bytes told : List ℕ) (calls : List Call) → shown_after first calls ≡ bytes → Some bytes ≡ Some told → images_of first calls told
-told_as_read first bytes told calls replayed is =
-    let same : shown_after first calls ≡ told = cc in
+pub known_as_read : (first bytes known : List ℕ) (calls : List Call) → shown_after first calls ≡ bytes → Some bytes ≡ Some known → images_of first calls known
+known_as_read first bytes known calls replayed is =
+    let same : shown_after first calls ≡ known = cc in
     subst (images_of first calls) same (as_read calls first (λ d. d ≡ first) refl)

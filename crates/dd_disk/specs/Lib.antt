@@ -1,7 +1,12 @@
 pub mod Blind
 pub mod Calls
-pub mod Disk
+pub mod Ending
 pub mod Gated
 pub mod Lies
 pub mod Memory
+pub mod Moves
+pub mod Shows
+pub mod Stops
 pub mod Untold
+pub mod View
+pub mod Writes

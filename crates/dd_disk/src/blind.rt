@@ -1,18 +1,24 @@
 // A disk in memory that tells nothing of its content, and may lie.
-ghost use Rattle.std.specs.Prelude.{◌≡◌, ◌+◌, ◌-◌, ◌^◌, ◌≤◌, [], ◌∷◌, ℕ, min, length, None, IsOk};
+ghost use Rattle.std.specs.Prelude.{◌≡◌, ◌+◌, ◌≤◌, List, ℕ, [], ◌∷◌, length, IsOk, OnOk};
 ghost use Rattle.base_model.specs.Bytes.{range, written};
-ghost use Rattle.dd_disk.specs.Disk.{Torn, Follows};
+ghost use Rattle.base_model.specs.Fault.{Rose};
+ghost use Rattle.dd_disk.specs.View.{IsLater, CrashLeaves, SteppedFrom};
+ghost use Rattle.dd_disk.specs.Ending.{Done, Reads};
+ghost use Rattle.dd_disk.specs.Writes.{Torn};
 ghost use Rattle.dd_disk.specs.Lies.{TellsLies};
 
 use crate::bytes::{get, put};
 use crate::{Disk, DiskFault};
 
-/// A disk that gives these bytes, but other ones at the places of its lies. It never fails, and tells nothing.
+/// A disk that gives these bytes, but other ones at the places of its lies. It never fails, and tells no content; what a
+/// read of it returned is known while nothing was written since.
 #[derive(Drop)]
 pub struct BlindDisk {
     bytes: Vec<u8>,
     lies: Vec<(u64, u8)>,
     moment: u64,
+    // The moment of the last write.
+    written: u64,
 }
 
 impl BlindDisk {
@@ -20,7 +26,7 @@ impl BlindDisk {
 
     /// A lie is a place and the byte that reads give there. Of two at one place the later one is given.
     pub fn new(bytes: Vec<u8>, lies: Vec<(u64, u8)>) -> BlindDisk
-        ensures size { ⟦<BlindDisk as Disk>⟧.size result ≡ length bytes.items }
+        ensures size { (⟦<BlindDisk as Disk>⟧.view result).size ≡ length bytes.items }
         ensures held { held result ≡ bytes.items }
         ensures lies { lies_of result ≡ lies.items }
     {
@@ -28,6 +34,7 @@ impl BlindDisk {
             bytes,
             lies,
             moment: 0,
+            written: 0,
         }
     }
 
@@ -57,42 +64,9 @@ fn tell_lie(lie: (u64, u8), at: u64, into: &mut [u8])
 }
 
 impl Disk for BlindDisk {
-    ghost use Rattle.dd_disk.specs.Blind.{held, lies_of, moment_of};
-    ghost use Rattle.dd_disk.specs.Untold.{no_content};
+    ghost use Rattle.dd_disk.specs.Blind.{held, lies_of, blind_view};
 
-    ghost size = { λ d. length d.bytes.items };
-
-    ghost content = { λ _. None };
-
-    ghost images = { λ d c. length c ≡ length d.bytes.items };
-
-    ghost clock = { moment_of };
-
-    ghost images_since = { λ d _ c. length c ≡ length d.bytes.items };
-
-    ghost faults = { λ _. 0 };
-
-    ghost same = { λ _ _. Unit {0} };
-
-    ghost gave = { λ _ _ _ _. Unit {0} };
-
-    ghost same_here = { λ _. tt };
-
-    ghost same_on = { λ _ _ _ _ _. tt };
-
-    ghost gave_after = { λ _ _ _ _ _ _ _. tt };
-
-    ghost gave_before = { λ _ _ _ _ _ _ _. tt };
-
-    ghost sized = { λ d bytes told. no_content bytes told };
-
-    ghost as_read = { λ d bytes told. no_content bytes told };
-
-    ghost counts_now = { λ d t c le now. now };
-
-    ghost only_now = { λ d c before left. left };
-
-    ghost earlier = { λ d t u c le left. left };
+    ghost view = { blind_view };
 
     fn size(&self) -> u64 {
         self.bytes.len() as u64
@@ -102,8 +76,12 @@ impl Disk for BlindDisk {
         requires { at + length into.old ≤ length (held self.old) }
         ensures gives { TellsLies (lies_of self.old) at (range at (length into.old) (held self.old)) into.new }
         ensures done { IsOk result }
-        ensures kept { self.new ≡ self.old }
+        ensures held { (held self.new ≡ held self.old) × (lies_of self.new ≡ lies_of self.old) }
+        ensures returned { (blind_view self.new).read_returned (blind_view self.old).clock at into.new }
+        ensures rises { Rose (blind_view self.old).clock (blind_view self.new).clock }
+        ensures reads { Reads Done (blind_view self.old) (blind_view self.new) }
     {
+        self.moment = self.moment.saturating_add(1);
         get(&self.bytes, at as usize, into);
         tell_lies(&self.lies, at, into);
         Ok(())
@@ -111,26 +89,24 @@ impl Disk for BlindDisk {
 
     fn write(&mut self, at: u64, from: &[u8]) -> Result<(), DiskFault>
         requires { at + length from.now ≤ length (held self.old) }
-        ensures held { held self.new ≡ written at from.now (held self.old) }
-        ensures lies { lies_of self.new ≡ lies_of self.old }
-        ensures moment { moment_of self.new ≡ min (moment_of self.old + 1) (2 ^ 64 - 1) }
-        ensures later { moment_of self.old ≤ moment_of self.new }
+        ensures held { (held self.new ≡ written at from.now (held self.old)) × (lies_of self.new ≡ lies_of self.old) }
         ensures done { IsOk result }
-        ensures size { length (held self.new) ≡ length (held self.old) }
-        ensures images { Follows (Torn at (length from.now))
-            (λ c. length c ≡ length (held self.old)) (λ c. length c ≡ length (held self.new)) }
+        ensures leaves { CrashLeaves (SteppedFrom (Torn at (length from.now)) (blind_view self.old)) (blind_view self.old) (blind_view self.new) }
+        ensures tears { OnOk result ((d c : List ℕ) → (blind_view self.old).images d → Torn at (length from.now) d c → (blind_view self.new).images c) }
+        ensures later { IsLater (blind_view self.old) (blind_view self.new) }
+        ensures rises { Rose (blind_view self.old).clock (blind_view self.new).clock }
     {
         self.moment = self.moment.saturating_add(1);
+        self.written = self.moment;
         put(&mut self.bytes, at as usize, from);
         Ok(())
     }
 
     fn sync(&mut self) -> Result<(), DiskFault>
         ensures done { IsOk result }
-        ensures held { held self.new ≡ held self.old }
-        ensures lies { lies_of self.new ≡ lies_of self.old }
-        ensures moment { moment_of self.new ≡ min (moment_of self.old + 1) (2 ^ 64 - 1) }
-        ensures later { moment_of self.old ≤ moment_of self.new }
+        ensures held { (held self.new ≡ held self.old) × (lies_of self.new ≡ lies_of self.old) }
+        ensures rises { Rose (blind_view self.old).clock (blind_view self.new).clock }
+        ensures reads { Reads Done (blind_view self.old) (blind_view self.new) }
     {
         self.moment = self.moment.saturating_add(1);
         Ok(())

@@ -1,6 +1,6 @@
 // A file of the operating system. Nothing is proved of what it holds: it tells no content, and a crash may leave
 // any bytes of its size.
-ghost use Rattle.std.specs.Prelude.{◌≡◌, ℕ, length, None};
+ghost use Rattle.std.specs.Prelude.{◌≡◌, length, None, []};
 ghost use Rattle.base_model.specs.Fault.{HasCause};
 
 use crate::{Disk, DiskFault};
@@ -20,8 +20,8 @@ pub struct FileDisk {
 impl FileDisk {
     /// A disk of the first `size` bytes of a file.
     pub fn new(file: File, size: u64) -> FileDisk
-        ensures size { ⟦<FileDisk as Disk>⟧.size result ≡ size }
-        ensures faults { ⟦<FileDisk as Disk>⟧.faults result ≡ 0 }
+        ensures size { (⟦<FileDisk as Disk>⟧.view result).size ≡ size }
+        ensures faults { (⟦<FileDisk as Disk>⟧.view result).faults ≡ 0 }
     {
         FileDisk {
             file,
@@ -48,45 +48,29 @@ fn counted(faults: &mut u64, answer: io::Result<()>) -> Result<(), DiskFault>
 impl Disk for FileDisk {
     ghost use Rattle.dd_disk.specs.Untold.{no_content};
 
-    ghost size = { λ d. d.size };
-
-    ghost content = { λ _. None };
-
-    ghost images = { λ d c. length c ≡ d.size };
-
-    ghost clock = { λ d. d.moment };
-
-    ghost images_since = { λ d _ c. length c ≡ d.size };
-
-    ghost faults = { λ d. d.faults };
-
-    ghost same = { λ _ _. Unit {0} };
-
-    ghost gave = { λ _ _ _ _. Unit {0} };
-
-    ghost same_here = { λ _. tt };
-
-    ghost same_on = { λ _ _ _ _ _. tt };
-
-    ghost gave_after = { λ _ _ _ _ _ _ _. tt };
-
-    ghost gave_before = { λ _ _ _ _ _ _ _. tt };
-
-    ghost sized = { λ d bytes told. no_content bytes told };
-
-    ghost as_read = { λ d bytes told. no_content bytes told };
-
-    ghost counts_now = { λ d t c le now. now };
-
-    ghost only_now = { λ d c before left. left };
-
-    ghost earlier = { λ d t u c le left. left };
+    ghost view = { λ d. record {
+      size = d.size;
+      content = None;
+      images = λ c. length c ≡ d.size;
+      clock = d.moment;
+      images_since = λ _ c. length c ≡ d.size;
+      read_returned = λ _ _ _. Unit {0};
+      faults = d.faults;
+      loans = [];
+      sized = λ bytes known. no_content bytes known;
+      as_read = λ bytes known. no_content bytes known;
+      counts_now = λ t c le now. now;
+      only_now = λ c before left. left;
+      earlier = λ t u c le left. left;
+      returned_earlier = λ t u at bytes le returned. tt;
+    } };
 
     fn size(&self) -> u64 {
         self.size
     }
 
     fn read(&mut self, at: u64, into: &mut [u8]) -> Result<(), DiskFault> {
+        self.moment = self.moment.saturating_add(1);
         counted(&mut self.faults, self.file.read_exact_at(into, at))
     }
 

@@ -1,9 +1,11 @@
 // A disk in memory. It keeps what it held at first and each call, so that it knows what a crash may leave.
-ghost use Rattle.std.specs.Prelude.{◌≡◌, ◌+◌, ◌-◌, ◌≤◌, ℕ, List, length, IfOk, OnOk};
+ghost use Rattle.std.specs.Prelude.{◌≡◌, ◌+◌, ◌-◌, ◌≤◌, ℕ, List, length, IfOk, OnOk, OnErr};
 ghost use Rattle.base_model.specs.Bytes.{range, written};
-ghost use Rattle.base_model.specs.Fault.{HasCause};
-ghost use Rattle.dd_disk.specs.Disk.{Torn, Follows, Elapses};
-ghost use Rattle.dd_disk.specs.Calls.{first_of, shown_after, IsPast, IsPast-prop};
+ghost use Rattle.base_model.specs.Fault.{Rose};
+ghost use Rattle.dd_disk.specs.View.{IsDurable, IsLater, CrashLeaves, SteppedFrom};
+ghost use Rattle.dd_disk.specs.Ending.{ReadCall, WriteCall, ending, CountsFault, Reads};
+ghost use Rattle.dd_disk.specs.Writes.{Torn};
+ghost use Rattle.dd_disk.specs.Calls.{first_of, shown_after, IsReadOf, IsWriteOf, IsSync, IsPast, IsPast-prop, stop_image};
 
 use crate::bytes::{get, put};
 use crate::call::{Asked, Call, Fill, Log, Noted};
@@ -24,16 +26,18 @@ pub struct MemDisk {
 }
 
 impl MemDisk {
-    ghost use Rattle.std.specs.Prelude.{Some};
-    ghost use Rattle.dd_disk.specs.Memory.{calls_of, failing, missed_count};
+    ghost use Rattle.std.specs.Prelude.{Some, []};
+    ghost use Rattle.dd_disk.specs.Memory.{calls_of, failing, first_held, missed_count};
 
     /// A disk of these bytes, whose calls of these numbers fail. The first call has the number 1.
     pub fn new(bytes: Vec<u8>, fails: Vec<u64>) -> MemDisk
-        ensures content { ⟦<MemDisk as Disk>⟧.content result ≡ Some bytes.items }
-        ensures images { (c : List ℕ) → ⟦<MemDisk as Disk>⟧.images result c → c ≡ bytes.items }
-        ensures clock { ⟦<MemDisk as Disk>⟧.clock result ≡ 0 }
-        ensures faults { ⟦<MemDisk as Disk>⟧.faults result ≡ 0 }
+        ensures content { (⟦<MemDisk as Disk>⟧.view result).content ≡ Some bytes.items }
+        ensures images { (c : List ℕ) → (⟦<MemDisk as Disk>⟧.view result).images c → c ≡ bytes.items }
+        ensures clock { (⟦<MemDisk as Disk>⟧.view result).clock ≡ 0 }
+        ensures faults { (⟦<MemDisk as Disk>⟧.view result).faults ≡ 0 }
         ensures script { failing result ≡ fails.items }
+        ensures calls { calls_of result ≡ [] }
+        ensures first { first_held result ≡ bytes.items }
         ensures missed { missed_count result ≡ 0 }
     {
         MemDisk {
@@ -44,7 +48,7 @@ impl MemDisk {
     }
 
     pub fn bytes(&self) -> &[u8]
-        ensures { Some result.now ≡ ⟦<MemDisk as Disk>⟧.content self.now }
+        ensures { Some result.now ≡ (⟦<MemDisk as Disk>⟧.view self.now).content }
     {
         &self.bytes
     }
@@ -66,7 +70,9 @@ impl MemDisk {
     /// What a crash inside the call of this number leaves, where the ranges that aren't synced by then are filled.
     pub fn crash_image(&self, alloc: Global, call: u64, fill: Fill) -> Result<Vec<u8>, AllocError>
         requires { 1 ≤ call }
-        ensures { IfOk result (λ image. ⟦<MemDisk as Disk>⟧.images_since self.now (call - 1) image.items) }
+        ensures image { IfOk result (λ image. image.items ≡ stop_image (first_held self.now) (calls_of self.now) call fill) }
+        // It is one of those that a crash might have left.
+        ensures left { IfOk result (λ image. (⟦<MemDisk as Disk>⟧.view self.now).images_since (call - 1) image.items) }
     {
         let first = first_content(&self.first, &self.bytes);
         image_inside(alloc, first, &self.log.calls, call, fill)
@@ -96,44 +102,9 @@ fn keep(first: &mut Option<Vec<u8>>, bytes: &Vec<u8>, from: &[u8]) -> Result<Vec
 }
 
 impl Disk for MemDisk {
-    ghost use Rattle.std.specs.Prelude.{Some, length};
-    ghost use Rattle.std.proofs.Common.{inl};
-    ghost use Rattle.dd_disk.specs.Memory.{shown, leaves, leaves_since, call_count, fault_count, FailsByScript};
-    ghost use Rattle.dd_disk.specs.Calls.{told_length, told_as_read, only_past, past_earlier};
+    ghost use Rattle.dd_disk.specs.Memory.{shown, mem_view, FollowsScript};
 
-    ghost size = { λ d. length (shown d) };
-
-    ghost content = { λ d. Some (shown d) };
-
-    ghost images = { leaves };
-
-    ghost clock = { call_count };
-
-    ghost images_since = { leaves_since };
-
-    ghost faults = { fault_count };
-
-    ghost same = { λ _ _. Unit {0} };
-
-    ghost gave = { λ _ _ _ _. Unit {0} };
-
-    ghost same_here = { λ _. tt };
-
-    ghost same_on = { λ _ _ _ _ _. tt };
-
-    ghost gave_after = { λ _ _ _ _ _ _ _. tt };
-
-    ghost gave_before = { λ _ _ _ _ _ _ _. tt };
-
-    ghost sized = { λ d bytes told. told_length d.bytes.items bytes told };
-
-    ghost as_read = { λ d bytes told. told_as_read (first_of d.first d.bytes.items) d.bytes.items bytes d.log.calls.items d.replayed told };
-
-    ghost counts_now = { λ d t c le now. inl now };
-
-    ghost only_now = { λ d c before left. only_past (length (first_of d.first d.bytes.items)) d.log.count (first_of d.first d.bytes.items) d.log.calls.items c d.past left };
-
-    ghost earlier = { λ d t u c le left. past_earlier (first_of d.first d.bytes.items) d.log.calls.items t u c le left };
+    ghost view = { mem_view };
 
     fn size(&self) -> u64 {
         self.bytes.len() as u64
@@ -142,12 +113,9 @@ impl Disk for MemDisk {
     fn read(&mut self, at: u64, into: &mut [u8]) -> Result<(), DiskFault>
         requires { at + length into.old ≤ length (shown self.old) }
         ensures bytes { OnOk result (into.new ≡ range at (length into.old) (shown self.old)) }
-        ensures shown { shown self.new ≡ shown self.old }
-        ensures images { (c : List ℕ) → leaves self.new c → leaves self.old c }
-        ensures time { Elapses (call_count self.old) (call_count self.new)
-            (leaves_since self.old) (leaves_since self.new) (leaves self.new) }
-        ensures cause { HasCause (fault_count self.old) (fault_count self.new) result }
-        ensures script { FailsByScript self.old self.new result }
+        ensures rises { Rose (mem_view self.old).clock (mem_view self.new).clock }
+        ensures reads { Reads (ending (λ _. ReadCall) result) (mem_view self.old) (mem_view self.new) }
+        ensures script { FollowsScript (IsReadOf at (length into.old)) self.old self.new result }
     {
         match self.log.note(Asked::Read(at, into.len() as u64)) {
             Noted::Done => {
@@ -163,12 +131,12 @@ impl Disk for MemDisk {
         requires { at + length from.now ≤ length (shown self.old) }
         ensures ok { OnOk result (shown self.new ≡ written at from.now (shown self.old)) }
         ensures torn { Torn at (length from.now) (shown self.old) (shown self.new) }
-        ensures images { Follows (Torn at (length from.now)) (leaves self.old) (leaves self.new) }
-        ensures time { Elapses (call_count self.old) (call_count self.new)
-            (leaves_since self.old) (leaves_since self.new) (leaves self.new) }
-        ensures cause { HasCause (fault_count self.old) (fault_count self.new) result }
-        ensures size { length (shown self.new) ≡ length (shown self.old) }
-        ensures script { FailsByScript self.old self.new result }
+        ensures leaves { CrashLeaves (SteppedFrom (Torn at (length from.now)) (mem_view self.old)) (mem_view self.old) (mem_view self.new) }
+        ensures tears { OnOk result ((d c : List ℕ) → (mem_view self.old).images d → Torn at (length from.now) d c → (mem_view self.new).images c) }
+        ensures later { IsLater (mem_view self.old) (mem_view self.new) }
+        ensures rises { Rose (mem_view self.old).clock (mem_view self.new).clock }
+        ensures count { CountsFault (ending (λ _. WriteCall) result) (mem_view self.old).faults (mem_view self.new).faults }
+        ensures script { FollowsScript (IsWriteOf at from.now) self.old self.new result }
     {
         let Ok(copy) = keep(&mut self.first, &self.bytes, from) else {
             self.log.miss();
@@ -188,13 +156,11 @@ impl Disk for MemDisk {
     }
 
     fn sync(&mut self) -> Result<(), DiskFault>
-        ensures ok { OnOk result ((c : List ℕ) → leaves self.new c → c ≡ shown self.old) }
-        ensures shown { shown self.new ≡ shown self.old }
-        ensures images { (c : List ℕ) → leaves self.new c → leaves self.old c }
-        ensures time { Elapses (call_count self.old) (call_count self.new)
-            (leaves_since self.old) (leaves_since self.new) (leaves self.new) }
-        ensures cause { HasCause (fault_count self.old) (fault_count self.new) result }
-        ensures script { FailsByScript self.old self.new result }
+        ensures ok { OnOk result (IsDurable (mem_view self.new)) }
+        ensures kept { OnErr result ((c : List ℕ) → (mem_view self.old).images c → (mem_view self.new).images c) }
+        ensures rises { Rose (mem_view self.old).clock (mem_view self.new).clock }
+        ensures reads { Reads (ending (λ _. WriteCall) result) (mem_view self.old) (mem_view self.new) }
+        ensures script { FollowsScript IsSync self.old self.new result }
     {
         match self.log.note(Asked::Sync) {
             Noted::Done => Ok(()),

@@ -1,6 +1,6 @@
 -- What a read takes of the bytes that are left, and a write adds to those that were written.
 use Rattle.std.specs.Prelude.{◌≡◌, ℕ, ◌≤◌, List, length, take, drop, Option, Some}
-use Rattle.base_model.specs.Told.{Appended}
+use Rattle.base_model.specs.Known.{Appended}
 
 -- a read gave the first n of the bytes that were left, and the rest is left
 pub record Takes (n : ℕ) (left into : List ℕ) (now : Option (List ℕ)) : Type 0 where

@@ -1,7 +1,7 @@
 // A source and a sink in memory, whose calls fail by their numbers.
 ghost use Rattle.std.specs.Prelude.{◌≡◌, ◌<◌, ◌≤◌, ℕ, List, [], Some, length, drop, IfOk, OnOk, OnErr};
 ghost use Rattle.base_model.specs.Fault.{HasCause};
-ghost use Rattle.base_model.specs.Told.{Told, Appended};
+ghost use Rattle.base_model.specs.Known.{Known, Appended};
 ghost use Rattle.dd_io.specs.Flow.{Takes, AppendedPart};
 ghost use Rattle.dd_io.specs.Script.{missed_count, IsFresh, FollowsScript};
 
@@ -46,9 +46,9 @@ impl Source for MemSource {
 
     fn read(&mut self, into: &mut [u8]) -> Result<usize, SourceFault>
         ensures count { IfOk result (λ n. n ≤ length into.old) }
-        ensures bytes { IfOk result (λ n. Told (⟦<MemSource as Source>⟧.left self.old) (λ bytes. Takes n bytes into.new (⟦<MemSource as Source>⟧.left self.new))) }
-        ensures end { IfOk result (λ n. n ≡ 0 → 0 < length into.old → Told (⟦<MemSource as Source>⟧.left self.old) (λ bytes. bytes ≡ [])) }
-        ensures err { OnErr result (Told (⟦<MemSource as Source>⟧.left self.old) (λ bytes. ⟦<MemSource as Source>⟧.left self.new ≡ Some bytes)) }
+        ensures bytes { IfOk result (λ n. Known (⟦<MemSource as Source>⟧.left self.old) (λ bytes. Takes n bytes into.new (⟦<MemSource as Source>⟧.left self.new))) }
+        ensures end { IfOk result (λ n. n ≡ 0 → 0 < length into.old → Known (⟦<MemSource as Source>⟧.left self.old) (λ bytes. bytes ≡ [])) }
+        ensures err { OnErr result (Known (⟦<MemSource as Source>⟧.left self.old) (λ bytes. ⟦<MemSource as Source>⟧.left self.new ≡ Some bytes)) }
         ensures cause { HasCause (⟦<MemSource as Source>⟧.faults self.old) (⟦<MemSource as Source>⟧.faults self.new) result }
         ensures script { FollowsScript (source_script self.old) (source_script self.new) result }
         ensures no_memory { missed_count (source_script self.new) ≡ missed_count (source_script self.old) }

@@ -1,7 +1,7 @@
 // Where bytes are written to.
 ghost use Rattle.std.specs.Prelude.{◌≡◌, List, ℕ, Option, OnOk, OnErr};
 ghost use Rattle.base_model.specs.Fault.{HasCause};
-ghost use Rattle.base_model.specs.Told.{Appended};
+ghost use Rattle.base_model.specs.Known.{Appended};
 ghost use Rattle.dd_io.specs.Flow.{AppendedPart};
 
 /// A call of a sink failed.

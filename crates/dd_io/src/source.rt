@@ -1,7 +1,7 @@
 // Where bytes are read from.
 ghost use Rattle.std.specs.Prelude.{◌≡◌, ◌<◌, ◌≤◌, List, [], ℕ, Option, Some, length, IfOk, OnErr};
 ghost use Rattle.base_model.specs.Fault.{HasCause};
-ghost use Rattle.base_model.specs.Told.{Told};
+ghost use Rattle.base_model.specs.Known.{Known};
 ghost use Rattle.dd_io.specs.Flow.{Takes};
 
 /// A call of a source failed.
@@ -18,9 +18,9 @@ pub trait Source {
     /// Puts some bytes at the start of `into`, and says how many. None in a buffer that isn't empty is the end.
     fn read(&mut self, into: &mut [u8]) -> Result<usize, SourceFault>
         ensures count { IfOk result (λ n. n ≤ length into.old) }
-        ensures bytes { IfOk result (λ n. Told (left self.old) (λ bytes. Takes n bytes into.new (left self.new))) }
-        ensures end { IfOk result (λ n. n ≡ 0 → 0 < length into.old → Told (left self.old) (λ bytes. bytes ≡ [])) }
-        ensures err { OnErr result (Told (left self.old) (λ bytes. left self.new ≡ Some bytes)) }
+        ensures bytes { IfOk result (λ n. Known (left self.old) (λ bytes. Takes n bytes into.new (left self.new))) }
+        ensures end { IfOk result (λ n. n ≡ 0 → 0 < length into.old → Known (left self.old) (λ bytes. bytes ≡ [])) }
+        ensures err { OnErr result (Known (left self.old) (λ bytes. left self.new ≡ Some bytes)) }
         ensures cause { HasCause (faults self.old) (faults self.new) result };
 
     fn faults(&self) -> u64

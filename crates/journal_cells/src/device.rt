@@ -10,10 +10,10 @@ use dd_disk::{Disk, DiskFault};
 
 /// Reads as many bytes as `into` has.
 pub(crate) fn read_at<D: Disk>(disk: &mut D, at: u64, into: &mut [u8]) -> Result<(), CellFault>
-    requires { at + length into.old ≤ D.size disk.old }
-    ensures shown { OnOk result (Shown D.gave D.content D.size disk.old disk.new (λ image. range at (length into.old) image ≡ into.new)) }
-    ensures reads { OnlyReads D.content D.images D.clock D.images_since D.size D.faults D.same disk.old disk.new }
-    ensures fault { IfErr result (λ fault. (fault ≡ DiskRead) × Rose (D.faults disk.old) (D.faults disk.new)) }
+    requires { at + length into.old ≤ (D.view disk.old).size }
+    ensures shown { OnOk result (Shows (D.view disk.old) (D.view disk.new) (λ image. range at (length into.old) image ≡ into.new)) }
+    ensures reads { OnlyReads (D.view disk.old) (D.view disk.new) }
+    ensures fault { IfErr result (λ fault. (fault ≡ DiskRead) × Rose (D.view disk.old).faults (D.view disk.new).faults) }
 {
     match dd_disk::read_at(disk, at, into) {
         Ok(()) => Ok(()),

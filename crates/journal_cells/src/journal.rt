@@ -1,17 +1,14 @@
 //! The journal of a store: which half counts, and where its next record goes.
-ghost use Rattle.std.specs.Prelude.{◌≡◌, ◌⊎◌, ◌≤◌, ◌∷◌, ◌++◌, [], List, ℕ, option_map, OnOk, OnErr, IfErr};
+ghost use Rattle.std.specs.Prelude.{◌≡◌, ◌≤◌, ◌∷◌, ◌++◌, [], List, ℕ, true, OnOk, OnErr, IfErr};
 ghost use Rattle.std.specs.FinMap as finite;
-ghost use Rattle.base_model.specs.Bytes.{written};
-ghost use Rattle.base_model.specs.Fault.{Rose};
-ghost use Rattle.base_model.specs.Told.{Told, Became};
-ghost use Rattle.base_model.specs.Shown.{IsLater};
+ghost use Rattle.base_model.specs.Known.{Known, KnownWith};
 ghost use Rattle.disk_format.specs.Cells.{RecordValue, record_cell};
 ghost use Rattle.disk_format.specs.Layout.{least_size, cell_at, half_cells};
-ghost use Rattle.dd_disk.specs.Disk.{Only, StepsBy};
-ghost use Rattle.dd_disk.specs.Gated.{TornFrom, CellTorn};
+ghost use Rattle.dd_disk.specs.Ending.{ending};
+ghost use Rattle.dd_disk.specs.Writes.{Puts, Writes};
+ghost use Rattle.dd_disk.specs.Gated.{TornFrom};
 ghost use Rattle.namespace.specs.Names.{IsTaken, names_after, record_value};
-ghost use Rattle.journal_cells.specs.declared.fault.CellFault.TheVariants.{Memory};
-ghost use Rattle.journal_cells.specs.Faults.{IsWriteFault};
+ghost use Rattle.journal_cells.specs.Faults.{IsWriteFault, breaks};
 ghost use Rattle.journal_cells.specs.Journal.{Precedes, IsJournalOf, with_record};
 
 use crate::fault::CellFault;
@@ -76,20 +73,14 @@ impl Journal {
         disk: &mut D,
         value: &Record,
     ) -> Result<(), CellFault>
-        requires size { least_size ≤ D.size disk.old }
+        requires size { least_size ≤ (D.view disk.old).size }
         requires behind { Precedes self.old (record_value value.now) }
-        ensures ok { OnOk result (D.content disk.new ≡ option_map (written (cell_at self.old.half self.old.count) (record_cell (record_value value.now))) (D.content disk.old)) }
-        ensures synced { OnOk result (Only (D.content disk.new) (D.images disk.new)) }
-        ensures torn { Told (D.content disk.old) (λ old. Became (D.content disk.new) (λ new.
-            (new ≡ old) ⊎ CellTorn (cell_at self.old.half self.old.count) (record_cell (record_value value.now)) old new)) }
-        ensures crash { Told (D.content disk.old) (λ old. StepsBy D.images D.clock D.images_since
-            (λ d c. (c ≡ d) ⊎ TornFrom (cell_at self.old.half self.old.count) (record_cell (record_value value.now)) old d c) disk.old disk.new) }
-        ensures untouched { result ≡ Err CellFault.Memory → (D.content disk.new ≡ D.content disk.old) × ((c : List ℕ) → D.images disk.new c → D.images disk.old c) }
+        ensures writes { Writes (TornFrom (cell_at self.old.half self.old.count) (record_cell (record_value value.now))) (Puts (cell_at self.old.half self.old.count) (record_cell (record_value value.now)))
+            (ending breaks result) (D.view disk.old) (D.view disk.new) }
         ensures journal { OnOk result (self.new ≡ with_record (record_value value.now) self.old) }
         ensures unchanged { OnErr result (self.new ≡ self.old) }
-        ensures later { IsLater D.size D.faults D.same disk.old disk.new }
         ensures half { self.old.half ≤ 1 }
-        ensures fault { IfErr result (IsWriteFault (Rose (D.faults disk.old) (D.faults disk.new))) }
+        ensures fault { IfErr result IsWriteFault }
     {
         let at = cell_place(self.half, self.count);
         let cell = encode(alloc, value)?;
@@ -114,23 +105,16 @@ impl Journal {
         disk: &mut D,
         value: &Record,
     ) -> Result<(), CellFault>
-        requires size { least_size ≤ D.size disk.old }
+        requires size { least_size ≤ (D.view disk.old).size }
         requires behind { Precedes self.old (record_value value.now) }
-        ensures ok { OnOk result (D.content disk.new ≡ option_map (written (cell_at self.old.half self.old.count) (record_cell (record_value value.now))) (D.content disk.old)) }
-        ensures synced { OnOk result (Only (D.content disk.new) (D.images disk.new)) }
+        ensures writes { Writes (TornFrom (cell_at self.old.half self.old.count) (record_cell (record_value value.now))) (Puts (cell_at self.old.half self.old.count) (record_cell (record_value value.now)))
+            (ending breaks result) (D.view disk.old) (D.view disk.new) }
         // The disk's journal is then the one before and the record.
-        ensures kept { OnOk result (Told (D.content disk.old) (λ old. (records : List RecordValue) → IsJournalOf self.old records old
-            → IsTaken (names_after records finite.empty) (record_value value.now) → Became (D.content disk.new) (IsJournalOf self.new (records ++ record_value value.now ∷ [])))) }
-        ensures torn { Told (D.content disk.old) (λ old. Became (D.content disk.new) (λ new.
-            (new ≡ old) ⊎ CellTorn (cell_at self.old.half self.old.count) (record_cell (record_value value.now)) old new)) }
-        // A crash at any moment leaves what was there, the bytes behind the gate torn, or all of the cell behind some gate.
-        ensures crash { Told (D.content disk.old) (λ old. StepsBy D.images D.clock D.images_since
-            (λ d c. (c ≡ d) ⊎ TornFrom (cell_at self.old.half self.old.count) (record_cell (record_value value.now)) old d c) disk.old disk.new) }
-        ensures untouched { result ≡ Err CellFault.Memory → (D.content disk.new ≡ D.content disk.old) × ((c : List ℕ) → D.images disk.new c → D.images disk.old c) }
+        ensures kept { OnOk result (Known (D.view disk.old).content (λ old. (records : List RecordValue) → IsJournalOf self.old records old
+            → IsTaken (names_after records finite.empty) (record_value value.now) → KnownWith (D.view disk.new).content (IsJournalOf self.new (records ++ record_value value.now ∷ [])))) }
         ensures journal { OnOk result (self.new ≡ with_record (record_value value.now) self.old) }
         ensures unchanged { OnErr result (self.new ≡ self.old) }
-        ensures later { IsLater D.size D.faults D.same disk.old disk.new }
-        ensures fault { IfErr result (IsWriteFault (Rose (D.faults disk.old) (D.faults disk.new))) }
+        ensures fault { IfErr result IsWriteFault }
     {
         self.write_record(alloc, disk, value)
     }

@@ -20,15 +20,15 @@ use dd_disk::Disk;
 /// It reads the first 512 bytes. `NotAStore`, `Damaged` and `Version` come by the first check that fails, in the order
 /// of docs/FORMAT.md, 'Cells'.
 pub fn slots_of<D: Disk>(disk: &mut D) -> Result<u32, CellFault>
-    requires { least_size ≤ D.size disk.old }
+    requires { least_size ≤ (D.view disk.old).size }
     ensures slots { IfOk result (λ slots. IsSlotCount slots) }
-    ensures shown { IfOk result (λ slots. Shown D.gave D.content D.size disk.old disk.new (λ image. range 0 512 image ≡ format_cell slots)) }
+    ensures shown { IfOk result (λ slots. Shows (D.view disk.old) (D.view disk.new) (λ image. range 0 512 image ≡ format_cell slots)) }
     // What is spelled there is read, unless memory or the disk fails.
-    ensures only { Shown D.gave D.content D.size disk.old disk.new (λ image.
+    ensures only { Shows (D.view disk.old) (D.view disk.new) (λ image.
         (slots : ℕ) → IsSlotCount slots → range 0 512 image ≡ format_cell slots → Gives (λ n. n ≡ slots) result) }
-    ensures reads { OnlyReads D.content D.images D.clock D.images_since D.size D.faults D.same disk.old disk.new }
-    ensures fault { IfErr result (IsCellFault (λ fault. Shown D.gave D.content D.size disk.old disk.new (λ image. format_read (range 0 512 image) ≡ Err fault) × Differs fault)
-        (Rose (D.faults disk.old) (D.faults disk.new))) }
+    ensures reads { OnlyReads (D.view disk.old) (D.view disk.new) }
+    ensures fault { IfErr result (IsCellFault (λ fault. Shows (D.view disk.old) (D.view disk.new) (λ image. format_read (range 0 512 image) ≡ Err fault) × Differs fault)
+        (Rose (D.view disk.old).faults (D.view disk.new).faults)) }
 {
     let mut cell = [0u8; 512];
     read_at(disk, 0, &mut cell)?;
@@ -37,11 +37,11 @@ pub fn slots_of<D: Disk>(disk: &mut D) -> Result<u32, CellFault>
 
 // The bytes of both selectors.
 fn read_both<D: Disk>(disk: &mut D) -> Result<([u8; 512], [u8; 512]), CellFault>
-    requires { least_size ≤ D.size disk.old }
-    ensures shown { IfOk result (λ cells. Shown D.gave D.content D.size disk.old disk.new (λ image.
+    requires { least_size ≤ (D.view disk.old).size }
+    ensures shown { IfOk result (λ cells. Shows (D.view disk.old) (D.view disk.new) (λ image.
         (range (selector_at 0) 512 image ≡ cells.0) × (range (selector_at 1) 512 image ≡ cells.1))) }
-    ensures reads { OnlyReads D.content D.images D.clock D.images_since D.size D.faults D.same disk.old disk.new }
-    ensures fault { IfErr result (λ fault. (fault ≡ DiskRead) × Rose (D.faults disk.old) (D.faults disk.new)) }
+    ensures reads { OnlyReads (D.view disk.old) (D.view disk.new) }
+    ensures fault { IfErr result (λ fault. (fault ≡ DiskRead) × Rose (D.view disk.old).faults (D.view disk.new).faults) }
 {
     let mut first = [0u8; 512];
     let mut second = [0u8; 512];
@@ -52,17 +52,17 @@ fn read_both<D: Disk>(disk: &mut D) -> Result<([u8; 512], [u8; 512]), CellFault>
 
 /// The selector of the half that counts.
 pub(crate) fn read_selectors<D: Disk>(disk: &mut D) -> Result<Selector, CellFault>
-    requires { least_size ≤ D.size disk.old }
+    requires { least_size ≤ (D.view disk.old).size }
     ensures right { IfOk result IsSelector }
-    ensures shown { IfOk result (λ s. Shown D.gave D.content D.size disk.old disk.new (λ image. HoldsSelector image s × IsOlder image s)) }
-    ensures only { Shown D.gave D.content D.size disk.old disk.new (λ image.
+    ensures shown { IfOk result (λ s. Shows (D.view disk.old) (D.view disk.new) (λ image. HoldsSelector image s × IsOlder image s)) }
+    ensures only { Shows (D.view disk.old) (D.view disk.new) (λ image.
         (s : SelectorValue) → HoldsSelector image s → IsOlder image s → Gives (λ t. t ≡ s) result) }
-    ensures read { IfOk result (λ s. Shown D.gave D.content D.size disk.old disk.new (λ image.
+    ensures read { IfOk result (λ s. Shows (D.view disk.old) (D.view disk.new) (λ image.
         selectors_read (range (selector_at 0) 512 image) (range (selector_at 1) 512 image) ≡ Ok s)) }
-    ensures reads { OnlyReads D.content D.images D.clock D.images_since D.size D.faults D.same disk.old disk.new }
-    ensures fault { IfErr result (IsCellFault (λ fault. Shown D.gave D.content D.size disk.old disk.new (λ image.
+    ensures reads { OnlyReads (D.view disk.old) (D.view disk.new) }
+    ensures fault { IfErr result (IsCellFault (λ fault. Shows (D.view disk.old) (D.view disk.new) (λ image.
         selectors_read (range (selector_at 0) 512 image) (range (selector_at 1) 512 image) ≡ Err fault) × Differs fault)
-        (Rose (D.faults disk.old) (D.faults disk.new))) }
+        (Rose (D.view disk.old).faults (D.view disk.new).faults)) }
 {
     let (first, second) = read_both(disk)?;
     selectors_in(&first, &second)

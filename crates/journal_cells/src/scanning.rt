@@ -71,11 +71,11 @@ fn read_next<D: Disk>(
 ) -> Result<Option<Record>, CellFault>
     requires half { half ≤ 1 }
     requires room { before.now.count < half_cells }
-    requires size { least_size ≤ D.size disk.old }
-    ensures next { IfOk result (λ next. IsNext (Shown D.gave D.content D.size disk.old disk.new) half (replay before.now) (option_map record_value next)) }
-    ensures reads { OnlyReads D.content D.images D.clock D.images_since D.size D.faults D.same disk.old disk.new }
-    ensures fault { IfErr result (IsCellFault (λ fault. IsNextFault (Shown D.gave D.content D.size disk.old disk.new) half (replay before.now) fault × Differs fault)
-        (Rose (D.faults disk.old) (D.faults disk.new))) }
+    requires size { least_size ≤ (D.view disk.old).size }
+    ensures next { IfOk result (λ next. IsNext (Shows (D.view disk.old) (D.view disk.new)) half (replay before.now) (option_map record_value next)) }
+    ensures reads { OnlyReads (D.view disk.old) (D.view disk.new) }
+    ensures fault { IfErr result (IsCellFault (λ fault. IsNextFault (Shows (D.view disk.old) (D.view disk.new)) half (replay before.now) fault × Differs fault)
+        (Rose (D.view disk.old).faults (D.view disk.new).faults)) }
 {
     let mut cell = [0u8; 512];
     let at = cell_place(half, before.count);
@@ -90,11 +90,11 @@ fn read_next<D: Disk>(
 // What the records of a half leave.
 fn read_half<D: Disk>(alloc: Global, disk: &mut D, half: u8) -> Result<Replayed, CellFault>
     requires half { half ≤ 1 }
-    requires size { least_size ≤ D.size disk.old }
-    ensures whole { IfOk result (λ read. IsWhole (Shown D.gave D.content D.size disk.old disk.new) half (replay read)) }
-    ensures reads { OnlyReads D.content D.images D.clock D.images_since D.size D.faults D.same disk.old disk.new }
-    ensures fault { IfErr result (IsCellFault (λ fault. Shown D.gave D.content D.size disk.old disk.new (λ image. replayed half half_cells nothing_yet image ≡ Err fault) × Differs fault)
-        (Rose (D.faults disk.old) (D.faults disk.new))) }
+    requires size { least_size ≤ (D.view disk.old).size }
+    ensures whole { IfOk result (λ read. IsWhole (Shows (D.view disk.old) (D.view disk.new)) half (replay read)) }
+    ensures reads { OnlyReads (D.view disk.old) (D.view disk.new) }
+    ensures fault { IfErr result (IsCellFault (λ fault. Shows (D.view disk.old) (D.view disk.new) (λ image. replayed half half_cells nothing_yet image ≡ Err fault) × Differs fault)
+        (Rose (D.view disk.old).faults (D.view disk.new).faults)) }
 {
     let mut before = Replayed::new(alloc);
     for _ in 0..HALF_CELLS {
@@ -126,14 +126,14 @@ fn journal_of(selector: &Selector, left: &Replayed) -> Journal
 /// It reads the selectors, and then the cells of the half that counts, up to the first closed gate. `Damaged` and
 /// `Version` come by the first check that fails, in the order of docs/FORMAT.md, 'Cells', the earlier cell first.
 pub fn scan<D: Disk>(alloc: Global, disk: &mut D) -> Result<(Journal, Names, u64), CellFault>
-    requires { least_size ≤ D.size disk.old }
-    ensures found { IfOk result (λ read. IsScanned (Shown D.gave D.content D.size disk.old disk.new) read.0 read.1 read.2) }
+    requires { least_size ≤ (D.view disk.old).size }
+    ensures found { IfOk result (λ read. IsScanned (Shows (D.view disk.old) (D.view disk.new)) read.0 read.1 read.2) }
     // A journal that stands there is read, unless memory or the disk fails.
-    ensures only { Shown D.gave D.content D.size disk.old disk.new (λ image. (s : SelectorValue) (records : List RecordValue) → HoldsJournal image s records
+    ensures only { Shows (D.view disk.old) (D.view disk.new) (λ image. (s : SelectorValue) (records : List RecordValue) → HoldsJournal image s records
         → Gives (λ read. IsTold s records read.0 read.1 read.2) result) }
-    ensures reads { OnlyReads D.content D.images D.clock D.images_since D.size D.faults D.same disk.old disk.new }
-    ensures fault { IfErr result (IsCellFault (λ fault. Shown D.gave D.content D.size disk.old disk.new (λ image. journal_in image ≡ Err fault) × Differs fault)
-        (Rose (D.faults disk.old) (D.faults disk.new))) }
+    ensures reads { OnlyReads (D.view disk.old) (D.view disk.new) }
+    ensures fault { IfErr result (IsCellFault (λ fault. Shows (D.view disk.old) (D.view disk.new) (λ image. journal_in image ≡ Err fault) × Differs fault)
+        (Rose (D.view disk.old).faults (D.view disk.new).faults)) }
 {
     let selector = read_selectors(disk)?;
     let left = read_half(alloc, disk, selector.half)?;

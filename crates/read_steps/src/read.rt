@@ -55,13 +55,13 @@ fn read_copy<D: Disk>(
     place: &Place,
     digest: &[u8; 32],
 ) -> Result<Vec<u8>, Refusal>
-    requires { data_at place.now.slot + place.now.offset + place.now.length ≤ D.size disk.old }
+    requires { data_at place.now.slot + place.now.offset + place.now.length ≤ (D.view disk.old).size }
     ensures digest { IfOk result (λ bytes. sha256 bytes.items ≡ digest.now) }
     ensures length { IfOk result (λ bytes. length bytes.items ≡ place.now.length) }
-    ensures shown { IfOk result (λ bytes. Shown D.gave D.content D.size disk.old disk.new (λ image. bytes_at place.now image ≡ bytes.items)) }
-    ensures reads { OnlyReads D.content D.images D.clock D.images_since D.size D.faults D.same disk.old disk.new }
-    ensures refused { IfErr result (IsReadFault (Rose (D.faults disk.old) (D.faults disk.new)) (λ refusal. IsPlausible refusal
-        × Shown D.gave D.content D.size disk.old disk.new (IsOtherDigest place.now digest.now refusal))) }
+    ensures shown { IfOk result (λ bytes. Shows (D.view disk.old) (D.view disk.new) (λ image. bytes_at place.now image ≡ bytes.items)) }
+    ensures reads { OnlyReads (D.view disk.old) (D.view disk.new) }
+    ensures refused { IfErr result (IsReadFault (Rose (D.view disk.old).faults (D.view disk.new).faults) (λ refusal. IsPlausible refusal
+        × Shows (D.view disk.old) (D.view disk.new) (IsOtherDigest place.now digest.now refusal))) }
 {
     let spot = Spot {
         slot: place.slot,
@@ -102,14 +102,14 @@ pub fn read_root<D: Disk>(
     opened: &Opened,
     root: &Root,
 ) -> Result<Vec<u8>, Refusal>
-    requires state { IsState (D.size disk.old) opened.now }
+    requires state { IsState (D.view disk.old).size opened.now }
     requires right { IsRoot root.now }
     // On any disk, whatever it gives.
     ensures bytes { IfOk result (λ bytes. (length bytes.items ≡ root.now.length) × (sha256 bytes.items ≡ root.now.digest)) }
-    ensures shown { IfOk result (λ bytes. Shown D.gave D.content D.size disk.old disk.new (λ image. (store : Store) → Keeps store opened.now → AreBytesOf root.now bytes.items store image)) }
-    ensures reads { OnlyReads D.content D.images D.clock D.images_since D.size D.faults D.same disk.old disk.new }
-    ensures refused { IfErr result (IsReadFault (Rose (D.faults disk.old) (D.faults disk.new)) (λ refusal. IsPlausible refusal
-        × Shown D.gave D.content D.size disk.old disk.new (λ image. (store : Store) → Keeps store opened.now → IsRootRefusal root.now refusal store image))) }
+    ensures shown { IfOk result (λ bytes. Shows (D.view disk.old) (D.view disk.new) (λ image. (store : Store) → Keeps store opened.now → AreBytesOf root.now bytes.items store image)) }
+    ensures reads { OnlyReads (D.view disk.old) (D.view disk.new) }
+    ensures refused { IfErr result (IsReadFault (Rose (D.view disk.old).faults (D.view disk.new).faults) (λ refusal. IsPlausible refusal
+        × Shows (D.view disk.old) (D.view disk.new) (λ image. (store : Store) → Keeps store opened.now → IsRootRefusal root.now refusal store image))) }
 {
     if root.length == 0 {
         return Ok(Vec::new(alloc));

@@ -1,7 +1,7 @@
 -- Calls that open no store, one after another.
 use Rattle.std.proofs.Common.{ℕ, ◌+◌, ◌≤◌, List, length, sym, ap, ◌∙◌, arith}
 use Rattle.base_model.specs.Bytes.{byte_at}
-use Rattle.base_model.specs.Told.{Told, Became}
+use Rattle.base_model.specs.Known.{Known, KnownWith}
 use Rattle.base_model.specs.Shown.{IsLater}
 use Rattle.base_model.proofs.Ranges.{length-written}
 use Rattle.base_model.proofs.Shown.{later_on}
@@ -32,7 +32,7 @@ module _ {D : Type 0} (disk : Ghosts D) (slots : ℕ) where
   stays_here d = record { told = λ image is blank. (image, is, blank); left = λ all. leaves_here disk (IsBlankOf slots) d all }
 
   -- one write, done or cut short
-  pub stays_write : (at n : ℕ) (old new : D) → 1 ≤ at → at + n ≤ size_of slots → Told (disk.content old) (λ c. Became (disk.content new) (Torn at n c)) → Steps disk (Torn at n) old new → Stays old new
+  pub stays_write : (at n : ℕ) (old new : D) → 1 ≤ at → at + n ≤ size_of slots → Known (disk.content old) (λ c. KnownWith (disk.content new) (Torn at n c)) → Steps disk (Torn at n) old new → Stays old new
   stays_write at n old new behind fits torn steps = record {
     told = λ image is blank. let t = torn image is in (t.0, t.1, blank_torn slots at n image t.0 behind fits blank t.2);
     left = λ all. leaves_steps disk (Torn at n) (IsBlankOf slots) old new (λ d c image step. blank_torn slots at n d c behind fits (all d image) step) steps;

@@ -2,7 +2,7 @@
 use Rattle.std.proofs.Common.{◌≡◌, ◌≢◌, inl, inr, ℕ, zero, suc, ◌+◌, ◌-◌, ◌<◌, ◌≤◌, List, [], ◌∷◌, length, drop, refl, sym, ◌∙◌, ap, arith, add-one, subst, Option, Some, None, option_map}
 use Rattle.std.proofs.lemmas.Bool.Decides.{eqb_tells}
 use Rattle.base_model.specs.Bytes.{range, written, byte_at, zeros}
-use Rattle.base_model.specs.Told.{Became}
+use Rattle.base_model.specs.Known.{KnownWith}
 use Rattle.base_model.proofs.Ranges.{length-written, range-written, range-written-after, length-zeros, byte-range}
 use Rattle.disk_format.specs.Layout.{IsSlotCount, size_of, slot_at, cell_at}
 use Rattle.disk_format.specs.Cells.{FORMAT_GATE, sealed, format_fields, selector_fields, format_cell, selector_cell}
@@ -26,7 +26,7 @@ pub first_byte : (image gate : List ℕ) → range 0 1 image ≡ gate → byte_a
 first_byte image gate read = sym (byte-range 0 0 1 image (omega arith)) ∙ ap (byte_at 0) read
 
 -- the one content that is told is blank
-pub told_blank : (slots : ℕ) (image : List ℕ) (content : Option (List ℕ)) → content ≡ Some image → Became content (IsBlankOf slots) → IsBlankOf slots image
+pub told_blank : (slots : ℕ) (image : List ℕ) (content : Option (List ℕ)) → content ≡ Some image → KnownWith content (IsBlankOf slots) → IsBlankOf slots image
 told_blank slots image content told (value, is, blank) = let same : value ≡ image = cc in subst (IsBlankOf slots) same blank
 
 -- ---- what each write makes of the content

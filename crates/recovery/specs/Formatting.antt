@@ -1,7 +1,7 @@
 -- What `format` makes of a disk, and why it is refused (docs/MODEL.md, 'Commands').
 use Rattle.std.specs.Prelude.{◌≡◌, ◌≢◌, ◌⊎◌, ℕ, zero, suc, List, [], ◌∷◌, length, Option}
 use Rattle.base_model.specs.Bytes.{written, byte_at, zeros}
-use Rattle.base_model.specs.Told.{Told, Became}
+use Rattle.base_model.specs.Known.{Known, KnownWith}
 use Rattle.dd_disk.specs.Disk.{LeavesOnly}
 use Rattle.disk_format.specs.Layout.{size_of, slot_at}
 use Rattle.disk_format.specs.Cells.{FORMAT_GATE, selector_cell}
@@ -44,5 +44,5 @@ laid_out slots old = written 512 (selector_cell 1 0 0) (with_closed slots (writt
 
 -- Calls that open no store: a content that had none has none, and the same of each image that a crash may leave.
 pub record StaysBlank {D : Type 0} (content : D → Option (List ℕ)) (images : D → List ℕ → Type 0) (clock : D → ℕ) (images_since : D → ℕ → List ℕ → Type 0) (slots : ℕ) (old new : D) : Type 0 where
-  pub told : Told (content old) (λ image. IsBlankOf slots image → Became (content new) (IsBlankOf slots))
+  pub told : Known (content old) (λ image. IsBlankOf slots image → KnownWith (content new) (IsBlankOf slots))
   pub left : AreBlank slots (images old) → LeavesOnly images clock images_since (IsBlankOf slots) old new

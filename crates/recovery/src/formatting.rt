@@ -2,7 +2,7 @@
 ghost use Rattle.std.specs.Prelude.{◌≡◌, ◌≢◌, List, ℕ, option_map, OnOk, OnErr, IfOk, IfErr};
 ghost use Rattle.base_model.specs.Bytes.{byte_at, zeros};
 ghost use Rattle.base_model.specs.Fault.{Rose};
-ghost use Rattle.base_model.specs.Told.{Told, Became};
+ghost use Rattle.base_model.specs.Known.{Known, KnownWith};
 ghost use Rattle.base_model.specs.Shown.{Shown, OnlyReads, IsLater};
 ghost use Rattle.disk_format.specs.Layout.{IsSlotCount, size_of};
 ghost use Rattle.disk_format.specs.Cells.{FORMAT_GATE as OPEN, format_cell, selector_cell};
@@ -29,10 +29,10 @@ const CONTAINER: u64 = 262_144;
 // Refuses a disk of another size than that of so many slots, and one that has a store.
 fn may_format<D: Disk>(disk: &mut D, slots: u32) -> Result<(), Refusal>
     requires { IsSlotCount slots }
-    ensures size { OnOk result (D.size disk.old ≡ size_of slots) }
-    ensures closed { OnOk result (Shown D.gave D.content D.size disk.old disk.new (λ image. byte_at 0 image ≢ OPEN)) }
-    ensures reads { OnlyReads D.content D.images D.clock D.images_since D.size D.faults D.same disk.old disk.new }
-    ensures refused { IfErr result (IsFormatRefusal (Shown D.gave D.content D.size disk.old disk.new) (D.size disk.old) (Rose (D.faults disk.old) (D.faults disk.new)) slots) }
+    ensures size { OnOk result ((D.view disk.old).size ≡ size_of slots) }
+    ensures closed { OnOk result (Shows (D.view disk.old) (D.view disk.new) (λ image. byte_at 0 image ≢ OPEN)) }
+    ensures reads { OnlyReads (D.view disk.old) (D.view disk.new) }
+    ensures refused { IfErr result (IsFormatRefusal (Shows (D.view disk.old) (D.view disk.new)) (D.view disk.old).size (Rose (D.view disk.old).faults (D.view disk.new).faults) slots) }
 {
     let want = size_for(slots);
     let got = disk.size();
@@ -52,11 +52,11 @@ fn may_format<D: Disk>(disk: &mut D, slots: u32) -> Result<(), Refusal>
 
 // Closes each slot, whatever stands behind its gate.
 fn close_slots<D: Disk>(disk: &mut D, slots: u32) -> Result<(), DiskFault>
-    requires { D.size disk.old ≡ size_of slots }
-    ensures ok { OnOk result (D.content disk.new ≡ option_map (with_closed slots) (D.content disk.old)) }
+    requires { (D.view disk.old).size ≡ size_of slots }
+    ensures ok { OnOk result ((D.view disk.new).content ≡ option_map (with_closed slots) (D.view disk.old).content) }
     ensures stays { StaysBlank D.content D.images D.clock D.images_since slots disk.old disk.new }
-    ensures later { IsLater D.size D.faults D.same disk.old disk.new }
-    ensures fault { OnErr result (Rose (D.faults disk.old) (D.faults disk.new)) }
+    ensures later { IsLater (D.view disk.old) (D.view disk.new) }
+    ensures fault { OnErr result (Rose (D.view disk.old).faults (D.view disk.new).faults) }
 {
     for slot in 0..slots {
         write_at(disk, HEAD + CONTAINER * u64::from(slot), &[0])?;
@@ -72,13 +72,13 @@ fn lay_out<D: Disk>(
     blanks: &[u8],
     selector: &[u8],
 ) -> Result<(), DiskFault>
-    requires size { D.size disk.old ≡ size_of slots }
+    requires size { (D.view disk.old).size ≡ size_of slots }
     requires blanks { blanks.now ≡ zeros 1049600 }
     requires selector { selector.now ≡ selector_cell 1 0 0 }
-    ensures ok { OnOk result (D.content disk.new ≡ option_map (laid_out slots) (D.content disk.old)) }
+    ensures ok { OnOk result ((D.view disk.new).content ≡ option_map (laid_out slots) (D.view disk.old).content) }
     ensures stays { StaysBlank D.content D.images D.clock D.images_since slots disk.old disk.new }
-    ensures later { IsLater D.size D.faults D.same disk.old disk.new }
-    ensures fault { OnErr result (Rose (D.faults disk.old) (D.faults disk.new)) }
+    ensures later { IsLater (D.view disk.old) (D.view disk.new) }
+    ensures fault { OnErr result (Rose (D.view disk.old).faults (D.view disk.new).faults) }
 {
     write_at(disk, SELECTORS, blanks)?;
     close_slots(disk, slots)?;
@@ -95,16 +95,16 @@ fn write_store<D: Disk>(
     cell: &[u8],
 ) -> Result<(), DiskFault>
     requires count { IsSlotCount slots }
-    requires size { D.size disk.old ≡ size_of slots }
+    requires size { (D.view disk.old).size ≡ size_of slots }
     requires blanks { blanks.now ≡ zeros 1049600 }
     requires selector { selector.now ≡ selector_cell 1 0 0 }
     requires cell { cell.now ≡ format_cell slots }
-    ensures stands { OnOk result (Told (D.content disk.old) (λ old. Became (D.content disk.new) (IsFormatted slots))) }
-    ensures synced { OnOk result (Only (D.content disk.new) (D.images disk.new)) }
-    ensures left { Told (D.content disk.old) (λ old. IsBlankOf slots old → Became (D.content disk.new) (IsBlankOrFormatted slots)) }
-    ensures crash { Told (D.content disk.old) (λ old. AreBlank slots (D.images disk.old) → LeavesOnly D.images D.clock D.images_since (IsBlankOrFormatted slots) disk.old disk.new) }
-    ensures later { IsLater D.size D.faults D.same disk.old disk.new }
-    ensures fault { OnErr result (Rose (D.faults disk.old) (D.faults disk.new)) }
+    ensures stands { OnOk result (Known (D.view disk.old).content (λ old. KnownWith (D.view disk.new).content (IsFormatted slots))) }
+    ensures synced { OnOk result (IsDurable (D.view disk.new)) }
+    ensures left { Known (D.view disk.old).content (λ old. IsBlankOf slots old → KnownWith (D.view disk.new).content (IsBlankOrFormatted slots)) }
+    ensures crash { Known (D.view disk.old).content (λ old. AreBlank slots (D.view disk.old).images → CrashLeaves (IsBlankOrFormatted slots) (D.view disk.old) (D.view disk.new)) }
+    ensures later { IsLater (D.view disk.old) (D.view disk.new) }
+    ensures fault { OnErr result (Rose (D.view disk.old).faults (D.view disk.new).faults) }
 {
     lay_out(disk, slots, blanks, selector)?;
     write_gated(disk, 0, cell)
@@ -116,19 +116,19 @@ fn write_store<D: Disk>(
 /// last leave the disk as it was.
 pub fn format<D: Disk>(alloc: Global, disk: &mut D, slots: u32) -> Result<(), Refusal>
     requires { IsSlotCount slots }
-    ensures done { OnOk result ((D.size disk.old ≡ size_of slots) × Shown D.gave D.content D.size disk.old disk.new (λ image. byte_at 0 image ≢ OPEN)) }
-    ensures stands { OnOk result (Told (D.content disk.old) (λ old. Became (D.content disk.new) (IsFormatted slots))) }
-    ensures synced { OnOk result (Only (D.content disk.new) (D.images disk.new)) }
+    ensures done { OnOk result (((D.view disk.old).size ≡ size_of slots) × Shows (D.view disk.old) (D.view disk.new) (λ image. byte_at 0 image ≢ OPEN)) }
+    ensures stands { OnOk result (Known (D.view disk.old).content (λ old. KnownWith (D.view disk.new).content (IsFormatted slots))) }
+    ensures synced { OnOk result (IsDurable (D.view disk.new)) }
     // What a disk that fails in the middle leaves.
-    ensures left { Told (D.content disk.old) (λ old. Became (D.content disk.new) (IsLeftByFormat slots old)) }
+    ensures left { Known (D.view disk.old).content (λ old. KnownWith (D.view disk.new).content (IsLeftByFormat slots old)) }
     // A crash at any moment: where each image at the start has the size of these slots and no store, each image since has
     // none or an empty one.
-    ensures crash { Told (D.content disk.old) (λ old. AreBlank slots (D.images disk.old) → LeavesOnly D.images D.clock D.images_since (IsBlankOrFormatted slots) disk.old disk.new) }
-    ensures kept { IfErr result (λ refusal. refusal ≢ DiskWrite → OnlyReads D.content D.images D.clock D.images_since D.size D.faults D.same disk.old disk.new) }
+    ensures crash { Known (D.view disk.old).content (λ old. AreBlank slots (D.view disk.old).images → CrashLeaves (IsBlankOrFormatted slots) (D.view disk.old) (D.view disk.new)) }
+    ensures kept { IfErr result (λ refusal. refusal ≢ DiskWrite → OnlyReads (D.view disk.old) (D.view disk.new)) }
     // A disk that tells of a store is only read.
-    ensures store { Told (D.content disk.old) (λ old. byte_at 0 old ≡ OPEN → OnlyReads D.content D.images D.clock D.images_since D.size D.faults D.same disk.old disk.new) }
-    ensures refused { IfErr result (IsFormatRefusal (Shown D.gave D.content D.size disk.old disk.new) (D.size disk.old) (Rose (D.faults disk.old) (D.faults disk.new)) slots) }
-    ensures later { IsLater D.size D.faults D.same disk.old disk.new }
+    ensures store { Known (D.view disk.old).content (λ old. byte_at 0 old ≡ OPEN → OnlyReads (D.view disk.old) (D.view disk.new)) }
+    ensures refused { IfErr result (IsFormatRefusal (Shows (D.view disk.old) (D.view disk.new)) (D.view disk.old).size (Rose (D.view disk.old).faults (D.view disk.new).faults) slots) }
+    ensures later { IsLater (D.view disk.old) (D.view disk.new) }
 {
     may_format(disk, slots)?;
     // All memory before the first write, so that want of it leaves the disk as it was.

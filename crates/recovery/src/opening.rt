@@ -5,7 +5,7 @@ ghost use Rattle.base_model.specs.Shown.{Shown, OnlyReads};
 ghost use Rattle.dd_disk.specs.Disk.{Only};
 ghost use Rattle.disk_format.specs.Layout.{IsSlotCount, size_of, least_size};
 ghost use Rattle.journal_cells.specs.Journal.{IsScanned, IsTold};
-ghost use Rattle.store_model.specs.Image.{Store, IsRight, HasFormat};
+ghost use Rattle.store_model.specs.Image.{Store, Encodes, HasFormat};
 ghost use Rattle.recovery.specs.Opening.{Answers, Keeps, IsSized, IsFound, IsOpened, Opens, IsBeginRefusal, IsOpenRefusal, cell_why, cell_refusal};
 
 use crate::slots::{Containers, read_slots};
@@ -75,10 +75,10 @@ pub(crate) fn size_for(slots: u32) -> u64
 
 // Syncs the disk, and sees that it isn't smaller than each may be.
 fn begin<D: Disk>(disk: &mut D) -> Result<(), Refusal>
-    ensures least { OnOk result (least_size ≤ D.size disk.old) }
-    ensures synced { OnOk result (Only (D.content disk.new) (D.images disk.new)) }
-    ensures reads { OnlyReads D.content D.images D.clock D.images_since D.size D.faults D.same disk.old disk.new }
-    ensures refused { IfErr result (IsBeginRefusal (D.size disk.old) (Rose (D.faults disk.old) (D.faults disk.new))) }
+    ensures least { OnOk result (least_size ≤ (D.view disk.old).size) }
+    ensures synced { OnOk result (IsDurable (D.view disk.new)) }
+    ensures reads { OnlyReads (D.view disk.old) (D.view disk.new) }
+    ensures refused { IfErr result (IsBeginRefusal (D.view disk.old).size (Rose (D.view disk.old).faults (D.view disk.new).faults)) }
 {
     match sync_all(disk) {
         Ok(()) => {}
@@ -96,13 +96,13 @@ fn begin<D: Disk>(disk: &mut D) -> Result<(), Refusal>
 
 // The number of slots that the format cell says.
 fn count_slots<D: Disk>(disk: &mut D) -> Result<u32, Refusal>
-    ensures least { OnOk result (least_size ≤ D.size disk.old) }
+    ensures least { OnOk result (least_size ≤ (D.view disk.old).size) }
     ensures count { IfOk result (λ slots. IsSlotCount slots) }
-    ensures format { IfOk result (λ slots. Shown D.gave D.content D.size disk.old disk.new (HasFormat slots)) }
-    ensures only { Shown D.gave D.content D.size disk.old disk.new (λ image. (store : Store) → IsRight store image → Answers (λ n. n ≡ store.slots) result) }
-    ensures synced { OnOk result (Only (D.content disk.new) (D.images disk.new)) }
-    ensures reads { OnlyReads D.content D.images D.clock D.images_since D.size D.faults D.same disk.old disk.new }
-    ensures refused { IfErr result (IsOpenRefusal (Shown D.gave D.content D.size disk.old disk.new) (D.size disk.old) (Rose (D.faults disk.old) (D.faults disk.new))) }
+    ensures format { IfOk result (λ slots. Shows (D.view disk.old) (D.view disk.new) (HasFormat slots)) }
+    ensures only { Shows (D.view disk.old) (D.view disk.new) (λ image. (store : Store) → Encodes image store → Answers (λ n. n ≡ store.slots) result) }
+    ensures synced { OnOk result (IsDurable (D.view disk.new)) }
+    ensures reads { OnlyReads (D.view disk.old) (D.view disk.new) }
+    ensures refused { IfErr result (IsOpenRefusal (Shows (D.view disk.old) (D.view disk.new)) (D.view disk.old).size (Rose (D.view disk.old).faults (D.view disk.new).faults)) }
 {
     begin(disk)?;
     match slots_of(disk) {
@@ -113,11 +113,11 @@ fn count_slots<D: Disk>(disk: &mut D) -> Result<u32, Refusal>
 
 // The number of slots of a disk that has their size.
 fn read_format<D: Disk>(disk: &mut D) -> Result<u32, Refusal>
-    ensures sized { IfOk result (λ slots. IsSized (Shown D.gave D.content D.size disk.old disk.new) (D.size disk.old) slots) }
-    ensures only { Shown D.gave D.content D.size disk.old disk.new (λ image. (store : Store) → IsRight store image → Answers (λ n. n ≡ store.slots) result) }
-    ensures synced { OnOk result (Only (D.content disk.new) (D.images disk.new)) }
-    ensures reads { OnlyReads D.content D.images D.clock D.images_since D.size D.faults D.same disk.old disk.new }
-    ensures refused { IfErr result (IsOpenRefusal (Shown D.gave D.content D.size disk.old disk.new) (D.size disk.old) (Rose (D.faults disk.old) (D.faults disk.new))) }
+    ensures sized { IfOk result (λ slots. IsSized (Shows (D.view disk.old) (D.view disk.new)) (D.view disk.old).size slots) }
+    ensures only { Shows (D.view disk.old) (D.view disk.new) (λ image. (store : Store) → Encodes image store → Answers (λ n. n ≡ store.slots) result) }
+    ensures synced { OnOk result (IsDurable (D.view disk.new)) }
+    ensures reads { OnlyReads (D.view disk.old) (D.view disk.new) }
+    ensures refused { IfErr result (IsOpenRefusal (Shows (D.view disk.old) (D.view disk.new)) (D.view disk.old).size (Rose (D.view disk.old).faults (D.view disk.new).faults)) }
 {
     let slots = count_slots(disk)?;
     let want = size_for(slots);
@@ -130,12 +130,12 @@ fn read_format<D: Disk>(disk: &mut D) -> Result<u32, Refusal>
 
 // The format cell and the journal.
 fn read_front<D: Disk>(alloc: Global, disk: &mut D) -> Result<Front, Refusal>
-    ensures sized { IfOk result (λ front. IsSized (Shown D.gave D.content D.size disk.old disk.new) (D.size disk.old) front.slots) }
-    ensures scanned { IfOk result (λ front. IsScanned (Shown D.gave D.content D.size disk.old disk.new) front.journal front.names front.journal.last) }
-    ensures only { Shown D.gave D.content D.size disk.old disk.new (λ image. (store : Store) → IsRight store image → Answers (λ front. (front.slots ≡ store.slots) × IsTold store.selector store.records front.journal front.names front.journal.last) result) }
-    ensures synced { OnOk result (Only (D.content disk.new) (D.images disk.new)) }
-    ensures reads { OnlyReads D.content D.images D.clock D.images_since D.size D.faults D.same disk.old disk.new }
-    ensures refused { IfErr result (IsOpenRefusal (Shown D.gave D.content D.size disk.old disk.new) (D.size disk.old) (Rose (D.faults disk.old) (D.faults disk.new))) }
+    ensures sized { IfOk result (λ front. IsSized (Shows (D.view disk.old) (D.view disk.new)) (D.view disk.old).size front.slots) }
+    ensures scanned { IfOk result (λ front. IsScanned (Shows (D.view disk.old) (D.view disk.new)) front.journal front.names front.journal.last) }
+    ensures only { Shows (D.view disk.old) (D.view disk.new) (λ image. (store : Store) → Encodes image store → Answers (λ front. (front.slots ≡ store.slots) × IsTold store.selector store.records front.journal front.names front.journal.last) result) }
+    ensures synced { OnOk result (IsDurable (D.view disk.new)) }
+    ensures reads { OnlyReads (D.view disk.old) (D.view disk.new) }
+    ensures refused { IfErr result (IsOpenRefusal (Shows (D.view disk.old) (D.view disk.new)) (D.view disk.old).size (Rose (D.view disk.old).faults (D.view disk.new).faults)) }
 {
     let slots = read_format(disk)?;
     match scan(alloc, disk) {
@@ -150,11 +150,11 @@ fn read_front<D: Disk>(alloc: Global, disk: &mut D) -> Result<Front, Refusal>
 
 // All that a store holds, however few slots are free.
 fn open_all<D: Disk>(alloc: Global, disk: &mut D) -> Result<Opened, Refusal>
-    ensures found { IfOk result (IsFound (Shown D.gave D.content D.size disk.old disk.new) (D.size disk.old)) }
-    ensures only { Shown D.gave D.content D.size disk.old disk.new (λ image. (store : Store) → IsRight store image → Answers (Keeps store) result) }
-    ensures synced { OnOk result (Only (D.content disk.new) (D.images disk.new)) }
-    ensures reads { OnlyReads D.content D.images D.clock D.images_since D.size D.faults D.same disk.old disk.new }
-    ensures refused { IfErr result (IsOpenRefusal (Shown D.gave D.content D.size disk.old disk.new) (D.size disk.old) (Rose (D.faults disk.old) (D.faults disk.new))) }
+    ensures found { IfOk result (IsFound (Shows (D.view disk.old) (D.view disk.new)) (D.view disk.old).size) }
+    ensures only { Shows (D.view disk.old) (D.view disk.new) (λ image. (store : Store) → Encodes image store → Answers (Keeps store) result) }
+    ensures synced { OnOk result (IsDurable (D.view disk.new)) }
+    ensures reads { OnlyReads (D.view disk.old) (D.view disk.new) }
+    ensures refused { IfErr result (IsOpenRefusal (Shows (D.view disk.old) (D.view disk.new)) (D.view disk.old).size (Rose (D.view disk.old).faults (D.view disk.new).faults)) }
 {
     let front = read_front(alloc, disk)?;
     let containers = read_slots(alloc, disk, front.slots)?;
@@ -174,14 +174,14 @@ fn open_all<D: Disk>(alloc: Global, disk: &mut D) -> Result<Opened, Refusal>
 /// and `Version` of the journal; `Damaged` of a container; `Full` where fewer than two slots are closed. `DiskRead` and
 /// `Memory` may come in place of any behind the first size. No file is read.
 pub fn open<D: Disk>(alloc: Global, disk: &mut D) -> Result<Opened, Refusal>
-    ensures opened { IfOk result (IsOpened (Shown D.gave D.content D.size disk.old disk.new) (D.size disk.old)) }
+    ensures opened { IfOk result (IsOpened (Shows (D.view disk.old) (D.view disk.new)) (D.view disk.old).size) }
     // A store of the right size, whose cells and headers are right and whose ids differ, is opened, unless memory or the
     // disk fails, or too few slots are free.
-    ensures only { Shown D.gave D.content D.size disk.old disk.new (λ image. (store : Store) → IsRight store image → Opens store result) }
+    ensures only { Shows (D.view disk.old) (D.view disk.new) (λ image. (store : Store) → Encodes image store → Opens store result) }
     // All that was written stands after a crash.
-    ensures synced { OnOk result (Only (D.content disk.new) (D.images disk.new)) }
-    ensures reads { OnlyReads D.content D.images D.clock D.images_since D.size D.faults D.same disk.old disk.new }
-    ensures refused { IfErr result (IsOpenRefusal (Shown D.gave D.content D.size disk.old disk.new) (D.size disk.old) (Rose (D.faults disk.old) (D.faults disk.new))) }
+    ensures synced { OnOk result (IsDurable (D.view disk.new)) }
+    ensures reads { OnlyReads (D.view disk.old) (D.view disk.new) }
+    ensures refused { IfErr result (IsOpenRefusal (Shows (D.view disk.old) (D.view disk.new)) (D.view disk.old).size (Rose (D.view disk.old).faults (D.view disk.new).faults)) }
 {
     let opened = open_all(alloc, disk)?;
     let free = opened.containers.free();

@@ -186,12 +186,12 @@ fn why_of(why: LogWhy) -> Why
 
 // What a slot holds.
 fn read_one<D: Disk>(alloc: Global, disk: &mut D, slot: u32) -> Result<Option<Meta>, Refusal>
-    requires { slot_at slot + 262144 ≤ D.size disk.old }
+    requires { slot_at slot + 262144 ≤ (D.view disk.old).size }
     ensures right { IfOk result (λ held. IfSome held (λ m. IsHeader (view m))) }
-    ensures shown { IfOk result (λ held. Shown D.gave D.content D.size disk.old disk.new (λ image. HoldsSlot image slot (option_map view held))) }
-    ensures only { Shown D.gave D.content D.size disk.old disk.new (λ image. (held : Option HeaderValue) → HoldsSlot image slot held → Gives (λ m. held ≡ option_map view m) result) }
-    ensures reads { OnlyReads D.content D.images D.clock D.images_since D.size D.faults D.same disk.old disk.new }
-    ensures refused { IfErr result (IsSlotRefusal (Shown D.gave D.content D.size disk.old disk.new) (Rose (D.faults disk.old) (D.faults disk.new)) BreaksHeader slot) }
+    ensures shown { IfOk result (λ held. Shows (D.view disk.old) (D.view disk.new) (λ image. HoldsSlot image slot (option_map view held))) }
+    ensures only { Shows (D.view disk.old) (D.view disk.new) (λ image. (held : Option HeaderValue) → HoldsSlot image slot held → Gives (λ m. held ≡ option_map view m) result) }
+    ensures reads { OnlyReads (D.view disk.old) (D.view disk.new) }
+    ensures refused { IfErr result (IsSlotRefusal (Shows (D.view disk.old) (D.view disk.new)) (Rose (D.view disk.old).faults (D.view disk.new).faults) BreaksHeader slot) }
 {
     match read_slot(alloc, disk, slot) {
         Ok(held) => Ok(held),
@@ -214,16 +214,16 @@ fn read_next<D: Disk>(
     told: &Containers,
     slot: u32,
 ) -> Result<Option<Meta>, Refusal>
-    requires { slot_at slot + 262144 ≤ D.size disk.old }
+    requires { slot_at slot + 262144 ≤ (D.view disk.old).size }
     ensures right { IfOk result (λ held. IfSome held (λ m. IsHeader (view m))) }
     ensures fresh { IfOk result (λ held. (before : List (Option HeaderValue)) → AreTold before told.now → MayFollow before (option_map view held)) }
-    ensures shown { IfOk result (λ held. Shown D.gave D.content D.size disk.old disk.new (λ image. HoldsSlot image slot (option_map view held))) }
-    ensures one { IfOk result (λ held. Shown D.gave D.content D.size disk.old disk.new (λ image. (other : Option HeaderValue) → HoldsSlot image slot other → other ≡ option_map view held)) }
-    ensures none { IfErr result (λ refusal. (before : List (Option HeaderValue)) → AreTold before told.now → Shown D.gave D.content D.size disk.old disk.new (λ image.
+    ensures shown { IfOk result (λ held. Shows (D.view disk.old) (D.view disk.new) (λ image. HoldsSlot image slot (option_map view held))) }
+    ensures one { IfOk result (λ held. Shows (D.view disk.old) (D.view disk.new) (λ image. (other : Option HeaderValue) → HoldsSlot image slot other → other ≡ option_map view held)) }
+    ensures none { IfErr result (λ refusal. (before : List (Option HeaderValue)) → AreTold before told.now → Shows (D.view disk.old) (D.view disk.new) (λ image.
         (held : Option HeaderValue) → HoldsSlot image slot held → MayFollow before held → Unanswered refusal)) }
-    ensures reads { OnlyReads D.content D.images D.clock D.images_since D.size D.faults D.same disk.old disk.new }
+    ensures reads { OnlyReads (D.view disk.old) (D.view disk.new) }
     ensures refused { IfErr result (λ refusal. (before : List (Option HeaderValue)) → AreTold before told.now
-        → IsSlotRefusal (Shown D.gave D.content D.size disk.old disk.new) (Rose (D.faults disk.old) (D.faults disk.new)) (IsSlotDamage before) slot refusal) }
+        → IsSlotRefusal (Shows (D.view disk.old) (D.view disk.new)) (Rose (D.view disk.old).faults (D.view disk.new).faults) (IsSlotDamage before) slot refusal) }
 {
     let held = read_one(alloc, disk, slot)?;
     if let Some(meta) = &held {
@@ -250,13 +250,13 @@ pub(crate) fn read_slots<D: Disk>(
     slots: u32,
 ) -> Result<Containers, Refusal>
     requires count { IsSlotCount slots }
-    requires size { D.size disk.old ≡ size_of slots }
-    ensures found { IfOk result (AreSlots (Shown D.gave D.content D.size disk.old disk.new) slots) }
+    requires size { (D.view disk.old).size ≡ size_of slots }
+    ensures found { IfOk result (AreSlots (Shows (D.view disk.old) (D.view disk.new)) slots) }
     // Right slots are read, unless memory or the disk fails.
-    ensures only { Shown D.gave D.content D.size disk.old disk.new (λ image. (held : List (Option HeaderValue)) → length held ≡ slots
+    ensures only { Shows (D.view disk.old) (D.view disk.new) (λ image. (held : List (Option HeaderValue)) → length held ≡ slots
         → HoldSlots 0 held image → DifferentIds held → Gives (AreTold held) result) }
-    ensures reads { OnlyReads D.content D.images D.clock D.images_since D.size D.faults D.same disk.old disk.new }
-    ensures refused { IfErr result (IsSlotsRefusal (Shown D.gave D.content D.size disk.old disk.new) (Rose (D.faults disk.old) (D.faults disk.new)) slots) }
+    ensures reads { OnlyReads (D.view disk.old) (D.view disk.new) }
+    ensures refused { IfErr result (IsSlotsRefusal (Shows (D.view disk.old) (D.view disk.new)) (Rose (D.view disk.old).faults (D.view disk.new).faults) slots) }
 {
     let mut told = Containers::new(alloc);
     for slot in 0..slots {

@@ -6,7 +6,7 @@ use Rattle.std.proofs.lemmas.List.{take_more, take-append-le}
 use Rattle.std.proofs.lemmas.List.Concat.{flat_map-cons}
 use Rattle.std.proofs.Math.Seq.{split_at, take-append-add}
 use Rattle.base_model.specs.Fault.{Rose, HasCause}
-use Rattle.base_model.specs.Told.{Appended}
+use Rattle.base_model.specs.Known.{Appended}
 use Rattle.base_model.proofs.Shown.{rose_since}
 use Rattle.dd_io.specs.Flow.{AppendedPart}
 

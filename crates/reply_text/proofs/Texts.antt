@@ -1,7 +1,7 @@
 -- The pieces of a line that carries something are that line. What is not here the check finds by itself.
 use Rattle.std.proofs.Common.{◌≡◌, ℕ, List, [], ◌∷◌, ◌++◌, append_assoc, codes, decimal, Result, OnOk, OnErr, Option, subst}
 use Rattle.hex.specs.Hex.{encode_lower}
-use Rattle.base_model.specs.Told.{Appended}
+use Rattle.base_model.specs.Known.{Appended}
 use Rattle.dd_io.specs.Flow.{AppendedPart}
 use Rattle.actor_parts.specs.declared.refusal.Refusal.TheVariants.{Corrupt, Missing, NotAStore, Version, WrongSize}
 use Rattle.reply_text.specs.declared.ending.Ending.TheVariants.{Refused}

@@ -3,7 +3,7 @@ ghost use Rattle.std.specs.Prelude.{◌≡◌, ◌*◌, length, OnOk, OnErr};
 ghost use Rattle.std.specs.List.{flat_map};
 ghost use Rattle.hex.specs.Hex.{encode_lower};
 ghost use Rattle.base_model.specs.Fault.{HasCause};
-ghost use Rattle.base_model.specs.Told.{Appended};
+ghost use Rattle.base_model.specs.Known.{Appended};
 ghost use Rattle.dd_io.specs.Flow.{AppendedPart};
 ghost use Rattle.actor_parts.specs.declared.refusal.Difference.TheVariants.{Length};
 ghost use Rattle.actor_parts.specs.declared.refusal.Why.TheVariants.{Digest, Field};

@@ -35,39 +35,39 @@ pub trait Index {
 
     /// The place of a key. It takes no memory.
     fn get<D: Disk>(&mut self, disk: &mut D, key: &Key) -> Result<Option<Place>, IndexFault>
-        requires serves { serves self.old (D.size disk.old) }
-        ensures found { IfOk result (λ found. IfTold (places self.old (D.content disk.old)) (λ m. found ≡ finite.get m key.now)) }
-        ensures map { places self.new (D.content disk.new) ≡ places self.old (D.content disk.old) }
-        ensures fault { IfErr result (IsGetFault (Rose (D.faults disk.old) (D.faults disk.new)) (λ at why.
-            (places self.old (D.content disk.old) ≡ None) × Shown D.gave D.content D.size disk.old disk.new (breaks self.old at why))) }
-        ensures reads { OnlyReads D.content D.images D.clock D.images_since D.size D.faults D.same disk.old disk.new }
+        requires serves { serves self.old (D.view disk.old).size }
+        ensures found { IfOk result (λ found. IfTold (places self.old (D.view disk.old).content) (λ m. found ≡ finite.get m key.now)) }
+        ensures map { places self.new (D.view disk.new).content ≡ places self.old (D.view disk.old).content }
+        ensures fault { IfErr result (IsGetFault (Rose (D.view disk.old).faults (D.view disk.new).faults) (λ at why.
+            (places self.old (D.view disk.old).content ≡ None) × Shows (D.view disk.old) (D.view disk.new) (breaks self.old at why))) }
+        ensures reads { OnlyReads (D.view disk.old) (D.view disk.new) }
         ensures disk { ChangesBy D.content D.images D.clock D.images_since Same disk.old disk.new }
-        ensures served { serves self.new (D.size disk.new) };
+        ensures served { serves self.new (D.view disk.new).size };
 
     /// Gives a key a place, instead of the one that it had. Where memory runs out the map is as it was; where the disk
     /// fails, or damage is found, it may have changed.
     fn put<D: Disk>(&mut self, disk: &mut D, key: &Key, place: Place) -> Result<(), IndexFault>
-        requires serves { serves self.old (D.size disk.old) }
+        requires serves { serves self.old (D.view disk.old).size }
         requires kind { HasKind key.now }
-        requires place { IsPlace (D.size disk.old) place }
-        requires room { IfTold (places self.old (D.content disk.old)) (λ m. takes self.old (D.size disk.old) (finite.len (finite.insert m key.now place))) }
-        ensures ok { OnOk result (IfTold (places self.old (D.content disk.old)) (λ m. places self.new (D.content disk.new) ≡ Some (finite.insert m key.now place))) }
-        ensures memory { result ≡ Err Memory → places self.new (D.content disk.new) ≡ places self.old (D.content disk.old) }
-        ensures fault { IfErr result (IsPutFault (Rose (D.faults disk.old) (D.faults disk.new)) (λ at why.
-            (places self.old (D.content disk.old) ≡ None) × Shown D.gave D.content D.size disk.old disk.new (breaks self.old at why))) }
-        ensures later { IsLater D.size D.faults D.same disk.old disk.new }
-        ensures disk { ChangesBy D.content D.images D.clock D.images_since (SameBefore (kept self.old (D.size disk.old))) disk.old disk.new }
-        ensures served { serves self.new (D.size disk.new) };
+        requires place { IsPlace (D.view disk.old).size place }
+        requires room { IfTold (places self.old (D.view disk.old).content) (λ m. takes self.old (D.view disk.old).size (finite.len (finite.insert m key.now place))) }
+        ensures ok { OnOk result (IfTold (places self.old (D.view disk.old).content) (λ m. places self.new (D.view disk.new).content ≡ Some (finite.insert m key.now place))) }
+        ensures memory { result ≡ Err Memory → places self.new (D.view disk.new).content ≡ places self.old (D.view disk.old).content }
+        ensures fault { IfErr result (IsPutFault (Rose (D.view disk.old).faults (D.view disk.new).faults) (λ at why.
+            (places self.old (D.view disk.old).content ≡ None) × Shows (D.view disk.old) (D.view disk.new) (breaks self.old at why))) }
+        ensures later { IsLater (D.view disk.old) (D.view disk.new) }
+        ensures disk { ChangesBy D.content D.images D.clock D.images_since (SameBefore (kept self.old (D.view disk.old).size)) disk.old disk.new }
+        ensures served { serves self.new (D.view disk.new).size };
 
     /// Takes a key away, if it is there. It takes no memory.
     fn remove<D: Disk>(&mut self, disk: &mut D, key: &Key) -> Result<(), IndexFault>
-        requires serves { serves self.old (D.size disk.old) }
-        ensures ok { OnOk result (IfTold (places self.old (D.content disk.old)) (λ m. places self.new (D.content disk.new) ≡ Some (finite.remove m key.now))) }
-        ensures fault { IfErr result (IsRemoveFault (Rose (D.faults disk.old) (D.faults disk.new)) (λ at why.
-            (places self.old (D.content disk.old) ≡ None) × Shown D.gave D.content D.size disk.old disk.new (breaks self.old at why))) }
-        ensures later { IsLater D.size D.faults D.same disk.old disk.new }
-        ensures disk { ChangesBy D.content D.images D.clock D.images_since (SameBefore (kept self.old (D.size disk.old))) disk.old disk.new }
-        ensures served { serves self.new (D.size disk.new) };
+        requires serves { serves self.old (D.view disk.old).size }
+        ensures ok { OnOk result (IfTold (places self.old (D.view disk.old).content) (λ m. places self.new (D.view disk.new).content ≡ Some (finite.remove m key.now))) }
+        ensures fault { IfErr result (IsRemoveFault (Rose (D.view disk.old).faults (D.view disk.new).faults) (λ at why.
+            (places self.old (D.view disk.old).content ≡ None) × Shows (D.view disk.old) (D.view disk.new) (breaks self.old at why))) }
+        ensures later { IsLater (D.view disk.old) (D.view disk.new) }
+        ensures disk { ChangesBy D.content D.images D.clock D.images_since (SameBefore (kept self.old (D.view disk.old).size)) disk.old disk.new }
+        ensures served { serves self.new (D.view disk.new).size };
 
     /// What is written before its own bytes doesn't change the map.
     ghost places_stay: { (i : Self) (old new : List ℕ) → SameFrom (kept i (length old)) old new → places i (Some new) ≡ places i (Some old) };

@@ -15,7 +15,7 @@ use Rattle.container_meta.specs.declared.kind.Kind.TheVariants.{Leaf, Tree}
 use Rattle.container_meta.specs.Format.{kind_byte, is_length}
 use Rattle.container_meta.specs.Spelling.{HeaderValue, IsHeader, Follow, bytes_of}
 use Rattle.store_model.specs.Slots.{HoldSlots, AreHeaders, Copy, place_of, copy_in, newer, newest}
-use Rattle.store_model.specs.Image.{Store, IsRight, AreCopies, bytes_at}
+use Rattle.store_model.specs.Image.{Store, Encodes, AreCopies, bytes_at}
 use Rattle.store_model.specs.Commands.{copy_of}
 
 -- two that are there and the same
@@ -148,7 +148,7 @@ headers_of_slots from (None ∷ cs) image holds = headers_of_slots (from + 1) cs
 headers_of_slots from (Some h ∷ cs) image holds = (holds.0.0, headers_of_slots (from + 1) cs image holds.1)
 
 -- the headers of an image that is right are such
-pub headers_of_right : (image : List ℕ) (store : Store) → IsRight store image → AreHeaders store.held
+pub headers_of_right : (image : List ℕ) (store : Store) → Encodes image store → AreHeaders store.held
 headers_of_right image store right = headers_of_slots 0 store.held image right.slots_are
 
 -- a copy of a store lies within its slots

@@ -21,7 +21,7 @@ use Rattle.journal_cells.specs.Journal.{HoldsRecords, ClosedFrom, last_of}
 use Rattle.journal_cells.proofs.Appended.{kept, length_record_cell}
 use Rattle.journal_cells.proofs.Replays.{last_of_push, names_after_push}
 use Rattle.store_model.specs.Files.{Files, with_file, root_of}
-use Rattle.store_model.specs.Image.{Store, IsRight, IsStoreOf, IsFileOf, AreFilesOf, HasCopy, names_of, last_sequence}
+use Rattle.store_model.specs.Image.{Store, Encodes, IsStoreOf, IsFileOf, AreFilesOf, HasCopy, names_of, last_sequence}
 use Rattle.store_model.specs.Commands.{CanCommit, put_of_file, with_put}
 use Rattle.dd_disk.proofs.Outside.{SameOutside, same_written, same_cell, cell_cases}
 use Rattle.store_model.proofs.JournalWrites.{kept_slots, kept_copies, kept_copy, kept_files, kept_format, kept_selector, kept_older, records_still, closed_still}
@@ -106,7 +106,7 @@ module _ (store : Store) (files : Files) (old new : List ℕ) (is : IsStoreOf ol
   behind = omega arith
 
   -- what isn't of the records alone goes on
-  right_where : (records : List RecordValue) → HoldsRecords store.selector.half records new → IsRight (record store { records = records }) new
+  right_where : (records : List RecordValue) → HoldsRecords store.selector.half records new → Encodes (record store { records = records }) new
   right_where records holds = record {
     count = is.right.count;
     size = same.size ∙ is.right.size;

@@ -13,7 +13,7 @@ use Rattle.namespace.specs.Names.{NameMap, names_with, names_changed, names_afte
 use Rattle.journal_cells.specs.Journal.{Follow}
 use Rattle.store_model.specs.Files.{Files, root_of}
 use Rattle.store_model.specs.Slots.{Copy}
-use Rattle.store_model.specs.Image.{Store, IsRight, IsSound, IsStoreOf, IsFileOf, HasCopy, bytes_at}
+use Rattle.store_model.specs.Image.{Store, Encodes, IsSound, IsStoreOf, IsFileOf, HasCopy, bytes_at}
 use Rattle.store_model.specs.Commands.{HasRoot, AreBytesOf, root_key, leaf_key, copy_of}
 use Rattle.store_model.proofs.Copies.{some_same, headers_of_right, copy_within}
 
@@ -82,7 +82,7 @@ pub key_of_file : (root : Root) (bytes : List ℕ) → root ≡ root_of bytes �
 key_of_file root bytes is = ap root_key is
 
 -- a copy is as long as its place says
-pub length_of_copy : (store : Store) (image key : List ℕ) (copy : Copy) → IsRight store image → copy_of store key ≡ Some copy → length (bytes_at copy.place image) ≡ copy.place.length
+pub length_of_copy : (store : Store) (image key : List ℕ) (copy : Copy) → Encodes image store → copy_of store key ≡ Some copy → length (bytes_at copy.place image) ≡ copy.place.length
 length_of_copy store image key copy right is =
     let within = copy_within store key copy (headers_of_right image store right) is in
     length-range (data_at copy.place.slot + copy.place.offset) copy.place.length image (omega (arith, within.0, within.1, right.size, right.many))

@@ -13,7 +13,7 @@ use Rattle.dd_disk.specs.Gated.{TornFrom}
 use Rattle.dd_disk.proofs.Outside.{SameOutside, same_written, same_cell, cell_cases}
 use Rattle.store_model.specs.Files.{Files}
 use Rattle.store_model.specs.Slots.{HoldSlots, AreHeaders, DifferentIds, IsContainerOf, one_segment, last_id, free_slots, first_free, with_slot}
-use Rattle.store_model.specs.Image.{Store, IsRight, IsStoreOf, AreCopies, IsFileOf, HasCopy, names_of}
+use Rattle.store_model.specs.Image.{Store, Encodes, IsStoreOf, AreCopies, IsFileOf, HasCopy, names_of}
 use Rattle.store_model.specs.Commands.{leaf_key, copy_of, with_container, CanAdd}
 use Rattle.store_model.proofs.Copies.{headers_of_right}
 use Rattle.store_model.proofs.Filled.{free_first, length-with_slot, free_less, different_with}
@@ -49,7 +49,7 @@ module _ (image new : List ℕ) (store : Store) (files : Files) (holds : IsStore
   headers = headers_of_right image store holds.right
 
   -- the same but for the slots
-  right_on : (held : List (Option HeaderValue)) → length held ≡ length store.held → HoldSlots 0 held new → DifferentIds held → IsRight (record store { held = held }) new
+  right_on : (held : List (Option HeaderValue)) → length held ≡ length store.held → HoldSlots 0 held new → DifferentIds held → Encodes (record store { held = held }) new
   right_on held many slots_are different = record {
     count = holds.right.count;
     size = same.size ∙ holds.right.size;
@@ -60,7 +60,7 @@ module _ (image new : List ℕ) (store : Store) (files : Files) (holds : IsStore
     different = different;
   }
 
-  store_on : (held : List (Option HeaderValue)) → IsRight (record store { held = held }) new → AreCopies 0 held new → ((bytes : List ℕ) → HasCopy store.held bytes image → HasCopy held bytes new)
+  store_on : (held : List (Option HeaderValue)) → Encodes (record store { held = held }) new → AreCopies 0 held new → ((bytes : List ℕ) → HasCopy store.held bytes image → HasCopy held bytes new)
       → 2 ≤ free_slots held → IsStoreOf new (record store { held = held }) files
   store_on held right copies each reserve = record {
     right = right;

@@ -13,7 +13,7 @@ use Rattle.actor_parts.specs.declared.refusal.Refusal.{Refusal}
 use Rattle.actor_parts.specs.declared.refusal.Refusal.TheVariants.{NoFile, BadName, TooMany, Full, Clash, Corrupt, Missing, Numbers, Damaged}
 use Rattle.store_model.specs.Files.{no_files, root_of}
 use Rattle.store_model.specs.Slots.{Copy, newest, one_segment, last_id, free_slots, first_free, with_slot}
-use Rattle.store_model.specs.Image.{Store, IsRight, IsStoreOf, names_of, last_sequence, bytes_at}
+use Rattle.store_model.specs.Image.{Store, Encodes, IsStoreOf, names_of, last_sequence, bytes_at}
 
 -- an empty store, as `format` makes it
 abbrev pub empty_store : ℕ → Store
@@ -24,11 +24,11 @@ IsFormatted slots image = IsStoreOf image (empty_store slots) no_files
 
 -- the image holds a store of which P holds
 abbrev pub HoldsStore : (Store → Type 0) → List ℕ → Type 0
-HoldsStore P image = (store : Store) × IsRight store image × P store
+HoldsStore P image = (store : Store) × Encodes image store × P store
 
 -- such a store, of which two slots or more are free: one that is opened
 abbrev pub HoldsOpen : (Store → Type 0) → List ℕ → Type 0
-HoldsOpen P image = (store : Store) × IsRight store image × (2 ≤ free_slots store.held) × P store
+HoldsOpen P image = (store : Store) × Encodes image store × (2 ≤ free_slots store.held) × P store
 
 -- the key of the segment of some bytes of a file
 abbrev pub leaf_key : List ℕ → List ℕ
@@ -40,7 +40,7 @@ copy_of store key = newest 0 store.held key
 
 -- the bytes are those of a segment that the image holds
 abbrev pub IsSegmentIn : List ℕ → List ℕ → Type 0
-IsSegmentIn image bytes = (store : Store) × IsRight store image × ((key : List ℕ) × ((copy : Copy) × (copy_of store key ≡ Some copy) × (bytes ≡ bytes_at copy.place image)))
+IsSegmentIn image bytes = (store : Store) × Encodes image store × ((key : List ℕ) × ((copy : Copy) × (copy_of store key ≡ Some copy) × (bytes ≡ bytes_at copy.place image)))
 
 -- No collisions: no two different ones of these byte lists have one digest.
 abbrev pub HasNoCollisions : (List ℕ → Type 0) → Type 0

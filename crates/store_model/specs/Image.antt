@@ -26,7 +26,7 @@ abbrev pub HasFormat : ℕ → List ℕ → Type 0
 HasFormat slots image = range 0 512 image ≡ format_cell slots
 
 -- The image holds this: its cells and headers are right, and no two containers have one id.
-pub record IsRight (store : Store) (image : List ℕ) : Type 0 where
+pub record Encodes (image : List ℕ) (store : Store) : Type 0 where
   pub count : IsSlotCount store.slots
   pub size : length image ≡ size_of store.slots
   pub format : HasFormat store.slots image
@@ -83,7 +83,7 @@ AreFilesOf held names image files = (name : List ℕ) → IsFileOf held image (f
 -- The image holds this store, and is a store of these files. Past its records no record is open, each entry's bytes have
 -- its digest, and two slots or more are closed.
 pub record IsStoreOf (image : List ℕ) (store : Store) (files : Files) : Type 0 where
-  pub right : IsRight store image
+  pub right : Encodes image store
   pub past : ClosedFrom store.selector.half (length store.records) image
   pub copies : AreCopies 0 store.held image
   pub files_are : AreFilesOf store.held (names_of store) image files

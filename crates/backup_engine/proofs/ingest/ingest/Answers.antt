@@ -1,6 +1,6 @@
 use Rattle.std.proofs.Common.{◌≡◌, ◌≢◌, ◌∙◌, ap, sym, subst, Some, List, ℕ}
 use Rattle.base_model.specs.Fault.{Rose}
-use Rattle.base_model.specs.Told.{Told, Became}
+use Rattle.base_model.specs.Known.{Known, KnownWith}
 use Rattle.base_model.proofs.Outcome.{passed_on}
 use Rattle.base_model.proofs.Shown.{shown_told, shown_later, rose_since}
 use Rattle.dd_disk.proofs.Disks.{Saw, weaker}
@@ -81,7 +81,7 @@ returns-in_err-put_file-clause-kept g c =
     let first = c.in_ok-opened.ensures.reads in
     let taken = subst (TakesIn (g.S.Source.left c.args.source.now)) (sym c.deref-2.ensures.value) c.in_ok-bytes.ensures.taken in
     passed_on c.from_residual-in_err-put_file.result
-    (λ (ending : Ending). ending ≢ Refused DiskWrite → Told (disk.content c.args.disk.now) (λ old. Became (disk.content c.put_file.new.disk) (IsKeptByIngest (g.S.Source.left c.args.source.now) old)))
+    (λ (ending : Ending). ending ≢ Refused DiskWrite → Known (disk.content c.args.disk.now) (λ old. KnownWith (disk.content c.put_file.new.disk) (IsKeptByIngest (g.S.Source.left c.args.source.now) old)))
     (Refused c.in_err-put_file.field-0.0) c.from_residual-in_err-put_file.ensures.1
     (λ other old told.
     let sized = g.met.D.Disk.sized c.args.disk.now old told in
@@ -97,7 +97,7 @@ returns-in_err-put_file-clause-files g c =
     let first = c.in_ok-opened.ensures.reads in
     let taken = subst (TakesIn (g.S.Source.left c.args.source.now)) (sym c.deref-2.ensures.value) c.in_ok-bytes.ensures.taken in
     passed_on c.from_residual-in_err-put_file.result
-    (λ (ending : Ending). ending ≢ Refused DiskWrite → Told (disk.content c.args.disk.now) (λ _. (files : Files) → ((i : List ℕ) → disk.images c.args.disk.now i → StandsForFiles i files) → (i : List ℕ) → disk.images c.put_file.new.disk i → StandsForFiles i files))
+    (λ (ending : Ending). ending ≢ Refused DiskWrite → Known (disk.content c.args.disk.now) (λ _. (files : Files) → ((i : List ℕ) → disk.images c.args.disk.now i → StandsForFiles i files) → (i : List ℕ) → disk.images c.put_file.new.disk i → StandsForFiles i files))
     (Refused c.in_err-put_file.field-0.0) c.from_residual-in_err-put_file.ensures.1
     (λ other old told files each i image.
     let sized = law.sized c.args.disk.now old told in

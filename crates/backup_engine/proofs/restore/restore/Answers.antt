@@ -5,7 +5,7 @@ use Rattle.base_model.proofs.Shown.{shown_told, rose_since}
 use Rattle.dd_disk.proofs.Disks.{Saw, weaker, both}
 use Rattle.actor_parts.specs.declared.refusal.Refusal.{Refusal}
 use Rattle.reply_text.specs.declared.ending.Ending.TheVariants.{Refused}
-use Rattle.store_model.specs.Image.{Store, IsRight}
+use Rattle.store_model.specs.Image.{Store, Encodes}
 use Rattle.store_model.specs.Commands.{IsPlausible, IsRootRefusal}
 use Rattle.store_model.proofs.Roots.{root_of_name, file_of_root, same_file}
 use Rattle.recovery.specs.Opening.{Keeps}
@@ -42,13 +42,13 @@ returns-in_err-bytes-clause-given_up g c =
     let second = c.in_err-bytes.ensures.reads in
     let refusal = c.in_err-bytes.field-0.0 in
     let failed = Rose (disk.faults mid) (disk.faults new) in
-    let Told : Refusal → Type 0 = λ r. IsPlausible r × Saw disk mid new (λ image. (s : Store) → Keeps s c.in_ok-opened.opened → IsRootRefusal root r s image) in
-    let Found : Refusal → Type 0 = λ r. IsPlausible r × Saw disk old new (λ image. IsRight store image × IsRootRefusal root r store image) in
+    let Known : Refusal → Type 0 = λ r. IsPlausible r × Saw disk mid new (λ image. (s : Store) → Keeps s c.in_ok-opened.opened → IsRootRefusal root r s image) in
+    let Found : Refusal → Type 0 = λ r. IsPlausible r × Saw disk old new (λ image. Encodes image store × IsRootRefusal root r store image) in
     passed_on c.from_residual-in_err-bytes.result (IsGivenUp (Saw disk old new) (disk.size old) (Rose (disk.faults old) (disk.faults new)) ⊥ None None (Restore c.args.name.now))
     (Refused refusal) c.from_residual-in_err-bytes.ensures.1
     (refused_by_root disk old new failed (Rose (disk.faults old) (disk.faults new)) c.args.name.now root store refusal c.in_ok-root.ensures.root.0 (c.in_ok-root.ensures.root.1 store keeps.journal) opened.reserve (λ rose. rose_since _ _ _ first.later rose)
-    (fault_mapped failed failed Told Found refusal (λ rose. rose)
-    (λ (r : Refusal) (wrong : Told r). (wrong.0, weaker disk old new (λ image sized shown. (shown.0, shown.1 store keeps)) (both disk law.gave_after law.gave_before old mid new opened.found.right first wrong.1 second)))
+    (fault_mapped failed failed Known Found refusal (λ rose. rose)
+    (λ (r : Refusal) (wrong : Known r). (wrong.0, weaker disk old new (λ image sized shown. (shown.0, shown.1 store keeps)) (both disk law.gave_after law.gave_before old mid new opened.found.right first wrong.1 second)))
     c.in_err-bytes.ensures.refused))
 
 pub returns-in_err-bytes-clause-harmless : goal.returns-in_err-bytes-clause-harmless
@@ -64,11 +64,11 @@ returns-in_err-bytes-clause-harmless g c = λ old told files stands.
     let sized = law.sized c.args.disk.now old told in
     let keeps = shown_told disk.gave disk.content disk.size disk.same c.args.disk.now mid _ old c.in_ok-opened.ensures.only told sized store holds.right in
     let failed = Rose (disk.faults mid) (disk.faults new) in
-    let Told : Refusal → Type 0 = λ r. IsPlausible r × Saw disk mid new (λ image. (s : Store) → Keeps s c.in_ok-opened.opened → IsRootRefusal root r s image) in
+    let Known : Refusal → Type 0 = λ r. IsPlausible r × Saw disk mid new (λ image. (s : Store) → Keeps s c.in_ok-opened.opened → IsRootRefusal root r s image) in
     passed_on c.from_residual-in_err-bytes.result IsHarmless (Refused c.in_err-bytes.field-0.0) c.from_residual-in_err-bytes.ensures.1
     (harmless_read failed c.in_err-bytes.field-0.0
-    (fault_mapped failed failed Told (λ r. IsHarmless (Refused r)) c.in_err-bytes.field-0.0 (λ rose. rose)
-    (λ (r : Refusal) (wrong : Told r). harmless_root c.args.name.now root r store old files holds (c.in_ok-root.ensures.root.1 store keeps.journal)
+    (fault_mapped failed failed Known (λ r. IsHarmless (Refused r)) c.in_err-bytes.field-0.0 (λ rose. rose)
+    (λ (r : Refusal) (wrong : Known r). harmless_root c.args.name.now root r store old files holds (c.in_ok-root.ensures.root.1 store keeps.journal)
     (shown_told disk.gave disk.content disk.size disk.same mid new _ old wrong.1 (first.content_is ∙ told) (sized ∙ sym first.size_is) store keeps))
     c.in_err-bytes.ensures.refused))
 

@@ -1,5 +1,5 @@
 use Rattle.std.proofs.Common.{◌≢◌, IfErr, subst, sym}
-use Rattle.base_model.specs.Told.{Told, Became}
+use Rattle.base_model.specs.Known.{Known, KnownWith}
 use Rattle.dd_disk.specs.Disk.{LeavesOnly}
 use Rattle.actor_parts.specs.declared.refusal.Refusal.TheVariants.{DiskWrite}
 use Rattle.reply_text.specs.declared.ending.Ending.{Ending}
@@ -12,7 +12,7 @@ use Rattle.backup_engine.proofs.top_call.do_line.Goals as goal
 pub returns-in-Ingest-clause-refused : goal.returns-in-Ingest-clause-refused
 returns-in-Ingest-clause-refused g c =
     let disk = g.D.Disk in
-    subst (λ (l : Line). IfErr c.ingest.result (λ (ending : Ending). ending ≢ Refused DiskWrite → Told (disk.content c.args.disk.now) (λ old. Became (disk.content c.ingest.new.disk) (IsKeptBy (line_value l) (g.S.Source.left c.args.source.now) old))))
+    subst (λ (l : Line). IfErr c.ingest.result (λ (ending : Ending). ending ≢ Refused DiskWrite → Known (disk.content c.args.disk.now) (λ old. KnownWith (disk.content c.ingest.new.disk) (IsKeptBy (line_value l) (g.S.Source.left c.args.source.now) old))))
     (sym c.in-Ingest.is) c.ingest.ensures.kept
 
 pub returns-in-Ingest-clause-crash : goal.returns-in-Ingest-clause-crash
@@ -24,5 +24,5 @@ returns-in-Ingest-clause-crash g c = λ old told.
 pub returns-in-Ingest-clause-files : goal.returns-in-Ingest-clause-files
 returns-in-Ingest-clause-files g c =
     let disk = g.D.Disk in
-    subst (λ (l : Line). IfErr c.ingest.result (λ (ending : Ending). ending ≢ Refused DiskWrite → Told (disk.content c.args.disk.now) (λ _. KeepsFiles (line_value l) (disk.images c.args.disk.now) (disk.images c.ingest.new.disk))))
+    subst (λ (l : Line). IfErr c.ingest.result (λ (ending : Ending). ending ≢ Refused DiskWrite → Known (disk.content c.args.disk.now) (λ _. KeepsFiles (line_value l) (disk.images c.args.disk.now) (disk.images c.ingest.new.disk))))
     (sym c.in-Ingest.is) c.ingest.ensures.files

@@ -1,7 +1,7 @@
 use Rattle.std.proofs.Common.{sym, subst, arith, drop, suc, List, ℕ, Bor}
 use Rattle.std.proofs.lemmas.List.{take_all}
 use Rattle.std.specs.List.{flat_map}
-use Rattle.base_model.specs.Told.{Appended}
+use Rattle.base_model.specs.Known.{Appended}
 use Rattle.dd_io.specs.Flow.{AppendedPart}
 use Rattle.reply_text.proofs.Pieces.{pieces_more, pieces_split, appended_none, appended_more, part_of_more, cause_since, on_err}
 use Rattle.reply_text.proofs.notes.write_pieces.Goals as goal

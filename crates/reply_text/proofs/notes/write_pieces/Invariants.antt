@@ -1,6 +1,6 @@
 use Rattle.std.proofs.Common.{◌≤◌, take}
 use Rattle.std.specs.List.{flat_map}
-use Rattle.base_model.specs.Told.{Appended}
+use Rattle.base_model.specs.Known.{Appended}
 use Rattle.reply_text.proofs.notes.write_pieces.Given as goal
 
 abbrev pub invariant-loop-piece : goal.invariant-loop-piece

@@ -4,8 +4,8 @@ use Rattle.dd_disk.specs.Disk.{LeavesOnly}
 use Rattle.dd_disk.specs.declared.disk.Disk.{Ghosts}
 use Rattle.dd_disk.proofs.Disks.{Reads}
 use Rattle.dd_disk.proofs.Steps.{leaves_reads, leaves_on, leaves_weaker}
-use Rattle.actor_parts.specs.declared.refusal.Refusal.{Refusal}
-use Rattle.actor_parts.specs.declared.refusal.Refusal.TheVariants.{Memory, TooLong, DiskWrite}
+use Rattle.refusals.specs.declared.refusal.Refusal.{Refusal}
+use Rattle.refusals.specs.declared.refusal.Refusal.TheVariants.{Memory, TooLong, DiskWrite}
 use Rattle.reply_text.specs.declared.ending.Ending.{Ending}
 use Rattle.reply_text.specs.declared.ending.Ending.TheVariants.{Words, Source, Sink, Refused}
 use Rattle.store_model.specs.Files.{Files, with_file}

@@ -2,9 +2,9 @@
 use Rattle.std.proofs.Common.{◌≡◌, ◌≢◌, inl, inr, ℕ, ◌≤◌, List, length, Some, None, sym, ◌∙◌, ap}
 use Rattle.sha2.specs.Sha256.{sha256}
 use Rattle.disk_format.specs.Cells.{Root, IsName}
-use Rattle.actor_parts.specs.declared.refusal.Why.TheVariants.{Digest, Field}
-use Rattle.actor_parts.specs.declared.refusal.Refusal.{Refusal}
-use Rattle.actor_parts.specs.declared.refusal.Refusal.TheVariants.{Memory, NoFile, BadName, DiskRead, Corrupt, Missing, Damaged}
+use Rattle.disk_format.specs.declared.why.Why.TheVariants.{Digest, Field}
+use Rattle.refusals.specs.declared.refusal.Refusal.{Refusal}
+use Rattle.refusals.specs.declared.refusal.Refusal.TheVariants.{Memory, NoFile, BadName, DiskRead, Corrupt, Missing, Damaged}
 use Rattle.dd_disk.specs.declared.disk.Disk.{Ghosts}
 use Rattle.dd_disk.proofs.Disks.{Saw, weaker}
 use Rattle.reply_text.specs.declared.ending.Ending.TheVariants.{Refused}

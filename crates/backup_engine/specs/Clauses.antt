@@ -6,9 +6,10 @@ use Rattle.base_model.specs.Bytes.{byte_at}
 use Rattle.base_model.specs.Known.{Known, KnownWith, Appended}
 use Rattle.dd_io.specs.Flow.{AppendedPart}
 use Rattle.disk_format.specs.Layout.{IsSlotCount, size_of}
-use Rattle.disk_format.specs.Cells.{FORMAT_GATE, Root, IsName}
-use Rattle.actor_parts.specs.declared.refusal.Refusal.{Refusal}
-use Rattle.actor_parts.specs.declared.refusal.Refusal.TheVariants.{Memory, TooLong, DiskRead, DiskWrite}
+use Rattle.disk_format.specs.Cells.{Root, IsName}
+use Rattle.disk_format.specs.declared.numbers.TheConstants.{FORMAT_GATE}
+use Rattle.refusals.specs.declared.refusal.Refusal.{Refusal}
+use Rattle.refusals.specs.declared.refusal.Refusal.TheVariants.{Memory, TooLong, DiskRead, DiskWrite}
 use Rattle.reply_text.specs.declared.ending.Ending.{Ending}
 use Rattle.reply_text.specs.declared.ending.Ending.TheVariants.{Words, Source, Sink, Refused}
 use Rattle.reply_text.specs.Text.{fault_line}

@@ -5,8 +5,8 @@ use Rattle.store_model.specs.Files.{Files, root_of}
 use Rattle.store_model.specs.Image.{StandsForFiles}
 use Rattle.recovery.specs.Formatting.{IsLeftByFormat, IsBlankOrFormatted, AreBlank}
 use Rattle.disk_format.specs.Layout.{IsSlotCount, size_of}
-use Rattle.disk_format.specs.Cells.{FORMAT_GATE}
-use Rattle.actor_parts.specs.declared.refusal.Refusal.TheVariants.{Corrupt, Missing, NotAStore, Version, Damaged}
+use Rattle.disk_format.specs.declared.numbers.TheConstants.{FORMAT_GATE}
+use Rattle.refusals.specs.declared.refusal.Refusal.TheVariants.{Corrupt, Missing, NotAStore, Version, Damaged}
 use Rattle.reply_text.specs.declared.ending.Ending.{Ending}
 use Rattle.reply_text.specs.declared.ending.Ending.TheVariants.{Refused}
 use Rattle.reply_text.specs.Text.{formatted_line, stored_line}

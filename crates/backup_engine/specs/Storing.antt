@@ -1,7 +1,7 @@
 -- Taking a source in.
 use Rattle.std.specs.Prelude.{◌≡◌, ◌<◌, List, ℕ, ◌++◌, length, Option, Some}
 use Rattle.base_model.specs.Known.{Known}
-use Rattle.actor_parts.specs.declared.refusal.Refusal.TheVariants.{Memory, TooLong}
+use Rattle.refusals.specs.declared.refusal.Refusal.TheVariants.{Memory, TooLong}
 use Rattle.reply_text.specs.declared.ending.Ending.{Ending}
 use Rattle.reply_text.specs.declared.ending.Ending.TheVariants.{Source, Refused}
 

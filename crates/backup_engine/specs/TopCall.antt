@@ -11,7 +11,7 @@
 use Rattle.std.specs.Prelude.{◌≡◌, ◌≢◌, ◌⊎◌, ℕ, List, false, Option, Some, None}
 use Rattle.base_model.specs.Bytes.{byte_at}
 use Rattle.base_model.specs.Known.{Known, KnownWith}
-use Rattle.disk_format.specs.Cells.{FORMAT_GATE}
+use Rattle.disk_format.specs.declared.numbers.TheConstants.{FORMAT_GATE}
 use Rattle.store_model.specs.Files.{Files, root_of}
 use Rattle.store_model.specs.Image.{StandsForFiles}
 use Rattle.recovery.specs.Formatting.{IsLeftByFormat, IsBlankOrFormatted, AreBlank}

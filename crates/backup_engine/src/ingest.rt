@@ -6,7 +6,7 @@ ghost use Rattle.base_model.specs.Shown.{Shown, IsLater};
 ghost use Rattle.store_model.specs.Files.{Files, root_of as file_root};
 ghost use Rattle.store_model.specs.Image.{StandsForFiles};
 ghost use Rattle.dd_disk.specs.Disk.{Only, LeavesOnly};
-ghost use Rattle.actor_parts.specs.declared.refusal.Refusal.TheVariants.{DiskWrite};
+ghost use Rattle.refusals.specs.declared.refusal.Refusal.TheVariants.{DiskWrite};
 ghost use Rattle.reply_text.specs.declared.ending.Ending.TheVariants.{Refused};
 ghost use Rattle.reply_text.specs.Text.{stored_line as stored_text};
 ghost use Rattle.backup_engine.specs.Line.{Ingest};
@@ -14,7 +14,7 @@ ghost use Rattle.backup_engine.specs.Doing.{IsHarmless};
 ghost use Rattle.backup_engine.specs.Clauses.{Ingests, IsLeftByIngest, IsKeptByIngest, IsGivenUp, MayStandFor, TakesIn, may_write};
 ghost use Rattle.backup_engine.specs.Storing.{IsSourceFault};
 
-use actor_parts::Refusal;
+use refusals::Refusal;
 use dd_disk::Disk;
 use dd_io::Source;
 use ingest_steps::{put_file, root_of};

@@ -6,7 +6,7 @@ ghost use Rattle.base_model.specs.Shown.{Shown, IsLater};
 ghost use Rattle.dd_disk.specs.Disk.{Only, LeavesOnly};
 ghost use Rattle.store_model.specs.Files.{Files};
 ghost use Rattle.store_model.specs.Image.{StandsForFiles};
-ghost use Rattle.actor_parts.specs.declared.refusal.Refusal.TheVariants.{DiskWrite};
+ghost use Rattle.refusals.specs.declared.refusal.Refusal.TheVariants.{DiskWrite};
 ghost use Rattle.reply_text.specs.declared.ending.Ending.TheVariants.{Refused};
 ghost use Rattle.reply_text.specs.Table.{status_of as table_status};
 ghost use Rattle.backup_engine.specs.Doing.{IsRightLine, IsDone, IsLeftBy, IsKeptBy, KeepsDisk, KeepsSource, KeepsFiles, CrashesTo, IsSynced, IsHarmless, size_made};

@@ -9,8 +9,8 @@ use Rattle.container_meta.specs.declared.fault.MetaFault.{MetaFault}
 use Rattle.container_meta.specs.declared.fault.MetaFault.TheVariants as meta
 use Rattle.container_meta.specs.Format.{entry_place}
 use Rattle.container_meta.specs.Reading.{digest_at, opening_checks, digest_checks, field_checks, end_checks, entry_checks, entry_at, entries_at, header_at}
-use Rattle.container_log.specs.declared.fault.Why.{Why}
-use Rattle.container_log.specs.declared.fault.Why.TheVariants.{Digest, Field}
+use Rattle.disk_format.specs.declared.why.Why.{Why}
+use Rattle.disk_format.specs.declared.why.Why.TheVariants.{Digest, Field}
 use Rattle.container_log.specs.Faults.{why_of, Differs}
 
 abbrev FaultDiffers : MetaFault → Type 0

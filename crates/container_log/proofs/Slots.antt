@@ -6,14 +6,15 @@ use Rattle.std.proofs.lemmas.List.{drop_all}
 use borrow.Rule.Slice.PartMut.{put_mid}
 use Rattle.base_model.specs.Bytes.{range, byte_at}
 use Rattle.base_model.proofs.Ranges.{range-join, range-one, byte-range}
-use Rattle.disk_format.specs.Cells.{CONTAINER_GATE}
+use Rattle.disk_format.specs.declared.numbers.TheConstants.{CONTAINER_GATE}
 use Rattle.disk_format.specs.Layout.{slot_at}
 use Rattle.container_meta.specs.declared.entry.Meta.{Meta}
 use Rattle.container_meta.specs.Spelling.{HeaderValue, IsHeader, header_spelling, front_spelling}
 use Rattle.container_log.specs.declared.fault.LogFault.{LogFault}
 use Rattle.container_log.specs.declared.fault.LogFault.TheVariants.{Memory, DiskRead, DiskWrite, Damaged, Corrupt}
 use Rattle.container_log.specs.Faults.{GivesHeader, IsReadFault, IsHeaderFault}
-use Rattle.container_log.specs.Slots.{HoldsSlot, GivesSlot}
+use Rattle.container_log.specs.Slots.{GivesSlot}
+use Rattle.store_model.specs.Slots.{HoldsSlot}
 
 -- the first byte of a part
 front_of : (at count : ℕ) (image : List ℕ) → 1 ≤ count → get_or (range at count image) 0 0 ≡ byte_at at image

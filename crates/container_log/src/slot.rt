@@ -3,11 +3,12 @@ ghost use Rattle.std.specs.Prelude.{◌≡◌, ◌+◌, ◌≤◌, Option, lengt
 ghost use Rattle.base_model.specs.Bytes.{range, byte_at};
 ghost use Rattle.base_model.specs.Fault.{Rose};
 ghost use Rattle.base_model.specs.Shown.{Shown, OnlyReads};
-ghost use Rattle.disk_format.specs.Cells.{CONTAINER_GATE};
+ghost use Rattle.disk_format.specs.declared.numbers.TheConstants.{CONTAINER_GATE};
 ghost use Rattle.disk_format.specs.Layout.{slot_at};
 ghost use Rattle.container_meta.specs.Spelling.{HeaderValue, IsHeader, view, header_spelling};
 ghost use Rattle.container_log.specs.Faults.{GivesHeader, IsReadFault, IsHeaderFault};
-ghost use Rattle.container_log.specs.Slots.{HoldsSlot, GivesSlot};
+ghost use Rattle.container_log.specs.Slots.{GivesSlot};
+ghost use Rattle.store_model.specs.Slots.{HoldsSlot};
 
 use crate::fault::LogFault;
 use crate::reading::{buffer, header_in};

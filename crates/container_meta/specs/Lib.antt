@@ -1,5 +1,6 @@
 pub mod Format
+pub mod Packed
+pub mod Places
+pub mod Reading
 pub mod Segments
 pub mod Spelling
-pub mod Packed
-pub mod Reading

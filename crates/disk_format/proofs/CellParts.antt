@@ -6,7 +6,8 @@ use Rattle.sha2.specs.Sha256.{sha256}
 use Rattle.sha2.proofs.Facts256.{length-sha256}
 use Rattle.base_model.specs.Bytes.{range, byte_at, zeros}
 use Rattle.base_model.proofs.Ranges.{length-zeros, range-join, range-one, range-whole, range-first, range-second}
-use Rattle.disk_format.specs.Cells.{sealed, format_fields, selector_fields, put_fields, put_cell, Root, RECORD_GATE}
+use Rattle.disk_format.specs.Cells.{sealed, format_fields, selector_fields, put_fields, put_cell, Root}
+use Rattle.disk_format.specs.declared.numbers.TheConstants.{RECORD_GATE}
 
 pub gate-sealed : (gate : ℕ) (fields : List ℕ) → byte_at 0 (sealed gate fields) ≡ gate
 unfolding sealed

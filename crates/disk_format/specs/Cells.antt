@@ -4,34 +4,22 @@ use Rattle.std.specs.Prelude.{◌≡◌, ℕ, ◌-◌, ◌^◌, ◌<◌, ◌≤�
 use Rattle.std.specs.Int.{w32, w64, to_be_bytes}
 use Rattle.base_model.specs.Bytes.{zeros}
 use Rattle.sha2.specs.Sha256.{sha256}
+use Rattle.disk_format.specs.declared.numbers.TheConstants.{FORMAT_GATE, SELECTOR_GATE, RECORD_GATE, VERSION, MOST_NAME, MOST_SEGMENT, MOST_FILE}
 
-abbrev pub FORMAT_GATE : ℕ
-FORMAT_GATE = 0xD5
-
-abbrev pub SELECTOR_GATE : ℕ
-SELECTOR_GATE = 0xB5
-
-abbrev pub RECORD_GATE : ℕ
-RECORD_GATE = 0xA5
-
--- of a container slot
-abbrev pub CONTAINER_GATE : ℕ
-CONTAINER_GATE = 0xC5
-
--- 479 bytes of fields behind a gate, and their digest
+-- 479 bytes of fields after a gate, and their digest
 unfoldable pub sealed : ℕ → List ℕ → List ℕ
 sealed gate fields = gate ∷ fields ++ sha256 fields
 
--- layout 1, and the number of slots
+-- the layout, and the number of slots
 unfoldable pub format_fields : ℕ → List ℕ
-format_fields slots = codes "DDFSIMG" ++ to_be_bytes w32 1 ++ to_be_bytes w32 slots ++ zeros 464
+format_fields slots = codes "DDFSIMG" ++ to_be_bytes w32 VERSION ++ to_be_bytes w32 slots ++ zeros 464
 
 abbrev pub format_cell : ℕ → List ℕ
 format_cell slots = sealed FORMAT_GATE (format_fields slots)
 
--- form 1, the half that it selects, and the last sequence number
+-- the form, the half that it selects, and the last sequence number
 unfoldable pub selector_fields : ℕ → ℕ → ℕ → List ℕ
-selector_fields generation half last = codes "DDFSSEL" ++ to_be_bytes w64 generation ++ to_be_bytes w32 1 ++ (half ∷ []) ++ to_be_bytes w64 last ++ zeros 451
+selector_fields generation half last = codes "DDFSSEL" ++ to_be_bytes w64 generation ++ to_be_bytes w32 VERSION ++ (half ∷ []) ++ to_be_bytes w64 last ++ zeros 451
 
 abbrev pub selector_cell : ℕ → ℕ → ℕ → List ℕ
 selector_cell generation half last = sealed SELECTOR_GATE (selector_fields generation half last)
@@ -45,7 +33,7 @@ pub record Root : Type 0 where
 -- 1 to 255 bytes from 0x21 to 0x7E
 pub record IsName (name : List ℕ) : Type 0 where
   pub not_empty : 1 ≤ length name
-  pub not_long : length name ≤ 255
+  pub not_long : length name ≤ MOST_NAME
   pub printable : All (λ byte. (0x21 ≤ byte) × (byte ≤ 0x7E)) name
 
 -- operation 1: the name has this root from that sequence number on
@@ -87,7 +75,7 @@ record_cell r = sealed RECORD_GATE (record_fields r)
 
 -- how long a file may be whose root is at a level: at level 0 it is one segment or empty, above it isn't empty
 abbrev pub is_root_length : ℕ → ℕ → Bool
-is_root_length level count = nat_le count (2 ^ 40) && (if level == 0 then nat_le count 16384 else nat_le 1 count)
+is_root_length level count = nat_le count MOST_FILE && (if level == 0 then nat_le count MOST_SEGMENT else nat_le 1 count)
 
 -- until files have trees, the root of each is at level 0
 abbrev pub is_root_level : ℕ → Bool

@@ -7,14 +7,16 @@ use Rattle.base_model.specs.Bytes.{range, byte_at}
 use Rattle.base_model.specs.Fault.{Rose}
 use Rattle.base_model.proofs.Ranges.{byte-range}
 use Rattle.base_model.proofs.Shown.{rose_since}
-use Rattle.disk_format.specs.Cells.{RECORD_GATE, RecordValue, IsRecord, record_cell}
+use Rattle.disk_format.specs.Cells.{RecordValue, IsRecord, record_cell}
+use Rattle.disk_format.specs.declared.numbers.TheConstants.{RECORD_GATE}
 use Rattle.disk_format.specs.Layout.{cell_at, half_cells}
 use Rattle.namespace.specs.Names.{IsTaken, names_with}
 use Rattle.journal_cells.specs.declared.fault.CellFault.{CellFault}
 use Rattle.journal_cells.specs.declared.fault.CellFault.TheVariants.{Memory, DiskRead, DiskWrite, Damaged, NotAStore, Version}
 use Rattle.journal_cells.specs.Faults.{Differs, IsFoundFault, IsCellFault}
 use Rattle.journal_cells.specs.Records.{Replay, nothing_yet, behind_record, record_in, replayed}
-use Rattle.journal_cells.specs.Journal.{StandFrom, HoldsRecords}
+use Rattle.store_model.specs.Journal.{HoldsRecords}
+use Rattle.store_model.specs.Journal.{StandFrom}
 use Rattle.journal_cells.specs.Scanning.{IsNext, IsNextFault, Leave, IsPart, IsWhole}
 use Rattle.journal_cells.proofs.Replays.{follow_push, stand_push, last_of_push, names_after_push, replayed_open, replayed_closed, replayed_fault, replayed_full, gate_stands}
 

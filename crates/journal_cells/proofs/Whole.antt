@@ -14,7 +14,11 @@ use Rattle.journal_cells.specs.declared.fault.CellFault.TheVariants.{Memory, Dis
 use Rattle.journal_cells.specs.Faults.{Differs, IsCellFault}
 use Rattle.journal_cells.specs.Heads.{selectors_in}
 use Rattle.journal_cells.specs.Records.{Replay, nothing_yet, replayed}
-use Rattle.journal_cells.specs.Journal.{HoldsSelector, IsOlder, HoldsJournal, IsScanned, IsTold, journal_in, last_of}
+use Rattle.journal_cells.specs.Journal.{IsScanned, IsTold, journal_in}
+use Rattle.store_model.specs.Journal.{last_of}
+use Rattle.store_model.specs.Journal.{HoldsJournal}
+use Rattle.store_model.specs.Journal.{IsOlder}
+use Rattle.store_model.specs.Journal.{HoldsSelector}
 use Rattle.journal_cells.specs.Scanning.{opened, IsWhole}
 use Rattle.journal_cells.proofs.Outcomes.{Unanswered}
 use Rattle.journal_cells.proofs.Replays.{replay_of, holds_again, replay_count, replay_previous, replay_names}

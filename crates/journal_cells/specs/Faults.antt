@@ -1,6 +1,6 @@
 -- When a call answers a fault.
 use Rattle.std.specs.Prelude.{◌≡◌, ◌≢◌, Result, Ok, Err}
-use Rattle.journal_cells.specs.declared.fault.Why.TheVariants.{Digest}
+use Rattle.disk_format.specs.declared.why.Why.TheVariants.{Digest}
 use Rattle.journal_cells.specs.declared.fault.CellFault.{CellFault}
 use Rattle.journal_cells.specs.declared.fault.CellFault.TheVariants.{Memory, DiskRead, DiskWrite, Damaged}
 

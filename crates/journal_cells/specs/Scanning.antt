@@ -2,11 +2,16 @@
 use Rattle.std.specs.Prelude.{◌≡◌, ◌≢◌, ◌<◌, ◌≤◌, ◌-◌, ℕ, List, length, max, Option, Some, None, Ok, Err}
 use Rattle.std.specs.FinMap as finite
 use Rattle.base_model.specs.Bytes.{range, byte_at}
-use Rattle.disk_format.specs.Cells.{RECORD_GATE, RecordValue, SelectorValue, IsRecord, record_cell}
+use Rattle.disk_format.specs.Cells.{RecordValue, SelectorValue, IsRecord, record_cell}
+use Rattle.disk_format.specs.declared.numbers.TheConstants.{RECORD_GATE}
 use Rattle.disk_format.specs.Layout.{cell_at, half_cells}
 use Rattle.namespace.specs.Names.{IsTaken, names_after}
 use Rattle.journal_cells.specs.declared.fault.CellFault.{CellFault}
-use Rattle.journal_cells.specs.Journal.{JournalValue, Follow, StandFrom, HoldsRecords, last_of}
+use Rattle.journal_cells.specs.Journal.{JournalValue}
+use Rattle.store_model.specs.Journal.{last_of}
+use Rattle.store_model.specs.Journal.{HoldsRecords}
+use Rattle.store_model.specs.Journal.{StandFrom}
+use Rattle.store_model.specs.Journal.{Follow}
 use Rattle.journal_cells.specs.declared.scanning.Replayed.{Replayed}
 use Rattle.journal_cells.specs.Records.{Replay, nothing_yet, record_in, replayed}
 

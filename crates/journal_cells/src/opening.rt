@@ -8,7 +8,8 @@ ghost use Rattle.disk_format.specs.Layout.{IsSlotCount, least_size, selector_at}
 ghost use Rattle.journal_cells.specs.declared.fault.CellFault.TheVariants.{DiskRead};
 ghost use Rattle.journal_cells.specs.Faults.{Differs, Gives, IsCellFault};
 ghost use Rattle.journal_cells.specs.Heads.{format_in as format_read, selectors_in as selectors_read};
-ghost use Rattle.journal_cells.specs.Journal.{HoldsSelector, IsOlder};
+ghost use Rattle.store_model.specs.Journal.{IsOlder};
+ghost use Rattle.store_model.specs.Journal.{HoldsSelector};
 
 use crate::device::read_at;
 use crate::fault::CellFault;

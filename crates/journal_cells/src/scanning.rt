@@ -7,7 +7,9 @@ ghost use Rattle.disk_format.specs.Layout.{least_size, half_cells};
 ghost use Rattle.namespace.specs.Names.{IsTaken, record_value};
 ghost use Rattle.journal_cells.specs.Faults.{Differs, Gives, IsCellFault};
 ghost use Rattle.journal_cells.specs.Records.{nothing_yet, behind_record, replayed};
-ghost use Rattle.journal_cells.specs.Journal.{HoldsRecords, HoldsJournal, IsScanned, IsTold, journal_in};
+ghost use Rattle.journal_cells.specs.Journal.{IsScanned, IsTold, journal_in};
+ghost use Rattle.store_model.specs.Journal.{HoldsJournal};
+ghost use Rattle.store_model.specs.Journal.{HoldsRecords};
 ghost use Rattle.journal_cells.specs.Scanning.{replay, opened, IsNext, IsNextFault, IsWhole};
 
 use crate::device::read_at;

@@ -2,9 +2,9 @@
 use Rattle.std.specs.Prelude.{◌≡◌, ℕ, List, None}
 use Rattle.std.specs.FinMap as finite
 use Rattle.disk_format.specs.Cells.{IsName}
-use Rattle.actor_parts.specs.declared.refusal.Refusal.{Refusal}
-use Rattle.actor_parts.specs.declared.refusal.Refusal.TheVariants.{Memory, NoFile, BadName, DiskRead, Corrupt}
-use Rattle.segment_index.specs.declared.place.Place.{Place}
+use Rattle.refusals.specs.declared.refusal.Refusal.{Refusal}
+use Rattle.refusals.specs.declared.refusal.Refusal.TheVariants.{Memory, NoFile, BadName, DiskRead, Corrupt}
+use Rattle.container_meta.specs.declared.place.Place.{Place}
 use Rattle.store_model.specs.Image.{Store, names_of, bytes_at}
 use Rattle.recovery.specs.declared.opening.Opened.{Opened}
 use Rattle.recovery.specs.State.{KeepsNames}

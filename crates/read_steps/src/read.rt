@@ -11,7 +11,7 @@ ghost use Rattle.recovery.specs.Opening.{Keeps};
 ghost use Rattle.recovery.specs.State.{IsState, KeepsNames};
 ghost use Rattle.read_steps.specs.Reading.{IsReadFault, IsNameRefusal, IsOtherDigest};
 
-use actor_parts::{Refusal, Why};
+use refusals::{Refusal, Why};
 use container_log::{LogFault, Spot, read_segment};
 use dd_disk::Disk;
 use namespace::{NameFault, Root};

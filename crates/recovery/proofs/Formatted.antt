@@ -5,7 +5,8 @@ use Rattle.base_model.specs.Bytes.{range, written, byte_at, zeros}
 use Rattle.base_model.specs.Known.{KnownWith}
 use Rattle.base_model.proofs.Ranges.{length-written, range-written, range-written-after, length-zeros, byte-range}
 use Rattle.disk_format.specs.Layout.{IsSlotCount, size_of, slot_at, cell_at}
-use Rattle.disk_format.specs.Cells.{FORMAT_GATE, sealed, format_fields, selector_fields, format_cell, selector_cell}
+use Rattle.disk_format.specs.Cells.{sealed, format_fields, selector_fields, format_cell, selector_cell}
+use Rattle.disk_format.specs.declared.numbers.TheConstants.{FORMAT_GATE}
 use Rattle.disk_format.proofs.CellParts.{length-sealed, length-format_fields, length-selector_fields}
 use Rattle.dd_disk.specs.Gated.{TornFrom}
 use Rattle.store_model.specs.Image.{IsBlankOf}

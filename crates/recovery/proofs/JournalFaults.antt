@@ -4,12 +4,14 @@ use Rattle.std.specs.Prelude.{nat_lt}
 use Rattle.base_model.specs.Bytes.{range, byte_at}
 use Rattle.base_model.specs.Checks.{behind, passes, ◌>>=◌}
 use Rattle.base_model.proofs.Checks.{EachFault, EachFault-append, behind_err, step_err}
-use Rattle.disk_format.specs.Cells.{RECORD_GATE, SELECTOR_GATE, SelectorValue}
+use Rattle.disk_format.specs.Cells.{SelectorValue}
+use Rattle.disk_format.specs.declared.numbers.TheConstants.{RECORD_GATE}
+use Rattle.disk_format.specs.declared.numbers.TheConstants.{SELECTOR_GATE}
 use Rattle.disk_format.specs.Layout.{selector_at, cell_at, half_cells}
 use Rattle.namespace.specs.Names.{NameMap}
 use Rattle.journal_cells.specs.declared.fault.CellFault.{CellFault}
 use Rattle.journal_cells.specs.declared.fault.CellFault.TheVariants.{Damaged, NotAStore}
-use Rattle.journal_cells.specs.declared.fault.Why.TheVariants.{Field}
+use Rattle.disk_format.specs.declared.why.Why.TheVariants.{Field}
 use Rattle.journal_cells.specs.Checks.{no_bad_byte}
 use Rattle.journal_cells.specs.Heads.{selector_checks, selector_value, selector_in, chosen, selectors_in}
 use Rattle.journal_cells.specs.Journal.{journal_in}

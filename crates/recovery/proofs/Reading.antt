@@ -5,15 +5,15 @@ use Rattle.base_model.specs.Bytes.{range, byte_at}
 use Rattle.base_model.specs.Fault.{Rose}
 use Rattle.base_model.proofs.Shown.{rose_since}
 use Rattle.base_model.proofs.Ranges.{byte-range}
-use Rattle.disk_format.specs.Cells.{CONTAINER_GATE}
+use Rattle.disk_format.specs.declared.numbers.TheConstants.{CONTAINER_GATE}
 use Rattle.disk_format.specs.Layout.{slot_at}
 use Rattle.container_meta.specs.Spelling.{HeaderValue, IsHeader, front_spelling, header_spelling}
-use Rattle.container_log.specs.Slots.{HoldsSlot}
+use Rattle.store_model.specs.Slots.{HoldsSlot}
 use Rattle.dd_disk.specs.declared.disk.Disk.{Ghosts}
 use Rattle.dd_disk.proofs.Disks.{Saw, Reads, always, weaker, both}
-use Rattle.actor_parts.specs.declared.refusal.Refusal.{Refusal}
-use Rattle.actor_parts.specs.declared.refusal.Refusal.TheVariants.{Memory, DiskRead, Damaged}
-use Rattle.actor_parts.specs.declared.refusal.Why.TheVariants.{Field}
+use Rattle.refusals.specs.declared.refusal.Refusal.{Refusal}
+use Rattle.refusals.specs.declared.refusal.Refusal.TheVariants.{Memory, DiskRead, Damaged}
+use Rattle.disk_format.specs.declared.why.Why.TheVariants.{Field}
 use Rattle.store_model.specs.Slots.{HoldSlots, AreHeaders, IsFresh, DifferentIds}
 use Rattle.recovery.specs.declared.slots.Containers.{Containers}
 use Rattle.recovery.specs.Slots.{AreTold, AreSlots, ArePartOf, Gives, MayFollow, Unanswered, BreaksHeader, IsSlotDamage, IsSlotRefusal, IsSlotsRefusal}

@@ -15,9 +15,9 @@ use Rattle.journal_cells.specs.Faults.{Differs, IsCellFault}
 use Rattle.journal_cells.specs.Faults as cells
 use Rattle.journal_cells.specs.Heads.{format_in}
 use Rattle.journal_cells.specs.Journal.{JournalValue, IsScanned, IsTold, journal_in}
-use Rattle.actor_parts.specs.declared.refusal.Why.{Why}
-use Rattle.actor_parts.specs.declared.refusal.Refusal.{Refusal}
-use Rattle.actor_parts.specs.declared.refusal.Refusal.TheVariants.{Memory, DiskRead, DiskWrite, Damaged, WrongSize}
+use Rattle.disk_format.specs.declared.why.Why.{Why}
+use Rattle.refusals.specs.declared.refusal.Refusal.{Refusal}
+use Rattle.refusals.specs.declared.refusal.Refusal.TheVariants.{Memory, DiskRead, DiskWrite, Damaged, WrongSize}
 use Rattle.store_model.specs.Image.{Store}
 use Rattle.recovery.specs.declared.opening.Opened.{Opened}
 use Rattle.recovery.specs.Slots.{AreSlots, AreTold, IsDamagedSlot, IsSlotsRefusal}

@@ -4,9 +4,10 @@ use Rattle.base_model.specs.Bytes.{written, byte_at, zeros}
 use Rattle.base_model.specs.Known.{Known, KnownWith}
 use Rattle.dd_disk.specs.Disk.{LeavesOnly}
 use Rattle.disk_format.specs.Layout.{size_of, slot_at}
-use Rattle.disk_format.specs.Cells.{FORMAT_GATE, selector_cell}
-use Rattle.actor_parts.specs.declared.refusal.Refusal.{Refusal}
-use Rattle.actor_parts.specs.declared.refusal.Refusal.TheVariants.{Memory, DiskRead, DiskWrite, AlreadyStore, WrongSize}
+use Rattle.disk_format.specs.Cells.{selector_cell}
+use Rattle.disk_format.specs.declared.numbers.TheConstants.{FORMAT_GATE}
+use Rattle.refusals.specs.declared.refusal.Refusal.{Refusal}
+use Rattle.refusals.specs.declared.refusal.Refusal.TheVariants.{Memory, DiskRead, DiskWrite, AlreadyStore, WrongSize}
 use Rattle.store_model.specs.Image.{IsBlankOf}
 use Rattle.store_model.specs.Commands.{IsFormatted}
 

@@ -9,7 +9,7 @@ ghost use Rattle.store_model.specs.Image.{Store, Encodes, HasFormat};
 ghost use Rattle.recovery.specs.Opening.{Answers, Keeps, IsSized, IsFound, IsOpened, Opens, IsBeginRefusal, IsOpenRefusal, cell_why, cell_refusal};
 
 use crate::slots::{Containers, read_slots};
-use actor_parts::{Refusal, Why};
+use refusals::{Refusal, Why};
 use dd_disk::{Disk, DiskFault, sync_all};
 use journal_cells::{CellFault, Journal, Why as CellWhy, scan, slots_of};
 use namespace::Names;

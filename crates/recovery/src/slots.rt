@@ -7,10 +7,10 @@ ghost use Rattle.store_model.specs.Slots.{HoldSlots, AreHeaders, IsFresh, Differ
 ghost use Rattle.base_model.specs.Fault.{Rose};
 ghost use Rattle.base_model.specs.Shown.{Shown, OnlyReads};
 ghost use Rattle.disk_format.specs.Layout.{IsSlotCount, size_of, slot_at};
-ghost use Rattle.container_log.specs.Slots.{HoldsSlot};
+ghost use Rattle.store_model.specs.Slots.{HoldsSlot};
 ghost use Rattle.recovery.specs.Slots.{AreTold, IsFirstFree, ArePart, AreSlots, Gives, MayFollow, Unanswered, BreaksHeader, IsSlotDamage, IsSlotRefusal, IsSlotsRefusal, is_newer, why_of as why_in};
 
-use actor_parts::{Refusal, Why};
+use refusals::{Refusal, Why};
 use container_log::{LogFault, Why as LogWhy, read_slot};
 use container_meta::{Entry, Meta};
 use dd_disk::Disk;

@@ -3,7 +3,7 @@ use Rattle.std.proofs.Common.{◌≡◌, ℕ, List, [], ◌∷◌, ◌++◌, app
 use Rattle.hex.specs.Hex.{encode_lower}
 use Rattle.base_model.specs.Known.{Appended}
 use Rattle.dd_io.specs.Flow.{AppendedPart}
-use Rattle.actor_parts.specs.declared.refusal.Refusal.TheVariants.{Corrupt, Missing, NotAStore, Version, WrongSize}
+use Rattle.refusals.specs.declared.refusal.Refusal.TheVariants.{Corrupt, Missing, NotAStore, Version, WrongSize}
 use Rattle.reply_text.specs.declared.ending.Ending.TheVariants.{Refused}
 use Rattle.reply_text.specs.Text.{fault_line, ending_text, refusal_text}
 

@@ -2,12 +2,12 @@
 use Rattle.std.specs.Prelude.{ℕ, List, [], ◌∷◌, ◌++◌, codes, decimal}
 use Rattle.hex.specs.Hex.{encode_lower}
 use Rattle.disk_format.specs.Cells.{Root}
-use Rattle.actor_parts.specs.declared.refusal.Difference.{Difference}
-use Rattle.actor_parts.specs.declared.refusal.Difference.TheVariants.{Length}
-use Rattle.actor_parts.specs.declared.refusal.Why.{Why}
-use Rattle.actor_parts.specs.declared.refusal.Why.TheVariants.{Digest, Field}
-use Rattle.actor_parts.specs.declared.refusal.Refusal.{Refusal}
-use Rattle.actor_parts.specs.declared.refusal.Refusal.TheVariants.{Memory, NoFile, BadName, TooMany, TooLong, Full, Clash, DiskRead, DiskWrite, Corrupt, Missing, Numbers, NotAStore, Version, Damaged, AlreadyStore, WrongSize}
+use Rattle.refusals.specs.declared.refusal.Difference.{Difference}
+use Rattle.refusals.specs.declared.refusal.Difference.TheVariants.{Length}
+use Rattle.disk_format.specs.declared.why.Why.{Why}
+use Rattle.disk_format.specs.declared.why.Why.TheVariants.{Digest, Field}
+use Rattle.refusals.specs.declared.refusal.Refusal.{Refusal}
+use Rattle.refusals.specs.declared.refusal.Refusal.TheVariants.{Memory, NoFile, BadName, TooMany, TooLong, Full, Clash, DiskRead, DiskWrite, Corrupt, Missing, Numbers, NotAStore, Version, Damaged, AlreadyStore, WrongSize}
 use Rattle.reply_text.specs.declared.ending.Ending.{Ending}
 use Rattle.reply_text.specs.declared.ending.Ending.TheVariants.{Words, Source, Sink, Refused}
 

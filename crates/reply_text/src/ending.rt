@@ -1,9 +1,9 @@
 //! How a command that was not done ended.
 ghost use Rattle.std.specs.Prelude.{◌≡◌};
-ghost use Rattle.actor_parts.specs.declared.refusal.Refusal.TheVariants.{Memory};
+ghost use Rattle.refusals.specs.declared.refusal.Refusal.TheVariants.{Memory};
 ghost use Rattle.reply_text.specs.declared.ending.Ending.TheVariants.{Refused};
 
-use actor_parts::Refusal;
+use refusals::Refusal;
 use std::alloc::{AllocError, AllocFailed};
 
 /// Why a command was not done.

@@ -5,14 +5,14 @@ ghost use Rattle.hex.specs.Hex.{encode_lower};
 ghost use Rattle.base_model.specs.Fault.{HasCause};
 ghost use Rattle.base_model.specs.Known.{Appended};
 ghost use Rattle.dd_io.specs.Flow.{AppendedPart};
-ghost use Rattle.actor_parts.specs.declared.refusal.Difference.TheVariants.{Length};
-ghost use Rattle.actor_parts.specs.declared.refusal.Why.TheVariants.{Digest, Field};
+ghost use Rattle.refusals.specs.declared.refusal.Difference.TheVariants.{Length};
+ghost use Rattle.disk_format.specs.declared.why.Why.TheVariants.{Digest, Field};
 ghost use Rattle.reply_text.specs.declared.ending.Ending.TheVariants.{Refused};
-ghost use Rattle.actor_parts.specs.declared.refusal.Refusal.TheVariants.{Full, Clash, Corrupt, Missing, NotAStore, Version, Damaged, WrongSize};
+ghost use Rattle.refusals.specs.declared.refusal.Refusal.TheVariants.{Full, Clash, Corrupt, Missing, NotAStore, Version, Damaged, WrongSize};
 ghost use Rattle.reply_text.specs.Text.{fault_line};
 
 use crate::ending::Ending;
-use actor_parts::{Difference, Refusal, Why};
+use refusals::{Difference, Refusal, Why};
 use dd_io::{Sink, SinkFault};
 use itoa::Buffer;
 

@@ -3,7 +3,7 @@ ghost use Rattle.std.specs.Prelude.{◌≡◌};
 ghost use Rattle.reply_text.specs.Table.{status_of, status_of_refusal};
 
 use crate::ending::Ending;
-use actor_parts::Refusal;
+use refusals::Refusal;
 
 /// The exit status of a command that ended so.
 pub fn status_of(ending: &Ending) -> u8

@@ -1,6 +1,6 @@
 -- Why an index doesn't answer, or isn't changed (docs/MODEL.md, 'The index').
 use Rattle.std.specs.Prelude.{ℕ}
-use Rattle.segment_index.specs.declared.fault.Why.{Why}
+use Rattle.disk_format.specs.declared.why.Why.{Why}
 use Rattle.segment_index.specs.declared.fault.IndexFault.{IndexFault}
 use Rattle.segment_index.specs.declared.fault.IndexFault.TheVariants.{Memory, DiskRead, DiskWrite, Damaged}
 

@@ -6,11 +6,8 @@ use Rattle.std.specs.Cmp.Lexicographic.{slice_cmp}
 use Rattle.std.specs.FinMap as finite
 use Rattle.base_model.specs.Bytes.{byte_at}
 use Rattle.disk_format.specs.Layout.{size_of}
-use Rattle.segment_index.specs.declared.place.Place.{Place}
-
--- from keys, in the order of their bytes, to places
-abbrev pub PlaceMap : Type 0
-PlaceMap = finite.FinMap (slice_cmp nat_cmp) Place
+use Rattle.container_meta.specs.declared.place.Place.{Place}
+use Rattle.container_meta.specs.Places.{PlaceMap}
 
 abbrev pub coded_place : Coded Place
 coded_place =

@@ -4,14 +4,15 @@ ghost use Rattle.std.specs.FinMap as finite;
 ghost use Rattle.base_model.specs.Fault.{Rose};
 ghost use Rattle.base_model.specs.Shown.{Shown, OnlyReads, IsLater};
 ghost use Rattle.disk_format.specs.Layout.{size_of, slot_at};
-ghost use Rattle.segment_index.specs.Places.{PlaceMap, IfTold, HasKind, IsPlace};
+ghost use Rattle.segment_index.specs.Places.{IfTold, HasKind, IsPlace};
+ghost use Rattle.container_meta.specs.Places.{PlaceMap};
 ghost use Rattle.segment_index.specs.Changes.{SameBefore, SameFrom, Same, ChangesBy};
 ghost use Rattle.segment_index.specs.Faults.{IsGetFault, IsPutFault, IsRemoveFault};
-ghost use Rattle.segment_index.specs.declared.fault.Why.{Why};
+ghost use Rattle.disk_format.specs.declared.why.Why.{Why};
 ghost use Rattle.segment_index.specs.declared.fault.IndexFault.TheVariants.{Memory};
 
-use crate::fault::{IndexFault, Why};
-use crate::place::{Key, Place};
+use crate::fault::IndexFault;
+use container_meta::{Key, Place};
 use dd_disk::Disk;
 
 /// From keys to places. Each call is lent the disk, the same one each time, and an index may keep its map there, behind

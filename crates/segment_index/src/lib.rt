@@ -6,9 +6,8 @@
 mod fault;
 mod index;
 mod map_index;
-mod place;
 
-pub use fault::{IndexFault, Why};
+pub use fault::IndexFault;
 pub use index::Index;
 pub use map_index::MapIndex;
-pub use place::{Key, Place};
+pub use container_meta::{Key, Place};

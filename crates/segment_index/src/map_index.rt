@@ -1,11 +1,12 @@
 //! An index in memory.
 ghost use Rattle.std.specs.Prelude.{◌≡◌, Some, refl, OnOk, OnErr};
 ghost use Rattle.std.specs.FinMap as finite;
-ghost use Rattle.segment_index.specs.Places.{PlaceMap, coded_places};
+ghost use Rattle.segment_index.specs.Places.{coded_places};
+ghost use Rattle.container_meta.specs.Places.{PlaceMap};
 
 use crate::fault::IndexFault;
 use crate::index::Index;
-use crate::place::{Key, Place};
+use container_meta::{Key, Place};
 use dd_disk::Disk;
 use std::alloc::{AllocError, Global};
 use std::collections::BTreeMap;
@@ -19,7 +20,8 @@ pub struct MapIndex {
 
 impl Model for MapIndex {
     ghost use Rattle.std.specs.FinMap as finite;
-    ghost use Rattle.segment_index.specs.Places.{PlaceMap, coded_places};
+    ghost use Rattle.segment_index.specs.Places.{coded_places};
+    ghost use Rattle.container_meta.specs.Places.{PlaceMap};
 
     ghost Value = { PlaceMap };
 

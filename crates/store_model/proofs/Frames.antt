@@ -6,8 +6,12 @@ use Rattle.base_model.specs.Bytes.{range, byte_at}
 use Rattle.disk_format.specs.Cells.{RecordValue, SelectorValue}
 use Rattle.disk_format.specs.Layout.{slot_at, data_at, selector_at, cell_at, half_cells}
 use Rattle.container_meta.specs.Spelling.{HeaderValue}
-use Rattle.container_log.specs.Slots.{HoldsSlot}
-use Rattle.journal_cells.specs.Journal.{HoldsSelector, IsOlder, StandFrom, HoldsJournal, ClosedFrom}
+use Rattle.store_model.specs.Slots.{HoldsSlot}
+use Rattle.store_model.specs.Journal.{ClosedFrom}
+use Rattle.store_model.specs.Journal.{HoldsJournal}
+use Rattle.store_model.specs.Journal.{StandFrom}
+use Rattle.store_model.specs.Journal.{IsOlder}
+use Rattle.store_model.specs.Journal.{HoldsSelector}
 use Rattle.dd_disk.proofs.Outside.{SameOutside, byte_before, byte_behind}
 use Rattle.store_model.specs.Image.{HasFormat}
 

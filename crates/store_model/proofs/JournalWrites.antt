@@ -5,14 +5,19 @@ use Rattle.std.specs.FinMap as finite
 use Rattle.std.specs.List.{AllByRecursion}
 use Rattle.sha2.specs.Sha256.{sha256}
 use Rattle.base_model.specs.Bytes.{range, byte_at}
-use Rattle.disk_format.specs.Cells.{RecordValue, SelectorValue, RECORD_GATE}
+use Rattle.disk_format.specs.Cells.{RecordValue, SelectorValue}
+use Rattle.disk_format.specs.declared.numbers.TheConstants.{RECORD_GATE}
 use Rattle.disk_format.specs.Layout.{slot_at, data_at, selector_at, cell_at}
 use Rattle.container_meta.specs.declared.entry.Entry.{Entry}
 use Rattle.container_meta.specs.Spelling.{HeaderValue}
-use Rattle.container_log.specs.Slots.{HoldsSlot}
+use Rattle.store_model.specs.Slots.{HoldsSlot}
 use Rattle.namespace.specs.declared.record.Named.{Named}
 use Rattle.namespace.specs.Names.{NameMap}
-use Rattle.journal_cells.specs.Journal.{HoldsSelector, IsOlder, StandFrom, HoldsRecords, ClosedFrom}
+use Rattle.store_model.specs.Journal.{ClosedFrom}
+use Rattle.store_model.specs.Journal.{HoldsRecords}
+use Rattle.store_model.specs.Journal.{StandFrom}
+use Rattle.store_model.specs.Journal.{IsOlder}
+use Rattle.store_model.specs.Journal.{HoldsSelector}
 use Rattle.store_model.specs.Files.{Files}
 use Rattle.store_model.specs.Slots.{HoldSlots}
 use Rattle.store_model.specs.Image.{HasFormat, AreCopies, HasCopy, IsFileOf, AreFilesOf}

@@ -2,8 +2,8 @@
 use Rattle.std.proofs.Common.{◌≡◌, ℕ, ◌+◌, ◌≤◌, List, Option, Some, None, option_map, refl, sym, ◌∙◌, ap, arith}
 use Rattle.std.specs.FinMap as finite
 use Rattle.disk_format.specs.Layout.{data_at}
-use Rattle.segment_index.specs.declared.place.Place.{Place}
-use Rattle.segment_index.specs.Places.{PlaceMap}
+use Rattle.container_meta.specs.declared.place.Place.{Place}
+use Rattle.container_meta.specs.Places.{PlaceMap}
 use Rattle.store_model.specs.Slots.{Copy, IsIndexOf}
 use Rattle.store_model.specs.Image.{Store, IsSound}
 use Rattle.store_model.specs.Commands.{copy_of}

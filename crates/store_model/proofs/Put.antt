@@ -12,12 +12,15 @@ use Rattle.base_model.specs.Bytes.{written, byte_at}
 use Rattle.base_model.proofs.Checks.{both_true}
 use Rattle.dd_disk.specs.Gated.{TornFrom}
 use Rattle.disk_format.specs.Layout.{cell_at, half_cells}
-use Rattle.disk_format.specs.Cells.{RECORD_GATE, RecordValue, IsRoot, IsRecord, record_cell, record_fields}
+use Rattle.disk_format.specs.Cells.{RecordValue, IsRoot, IsRecord, record_cell, record_fields}
+use Rattle.disk_format.specs.declared.numbers.TheConstants.{RECORD_GATE}
 use Rattle.disk_format.proofs.CellParts.{gate-sealed}
 use Rattle.container_meta.specs.Spelling.{HeaderValue}
 use Rattle.namespace.specs.declared.record.Named.{Named}
 use Rattle.namespace.specs.Names.{NameMap, IsTaken}
-use Rattle.journal_cells.specs.Journal.{HoldsRecords, ClosedFrom, last_of}
+use Rattle.store_model.specs.Journal.{ClosedFrom}
+use Rattle.store_model.specs.Journal.{last_of}
+use Rattle.store_model.specs.Journal.{HoldsRecords}
 use Rattle.journal_cells.proofs.Appended.{kept, length_record_cell}
 use Rattle.journal_cells.proofs.Replays.{last_of_push, names_after_push}
 use Rattle.store_model.specs.Files.{Files, with_file, root_of}

@@ -10,7 +10,7 @@ use Rattle.disk_format.specs.Cells.Change.{Put, Delete}
 use Rattle.container_meta.specs.Spelling.{HeaderValue}
 use Rattle.namespace.specs.declared.record.Named.{Named}
 use Rattle.namespace.specs.Names.{NameMap, names_with, names_changed, names_after}
-use Rattle.journal_cells.specs.Journal.{Follow}
+use Rattle.store_model.specs.Journal.{Follow}
 use Rattle.store_model.specs.Files.{Files, root_of}
 use Rattle.store_model.specs.Slots.{Copy}
 use Rattle.store_model.specs.Image.{Store, Encodes, IsSound, IsStoreOf, IsFileOf, HasCopy, bytes_at}

@@ -4,10 +4,10 @@ use Rattle.std.specs.FinMap as finite
 use Rattle.sha2.specs.Sha256.{sha256}
 use Rattle.base_model.specs.Bytes.{range, written, byte_at}
 use Rattle.base_model.proofs.Ranges.{range-written, byte-range, range-range}
-use Rattle.disk_format.specs.Cells.{CONTAINER_GATE}
+use Rattle.disk_format.specs.declared.numbers.TheConstants.{CONTAINER_GATE}
 use Rattle.disk_format.specs.Layout.{slot_at, data_at}
 use Rattle.container_meta.specs.Spelling.{HeaderValue, header_spelling, front_spelling}
-use Rattle.container_log.specs.Slots.{HoldsSlot}
+use Rattle.store_model.specs.Slots.{HoldsSlot}
 use Rattle.namespace.specs.declared.record.Named.{Named}
 use Rattle.dd_disk.specs.Gated.{TornFrom}
 use Rattle.dd_disk.proofs.Outside.{SameOutside, same_written, same_cell, cell_cases}

@@ -7,10 +7,10 @@ use Rattle.disk_format.specs.Layout.{data_at, half_cells}
 use Rattle.disk_format.specs.Cells.{Root, RecordValue, IsName}
 use Rattle.disk_format.specs.Cells.Change.{Put}
 use Rattle.namespace.specs.Names.{HasRoom, IsFull}
-use Rattle.actor_parts.specs.declared.refusal.Why.TheVariants.{Digest, Field}
-use Rattle.actor_parts.specs.declared.refusal.Difference.TheVariants.{Length}
-use Rattle.actor_parts.specs.declared.refusal.Refusal.{Refusal}
-use Rattle.actor_parts.specs.declared.refusal.Refusal.TheVariants.{NoFile, BadName, TooMany, Full, Clash, Corrupt, Missing, Numbers, Damaged}
+use Rattle.disk_format.specs.declared.why.Why.TheVariants.{Digest, Field}
+use Rattle.refusals.specs.declared.refusal.Difference.TheVariants.{Length}
+use Rattle.refusals.specs.declared.refusal.Refusal.{Refusal}
+use Rattle.refusals.specs.declared.refusal.Refusal.TheVariants.{NoFile, BadName, TooMany, Full, Clash, Corrupt, Missing, Numbers, Damaged}
 use Rattle.store_model.specs.Files.{no_files, root_of}
 use Rattle.store_model.specs.Slots.{Copy, newest, one_segment, last_id, free_slots, first_free, with_slot}
 use Rattle.store_model.specs.Image.{Store, Encodes, IsStoreOf, names_of, last_sequence, bytes_at}

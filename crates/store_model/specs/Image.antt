@@ -5,12 +5,16 @@ use Rattle.std.specs.List.{AllByRecursion}
 use Rattle.sha2.specs.Sha256.{sha256}
 use Rattle.base_model.specs.Bytes.{range, byte_at, key_of}
 use Rattle.disk_format.specs.Layout.{IsSlotCount, size_of, data_at, half_cells}
-use Rattle.disk_format.specs.Cells.{FORMAT_GATE, RecordValue, SelectorValue, IsSelector, format_cell}
+use Rattle.disk_format.specs.Cells.{RecordValue, SelectorValue, IsSelector, format_cell}
+use Rattle.disk_format.specs.declared.numbers.TheConstants.{FORMAT_GATE}
 use Rattle.container_meta.specs.Spelling.{HeaderValue}
 use Rattle.namespace.specs.declared.record.Named.{Named}
 use Rattle.namespace.specs.Names.{NameMap, names_after}
-use Rattle.journal_cells.specs.Journal.{HoldsJournal, Follow, ClosedFrom, last_of}
-use Rattle.segment_index.specs.declared.place.Place.{Place}
+use Rattle.store_model.specs.Journal.{ClosedFrom}
+use Rattle.store_model.specs.Journal.{last_of}
+use Rattle.store_model.specs.Journal.{HoldsJournal}
+use Rattle.store_model.specs.Journal.{Follow}
+use Rattle.container_meta.specs.declared.place.Place.{Place}
 use Rattle.store_model.specs.Files.{Files, root_of}
 use Rattle.store_model.specs.Slots.{HoldSlots, AreHeaders, DifferentIds, Copy, newest, free_slots}
 

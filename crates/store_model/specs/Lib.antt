@@ -1,4 +1,5 @@
 pub mod Commands
 pub mod Files
 pub mod Image
+pub mod Journal
 pub mod Slots

@@ -2,14 +2,20 @@
 use Rattle.std.specs.Prelude.{◌≡◌, ◌≢◌, ℕ, zero, suc, ◌+◌, List, [], ◌∷◌, length, max, nat_lt, if◌then◌else◌, Option, Some, None, find, option_map}
 use Rattle.std.specs.Str.{bytes_eq}
 use Rattle.std.specs.FinMap as finite
-use Rattle.base_model.specs.Bytes.{range, key_of}
+use Rattle.base_model.specs.Bytes.{range, byte_at, key_of}
 use Rattle.container_meta.specs.declared.entry.Entry.{Entry}
 use Rattle.container_meta.specs.declared.kind.Kind.TheVariants.{Leaf}
 use Rattle.container_meta.specs.Format.{kind_byte}
 use Rattle.container_meta.specs.Spelling.{HeaderValue, IsHeader, header_of, header_spelling}
-use Rattle.container_log.specs.Slots.{HoldsSlot}
-use Rattle.segment_index.specs.declared.place.Place.{Place}
-use Rattle.segment_index.specs.Places.{PlaceMap}
+use Rattle.disk_format.specs.declared.numbers.TheConstants.{CONTAINER_GATE}
+use Rattle.disk_format.specs.Layout.{slot_at}
+use Rattle.container_meta.specs.declared.place.Place.{Place}
+use Rattle.container_meta.specs.Places.{PlaceMap}
+
+-- a slot is closed, or has a right header
+abbrev pub HoldsSlot : List ℕ → ℕ → Option HeaderValue → Type 0
+HoldsSlot image slot None = byte_at (slot_at slot) image ≢ CONTAINER_GATE
+HoldsSlot image slot (Some h) = IsHeader h × (range (slot_at slot) 49664 image ≡ header_spelling h)
 
 -- so many slots, from one on
 abbrev pub HoldSlots : ℕ → List (Option HeaderValue) → List ℕ → Type 0

@@ -4,8 +4,8 @@ use Rattle.base_model.specs.Known.{Known, KnownWith}
 use Rattle.base_model.proofs.Outcome.{passed_on}
 use Rattle.base_model.proofs.Shown.{shown_told, shown_later, rose_since}
 use Rattle.dd_disk.proofs.Disks.{Saw, weaker}
-use Rattle.actor_parts.specs.declared.refusal.Refusal.{Refusal}
-use Rattle.actor_parts.specs.declared.refusal.Refusal.TheVariants.{DiskWrite}
+use Rattle.refusals.specs.declared.refusal.Refusal.{Refusal}
+use Rattle.refusals.specs.declared.refusal.Refusal.TheVariants.{DiskWrite}
 use Rattle.reply_text.specs.declared.ending.Ending.{Ending}
 use Rattle.reply_text.specs.declared.ending.Ending.TheVariants.{Refused}
 use Rattle.reply_text.specs.Text.{stored_line}

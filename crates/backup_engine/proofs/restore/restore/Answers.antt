@@ -3,7 +3,7 @@ use Rattle.base_model.specs.Fault.{Rose}
 use Rattle.base_model.proofs.Outcome.{passed_on}
 use Rattle.base_model.proofs.Shown.{shown_told, rose_since}
 use Rattle.dd_disk.proofs.Disks.{Saw, weaker, both}
-use Rattle.actor_parts.specs.declared.refusal.Refusal.{Refusal}
+use Rattle.refusals.specs.declared.refusal.Refusal.{Refusal}
 use Rattle.reply_text.specs.declared.ending.Ending.TheVariants.{Refused}
 use Rattle.store_model.specs.Image.{Store, Encodes}
 use Rattle.store_model.specs.Commands.{IsPlausible, IsRootRefusal}

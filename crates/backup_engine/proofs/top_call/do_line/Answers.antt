@@ -1,7 +1,7 @@
 use Rattle.std.proofs.Common.{◌≢◌, IfErr, subst, sym}
 use Rattle.base_model.specs.Known.{Known, KnownWith}
 use Rattle.dd_disk.specs.Disk.{LeavesOnly}
-use Rattle.actor_parts.specs.declared.refusal.Refusal.TheVariants.{DiskWrite}
+use Rattle.refusals.specs.declared.refusal.Refusal.TheVariants.{DiskWrite}
 use Rattle.reply_text.specs.declared.ending.Ending.{Ending}
 use Rattle.reply_text.specs.declared.ending.Ending.TheVariants.{Refused}
 use Rattle.backup_engine.specs.declared.words.Line.{Line}

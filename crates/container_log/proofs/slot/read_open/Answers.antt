@@ -1,6 +1,6 @@
 use Rattle.std.proofs.Common.{◌≡◌, ◌∙◌, List, ℕ, sym}
 use Rattle.base_model.specs.Bytes.{byte_at}
-use Rattle.disk_format.specs.Cells.{CONTAINER_GATE}
+use Rattle.disk_format.specs.declared.numbers.TheConstants.{CONTAINER_GATE}
 use Rattle.disk_format.specs.Layout.{slot_at}
 use Rattle.dd_disk.proofs.Disks.{Saw, always, weaker}
 use Rattle.container_log.proofs.Headers.{header_shown, none_for_read}

@@ -2,7 +2,7 @@ use Rattle.std.proofs.Common.{◌≡◌, List, ℕ, ◌∙◌}
 use Rattle.base_model.proofs.Shown.{rose_since}
 use Rattle.base_model.proofs.Outcome.{passed_on}
 use Rattle.base_model.specs.Bytes.{range, byte_at}
-use Rattle.disk_format.specs.Cells.{CONTAINER_GATE}
+use Rattle.disk_format.specs.declared.numbers.TheConstants.{CONTAINER_GATE}
 use Rattle.disk_format.specs.Layout.{slot_at}
 use Rattle.dd_disk.proofs.Disks.{Saw, always, weaker, both}
 use Rattle.container_log.proofs.Slots.{gives_none, gives_some, gives_fault, gives_unread, fault_open}

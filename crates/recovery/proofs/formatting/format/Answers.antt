@@ -1,7 +1,7 @@
 use Rattle.std.proofs.Common.{◌≡◌, ◌≢◌, inr, length, ◌∙◌}
 use Rattle.base_model.specs.Bytes.{byte_at}
 use Rattle.base_model.proofs.Shown.{shown_told, shown_later, rose_since}
-use Rattle.disk_format.specs.Cells.{FORMAT_GATE}
+use Rattle.disk_format.specs.declared.numbers.TheConstants.{FORMAT_GATE}
 use Rattle.recovery.proofs.Blank.{later_still, later_read}
 use Rattle.recovery.proofs.formatting.format.Goals as goal
 

@@ -2,12 +2,12 @@ use Rattle.std.proofs.Common.{◌≡◌, Option, refl, sym, subst, ℕ, IfSome}
 use Rattle.std.specs.Prelude.{option_map}
 use Rattle.base_model.specs.Bytes.{range, byte_at}
 use Rattle.base_model.proofs.Outcome.{passed_on}
-use Rattle.disk_format.specs.Cells.{CONTAINER_GATE}
+use Rattle.disk_format.specs.declared.numbers.TheConstants.{CONTAINER_GATE}
 use Rattle.container_meta.specs.declared.entry.Meta.{Meta}
 use Rattle.container_meta.specs.Spelling.{IsHeader, view}
-use Rattle.container_log.specs.Slots.{HoldsSlot}
+use Rattle.store_model.specs.Slots.{HoldsSlot}
 use Rattle.dd_disk.proofs.Disks.{Saw}
-use Rattle.actor_parts.specs.declared.refusal.Why.TheVariants.{Field}
+use Rattle.disk_format.specs.declared.why.Why.TheVariants.{Field}
 use Rattle.recovery.specs.Slots.{IsSlotDamage}
 use Rattle.recovery.proofs.Reading.{damage_of, used_id}
 use Rattle.recovery.proofs.slots.read_next.Goals as goal

@@ -4,7 +4,7 @@ use Rattle.base_model.proofs.Outcome.{passed_on}
 use Rattle.base_model.proofs.Shown.{reads_none}
 use Rattle.container_meta.specs.Spelling.{view}
 use Rattle.dd_disk.proofs.Disks.{always, also, weaker, reads_on}
-use Rattle.actor_parts.specs.declared.refusal.Refusal.TheVariants.{Memory}
+use Rattle.refusals.specs.declared.refusal.Refusal.TheVariants.{Memory}
 use Rattle.recovery.specs.Slots.{AreTold}
 use Rattle.recovery.proofs.Reading.{none_yet, more, all_slots, all_told, no_more, refused, gives_passed}
 use Rattle.recovery.proofs.slots.read_slots.Goals as goal

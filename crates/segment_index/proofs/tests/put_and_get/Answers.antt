@@ -1,8 +1,9 @@
 use Rattle.std.proofs.Common.{◌≡◌, List, ℕ, Some, Option, Result, IfOk, ◌∙◌, rules}
 use Rattle.std.specs.FinMap as finite
 use Rattle.std.proofs.lemmas.Result.{IfOk-weaker}
-use Rattle.segment_index.specs.Places.{PlaceMap, IfTold}
-use Rattle.segment_index.specs.declared.place.Place.{Place}
+use Rattle.segment_index.specs.Places.{IfTold}
+use Rattle.container_meta.specs.Places.{PlaceMap}
+use Rattle.container_meta.specs.declared.place.Place.{Place}
 use Rattle.segment_index.proofs.tests.put_and_get.Goals as goal
 
 got : (m : PlaceMap) (key : List ℕ) (place : Place) → finite.get (finite.insert m key place) key ≡ Some place

@@ -1,7 +1,7 @@
 use Rattle.std.proofs.Common.{◌≡◌, ◌≤◌, ℕ, List, sym, subst, arith}
 use Rattle.std.specs.FinMap as finite
-use Rattle.segment_index.specs.Places.{PlaceMap}
-use Rattle.segment_index.specs.declared.place.Place.{Place}
+use Rattle.container_meta.specs.Places.{PlaceMap}
+use Rattle.container_meta.specs.declared.place.Place.{Place}
 use Rattle.segment_index.proofs.tests.put_first.Goals as goal
 
 one_key : (m : PlaceMap) (key : List ℕ) (place : Place) → m ≡ finite.empty → finite.len (finite.insert m key place) ≤ 4096

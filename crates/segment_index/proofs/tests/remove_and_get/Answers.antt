@@ -1,8 +1,9 @@
 use Rattle.std.proofs.Common.{◌≡◌, List, ℕ, Some, None, Option, Result, IfOk, ◌∙◌, rules}
 use Rattle.std.specs.FinMap as finite
 use Rattle.std.proofs.lemmas.Result.{IfOk-weaker}
-use Rattle.segment_index.specs.Places.{PlaceMap, IfTold}
-use Rattle.segment_index.specs.declared.place.Place.{Place}
+use Rattle.segment_index.specs.Places.{IfTold}
+use Rattle.container_meta.specs.Places.{PlaceMap}
+use Rattle.container_meta.specs.declared.place.Place.{Place}
 use Rattle.segment_index.proofs.tests.remove_and_get.Goals as goal
 
 gone : (m : PlaceMap) (key : List ℕ) → finite.get (finite.remove m key) key ≡ None

@@ -1,10 +1,10 @@
-//! What an index maps, and to what.
+//! The key of a segment, and where a copy of it lies.
 
 /// The key of a segment: its kind (0 data, 1 tree), then its digest.
 pub type Key = [u8; 33];
 
 /// Where the copy of a segment lies.
-#[derive(Clone, Copy, Debug, PartialEq, Eq)]
+#[derive(Clone, Copy)]
 pub struct Place {
     pub slot: u32,
     /// The first byte, counted from the slot's data section.

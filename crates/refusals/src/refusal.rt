@@ -1,37 +1,19 @@
 //! The refusals, in one table.
 ghost use Rattle.std.specs.Prelude.{◌≡◌};
-ghost use Rattle.actor_parts.specs.declared.refusal.Refusal.TheVariants.{Memory};
+ghost use Rattle.refusals.specs.declared.refusal.Refusal.TheVariants.{Memory};
 
+use disk_format::Why;
 use std::alloc::{AllocError, AllocFailed};
 
-/// How a cell or a header breaks the format.
-#[derive(Clone, Copy, Debug, PartialEq, Eq)]
-pub enum Why {
-    /// The bytes have another digest than is said of them.
-    Digest {
-        /// As stored.
-        want: [u8; 32],
-        /// As computed.
-        got: [u8; 32],
-    },
-    /// The first field that breaks its rule.
-    Field {
-        /// The field's first byte, from the first byte of what is damaged on.
-        offset: u32,
-        /// The field as a number, or its first byte that breaks the rule where it has more than eight bytes.
-        got: u64,
-    },
-}
-
 /// How two segments of one key differ.
-#[derive(Clone, Copy, Debug, PartialEq, Eq)]
+#[derive(Clone, Copy)]
 pub enum Difference {
     /// Their lengths in bytes.
     Length { offered: u64, held: u64 },
 }
 
 /// Why a step or a command was refused, with what it carries. docs/FORMAT.md, 'Refusals', has their texts and statuses.
-#[derive(Clone, Copy, Debug, PartialEq, Eq)]
+#[derive(Clone, Copy)]
 pub enum Refusal {
     /// 1: there was no memory.
     Memory,

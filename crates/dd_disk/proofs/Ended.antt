@@ -1,7 +1,7 @@
 -- How calls ended, one after the other.
-use Rattle.std.proofs.Common.{◌≡◌, ℕ, ◌≤◌, Result, Ok, Err, refl, arith}
+use Rattle.std.proofs.Common.{◌≡◌, ℕ, ◌≤◌, refl, subst, arith}
 use Rattle.dd_disk.specs.View.{DiskView, OnlyReads}
-use Rattle.dd_disk.specs.Ending.{Ending, Blame, Done, Refused, Unread, Broken, NoCall, ReadCall, WriteCall, ending, ending_of, CountsFault, Reads}
+use Rattle.dd_disk.specs.Ending.{Ending, Blame, Done, Refused, Unread, Broken, ending_of, CountsFault, Reads}
 use Rattle.dd_disk.proofs.Later.{reads_here, reads_on as only_reads_on}
 
 -- calls after calls that were done
@@ -31,12 +31,4 @@ reads_then old new reads = record { only = reads.only; faults_are = reads.faults
 
 -- an error that is handed on as another that blames the same
 pub reads_blamed : (one other : Blame) (old new : DiskView) → one ≡ other → Reads (ending_of one) old new → Reads (ending_of other) old new
-reads_blamed NoCall NoCall old new same reads = reads
-reads_blamed ReadCall ReadCall old new same reads = reads
-reads_blamed WriteCall WriteCall old new same reads = reads
-reads_blamed NoCall ReadCall old new same reads = absurd cc
-reads_blamed NoCall WriteCall old new same reads = absurd cc
-reads_blamed ReadCall NoCall old new same reads = absurd cc
-reads_blamed ReadCall WriteCall old new same reads = absurd cc
-reads_blamed WriteCall NoCall old new same reads = absurd cc
-reads_blamed WriteCall ReadCall old new same reads = absurd cc
+reads_blamed one other old new same reads = subst (λ (b : Blame). Reads (ending_of b) old new) same reads

@@ -3,7 +3,7 @@ use Rattle.std.proofs.Common.{◌≡◌, ◌⊎◌, inl, inr, ⊎_elim, ℕ, ◌
 use Rattle.std.proofs.lemmas.List.{append-nil}
 use Rattle.std.proofs.lemmas.Slice.{first_rest}
 use Rattle.dd_disk.specs.Writes.{Torn}
-use Rattle.dd_disk.specs.Calls.{CrashSteps, TimeAdvances, first_of, end_of, shown_by, image_by, images_by, shown_after, images_after, images_before, images_of, images_past, IsPast, Made, Skipped, Notes, as_read}
+use Rattle.dd_disk.specs.Calls.{CrashSteps, TimeAdvances, shown_length, lengths, first_of, end_of, shown_by, image_by, images_by, shown_after, images_after, images_before, images_of, images_past, IsPast, Made, Skipped, Notes, as_read}
 use Rattle.dd_disk.specs.declared.mem.MemDisk.{MemDisk}
 use Rattle.dd_disk.specs.declared.call.Call.{Call}
 use Rattle.dd_disk.specs.declared.call.Asked.{Asked}
@@ -51,27 +51,6 @@ module _ (last : Call) where
 past_later : (calls : List Call) (size count now : ℕ) → count ≤ now → IsPast size count calls → IsPast size now calls
 past_later [] size count now le past = tt
 past_later (call ∷ calls) size count now le past = (omega (arith, le, past.0), (past.1.0, past_later calls size count now le past.1.1))
-
--- a call keeps the length
-pub shown_length : (asked : Asked) (shown : List ℕ) → end_of asked ≤ length shown → length (shown_by asked shown) ≡ length shown
-shown_length (Read at count) shown fits = refl
-shown_length (Write at bytes) shown fits = length-written at bytes.items shown fits
-shown_length Sync shown fits = refl
-
-images_length : (asked : Asked) (done : Bool) (size : ℕ) (shown : List ℕ) (images : List ℕ → Type 0) → length shown ≡ size → end_of asked ≤ size → ((c : List ℕ) → images c → length c ≡ size)
-    → (c : List ℕ) → images_by asked done shown images c → length c ≡ size
-images_length (Read at count) done size shown images is fits each c left = each c left
-images_length (Write at bytes) done size shown images is fits each c left =
-    let was = each left.0 left.1 in
-    torn_length at (length bytes.items) left.0 c (omega (arith, fits, was)) left.2 ∙ was
-images_length Sync true size shown images is fits each c left = ap length left ∙ is
-images_length Sync false size shown images is fits each c left = each c left
-
-lengths : (calls : List Call) (size count : ℕ) (shown : List ℕ) (images : List ℕ → Type 0) → IsPast size count calls → length shown ≡ size → ((c : List ℕ) → images c → length c ≡ size)
-    → (length (shown_after shown calls) ≡ size) × ((c : List ℕ) → images_after shown images calls c → length c ≡ size)
-lengths [] size count shown images past is each = (is, each)
-lengths (call ∷ calls) size count shown images past is each =
-    lengths calls size count _ _ past.1.1 (shown_length call.asked shown (omega (arith, is, past.1.0)) ∙ is) (images_length call.asked call.done size shown images is past.1.0 each)
 
 -- what a disk in memory keeps: its calls made again give what reads give, and they lie in the past
 pub record Stands (first bytes : List ℕ) (count : ℕ) (calls : List Call) : Type 0 where

@@ -6,7 +6,7 @@ use Rattle.std.proofs.lemmas.Bool.{leb-true, ltb-true}
 use Rattle.base_model.specs.Bytes.{range, written}
 use Rattle.base_model.proofs.Ranges.{length-written, length-range}
 use Rattle.dd_disk.specs.Writes.{Torn}
-use Rattle.dd_disk.specs.Calls.{first_of, end_of, shown_by, image_by, images_by, shown_after, images_after, images_before, images_of, images_past, IsPast, left_out, is_left_out, filled, filled_by, filled_after, reached, stop_image}
+use Rattle.dd_disk.specs.Calls.{shown_length, first_of, end_of, shown_by, image_by, images_by, shown_after, images_after, images_before, images_of, images_past, IsPast, left_out, is_left_out, filled, filled_by, filled_after, reached, stop_image}
 use Rattle.dd_disk.specs.Stops.{filled_write, EndsSynced}
 use Rattle.dd_disk.specs.declared.call.Call.{Call}
 use Rattle.dd_disk.specs.declared.call.Fill.{Fill}
@@ -14,7 +14,7 @@ use Rattle.dd_disk.specs.declared.call.Fill.TheVariants.{Old, New, Byte}
 use Rattle.dd_disk.specs.declared.call.Asked.{Asked}
 use Rattle.dd_disk.specs.declared.call.Asked.TheVariants.{Read, Write, Sync}
 use Rattle.dd_disk.proofs.Images.{torn_length}
-use Rattle.dd_disk.proofs.Noting.{shown_length, before_at}
+use Rattle.dd_disk.proofs.Noting.{before_at}
 
 -- ---- the calls that are let through
 

@@ -2,7 +2,7 @@
 use Rattle.std.proofs.Common.{◌≡◌, inl, inr, ℕ, List, Some, Result, Ok, Err, OnOk, refl, subst, arith}
 use Rattle.base_model.specs.Known.{Known, KnownWith}
 use Rattle.dd_disk.specs.View.{DiskView, SteppedFrom}
-use Rattle.dd_disk.specs.Ending.{Ending, Blame, WriteCall, ending, Done, Refused, Unread, Broken}
+use Rattle.dd_disk.specs.Ending.{Ending, Blame, WriteCall, ending, ending_of, Done, Refused, Unread, Broken}
 use Rattle.dd_disk.proofs.Ended.{counts_on}
 use Rattle.dd_disk.specs.Writes.{Writes, Written}
 use Rattle.dd_disk.proofs.Later.{later_here, later_on, leaves_on, leaves_weaker, reads_here}
@@ -68,20 +68,24 @@ written_ok blames (Ok x) step whole old new writes = writes.written.0
 written_ok blames (Err e) step whole old new writes = tt
 
 -- what is less said of it
-module _ (step wider : List ℕ → List ℕ → List ℕ → Type 0) (whole more : List ℕ → List ℕ → Type 0) (old new : DiskView) (wholes : (given c : List ℕ) → whole given c → more given c) where
+module _ (step wider : List ℕ → List ℕ → List ℕ → Type 0) (whole more : List ℕ → List ℕ → Type 0) (old new : DiskView) (wholes : (given c : List ℕ) → old.content ≡ Some given → whole given c → more given c) where
   written_weaker : (e : Ending) → Written whole e old new → Written more e old new
-  written_weaker Done written = (λ given known. let c = written.0 given known in (c.0, c.1, wholes given c.0 c.2), written.1)
+  written_weaker Done written = (λ given known. let c = written.0 given known in (c.0, c.1, wholes given c.0 known c.2), written.1)
   written_weaker Refused written = written
   written_weaker Unread written = written
   written_weaker Broken written = tt
 
-  pub writes_weaker : (e : Ending) → ((given d c : List ℕ) → step given d c → wider given d c) → Writes step whole e old new → Writes wider more e old new
+  pub writes_weaker : (e : Ending) → ((given d c : List ℕ) → old.content ≡ Some given → old.images d → step given d c → wider given d c) → Writes step whole e old new → Writes wider more e old new
   writes_weaker e each writes = record {
     later = writes.later;
     steps = λ given known. leaves_weaker (SteppedFrom (step given) old) (SteppedFrom (wider given) old) old new (λ c from. elim from [
       | inl same ↦ inl same
-      | inr stepped ↦ inr (stepped.0, stepped.1, each given stepped.0 c stepped.2)
+      | inr stepped ↦ inr (stepped.0, stepped.1, each given stepped.0 c known stepped.1 stepped.2)
     ]) (writes.steps given known);
     written = written_weaker e writes.written;
     faults_are = writes.faults_are;
   }
+
+-- an error that is handed on as another that blames the same
+pub writes_blamed : (step : List ℕ → List ℕ → List ℕ → Type 0) (whole : List ℕ → List ℕ → Type 0) (one other : Blame) (old new : DiskView) → one ≡ other → Writes step whole (ending_of one) old new → Writes step whole (ending_of other) old new
+writes_blamed step whole one other old new same writes = subst (λ (b : Blame). Writes step whole (ending_of b) old new) same writes

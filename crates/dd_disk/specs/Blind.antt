@@ -36,6 +36,7 @@ blind_view d = record {
   faults = 0;
   loans = [];
   sized = λ bytes known. no_content bytes known;
+  image_sized = λ c same. same;
   as_read = λ bytes known. no_content bytes known;
   counts_now = λ t c le now. now;
   only_now = λ c before left. left;

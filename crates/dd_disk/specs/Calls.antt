@@ -2,7 +2,8 @@
 use Rattle.std.specs.Prelude.{◌≡◌, ◌⊎◌, ℕ, ◌+◌, ◌-◌, ◌^◌, ◌<◌, ◌≤◌, ◌==◌, min, Option, Some, None, Vec, Bool, true, false, List, [], ◌∷◌, ◌++◌, length, replicate, nat_lt, nat_le, if◌then◌else◌, refl, ⊤}
 use Rattle.std.specs.Global.{Global}
 use Rattle.std.specs.List.{list_any}
-use Rattle.std.proofs.Common.{inl, inr, arith, subst}
+use Rattle.std.proofs.Common.{inl, inr, arith, subst, sym, ap, ◌∙◌}
+use Rattle.base_model.proofs.Ranges.{length-written}
 use Rattle.std.specs.Coded.{×_prop, Unit-prop, le_prop}
 use Rattle.base_model.specs.Bytes.{range, written}
 use Rattle.base_model.specs.Fault.{Rose}
@@ -212,3 +213,33 @@ pub known_as_read : (first bytes known : List ℕ) (calls : List Call) → shown
 known_as_read first bytes known calls replayed is =
     let same : shown_after first calls ≡ known = cc in
     subst (images_of first calls) same (as_read calls first (λ d. d ≡ first) refl)
+
+torn_size : (at n : ℕ) (old new : List ℕ) → at + n ≤ length old → Torn at n old new → length new ≡ length old
+torn_size at n old new fits torn = ap length torn.holds ∙ length-written at torn.bytes old (omega (arith, fits, torn.count))
+
+-- a call keeps the length
+pub shown_length : (asked : Asked) (shown : List ℕ) → end_of asked ≤ length shown → length (shown_by asked shown) ≡ length shown
+shown_length (Read at count) shown fits = refl
+shown_length (Write at bytes) shown fits = length-written at bytes.items shown fits
+shown_length Sync shown fits = refl
+
+images_length : (asked : Asked) (done : Bool) (size : ℕ) (shown : List ℕ) (images : List ℕ → Type 0) → length shown ≡ size → end_of asked ≤ size → ((c : List ℕ) → images c → length c ≡ size)
+    → (c : List ℕ) → images_by asked done shown images c → length c ≡ size
+images_length (Read at count) done size shown images is fits each c left = each c left
+images_length (Write at bytes) done size shown images is fits each c left =
+    let was = each left.0 left.1 in
+    torn_size at (length bytes.items) left.0 c (omega (arith, fits, was)) left.2 ∙ was
+images_length Sync true size shown images is fits each c left = ap length left ∙ is
+images_length Sync false size shown images is fits each c left = each c left
+
+pub lengths : (calls : List Call) (size count : ℕ) (shown : List ℕ) (images : List ℕ → Type 0) → IsPast size count calls → length shown ≡ size → ((c : List ℕ) → images c → length c ≡ size)
+    → (length (shown_after shown calls) ≡ size) × ((c : List ℕ) → images_after shown images calls c → length c ≡ size)
+lengths [] size count shown images past is each = (is, each)
+lengths (call ∷ calls) size count shown images past is each =
+    lengths calls size count _ _ past.1.1 (shown_length call.asked shown (omega (arith, is, past.1.0)) ∙ is) (images_length call.asked call.done size shown images is past.1.0 each)
+
+pub image_length : (first bytes : List ℕ) (calls : List Call) (count : ℕ) (c : List ℕ) → shown_after first calls ≡ bytes → IsPast (length first) count calls → images_of first calls c → length c ≡ length bytes
+image_length first bytes calls count c replayed past left =
+    let all = lengths calls (length first) count first (λ d. d ≡ first) past refl (λ d is. ap length is) in
+    all.1 c left ∙ sym all.0 ∙ ap length replayed
+

@@ -1,5 +1,5 @@
 -- How a call ended, as far as the disk goes.
-use Rattle.std.specs.Prelude.{◌≡◌, ℕ, Result, Ok, Err}
+use Rattle.std.specs.Prelude.{◌≡◌, ℕ, Bool, IsTrue, Result, Ok, Err}
 use Rattle.base_model.specs.Fault.{Rose}
 use Rattle.dd_disk.specs.View.{DiskView, OnlyReads}
 
@@ -39,3 +39,8 @@ CountsFault Broken before now = Rose before now
 pub record Reads (ending : Ending) (old new : DiskView) : Type 0 where
   pub only : OnlyReads old new
   pub faults_are : CountsFault ending old.faults new.faults
+
+-- The answer has P, unless memory or the disk failed; `fails` says of which errors that is so.
+abbrev pub UnlessFailed : {T E : Type 0} → (E → Bool) → (T → Type 0) → Result T E → Type 0
+UnlessFailed fails P (Ok x) = P x
+UnlessFailed fails P (Err e) = IsTrue (fails e)

@@ -2,7 +2,7 @@
 use Rattle.std.specs.Prelude.{◌≡◌, ◌⊎◌, ℕ, ◌+◌, ◌-◌, ◌^◌, min, Bool, true, false, List, [], length, Some, Result, OnOk, OnErr}
 use Rattle.std.proofs.Common.{inl}
 use Rattle.base_model.specs.Fault.{Rose}
-use Rattle.dd_disk.specs.Calls.{first_of, images_of, images_past, is_to_fail, shown_after, Made, known_length, known_as_read, only_past, past_earlier}
+use Rattle.dd_disk.specs.Calls.{first_of, images_of, images_past, is_to_fail, shown_after, Made, known_length, known_as_read, only_past, past_earlier, image_length}
 use Rattle.dd_disk.specs.View.{DiskView}
 use Rattle.dd_disk.specs.declared.call.Asked.{Asked}
 use Rattle.dd_disk.specs.declared.call.Call.{Call}
@@ -39,6 +39,7 @@ mem_view d = record {
   faults = fault_count d;
   loans = [];
   sized = λ bytes known. known_length d.bytes.items bytes known;
+  image_sized = λ c left. image_length (first_of d.first d.bytes.items) d.bytes.items d.log.calls.items d.log.count c d.replayed d.past left;
   as_read = λ bytes known. known_as_read (first_of d.first d.bytes.items) d.bytes.items bytes d.log.calls.items d.replayed known;
   counts_now = λ t c le now. inl now;
   only_now = λ c before left. only_past (length (first_of d.first d.bytes.items)) d.log.count (first_of d.first d.bytes.items) d.log.calls.items c d.past left;

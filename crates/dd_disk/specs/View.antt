@@ -22,6 +22,8 @@ pub record DiskView : Type 1 where
   pub loans : List ℕ
   -- the content has the disk's size
   pub sized : (bytes : List ℕ) → content ≡ Some bytes → length bytes ≡ size
+  -- and so has each image
+  pub image_sized : (c : List ℕ) → images c → length c ≡ size
   -- the disk as it reads is one of its images
   pub as_read : (bytes : List ℕ) → content ≡ Some bytes → images bytes
   -- an image now is one of those since an earlier moment

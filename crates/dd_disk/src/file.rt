@@ -58,6 +58,7 @@ impl Disk for FileDisk {
       faults = d.faults;
       loans = [];
       sized = λ bytes known. no_content bytes known;
+      image_sized = λ c same. same;
       as_read = λ bytes known. no_content bytes known;
       counts_now = λ t c le now. now;
       only_now = λ c before left. left;

@@ -1,3 +1,4 @@
+pub mod Appending
 pub mod Checks
 pub mod Faults
 pub mod Heads

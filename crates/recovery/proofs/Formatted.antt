@@ -128,21 +128,21 @@ module _ (slots : ℕ) (old : List ℕ) (count : IsSlotCount slots) (sized : len
       ∙ range-written 512 512 (selector_cell 1 0 0) closed (omega (arith, size_of_closed)) length-first_selector
 
   -- behind the first selector
-  byte_behind : (p : ℕ) → 1024 ≤ p → byte_at p formatted ≡ byte_at p closed
+  byte_after : (p : ℕ) → 1024 ≤ p → byte_at p formatted ≡ byte_at p closed
   unfolding laid_out
-  byte_behind p behind =
+  byte_after p behind =
       byte-written-after p 0 (format_cell slots) (laid_out slots old) (omega (arith, length-format_cell slots)) room_of_cell
       ∙ byte-written-after p 512 (selector_cell 1 0 0) closed (omega (arith, length-first_selector)) room_of_selector
 
   zero_there : (p : ℕ) → 1024 ≤ p → p < 1050112 → byte_at p formatted ≡ 0
   zero_there p behind before =
-      byte_behind p behind
+      byte_after p behind
       ∙ byte-closed p slots blanked (omega (arith, size_of_blanked)) before
       ∙ byte-written p 512 (p - 512) (zeros 1049600) old (omega arith) (omega (arith, length-zeros 1049600)) room_of_zeros
       ∙ byte-zeros (p - 512) 1049600 (omega arith)
 
   slot_there : (slot : ℕ) → slot < slots → byte_at (slot_at slot) formatted ≡ 0
-  slot_there slot within = byte_behind (slot_at slot) (omega arith) ∙ slot_closed slots slot blanked (omega (arith, size_of_blanked)) within
+  slot_there slot within = byte_after (slot_at slot) (omega arith) ∙ slot_closed slots slot blanked (omega (arith, size_of_blanked)) within
 
   -- with the format cell it is an empty store
   pub is_formatted : IsFormatted slots (written 0 (format_cell slots) (laid_out slots old))

@@ -12,7 +12,8 @@ use Rattle.store_model.specs.Journal.{HoldsJournal}
 use Rattle.store_model.specs.Journal.{StandFrom}
 use Rattle.store_model.specs.Journal.{IsOlder}
 use Rattle.store_model.specs.Journal.{HoldsSelector}
-use Rattle.dd_disk.proofs.Outside.{SameOutside, byte_before, byte_behind}
+use Rattle.base_model.proofs.Frames.{byte_before, byte_after}
+use Rattle.base_model.specs.Frames.{SameOutside}
 use Rattle.store_model.specs.Image.{HasFormat}
 
 -- two numbers that differ
@@ -70,20 +71,20 @@ module _ (slot : ℕ) (old new : List ℕ) (same : SameOutside (slot_at slot) 26
   gate_kept : (other : ℕ) → other ≢ slot → byte_at (slot_at other) new ≡ byte_at (slot_at other) old
   gate_kept other differ = elim (below_or_above other slot differ) [
     | inl below ↦ byte_before (slot_at other) (slot_at slot) 262144 old new (omega (arith, below)) same
-    | inr above ↦ byte_behind (slot_at other) (slot_at slot) 262144 old new (omega (arith, above)) same
+    | inr above ↦ byte_after (slot_at other) (slot_at slot) 262144 old new (omega (arith, above)) same
   ]
 
   -- the bytes of a segment in another slot
   pub place_kept : (other offset n : ℕ) → other ≢ slot → offset + n ≤ 212480 → range (data_at other + offset) n new ≡ range (data_at other + offset) n old
   place_kept other offset n differ within = elim (below_or_above other slot differ) [
     | inl below ↦ same.before (data_at other + offset) n (omega (arith, below, within))
-    | inr above ↦ same.behind (data_at other + offset) n (omega (arith, above))
+    | inr above ↦ same.after (data_at other + offset) n (omega (arith, above))
   ]
 
   header_kept : (other : ℕ) → other ≢ slot → range (slot_at other) 49664 new ≡ range (slot_at other) 49664 old
   header_kept other differ = elim (below_or_above other slot differ) [
     | inl below ↦ same.before (slot_at other) 49664 (omega (arith, below))
-    | inr above ↦ same.behind (slot_at other) 49664 (omega (arith, above))
+    | inr above ↦ same.after (slot_at other) 49664 (omega (arith, above))
   ]
 
   -- what another slot holds

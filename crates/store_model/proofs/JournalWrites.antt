@@ -21,14 +21,15 @@ use Rattle.store_model.specs.Journal.{HoldsSelector}
 use Rattle.store_model.specs.Files.{Files}
 use Rattle.store_model.specs.Slots.{HoldSlots}
 use Rattle.store_model.specs.Image.{HasFormat, AreCopies, HasCopy, IsFileOf, AreFilesOf}
-use Rattle.dd_disk.proofs.Outside.{SameOutside, byte_before, byte_behind}
+use Rattle.base_model.proofs.Frames.{byte_before, byte_after}
+use Rattle.base_model.specs.Frames.{SameOutside}
 
 module _ (at count : ℕ) (old new : List ℕ) (same : SameOutside at count old new) where
   -- ---- where the range ends before the slots
   module _ (ends : at + count ≤ 1050112) where
     kept_slot : (slot : ℕ) (container : Option HeaderValue) → HoldsSlot old slot container → HoldsSlot new slot container
-    kept_slot slot None closed = λ opened. closed (sym (byte_behind (slot_at slot) at count old new (omega (arith, ends)) same) ∙ opened)
-    kept_slot slot (Some h) held = (held.0, same.behind (slot_at slot) 49664 (omega (arith, ends)) ∙ held.1)
+    kept_slot slot None closed = λ opened. closed (sym (byte_after (slot_at slot) at count old new (omega (arith, ends)) same) ∙ opened)
+    kept_slot slot (Some h) held = (held.0, same.after (slot_at slot) 49664 (omega (arith, ends)) ∙ held.1)
 
     -- each slot has what it had
     pub kept_slots : (slot : ℕ) (held : List (Option HeaderValue)) → HoldSlots slot held old → HoldSlots slot held new
@@ -38,7 +39,7 @@ module _ (at count : ℕ) (old new : List ℕ) (same : SameOutside at count old 
     kept_entries : (slot : ℕ) (entries : List Entry) → AllByRecursion (λ e. sha256 (range (data_at slot + e.offset) e.length old) ≡ e.digest) entries
         → AllByRecursion (λ e. sha256 (range (data_at slot + e.offset) e.length new) ≡ e.digest) entries
     kept_entries slot [] all = tt
-    kept_entries slot (e ∷ es) all = (ap sha256 (same.behind (data_at slot + e.offset) e.length (omega (arith, ends))) ∙ all.0, kept_entries slot es all.1)
+    kept_entries slot (e ∷ es) all = (ap sha256 (same.after (data_at slot + e.offset) e.length (omega (arith, ends))) ∙ all.0, kept_entries slot es all.1)
 
     -- each entry's bytes have its digest still
     pub kept_copies : (slot : ℕ) (held : List (Option HeaderValue)) → AreCopies slot held old → AreCopies slot held new
@@ -49,7 +50,7 @@ module _ (at count : ℕ) (old new : List ℕ) (same : SameOutside at count old 
     -- the copy of a file's segment is its bytes still
     pub kept_copy : (held : List (Option HeaderValue)) (bytes : List ℕ) → HasCopy held bytes old → HasCopy held bytes new
     kept_copy held bytes (inl none) = inl none
-    kept_copy held bytes (inr (copy, found, is)) = inr (copy, found, same.behind (data_at copy.place.slot + copy.place.offset) copy.place.length (omega (arith, ends)) ∙ is)
+    kept_copy held bytes (inr (copy, found, is)) = inr (copy, found, same.after (data_at copy.place.slot + copy.place.offset) copy.place.length (omega (arith, ends)) ∙ is)
 
     -- a name has its file still
     pub kept_file : (held : List (Option HeaderValue)) (named : Option Named) (file : Option (List ℕ)) → IsFileOf held old named file → IsFileOf held new named file
@@ -84,7 +85,7 @@ module _ (half place : ℕ) (old new : List ℕ) (same : SameOutside (cell_at ha
   -- the cells behind it are closed
   closed_behind : ClosedFrom half place old → ClosedFrom half (place + 1) new
   closed_behind closed cell from within opened =
-      closed cell (omega arith) within (sym (byte_behind (cell_at half cell) (cell_at half place) 512 old new (omega arith) same) ∙ opened)
+      closed cell (omega arith) within (sym (byte_after (cell_at half cell) (cell_at half place) 512 old new (omega arith) same) ∙ opened)
 
   -- and so is each from it on, where its own gate is closed
   pub closed_still : ClosedFrom half place old → byte_at (cell_at half place) new ≢ RECORD_GATE → ClosedFrom half place new

@@ -26,7 +26,9 @@ use Rattle.journal_cells.proofs.Replays.{last_of_push, names_after_push}
 use Rattle.store_model.specs.Files.{Files, with_file, root_of}
 use Rattle.store_model.specs.Image.{Store, Encodes, IsStoreOf, IsFileOf, AreFilesOf, HasCopy, names_of, last_sequence}
 use Rattle.store_model.specs.Commands.{CanCommit, put_of_file, with_put}
-use Rattle.dd_disk.proofs.Outside.{SameOutside, same_written, same_cell, cell_cases}
+use Rattle.dd_disk.proofs.Outside.{same_cell, cell_cases}
+use Rattle.base_model.proofs.Frames.{same_written}
+use Rattle.base_model.specs.Frames.{SameOutside}
 use Rattle.store_model.proofs.JournalWrites.{kept_slots, kept_copies, kept_copy, kept_files, kept_format, kept_selector, kept_older, records_still, closed_still}
 
 -- ---- the record

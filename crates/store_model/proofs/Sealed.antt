@@ -10,7 +10,9 @@ use Rattle.container_meta.specs.Spelling.{HeaderValue, header_spelling, front_sp
 use Rattle.store_model.specs.Slots.{HoldsSlot}
 use Rattle.namespace.specs.declared.record.Named.{Named}
 use Rattle.dd_disk.specs.Gated.{TornFrom}
-use Rattle.dd_disk.proofs.Outside.{SameOutside, same_written, same_cell, cell_cases}
+use Rattle.dd_disk.proofs.Outside.{same_cell, cell_cases}
+use Rattle.base_model.proofs.Frames.{same_written}
+use Rattle.base_model.specs.Frames.{SameOutside}
 use Rattle.store_model.specs.Files.{Files}
 use Rattle.store_model.specs.Slots.{HoldSlots, AreHeaders, DifferentIds, IsContainerOf, one_segment, last_id, free_slots, first_free, with_slot}
 use Rattle.store_model.specs.Image.{Store, Encodes, IsStoreOf, AreCopies, IsFileOf, HasCopy, names_of}

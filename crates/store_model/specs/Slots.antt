@@ -4,11 +4,13 @@ use Rattle.std.specs.Str.{bytes_eq}
 use Rattle.std.specs.FinMap as finite
 use Rattle.base_model.specs.Bytes.{range, byte_at, key_of}
 use Rattle.container_meta.specs.declared.entry.Entry.{Entry}
+use Rattle.container_meta.specs.declared.kind.Kind.{Kind}
 use Rattle.container_meta.specs.declared.kind.Kind.TheVariants.{Leaf}
+use Rattle.container_meta.specs.Segments.{Segment}
 use Rattle.container_meta.specs.Format.{kind_byte}
 use Rattle.container_meta.specs.Spelling.{HeaderValue, IsHeader, header_of, header_spelling}
 use Rattle.disk_format.specs.declared.numbers.TheConstants.{CONTAINER_GATE}
-use Rattle.disk_format.specs.Layout.{slot_at}
+use Rattle.disk_format.specs.Layout.{slot_at, data_at}
 use Rattle.container_meta.specs.declared.place.Place.{Place}
 use Rattle.container_meta.specs.Places.{PlaceMap}
 
@@ -16,6 +18,16 @@ use Rattle.container_meta.specs.Places.{PlaceMap}
 abbrev pub HoldsSlot : List ℕ → ℕ → Option HeaderValue → Type 0
 HoldsSlot image slot None = byte_at (slot_at slot) image ≢ CONTAINER_GATE
 HoldsSlot image slot (Some h) = IsHeader h × (range (slot_at slot) 49664 image ≡ header_spelling h)
+
+-- segments stand one after the other, from a byte of the image on
+abbrev pub StandAt : ℕ → List Segment → List ℕ → Type 0
+StandAt at [] image = Unit {0}
+StandAt at (s ∷ ss) image = (range at (length s.bytes) image ≡ s.bytes) × StandAt (at + length s.bytes) ss image
+
+-- the slot has this container: its header, and the bytes of each segment where its entry says
+pub record HoldsContainer (image : List ℕ) (slot id : ℕ) (kind : Kind) (segments : List Segment) : Type 0 where
+  pub header : HoldsSlot image slot (Some (header_of id kind segments))
+  pub bytes : StandAt (data_at slot) segments image
 
 -- so many slots, from one on
 abbrev pub HoldSlots : ℕ → List (Option HeaderValue) → List ℕ → Type 0

@@ -15,10 +15,11 @@ use Rattle.reply_text.specs.declared.ending.Ending.TheVariants.{Words, Source, S
 use Rattle.reply_text.specs.Text.{fault_line}
 use Rattle.store_model.specs.Files.{Files, with_file}
 use Rattle.store_model.specs.Image.{Store, IsStoreOf, StandsFor, StandsForFiles}
-use Rattle.store_model.specs.Commands.{IsFormatted, HoldsOpen, IsApart, CanPlace, CanCommit, IsPutRefusal, HasRoot, AreBytesOf, IsRestoreRefusal, IsPlausible, with_segment, with_file_put}
+use Rattle.store_model.specs.Commands.{IsFormatted, HoldsOpen, IsApart, CanPlace, CanCommit, IsPlausible, with_segment, with_file_put}
+use Rattle.store_model.specs.Refusals.{IsPutRefusal, HasRoot, AreBytesOf, IsRestoreRefusal}
 use Rattle.recovery.specs.Opening.{IsOpenRefusal}
 use Rattle.recovery.specs.Formatting.{IsFormatRefusal}
-use Rattle.ingest_steps.specs.Steps.{HoldsPart, comes_behind}
+use Rattle.ingest_steps.specs.Steps.{HoldsPart, may_follow_a_write}
 use Rattle.backup_engine.specs.Line.{CommandLine, Format, Ingest, Restore}
 
 -- The command took effect: at status 0, and at 6, where only its reply could not be written.
@@ -77,7 +78,7 @@ may_write command Source = false
 may_write command Sink = true
 may_write (Format slots) (Refused DiskWrite) = true
 may_write (Format slots) (Refused refusal) = false
-may_write (Ingest name) (Refused refusal) = comes_behind refusal
+may_write (Ingest name) (Refused refusal) = may_follow_a_write refusal
 may_write (Restore name) (Refused refusal) = false
 
 -- What has to be so where a command gave up before its reply.

@@ -11,7 +11,8 @@ use Rattle.reply_text.specs.declared.ending.Ending.TheVariants.{Refused}
 use Rattle.reply_text.specs.Text.{stored_line}
 use Rattle.store_model.specs.Files.{Files, root_of}
 use Rattle.store_model.specs.Image.{IsSound, StandsForFiles}
-use Rattle.store_model.specs.Commands.{HoldsOpen, IsPutRefusal}
+use Rattle.store_model.specs.Commands.{HoldsOpen}
+use Rattle.store_model.specs.Refusals.{IsPutRefusal}
 use Rattle.backup_engine.specs.Line.{Ingest}
 use Rattle.backup_engine.specs.Clauses.{TakesIn, IsOpen, IsGivenUp, IsKeptByIngest}
 use Rattle.backup_engine.proofs.Restoring.{holds_open}

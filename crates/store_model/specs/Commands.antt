@@ -13,7 +13,12 @@ use Rattle.store_model.specs.Image.{Store, Encodes, IsStoreOf, names_of, last_se
 
 -- an empty store, as `format` makes it
 abbrev pub empty_store : ℕ → Store
-empty_store slots = record { slots = slots; selector = record { generation = 1; half = 0; last = 0 }; records = []; held = replicate slots None }
+empty_store slots = record {
+  slots = slots;
+  selector = record { generation = 1; half = 0; last = 0 };
+  records = [];
+  held = replicate slots None;
+}
 
 abbrev pub IsFormatted : ℕ → List ℕ → Type 0
 IsFormatted slots image = IsStoreOf image (empty_store slots) no_files
@@ -23,8 +28,8 @@ abbrev pub HoldsStore : (Store → Type 0) → List ℕ → Type 0
 HoldsStore P image = (store : Store) × Encodes image store × P store
 
 -- such a store, of which two slots or more are free: one that is opened
-abbrev pub HoldsOpen : (Store → Type 0) → List ℕ → Type 0
-HoldsOpen P image = (store : Store) × Encodes image store × (2 ≤ free_slots store.held) × P store
+abbrev pub HoldsOpenableStore : (Store → Type 0) → List ℕ → Type 0
+HoldsOpenableStore P image = (store : Store) × Encodes image store × (2 ≤ free_slots store.held) × P store
 
 -- the key of the segment of some bytes of a file
 abbrev pub leaf_key : List ℕ → List ℕ
@@ -36,19 +41,22 @@ copy_of store key = newest 0 store.held key
 
 -- the bytes are those of a segment that the image holds
 abbrev pub IsSegmentIn : List ℕ → List ℕ → Type 0
-IsSegmentIn image bytes = (store : Store) × Encodes image store × ((key : List ℕ) × ((copy : Copy) × (copy_of store key ≡ Some copy) × (bytes ≡ bytes_at copy.place image)))
+IsSegmentIn image bytes =
+    (store : Store) × Encodes image store
+    × ((key : List ℕ) × ((copy : Copy) × (copy_of store key ≡ Some copy) × (bytes ≡ bytes_at copy.place image)))
 
 -- No collisions: no two different ones of these byte lists have one digest.
 abbrev pub HasNoCollisions : (List ℕ → Type 0) → Type 0
 HasNoCollisions S = (a b : List ℕ) → S a → S b → sha256 a ≡ sha256 b → a ≡ b
 
 -- the segments that are held and the one that is offered, if it isn't empty, have no collisions
-abbrev pub IsApart : List ℕ → List ℕ → Type 0
-IsApart image bytes = HasNoCollisions (λ a. IsSegmentIn image a ⊎ ((a ≡ bytes) × (bytes ≢ [])))
+abbrev pub HasNoCollisionsWith : List ℕ → List ℕ → Type 0
+HasNoCollisionsWith image bytes = HasNoCollisions (λ a. IsSegmentIn image a ⊎ ((a ≡ bytes) × (bytes ≢ [])))
 
 -- a container more, of this segment: in the free slot of least number, under the next id
 abbrev pub with_container : List ℕ → Store → Store
-with_container bytes store = record store { held = with_slot (first_free store.held) (one_segment (suc (last_id store.held)) bytes) store.held }
+with_container bytes store =
+    record store { held = with_slot (first_free store.held) (one_segment (suc (last_id store.held)) bytes) store.held }
 
 -- The store that holds the segment of a file. One that is held is not added again, and the empty file has none.
 abbrev pub with_segment : List ℕ → Store → Store

@@ -21,10 +21,10 @@ abbrev pub HaveDigests : ℕ → List Entry → List ℕ → Type 0
 HaveDigests slot entries image = AllByRecursion (λ e. sha256 (range (data_at slot + e.offset) e.length image) ≡ e.digest) entries
 
 module _ (slot : ℕ) (old new : List ℕ) (same : SameOutside (slot_at slot) 262144 old new) where
-  -- slots behind it
+  -- slots after it
   rest_held : (from : ℕ) (held : List (Option HeaderValue)) → slot < from → HoldSlots from held old → HoldSlots from held new
-  rest_held from [] behind holds = tt
-  rest_held from (c ∷ cs) behind holds =
+  rest_held from [] after holds = tt
+  rest_held from (c ∷ cs) after holds =
       let other : from ≢ slot = omega arith in
       (slot_kept slot old new same from c other holds.0, rest_held (from + 1) cs (omega arith) holds.1)
 
@@ -60,9 +60,9 @@ module _ (slot : ℕ) (old new : List ℕ) (same : SameOutside (slot_at slot) 26
   header_copies from h differ right = entries_kept from h.kind [] h.entries differ right.entries (omega (arith, data_within h right))
 
   rest_copies : (from : ℕ) (held : List (Option HeaderValue)) → slot < from → AreHeaders held → AreCopies from held old → AreCopies from held new
-  rest_copies from [] behind headers copies = tt
-  rest_copies from (None ∷ cs) behind headers copies = rest_copies (from + 1) cs (omega arith) headers copies
-  rest_copies from (Some h ∷ cs) behind headers copies =
+  rest_copies from [] after headers copies = tt
+  rest_copies from (None ∷ cs) after headers copies = rest_copies (from + 1) cs (omega arith) headers copies
+  rest_copies from (Some h ∷ cs) after headers copies =
       let other : from ≢ slot = omega arith in
       (header_copies from h other headers.0 copies.0, rest_copies (from + 1) cs (omega arith) headers.1 copies.1)
 

@@ -9,6 +9,7 @@ pub mod Lookups
 pub mod NewestWith
 pub mod Placed
 pub mod Put
+pub mod Records
 pub mod Roots
 pub mod Sealed
 pub mod Sound

@@ -27,8 +27,8 @@ abbrev pub HoldsStore : (Store → Type 0) → List ℕ → Type 0
 HoldsStore P image = (store : Store) × Encodes image store × P store
 
 -- such a store, of which two slots or more are free: one that is opened
-abbrev pub HoldsOpen : (Store → Type 0) → List ℕ → Type 0
-HoldsOpen P image = (store : Store) × Encodes image store × (2 ≤ free_slots store.held) × P store
+abbrev pub HoldsOpenableStore : (Store → Type 0) → List ℕ → Type 0
+HoldsOpenableStore P image = (store : Store) × Encodes image store × (2 ≤ free_slots store.held) × P store
 
 -- the key of the segment of some bytes of a file
 abbrev pub leaf_key : List ℕ → List ℕ
@@ -47,8 +47,8 @@ abbrev pub HasNoCollisions : (List ℕ → Type 0) → Type 0
 HasNoCollisions S = (a b : List ℕ) → S a → S b → sha256 a ≡ sha256 b → a ≡ b
 
 -- the segments that are held and the one that is offered, if it isn't empty, have no collisions
-abbrev pub IsApart : List ℕ → List ℕ → Type 0
-IsApart image bytes = HasNoCollisions (λ a. IsSegmentIn image a ⊎ ((a ≡ bytes) × (bytes ≢ [])))
+abbrev pub HasNoCollisionsWith : List ℕ → List ℕ → Type 0
+HasNoCollisionsWith image bytes = HasNoCollisions (λ a. IsSegmentIn image a ⊎ ((a ≡ bytes) × (bytes ≢ [])))
 
 -- a container more, of this segment: in the free slot of least number, under the next id
 abbrev pub with_container : List ℕ → Store → Store

@@ -40,7 +40,7 @@ pub record Encodes (image : List ℕ) (store : Store) : Type 0 where
   pub different : DifferentIds store.held
 
 -- what is so of anything that an image of this size may hold
-pub record IsSound (size : ℕ) (store : Store) : Type 0 where
+pub record IsValidFor (size : ℕ) (store : Store) : Type 0 where
   pub count : IsSlotCount store.slots
   pub size_is : size ≡ size_of store.slots
   pub selector_right : IsSelector store.selector

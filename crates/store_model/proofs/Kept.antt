@@ -8,9 +8,8 @@ use Rattle.disk_format.specs.Layout.{slot_at, data_at}
 use Rattle.container_meta.specs.declared.entry.Entry.{Entry}
 use Rattle.container_meta.specs.declared.kind.Kind.{Kind}
 use Rattle.container_meta.specs.Spelling.{HeaderValue, IsHeader, Follow, bytes_of}
-use Rattle.store_model.specs.Slots.{HoldsSlot}
+use Rattle.store_model.specs.Slots.{HoldsSlot, HoldSlots, AreHeaders, Copy, newest, free_slots, first_free, with_slot}
 use Rattle.base_model.specs.Frames.{SameOutside}
-use Rattle.store_model.specs.Slots.{HoldSlots, AreHeaders, Copy, newest, free_slots, first_free, with_slot}
 use Rattle.store_model.specs.Image.{AreCopies, bytes_at}
 use Rattle.store_model.proofs.Copies.{data_within, newest_within}
 use Rattle.store_model.proofs.Frames.{slot_kept, place_kept}

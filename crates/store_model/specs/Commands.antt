@@ -17,7 +17,12 @@ use Rattle.store_model.specs.Image.{Store, Encodes, IsStoreOf, names_of, last_se
 
 -- an empty store, as `format` makes it
 abbrev pub empty_store : ℕ → Store
-empty_store slots = record { slots = slots; selector = record { generation = 1; half = 0; last = 0 }; records = []; held = replicate slots None }
+empty_store slots = record {
+  slots = slots;
+  selector = record { generation = 1; half = 0; last = 0 };
+  records = [];
+  held = replicate slots None;
+}
 
 abbrev pub IsFormatted : ℕ → List ℕ → Type 0
 IsFormatted slots image = IsStoreOf image (empty_store slots) no_files
@@ -40,7 +45,9 @@ copy_of store key = newest 0 store.held key
 
 -- the bytes are those of a segment that the image holds
 abbrev pub IsSegmentIn : List ℕ → List ℕ → Type 0
-IsSegmentIn image bytes = (store : Store) × Encodes image store × ((key : List ℕ) × ((copy : Copy) × (copy_of store key ≡ Some copy) × (bytes ≡ bytes_at copy.place image)))
+IsSegmentIn image bytes =
+    (store : Store) × Encodes image store
+    × ((key : List ℕ) × ((copy : Copy) × (copy_of store key ≡ Some copy) × (bytes ≡ bytes_at copy.place image)))
 
 -- No collisions: no two different ones of these byte lists have one digest.
 abbrev pub HasNoCollisions : (List ℕ → Type 0) → Type 0
@@ -52,7 +59,8 @@ HasNoCollisionsWith image bytes = HasNoCollisions (λ a. IsSegmentIn image a ⊎
 
 -- a container more, of this segment: in the free slot of least number, under the next id
 abbrev pub with_container : List ℕ → Store → Store
-with_container bytes store = record store { held = with_slot (first_free store.held) (one_segment (suc (last_id store.held)) bytes) store.held }
+with_container bytes store =
+    record store { held = with_slot (first_free store.held) (one_segment (suc (last_id store.held)) bytes) store.held }
 
 -- The store that holds the segment of a file. One that is held is not added again, and the empty file has none.
 abbrev pub with_segment : List ℕ → Store → Store
@@ -85,9 +93,11 @@ CanPlace bytes store =
 -- why the segment of a file that isn't empty is not placed
 abbrev pub IsPlaceRefusal : List ℕ → Store → Refusal → Type 0
 IsPlaceRefusal bytes store (Clash key (Length offered held)) =
-    (key ≡ leaf_key bytes) × (offered ≡ length bytes) × (offered ≢ held) × ((copy : Copy) × (copy_of store key ≡ Some copy) × (copy.place.length ≡ held))
+    (key ≡ leaf_key bytes) × (offered ≡ length bytes) × (offered ≢ held)
+    × ((copy : Copy) × (copy_of store key ≡ Some copy) × (copy.place.length ≡ held))
 IsPlaceRefusal bytes store (Full free) = (copy_of store (leaf_key bytes) ≡ None) × (free ≡ free_slots store.held) × (free ≤ 2)
-IsPlaceRefusal bytes store Numbers = (copy_of store (leaf_key bytes) ≡ None) × (2 < free_slots store.held) × (last_id store.held ≡ 2 ^ 64 - 2)
+IsPlaceRefusal bytes store Numbers =
+    (copy_of store (leaf_key bytes) ≡ None) × (2 < free_slots store.held) × (last_id store.held ≡ 2 ^ 64 - 2)
 IsPlaceRefusal bytes store refusal = ⊥
 
 -- a good name can have a new root: it has room among the names, its record in the half, and a number
@@ -100,13 +110,16 @@ pub record CanCommit (name : List ℕ) (store : Store) : Type 0 where
 -- why a name is not given a root
 abbrev pub IsCommitRefusal : List ℕ → Store → Refusal → Type 0
 IsCommitRefusal name store BadName = ¬ (IsName name)
-IsCommitRefusal name store TooMany = IsName name × (IsFull (names_of store) name ⊎ (HasRoom (names_of store) name × (half_cells ≤ length store.records)))
-IsCommitRefusal name store Numbers = IsName name × HasRoom (names_of store) name × (length store.records < half_cells) × (last_sequence store ≡ 2 ^ 64 - 1)
+IsCommitRefusal name store TooMany =
+    IsName name × (IsFull (names_of store) name ⊎ (HasRoom (names_of store) name × (half_cells ≤ length store.records)))
+IsCommitRefusal name store Numbers =
+    IsName name × HasRoom (names_of store) name × (length store.records < half_cells) × (last_sequence store ≡ 2 ^ 64 - 1)
 IsCommitRefusal name store refusal = ⊥
 
 -- why a file is not put in: its segment is not placed, or else its name is not given its root
 abbrev pub IsPutRefusal : List ℕ → List ℕ → Store → Refusal → Type 0
-IsPutRefusal name bytes store refusal = ((bytes ≢ []) × IsPlaceRefusal bytes store refusal) ⊎ (CanPlace bytes store × IsCommitRefusal name store refusal)
+IsPutRefusal name bytes store refusal =
+    ((bytes ≢ []) × IsPlaceRefusal bytes store refusal) ⊎ (CanPlace bytes store × IsCommitRefusal name store refusal)
 
 -- the name has this root
 abbrev pub HasRoot : List ℕ → Root → Store → Type 0
@@ -153,11 +166,13 @@ IsRootRefusal root refusal store image = ⊥
 abbrev pub IsRestoreRefusal : List ℕ → Refusal → Store → List ℕ → Type 0
 IsRestoreRefusal name BadName store image = ¬ (IsName name)
 IsRestoreRefusal name NoFile store image = IsName name × (finite.get (names_of store) name ≡ None)
-IsRestoreRefusal name refusal store image = IsName name × ((root : Root) × HasRoot name root store × IsRootRefusal root refusal store image)
+IsRestoreRefusal name refusal store image =
+    IsName name × ((root : Root) × HasRoot name root store × IsRootRefusal root refusal store image)
 
 -- these are the bytes of a root: none, or those of its newest copy
 abbrev pub AreBytesOf : Root → List ℕ → Store → List ℕ → Type 0
-AreBytesOf root bytes store image = (bytes ≡ []) ⊎ ((copy : Copy) × (copy_of store (root_key root) ≡ Some copy) × (bytes_at copy.place image ≡ bytes))
+AreBytesOf root bytes store image =
+    (bytes ≡ []) ⊎ ((copy : Copy) × (copy_of store (root_key root) ≡ Some copy) × (bytes_at copy.place image ≡ bytes))
 
 -- what a refusal says of itself, whatever the disk
 abbrev pub IsPlausible : Refusal → Type 0

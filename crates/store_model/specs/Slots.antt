@@ -63,7 +63,8 @@ place_of slot e = record { slot = slot; offset = e.offset; length = e.length; le
 abbrev pub copy_in : ℕ → Option HeaderValue → List ℕ → Option Copy
 copy_in slot None key = None
 copy_in slot (Some h) key =
-    option_map (λ e. record { id = h.id; place = place_of slot e }) (find (λ e. bytes_eq (key_of (kind_byte h.kind) e.digest) key) h.entries)
+    option_map (λ e. record { id = h.id; place = place_of slot e })
+    (find (λ e. bytes_eq (key_of (kind_byte h.kind) e.digest) key) h.entries)
 
 -- the one of the greater id; ids differ
 abbrev pub newer : Option Copy → Option Copy → Option Copy

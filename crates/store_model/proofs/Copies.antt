@@ -100,7 +100,7 @@ both_true true b e = (refl, e)
 both_true false b e = absurd cc
 
 -- the lengths of segments
-length_within : (kind : Kind) (n : ℕ) → is_length kind n ≡ true → (1 ≤ n) × (n ≤ 16384)
+pub length_within : (kind : Kind) (n : ℕ) → is_length kind n ≡ true → (1 ≤ n) × (n ≤ 16384)
 length_within Leaf n e =
     let parts = both_true (nat_le 1 n) (nat_le n 16384) e in
     (leb-true 1 n parts.0, leb-true n 16384 parts.1)

@@ -1,5 +1,5 @@
 //! Reading a file back.
-ghost use Rattle.std.specs.Prelude.{◌≡◌, ◌≢◌, ◌+◌, ◌≤◌, length, IfOk, IfErr};
+ghost use Rattle.std.specs.Prelude.{◌≡◌, ◌+◌, ◌≤◌, length, OnOk, IfOk, IfErr};
 ghost use Rattle.sha2.specs.Sha256.{sha256};
 ghost use Rattle.dd_disk.specs.Ending.{ending, Reads};
 ghost use Rattle.dd_disk.specs.Shows.{Shows};
@@ -22,7 +22,8 @@ use store_state::OpenStore;
 
 /// The root that a name has.
 pub fn root_named(opened: &OpenStore, name: &str) -> Result<Root, Refusal>
-    ensures root { IfOk result (λ root. IsName name.now × ((store : Store) → RepresentsNames store opened.now → HasRoot name.now root store)) }
+    ensures named { OnOk result (IsName name.now) }
+    ensures root { IfOk result (λ root. (store : Store) → RepresentsNames store opened.now → HasRoot name.now root store) }
     ensures refused { IfErr result (IsNameRefusal opened.now name.now) }
 {
     match opened.names.get(name.as_bytes()) {

@@ -3,7 +3,7 @@
 use Rattle.std.specs.Prelude.{◌≡◌, ◌≢◌, ◌⊎◌, ℕ, ◌+◌, ◌-◌, ◌^◌, ◌<◌, ◌≤◌, ◌==◌, if◌then◌else◌, List, [], length, Option, Some, None}
 use Rattle.std.specs.FinMap as finite
 use Rattle.sha2.specs.Sha256.{sha256}
-use Rattle.base_model.specs.Bytes.{key_of}
+use Rattle.base_model.specs.Bytes.{range, key_of}
 use Rattle.disk_format.specs.declared.numbers.TheConstants.{RESERVE, LAST_ID}
 use Rattle.disk_format.specs.declared.why.Why.TheVariants.{Field}
 use Rattle.disk_format.specs.Layout.{data_at, half_cells}
@@ -27,9 +27,11 @@ FitsPlace bytes refusal = ⊥
 
 -- why it is not placed
 abbrev pub IsPlaceRefusal : List ℕ → Store → Refusal → Type 0
-IsPlaceRefusal bytes store (Clash key (Length offered held)) = (copy : Copy) × (copy_of store (leaf_key bytes) ≡ Some copy) × (copy.place.length ≡ held)
+IsPlaceRefusal bytes store (Clash key (Length offered held)) =
+    (copy : Copy) × (copy_of store (leaf_key bytes) ≡ Some copy) × (copy.place.length ≡ held)
 IsPlaceRefusal bytes store (Full free) = (copy_of store (leaf_key bytes) ≡ None) × (free ≡ free_slots store.held)
-IsPlaceRefusal bytes store Numbers = (copy_of store (leaf_key bytes) ≡ None) × (RESERVE < free_slots store.held) × (last_id store.held ≡ LAST_ID)
+IsPlaceRefusal bytes store Numbers =
+    (copy_of store (leaf_key bytes) ≡ None) × (RESERVE < free_slots store.held) × (last_id store.held ≡ LAST_ID)
 IsPlaceRefusal bytes store refusal = ⊥
 
 -- ---- the name of a file
@@ -44,7 +46,8 @@ FitsCommit name refusal = ⊥
 abbrev pub IsCommitRefusal : List ℕ → Store → Refusal → Type 0
 IsCommitRefusal name store BadName = Unit {0}
 IsCommitRefusal name store TooMany = IsFull (names_of store) name ⊎ (HasRoom (names_of store) name × (half_cells ≤ length store.records))
-IsCommitRefusal name store Numbers = HasRoom (names_of store) name × (length store.records < half_cells) × (last_sequence store ≡ 2 ^ 64 - 1)
+IsCommitRefusal name store Numbers =
+    HasRoom (names_of store) name × (length store.records < half_cells) × (last_sequence store ≡ 2 ^ 64 - 1)
 IsCommitRefusal name store refusal = ⊥
 
 -- ---- both
@@ -55,7 +58,8 @@ FitsPut name bytes refusal = ((bytes ≢ []) × FitsPlace bytes refusal) ⊎ Fit
 
 abbrev pub IsPutRefusal : List ℕ → List ℕ → Store → Refusal → Type 0
 IsPutRefusal name bytes store refusal =
-    ((bytes ≢ []) × FitsPlace bytes refusal × IsPlaceRefusal bytes store refusal) ⊎ (CanPlace bytes store × FitsCommit name refusal × IsCommitRefusal name store refusal)
+    ((bytes ≢ []) × FitsPlace bytes refusal × IsPlaceRefusal bytes store refusal)
+    ⊎ (CanPlace bytes store × FitsCommit name refusal × IsCommitRefusal name store refusal)
 
 -- ---- a file that is given back
 
@@ -67,41 +71,50 @@ HasRoot name root store = (sequence : ℕ) × (finite.get (names_of store) name 
 abbrev pub root_key : Root → List ℕ
 root_key root = key_of (if root.level == 0 then 0 else 1) root.digest
 
--- a root of a file that isn't empty, whose newest copy is this
-pub record HasCopyAt (root : Root) (copy : Copy) (store : Store) : Type 0 where
-  pub not_empty : root.length ≢ 0
-  pub copy_is : copy_of store (root_key root) ≡ Some copy
+-- of a root: its file isn't empty, and the bytes of the copy have another digest or another length than the root says
+abbrev pub FitsRoot : Root → Refusal → Type 0
+FitsRoot root (Missing key) = (root.length ≢ 0) × (key ≡ root_key root)
+FitsRoot root (Corrupt slot offset count want got) = (root.length ≢ 0) × (want ≡ root.digest) × (want ≢ got)
+FitsRoot root (Damaged at (Field offset got)) = (root.length ≢ 0) × (offset ≡ 0) × (got ≢ root.length)
+FitsRoot root refusal = ⊥
 
--- the root's copy has another digest
-pub record IsCorruptCopy (root : Root) (slot offset count : ℕ) (got : List ℕ) (store : Store) (image : List ℕ) : Type 0 where
+-- the newest copy of a root's segment has this place
+pub record HasCopyIn (root : Root) (store : Store) (slot offset count : ℕ) : Type 0 where
   pub copy : Copy
-  pub there : HasCopyAt root copy store
+  pub copy_is : copy_of store (root_key root) ≡ Some copy
   pub slot_is : slot ≡ copy.place.slot
   pub offset_is : offset ≡ copy.place.offset
   pub count_is : count ≡ copy.place.length
-  pub got_is : got ≡ sha256 (bytes_at copy.place image)
 
--- the root's copy has its digest, and another length: its place is damaged at field 0
-pub record HasOtherLength (root : Root) (at got : ℕ) (store : Store) (image : List ℕ) : Type 0 where
+-- it begins at this byte of the image
+pub record HasCopyAt (root : Root) (store : Store) (at count : ℕ) : Type 0 where
   pub copy : Copy
-  pub there : HasCopyAt root copy store
+  pub copy_is : copy_of store (root_key root) ≡ Some copy
   pub at_is : at ≡ data_at copy.place.slot + copy.place.offset
-  pub got_is : got ≡ copy.place.length
-  pub digest_is : sha256 (bytes_at copy.place image) ≡ root.digest
+  pub count_is : count ≡ copy.place.length
 
-abbrev pub FitsRoot : Root → Refusal → Type 0
-FitsRoot root (Missing key) = (root.length ≢ 0) × (key ≡ root_key root)
-FitsRoot root (Corrupt slot offset count want got) = (want ≡ root.digest) × (want ≢ got)
-FitsRoot root (Damaged at (Field offset got)) = (offset ≡ 0) × (got ≢ root.length)
-FitsRoot root refusal = ⊥
+-- Why the file of a root is not given back, by what the store holds: no copy of its segment, or one at the place that is told.
+abbrev pub IsRootRefusal : Root → Store → Refusal → Type 0
+IsRootRefusal root store (Missing key) = copy_of store (root_key root) ≡ None
+IsRootRefusal root store (Corrupt slot offset count want got) = HasCopyIn root store slot offset count
+IsRootRefusal root store (Damaged at (Field offset got)) = HasCopyAt root store at got
+IsRootRefusal root store refusal = ⊥
 
--- why the file of a root is not given back
-abbrev pub IsRootRefusal : Root → Refusal → Store → List ℕ → Type 0
-IsRootRefusal root (Missing key) store image = copy_of store (root_key root) ≡ None
-IsRootRefusal root (Corrupt slot offset count want got) store image = IsCorruptCopy root slot offset count got store image
-IsRootRefusal root (Damaged at (Field offset got)) store image = HasOtherLength root at got store image
-IsRootRefusal root refusal store image = ⊥
+-- so many bytes, of this digest, were found at a byte of the image
+pub record WereFound (shown : (List ℕ → Type 0) → Type 0) (at count : ℕ) (digest : List ℕ) : Type 0 where
+  pub bytes : List ℕ
+  pub long : length bytes ≡ count
+  pub digest_is : sha256 bytes ≡ digest
+  pub there : shown (λ image. range at count image ≡ bytes)
+
+-- And by what was found at that place: bytes of another digest, or of the root's.
+abbrev pub HasFound : ((List ℕ → Type 0) → Type 0) → Root → Refusal → Type 0
+HasFound shown root (Missing key) = Unit {0}
+HasFound shown root (Corrupt slot offset count want got) = WereFound shown (data_at slot + offset) count got
+HasFound shown root (Damaged at (Field offset got)) = WereFound shown at got root.digest
+HasFound shown root refusal = ⊥
 
 -- these are the bytes of a root: none, or those of its newest copy
 abbrev pub AreBytesOf : Root → List ℕ → Store → List ℕ → Type 0
-AreBytesOf root bytes store image = (bytes ≡ []) ⊎ ((copy : Copy) × (copy_of store (root_key root) ≡ Some copy) × (bytes_at copy.place image ≡ bytes))
+AreBytesOf root bytes store image =
+    (bytes ≡ []) ⊎ ((copy : Copy) × (copy_of store (root_key root) ≡ Some copy) × (bytes_at copy.place image ≡ bytes))

@@ -1,7 +1,7 @@
 -- Which store the tables in memory represent (docs/MODEL.md, 'The running store').
 use Rattle.std.specs.Prelude.{◌≡◌, ℕ}
 use Rattle.journal_cells.specs.Journal.{IsTold}
-use Rattle.store_model.specs.Image.{Store, IsSound}
+use Rattle.store_model.specs.Image.{Store, IsValidFor}
 use Rattle.store_state.specs.declared.open_store.OpenStore.{OpenStore}
 use Rattle.store_state.specs.Containers.{RepresentsContainers}
 
@@ -17,4 +17,4 @@ pub record Represents (store : Store) (o : OpenStore) : Type 0 where
 
 -- the tables are those of some store that a disk of this size may hold
 abbrev pub RepresentsSome : ℕ → OpenStore → Type 0
-RepresentsSome size o = (store : Store) × Represents store o × IsSound size store
+RepresentsSome size o = (store : Store) × Represents store o × IsValidFor size store

@@ -1,10 +1,11 @@
 //! The containers of a store in memory.
 ghost use Rattle.std.specs.Prelude.{◌≡◌, ◌∷◌, ◌++◌, [], List, Option, None, Some, length, not, false, count_by, position, ◌==◌, ◌≤◌, IsTrue, option_map, OnOk, IfSome};
+ghost use Rattle.std.specs.FinMap as finite;
 ghost use Rattle.base_model.specs.Bytes.{key_of};
 ghost use Rattle.disk_format.specs.declared.numbers.TheConstants.{MOST_SLOTS as MANY};
 ghost use Rattle.container_meta.specs.Spelling.{HeaderValue, IsHeader, view, has_digest};
 ghost use Rattle.container_meta.specs.declared.entry.Entry.{Entry as EntryValue};
-ghost use Rattle.store_model.specs.Slots.{AreHeaders, IsFresh, place_of, free_slots};
+ghost use Rattle.store_model.specs.Slots.{AreHeaders, IsUnusedId, place_of, free_slots};
 ghost use Rattle.store_state.specs.Containers.{RepresentsContainers, IsFirstFree, ArePart, is_newer};
 
 use container_meta::{Entry, Key, Meta, Place};
@@ -81,7 +82,7 @@ impl Containers {
     fn is_newer(&self, key: &Key, id: u64) -> bool
         ensures { result ≡ is_newer self.now.index self.now.ids.items key.now id }
     {
-        match self.index.find(key) {
+        match self.place_of(key) {
             Some(place) => {
                 let known = self.ids.get(place.slot as usize).copied().unwrap_or(0);
                 known < id
@@ -124,11 +125,18 @@ impl Containers {
         Ok(())
     }
 
+    /// The place of a key's newest copy, if a container has one.
+    pub fn place_of(&self, key: &Key) -> Option<Place>
+        ensures { result ≡ finite.get self.now.index key.now }
+    {
+        self.index.find(key)
+    }
+
     /// Whether no container has this id, which isn't 0.
-    pub fn is_fresh(&self, id: u64) -> bool
+    pub fn is_unused_id(&self, id: u64) -> bool
         requires { 1 ≤ id }
-        ensures fresh { (held : List (Option HeaderValue)) → RepresentsContainers held self.now → IsTrue result → IsFresh id held }
-        ensures used { (held : List (Option HeaderValue)) → RepresentsContainers held self.now → IsTrue (not result) → IsFresh id held → ⊥ }
+        ensures unused { (held : List (Option HeaderValue)) → RepresentsContainers held self.now → IsTrue result → IsUnusedId id held }
+        ensures used { (held : List (Option HeaderValue)) → RepresentsContainers held self.now → IsTrue (not result) → IsUnusedId id held → ⊥ }
     {
         !self.ids.contains(&id)
     }

@@ -19,7 +19,7 @@ use Rattle.reply_text.specs.declared.ending.Ending.TheVariants.{Words, Source, S
 use Rattle.reply_text.specs.Text.{fault_line}
 use Rattle.store_model.specs.Files.{Files, with_file}
 use Rattle.store_model.specs.Image.{Store, IsStoreOf, StandsFor, StandsForFiles, names_of}
-use Rattle.store_model.specs.Commands.{IsFormatted, HoldsOpen, IsApart, CanPlace, CanCommit, with_segment, with_file_put}
+use Rattle.store_model.specs.Commands.{IsFormatted, HoldsOpenableStore, HasNoCollisionsWith, CanPlace, CanCommit, with_segment, with_file_put}
 use Rattle.store_model.specs.Refusals.{FitsPut, IsPutRefusal, HasRoot, FitsRoot, IsRootRefusal, AreBytesOf}
 use Rattle.store_state.specs.Refused.{blames}
 use Rattle.recovery.specs.Opening.{IsOpenRefusal}
@@ -43,11 +43,11 @@ pub record TakesIn (left : Option (List ℕ)) (bytes : List ℕ) : Type 0 where
 
 -- a store that is opened
 abbrev pub IsOpen : List ℕ → Type 0
-IsOpen image = HoldsOpen (λ store. Unit {0}) image
+IsOpen image = HoldsOpenableStore (λ store. Unit {0}) image
 
 -- a store that is opened, and of which P holds with the image
 abbrev pub HoldsWith : (Store → List ℕ → Type 0) → List ℕ → Type 0
-HoldsWith P image = HoldsOpen (λ store. P store image) image
+HoldsWith P image = HoldsOpenableStore (λ store. P store image) image
 
 -- ---- causes
 
@@ -58,14 +58,14 @@ IsTakeRefusal shown left name Memory = Unit {0}
 IsTakeRefusal shown left name DiskWrite = Unit {0}
 IsTakeRefusal shown left name TooLong = shown IsOpen × Known left (λ bytes. 2048 < length bytes)
 IsTakeRefusal shown left name refusal =
-    (bytes : List ℕ) × TakesIn left bytes × FitsPut name bytes refusal × shown (HoldsOpen (λ store. IsPutRefusal name bytes store refusal))
+    (bytes : List ℕ) × TakesIn left bytes × FitsPut name bytes refusal × shown (HoldsOpenableStore (λ store. IsPutRefusal name bytes store refusal))
 
 -- why a file is not given back by a store that was opened
 abbrev pub IsReadRefusal : ((List ℕ → Type 0) → Type 0) → List ℕ → Refusal → Type 0
 IsReadRefusal shown name Memory = Unit {0}
 IsReadRefusal shown name DiskRead = Unit {0}
 IsReadRefusal shown name BadName = ¬ (IsName name) × shown IsOpen
-IsReadRefusal shown name NoFile = IsName name × shown (HoldsOpen (λ store. map.get (names_of store) name ≡ None))
+IsReadRefusal shown name NoFile = IsName name × shown (HoldsOpenableStore (λ store. map.get (names_of store) name ≡ None))
 IsReadRefusal shown name refusal =
     IsName name × ((root : Root) × FitsRoot root refusal × shown (HoldsWith (λ store image. HasRoot name root store × IsRootRefusal root refusal store image)))
 
@@ -125,9 +125,9 @@ pub record Formats (slots : ℕ) (disk disk_now : DiskView) : Type 0 where
 pub record Ingests (name bytes : List ℕ) (left : Option (List ℕ)) (disk disk_now : DiskView) : Type 0 where
   pub name_is_good : IsName name
   pub taken : TakesIn left bytes
-  pub can : Shows disk disk_now (HoldsOpen (λ store. CanPlace bytes store × CanCommit name store))
-  pub stands : Known disk.content (λ old. KnownWith disk_now.content (λ new. IsApart old bytes → (files : Files) (last : ℕ) → StandsFor old files last → StandsFor new (with_file files name bytes) (suc last)))
-  pub adds : Known disk.content (λ old. KnownWith disk_now.content (λ new. IsApart old bytes → (store : Store) (files : Files) → IsStoreOf old store files → IsStoreOf new (with_file_put name bytes store) (with_file files name bytes)))
+  pub can : Shows disk disk_now (HoldsOpenableStore (λ store. CanPlace bytes store × CanCommit name store))
+  pub stands : Known disk.content (λ old. KnownWith disk_now.content (λ new. HasNoCollisionsWith old bytes → (files : Files) (last : ℕ) → StandsFor old files last → StandsFor new (with_file files name bytes) (suc last)))
+  pub adds : Known disk.content (λ old. KnownWith disk_now.content (λ new. HasNoCollisionsWith old bytes → (store : Store) (files : Files) → IsStoreOf old store files → IsStoreOf new (with_file_put name bytes store) (with_file files name bytes)))
 
 -- `restore` that took effect: the bytes have the length and digest of the root that the name was read to have, and lie at
 -- its newest copy; and are those of the file where the disk tells its content.
@@ -143,7 +143,7 @@ pub record Restores (name bytes : List ℕ) (disk disk_now : DiskView) : Type 0 
 -- (`IsLeftByFormat` is recovery's).
 abbrev pub IsLeftByIngest : List ℕ → Option (List ℕ) → List ℕ → List ℕ → Type 0
 IsLeftByIngest name left old new =
-    (new ≡ old) ⊎ (IsOpen old × ((bytes : List ℕ) × TakesIn left bytes × (IsApart old bytes → (store : Store) (files : Files) → IsStoreOf old store files → HoldsPart name bytes store files new)))
+    (new ≡ old) ⊎ (IsOpen old × ((bytes : List ℕ) × TakesIn left bytes × (HasNoCollisionsWith old bytes → (store : Store) (files : Files) → IsStoreOf old store files → HoldsPart name bytes store files new)))
 
 -- What a refused `ingest` leaves: what stood before, or the store that was opened, with the file's segment.
 abbrev pub IsKeptByIngest : Option (List ℕ) → List ℕ → List ℕ → Type 0
@@ -154,4 +154,4 @@ IsKeptByIngest left old new =
 abbrev pub MayStandFor : List ℕ → Option (List ℕ) → List ℕ → Files → List ℕ → Type 0
 MayStandFor name left old files image =
     StandsForFiles image files
-    ⊎ ((bytes : List ℕ) × TakesIn left bytes × (IsApart old bytes → StandsForFiles image files ⊎ StandsForFiles image (with_file files name bytes)))
+    ⊎ ((bytes : List ℕ) × TakesIn left bytes × (HasNoCollisionsWith old bytes → StandsForFiles image files ⊎ StandsForFiles image (with_file files name bytes)))

@@ -1,3 +1,3 @@
 mod Differ
-mod Headers
-mod Slots
+pub mod Freeing
+pub mod Sealing

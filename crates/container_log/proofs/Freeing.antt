@@ -1,7 +1,7 @@
 -- What a write of a slot's gate leaves, by what the slot holds.
-use Rattle.std.proofs.Common.{◌≡◌, ◌≢◌, ◌⊎◌, inl, inr, ℕ, ◌+◌, ◌≤◌, ◌==◌, List, [], ◌∷◌, ◌++◌, length, true, false, Some, None, refl, sym, ◌∙◌, ap, arith, subst}
+use Rattle.std.proofs.Common.{◌≡◌, ◌⊎◌, inl, inr, ℕ, ◌+◌, ◌≤◌, ◌==◌, List, [], ◌∷◌, ◌++◌, length, true, false, Some, None, refl, sym, ◌∙◌, ap, arith, subst}
 use Rattle.std.proofs.lemmas.Bool.{eqb-true, eqb-false}
-use Rattle.base_model.specs.Bytes.{range, written, byte_at}
+use Rattle.base_model.specs.Bytes.{range, byte_at}
 use Rattle.base_model.specs.Frames.{SameOutside}
 use Rattle.base_model.proofs.ByteAt.{byte-written}
 use Rattle.base_model.proofs.Frames.{same_written}
@@ -12,7 +12,7 @@ use Rattle.dd_disk.specs.Ending.{Ending}
 use Rattle.dd_disk.specs.View.{DiskView}
 use Rattle.dd_disk.specs.Writes.{Puts, Torn, Writes}
 use Rattle.dd_disk.proofs.Writes.{writes_weaker}
-use Rattle.container_meta.specs.Spelling.{HeaderValue, header_spelling, front_spelling}
+use Rattle.container_meta.specs.Spelling.{HeaderValue, front_spelling}
 use Rattle.store_model.specs.Slots.{HoldsSlot}
 use Rattle.container_log.specs.Writing.{Frees, IsFreed}
 
@@ -36,21 +36,23 @@ module _ (slot gate : ℕ) (old new : List ℕ) (fits : slot_at slot + SLOT_BYTE
       let at = slot_at slot in
       let was : byte_at at old ≡ CONTAINER_GATE = ap (λ (p : ℕ). byte_at p old) (omega arith) ∙ sym (byte-range 0 at HEADER_BYTES old (omega arith)) ∙ ap (byte_at 0) held.1 in
       let first : range at 1 new ≡ range at 1 old =
-      range-one at new (omega (arith, fits, same.size)) ∙ ap (λ (b : ℕ). b ∷ []) (gate_is ∙ opened ∙ sym was) ∙ sym (range-one at old (omega (arith, fits))) in
-      (
+      range-one at new (omega (arith, fits, same.size)) ∙ ap (λ (b : ℕ). b ∷ []) (gate_is ∙ opened ∙ sym was) ∙ sym (range-one at old (omega (arith, fits))) in (
         held.0,
         sym (range-join at 1 49663 (at + 1) new refl)
-        ∙ ap (λ (l : List ℕ). l ++ range (at + 1) 49663 new) first
-        ∙ ap (λ (l : List ℕ). range at 1 old ++ l) (same.after (at + 1) 49663 (omega arith))
-        ∙ range-join at 1 49663 (at + 1) old refl
-        ∙ held.1,
+            ∙ ap (λ (l : List ℕ). l ++ range (at + 1) 49663 new) first
+            ∙ ap (λ (l : List ℕ). range at 1 old ++ l) (same.after (at + 1) 49663 (omega arith))
+            ∙ range-join at 1 49663 (at + 1) old refl
+            ∙ held.1,
       )
 
   gate_torn : Frees slot old new
-  gate_torn = (same, λ h held. elim (gate == CONTAINER_GATE) as (λ b. (gate == CONTAINER_GATE) ≡ b → HoldsSlot new slot None ⊎ HoldsSlot new slot (Some h)) [
-    | true ↦ λ opened. inr (header_kept h (eqb-true gate CONTAINER_GATE opened) held)
-    | false ↦ λ closed. inl (λ opened. eqb-false gate CONTAINER_GATE closed (sym gate_is ∙ opened))
-  ] refl)
+  gate_torn = (
+    same,
+    λ h held. elim (gate == CONTAINER_GATE) as (λ b. (gate == CONTAINER_GATE) ≡ b → HoldsSlot new slot None ⊎ HoldsSlot new slot (Some h)) [
+      | true ↦ λ opened. inr (header_kept h (eqb-true gate CONTAINER_GATE opened) held)
+      | false ↦ λ closed. inl (λ opened. eqb-false gate CONTAINER_GATE closed (sym gate_is ∙ opened))
+    ] refl,
+  )
 
 zero_written : (slot : ℕ) (old new : List ℕ) → slot_at slot + SLOT_BYTES ≤ length old → Puts (slot_at slot) (0 ∷ []) old new → IsFreed slot old new
 zero_written slot old new fits stands = (same slot 0 old new fits stands, λ opened. absurd (omega (arith, gate_is slot 0 old new fits stands, opened)))

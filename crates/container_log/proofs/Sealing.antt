@@ -1,5 +1,5 @@
 -- What the write of a container leaves, by what its slot holds.
-use Rattle.std.proofs.Common.{◌≡◌, ◌≢◌, ◌⊎◌, inl, inr, ℕ, ◌+◌, ◌-◌, ◌≤◌, ◌==◌, List, [], ◌∷◌, length, drop, true, false, Some, None, refl, sym, ◌∙◌, ap, arith, subst}
+use Rattle.std.proofs.Common.{◌≡◌, ◌≢◌, ◌⊎◌, inl, inr, ℕ, ◌+◌, ◌-◌, ◌≤◌, ◌==◌, List, [], ◌∷◌, length, drop, true, false, refl, sym, ◌∙◌, ap, arith, subst}
 use Rattle.std.proofs.lemmas.Bool.{leb-true, eqb-true, eqb-false}
 use Rattle.std.proofs.lemmas.List.Sums.{sum_by-append}
 use Rattle.base_model.specs.Bytes.{range, written, byte_at}
@@ -19,7 +19,7 @@ use Rattle.dd_disk.proofs.Writes.{writes_weaker}
 use Rattle.container_meta.specs.declared.kind.Kind.{Kind}
 use Rattle.container_meta.specs.Segments.{Segment, StandFrom, bytes_in}
 use Rattle.container_meta.specs.Spelling.{IsHeader, header_of, header_spelling, front_spelling}
-use Rattle.store_model.specs.Slots.{HoldsSlot, HoldsContainer, StandAt}
+use Rattle.store_model.specs.Slots.{HoldsContainer, StandAt}
 use Rattle.container_log.specs.Writing.{Seals, IsSealed}
 
 -- the bytes of a slot with a container
@@ -39,9 +39,9 @@ stand_at : (offset at place : ℕ) (segments : List Segment) (cell image : List 
 stand_at offset at place [] cell image stands there fits stored = tt
 stand_at offset at place (s ∷ ss) cell image stands there fits stored = (
   ap (λ (p : ℕ). range p (length s.bytes) image) there
-  ∙ sym (range-range (HEADER_BYTES + offset) (length s.bytes) at SLOT_BYTES image (omega (arith, fits, bytes_in-cons s ss)))
-  ∙ ap (range (HEADER_BYTES + offset) (length s.bytes)) stands
-  ∙ stored.0,
+      ∙ sym (range-range (HEADER_BYTES + offset) (length s.bytes) at SLOT_BYTES image (omega (arith, fits, bytes_in-cons s ss)))
+      ∙ ap (range (HEADER_BYTES + offset) (length s.bytes)) stands
+      ∙ stored.0,
   stand_at (offset + length s.bytes) at (place + length s.bytes) ss cell image stands (omega (arith, there)) (omega (arith, fits, bytes_in-cons s ss)) stored.1,
 )
 
@@ -70,9 +70,9 @@ module _ (slot id : ℕ) (kind : Kind) (segments : List Segment) (cell : List �
     header = (
       is.right,
       ap (λ (p : ℕ). range p HEADER_BYTES image) (omega arith)
-      ∙ sym (range-range 0 HEADER_BYTES (slot_at slot) SLOT_BYTES image (omega arith))
-      ∙ ap (range 0 HEADER_BYTES) stands
-      ∙ is.header,
+          ∙ sym (range-range 0 HEADER_BYTES (slot_at slot) SLOT_BYTES image (omega arith))
+          ∙ ap (range 0 HEADER_BYTES) stands
+          ∙ is.header,
     );
     bytes = stand_at 0 (slot_at slot) (data_at slot) segments cell image stands (omega arith) (omega (arith, few)) is.stored;
   }

@@ -29,7 +29,8 @@ SameButGate slot old new = SameOutside (slot_at slot) 1 old new
 
 -- A slot is being closed: one that had a container has it still, or is closed; all else is as it was.
 abbrev pub Frees : ℕ → List ℕ → List ℕ → Type 0
-Frees slot old new = SameButGate slot old new × ((h : HeaderValue) → HoldsSlot old slot (Some h) → HoldsSlot new slot None ⊎ HoldsSlot new slot (Some h))
+Frees slot old new =
+    SameButGate slot old new × ((h : HeaderValue) → HoldsSlot old slot (Some h) → HoldsSlot new slot None ⊎ HoldsSlot new slot (Some h))
 
 -- the slot is closed, and all but its gate is as it was
 abbrev pub IsFreed : ℕ → List ℕ → List ℕ → Type 0

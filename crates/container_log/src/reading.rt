@@ -8,7 +8,7 @@ ghost use Rattle.dd_disk.specs.Shows.{Shows};
 ghost use Rattle.container_meta.specs.Spelling.{HeaderValue, IsHeader, view, header_spelling};
 ghost use Rattle.store_model.specs.Slots.{HoldsSlot};
 ghost use Rattle.container_log.specs.declared.fault.LogFault.TheVariants.{Corrupt, DiskRead};
-ghost use Rattle.container_log.specs.Faults.{blames, fails, why_of as named_by, IsHeaderFault, IsSegmentFault};
+ghost use Rattle.container_log.specs.Faults.{blames, fails, why_of as named_by, IsDecodeFault, IsHeaderFault, IsSegmentFault};
 ghost use Rattle.container_log.specs.Parts.{header_bytes, segment_bytes, ReadAs};
 
 use crate::fault::LogFault;
@@ -107,7 +107,7 @@ pub(crate) fn header_in(alloc: Global, at: u64, bytes: &[u8]) -> Result<Meta, Lo
     requires { length bytes.now ≡ HEADER_BYTES }
     ensures found { IfOk result (λ m. IsHeader (view m) × (bytes.now ≡ header_spelling (view m))) }
     ensures only { (h : HeaderValue) → IsHeader h → bytes.now ≡ header_spelling h → UnlessFailed fails (λ m. view m ≡ h) result }
-    ensures fault { IfErr result (IsHeaderFault (λ found. found ≡ bytes.now) at) }
+    ensures fault { IfErr result (IsDecodeFault bytes.now at) }
 {
     match decode(alloc, bytes) {
         Ok(meta) => Ok(meta),

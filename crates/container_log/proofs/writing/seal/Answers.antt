@@ -1,5 +1,5 @@
 use Rattle.std.proofs.Common.{length, arith, ◌≡◌}
-use Rattle.container_log.proofs.Sealing.{IsSlotOf, writes_sealed}
+use Rattle.container_log.proofs.Sealing.{writes_sealed}
 use Rattle.container_log.proofs.writing.seal.Goals as goal
 
 pub returns-in-Ok-clause-writes : goal.returns-in-Ok-clause-writes

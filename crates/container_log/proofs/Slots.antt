@@ -1,0 +1,64 @@
+-- What is read of a slot: its gate, and the bytes after it.
+use Rattle.std.specs.Prelude.{IsTrue, option_map}
+use Rattle.std.specs.Result.{IsErrAnd}
+use Rattle.std.proofs.Common.{◌≡◌, ◌≢◌, ℕ, ◌+◌, ◌-◌, ◌≤◌, List, [], ◌∷◌, ◌++◌, length, get_or, Option, Some, None, Result, Ok, Err, refl, sym, ◌∙◌, ap, subst, arith, append-nil}
+use Rattle.std.proofs.Math.ListN.{set}
+use Rattle.std.proofs.lemmas.List.{drop_all}
+use borrow.Rule.Slice.PartMut.{put_mid}
+use Rattle.base_model.specs.Bytes.{range, byte_at}
+use Rattle.base_model.proofs.Ranges.{range-join, range-one, byte-range}
+use Rattle.disk_format.specs.declared.numbers.TheConstants.{CONTAINER_GATE}
+use Rattle.disk_format.specs.Layout.{slot_at}
+use Rattle.dd_disk.specs.Ending.{UnlessFailed}
+use Rattle.container_meta.specs.declared.entry.Meta.{Meta}
+use Rattle.container_meta.specs.Spelling.{HeaderValue, view, front_spelling}
+use Rattle.store_model.specs.Slots.{HoldsSlot}
+use Rattle.container_log.specs.declared.fault.LogFault.{LogFault}
+use Rattle.container_log.specs.Faults.{fails}
+
+-- a byte that was read alone
+pub byte_read : (at place : ℕ) (image into : List ℕ) → place ≡ at → range place 1 image ≡ into → byte_at at image ≡ get_or into 0 0
+byte_read at place image into there read =
+    ap (λ (p : ℕ). byte_at p image) (omega (arith, there)) ∙ sym (byte-range 0 place 1 image (omega arith)) ∙ ap (λ (l : List ℕ). get_or l 0 0) read
+
+-- a gate, and in place of what stood after it what was read
+pub gate_put : (l into : List ℕ) (gate : ℕ) → 1 ≤ length l → put_mid 1 (length (set l 0 gate) - 1) (set l 0 gate) into ≡ gate ∷ into
+gate_put [] into gate some = absurd (omega (arith, some))
+gate_put (x ∷ l) into gate some = ap (λ (r : List ℕ). gate ∷ into ++ r) (drop_all (length (set (x ∷ l) 0 gate) - 1) l (omega arith)) ∙ ap (λ (r : List ℕ). gate ∷ r) (append-nil into)
+
+-- the gate and the bytes that were read after it are the bytes from the gate on
+pub read_together : (at place count gate : ℕ) (image l into : List ℕ) → at + 49664 ≤ length image → 1 ≤ length l → place ≡ at + 1 → count ≡ 49663 → range place count image ≡ into → byte_at at image ≡ gate
+    → range at 49664 image ≡ put_mid 1 (length (set l 0 gate) - 1) (set l 0 gate) into
+read_together at place count gate image l into fits some there long read is =
+    let after : range (at + 1) 49663 image ≡ into = ap (λ p. range p 49663 image) (sym there) ∙ ap (λ n. range place n image) (sym long) ∙ read in
+    sym (range-join at 1 49663 (at + 1) image refl)
+    ∙ ap (λ (b : List ℕ). b ++ range (at + 1) 49663 image) (range-one at image (omega arith))
+    ∙ ap (λ (b : ℕ). b ∷ range (at + 1) 49663 image) is
+    ∙ ap (λ (b : List ℕ). gate ∷ b) after
+    ∙ sym (gate_put l into gate some)
+
+-- a header's first byte is the gate
+gate_of : (image : List ℕ) (slot : ℕ) (h : HeaderValue) → HoldsSlot image slot (Some h) → byte_at (slot_at slot) image ≡ CONTAINER_GATE
+unfolding front_spelling
+gate_of image slot h holds = ap (λ (p : ℕ). byte_at p image) (omega arith) ∙ sym (byte-range 0 (slot_at slot) 49664 image (omega arith)) ∙ ap (byte_at 0) holds.1
+
+-- a slot whose gate is closed holds nothing else
+pub closed_holds : (image : List ℕ) (slot : ℕ) (held : Option HeaderValue) → byte_at (slot_at slot) image ≢ CONTAINER_GATE → HoldsSlot image slot held → held ≡ None
+closed_holds image slot None closed holds = refl
+closed_holds image slot (Some h) closed holds = absurd (closed (gate_of image slot h holds))
+
+-- and one whose gate is open a header, if anything
+pub open_holds : (image : List ℕ) (slot : ℕ) (held : Option HeaderValue) → byte_at (slot_at slot) image ≡ CONTAINER_GATE → HoldsSlot image slot held → (h : HeaderValue) × (held ≡ Some h) × HoldsSlot image slot (Some h)
+open_holds image slot None opened holds = absurd (holds opened)
+open_holds image slot (Some h) opened holds = (h, refl, holds)
+
+passed : {T : Type 0} (result : Result T LogFault) (P : T → Type 0) (e : LogFault) → IsErrAnd result (λ y. y ≡ e) → IsTrue (fails e) → UnlessFailed fails P result
+passed (Ok x) P e is failed = absurd is
+passed (Err y) P e is failed = subst (λ f. IsTrue (fails f)) (sym is) failed
+
+-- where an open slot's header was not given, the error that is handed on says nothing of what the slot holds
+pub unless_open : (image : List ℕ) (slot : ℕ) (result : Result (Option Meta) LogFault) (e : LogFault) → IsErrAnd result (λ y. y ≡ e) → byte_at (slot_at slot) image ≡ CONTAINER_GATE
+    → ((h : HeaderValue) → HoldsSlot image slot (Some h) → IsTrue (fails e)) → (held : Option HeaderValue) → HoldsSlot image slot held → UnlessFailed fails (λ m. held ≡ option_map view m) result
+unless_open image slot result e is opened failed held holds =
+    let h = open_holds image slot held opened holds in
+    passed result _ e is (failed h.0 h.2)

@@ -4,19 +4,15 @@ ghost use Rattle.std.specs.Prelude.{◌≡◌};
 ghost use Rattle.container_meta.specs.declared.fault.MetaFault.TheVariants.{Memory};
 
 use std::alloc::{AllocError, AllocFailed};
-use thiserror::Error;
 
 /// Why a header could not be read: the first check that failed, or want of memory.
-#[derive(Debug, Drop, Error)]
+#[derive(Debug, Drop)]
 pub enum MetaFault {
     /// The gate isn't 0xC5, so no container stands here.
-    #[error("no container: the gate is {0}")]
     Gate(u8),
     /// The magic isn't `DDFSCON`.
-    #[error("the container's magic is wrong")]
     Magic,
     /// A field breaks its rule.
-    #[error("the container's field at {offset} is {got}")]
     Field {
         /// The field's first byte, or of a run of zeros or a digest the byte at fault, from the
         /// slot's first byte on.
@@ -25,7 +21,6 @@ pub enum MetaFault {
         got: u64,
     },
     /// The header and its entries have another digest than the header says.
-    #[error("the container's digest is wrong")]
     Digest {
         /// As stored.
         want: [u8; 32],
@@ -33,7 +28,6 @@ pub enum MetaFault {
         got: [u8; 32],
     },
     /// Memory ran out.
-    #[error("memory ran out")]
     Memory,
 }
 

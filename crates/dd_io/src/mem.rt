@@ -1,8 +1,8 @@
 // A source and a sink in memory, whose calls fail by their numbers.
-ghost use Rattle.std.specs.Prelude.{◌≡◌, ◌<◌, ◌≤◌, ℕ, List, [], Some, length, drop, IfOk, OnOk, OnErr};
+ghost use Rattle.std.specs.Prelude.{◌≡◌, ◌<◌, ◌≤◌, [], Some, length, IfOk, OnErr};
 ghost use Rattle.base_model.specs.Fault.{HasCause};
-ghost use Rattle.base_model.specs.Known.{Known, Appended};
-ghost use Rattle.dd_io.specs.Flow.{Takes, AppendedPart};
+ghost use Rattle.base_model.specs.Known.{Known};
+ghost use Rattle.dd_io.specs.Flow.{Takes, Sends};
 ghost use Rattle.dd_io.specs.Script.{missed_count, IsFresh, FollowsScript};
 
 use crate::script::Script;
@@ -24,8 +24,8 @@ impl MemSource {
 
     /// Its calls of these numbers fail. The first call has the number 1.
     pub fn new(bytes: Vec<u8>, fails: Vec<u64>) -> MemSource
-        ensures left { ⟦<MemSource as Source>⟧.left result ≡ Some bytes.items }
-        ensures faults { ⟦<MemSource as Source>⟧.faults result ≡ 0 }
+        ensures left { (⟦<MemSource as Source>⟧.view result).left ≡ Some bytes.items }
+        ensures faults { (⟦<MemSource as Source>⟧.view result).faults ≡ 0 }
         ensures script { IsFresh (source_script result) fails.items }
     {
         MemSource {
@@ -40,16 +40,16 @@ impl MemSource {
 impl Source for MemSource {
     ghost use Rattle.dd_io.specs.Scripted.{source_script};
 
-    ghost left = { λ s. Some (drop s.place s.bytes.items) };
+    ghost use Rattle.std.specs.Prelude.{drop};
 
-    ghost faults = { λ s. s.faults };
+    ghost view = { λ s. record { left = Some (drop s.place s.bytes.items); faults = s.faults } };
 
     fn read(&mut self, into: &mut [u8]) -> Result<usize, SourceFault>
         ensures count { IfOk result (λ n. n ≤ length into.old) }
-        ensures bytes { IfOk result (λ n. Known (⟦<MemSource as Source>⟧.left self.old) (λ bytes. Takes n bytes into.new (⟦<MemSource as Source>⟧.left self.new))) }
-        ensures end { IfOk result (λ n. n ≡ 0 → 0 < length into.old → Known (⟦<MemSource as Source>⟧.left self.old) (λ bytes. bytes ≡ [])) }
-        ensures err { OnErr result (Known (⟦<MemSource as Source>⟧.left self.old) (λ bytes. ⟦<MemSource as Source>⟧.left self.new ≡ Some bytes)) }
-        ensures cause { HasCause (⟦<MemSource as Source>⟧.faults self.old) (⟦<MemSource as Source>⟧.faults self.new) result }
+        ensures bytes { IfOk result (λ n. Known (⟦<MemSource as Source>⟧.view self.old).left (λ bytes. Takes n bytes into.new (⟦<MemSource as Source>⟧.view self.new).left)) }
+        ensures end { IfOk result (λ n. n ≡ 0 → 0 < length into.old → Known (⟦<MemSource as Source>⟧.view self.old).left (λ bytes. bytes ≡ [])) }
+        ensures err { OnErr result (Known (⟦<MemSource as Source>⟧.view self.old).left (λ bytes. (⟦<MemSource as Source>⟧.view self.new).left ≡ Some bytes)) }
+        ensures cause { HasCause (⟦<MemSource as Source>⟧.view self.old).faults (⟦<MemSource as Source>⟧.view self.new).faults result }
         ensures script { FollowsScript (source_script self.old) (source_script self.new) result }
         ensures no_memory { missed_count (source_script self.new) ≡ missed_count (source_script self.old) }
     {
@@ -82,8 +82,8 @@ impl MemSink {
 
     /// An empty sink, whose calls of these numbers fail. The first call has the number 1.
     pub fn new(alloc: Global, fails: Vec<u64>) -> MemSink
-        ensures written { ⟦<MemSink as Sink>⟧.written result ≡ Some [] }
-        ensures faults { ⟦<MemSink as Sink>⟧.faults result ≡ 0 }
+        ensures written { (⟦<MemSink as Sink>⟧.view result).written ≡ Some [] }
+        ensures faults { (⟦<MemSink as Sink>⟧.view result).faults ≡ 0 }
         ensures script { IsFresh (sink_script result) fails.items }
     {
         MemSink {
@@ -101,7 +101,7 @@ impl MemSink {
     }
 
     pub fn bytes(&self) -> &[u8]
-        ensures { ⟦<MemSink as Sink>⟧.written self.now ≡ Some result.now }
+        ensures { (⟦<MemSink as Sink>⟧.view self.now).written ≡ Some result.now }
     {
         &self.bytes
     }
@@ -110,14 +110,10 @@ impl MemSink {
 impl Sink for MemSink {
     ghost use Rattle.dd_io.specs.Scripted.{sink_script};
 
-    ghost written = { λ k. Some k.bytes.items };
-
-    ghost faults = { λ k. k.faults };
+    ghost view = { λ k. record { written = Some k.bytes.items; faults = k.faults } };
 
     fn write_all(&mut self, from: &[u8]) -> Result<(), SinkFault>
-        ensures ok { OnOk result (Appended (⟦<MemSink as Sink>⟧.written self.old) (⟦<MemSink as Sink>⟧.written self.new) from.now) }
-        ensures err { OnErr result (AppendedPart (⟦<MemSink as Sink>⟧.written self.old) (⟦<MemSink as Sink>⟧.written self.new) from.now) }
-        ensures cause { HasCause (⟦<MemSink as Sink>⟧.faults self.old) (⟦<MemSink as Sink>⟧.faults self.new) result }
+        ensures sends { Sends from.now result (⟦<MemSink as Sink>⟧.view self.old) (⟦<MemSink as Sink>⟧.view self.new) }
         ensures script { FollowsScript (sink_script self.old) (sink_script self.new) result }
     {
         let fails = self.script.next_fails();

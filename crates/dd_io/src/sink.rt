@@ -1,34 +1,27 @@
 // Where bytes are written to.
-ghost use Rattle.std.specs.Prelude.{◌≡◌, List, ℕ, Option, OnOk, OnErr};
-ghost use Rattle.base_model.specs.Fault.{HasCause};
-ghost use Rattle.base_model.specs.Known.{Appended};
-ghost use Rattle.dd_io.specs.Flow.{AppendedPart};
+ghost use Rattle.std.specs.Prelude.{◌≡◌, ℕ};
+ghost use Rattle.dd_io.specs.Flow.{SinkView, Sends};
 
 /// A call of a sink failed.
-#[derive(Clone, Copy, Debug, PartialEq, Eq)]
+#[derive(Clone, Copy)]
 pub struct SinkFault;
 
+/// Where bytes go, in order, in pieces. What is known of it is stated in docs/MODEL.md, 'Sources and sinks'.
 pub trait Sink {
-    /// The bytes that were written, where the sink tells them.
-    ghost written: { Self → Option (List ℕ) };
-
-    /// How many calls failed; it stays at 2^64 - 1 once there.
-    ghost faults: { Self → ℕ };
+    /// The sink as it is.
+    ghost view: { Self → SinkView };
 
     /// Writes a whole piece. A call that fails may have written a first part of it.
     fn write_all(&mut self, from: &[u8]) -> Result<(), SinkFault>
-        ensures ok { OnOk result (Appended (written self.old) (written self.new) from.now) }
-        ensures err { OnErr result (AppendedPart (written self.old) (written self.new) from.now) }
-        ensures cause { HasCause (faults self.old) (faults self.new) result };
+        ensures { Sends from.now result (view self.old) (view self.new) };
 
+    /// How many calls failed, or 2^64 - 1 from there on.
     fn faults(&self) -> u64
-        ensures { result ≡ faults self.now };
+        ensures { result ≡ (view self.now).faults };
 }
 
 impl<K: Sink> Sink for &mut K {
-    ghost written = { λ k. K.written k.now };
-
-    ghost faults = { λ k. K.faults k.now };
+    ghost view = { λ k. K.view k.now };
 
     fn write_all(&mut self, from: &[u8]) -> Result<(), SinkFault> {
         Sink::write_all(&mut **self, from)

@@ -13,8 +13,7 @@ pub struct StdSource<R> {
 
 impl<R: Read> StdSource<R> {
     pub fn new(reader: R) -> StdSource<R>
-        ensures left { ⟦<StdSource<R> as Source>⟧.left result ≡ R.remaining reader }
-        ensures faults { ⟦<StdSource<R> as Source>⟧.faults result ≡ 0 }
+        ensures { ⟦<StdSource<R> as Source>⟧.view result ≡ record { left = R.remaining reader; faults = 0 } }
     {
         StdSource { reader, faults: 0 }
     }
@@ -25,9 +24,7 @@ fn is_interrupted(error: &io::Error) -> bool {
 }
 
 impl<R: Read> Source for StdSource<R> {
-    ghost left = { λ s. R.remaining s.reader };
-
-    ghost faults = { λ s. s.faults };
+    ghost view = { λ s. record { left = R.remaining s.reader; faults = s.faults } };
 
     // A read that a signal interrupted has read nothing, and is made again.
     fn read(&mut self, into: &mut [u8]) -> Result<usize, SourceFault> {
@@ -56,17 +53,14 @@ pub struct StdSink<W> {
 
 impl<W: Write> StdSink<W> {
     pub fn new(writer: W) -> StdSink<W>
-        ensures written { ⟦<StdSink<W> as Sink>⟧.written result ≡ W.contents writer }
-        ensures faults { ⟦<StdSink<W> as Sink>⟧.faults result ≡ 0 }
+        ensures { ⟦<StdSink<W> as Sink>⟧.view result ≡ record { written = W.contents writer; faults = 0 } }
     {
         StdSink { writer, faults: 0 }
     }
 }
 
 impl<W: Write> Sink for StdSink<W> {
-    ghost written = { λ k. W.contents k.writer };
-
-    ghost faults = { λ k. k.faults };
+    ghost view = { λ k. record { written = W.contents k.writer; faults = k.faults } };
 
     // A writer that takes nothing of bytes that are left is a fault: it would never take them.
     fn write_all(&mut self, from: &[u8]) -> Result<(), SinkFault> {

@@ -10,10 +10,11 @@ use Rattle.std.specs.FinMap as finite
 use Rattle.std.specs.FinMap.Entries.{put, by_order}
 use Rattle.std.proofs.lemmas.Map.Lookups.{exact_bytes}
 use Rattle.std.proofs.lemmas.List.Elements.{All-nil, All-cons, All-head, All-tail}
+use Rattle.disk_format.specs.declared.numbers.TheConstants.{MOST_NAMES}
 use Rattle.disk_format.specs.Cells.{IsName}
 use Rattle.namespace.specs.declared.record.Named.{Named}
 use Rattle.namespace.proofs.Entries.{is_equal}
-use Rattle.namespace.specs.Names.{NameMap, MOST_NAMES, AreNames, HasRoom}
+use Rattle.namespace.specs.Names.{NameMap, AreNames, HasRoom}
 
 module _ {K X : Type 0} (R : K → K → Ordering) (P : K → Type 0) where
   keys_put : (k : K) (v : X) (es : List (K × X)) → P k → All P (map (λ e. e.0) es) → All P (map (λ e. e.0) (put R k v es))
@@ -59,13 +60,13 @@ later : (b : Bool) (x : Named) (o : Option Named) → is_some o ≡ true → is_
 later true x o h = refl
 later false x o h = h
 
--- what is found is among the keys
-found_name : (q : List ℕ) (es : List (List ℕ × Named)) → All IsName (map (λ e. e.0) es) → is_some (finite.find (slice_cmp nat_cmp) q es) ≡ true → IsName q
-found_name q [] h found = cc
-found_name q (e ∷ es) h found =
-    elim (eq_by_cmp (slice_cmp nat_cmp) q e.0) as (λ b. eq_by_cmp (slice_cmp nat_cmp) q e.0 ≡ b → is_some (cond b (Some e.1) (finite.find (slice_cmp nat_cmp) q es)) ≡ true → IsName q) [
-      | true ↦ λ same _. subst IsName (sym (exact_bytes q e.0 (is_equal _ same))) (All-head IsName e.0 (map (λ x. x.0) es) h)
-      | false ↦ λ _ rest. found_name q es (All-tail IsName e.0 (map (λ x. x.0) es) h) rest
+-- what holds of each key holds of what is found
+pub found_name : (P : List ℕ → Type 0) (q : List ℕ) (es : List (List ℕ × Named)) → All P (map (λ e. e.0) es) → is_some (finite.find (slice_cmp nat_cmp) q es) ≡ true → P q
+found_name P q [] h found = cc
+found_name P q (e ∷ es) h found =
+    elim (eq_by_cmp (slice_cmp nat_cmp) q e.0) as (λ b. eq_by_cmp (slice_cmp nat_cmp) q e.0 ≡ b → is_some (cond b (Some e.1) (finite.find (slice_cmp nat_cmp) q es)) ≡ true → P q) [
+      | true ↦ λ same _. subst P (sym (exact_bytes q e.0 (is_equal _ same))) (All-head P e.0 (map (λ x. x.0) es) h)
+      | false ↦ λ _ rest. found_name P q es (All-tail P e.0 (map (λ x. x.0) es) h) rest
     ] refl found
 
 -- and each key is found
@@ -79,7 +80,7 @@ all_found (e ∷ es) each =
 keys_without : (names : NameMap) (name : List ℕ) → All IsName (finite.keys names) → All IsName (finite.keys (finite.remove names name))
 keys_without names name h =
     all_found (finite.entries (finite.remove names name)) (λ q found.
-    found_name q (finite.entries names) h
+    found_name IsName q (finite.entries names) h
     (ap is_some (sym (finite.get-entries names q))
     ∙ earlier (eq_by_cmp (slice_cmp nat_cmp) q name) (finite.get names q) (ap is_some (sym (finite.get-remove nat_list_cmp_total names name q) ∙ finite.get-entries (finite.remove names name) q) ∙ found)))
 

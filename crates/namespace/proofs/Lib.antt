@@ -1,5 +1,7 @@
 pub mod Again
 pub mod Entries
+pub mod InOrder
 pub mod Kept
 pub mod Listed
+pub mod Numbered
 pub mod Replayed

@@ -6,15 +6,13 @@ use Rattle.std.specs.Cmp.Lexicographic.{slice_cmp}
 use Rattle.std.specs.FinMap as finite
 use Rattle.disk_format.specs.Cells.{Root, Change, RecordValue, IsName}
 use Rattle.disk_format.specs.Cells.Change.{Put, Delete}
+use Rattle.disk_format.specs.declared.numbers.TheConstants.{MOST_NAMES}
 use Rattle.namespace.specs.declared.fault.NameFault.{NameFault}
 use Rattle.namespace.specs.declared.fault.NameFault.TheVariants.{NoFile, BadName, TooMany, Memory}
 use Rattle.namespace.specs.declared.record.Change as declared
 use Rattle.namespace.specs.declared.record.Change.TheVariants as variants
 use Rattle.namespace.specs.declared.record.Named.{Named}
 use Rattle.namespace.specs.declared.record.Record.{Record}
-
-abbrev pub MOST_NAMES : ℕ
-MOST_NAMES = 512
 
 -- a record without where its name lies in memory
 abbrev pub change_value : declared.Change → Change
@@ -23,11 +21,6 @@ change_value variants.Delete = Delete
 
 abbrev pub record_value : Record → RecordValue
 record_value r = record { sequence = r.sequence; name = r.name.items; change = change_value r.change }
-
--- a record that gives its name a root
-abbrev pub IsPut : declared.Change → Type 0
-IsPut (variants.Put root) = Unit {0}
-IsPut variants.Delete = ⊥
 
 -- from names, in the order of their bytes, to what each has
 abbrev pub NameMap : Type 0

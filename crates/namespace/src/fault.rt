@@ -4,22 +4,17 @@ ghost use Rattle.std.specs.Prelude.{◌≡◌};
 ghost use Rattle.namespace.specs.declared.fault.NameFault.TheVariants.{Memory};
 
 use std::alloc::{AllocError, AllocFailed};
-use thiserror::Error;
 
 /// Why a record or a name is refused, or want of memory.
-#[derive(Clone, Copy, Debug, PartialEq, Eq, Error)]
+#[derive(Clone, Copy)]
 pub enum NameFault {
     /// No file has this name.
-    #[error("no file has this name")]
     NoFile,
-    /// A name is 1 to 255 bytes from 0x21 to 0x7E, and this is none.
-    #[error("a name is 1 to 255 bytes from 0x21 to 0x7E")]
+    /// The bytes are no name: a name is 1 to 255 bytes from 0x21 to 0x7E.
     BadName,
-    /// The name is new, and 512 names are there.
-    #[error("512 names are there")]
+    /// The name is new, and as many names are there as there may be: `disk_format::MOST_NAMES`.
     TooMany,
     /// Memory ran out.
-    #[error("memory ran out")]
     Memory,
 }
 

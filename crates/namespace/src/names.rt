@@ -3,20 +3,31 @@
 ghost use Rattle.std.specs.Prelude.{◌≡◌, ◌⊎◌, IfOk, IfErr, OnOk, OnErr, IsTrue, IsSome, None, not, map};
 ghost use Rattle.std.specs.FinMap as finite;
 ghost use Rattle.disk_format.specs.Cells.{IsName};
-ghost use Rattle.namespace.specs.Names.{HasRoom, IsFull, IsTaken, IsRefused, AreTaken, AreRefused, IsAnswer, AreNames, IsPut, record_value, put_of, names_with, names_after};
+ghost use Rattle.namespace.specs.Names.{
+  HasRoom,
+  IsFull,
+  IsTaken,
+  IsRefused,
+  AreTaken,
+  AreRefused,
+  IsAnswer,
+  AreNames,
+  record_value,
+  put_of,
+  names_with,
+  names_after,
+};
 
 use crate::fault::NameFault;
 use crate::name::is_name;
 use crate::record::{Change, Named, Record, Root};
+use disk_format::MOST_NAMES;
 use std::alloc::{AllocError, Global};
 use std::collections::BTreeMap;
 use std::marker::Model;
 
-/// How many names there may be.
-const MOST: usize = 512;
-
 /// Names, and what each of them has.
-#[derive(Debug, Drop)]
+#[derive(Drop)]
 pub struct Names {
     entries: BTreeMap<Vec<u8>, Named>,
 }
@@ -57,18 +68,20 @@ impl Names {
         self.entries.contains_key(name)
     }
 
-    /// Whether a name has room: it is there already, or fewer than 512 are.
+    /// Whether a name has room: it is there already, or fewer than `MOST_NAMES` are.
     fn has_room(&self, name: &[u8]) -> bool
         ensures room { IsTrue result → HasRoom self.now name.now }
         ensures full { IsTrue (not result) → IsFull self.now name.now }
     {
-        self.has(name) || self.entries.len() < MOST
+        self.has(name) || self.entries.len() < MOST_NAMES
     }
 
-    /// Whether `apply` takes a record, but for want of memory.
+    /// Whether `apply` takes a record, but for want of memory: `BadName` where its name is none, then `TooMany` for a
+    /// put of a new name where `MOST_NAMES` are there, and `NoFile` for a delete of a name that is not there.
     pub fn check(&self, given: &Record) -> Result<(), NameFault>
         ensures taken { OnOk result (IsTaken self.now (record_value given.now)) }
         ensures cause { IfErr result (λ fault. IsRefused self.now (record_value given.now) fault) }
+        ensures refused { (fault : NameFault) → IsRefused self.now (record_value given.now) fault → result ≡ Err fault }
     {
         if !is_name(&given.name) {
             return Err(NameFault::BadName);
@@ -108,17 +121,16 @@ impl Names {
         self.entries.remove(name);
     }
 
-    /// Applies a record. An error leaves the names as they were. A delete takes no memory.
+    /// Applies a record, or refuses it as `check` does. An error leaves the names as they were. A put may run out of
+    /// memory; a delete never does.
     pub fn apply(&mut self, given: &Record) -> Result<(), NameFault>
         ensures ok { OnOk result (self.new ≡ names_with (record_value given.now) self.old) }
         ensures err { OnErr result (self.new ≡ self.old) }
         ensures taken { OnOk result (IsTaken self.old (record_value given.now)) }
         ensures cause { IfErr result (λ fault. (fault ≡ NameFault.Memory) ⊎ IsRefused self.old (record_value given.now) fault) }
         ensures taken_cause { IsTaken self.old (record_value given.now) → IfErr result (λ fault. fault ≡ NameFault.Memory) }
-        ensures delete_cause { given.now.change ≡ Change.Delete → IfErr result (λ fault. IsRefused self.old (record_value given.now) fault) }
-        ensures bad_name { ¬ (IsName given.now.name.items) → result ≡ Err NameFault.BadName }
-        ensures too_many { IsName given.now.name.items → IsPut given.now.change → IsFull self.old given.now.name.items → result ≡ Err NameFault.TooMany }
-        ensures no_file { IsName given.now.name.items → given.now.change ≡ Change.Delete → finite.get self.old given.now.name.items ≡ None → result ≡ Err NameFault.NoFile }
+        ensures delete_cause { given.now.change ≡ Change.Delete → IfErr result (IsRefused self.old (record_value given.now)) }
+        ensures refused { (fault : NameFault) → IsRefused self.old (record_value given.now) fault → result ≡ Err fault }
         ensures names { OnOk result (AreNames self.new) }
     {
         self.check(given)?;
@@ -135,7 +147,7 @@ impl Names {
         Ok(())
     }
 
-    /// The root that a name has.
+    /// The root that a name has: `BadName` where the bytes are no name, `NoFile` where the name is not there.
     pub fn get(&self, name: &[u8]) -> Result<Root, NameFault>
         ensures { IsAnswer self.now name.now result }
     {
@@ -148,7 +160,7 @@ impl Names {
         }
     }
 
-    /// The puts that give the names what they have, in the order of the names' bytes.
+    /// The puts that give the names what they have, in the order of the names' bytes. It fails for want of memory alone.
     pub fn list(&self, alloc: Global) -> Result<Vec<Record>, AllocError>
         ensures listed { IfOk result (λ puts. map record_value puts.items ≡ map put_of (finite.entries self.now)) }
         ensures replays { IfOk result (λ puts. names_after (map record_value puts.items) finite.empty ≡ self.now) }
@@ -166,7 +178,7 @@ impl Names {
         Ok(records)
     }
 
-    /// The names after records, the first of them first. The first that is refused refuses all.
+    /// The names after records, the first of them first. The first that is refused refuses all, by what `check` answers.
     pub fn replay(alloc: Global, records: &[Record]) -> Result<Names, NameFault>
         ensures ok { IfOk result (λ names. names ≡ names_after (map record_value records.now) finite.empty) }
         ensures names { IfOk result (λ names. AreNames names) }

@@ -2,8 +2,8 @@
 
 use std::marker::Model;
 
-/// The root of a file.
-#[derive(Clone, Copy, Debug, PartialEq, Eq)]
+/// The root of a file (docs/FORMAT.md, 'Nodes').
+#[derive(Clone, Copy)]
 pub struct Root {
     /// The file's length in bytes.
     pub length: u64,
@@ -24,7 +24,7 @@ impl Model for Root {
 }
 
 /// What a name has.
-#[derive(Clone, Copy, Debug, PartialEq, Eq)]
+#[derive(Clone, Copy)]
 pub struct Named {
     /// The sequence number of the put that gave the name its root.
     pub sequence: u64,
@@ -32,21 +32,21 @@ pub struct Named {
     pub root: Root,
 }
 
-/// What a record says of its name.
-#[derive(Clone, Copy, Debug, PartialEq, Eq)]
+/// What a record says of its name: the record's operation byte, 1 or 2 (docs/FORMAT.md, 'Cells').
+#[derive(Clone, Copy)]
 pub enum Change {
-    /// The name has this root.
+    /// Operation 1: the name has this root.
     Put(Root),
-    /// The name is gone.
+    /// Operation 2: the name is gone.
     Delete,
 }
 
-/// From the sequence number on this holds of the name.
-#[derive(Debug, PartialEq, Eq, Drop)]
+/// A change of one name, as a cell of the journal has it (docs/FORMAT.md, 'Cells').
+#[derive(Drop)]
 pub struct Record {
-    /// The place of the record among all changes.
+    /// The place of the record among all changes, from 1 on.
     pub sequence: u64,
-    /// The name's bytes.
+    /// The name: 1 to 255 bytes from 0x21 to 0x7E, where the record is taken.
     pub name: Vec<u8>,
     /// What is said of the name.
     pub change: Change,

@@ -1,4 +1,3 @@
 pub mod Formatting
 pub mod Opening
 pub mod Slots
-pub mod State

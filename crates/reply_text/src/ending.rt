@@ -7,7 +7,7 @@ use refusals::Refusal;
 use std::alloc::{AllocError, AllocFailed};
 
 /// Why a command was not done.
-#[derive(Clone, Copy, Debug, PartialEq, Eq)]
+#[derive(Clone, Copy)]
 pub enum Ending {
     /// The words are no line of the table of commands.
     Words,

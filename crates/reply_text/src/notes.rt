@@ -1,10 +1,8 @@
 //! The line in the notes of a command that was not done: docs/FORMAT.md, 'Texts'.
-ghost use Rattle.std.specs.Prelude.{◌≡◌, ◌*◌, length, OnOk, OnErr};
+ghost use Rattle.std.specs.Prelude.{◌≡◌, ◌*◌, length};
 ghost use Rattle.std.specs.List.{flat_map};
 ghost use Rattle.hex.specs.Hex.{encode_lower};
-ghost use Rattle.base_model.specs.Fault.{HasCause};
-ghost use Rattle.base_model.specs.Known.{Appended};
-ghost use Rattle.dd_io.specs.Flow.{AppendedPart};
+ghost use Rattle.dd_io.specs.Flow.{Sends};
 ghost use Rattle.refusals.specs.declared.refusal.Difference.TheVariants.{Length};
 ghost use Rattle.disk_format.specs.declared.why.Why.TheVariants.{Digest, Field};
 ghost use Rattle.reply_text.specs.declared.ending.Ending.TheVariants.{Refused};
@@ -12,15 +10,14 @@ ghost use Rattle.refusals.specs.declared.refusal.Refusal.TheVariants.{Full, Clas
 ghost use Rattle.reply_text.specs.Text.{fault_line};
 
 use crate::ending::Ending;
-use refusals::{Difference, Refusal, Why};
 use dd_io::{Sink, SinkFault};
+use disk_format::Why;
 use itoa::Buffer;
+use refusals::{Difference, Refusal};
 
 // Writes some pieces, one after another.
 fn write_pieces<Q: Sink>(notes: &mut Q, pieces: &[&[u8]]) -> Result<(), SinkFault>
-    ensures ok { OnOk result (Appended (Q.written notes.old) (Q.written notes.new) (flat_map (λ piece. piece.now) pieces.now)) }
-    ensures err { OnErr result (AppendedPart (Q.written notes.old) (Q.written notes.new) (flat_map (λ piece. piece.now) pieces.now)) }
-    ensures cause { HasCause (Q.faults notes.old) (Q.faults notes.new) result }
+    ensures { Sends (flat_map (λ piece. piece.now) pieces.now) result (Q.view notes.old) (Q.view notes.new) }
 {
     for piece in pieces {
         notes.write_all(piece)?;
@@ -31,9 +28,7 @@ fn write_pieces<Q: Sink>(notes: &mut Q, pieces: &[&[u8]]) -> Result<(), SinkFaul
 /// Writes the line of a command that was not done. It takes no memory.
 #[tactic(auto, unfolding(crate::specs::Text::fault_line, crate::specs::Text::ending_text))]
 pub fn write_fault<Q: Sink>(notes: &mut Q, ending: &Ending) -> Result<(), SinkFault>
-    ensures ok { OnOk result (Appended (Q.written notes.old) (Q.written notes.new) (fault_line ending.now)) }
-    ensures err { OnErr result (AppendedPart (Q.written notes.old) (Q.written notes.new) (fault_line ending.now)) }
-    ensures cause { HasCause (Q.faults notes.old) (Q.faults notes.new) result }
+    ensures { Sends (fault_line ending.now) result (Q.view notes.old) (Q.view notes.new) }
 {
     match ending {
         Ending::Words => write_pieces(notes, &[b"fault words\n"]),
@@ -45,9 +40,7 @@ pub fn write_fault<Q: Sink>(notes: &mut Q, ending: &Ending) -> Result<(), SinkFa
 
 #[tactic(auto, unfolding(crate::specs::Text::fault_line, crate::specs::Text::ending_text, crate::specs::Text::refusal_text))]
 fn write_refusal<Q: Sink>(notes: &mut Q, refusal: &Refusal) -> Result<(), SinkFault>
-    ensures ok { OnOk result (Appended (Q.written notes.old) (Q.written notes.new) (fault_line (Refused refusal.now))) }
-    ensures err { OnErr result (AppendedPart (Q.written notes.old) (Q.written notes.new) (fault_line (Refused refusal.now))) }
-    ensures cause { HasCause (Q.faults notes.old) (Q.faults notes.new) result }
+    ensures { Sends (fault_line (Refused refusal.now)) result (Q.view notes.old) (Q.view notes.new) }
 {
     match refusal {
         Refusal::Memory => write_pieces(notes, &[b"fault 1 memory\n"]),
@@ -78,9 +71,7 @@ fn write_refusal<Q: Sink>(notes: &mut Q, refusal: &Refusal) -> Result<(), SinkFa
 
 #[tactic(auto, unfolding(crate::specs::Text::fault_line, crate::specs::Text::ending_text, crate::specs::Text::refusal_text))]
 fn write_full<Q: Sink>(notes: &mut Q, free: u32) -> Result<(), SinkFault>
-    ensures ok { OnOk result (Appended (Q.written notes.old) (Q.written notes.new) (fault_line (Refused (Full free)))) }
-    ensures err { OnErr result (AppendedPart (Q.written notes.old) (Q.written notes.new) (fault_line (Refused (Full free)))) }
-    ensures cause { HasCause (Q.faults notes.old) (Q.faults notes.new) result }
+    ensures { Sends (fault_line (Refused (Full free))) result (Q.view notes.old) (Q.view notes.new) }
 {
     let mut free_text = Buffer::new();
     write_pieces(
@@ -91,9 +82,7 @@ fn write_full<Q: Sink>(notes: &mut Q, free: u32) -> Result<(), SinkFault>
 
 #[tactic(auto, unfolding(crate::specs::Text::fault_line, crate::specs::Text::ending_text, crate::specs::Text::refusal_text))]
 fn write_clash<Q: Sink>(notes: &mut Q, key: &[u8; 33], at: &Difference) -> Result<(), SinkFault>
-    ensures ok { OnOk result (Appended (Q.written notes.old) (Q.written notes.new) (fault_line (Refused (Clash key.now at.now)))) }
-    ensures err { OnErr result (AppendedPart (Q.written notes.old) (Q.written notes.new) (fault_line (Refused (Clash key.now at.now)))) }
-    ensures cause { HasCause (Q.faults notes.old) (Q.faults notes.new) result }
+    ensures { Sends (fault_line (Refused (Clash key.now at.now))) result (Q.view notes.old) (Q.view notes.new) }
 {
     match at {
         Difference::Length { offered, held } => write_clash_length(notes, key, *offered, *held),
@@ -107,9 +96,7 @@ fn write_clash_length<Q: Sink>(
     offered: u64,
     held: u64,
 ) -> Result<(), SinkFault>
-    ensures ok { OnOk result (Appended (Q.written notes.old) (Q.written notes.new) (fault_line (Refused (Clash key.now (Length offered held))))) }
-    ensures err { OnErr result (AppendedPart (Q.written notes.old) (Q.written notes.new) (fault_line (Refused (Clash key.now (Length offered held))))) }
-    ensures cause { HasCause (Q.faults notes.old) (Q.faults notes.new) result }
+    ensures { Sends (fault_line (Refused (Clash key.now (Length offered held)))) result (Q.view notes.old) (Q.view notes.new) }
 {
     let mut key_digits = [0u8; 66];
     put_digits(key, &mut key_digits);
@@ -137,9 +124,7 @@ fn write_corrupt<Q: Sink>(
     want: &[u8; 32],
     got: &[u8; 32],
 ) -> Result<(), SinkFault>
-    ensures ok { OnOk result (Appended (Q.written notes.old) (Q.written notes.new) (fault_line (Refused (Corrupt slot offset length want.now got.now)))) }
-    ensures err { OnErr result (AppendedPart (Q.written notes.old) (Q.written notes.new) (fault_line (Refused (Corrupt slot offset length want.now got.now)))) }
-    ensures cause { HasCause (Q.faults notes.old) (Q.faults notes.new) result }
+    ensures { Sends (fault_line (Refused (Corrupt slot offset length want.now got.now))) result (Q.view notes.old) (Q.view notes.new) }
 {
     let (mut slot_text, mut offset_text, mut length_text) = (
         Buffer::new(),
@@ -169,9 +154,7 @@ fn write_corrupt<Q: Sink>(
 
 #[tactic(auto, unfolding(crate::specs::Text::fault_line, crate::specs::Text::ending_text, crate::specs::Text::refusal_text))]
 fn write_missing<Q: Sink>(notes: &mut Q, key: &[u8; 33]) -> Result<(), SinkFault>
-    ensures ok { OnOk result (Appended (Q.written notes.old) (Q.written notes.new) (fault_line (Refused (Missing key.now)))) }
-    ensures err { OnErr result (AppendedPart (Q.written notes.old) (Q.written notes.new) (fault_line (Refused (Missing key.now)))) }
-    ensures cause { HasCause (Q.faults notes.old) (Q.faults notes.new) result }
+    ensures { Sends (fault_line (Refused (Missing key.now))) result (Q.view notes.old) (Q.view notes.new) }
 {
     let mut key_digits = [0u8; 66];
     put_digits(key, &mut key_digits);
@@ -180,9 +163,7 @@ fn write_missing<Q: Sink>(notes: &mut Q, key: &[u8; 33]) -> Result<(), SinkFault
 
 #[tactic(auto, unfolding(crate::specs::Text::fault_line, crate::specs::Text::ending_text, crate::specs::Text::refusal_text))]
 fn write_not_a_store<Q: Sink>(notes: &mut Q, gate: u8, magic: &[u8; 7]) -> Result<(), SinkFault>
-    ensures ok { OnOk result (Appended (Q.written notes.old) (Q.written notes.new) (fault_line (Refused (NotAStore gate magic.now)))) }
-    ensures err { OnErr result (AppendedPart (Q.written notes.old) (Q.written notes.new) (fault_line (Refused (NotAStore gate magic.now)))) }
-    ensures cause { HasCause (Q.faults notes.old) (Q.faults notes.new) result }
+    ensures { Sends (fault_line (Refused (NotAStore gate magic.now))) result (Q.view notes.old) (Q.view notes.new) }
 {
     let (mut gate_digits, mut magic_digits) = ([0u8; 2], [0u8; 14]);
     put_digits(&[gate], &mut gate_digits);
@@ -201,9 +182,7 @@ fn write_not_a_store<Q: Sink>(notes: &mut Q, gate: u8, magic: &[u8; 7]) -> Resul
 
 #[tactic(auto, unfolding(crate::specs::Text::fault_line, crate::specs::Text::ending_text, crate::specs::Text::refusal_text))]
 fn write_version<Q: Sink>(notes: &mut Q, n: u32) -> Result<(), SinkFault>
-    ensures ok { OnOk result (Appended (Q.written notes.old) (Q.written notes.new) (fault_line (Refused (Version n)))) }
-    ensures err { OnErr result (AppendedPart (Q.written notes.old) (Q.written notes.new) (fault_line (Refused (Version n)))) }
-    ensures cause { HasCause (Q.faults notes.old) (Q.faults notes.new) result }
+    ensures { Sends (fault_line (Refused (Version n))) result (Q.view notes.old) (Q.view notes.new) }
 {
     let mut number = Buffer::new();
     write_pieces(
@@ -214,9 +193,7 @@ fn write_version<Q: Sink>(notes: &mut Q, n: u32) -> Result<(), SinkFault>
 
 #[tactic(auto, unfolding(crate::specs::Text::fault_line, crate::specs::Text::ending_text, crate::specs::Text::refusal_text))]
 fn write_damaged<Q: Sink>(notes: &mut Q, at: u64, why: &Why) -> Result<(), SinkFault>
-    ensures ok { OnOk result (Appended (Q.written notes.old) (Q.written notes.new) (fault_line (Refused (Damaged at why.now)))) }
-    ensures err { OnErr result (AppendedPart (Q.written notes.old) (Q.written notes.new) (fault_line (Refused (Damaged at why.now)))) }
-    ensures cause { HasCause (Q.faults notes.old) (Q.faults notes.new) result }
+    ensures { Sends (fault_line (Refused (Damaged at why.now))) result (Q.view notes.old) (Q.view notes.new) }
 {
     match why {
         Why::Digest { want, got } => write_damaged_digest(notes, at, want, got),
@@ -231,9 +208,7 @@ fn write_damaged_digest<Q: Sink>(
     want: &[u8; 32],
     got: &[u8; 32],
 ) -> Result<(), SinkFault>
-    ensures ok { OnOk result (Appended (Q.written notes.old) (Q.written notes.new) (fault_line (Refused (Damaged at (Digest want.now got.now))))) }
-    ensures err { OnErr result (AppendedPart (Q.written notes.old) (Q.written notes.new) (fault_line (Refused (Damaged at (Digest want.now got.now))))) }
-    ensures cause { HasCause (Q.faults notes.old) (Q.faults notes.new) result }
+    ensures { Sends (fault_line (Refused (Damaged at (Digest want.now got.now)))) result (Q.view notes.old) (Q.view notes.new) }
 {
     let mut at_text = Buffer::new();
     let (mut want_digits, mut got_digits) = ([0u8; 64], [0u8; 64]);
@@ -260,9 +235,7 @@ fn write_damaged_field<Q: Sink>(
     offset: u32,
     got: u64,
 ) -> Result<(), SinkFault>
-    ensures ok { OnOk result (Appended (Q.written notes.old) (Q.written notes.new) (fault_line (Refused (Damaged at (Field offset got))))) }
-    ensures err { OnErr result (AppendedPart (Q.written notes.old) (Q.written notes.new) (fault_line (Refused (Damaged at (Field offset got))))) }
-    ensures cause { HasCause (Q.faults notes.old) (Q.faults notes.new) result }
+    ensures { Sends (fault_line (Refused (Damaged at (Field offset got)))) result (Q.view notes.old) (Q.view notes.new) }
 {
     let (mut at_text, mut offset_text, mut got_text) = (
         Buffer::new(),
@@ -285,9 +258,7 @@ fn write_damaged_field<Q: Sink>(
 
 #[tactic(auto, unfolding(crate::specs::Text::fault_line, crate::specs::Text::ending_text, crate::specs::Text::refusal_text))]
 fn write_wrong_size<Q: Sink>(notes: &mut Q, want: u64, got: u64) -> Result<(), SinkFault>
-    ensures ok { OnOk result (Appended (Q.written notes.old) (Q.written notes.new) (fault_line (Refused (WrongSize want got)))) }
-    ensures err { OnErr result (AppendedPart (Q.written notes.old) (Q.written notes.new) (fault_line (Refused (WrongSize want got)))) }
-    ensures cause { HasCause (Q.faults notes.old) (Q.faults notes.new) result }
+    ensures { Sends (fault_line (Refused (WrongSize want got))) result (Q.view notes.old) (Q.view notes.new) }
 {
     let (mut want_text, mut got_text) = (Buffer::new(), Buffer::new());
     write_pieces(

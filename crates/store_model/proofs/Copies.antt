@@ -80,7 +80,7 @@ lies from (c ∷ cs) key copy e = elim (one_of (copy_in from c key) (newest (fro
 
 -- ---- the bounds of an entry
 
--- an entry that is found behind others ends where they do or before
+-- an entry that is found after others ends where they do or before
 ends_within : (kind : Kind) (test : Entry → Bool) (before entries : List Entry) (entry : Entry) → Follow kind before entries → find test entries ≡ Some entry
     → (entry.offset + entry.length ≤ bytes_of before + bytes_of entries) × (is_length kind entry.length ≡ true)
 ends_within kind test before [] entry follow e = absurd cc
@@ -100,7 +100,7 @@ both_true true b e = (refl, e)
 both_true false b e = absurd cc
 
 -- the lengths of segments
-length_within : (kind : Kind) (n : ℕ) → is_length kind n ≡ true → (1 ≤ n) × (n ≤ 16384)
+pub length_within : (kind : Kind) (n : ℕ) → is_length kind n ≡ true → (1 ≤ n) × (n ≤ 16384)
 length_within Leaf n e =
     let parts = both_true (nat_le 1 n) (nat_le n 16384) e in
     (leb-true 1 n parts.0, leb-true n 16384 parts.1)

@@ -7,9 +7,7 @@ use Rattle.std.specs.FinMap as finite
 use Rattle.base_model.specs.Bytes.{range, byte_at}
 use Rattle.disk_format.specs.Layout.{IsSlotCount, size_of, slot_at, cell_at, half_cells}
 use Rattle.disk_format.specs.Cells.{selector_cell}
-use Rattle.disk_format.specs.declared.numbers.TheConstants.{CONTAINER_GATE}
-use Rattle.disk_format.specs.declared.numbers.TheConstants.{RECORD_GATE}
-use Rattle.disk_format.specs.declared.numbers.TheConstants.{SELECTOR_GATE}
+use Rattle.disk_format.specs.declared.numbers.TheConstants.{CONTAINER_GATE, RECORD_GATE, SELECTOR_GATE}
 use Rattle.container_meta.specs.Spelling.{HeaderValue}
 use Rattle.namespace.specs.declared.record.Named.{Named}
 use Rattle.store_model.specs.Files.{no_files}

@@ -1,7 +1,7 @@
 -- Slots, once a container is in the first that is closed.
 use Rattle.std.proofs.Common.{◌≡◌, ◌≢◌, ℕ, zero, suc, ◌<◌, ◌≤◌, List, [], ◌∷◌, length, max, get_or, Option, Some, None, refl, ◌∙◌, ap, arith}
 use Rattle.container_meta.specs.Spelling.{HeaderValue, IsHeader}
-use Rattle.store_model.specs.Slots.{AreHeaders, IsFresh, DifferentIds, last_id, free_slots, first_free, with_slot}
+use Rattle.store_model.specs.Slots.{AreHeaders, IsUnusedId, DifferentIds, last_id, free_slots, first_free, with_slot}
 
 -- the first closed slot is one of them, and closed
 pub free_first : (held : List (Option HeaderValue)) → 1 ≤ free_slots held → (first_free held < length held) × (get_or held (first_free held) None ≡ None)
@@ -44,12 +44,12 @@ pub last_new : (h : HeaderValue) (held : List (Option HeaderValue)) → 1 ≤ fr
 last_new h held some above = last_with h held some ∙ omega (arith, above)
 
 -- an id above all is no container's
-pub fresh_above : (id : ℕ) (held : List (Option HeaderValue)) → last_id held < id → IsFresh id held
+pub fresh_above : (id : ℕ) (held : List (Option HeaderValue)) → last_id held < id → IsUnusedId id held
 fresh_above id [] above = tt
 fresh_above id (None ∷ cs) above = fresh_above id cs above
 fresh_above id (Some h ∷ cs) above = (let other : h.id ≢ id = omega (arith, above) in other, fresh_above id cs (omega (arith, above)))
 
-fresh_with : (id slot : ℕ) (h : HeaderValue) (held : List (Option HeaderValue)) → IsFresh id held → h.id ≢ id → IsFresh id (with_slot slot h held)
+fresh_with : (id slot : ℕ) (h : HeaderValue) (held : List (Option HeaderValue)) → IsUnusedId id held → h.id ≢ id → IsUnusedId id (with_slot slot h held)
 fresh_with id slot h [] fresh other = tt
 fresh_with id zero h (None ∷ cs) fresh other = (other, fresh)
 fresh_with id zero h (Some g ∷ cs) fresh other = (other, fresh.1)

@@ -7,11 +7,7 @@ use Rattle.disk_format.specs.Cells.{RecordValue, SelectorValue}
 use Rattle.disk_format.specs.Layout.{slot_at, data_at, selector_at, cell_at, half_cells}
 use Rattle.container_meta.specs.Spelling.{HeaderValue}
 use Rattle.store_model.specs.Slots.{HoldsSlot}
-use Rattle.store_model.specs.Journal.{ClosedFrom}
-use Rattle.store_model.specs.Journal.{HoldsJournal}
-use Rattle.store_model.specs.Journal.{StandFrom}
-use Rattle.store_model.specs.Journal.{IsOlder}
-use Rattle.store_model.specs.Journal.{HoldsSelector}
+use Rattle.store_model.specs.Journal.{ClosedFrom, HoldsJournal, StandFrom, IsOlder, HoldsSelector}
 use Rattle.base_model.proofs.Frames.{byte_before, byte_after}
 use Rattle.base_model.specs.Frames.{SameOutside}
 use Rattle.store_model.specs.Image.{HasFormat}

@@ -1,25 +1,18 @@
 -- What an image keeps of a store where bytes of its journal alone change.
-use Rattle.std.proofs.Common.{◌≡◌, ◌≢◌, inl, inr, ℕ, ◌+◌, ◌-◌, ◌≤◌, List, [], ◌∷◌, length, Option, Some, None, sym, ◌∙◌, ap, arith}
-use Rattle.std.proofs.lemmas.Bool.Decides.{eqb_tells}
+use Rattle.std.proofs.Common.{◌≡◌, inl, inr, ℕ, ◌+◌, ◌-◌, ◌≤◌, List, [], ◌∷◌, Option, Some, None, sym, ◌∙◌, ap, arith}
 use Rattle.std.specs.FinMap as finite
 use Rattle.std.specs.List.{AllByRecursion}
 use Rattle.sha2.specs.Sha256.{sha256}
-use Rattle.base_model.specs.Bytes.{range, byte_at}
-use Rattle.disk_format.specs.Cells.{RecordValue, SelectorValue}
-use Rattle.disk_format.specs.declared.numbers.TheConstants.{RECORD_GATE}
-use Rattle.disk_format.specs.Layout.{slot_at, data_at, selector_at, cell_at}
+use Rattle.base_model.specs.Bytes.{range}
+use Rattle.disk_format.specs.Cells.{SelectorValue}
+use Rattle.disk_format.specs.Layout.{slot_at, data_at, selector_at}
 use Rattle.container_meta.specs.declared.entry.Entry.{Entry}
 use Rattle.container_meta.specs.Spelling.{HeaderValue}
-use Rattle.store_model.specs.Slots.{HoldsSlot}
+use Rattle.store_model.specs.Slots.{HoldsSlot, HoldSlots}
 use Rattle.namespace.specs.declared.record.Named.{Named}
 use Rattle.namespace.specs.Names.{NameMap}
-use Rattle.store_model.specs.Journal.{ClosedFrom}
-use Rattle.store_model.specs.Journal.{HoldsRecords}
-use Rattle.store_model.specs.Journal.{StandFrom}
-use Rattle.store_model.specs.Journal.{IsOlder}
-use Rattle.store_model.specs.Journal.{HoldsSelector}
+use Rattle.store_model.specs.Journal.{IsOlder, HoldsSelector}
 use Rattle.store_model.specs.Files.{Files}
-use Rattle.store_model.specs.Slots.{HoldSlots}
 use Rattle.store_model.specs.Image.{HasFormat, AreCopies, HasCopy, IsFileOf, AreFilesOf}
 use Rattle.base_model.proofs.Frames.{byte_before, byte_after}
 use Rattle.base_model.specs.Frames.{SameOutside}
@@ -62,45 +55,14 @@ module _ (at count : ℕ) (old new : List ℕ) (same : SameOutside at count old 
     pub kept_files : (held : List (Option HeaderValue)) (names : NameMap) (files : Files) → AreFilesOf held names old files → AreFilesOf held names new files
     kept_files held names files are name = kept_file held (finite.get names name) (finite.get files name) (are name)
 
-  -- ---- where the range is behind the selectors
-  module _ (behind : 1536 ≤ at) where
+  -- ---- where the range is after the selectors
+  module _ (after : 1536 ≤ at) where
     pub kept_format : (slots : ℕ) → HasFormat slots old → HasFormat slots new
-    kept_format slots is = same.before 0 512 (omega (arith, behind)) ∙ is
+    kept_format slots is = same.before 0 512 (omega (arith, after)) ∙ is
 
     pub kept_selector : (s : SelectorValue) → HoldsSelector old s → HoldsSelector new s
-    kept_selector s held = (held.0, same.before (selector_at s.half) 512 (omega (arith, behind, held.0.half)) ∙ held.1)
+    kept_selector s held = (held.0, same.before (selector_at s.half) 512 (omega (arith, after, held.0.half)) ∙ held.1)
 
     pub kept_older : (s : SelectorValue) → IsOlder old s → IsOlder new s
-    kept_older s (inl closed) = inl (λ opened. closed (sym (byte_before (selector_at (1 - s.half)) at count old new (omega (arith, behind)) same) ∙ opened))
+    kept_older s (inl closed) = inl (λ opened. closed (sym (byte_before (selector_at (1 - s.half)) at count old new (omega (arith, after)) same) ∙ opened))
     kept_older s (inr (t, half, held, less)) = inr (t, half, kept_selector t held, less)
-
--- ---- the cell behind the records of a half
-
-module _ (half place : ℕ) (old new : List ℕ) (same : SameOutside (cell_at half place) 512 old new) where
-  -- records in the cells before it stand
-  pub stand_before : (cell : ℕ) (rs : List RecordValue) → cell + length rs ≤ place → StandFrom half cell rs old → StandFrom half cell rs new
-  stand_before cell [] before stands = tt
-  stand_before cell (r ∷ rs) before stands = (same.before (cell_at half cell) 512 (omega arith) ∙ stands.0, stand_before (cell + 1) rs (omega arith) stands.1)
-
-  -- the cells behind it are closed
-  closed_behind : ClosedFrom half place old → ClosedFrom half (place + 1) new
-  closed_behind closed cell from within opened =
-      closed cell (omega arith) within (sym (byte_after (cell_at half cell) (cell_at half place) 512 old new (omega arith) same) ∙ opened)
-
-  -- and so is each from it on, where its own gate is closed
-  pub closed_still : ClosedFrom half place old → byte_at (cell_at half place) new ≢ RECORD_GATE → ClosedFrom half place new
-  closed_still closed here cell from within =
-      elim (eqb_tells cell place) [
-        | inl at ↦ λ opened. here (ap (λ (k : ℕ). byte_at (cell_at half k) new) (sym at.1) ∙ opened)
-        | inr other ↦ closed_behind closed cell (omega (arith, other.1)) within
-      ]
-
--- where the cell behind the records changes and its gate is closed, the same records stand
-pub records_still : (half : ℕ) (rs : List RecordValue) (old new : List ℕ) → SameOutside (cell_at half (length rs)) 512 old new → HoldsRecords half rs old
-    → byte_at (cell_at half (length rs)) new ≢ RECORD_GATE → HoldsRecords half rs new
-records_still half rs old new same held closed = record {
-  few = held.few;
-  right = held.right;
-  stand = stand_before half (length rs) old new same 0 rs (omega arith) held.stand;
-  ends = λ less. closed;
-}

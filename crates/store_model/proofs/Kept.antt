@@ -8,9 +8,8 @@ use Rattle.disk_format.specs.Layout.{slot_at, data_at}
 use Rattle.container_meta.specs.declared.entry.Entry.{Entry}
 use Rattle.container_meta.specs.declared.kind.Kind.{Kind}
 use Rattle.container_meta.specs.Spelling.{HeaderValue, IsHeader, Follow, bytes_of}
-use Rattle.store_model.specs.Slots.{HoldsSlot}
+use Rattle.store_model.specs.Slots.{HoldsSlot, HoldSlots, AreHeaders, Copy, newest, free_slots, first_free, with_slot}
 use Rattle.base_model.specs.Frames.{SameOutside}
-use Rattle.store_model.specs.Slots.{HoldSlots, AreHeaders, Copy, newest, free_slots, first_free, with_slot}
 use Rattle.store_model.specs.Image.{AreCopies, bytes_at}
 use Rattle.store_model.proofs.Copies.{data_within, newest_within}
 use Rattle.store_model.proofs.Frames.{slot_kept, place_kept}
@@ -21,10 +20,10 @@ abbrev pub HaveDigests : ℕ → List Entry → List ℕ → Type 0
 HaveDigests slot entries image = AllByRecursion (λ e. sha256 (range (data_at slot + e.offset) e.length image) ≡ e.digest) entries
 
 module _ (slot : ℕ) (old new : List ℕ) (same : SameOutside (slot_at slot) 262144 old new) where
-  -- slots behind it
+  -- slots after it
   rest_held : (from : ℕ) (held : List (Option HeaderValue)) → slot < from → HoldSlots from held old → HoldSlots from held new
-  rest_held from [] behind holds = tt
-  rest_held from (c ∷ cs) behind holds =
+  rest_held from [] after holds = tt
+  rest_held from (c ∷ cs) after holds =
       let other : from ≢ slot = omega arith in
       (slot_kept slot old new same from c other holds.0, rest_held (from + 1) cs (omega arith) holds.1)
 
@@ -60,9 +59,9 @@ module _ (slot : ℕ) (old new : List ℕ) (same : SameOutside (slot_at slot) 26
   header_copies from h differ right = entries_kept from h.kind [] h.entries differ right.entries (omega (arith, data_within h right))
 
   rest_copies : (from : ℕ) (held : List (Option HeaderValue)) → slot < from → AreHeaders held → AreCopies from held old → AreCopies from held new
-  rest_copies from [] behind headers copies = tt
-  rest_copies from (None ∷ cs) behind headers copies = rest_copies (from + 1) cs (omega arith) headers copies
-  rest_copies from (Some h ∷ cs) behind headers copies =
+  rest_copies from [] after headers copies = tt
+  rest_copies from (None ∷ cs) after headers copies = rest_copies (from + 1) cs (omega arith) headers copies
+  rest_copies from (Some h ∷ cs) after headers copies =
       let other : from ≢ slot = omega arith in
       (header_copies from h other headers.0 copies.0, rest_copies (from + 1) cs (omega arith) headers.1 copies.1)
 

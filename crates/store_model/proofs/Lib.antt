@@ -7,8 +7,11 @@ pub mod JournalWrites
 pub mod Kept
 pub mod Lookups
 pub mod NewestWith
+pub mod Once
 pub mod Placed
 pub mod Put
+pub mod Records
 pub mod Roots
 pub mod Sealed
 pub mod Sound
+pub mod Spellings

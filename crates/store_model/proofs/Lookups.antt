@@ -5,7 +5,7 @@ use Rattle.disk_format.specs.Layout.{data_at}
 use Rattle.container_meta.specs.declared.place.Place.{Place}
 use Rattle.container_meta.specs.Places.{PlaceMap}
 use Rattle.store_model.specs.Slots.{Copy, IsIndexOf}
-use Rattle.store_model.specs.Image.{Store, IsSound}
+use Rattle.store_model.specs.Image.{Store, IsValidFor}
 use Rattle.store_model.specs.Commands.{copy_of}
 use Rattle.store_model.proofs.Copies.{copy_within}
 
@@ -27,7 +27,7 @@ pub finds : (store : Store) (places : PlaceMap) (key : List ℕ) (place : Place)
 finds store places key place index found = some_of (copy_of store key) place (sym (index key) ∙ found)
 
 -- such a place lies on the disk
-pub found_within : (size : ℕ) (store : Store) (places : PlaceMap) (key : List ℕ) (place : Place) → IsSound size store → IsIndexOf store.held places → finite.get places key ≡ Some place
+pub found_within : (size : ℕ) (store : Store) (places : PlaceMap) (key : List ℕ) (place : Place) → IsValidFor size store → IsIndexOf store.held places → finite.get places key ≡ Some place
     → data_at place.slot + place.offset + place.length ≤ size
 found_within size store places key place sound index found =
     let at = finds store places key place index found in

@@ -5,11 +5,11 @@ use Rattle.sha2.specs.Sha256.{sha256}
 use Rattle.store_model.specs.Files.{Files}
 use Rattle.store_model.specs.Slots.{Copy}
 use Rattle.store_model.specs.Image.{Store, IsStoreOf, HasCopy, names_of, last_sequence, bytes_at}
-use Rattle.store_model.specs.Commands.{leaf_key, copy_of, IsApart, with_container, with_segment}
+use Rattle.store_model.specs.Commands.{leaf_key, copy_of, HasNoCollisionsWith, with_container, with_segment}
 use Rattle.store_model.proofs.Copies.{copy_digest}
 
 -- The copy of a segment that is held is these bytes: it has their digest, and there are no collisions.
-pub placed_copy : (bytes image : List ℕ) (store : Store) (files : Files) → IsStoreOf image store files → IsApart image bytes
+pub placed_copy : (bytes image : List ℕ) (store : Store) (files : Files) → IsStoreOf image store files → HasNoCollisionsWith image bytes
     → (copy : Copy) → copy_of store (leaf_key bytes) ≡ Some copy → copy.place.length ≡ length bytes → HasCopy store.held bytes image
 placed_copy [] image store files holds apart copy e long = inl refl
 placed_copy (b ∷ bs) image store files holds apart copy e long =

@@ -13,8 +13,9 @@ use Rattle.namespace.specs.Names.{NameMap, names_with, names_changed, names_afte
 use Rattle.store_model.specs.Journal.{Follow}
 use Rattle.store_model.specs.Files.{Files, root_of}
 use Rattle.store_model.specs.Slots.{Copy}
-use Rattle.store_model.specs.Image.{Store, Encodes, IsSound, IsStoreOf, IsFileOf, HasCopy, bytes_at}
-use Rattle.store_model.specs.Commands.{HasRoot, AreBytesOf, root_key, leaf_key, copy_of}
+use Rattle.store_model.specs.Image.{Store, Encodes, IsValidFor, IsStoreOf, IsFileOf, HasCopy, bytes_at}
+use Rattle.store_model.specs.Commands.{leaf_key, copy_of}
+use Rattle.store_model.specs.Refusals.{HasRoot, AreBytesOf, root_key}
 use Rattle.store_model.proofs.Copies.{some_same, headers_of_right, copy_within}
 
 -- ---- each root is one that a file may have
@@ -49,7 +50,7 @@ no_roots q named found =
     absurd cc
 
 -- the root that a name of a store has
-pub root_of_name : (size : ℕ) (store : Store) (name : List ℕ) (root : Root) → IsSound size store → HasRoot name root store → IsRoot root
+pub root_of_name : (size : ℕ) (store : Store) (name : List ℕ) (root : Root) → IsValidFor size store → HasRoot name root store → IsRoot root
 root_of_name size store name root sound has = roots_after 0 finite.empty store.records sound.follow no_roots name (record { sequence = has.0; root = root }) has.1
 
 -- ---- the file of a root

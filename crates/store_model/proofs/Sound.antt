@@ -4,11 +4,11 @@ use Rattle.std.specs.Prelude.{◌&&◌, nat_le}
 use Rattle.std.proofs.lemmas.Bool.{leb-true}
 use Rattle.container_meta.specs.Spelling.{HeaderValue, IsHeader}
 use Rattle.store_model.specs.Slots.{AreHeaders, last_id}
-use Rattle.store_model.specs.Image.{Store, Encodes, IsSound}
+use Rattle.store_model.specs.Image.{Store, Encodes, IsValidFor}
 use Rattle.store_model.proofs.Copies.{headers_of_right}
 
 -- a store that an image of this size holds is one that such an image may hold
-pub sound_of_right : (size : ℕ) (image : List ℕ) (store : Store) → length image ≡ size → Encodes image store → IsSound size store
+pub sound_of_right : (size : ℕ) (image : List ℕ) (store : Store) → length image ≡ size → Encodes image store → IsValidFor size store
 sound_of_right size image store long right = record {
   count = right.count;
   size_is = sym long ∙ right.size;

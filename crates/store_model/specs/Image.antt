@@ -10,10 +10,7 @@ use Rattle.disk_format.specs.declared.numbers.TheConstants.{FORMAT_GATE}
 use Rattle.container_meta.specs.Spelling.{HeaderValue}
 use Rattle.namespace.specs.declared.record.Named.{Named}
 use Rattle.namespace.specs.Names.{NameMap, names_after}
-use Rattle.store_model.specs.Journal.{ClosedFrom}
-use Rattle.store_model.specs.Journal.{last_of}
-use Rattle.store_model.specs.Journal.{HoldsJournal}
-use Rattle.store_model.specs.Journal.{Follow}
+use Rattle.store_model.specs.Journal.{ClosedFrom, last_of, HoldsJournal, Follow}
 use Rattle.container_meta.specs.declared.place.Place.{Place}
 use Rattle.store_model.specs.Files.{Files, root_of}
 use Rattle.store_model.specs.Slots.{HoldSlots, AreHeaders, DifferentIds, Copy, newest, free_slots}
@@ -40,7 +37,7 @@ pub record Encodes (image : List ℕ) (store : Store) : Type 0 where
   pub different : DifferentIds store.held
 
 -- what is so of anything that an image of this size may hold
-pub record IsSound (size : ℕ) (store : Store) : Type 0 where
+pub record IsValidFor (size : ℕ) (store : Store) : Type 0 where
   pub count : IsSlotCount store.slots
   pub size_is : size ≡ size_of store.slots
   pub selector_right : IsSelector store.selector
@@ -71,7 +68,8 @@ AreCopies slot (Some h ∷ cs) image =
 
 -- The newest copy of the segment of some bytes is these bytes. The empty file has no segment.
 abbrev pub HasCopy : List (Option HeaderValue) → List ℕ → List ℕ → Type 0
-HasCopy held bytes image = (bytes ≡ []) ⊎ ((copy : Copy) × (newest 0 held (key_of 0 (sha256 bytes)) ≡ Some copy) × (bytes_at copy.place image ≡ bytes))
+HasCopy held bytes image =
+    (bytes ≡ []) ⊎ ((copy : Copy) × (newest 0 held (key_of 0 (sha256 bytes)) ≡ Some copy) × (bytes_at copy.place image ≡ bytes))
 
 -- what a name has, and its file: neither, or the root of the file, whose bytes are held
 abbrev pub IsFileOf : List (Option HeaderValue) → List ℕ → Option Named → Option (List ℕ) → Type 0

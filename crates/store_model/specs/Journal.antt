@@ -17,12 +17,12 @@ IsOlder image s =
     (byte_at (selector_at (1 - s.half)) image ≢ SELECTOR_GATE)
     ⊎ ((t : SelectorValue) × (t.half ≡ 1 - s.half) × HoldsSelector image t × (t.generation < s.generation))
 
--- each record is right behind those before it
+-- each record is right after those before it
 abbrev pub Follow : ℕ → NameMap → List RecordValue → Type 0
 Follow previous names [] = Unit {0}
 Follow previous names (r ∷ rs) = IsRecord r × (previous < r.sequence) × IsTaken names r × Follow r.sequence (names_with r names) rs
 
--- records stand one behind the other, from a cell of a half on
+-- records stand one after the other, from a cell of a half on
 abbrev pub StandFrom : ℕ → ℕ → List RecordValue → List ℕ → Type 0
 StandFrom half cell [] image = Unit {0}
 StandFrom half cell (r ∷ rs) image = (range (cell_at half cell) 512 image ≡ record_cell r) × StandFrom half (cell + 1) rs image

@@ -41,15 +41,15 @@ AreHeaders (None ∷ cs) = AreHeaders cs
 AreHeaders (Some h ∷ cs) = IsHeader h × AreHeaders cs
 
 -- no container has this id
-abbrev pub IsFresh : ℕ → List (Option HeaderValue) → Type 0
-IsFresh id [] = Unit {0}
-IsFresh id (None ∷ cs) = IsFresh id cs
-IsFresh id (Some h ∷ cs) = (h.id ≢ id) × IsFresh id cs
+abbrev pub IsUnusedId : ℕ → List (Option HeaderValue) → Type 0
+IsUnusedId id [] = Unit {0}
+IsUnusedId id (None ∷ cs) = IsUnusedId id cs
+IsUnusedId id (Some h ∷ cs) = (h.id ≢ id) × IsUnusedId id cs
 
 abbrev pub DifferentIds : List (Option HeaderValue) → Type 0
 DifferentIds [] = Unit {0}
 DifferentIds (None ∷ cs) = DifferentIds cs
-DifferentIds (Some h ∷ cs) = IsFresh h.id cs × DifferentIds cs
+DifferentIds (Some h ∷ cs) = IsUnusedId h.id cs × DifferentIds cs
 
 -- a copy of a segment: the id of its container, and where it lies
 pub record Copy : Type 0 where
@@ -63,7 +63,8 @@ place_of slot e = record { slot = slot; offset = e.offset; length = e.length; le
 abbrev pub copy_in : ℕ → Option HeaderValue → List ℕ → Option Copy
 copy_in slot None key = None
 copy_in slot (Some h) key =
-    option_map (λ e. record { id = h.id; place = place_of slot e }) (find (λ e. bytes_eq (key_of (kind_byte h.kind) e.digest) key) h.entries)
+    option_map (λ e. record { id = h.id; place = place_of slot e })
+    (find (λ e. bytes_eq (key_of (kind_byte h.kind) e.digest) key) h.entries)
 
 -- the one of the greater id; ids differ
 abbrev pub newer : Option Copy → Option Copy → Option Copy
@@ -80,9 +81,13 @@ newest slot (c ∷ cs) key = newer (copy_in slot c key) (newest (slot + 1) cs ke
 abbrev pub IsIndexOf : List (Option HeaderValue) → PlaceMap → Type 0
 IsIndexOf containers places = (key : List ℕ) → finite.get places key ≡ option_map (λ c. c.place) (newest 0 containers key)
 
+-- the segment of the bytes of a file
+abbrev pub leaf_segment : List ℕ → Segment
+leaf_segment bytes = record { level = 0; bytes = bytes }
+
 -- the header of a container of one segment of a file
 abbrev pub one_segment : ℕ → List ℕ → HeaderValue
-one_segment id bytes = header_of id Leaf (record { level = 0; bytes = bytes } ∷ [])
+one_segment id bytes = header_of id Leaf (leaf_segment bytes ∷ [])
 
 -- the greatest id, 0 where there is no container
 abbrev pub last_id : List (Option HeaderValue) → ℕ
@@ -113,10 +118,3 @@ abbrev pub with_slot : ℕ → HeaderValue → List (Option HeaderValue) → Lis
 with_slot slot h [] = []
 with_slot zero h (c ∷ cs) = Some h ∷ cs
 with_slot (suc slot) h (c ∷ cs) = c ∷ with_slot slot h cs
-
--- the 262,144 bytes of a slot with a container of this one segment of a file
-pub record IsContainerOf (id : ℕ) (bytes slot : List ℕ) : Type 0 where
-  pub size : length slot ≡ 262144
-  pub right : IsHeader (one_segment id bytes)
-  pub header : range 0 49664 slot ≡ header_spelling (one_segment id bytes)
-  pub «data» : range 49664 (length bytes) slot ≡ bytes

@@ -1,6 +1,8 @@
 use Rattle.std.proofs.Common.{◌≡◌, map, ap, sym, subst, ◌∙◌, rules}
 use Rattle.std.specs.FinMap as finite
 use Rattle.std.proofs.lemmas.List.Elements.{same_from_all_zip}
+use Rattle.std.specs.List.Sorted.{IsPermutation}
+use Rattle.std.proofs.lemmas.List.Sorted.{IsPermutation-refl}
 use Rattle.namespace.specs.Keys.{by_bytes}
 use Rattle.namespace.specs.Names.{AreNames, record_value, put_of}
 use Rattle.namespace.proofs.Again.{replays, taken}
@@ -21,9 +23,9 @@ loop-name-preserved c =
 pub returns-clause-replays : goal.returns-clause-replays
 returns-clause-replays c =
     let listed : map record_value c.loop-name.records.items ≡ map put_of (finite.entries c.args.self.now) = search rules in
-    replays (map record_value c.loop-name.records.items) c.args.self.now listed
+    replays c.args.self.now (map record_value c.loop-name.records.items) (subst (λ rs. IsPermutation (map put_of (finite.entries c.args.self.now)) rs) (sym listed) (IsPermutation-refl _))
 
 pub returns-clause-taken : goal.returns-clause-taken
 returns-clause-taken c =
     let listed : map record_value c.loop-name.records.items ≡ map put_of (finite.entries c.args.self.now) = search rules in
-    taken (map record_value c.loop-name.records.items) c.args.self.now (subst AreNames c.self.view_is c.self.invariant) listed
+    taken c.args.self.now (map record_value c.loop-name.records.items) (subst AreNames c.self.view_is c.self.invariant) (subst (λ rs. IsPermutation (map put_of (finite.entries c.args.self.now)) rs) (sym listed) (IsPermutation-refl _))

@@ -1,0 +1,154 @@
+-- An image holds one store at most, and is a store of one map of files at most.
+use Rattle.std.proofs.Common.{◌≡◌, ◌≢◌, inl, inr, ℕ, suc, ◌+◌, ◌-◌, ◌<◌, ◌≤◌, List, [], ◌∷◌, length, Option, Some, None, refl, sym, ◌∙◌, ap, subst, arith}
+use Rattle.std.proofs.lemmas.Bool.Decides.{eqb_tells}
+use Rattle.std.specs.FinMap as finite
+use Rattle.std.specs.Cmp.Lexicographic.{nat_list_cmp_total}
+use Rattle.sha2.specs.Sha256.{sha256}
+use Rattle.base_model.specs.Bytes.{range, byte_at, key_of}
+use Rattle.base_model.proofs.Ranges.{byte-range}
+use Rattle.disk_format.specs.declared.numbers.TheConstants.{RECORD_GATE}
+use Rattle.disk_format.specs.Layout.{slot_at, selector_at, cell_at, half_cells}
+use Rattle.disk_format.specs.Cells.{Root, RecordValue, SelectorValue}
+use Rattle.container_meta.specs.Spelling.{HeaderValue}
+use Rattle.namespace.specs.declared.record.Named.{Named}
+use Rattle.namespace.specs.Names.{NameMap, names_with}
+use Rattle.store_model.specs.Files.{Files, root_of}
+use Rattle.store_model.specs.Journal.{HoldsSelector, IsOlder, Follow, StandFrom, HoldsRecords}
+use Rattle.store_model.specs.Slots.{HoldsSlot, HoldSlots, Copy, newest}
+use Rattle.store_model.specs.Image.{Store, Encodes, IsStoreOf, StandsFor, IsFileOf, HasCopy, names_of, last_sequence, bytes_at}
+use Rattle.store_model.proofs.Copies.{some_same}
+use Rattle.store_model.proofs.Spellings.{same_format, same_selector, gate_of_selector, same_record, gate_of_record, same_header, gate_of_header}
+
+-- the first byte of a part
+first_byte : (at count : ℕ) (part image : List ℕ) → 1 ≤ count → range at count image ≡ part → byte_at at image ≡ byte_at 0 part
+first_byte at count part image some is =
+    ap (λ (k : ℕ). byte_at k image) (omega arith) ∙ sym (byte-range 0 at count image (omega (arith, some))) ∙ ap (byte_at 0) is
+
+-- ---- slots
+
+slot_once : (slot : ℕ) (a b : Option HeaderValue) (image : List ℕ) → HoldsSlot image slot a → HoldsSlot image slot b → a ≡ b
+slot_once slot None None image one other = refl
+slot_once slot None (Some h) image one other = absurd (one (first_byte (slot_at slot) 49664 _ image (omega arith) other.1 ∙ gate_of_header h))
+slot_once slot (Some h) None image one other = absurd (other (first_byte (slot_at slot) 49664 _ image (omega arith) one.1 ∙ gate_of_header h))
+slot_once slot (Some h) (Some g) image one other = ap Some (same_header h g one.0 other.0 (sym one.1 ∙ other.1))
+
+slots_once : (slot : ℕ) (cs ds : List (Option HeaderValue)) (image : List ℕ) → length cs ≡ length ds → HoldSlots slot cs image → HoldSlots slot ds image → cs ≡ ds
+slots_once slot [] [] image many one other = refl
+slots_once slot [] (d ∷ ds) image many one other = absurd (omega (arith, many))
+slots_once slot (c ∷ cs) [] image many one other = absurd (omega (arith, many))
+slots_once slot (c ∷ cs) (d ∷ ds) image many one other =
+    ap (λ (x : Option HeaderValue). x ∷ cs) (slot_once slot c d image one.0 other.0)
+    ∙ ap (λ (xs : List (Option HeaderValue)). d ∷ xs) (slots_once (slot + 1) cs ds image (omega (arith, many)) one.1 other.1)
+
+-- ---- the selector that counts
+
+-- two in one cell
+cell_once : (s t : SelectorValue) (image : List ℕ) → HoldsSelector image s → HoldsSelector image t → s.half ≡ t.half → s ≡ t
+cell_once s t image one other half =
+    same_selector s t one.0 other.0 half (sym one.1 ∙ ap (λ (h : ℕ). range (selector_at h) 512 image) half ∙ other.1)
+
+-- of two in different cells the one that counts is of the greater generation
+greater : (s t : SelectorValue) (image : List ℕ) → HoldsSelector image t → t.half ≡ 1 - s.half → IsOlder image s → t.generation < s.generation
+greater s t image other half (inl closed) =
+    absurd (closed (ap (λ (h : ℕ). byte_at (selector_at h) image) (sym half) ∙ first_byte (selector_at t.half) 512 _ image (omega arith) other.1 ∙ gate_of_selector t.generation t.half t.last))
+greater s t image other half (inr (u, place, holds, less)) =
+    subst (λ (x : SelectorValue). x.generation < s.generation) (cell_once u t image holds other (place ∙ sym half)) less
+
+selector_once : (s t : SelectorValue) (image : List ℕ) → HoldsSelector image s → HoldsSelector image t → IsOlder image s → IsOlder image t → s ≡ t
+selector_once s t image one other older also =
+    elim (eqb_tells s.half t.half) [
+      | inl same ↦ cell_once s t image one other same.1
+      | inr differ ↦
+          let theirs : t.generation < s.generation = greater s t image other (omega (arith, one.0.half, other.0.half, differ.1)) older in
+          let mine : s.generation < t.generation = greater t s image one (omega (arith, one.0.half, other.0.half, differ.1)) also in
+          absurd (omega (arith, theirs, mine))
+    ]
+
+-- ---- records
+
+opened : (half cell : ℕ) (r : RecordValue) (image : List ℕ) → StandFrom half cell (r ∷ []) image → byte_at (cell_at half (cell + 0)) image ≡ RECORD_GATE
+opened half cell r image stands =
+    ap (λ (k : ℕ). byte_at (cell_at half k) image) (omega arith) ∙ first_byte (cell_at half cell) 512 _ image (omega arith) stands.0 ∙ gate_of_record r
+
+records_once : (half cell previous : ℕ) (names : NameMap) (rs ss : List RecordValue) (image : List ℕ) → Follow previous names rs → Follow previous names ss
+    → StandFrom half cell rs image → StandFrom half cell ss image → cell + length rs ≤ half_cells → cell + length ss ≤ half_cells
+    → (cell + length rs < half_cells → byte_at (cell_at half (cell + length rs)) image ≢ RECORD_GATE) → (cell + length ss < half_cells → byte_at (cell_at half (cell + length ss)) image ≢ RECORD_GATE)
+    → rs ≡ ss
+records_once half cell previous names [] [] image one other stand also few less ends closed = refl
+records_once half cell previous names [] (s ∷ ss) image one other stand also few less ends closed = absurd (ends (omega (arith, less)) (opened half cell s image (also.0, tt)))
+records_once half cell previous names (r ∷ rs) [] image one other stand also few less ends closed = absurd (closed (omega (arith, few)) (opened half cell r image (stand.0, tt)))
+records_once half cell previous names (r ∷ rs) (s ∷ ss) image one other stand also few less ends closed =
+    let same : r ≡ s = same_record r s one.0 other.0 (sym stand.0 ∙ also.0) in
+    let next : Follow r.sequence (names_with r names) ss = subst (λ (x : RecordValue). Follow x.sequence (names_with x names) ss) (sym same) other.3 in
+    let place : (n : ℕ) → cell + 1 + n ≡ cell + suc n = λ n. omega arith in
+    ap (λ (x : RecordValue). x ∷ rs) same
+    ∙ ap (λ (xs : List RecordValue). s ∷ xs) (records_once half (cell + 1) r.sequence (names_with r names) rs ss image one.3 next stand.1 also.1 (omega (arith, few)) (omega (arith, less))
+    (λ below shut. ends (omega (arith, below)) (ap (λ (k : ℕ). byte_at (cell_at half k) image) (sym (place (length rs))) ∙ shut))
+    (λ below shut. closed (omega (arith, below)) (ap (λ (k : ℕ). byte_at (cell_at half k) image) (sym (place (length ss))) ∙ shut)))
+
+-- ---- the store
+
+same_store : (n m : ℕ) (a b : SelectorValue) (r u : List RecordValue) (h k : List (Option HeaderValue)) → n ≡ m → a ≡ b → r ≡ u → h ≡ k
+    → (let s : Store = record { slots = n; selector = a; records = r; held = h } in s) ≡ record { slots = m; selector = b; records = u; held = k }
+same_store n m a b r u h k slots selector records held = cc
+
+pub store_once : (image : List ℕ) (s t : Store) → Encodes image s → Encodes image t → s ≡ t
+store_once image s t one other =
+    let slots : s.slots ≡ t.slots = same_format s.slots t.slots (omega (arith, one.count.1)) (omega (arith, other.count.1)) (sym one.format ∙ other.format) in
+    let selector : s.selector ≡ t.selector =
+    selector_once s.selector t.selector image one.journal.selector_is other.journal.selector_is one.journal.older other.journal.older in
+    let theirs : HoldsRecords s.selector.half t.records image = subst (λ (x : SelectorValue). HoldsRecords x.half t.records image) (sym selector) other.journal.records_are in
+    let mine = one.journal.records_are in
+    let zero_before : (n : ℕ) → 0 + n ≡ n = λ n. omega arith in
+    let records : s.records ≡ t.records =
+    records_once s.selector.half 0 0 finite.empty s.records t.records image mine.right theirs.right mine.stand theirs.stand (omega (arith, mine.few)) (omega (arith, theirs.few))
+    (λ below shut. mine.ends (omega (arith, below)) (ap (λ (k : ℕ). byte_at (cell_at s.selector.half k) image) (sym (zero_before (length s.records))) ∙ shut))
+    (λ below shut. theirs.ends (omega (arith, below)) (ap (λ (k : ℕ). byte_at (cell_at s.selector.half k) image) (sym (zero_before (length t.records))) ∙ shut)) in
+    let held : s.held ≡ t.held = slots_once 0 s.held t.held image (one.many ∙ slots ∙ sym other.many) one.slots_are other.slots_are in
+    same_store s.slots t.slots s.selector t.selector s.records t.records s.held t.held slots selector records held
+
+-- ---- the files
+
+no_bytes : (bytes : List ℕ) → length bytes ≡ 0 → bytes ≡ []
+no_bytes [] none = refl
+no_bytes (b ∷ bs) none = absurd (omega (arith, none))
+
+copy_once : (held : List (Option HeaderValue)) (image a b : List ℕ) → root_of a ≡ root_of b → HasCopy held a image → HasCopy held b image → a ≡ b
+copy_once held image a b root (inl none) other = none ∙ sym (no_bytes b (sym (ap (λ (r : Root). r.length) root) ∙ ap length none))
+copy_once held image a b root (inr one) (inl none) = no_bytes a (ap (λ (r : Root). r.length) root ∙ ap length none) ∙ sym none
+copy_once held image a b root (inr one) (inr other) =
+    let digest : sha256 a ≡ sha256 b = ap (λ (r : Root). r.digest) root in
+    let same : one.0 ≡ other.0 = some_same one.0 other.0 (sym one.1 ∙ ap (λ (d : List ℕ). newest 0 held (key_of 0 d)) digest ∙ other.1) in
+    sym one.2 ∙ ap (λ (c : Copy). bytes_at c.place image) same ∙ other.2
+
+file_once : (held : List (Option HeaderValue)) (image : List ℕ) (named : Option Named) (a b : Option (List ℕ)) → IsFileOf held image named a → IsFileOf held image named b → a ≡ b
+file_once held image None None None one other = refl
+file_once held image None None (Some b) one other = absurd other
+file_once held image None (Some a) b one other = absurd one
+file_once held image (Some named) None b one other = absurd one
+file_once held image (Some named) (Some a) None one other = absurd other
+file_once held image (Some named) (Some a) (Some b) one other = ap Some (copy_once held image a b (sym one.0 ∙ other.0) one.1 other.1)
+
+pub files_once : (image : List ℕ) (s t : Store) (m n : Files) → IsStoreOf image s m → IsStoreOf image t n → m ≡ n
+files_once image s t m n one other =
+    let same : s ≡ t = store_once image s t one.right other.right in
+    let theirs : IsStoreOf image s n = subst (λ (x : Store). IsStoreOf image x n) (sym same) other in
+    finite.same_map nat_list_cmp_total (finite.slice_cmp-IsAntisymmetric finite.nat_cmp-IsAntisymmetric) m n
+    (λ q. file_once s.held image (finite.get (names_of s) q) (finite.get m q) (finite.get n q) (one.files_are q) (theirs.files_are q))
+
+pub last_once : (image : List ℕ) (m n : Files) (i j : ℕ) → StandsFor image m i → StandsFor image n j → i ≡ j
+last_once image m n i j one other =
+    one.last_is ∙ ap last_sequence (store_once image one.store other.store one.holds.right other.holds.right) ∙ sym other.last_is
+
+-- ---- refusals, of the map
+
+none_filed : (held : List (Option HeaderValue)) (image : List ℕ) (named : Option Named) (file : Option (List ℕ)) → named ≡ None → IsFileOf held image named file → file ≡ None
+none_filed held image None None none is = refl
+none_filed held image None (Some bytes) none is = absurd is
+none_filed held image (Some named) file none is = absurd (let wrong : Some named ≡ None = none in cc)
+
+-- a name that is refused as one without a file has none in the map
+pub not_filed : (image name : List ℕ) (s t : Store) (files : Files) → Encodes image s → finite.get (names_of s) name ≡ None → IsStoreOf image t files → finite.get files name ≡ None
+not_filed image name s t files right none holds =
+    none_filed t.held image (finite.get (names_of t) name) (finite.get files name)
+    (ap (λ (x : Store). finite.get (names_of x) name) (store_once image t s holds.right right) ∙ none) (holds.files_are name)

@@ -1,0 +1,3 @@
+mod Entered
+pub mod Few
+mod Newest

@@ -1,0 +1,172 @@
+//! The containers of a store in memory.
+ghost use Rattle.std.specs.Prelude.{◌≡◌, ◌∷◌, ◌++◌, [], List, Option, None, Some, length, not, false, count_by, position, ◌==◌, ◌≤◌, IsTrue, option_map, OnOk, IfSome};
+ghost use Rattle.std.specs.FinMap as finite;
+ghost use Rattle.base_model.specs.Bytes.{key_of};
+ghost use Rattle.disk_format.specs.declared.numbers.TheConstants.{MOST_SLOTS as MANY};
+ghost use Rattle.container_meta.specs.Spelling.{HeaderValue, IsHeader, view, has_digest};
+ghost use Rattle.container_meta.specs.declared.entry.Entry.{Entry as EntryValue};
+ghost use Rattle.store_model.specs.Slots.{AreHeaders, IsUnusedId, place_of, free_slots};
+ghost use Rattle.store_state.specs.Containers.{RepresentsContainers, IsFirstFree, ArePart, is_newer};
+
+use container_meta::{Entry, Key, Meta, Place};
+use segment_index::MapIndex;
+use std::alloc::{AllocError, Global};
+
+/// The containers of a store, as its slots have them.
+#[derive(Drop)]
+pub struct Containers {
+    /// Each key's newest copy.
+    pub index: MapIndex,
+    /// The id of the container in each slot, 0 where the slot is closed.
+    pub ids: Vec<u64>,
+    /// The greatest of the ids, 0 where there is none.
+    pub last_id: u64,
+}
+
+/// The key of an entry of a data container.
+fn key_of_entry(entry: &Entry) -> Key
+    ensures { result ≡ key_of 0 entry.now.digest }
+{
+    let mut key = [0u8; 33];
+    key[1..].copy_from_slice(&entry.digest);
+    key
+}
+
+fn place_in(slot: u32, entry: &Entry) -> Place
+    ensures { result ≡ place_of slot entry.now }
+{
+    Place {
+        slot,
+        offset: entry.offset,
+        length: entry.length,
+        level: entry.level,
+    }
+}
+
+// How many ids are 0.
+fn zeros_in(ids: &[u64]) -> u32
+    requires { length ids.now ≤ MANY }
+    ensures { result ≡ count_by (λ id. id == 0) ids.now }
+{
+    ids.iter().filter(|id| **id == 0).count() as u32
+}
+
+// The place of the first id that is 0.
+fn first_zero(ids: &[u64]) -> Option<usize>
+    ensures { result ≡ position (λ id. id == 0) ids.now }
+{
+    ids.iter().position(|id| *id == 0)
+}
+
+impl Containers {
+    /// No slot.
+    pub fn new(alloc: Global) -> Containers
+        ensures { RepresentsContainers [] result }
+    {
+        Containers {
+            index: MapIndex::new(alloc),
+            ids: Vec::new(alloc),
+            last_id: 0,
+        }
+    }
+
+    /// Takes one more slot, which is closed.
+    pub fn add_closed(&mut self) -> Result<(), AllocError>
+        ensures { OnOk result ((held : List (Option HeaderValue)) → RepresentsContainers held self.old → RepresentsContainers (held ++ None ∷ []) self.new) }
+    {
+        self.ids.push(0)?;
+        Ok(())
+    }
+
+    // Whether a container of this id is newer than the one that has a key's copy.
+    fn is_newer(&self, key: &Key, id: u64) -> bool
+        ensures { result ≡ is_newer self.now.index self.now.ids.items key.now id }
+    {
+        match self.place_of(key) {
+            Some(place) => {
+                let known = self.ids.get(place.slot as usize).copied().unwrap_or(0);
+                known < id
+            }
+            None => true,
+        }
+    }
+
+    // Takes one more entry of the container that stands after the slots that were read.
+    fn add_entry(&mut self, slot: u32, id: u64, entry: &Entry) -> Result<(), AllocError>
+        ensures { OnOk result ((held : List (Option HeaderValue)) (before : List EntryValue) → has_digest before entry.now.digest ≡ false
+            → ArePart held slot id before self.old → ArePart held slot id (before ++ entry.now ∷ []) self.new) }
+    {
+        let key = key_of_entry(entry);
+        if self.is_newer(&key, id) {
+            self.index.set(&key, place_in(slot, entry))?;
+        }
+        Ok(())
+    }
+
+    // Takes the entries of the container that stands after the slots that were read.
+    fn add_entries(&mut self, slot: u32, meta: &Meta) -> Result<(), AllocError>
+        requires { IsHeader (view meta.now) }
+        ensures { OnOk result ((held : List (Option HeaderValue)) → ArePart held slot meta.now.id [] self.old → ArePart held slot meta.now.id meta.now.entries.items self.new) }
+    {
+        for entry in &meta.entries {
+            self.add_entry(slot, meta.id, entry)?;
+        }
+        Ok(())
+    }
+
+    /// Takes one more slot, which has a container; `slot` is its number.
+    pub fn add(&mut self, slot: u32, meta: &Meta) -> Result<(), AllocError>
+        requires { IsHeader (view meta.now) }
+        ensures { OnOk result ((held : List (Option HeaderValue)) → slot ≡ length held → RepresentsContainers held self.old → RepresentsContainers (held ++ Some (view meta.now) ∷ []) self.new) }
+    {
+        self.add_entries(slot, meta)?;
+        self.ids.push(meta.id)?;
+        self.last_id = self.last_id.max(meta.id);
+        Ok(())
+    }
+
+    /// The place of a key's newest copy, if a container has one.
+    pub fn place_of(&self, key: &Key) -> Option<Place>
+        ensures { result ≡ finite.get self.now.index key.now }
+    {
+        self.index.find(key)
+    }
+
+    /// Whether no container has this id, which isn't 0.
+    pub fn is_unused_id(&self, id: u64) -> bool
+        requires { 1 ≤ id }
+        ensures unused { (held : List (Option HeaderValue)) → RepresentsContainers held self.now → IsTrue result → IsUnusedId id held }
+        ensures used { (held : List (Option HeaderValue)) → RepresentsContainers held self.now → IsTrue (not result) → IsUnusedId id held → ⊥ }
+    {
+        !self.ids.contains(&id)
+    }
+
+    /// How many slots are closed.
+    pub fn free(&self) -> u32
+        requires { length self.now.ids.items ≤ MANY }
+        ensures { (held : List (Option HeaderValue)) → RepresentsContainers held self.now → AreHeaders held → result ≡ free_slots held }
+    {
+        zeros_in(&self.ids)
+    }
+
+    /// The closed slot of least number, if there is one.
+    pub fn first_free(&self) -> Option<u32>
+        requires { length self.now.ids.items ≤ MANY }
+        ensures some { IfSome result (λ slot. (held : List (Option HeaderValue)) → RepresentsContainers held self.now → AreHeaders held → IsFirstFree slot held) }
+        ensures none { result ≡ None → (held : List (Option HeaderValue)) → RepresentsContainers held self.now → AreHeaders held → free_slots held ≡ 0 }
+    {
+        let slot = first_zero(&self.ids)?;
+        Some(slot as u32)
+    }
+
+    /// Takes what the next slot holds; `slot` is its number.
+    pub fn take(&mut self, slot: u32, held: &Option<Meta>) -> Result<(), AllocError>
+        requires { IfSome held.now (λ m. IsHeader (view m)) }
+        ensures { OnOk result ((before : List (Option HeaderValue)) → slot ≡ length before → RepresentsContainers before self.old → RepresentsContainers (before ++ option_map view held.now ∷ []) self.new) }
+    {
+        match held {
+            Some(meta) => self.add(slot, meta),
+            None => self.add_closed(),
+        }
+    }
+}

@@ -1,14 +1,16 @@
 pub mod Again
 pub mod Appended
+pub mod Breaks
 pub mod Chosen
 pub mod Damage
 pub mod Formats
 pub mod Found
+pub mod Listed
 pub mod Names
 pub mod Outcomes
 pub mod Parts
 pub mod Replays
 pub mod Scanned
 pub mod Selectors
-pub mod Zeros
 pub mod Whole
+pub mod Zeros

@@ -13,8 +13,8 @@ mod record;
 mod scanning;
 mod spelling;
 
-pub use fault::{CellFault, Why};
-pub use heads::FORMAT_GATE;
+pub use fault::CellFault;
+pub use heads::Selector;
 pub use journal::Journal;
 pub use opening::slots_of;
 pub use scanning::scan;

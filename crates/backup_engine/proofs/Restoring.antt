@@ -11,10 +11,11 @@ use Rattle.reply_text.specs.declared.ending.Ending.TheVariants.{Refused}
 use Rattle.store_model.specs.Files.{Files}
 use Rattle.store_model.specs.Slots.{Copy, free_slots}
 use Rattle.store_model.specs.Image.{Store, Encodes, IsStoreOf, HasCopy, bytes_at}
-use Rattle.store_model.specs.Commands.{HasRoot, IsRootRefusal, IsRestoreRefusal, IsPlausible, root_key, copy_of}
+use Rattle.store_model.specs.Commands.{IsPlausible, copy_of}
+use Rattle.store_model.specs.Refusals.{HasRoot, IsRootRefusal, IsRestoreRefusal, root_key}
 use Rattle.store_model.proofs.Copies.{some_same}
 use Rattle.store_model.proofs.Roots.{HasFile, file_of_root, key_of_file, length_of_copy}
-use Rattle.recovery.specs.declared.opening.Opened.{Opened}
+use Rattle.store_state.specs.declared.open_store.OpenStore.{OpenStore}
 use Rattle.recovery.specs.Opening.{IsOpened}
 use Rattle.read_steps.specs.Reading.{IsReadFault, IsNameRefusal}
 use Rattle.backup_engine.specs.Line.{Restore}
@@ -35,11 +36,11 @@ restore_refusal name root refusal store image good has wrong = (good, (root, has
 
 module _ {D : Type 0} (disk : Ghosts D) (old new : D) where
   -- a disk that was opened holds an open store, and what holds of it anyway
-  pub holds_open : (o : Opened) (opened : IsOpened (Saw disk old new) (disk.size old) o) (P : Store → List ℕ → Type 0) → ((image : List ℕ) → P opened.found.store image) → Saw disk old new (HoldsWith P)
+  pub holds_open : (o : OpenStore) (opened : IsOpened (Saw disk old new) (disk.size old) o) (P : Store → List ℕ → Type 0) → ((image : List ℕ) → P opened.found.store image) → Saw disk old new (HoldsWith P)
   holds_open o opened P each = weaker disk old new (λ image sized right. (opened.found.store, right, opened.reserve, each image)) opened.found.right
 
   -- a name without a root
-  pub refused_by_name : (o : Opened) (failed : Type 0) (name : List ℕ) (refusal : Refusal) → IsOpened (Saw disk old new) (disk.size old) o → IsNameRefusal o name refusal
+  pub refused_by_name : (o : OpenStore) (failed : Type 0) (name : List ℕ) (refusal : Refusal) → IsOpened (Saw disk old new) (disk.size old) o → IsNameRefusal o name refusal
       → IsRefused (Saw disk old new) (disk.size old) failed None None (Restore name) refusal
   refused_by_name o failed name BadName opened wrong = inr (tt, holds_open o opened (IsRestoreRefusal name BadName) (λ image. wrong))
   refused_by_name o failed name NoFile opened wrong = inr (tt, holds_open o opened (IsRestoreRefusal name NoFile) (λ image. (wrong.0, wrong.1 opened.found.store opened.found.keeps.journal)))

@@ -34,7 +34,8 @@ impl Cursor {
     ghost use Rattle.std.specs.Prelude.{◌≡◌, ◌∷◌, ◌++◌, List, ℕ, IfOk, IsOk, OnErr, OnOk, drop};
     ghost use Rattle.merkle_file.specs.Node.{Contents, IsNode, spelling};
     ghost use Rattle.merkle_file.specs.Reading.{contents_in, found_fault};
-    ghost use Rattle.merkle_file.specs.Walk.{Ahead, IsTree, contents_of, list_of, segments_in, trees_in, IsLeafNext, IsNext, IsNextNamed, IsNodeNext, fault_for, opened, start_of, wanted};
+    ghost use Rattle.merkle_file.specs.Walk.{Ahead, IsTree, contents_of, list_of, segments_in, trees_in, IsLeafNext, IsNext, IsNextNamed};
+    ghost use Rattle.merkle_file.specs.Walk.{IsNodeNext, fault_for, opened, start_of, wanted};
 
     /// A walk from a root. It takes the memory for six nodes' children here, and none later.
     pub fn new(alloc: Global, top: &Top) -> Result<Cursor, AllocError>

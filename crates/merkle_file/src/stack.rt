@@ -1,6 +1,7 @@
 //! The trees that are still to come on a walk, the next one last.
 
-ghost use Rattle.std.specs.Prelude.{◌≡◌, ◌+◌, ◌-◌, ◌*◌, ◌≤◌, ◌<◌, ◌∷◌, ◌++◌, IfOk, IsOk, OnErr, OnOk, drop, length, map, reverse, take, vec_capacity};
+ghost use Rattle.std.specs.Prelude.{◌≡◌, ◌+◌, ◌-◌, ◌*◌, ◌≤◌, ◌<◌, ◌∷◌, ◌++◌, IfOk, IsOk, OnErr, OnOk, drop, length, map, reverse, take};
+ghost use Rattle.std.specs.Prelude.{vec_capacity};
 ghost use Rattle.merkle_file.specs.Node.{Contents, IsNode, spelling};
 ghost use Rattle.merkle_file.specs.Reading.{children_in, contents_in, found_fault};
 ghost use Rattle.merkle_file.specs.Walk.{HasRoom, IsNextNamed, IsNodeNext, asked_for, below, fault_for, opened};

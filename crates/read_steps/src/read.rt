@@ -1,32 +1,29 @@
 //! Reading a file back.
-ghost use Rattle.std.specs.Prelude.{◌≡◌, ◌+◌, ◌≤◌, length, option_map, IfOk, IfErr};
+ghost use Rattle.std.specs.Prelude.{◌≡◌, ◌+◌, ◌≤◌, length, OnOk, IfOk, IfErr};
 ghost use Rattle.sha2.specs.Sha256.{sha256};
-ghost use Rattle.base_model.specs.Fault.{Rose};
-ghost use Rattle.base_model.specs.Shown.{Shown, OnlyReads};
-ghost use Rattle.disk_format.specs.Layout.{data_at};
+ghost use Rattle.dd_disk.specs.Ending.{ending, Reads};
+ghost use Rattle.dd_disk.specs.Shows.{Shows};
+ghost use Rattle.disk_format.specs.Layout.{data_at as place_of_data};
 ghost use Rattle.disk_format.specs.Cells.{IsName, IsRoot};
 ghost use Rattle.store_model.specs.Image.{Store, bytes_at};
-ghost use Rattle.store_model.specs.Commands.{HasRoot, IsRootRefusal, IsPlausible, AreBytesOf, copy_of, root_key as key_of_root};
-ghost use Rattle.recovery.specs.Opening.{Keeps};
-ghost use Rattle.recovery.specs.State.{IsState, KeepsNames};
-ghost use Rattle.read_steps.specs.Reading.{IsReadFault, IsNameRefusal, IsOtherDigest};
+ghost use Rattle.store_model.specs.Refusals.{HasRoot, AreBytesOf, root_key as key_of_root};
+ghost use Rattle.store_state.specs.Refused.{blames};
+ghost use Rattle.store_state.specs.State.{Represents, RepresentsNames, RepresentsSome};
+ghost use Rattle.read_steps.specs.Reading.{IsNameRefusal, IsCopyRefusal, IsFileRefusal};
 
-use refusals::{Refusal, Why};
 use container_log::{LogFault, Spot, read_segment};
+use container_meta::{Key, Place};
 use dd_disk::Disk;
+use disk_format::{Why, data_at};
 use namespace::{NameFault, Root};
-use recovery::Opened;
-use segment_index::{Key, Place};
+use refusals::Refusal;
 use std::alloc::Global;
-
-/// Where the data section of slot 0 begins.
-const FIRST_DATA: u64 = 1_099_776;
-/// The bytes of a slot.
-const SLOT: u64 = 262_144;
+use store_state::OpenStore;
 
 /// The root that a name has.
-pub fn root_named(opened: &Opened, name: &str) -> Result<Root, Refusal>
-    ensures root { IfOk result (λ root. IsName name.now × ((store : Store) → KeepsNames store opened.now → HasRoot name.now root store)) }
+pub fn root_named(opened: &OpenStore, name: &str) -> Result<Root, Refusal>
+    ensures named { OnOk result (IsName name.now) }
+    ensures root { IfOk result (λ root. (store : Store) → RepresentsNames store opened.now → HasRoot name.now root store) }
     ensures refused { IfErr result (IsNameRefusal opened.now name.now) }
 {
     match opened.names.get(name.as_bytes()) {
@@ -55,13 +52,12 @@ fn read_copy<D: Disk>(
     place: &Place,
     digest: &[u8; 32],
 ) -> Result<Vec<u8>, Refusal>
-    requires { data_at place.now.slot + place.now.offset + place.now.length ≤ (D.view disk.old).size }
+    requires { place_of_data place.now.slot + place.now.offset + place.now.length ≤ (D.view disk.old).size }
     ensures digest { IfOk result (λ bytes. sha256 bytes.items ≡ digest.now) }
     ensures length { IfOk result (λ bytes. length bytes.items ≡ place.now.length) }
     ensures shown { IfOk result (λ bytes. Shows (D.view disk.old) (D.view disk.new) (λ image. bytes_at place.now image ≡ bytes.items)) }
-    ensures reads { OnlyReads (D.view disk.old) (D.view disk.new) }
-    ensures refused { IfErr result (IsReadFault (Rose (D.view disk.old).faults (D.view disk.new).faults) (λ refusal. IsPlausible refusal
-        × Shows (D.view disk.old) (D.view disk.new) (IsOtherDigest place.now digest.now refusal))) }
+    ensures reads { Reads (ending blames result) (D.view disk.old) (D.view disk.new) }
+    ensures refused { IfErr result (IsCopyRefusal (Shows (D.view disk.old) (D.view disk.new)) place.now digest.now) }
 {
     let spot = Spot {
         slot: place.slot,
@@ -99,29 +95,29 @@ fn read_copy<D: Disk>(
 pub fn read_root<D: Disk>(
     alloc: Global,
     disk: &mut D,
-    opened: &Opened,
+    opened: &OpenStore,
     root: &Root,
 ) -> Result<Vec<u8>, Refusal>
-    requires state { IsState (D.view disk.old).size opened.now }
+    requires state { RepresentsSome (D.view disk.old).size opened.now }
     requires right { IsRoot root.now }
     // On any disk, whatever it gives.
     ensures bytes { IfOk result (λ bytes. (length bytes.items ≡ root.now.length) × (sha256 bytes.items ≡ root.now.digest)) }
-    ensures shown { IfOk result (λ bytes. Shows (D.view disk.old) (D.view disk.new) (λ image. (store : Store) → Keeps store opened.now → AreBytesOf root.now bytes.items store image)) }
-    ensures reads { OnlyReads (D.view disk.old) (D.view disk.new) }
-    ensures refused { IfErr result (IsReadFault (Rose (D.view disk.old).faults (D.view disk.new).faults) (λ refusal. IsPlausible refusal
-        × Shows (D.view disk.old) (D.view disk.new) (λ image. (store : Store) → Keeps store opened.now → IsRootRefusal root.now refusal store image))) }
+    ensures shown { IfOk result (λ bytes. Shows (D.view disk.old) (D.view disk.new) (λ image. (store : Store) → Represents store opened.now
+        → AreBytesOf root.now bytes.items store image)) }
+    ensures reads { Reads (ending blames result) (D.view disk.old) (D.view disk.new) }
+    ensures refused { IfErr result (IsFileRefusal (Shows (D.view disk.old) (D.view disk.new)) opened.now root.now) }
 {
     if root.length == 0 {
         return Ok(Vec::new(alloc));
     }
     let key = key_of_root(root);
-    let Some(place) = opened.containers.index.find(&key) else {
+    let Some(place) = opened.containers.place_of(&key) else {
         return Err(Refusal::Missing { key });
     };
     let bytes = read_copy(alloc, disk, &place, &root.digest)?;
     if u64::from(place.length) != root.length {
         return Err(Refusal::Damaged {
-            at: FIRST_DATA + SLOT * u64::from(place.slot) + u64::from(place.offset),
+            at: data_at(place.slot) + u64::from(place.offset),
             why: Why::Field {
                 offset: 0,
                 got: u64::from(place.length),

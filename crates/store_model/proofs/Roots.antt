@@ -14,7 +14,8 @@ use Rattle.store_model.specs.Journal.{Follow}
 use Rattle.store_model.specs.Files.{Files, root_of}
 use Rattle.store_model.specs.Slots.{Copy}
 use Rattle.store_model.specs.Image.{Store, Encodes, IsValidFor, IsStoreOf, IsFileOf, HasCopy, bytes_at}
-use Rattle.store_model.specs.Commands.{HasRoot, AreBytesOf, root_key, leaf_key, copy_of}
+use Rattle.store_model.specs.Commands.{leaf_key, copy_of}
+use Rattle.store_model.specs.Refusals.{HasRoot, AreBytesOf, root_key}
 use Rattle.store_model.proofs.Copies.{some_same, headers_of_right, copy_within}
 
 -- ---- each root is one that a file may have

@@ -2,4 +2,5 @@ pub mod Commands
 pub mod Files
 pub mod Image
 pub mod Journal
+pub mod Refusals
 pub mod Slots

@@ -6,9 +6,10 @@ use Rattle.dd_disk.proofs.Disks.{Saw, weaker, both}
 use Rattle.refusals.specs.declared.refusal.Refusal.{Refusal}
 use Rattle.reply_text.specs.declared.ending.Ending.TheVariants.{Refused}
 use Rattle.store_model.specs.Image.{Store, Encodes}
-use Rattle.store_model.specs.Commands.{IsPlausible, IsRootRefusal}
+use Rattle.store_model.specs.Commands.{IsPlausible}
+use Rattle.store_model.specs.Refusals.{IsRootRefusal}
 use Rattle.store_model.proofs.Roots.{root_of_name, file_of_root, same_file}
-use Rattle.recovery.specs.Opening.{Keeps}
+use Rattle.store_state.specs.State.{Represents}
 use Rattle.backup_engine.specs.Line.{Restore}
 use Rattle.backup_engine.specs.Clauses.{IsGivenUp}
 use Rattle.backup_engine.specs.Doing.{IsHarmless}
@@ -42,7 +43,7 @@ returns-in_err-bytes-clause-given_up g c =
     let second = c.in_err-bytes.ensures.reads in
     let refusal = c.in_err-bytes.field-0.0 in
     let failed = Rose (disk.faults mid) (disk.faults new) in
-    let Known : Refusal → Type 0 = λ r. IsPlausible r × Saw disk mid new (λ image. (s : Store) → Keeps s c.in_ok-opened.opened → IsRootRefusal root r s image) in
+    let Known : Refusal → Type 0 = λ r. IsPlausible r × Saw disk mid new (λ image. (s : Store) → Represents s c.in_ok-opened.opened → IsRootRefusal root r s image) in
     let Found : Refusal → Type 0 = λ r. IsPlausible r × Saw disk old new (λ image. Encodes image store × IsRootRefusal root r store image) in
     passed_on c.from_residual-in_err-bytes.result (IsGivenUp (Saw disk old new) (disk.size old) (Rose (disk.faults old) (disk.faults new)) ⊥ None None (Restore c.args.name.now))
     (Refused refusal) c.from_residual-in_err-bytes.ensures.1
@@ -64,7 +65,7 @@ returns-in_err-bytes-clause-harmless g c = λ old told files stands.
     let sized = law.sized c.args.disk.now old told in
     let keeps = shown_told disk.gave disk.content disk.size disk.same c.args.disk.now mid _ old c.in_ok-opened.ensures.only told sized store holds.right in
     let failed = Rose (disk.faults mid) (disk.faults new) in
-    let Known : Refusal → Type 0 = λ r. IsPlausible r × Saw disk mid new (λ image. (s : Store) → Keeps s c.in_ok-opened.opened → IsRootRefusal root r s image) in
+    let Known : Refusal → Type 0 = λ r. IsPlausible r × Saw disk mid new (λ image. (s : Store) → Represents s c.in_ok-opened.opened → IsRootRefusal root r s image) in
     passed_on c.from_residual-in_err-bytes.result IsHarmless (Refused c.in_err-bytes.field-0.0) c.from_residual-in_err-bytes.ensures.1
     (harmless_read failed c.in_err-bytes.field-0.0
     (fault_mapped failed failed Known (λ r. IsHarmless (Refused r)) c.in_err-bytes.field-0.0 (λ rose. rose)

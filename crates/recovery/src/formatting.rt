@@ -97,7 +97,8 @@ fn write_cells<D: Disk>(
     requires blanks { blanks.now ≡ zeros BLANKS }
     requires selector { selector.now ≡ selector_cell 1 0 0 }
     requires cell { cell.now ≡ format_cell slots }
-    ensures { Writes (λ _ _. IsBlankOrFormatted slots) (λ _. IsFormatted slots) (ending (λ _. WriteCall) result) (D.view disk.old) (D.view disk.new) }
+    ensures { Writes (λ _ _. IsBlankOrFormatted slots) (λ _. IsFormatted slots) (ending (λ _. WriteCall) result)
+        (D.view disk.old) (D.view disk.new) }
 {
     lay_out(disk, slots, blanks, selector)?;
     write_gated(disk, 0, cell)
@@ -118,7 +119,8 @@ fn write_store<D: Disk>(
     requires blanks { blanks.now ≡ zeros BLANKS }
     requires selector { selector.now ≡ selector_cell 1 0 0 }
     requires cell { cell.now ≡ format_cell slots }
-    ensures writes { Writes (λ _ _. IsBlankOrFormatted slots) (λ _. IsFormatted slots) (ending (λ _. WriteCall) result) (D.view disk.old) (D.view disk.new) }
+    ensures writes { Writes (λ _ _. IsBlankOrFormatted slots) (λ _. IsFormatted slots) (ending (λ _. WriteCall) result)
+        (D.view disk.old) (D.view disk.new) }
     ensures left { Known (D.view disk.old).content (λ _. KnownWith (D.view disk.new).content (IsBlankOrFormatted slots)) }
 {
     sync_all(disk)?;
@@ -131,13 +133,15 @@ fn write_store<D: Disk>(
 /// last leave the disk as it was.
 pub fn format<D: Disk>(alloc: Global, disk: &mut D, slots: u32) -> Result<(), Refusal>
     requires { IsSlotCount slots }
-    ensures done { OnOk result (((D.view disk.old).size ≡ size_of slots) × Shows (D.view disk.old) (D.view disk.new) (λ image. byte_at 0 image ≢ OPEN)) }
+    ensures done { OnOk result (((D.view disk.old).size ≡ size_of slots)
+        × Shows (D.view disk.old) (D.view disk.new) (λ image. byte_at 0 image ≢ OPEN)) }
     ensures stands { OnOk result (Known (D.view disk.old).content (λ _. KnownWith (D.view disk.new).content (IsFormatted slots))) }
     ensures durable { OnOk result (IsDurable (D.view disk.new)) }
     // What a disk that fails in the middle leaves.
     ensures left { Known (D.view disk.old).content (λ image. KnownWith (D.view disk.new).content (IsLeftByFormat slots image)) }
     // What a crash leaves at any moment: an image from the start, no store, or an empty one.
-    ensures crash { Known (D.view disk.old).content (λ _. CrashLeaves (λ c. (D.view disk.old).images c ⊎ IsBlankOrFormatted slots c) (D.view disk.old) (D.view disk.new)) }
+    ensures crash { Known (D.view disk.old).content (λ _. CrashLeaves (λ c. (D.view disk.old).images c ⊎ IsBlankOrFormatted slots c)
+        (D.view disk.old) (D.view disk.new)) }
     ensures disk { Acts (ending blames result) (D.view disk.old) (D.view disk.new) }
     // A disk that is known to have a store is only read.
     ensures store { Known (D.view disk.old).content (λ image. byte_at 0 image ≡ OPEN → OnlyReads (D.view disk.old) (D.view disk.new)) }

@@ -101,7 +101,8 @@ fn read_format<D: Disk>(disk: &mut D) -> Result<u32, Refusal>
 // The format cell and the journal.
 fn read_front<D: Disk>(alloc: Global, disk: &mut D) -> Result<Front, Refusal>
     ensures sized { IfOk result (λ front. IsSized (Shows (D.view disk.old) (D.view disk.new)) (D.view disk.old).size front.slots) }
-    ensures scanned { IfOk result (λ front. IsScanned (Shows (D.view disk.old) (D.view disk.new)) front.journal front.names front.journal.last) }
+    ensures scanned { IfOk result (λ front.
+        IsScanned (Shows (D.view disk.old) (D.view disk.new)) front.journal front.names front.journal.last) }
     ensures only { IfErr result (λ refusal. Shows (D.view disk.old) (D.view disk.new) (λ image. (store : Store)
         → Encodes image store → IsTrue (fails refusal))) }
     ensures durable { OnOk result (IsDurable (D.view disk.new)) }

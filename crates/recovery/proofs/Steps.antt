@@ -112,6 +112,7 @@ module _ (old mid new : DiskView) (before : OnlyReads old mid) where
     selector = is.selector;
     records = is.records;
     holds = since old mid new before is.holds;
+    other = since old mid new before is.other;
     selector_right = is.selector_right;
     few = is.few;
     right = is.right;

@@ -12,12 +12,10 @@ use Rattle.disk_format.specs.Cells.{Root, RecordValue, SelectorValue}
 use Rattle.container_meta.specs.Spelling.{HeaderValue}
 use Rattle.namespace.specs.declared.record.Named.{Named}
 use Rattle.namespace.specs.Names.{NameMap, names_with}
-use Rattle.refusals.specs.declared.refusal.Refusal.TheVariants.{NoFile}
 use Rattle.store_model.specs.Files.{Files, root_of}
 use Rattle.store_model.specs.Journal.{HoldsSelector, IsOlder, Follow, StandFrom, HoldsRecords}
 use Rattle.store_model.specs.Slots.{HoldsSlot, HoldSlots, Copy, newest}
 use Rattle.store_model.specs.Image.{Store, Encodes, IsStoreOf, StandsFor, IsFileOf, HasCopy, names_of, last_sequence, bytes_at}
-use Rattle.store_model.specs.Commands.{IsRestoreRefusal}
 use Rattle.store_model.proofs.Copies.{some_same}
 use Rattle.store_model.proofs.Spellings.{same_format, same_selector, gate_of_selector, same_record, gate_of_record, same_header, gate_of_header}
 
@@ -149,8 +147,8 @@ none_filed held image None None none is = refl
 none_filed held image None (Some bytes) none is = absurd is
 none_filed held image (Some named) file none is = absurd (let wrong : Some named ≡ None = none in cc)
 
--- a name that is refused as one without a file has none in the map
-pub not_filed : (image name : List ℕ) (s t : Store) (files : Files) → Encodes image s → IsRestoreRefusal name NoFile s image → IsStoreOf image t files → finite.get files name ≡ None
+-- a name that has no root has no file in the map
+pub not_filed : (image name : List ℕ) (s t : Store) (files : Files) → Encodes image s → finite.get (names_of s) name ≡ None → IsStoreOf image t files → finite.get files name ≡ None
 not_filed image name s t files right refused holds =
     none_filed t.held image (finite.get (names_of t) name) (finite.get files name)
-    (ap (λ (x : Store). finite.get (names_of x) name) (store_once image t s holds.right right) ∙ refused.1) (holds.files_are name)
+    (ap (λ (x : Store). finite.get (names_of x) name) (store_once image t s holds.right right) ∙ refused) (holds.files_are name)

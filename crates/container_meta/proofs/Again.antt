@@ -14,15 +14,15 @@ use Rattle.base_model.specs.Numbers.{number_at, seven_at}
 use Rattle.base_model.proofs.Checks.{AllHold, behind_all, then_step, both, both_true, not_false}
 use Rattle.base_model.proofs.Numbers.{number_2, number_4, number_8}
 use Rattle.base_model.proofs.Ranges.{range-range, range-first, range-second, range-whole}
+use Rattle.disk_format.specs.declared.numbers.TheConstants.{CONTAINER_GATE, DATA_BYTES, HEADER_BYTES, MOST_ENTRIES}
 use Rattle.container_meta.specs.declared.kind.Kind.{Kind}
 use Rattle.container_meta.specs.declared.kind.Kind.TheVariants.{Leaf}
 use Rattle.container_meta.specs.declared.entry.Entry.{Entry}
 use Rattle.container_meta.specs.Format.{magic, kind_of, is_id, is_count, is_data_length, is_length, is_level, entry_place}
 use Rattle.container_meta.specs.Spelling.{HeaderValue, IsNext, Follow, IsHeader, bytes_of, has_digest, entry_spelling, entries_spelling, fields_spelling, header_spelling}
-use Rattle.container_meta.specs.Reading.{opening_checks, digest_checks, field_checks, entry_checks, end_checks, count_at, kind_at, digest_at, entry_at, is_end, zeros_in_front, zeros_end, entries_at, header_at}
+use Rattle.container_meta.specs.Reading.{next_read, opening_checks, digest_checks, field_checks, entry_checks, end_checks, count_at, kind_at, digest_at, entry_at, is_end, zeros_in_front, zeros_end, entries_at, header_at}
 use Rattle.container_meta.proofs.Lists.{zeros_in_front-zeros}
 use Rattle.container_meta.proofs.Spelled.{entries_spelling-cons, bytes_of-push}
-use Rattle.container_meta.proofs.Entries.{next_read}
 use Rattle.container_meta.proofs.Numbers.{length-entry_spelling, entry_again}
 use Rattle.container_meta.proofs.Parts.{field_parts, Parts, parts_of_spelling, length-entries_spelling}
 
@@ -68,7 +68,7 @@ no_more : (es : List Entry) → length es ≡ 0 → bytes_of es ≡ 0
 no_more [] h = refl
 no_more (e ∷ es) h = absurd (omega arith)
 
-pub entries_again : (kind : Kind) (data_length : ℕ) (before rest : List Entry) (bytes : List ℕ) → entry_place (length before + length rest) ≤ length bytes → Follow kind before rest → range (entry_place (length before)) (48 * length rest) bytes ≡ entries_spelling rest → bytes_of (before ++ rest) ≡ data_length → data_length ≤ 212480 → entries_at kind data_length (length rest) before bytes ≡ Ok (before ++ rest)
+pub entries_again : (kind : Kind) (data_length : ℕ) (before rest : List Entry) (bytes : List ℕ) → entry_place (length before + length rest) ≤ length bytes → Follow kind before rest → range (entry_place (length before)) (48 * length rest) bytes ≡ entries_spelling rest → bytes_of (before ++ rest) ≡ data_length → data_length ≤ DATA_BYTES → entries_at kind data_length (length rest) before bytes ≡ Ok (before ++ rest)
 unfolding entries_at
 entries_again kind data_length before [] bytes fits allowed here whole small = ap (λ (l : List Entry). Ok l) (sym (append-nil before))
 entries_again kind data_length before (e ∷ es) bytes fits allowed here whole small =
@@ -95,14 +95,14 @@ unfolding zeros_end
 zeros_end_of from count place bytes e h =
     eq-eqb (from + zeros_in_front (range from count bytes)) place (ap (λ (l : List ℕ). from + zeros_in_front l) h ∙ ap (λ (k : ℕ). from + k) (zeros_in_front-zeros count) ∙ sym e)
 
-pub small_count : (n : ℕ) → is_count n ≡ true → n ≤ 1024
-small_count n h = leb-true n 1024 (both (nat_le 1 n) (nat_le n 1024) h).1
+pub small_count : (n : ℕ) → is_count n ≡ true → n ≤ MOST_ENTRIES
+small_count n h = leb-true n MOST_ENTRIES (both (nat_le 1 n) (nat_le n MOST_ENTRIES) h).1
 
 small_id : (n : ℕ) → is_id n ≡ true → n ≤ 2 ^ 64 - 2
 small_id n h = leb-true n (2 ^ 64 - 2) (both (nat_le 1 n) (nat_le n (2 ^ 64 - 2)) h).1
 
-small_length : (n : ℕ) → is_data_length n ≡ true → n ≤ 212480
-small_length n h = leb-true n 212480 (both (nat_le 1 n) (nat_le n 212480) h).1
+small_length : (n : ℕ) → is_data_length n ≡ true → n ≤ DATA_BYTES
+small_length n h = leb-true n DATA_BYTES (both (nat_le 1 n) (nat_le n DATA_BYTES) h).1
 
 same_header : (i i' : ℕ) (k k' : Kind) (d d' : ℕ) (es : List Entry) → i ≡ i' → k ≡ k' → d ≡ d' → (let v : HeaderValue = record { id = i; kind = k; data_length = d; entries = es } in v) ≡ record { id = i'; kind = k'; data_length = d'; entries = es }
 same_header i i' k k' d d' es hi hk hd = cc
@@ -134,16 +134,16 @@ digest_read h bytes p count =
     let entries : range 512 (48 * count_at bytes) bytes ≡ entries_spelling h.entries = ap (λ (n : ℕ). range 512 (48 * n) bytes) count ∙ p.entries in
     p.digest ∙ sym (ap (λ (l : List ℕ). sha256 (l ++ range 512 (48 * count_at bytes) bytes)) p.fields ∙ ap (λ (l : List ℕ). sha256 (fields ++ l)) entries)
 
-pub header_again : (bytes : List ℕ) (h : HeaderValue) → length bytes ≡ 49664 → IsHeader h → bytes ≡ header_spelling h → header_at bytes ≡ Ok h
+pub header_again : (bytes : List ℕ) (h : HeaderValue) → length bytes ≡ HEADER_BYTES → IsHeader h → bytes ≡ header_spelling h → header_at bytes ≡ Ok h
 unfolding header_at
 header_again bytes h long allowed is =
-    let few : length h.entries ≤ 1024 = small_count (length h.entries) allowed.count in
+    let few : length h.entries ≤ MOST_ENTRIES = small_count (length h.entries) allowed.count in
     let p = parts_of_spelling h bytes few allowed.entries is in
     let f = fields_read h bytes allowed p in
     let count : ℕ = count_at bytes in
     let data_length : ℕ = number_at w32 20 bytes in
     let kind : kind_at bytes ≡ h.kind = ap (λ (o : Option Kind). unwrap_or o Leaf) f.kind_byte_is in
-    let opening : AllHold (opening_checks bytes) = (eq-eqb (byte_at 0 bytes) 0xC5 p.gate, ((bytes_eq-Decides (range 1 7 bytes) magic).1 f.name, (ap is_count f.count_is ∙ allowed.count, tt))) in
+    let opening : AllHold (opening_checks bytes) = (eq-eqb (byte_at 0 bytes) CONTAINER_GATE p.gate, ((bytes_eq-Decides (range 1 7 bytes) magic).1 f.name, (ap is_count f.count_is ∙ allowed.count, tt))) in
     let digest : AllHold (digest_checks bytes) = ((bytes_eq-Decides (range 24 32 bytes) (digest_at bytes)).1 (digest_read h bytes p f.count_is), tt) in
     let fields : AllHold (field_checks bytes) = (ap is_id f.id_is ∙ allowed.id, (ap is_some f.kind_byte_is, (eq-eqb (byte_at 17 bytes) 0 f.zero_is, (ap is_data_length f.length_is ∙ allowed.data_length, (zeros_end_of 56 456 512 bytes refl p.padding, tt))))) in
     let entries : entries_at (kind_at bytes) data_length count [] bytes ≡ Ok h.entries =
@@ -152,9 +152,9 @@ header_again bytes h long allowed is =
     ∙ ap (λ (n : ℕ). entries_at h.kind h.data_length n [] bytes) f.count_is
     ∙ entries_again h.kind h.data_length [] h.entries bytes (omega arith) allowed.entries p.entries allowed.whole (small_length h.data_length allowed.data_length) in
     let from : entry_place count ≡ 512 + 48 * length h.entries = ap entry_place f.count_is in
-    let rest : range (entry_place count) (49664 - entry_place count) bytes ≡ zeros (49664 - entry_place count) =
-    ap (λ (k : ℕ). range k (49664 - k) bytes) from ∙ ap (λ (k : ℕ). range (512 + 48 * length h.entries) k bytes) (omega arith) ∙ p.rest ∙ ap zeros (omega arith) in
-    let end : AllHold (end_checks bytes) = (zeros_end_of (entry_place count) (49664 - entry_place count) 49664 bytes (omega arith) rest, tt) in
+    let rest : range (entry_place count) (HEADER_BYTES - entry_place count) bytes ≡ zeros (HEADER_BYTES - entry_place count) =
+    ap (λ (k : ℕ). range k (HEADER_BYTES - k) bytes) from ∙ ap (λ (k : ℕ). range (512 + 48 * length h.entries) k bytes) (omega arith) ∙ p.rest ∙ ap zeros (omega arith) in
+    let end : AllHold (end_checks bytes) = (zeros_end_of (entry_place count) (HEADER_BYTES - entry_place count) HEADER_BYTES bytes (omega arith) rest, tt) in
     then_step (behind (opening_checks bytes) count) _ count (Ok h) (behind_all (opening_checks bytes) count opening)
     (then_step (passes (digest_checks bytes)) _ tt (Ok h) (behind_all (digest_checks bytes) tt digest)
     (then_step (behind (field_checks bytes) (kind_at bytes)) _ (kind_at bytes) (Ok h) (behind_all (field_checks bytes) (kind_at bytes) fields)

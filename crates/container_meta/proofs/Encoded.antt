@@ -4,6 +4,7 @@ use Rattle.base_model.specs.Bytes.{zeros}
 use Rattle.std.specs.Prelude.{nat_le}
 use Rattle.std.proofs.lemmas.Bool.{le-leb, leb-true}
 use Rattle.std.proofs.lemmas.List.{take_at}
+use Rattle.disk_format.specs.declared.numbers.TheConstants.{DATA_BYTES, MOST_ENTRIES, MOST_SEGMENT}
 use Rattle.container_meta.specs.declared.kind.Kind.{Kind}
 use Rattle.container_meta.specs.declared.kind.Kind.TheVariants.{Leaf, Tree}
 use Rattle.container_meta.specs.declared.entry.Entry.{Entry}
@@ -17,7 +18,7 @@ use Rattle.container_meta.proofs.Packing.{bytes_of-cons, data-segments_in, bytes
 -- a container of these entries and this data
 abbrev spelled_with : ℕ → Kind → List Entry → ℕ → List ℕ → List ℕ
 spelled_with id kind es count bytes =
-    front_spelling (fields_spelling id kind (length es) count) (entries_spelling es) ++ entries_spelling es ++ zeros (49152 - 48 * length es) ++ bytes ++ zeros (212480 - count)
+    front_spelling (fields_spelling id kind (length es) count) (entries_spelling es) ++ entries_spelling es ++ zeros (49152 - 48 * length es) ++ bytes ++ zeros (DATA_BYTES - count)
 
 joined : (a b c d e : List ℕ) → a ++ ((b ++ c) ++ (d ++ e)) ≡ (((a ++ b) ++ c) ++ d) ++ e
 joined a b c d e = simp append_assoc
@@ -25,7 +26,7 @@ joined a b c d e = simp append_assoc
 pub container_written : (id : ℕ) (kind : Kind) (es : List Entry) (bytes front entries rest part : List ℕ)
     → es ≡ entries_from 0 (segments_in es bytes) → bytes_of es ≡ length bytes → Follow kind [] es
     → entries ≡ entries_spelling es ++ zeros (49152 - 48 * length es) → part ≡ take (48 * length es) entries
-    → front ≡ front_spelling (fields_spelling id kind (length es) (length bytes)) part → rest ≡ bytes ++ zeros (212480 - length bytes)
+    → front ≡ front_spelling (fields_spelling id kind (length es) (length bytes)) part → rest ≡ bytes ++ zeros (DATA_BYTES - length bytes)
     → front ++ (entries ++ rest) ≡ container_spelling id kind (segments_in es bytes)
 container_written id kind es bytes front entries rest part exact whole allowed wrote_entries cut wrote_front wrote_rest =
     let ss : List Segment = segments_in es bytes in
@@ -38,7 +39,7 @@ container_written id kind es bytes front entries rest part exact whole allowed w
     ap (λ (l : List ℕ). l ++ (entries ++ rest)) front_is
     ∙ ap (λ (l : List ℕ). front_spelling fields spelled ++ (l ++ rest)) wrote_entries
     ∙ ap (λ (l : List ℕ). front_spelling fields spelled ++ ((spelled ++ zeros k) ++ l)) wrote_rest
-    ∙ joined (front_spelling fields spelled) spelled (zeros k) bytes (zeros (212480 - length bytes))
+    ∙ joined (front_spelling fields spelled) spelled (zeros k) bytes (zeros (DATA_BYTES - length bytes))
     ∙ ap (λ (l : List Entry). spelled_with id kind l (length bytes) bytes) exact
     ∙ ap (λ (n : ℕ). spelled_with id kind (entries_from 0 ss) n bytes) (sym (bytes_in-segments_in es bytes whole))
     ∙ ap (λ (l : List ℕ). spelled_with id kind (entries_from 0 ss) (bytes_in ss) l) (sym (data-segments_in es bytes whole))
@@ -50,7 +51,7 @@ kind_taken Leaf n h = refl
 kind_taken Tree n h = absurd cc
 
 some_length : (kind : Kind) (n : ℕ) → is_length kind n ≡ true → 1 ≤ n
-some_length Leaf n h = leb-true 1 n (both (nat_le 1 n) (nat_le n 16384) h).0
+some_length Leaf n h = leb-true 1 n (both (nat_le 1 n) (nat_le n MOST_SEGMENT) h).0
 some_length Tree n h = absurd cc
 
 within : (high n : ℕ) → 1 ≤ n → n ≤ high → is_within 1 high n ≡ true
@@ -67,7 +68,7 @@ first_tells kind (e ∷ es) allowed there = record {
   some = omega (arith, bytes_of-cons e es, some_length kind e.length allowed.0.length);
 }
 
-pub header_allowed : (id : ℕ) (kind : Kind) (es : List Entry) (bytes : List ℕ) → is_id id ≡ true → es ≡ entries_from 0 (segments_in es bytes) → bytes_of es ≡ length bytes → Follow kind [] es → 1 ≤ length es → length es ≤ 1024 → length bytes ≤ 212480 → IsHeader (header_of id kind (segments_in es bytes))
+pub header_allowed : (id : ℕ) (kind : Kind) (es : List Entry) (bytes : List ℕ) → is_id id ≡ true → es ≡ entries_from 0 (segments_in es bytes) → bytes_of es ≡ length bytes → Follow kind [] es → 1 ≤ length es → length es ≤ MOST_ENTRIES → length bytes ≤ DATA_BYTES → IsHeader (header_of id kind (segments_in es bytes))
 header_allowed id kind es bytes right exact whole allowed there few fits =
     let ss : List Segment = segments_in es bytes in
     let first = first_tells kind es allowed there in
@@ -75,8 +76,8 @@ header_allowed id kind es bytes right exact whole allowed there few fits =
     record {
       id = right;
       kind = first.taken;
-      count = ap (λ (l : List Entry). is_within 1 1024 (length l)) (sym exact) ∙ within 1024 (length es) there few;
-      data_length = within 212480 (bytes_in ss) (omega (arith, held, first.some)) (omega (arith, held));
+      count = ap (λ (l : List Entry). is_within 1 MOST_ENTRIES (length l)) (sym exact) ∙ within MOST_ENTRIES (length es) there few;
+      data_length = within DATA_BYTES (bytes_in ss) (omega (arith, held, first.some)) (omega (arith, held));
       entries = subst (λ (l : List Entry). Follow kind [] l) exact allowed;
       whole = ap bytes_of (sym exact) ∙ whole ∙ sym held;
     }

@@ -1,12 +1,11 @@
 -- Reading entries one after the other, as a loop does.
-use Rattle.std.proofs.Common.{◌≡◌, ℕ, suc, ◌+◌, ◌-◌, ◌≤◌, ◌<◌, List, [], ◌∷◌, ◌++◌, length, Result, Ok, Err, sym, ap, ◌∙◌, arith}
-use Rattle.base_model.specs.Checks.{behind, ◌>>=◌}
+use Rattle.std.proofs.Common.{◌≡◌, ℕ, suc, ◌+◌, ◌-◌, ◌≤◌, ◌<◌, List, [], ◌∷◌, ◌++◌, Result, Ok, Err, sym, ap, ◌∙◌, arith}
+use Rattle.base_model.specs.Checks.{◌>>=◌}
 use Rattle.container_meta.specs.declared.kind.Kind.{Kind}
 use Rattle.container_meta.specs.declared.entry.Entry.{Entry}
 use Rattle.container_meta.specs.declared.fault.MetaFault.{MetaFault}
 use Rattle.container_meta.specs.declared.fault.MetaFault.TheVariants.{Gate, Magic, Field, Digest, Memory}
-use Rattle.container_meta.specs.Format.{entry_place}
-use Rattle.container_meta.specs.Reading.{Fails, entry_checks, entry_at, entries_at}
+use Rattle.container_meta.specs.Reading.{Fails, next_read, entries_at}
 
 pub fails_so : {Y : Type 0} (e : MetaFault) (read : Result Y MetaFault) → read ≡ Err e → Fails e read
 fails_so Memory read h = tt
@@ -14,10 +13,6 @@ fails_so (Gate byte) read h = h
 fails_so Magic read h = h
 fails_so (Field offset got) read h = h
 fails_so (Digest want got) read h = h
-
--- the entry that comes next
-abbrev pub next_read : Kind → ℕ → ℕ → List Entry → List ℕ → Result Entry MetaFault
-next_read kind data_length after before bytes = behind (entry_checks kind data_length after before (entry_place (length before)) bytes) (entry_at (entry_place (length before)) bytes)
 
 pub goes_on : (kind : Kind) (data_length count i : ℕ) (before : List Entry) (bytes : List ℕ) (e : Entry) (total : Result (List Entry) MetaFault) → i < count
     → Ok e ≡ next_read kind data_length (count - 1 - i) before bytes
@@ -32,17 +27,17 @@ goes_on kind data_length count i before bytes e total lt h so_far =
 
 pub ends : (kind : Kind) (data_length count i : ℕ) (before : List Entry) (bytes : List ℕ) (e : MetaFault) (total : Result (List Entry) MetaFault) → i < count
     → Err e ≡ next_read kind data_length (count - 1 - i) before bytes
-    → entries_at kind data_length (count - i) before bytes ≡ total → Fails e total
+    → entries_at kind data_length (count - i) before bytes ≡ total → Err e ≡ total
 unfolding entries_at
 ends kind data_length count i before bytes e total lt h so_far =
     let k : count - i ≡ suc (count - (i + 1)) = omega arith in
     let j : count - 1 - i ≡ count - (i + 1) = omega arith in
     let read : next_read kind data_length (count - (i + 1)) before bytes ≡ Err e = sym (h ∙ ap (λ (n : ℕ). next_read kind data_length n before bytes) j) in
     let one : entries_at kind data_length (count - i) before bytes ≡ Err e = ap (λ (n : ℕ). entries_at kind data_length n before bytes) k ∙ ap (λ (r : Result Entry MetaFault). r >>= λ x. entries_at kind data_length (count - (i + 1)) (before ++ x ∷ []) bytes) read in
-    fails_so e total (sym so_far ∙ one)
+    sym one ∙ so_far
 
-pub all_read : (kind : Kind) (data_length count i : ℕ) (before : List Entry) (bytes : List ℕ) (total : Result (List Entry) MetaFault) → count ≤ i → entries_at kind data_length (count - i) before bytes ≡ total → total ≡ Ok before
+pub all_read : (kind : Kind) (data_length count i : ℕ) (before : List Entry) (bytes : List ℕ) (total : Result (List Entry) MetaFault) → count ≤ i → entries_at kind data_length (count - i) before bytes ≡ total → Ok before ≡ total
 unfolding entries_at
 all_read kind data_length count i before bytes total le so_far =
     let k : count - i ≡ 0 = omega arith in
-    sym so_far ∙ ap (λ (n : ℕ). entries_at kind data_length n before bytes) k
+    sym (ap (λ (n : ℕ). entries_at kind data_length n before bytes) k) ∙ so_far

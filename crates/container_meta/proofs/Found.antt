@@ -8,22 +8,22 @@ use Rattle.std.proofs.lemmas.List.{append-nil, nil_from_length}
 use Rattle.std.proofs.lemmas.Slice.Eq.{bytes_eq-Decides}
 use Rattle.sha2.specs.Sha256.{sha256}
 use Rattle.base_model.specs.Bytes.{range, byte_at, zeros}
-use Rattle.base_model.specs.Checks.{behind, passes, ◌>>=◌}
+use Rattle.base_model.specs.Checks.{Check, behind, passes, ◌>>=◌}
 use Rattle.base_model.specs.Numbers.{number_at, seven_at}
-use Rattle.base_model.proofs.Checks.{bind_ok, behind_ok, ok_is, both, not_true}
+use Rattle.base_model.proofs.Checks.{AllHold, bind_ok, behind_ok, ok_is, both, not_true}
 use Rattle.base_model.proofs.Numbers.{IsBytes, spelled_2, spelled_4, spelled_8}
 use Rattle.base_model.proofs.Ranges.{length-range, range-join}
+use Rattle.disk_format.specs.declared.numbers.TheConstants.{CONTAINER_GATE, HEADER_BYTES, MOST_ENTRIES}
 use Rattle.container_meta.specs.declared.kind.Kind.{Kind}
 use Rattle.container_meta.specs.declared.kind.Kind.TheVariants.{Leaf}
 use Rattle.container_meta.specs.declared.entry.Entry.{Entry}
-use Rattle.container_meta.specs.declared.entry.Meta.{Meta}
+use Rattle.container_meta.specs.declared.entry.Header.{Header}
 use Rattle.container_meta.specs.declared.fault.MetaFault.{MetaFault}
 use Rattle.container_meta.specs.Format.{magic, kind_byte, kind_of, is_count, is_length, entry_place}
-use Rattle.container_meta.specs.Spelling.{HeaderValue, view, IsNext, Follow, IsHeader, bytes_of, has_digest, entry_spelling, entries_spelling, fields_spelling, header_spelling}
-use Rattle.container_meta.specs.Reading.{Gives, opening_checks, digest_checks, field_checks, entry_checks, end_checks, count_at, kind_at, digest_at, entry_at, is_end, zeros_in_front, zeros_end, entries_at, header_at}
+use Rattle.container_meta.specs.Spelling.{HeaderValue, with_entries, IsNext, Follow, IsHeader, bytes_of, has_digest, entry_spelling, entries_spelling, fields_spelling, header_spelling}
+use Rattle.container_meta.specs.Reading.{next_read, decoded, opening_checks, digest_checks, field_checks, entry_checks, end_checks, count_at, kind_at, digest_at, entry_at, is_end, zeros_in_front, zeros_end, entries_at, header_at}
 use Rattle.container_meta.proofs.Lists.{all_zeros}
 use Rattle.container_meta.proofs.Spelled.{entries_spelling-nil, entries_spelling-cons, bytes_of-push}
-use Rattle.container_meta.proofs.Entries.{next_read}
 use Rattle.container_meta.proofs.Numbers.{entry_spelled}
 use Rattle.container_meta.proofs.Parts.{FieldParts, fields_from_parts, Parts, spelling_from_parts}
 
@@ -114,64 +114,116 @@ digest_found fields entries bytes same fields_are entries_are =
     ∙ ap (λ (l : List ℕ). sha256 (l ++ range 512 (48 * count_at bytes) bytes)) fields_are
     ∙ ap (λ (l : List ℕ). sha256 (fields ++ l)) entries_are
 
-count_small : (n : ℕ) → is_count n ≡ true → n ≤ 1024
-count_small n h = leb-true n 1024 (both (nat_le 1 n) (nat_le n 1024) h).1
+count_small : (n : ℕ) → is_count n ≡ true → n ≤ MOST_ENTRIES
+count_small n h = leb-true n MOST_ENTRIES (both (nat_le 1 n) (nat_le n MOST_ENTRIES) h).1
 
 count_some : (n : ℕ) → is_count n ≡ true → 0 < n
-count_some n h = omega (arith, leb-true 1 n (both (nat_le 1 n) (nat_le n 1024) h).0)
+count_some n h = omega (arith, leb-true 1 n (both (nat_le 1 n) (nat_le n MOST_ENTRIES) h).0)
 
-pub header_found : (bytes : List ℕ) (h : HeaderValue) → IsBytes bytes → length bytes ≡ 49664 → header_at bytes ≡ Ok h → IsHeader h × (bytes ≡ header_spelling h)
+-- the header that the fields before the entries spell, with entries
+abbrev value : List ℕ → Kind → List Entry → HeaderValue
+value bytes kind entries = record { id = number_at w64 8 bytes; kind = kind; data_length = number_at w32 20 bytes; entries = entries }
+
+-- the steps of the reader from its last on
+abbrev at_end : List ℕ → Kind → List Entry → Result HeaderValue MetaFault
+at_end bytes kind entries = passes (end_checks bytes) >>= λ z. Ok (value bytes kind entries)
+
+abbrev at_entries : List ℕ → ℕ → Kind → Result HeaderValue MetaFault
+at_entries bytes count kind = entries_at kind (number_at w32 20 bytes) count [] bytes >>= at_end bytes kind
+
+abbrev at_fields : List ℕ → ℕ → Unit {0} → Result HeaderValue MetaFault
+at_fields bytes count digest = behind (field_checks bytes) (kind_at bytes) >>= at_entries bytes count
+
+abbrev at_digest : List ℕ → ℕ → Result HeaderValue MetaFault
+at_digest bytes count = passes (digest_checks bytes) >>= at_fields bytes count
+
+after_checks : {A B F : Type 0} (checks : List (Check F)) (x : A) (f : A → Result B F) (y : B) → (behind checks x >>= f) ≡ Ok y → AllHold checks × (f x ≡ Ok y)
+after_checks checks x f y e =
+    let step = bind_ok (behind checks x) f y e in
+    let held = behind_ok checks x step.0 step.1 in
+    (held.0, ap f held.1 ∙ step.2)
+
+-- where a header was read, each check held
+record Steps (bytes : List ℕ) (h : HeaderValue) : Type 0 where
+  opened : AllHold (opening_checks bytes)
+  digested : AllHold (digest_checks bytes)
+  fielded : AllHold (field_checks bytes)
+  entries : entries_at (kind_at bytes) (number_at w32 20 bytes) (count_at bytes) [] bytes ≡ Ok h.entries
+  ended : AllHold (end_checks bytes)
+  is : value bytes (kind_at bytes) h.entries ≡ h
+
+steps : (bytes : List ℕ) (h : HeaderValue) → header_at bytes ≡ Ok h → Steps bytes h
 unfolding header_at
-header_found bytes h fits long e =
+steps bytes h e =
     let count : ℕ = count_at bytes in
-    let id : ℕ = number_at w64 8 bytes in
-    let data_length : ℕ = number_at w32 20 bytes in
     let kind : Kind = kind_at bytes in
-    let value = λ (k : Kind) (es : List Entry). (let v : HeaderValue = record { id = id; kind = k; data_length = data_length; entries = es } in v) in
-    let a = bind_ok (behind (opening_checks bytes) count) (λ n. passes (digest_checks bytes) >>= λ d. behind (field_checks bytes) kind >>= λ k. entries_at k data_length n [] bytes >>= λ es. passes (end_checks bytes) >>= λ z. Ok (value k es)) h e in
-    let opened = behind_ok (opening_checks bytes) count a.0 a.1 in
-    let b = bind_ok (passes (digest_checks bytes)) (λ d. behind (field_checks bytes) kind >>= λ k. entries_at k data_length a.0 [] bytes >>= λ es. passes (end_checks bytes) >>= λ z. Ok (value k es)) h a.2 in
-    let digested = behind_ok (digest_checks bytes) tt b.0 b.1 in
-    let d = bind_ok (behind (field_checks bytes) kind) (λ k. entries_at k data_length a.0 [] bytes >>= λ es. passes (end_checks bytes) >>= λ z. Ok (value k es)) h b.2 in
-    let fielded = behind_ok (field_checks bytes) kind d.0 d.1 in
-    let f = bind_ok (entries_at d.0 data_length a.0 [] bytes) (λ es. passes (end_checks bytes) >>= λ z. Ok (value d.0 es)) h d.2 in
-    let g = bind_ok (passes (end_checks bytes)) (λ z. Ok (value d.0 f.0)) h f.2 in
-    let ended = behind_ok (end_checks bytes) tt g.0 g.1 in
-    let few : count ≤ 1024 = count_small count opened.0.1.1.0 in
-    let all : entries_at kind data_length count [] bytes ≡ Ok f.0 = ap (λ (k : Kind). entries_at k data_length count [] bytes) fielded.1 ∙ ap (λ (n : ℕ). entries_at d.0 data_length n [] bytes) opened.1 ∙ f.1 in
-    let r = entries_found kind data_length count [] bytes f.0 fits (omega arith) all in
-    let es : List Entry = r.rest in
-    let kinds = kind_found (byte_at 16 bytes) fielded.0.1.0 in
-    let made : HeaderValue = value kind es in
-    let is_made : made ≡ h = ap (λ (k : Kind). value k es) fielded.1 ∙ ap (value d.0) (sym r.parts) ∙ ok_is (value d.0 f.0) h g.2 in
-    let field_parts : FieldParts id kind (length es) data_length bytes = record {
-      name = (bytes_eq-Decides (range 1 7 bytes) magic).0 opened.0.1.0;
-      id_is = sym (spelled_8 8 bytes (omega arith) fits);
-      kind_is = kinds.0;
-      zero_is = eqb-true (byte_at 17 bytes) 0 fielded.0.1.1.0;
-      count_is = sym (spelled_2 18 bytes (omega arith) fits) ∙ ap (to_be_bytes w16) (sym r.many);
-      length_is = sym (spelled_4 20 bytes (omega arith) fits);
-    } in
-    let fields = fields_from_parts id kind (length es) data_length bytes (omega arith) field_parts in
-    let entries : range 512 (48 * length es) bytes ≡ entries_spelling es = ap (λ (n : ℕ). range 512 (48 * n) bytes) r.many ∙ r.spelled in
-    let parts : Parts made bytes = record {
-      gate = eqb-true (byte_at 0 bytes) 0xC5 opened.0.0;
-      fields = fields;
-      digest = digest_found (fields_spelling id kind (length es) data_length) (entries_spelling es) bytes digested.0.0 fields r.spelled;
-      padding = zeros_found 56 456 512 bytes (omega arith) refl fielded.0.1.1.1.1.0;
-      entries = entries;
-      rest = ap (λ (n : ℕ). range (512 + 48 * n) (49152 - 48 * n) bytes) r.many ∙ ap (λ (k : ℕ). range (512 + 48 * count) k bytes) (omega arith) ∙ zeros_found (entry_place count) (49664 - entry_place count) 49664 bytes (omega arith) (omega arith) ended.0.0 ∙ ap zeros (omega (arith, r.many));
-    } in
-    let header : IsHeader made = record {
-      id = fielded.0.0;
-      kind = kinds.1;
-      count = ap is_count r.many ∙ opened.0.1.1.0;
-      data_length = fielded.0.1.1.1.0;
-      entries = r.allowed;
-      whole = ap bytes_of (sym r.parts) ∙ r.whole (count_some count opened.0.1.1.0);
-    } in
-    subst (λ (v : HeaderValue). IsHeader v × (bytes ≡ header_spelling v)) is_made (header, spelling_from_parts made bytes long (omega (arith, r.many)) parts)
+    let a = after_checks (opening_checks bytes) count (at_digest bytes) h e in
+    let b = after_checks (digest_checks bytes) tt (at_fields bytes count) h a.1 in
+    let d = after_checks (field_checks bytes) kind (at_entries bytes count) h b.1 in
+    let f = bind_ok (entries_at kind (number_at w32 20 bytes) count [] bytes) (at_end bytes kind) h d.1 in
+    let g = after_checks (end_checks bytes) tt (λ z. Ok (value bytes kind f.0)) h f.2 in
+    let is : value bytes kind f.0 ≡ h = ok_is (value bytes kind f.0) h g.1 in
+    let same : f.0 ≡ h.entries = ap (λ (v : HeaderValue). v.entries) is in
+    record {
+      opened = a.0;
+      digested = b.0;
+      fielded = d.0;
+      entries = f.1 ∙ ap (λ (l : List Entry). (let r : Result (List Entry) MetaFault = Ok l in r)) same;
+      ended = g.0;
+      is = ap (value bytes kind) (sym same) ∙ is;
+    }
 
-pub is_found : (bytes : List ℕ) (r : Result Meta MetaFault) → IsBytes bytes → length bytes ≡ 49664 → Gives view r (header_at bytes) → IfOk r (λ m. IsHeader (view m) × (bytes ≡ header_spelling (view m)))
-is_found bytes (Ok m) fits long given = header_found bytes (view m) fits long given
-is_found bytes (Err e) fits long given = tt
+fields_found : (bytes : List ℕ) (h : HeaderValue) (entries : List Entry) → IsBytes bytes → length bytes ≡ HEADER_BYTES → Steps bytes h → length entries ≡ count_at bytes → FieldParts (number_at w64 8 bytes) (kind_at bytes) (length entries) (number_at w32 20 bytes) bytes
+fields_found bytes h entries fits long s many = record {
+  name = (bytes_eq-Decides (range 1 7 bytes) magic).0 s.opened.1.0;
+  id_is = sym (spelled_8 8 bytes (omega arith) fits);
+  kind_is = (kind_found (byte_at 16 bytes) s.fielded.1.0).0;
+  zero_is = eqb-true (byte_at 17 bytes) 0 s.fielded.1.1.0;
+  count_is = sym (spelled_2 18 bytes (omega arith) fits) ∙ ap (to_be_bytes w16) (sym many);
+  length_is = sym (spelled_4 20 bytes (omega arith) fits);
+}
+
+rest_found : (bytes : List ℕ) (count n : ℕ) → length bytes ≡ HEADER_BYTES → n ≡ count → count ≤ MOST_ENTRIES → (zeros_end (entry_place count) (HEADER_BYTES - entry_place count) bytes == HEADER_BYTES) ≡ true → range (512 + 48 * n) (49152 - 48 * n) bytes ≡ zeros (49152 - 48 * n)
+rest_found bytes count n long many few ended =
+    ap (λ (k : ℕ). range (512 + 48 * k) (49152 - 48 * k) bytes) many
+    ∙ ap (λ (k : ℕ). range (512 + 48 * count) k bytes) (omega arith)
+    ∙ zeros_found (entry_place count) (HEADER_BYTES - entry_place count) HEADER_BYTES bytes (omega arith) (omega arith) ended
+    ∙ ap zeros (omega (arith, many))
+
+parts_found : (bytes : List ℕ) (h : HeaderValue) (entries : List Entry) → IsBytes bytes → length bytes ≡ HEADER_BYTES → Steps bytes h → length entries ≡ count_at bytes → range 512 (48 * count_at bytes) bytes ≡ entries_spelling entries → Parts (value bytes (kind_at bytes) entries) bytes
+parts_found bytes h entries fits long s many spelled =
+    let count : ℕ = count_at bytes in
+    let few : count ≤ MOST_ENTRIES = count_small count s.opened.1.1.0 in
+    let fields = fields_from_parts (number_at w64 8 bytes) (kind_at bytes) (length entries) (number_at w32 20 bytes) bytes (omega arith) (fields_found bytes h entries fits long s many) in
+    record {
+      gate = eqb-true (byte_at 0 bytes) CONTAINER_GATE s.opened.0;
+      fields = fields;
+      digest = digest_found (fields_spelling (number_at w64 8 bytes) (kind_at bytes) (length entries) (number_at w32 20 bytes)) (entries_spelling entries) bytes s.digested.0 fields spelled;
+      padding = zeros_found 56 456 512 bytes (omega arith) refl s.fielded.1.1.1.1.0;
+      entries = ap (λ (n : ℕ). range 512 (48 * n) bytes) many ∙ spelled;
+      rest = rest_found bytes count (length entries) long many few s.ended.0;
+    }
+
+pub header_found : (bytes : List ℕ) (h : HeaderValue) → IsBytes bytes → length bytes ≡ HEADER_BYTES → header_at bytes ≡ Ok h → IsHeader h × (bytes ≡ header_spelling h)
+header_found bytes h fits long e =
+    let s = steps bytes h e in
+    let count : ℕ = count_at bytes in
+    let few : count ≤ MOST_ENTRIES = count_small count s.opened.1.1.0 in
+    let r = entries_found (kind_at bytes) (number_at w32 20 bytes) count [] bytes h.entries fits (omega arith) s.entries in
+    let many : length h.entries ≡ count = ap length r.parts ∙ r.many in
+    let spelled : range 512 (48 * count) bytes ≡ entries_spelling h.entries = r.spelled ∙ ap entries_spelling (sym r.parts) in
+    let made : HeaderValue = value bytes (kind_at bytes) h.entries in
+    let header : IsHeader made = record {
+      id = s.fielded.0;
+      kind = (kind_found (byte_at 16 bytes) s.fielded.1.0).1;
+      count = ap is_count many ∙ s.opened.1.1.0;
+      data_length = s.fielded.1.1.1.0;
+      entries = subst (λ (l : List Entry). Follow (kind_at bytes) [] l) (sym r.parts) r.allowed;
+      whole = r.whole (count_some count s.opened.1.1.0);
+    } in
+    subst (λ (v : HeaderValue). IsHeader v × (bytes ≡ header_spelling v)) s.is
+    (header, spelling_from_parts made bytes long (omega (arith, many)) (parts_found bytes h h.entries fits long s many spelled))
+
+pub is_found : (bytes : List ℕ) (r : Result Header MetaFault) (entries : List Entry) → IsBytes bytes → length bytes ≡ HEADER_BYTES → decoded r entries ≡ header_at bytes → IfOk r (λ h. IsHeader (with_entries h entries) × (bytes ≡ header_spelling (with_entries h entries)))
+is_found bytes (Ok h) entries fits long given = header_found bytes (with_entries h entries) fits long (sym given)
+is_found bytes (Err e) entries fits long given = tt

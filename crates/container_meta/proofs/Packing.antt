@@ -9,6 +9,7 @@ use Rattle.std.proofs.lemmas.List.Sums.{sum_by-append}
 use Rattle.std.proofs.lemmas.List.Concat.{flat_map-cons}
 use Rattle.sha2.specs.Sha256.{sha256}
 use Rattle.sha2.proofs.Facts256.{length-sha256}
+use Rattle.disk_format.specs.declared.numbers.TheConstants.{DATA_BYTES, MOST_ENTRIES}
 use Rattle.container_meta.specs.declared.kind.Kind.{Kind}
 use Rattle.container_meta.specs.declared.entry.Entry.{Entry}
 use Rattle.container_meta.specs.Format.{kind_byte, is_length, is_level}
@@ -110,19 +111,19 @@ refused_by true b e = absurd cc
 refused_by false b e = refl
 
 -- what the two lengths tell of room
-pub room_tested : (contents : Contents) (count held bytes : ℕ) → length contents.segments ≡ count → bytes_in contents.segments ≡ held → held ≤ 212480 → count < 1024 → nat_le bytes (212480 - held) ≡ has_room contents bytes
+pub room_tested : (contents : Contents) (count held bytes : ℕ) → length contents.segments ≡ count → bytes_in contents.segments ≡ held → held ≤ DATA_BYTES → count < MOST_ENTRIES → nat_le bytes (DATA_BYTES - held) ≡ has_room contents bytes
 room_tested contents count held bytes many whole fits few =
-    let test : nat_le bytes (212480 - held) ≡ nat_le (bytes_in contents.segments + bytes) 212480 = same_test bytes (212480 - held) (bytes_in contents.segments + bytes) 212480 (λ h. omega (arith, whole)) (λ h. omega (arith, whole)) in
-    test ∙ chosen_by (nat_lt (length contents.segments) 1024) (nat_le (bytes_in contents.segments + bytes) 212480) (lt-ltb (length contents.segments) 1024 (omega (arith, many)))
+    let test : nat_le bytes (DATA_BYTES - held) ≡ nat_le (bytes_in contents.segments + bytes) DATA_BYTES = same_test bytes (DATA_BYTES - held) (bytes_in contents.segments + bytes) DATA_BYTES (λ h. omega (arith, whole)) (λ h. omega (arith, whole)) in
+    test ∙ chosen_by (nat_lt (length contents.segments) MOST_ENTRIES) (nat_le (bytes_in contents.segments + bytes) DATA_BYTES) (lt-ltb (length contents.segments) MOST_ENTRIES (omega (arith, many)))
 
-pub no_room_tested : (contents : Contents) (count bytes : ℕ) → length contents.segments ≡ count → 1024 ≤ count → nat_lt count 1024 ≡ has_room contents bytes
+pub no_room_tested : (contents : Contents) (count bytes : ℕ) → length contents.segments ≡ count → MOST_ENTRIES ≤ count → nat_lt count MOST_ENTRIES ≡ has_room contents bytes
 no_room_tested contents count bytes many full =
-    ap (λ (n : ℕ). nat_lt n 1024) (sym many) ∙ refused_by (nat_lt (length contents.segments) 1024) (nat_le (bytes_in contents.segments + bytes) 212480) (le-ltb (length contents.segments) 1024 (omega (arith, many)))
+    ap (λ (n : ℕ). nat_lt n MOST_ENTRIES) (sym many) ∙ refused_by (nat_lt (length contents.segments) MOST_ENTRIES) (nat_le (bytes_in contents.segments + bytes) DATA_BYTES) (le-ltb (length contents.segments) MOST_ENTRIES (omega (arith, many)))
 
-pub room_holds : (contents : Contents) (bytes : ℕ) → has_room contents bytes ≡ true → (length contents.segments < 1024) × (bytes_in contents.segments + bytes ≤ 212480)
+pub room_holds : (contents : Contents) (bytes : ℕ) → has_room contents bytes ≡ true → (length contents.segments < MOST_ENTRIES) × (bytes_in contents.segments + bytes ≤ DATA_BYTES)
 room_holds contents bytes h =
-    let p = both (nat_lt (length contents.segments) 1024) (nat_le (bytes_in contents.segments + bytes) 212480) h in
-    (ltb-true (length contents.segments) 1024 p.0, leb-true (bytes_in contents.segments + bytes) 212480 p.1)
+    let p = both (nat_lt (length contents.segments) MOST_ENTRIES) (nat_le (bytes_in contents.segments + bytes) DATA_BYTES) h in
+    (ltb-true (length contents.segments) MOST_ENTRIES p.0, leb-true (bytes_in contents.segments + bytes) DATA_BYTES p.1)
 
 -- ---- one more segment
 

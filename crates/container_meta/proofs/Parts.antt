@@ -6,6 +6,7 @@ use Rattle.sha2.specs.Sha256.{sha256}
 use Rattle.sha2.proofs.Facts256.{length-sha256}
 use Rattle.base_model.specs.Bytes.{range, byte_at, zeros}
 use Rattle.base_model.proofs.Ranges.{range-range, byte-range, range-join, range-first, range-second, range-one, range-whole, length-zeros}
+use Rattle.disk_format.specs.declared.numbers.TheConstants.{CONTAINER_GATE, HEADER_BYTES, MOST_ENTRIES}
 use Rattle.container_meta.specs.declared.kind.Kind.{Kind}
 use Rattle.container_meta.specs.declared.entry.Entry.{Entry}
 use Rattle.container_meta.specs.Format.{magic, kind_byte}
@@ -60,14 +61,14 @@ fields_from_parts id kind count data_length bytes fits p =
 -- ---- the whole
 
 pub record Parts (h : HeaderValue) (bytes : List ℕ) : Type 0 where
-  pub gate : byte_at 0 bytes ≡ 0xC5
+  pub gate : byte_at 0 bytes ≡ CONTAINER_GATE
   pub fields : range 1 23 bytes ≡ fields_spelling h.id h.kind (length h.entries) h.data_length
   pub digest : range 24 32 bytes ≡ sha256 (fields_spelling h.id h.kind (length h.entries) h.data_length ++ entries_spelling h.entries)
   pub padding : range 56 456 bytes ≡ zeros 456
   pub entries : range 512 (48 * length h.entries) bytes ≡ entries_spelling h.entries
   pub rest : range (512 + 48 * length h.entries) (49152 - 48 * length h.entries) bytes ≡ zeros (49152 - 48 * length h.entries)
 
-pub spelling_from_parts : (h : HeaderValue) (bytes : List ℕ) → length bytes ≡ 49664 → length h.entries ≤ 1024 → Parts h bytes → bytes ≡ header_spelling h
+pub spelling_from_parts : (h : HeaderValue) (bytes : List ℕ) → length bytes ≡ HEADER_BYTES → length h.entries ≤ MOST_ENTRIES → Parts h bytes → bytes ≡ header_spelling h
 unfolding front_spelling
 spelling_from_parts h bytes long few p =
     let n : ℕ = 48 * length h.entries in
@@ -75,11 +76,11 @@ spelling_from_parts h bytes long few p =
     let fields : List ℕ = fields_spelling h.id h.kind (length h.entries) h.data_length in
     let entries : List ℕ = entries_spelling h.entries in
     let digest : List ℕ = sha256 (fields ++ entries) in
-    let a : range 0 24 bytes ≡ 0xC5 ∷ fields = sym (range-join 0 1 23 1 bytes refl) ∙ ap (λ (l : List ℕ). l ++ range 1 23 bytes) (range-one 0 bytes (omega arith) ∙ ap (λ (b : ℕ). b ∷ []) p.gate) ∙ ap (λ (l : List ℕ). 0xC5 ∷ l) p.fields in
-    let b : range 0 56 bytes ≡ 0xC5 ∷ fields ++ digest = sym (range-join 0 24 32 24 bytes refl) ∙ ap (λ (l : List ℕ). l ++ range 24 32 bytes) a ∙ ap (λ (l : List ℕ). (0xC5 ∷ fields) ++ l) p.digest in
-    let d : range 0 512 bytes ≡ 0xC5 ∷ fields ++ digest ++ zeros 456 = sym (range-join 0 56 456 56 bytes refl) ∙ ap (λ (l : List ℕ). l ++ range 56 456 bytes) b ∙ ap (λ (l : List ℕ). ((0xC5 ∷ fields) ++ digest) ++ l) p.padding in
-    let e : range 0 (512 + n) bytes ≡ 0xC5 ∷ fields ++ digest ++ zeros 456 ++ entries = sym (range-join 0 512 n 512 bytes refl) ∙ ap (λ (l : List ℕ). l ++ range 512 n bytes) d ∙ ap (λ (l : List ℕ). (((0xC5 ∷ fields) ++ digest) ++ zeros 456) ++ l) p.entries in
-    let f : range 0 ((512 + n) + k) bytes ≡ 0xC5 ∷ fields ++ digest ++ zeros 456 ++ entries ++ zeros k = sym (range-join 0 (512 + n) k (512 + n) bytes (omega arith)) ∙ ap (λ (l : List ℕ). l ++ range (512 + n) k bytes) e ∙ ap (λ (l : List ℕ). ((((0xC5 ∷ fields) ++ digest) ++ zeros 456) ++ entries) ++ l) p.rest in
+    let a : range 0 24 bytes ≡ CONTAINER_GATE ∷ fields = sym (range-join 0 1 23 1 bytes refl) ∙ ap (λ (l : List ℕ). l ++ range 1 23 bytes) (range-one 0 bytes (omega arith) ∙ ap (λ (b : ℕ). b ∷ []) p.gate) ∙ ap (λ (l : List ℕ). CONTAINER_GATE ∷ l) p.fields in
+    let b : range 0 56 bytes ≡ CONTAINER_GATE ∷ fields ++ digest = sym (range-join 0 24 32 24 bytes refl) ∙ ap (λ (l : List ℕ). l ++ range 24 32 bytes) a ∙ ap (λ (l : List ℕ). (CONTAINER_GATE ∷ fields) ++ l) p.digest in
+    let d : range 0 512 bytes ≡ CONTAINER_GATE ∷ fields ++ digest ++ zeros 456 = sym (range-join 0 56 456 56 bytes refl) ∙ ap (λ (l : List ℕ). l ++ range 56 456 bytes) b ∙ ap (λ (l : List ℕ). ((CONTAINER_GATE ∷ fields) ++ digest) ++ l) p.padding in
+    let e : range 0 (512 + n) bytes ≡ CONTAINER_GATE ∷ fields ++ digest ++ zeros 456 ++ entries = sym (range-join 0 512 n 512 bytes refl) ∙ ap (λ (l : List ℕ). l ++ range 512 n bytes) d ∙ ap (λ (l : List ℕ). (((CONTAINER_GATE ∷ fields) ++ digest) ++ zeros 456) ++ l) p.entries in
+    let f : range 0 ((512 + n) + k) bytes ≡ CONTAINER_GATE ∷ fields ++ digest ++ zeros 456 ++ entries ++ zeros k = sym (range-join 0 (512 + n) k (512 + n) bytes (omega arith)) ∙ ap (λ (l : List ℕ). l ++ range (512 + n) k bytes) e ∙ ap (λ (l : List ℕ). ((((CONTAINER_GATE ∷ fields) ++ digest) ++ zeros 456) ++ entries) ++ l) p.rest in
     sym (range-whole ((512 + n) + k) bytes (omega arith)) ∙ f
 
 -- the parts of five lists, one after the other
@@ -112,7 +113,7 @@ five x a b c d e n k la lb lc ld le =
       fifth = range-second 0 k (512 + n) (512 + n) f4 e l4 (omega arith) ∙ range-whole k e le;
     }
 
-pub parts_of_spelling : (h : HeaderValue) (bytes : List ℕ) → length h.entries ≤ 1024 → Follow h.kind [] h.entries → bytes ≡ header_spelling h → Parts h bytes
+pub parts_of_spelling : (h : HeaderValue) (bytes : List ℕ) → length h.entries ≤ MOST_ENTRIES → Follow h.kind [] h.entries → bytes ≡ header_spelling h → Parts h bytes
 unfolding front_spelling
 parts_of_spelling h bytes few allowed is =
     let n : ℕ = 48 * length h.entries in
@@ -120,7 +121,7 @@ parts_of_spelling h bytes few allowed is =
     let fields : List ℕ = fields_spelling h.id h.kind (length h.entries) h.data_length in
     let entries : List ℕ = entries_spelling h.entries in
     let digest : List ℕ = sha256 (fields ++ entries) in
-    let five_parts = five 0xC5 fields digest (zeros 456) entries (zeros k) n k (length-fields_spelling h.id h.kind (length h.entries) h.data_length) (length-sha256 (fields ++ entries)) (length-zeros 456) (length-entries_spelling h.kind [] h.entries allowed) (length-zeros k) in
+    let five_parts = five CONTAINER_GATE fields digest (zeros 456) entries (zeros k) n k (length-fields_spelling h.id h.kind (length h.entries) h.data_length) (length-sha256 (fields ++ entries)) (length-zeros 456) (length-entries_spelling h.kind [] h.entries allowed) (length-zeros k) in
     record {
       gate = ap (byte_at 0) is;
       fields = ap (range 1 23) is ∙ five_parts.first;

@@ -8,6 +8,7 @@ use Rattle.std.proofs.lemmas.List.Sums.{sum_by-append}
 use Rattle.std.proofs.lemmas.Grind.{flat_map-append}
 use Rattle.std.proofs.lemmas.List.Concat.{flat_map-cons}
 use Rattle.sha2.specs.Sha256.{sha256}
+use Rattle.disk_format.specs.declared.numbers.TheConstants.{CONTAINER_GATE}
 use Rattle.container_meta.specs.declared.kind.Kind.{Kind}
 use Rattle.container_meta.specs.declared.entry.Entry.{Entry}
 use Rattle.container_meta.specs.Format.{magic, kind_byte}
@@ -32,7 +33,7 @@ pub entry_written : (front : List ℕ) (e : Entry) (new : List ℕ) → new ≡ 
 unfolding entry_spelling
 entry_written front e new h = h ∙ regrouped front e.digest (to_be_bytes w32 e.offset) (to_be_bytes w32 e.length) (zeros 7) e.level
 
-pub fields_written : (id : ℕ) (kind : Kind) (count data_length : ℕ) (new : List ℕ) → new ≡ ((((0xC5 ∷ magic) ++ to_be_bytes w64 id) ++ (kind_byte kind ∷ 0 ∷ [])) ++ to_be_bytes w16 count) ++ to_be_bytes w32 data_length → new ≡ 0xC5 ∷ fields_spelling id kind count data_length
+pub fields_written : (id : ℕ) (kind : Kind) (count data_length : ℕ) (new : List ℕ) → new ≡ ((((CONTAINER_GATE ∷ magic) ++ to_be_bytes w64 id) ++ (kind_byte kind ∷ 0 ∷ [])) ++ to_be_bytes w16 count) ++ to_be_bytes w32 data_length → new ≡ CONTAINER_GATE ∷ fields_spelling id kind count data_length
 unfolding fields_spelling
 fields_written id kind count data_length new h = h
 
@@ -40,11 +41,11 @@ pub length-fields_spelling : (id : ℕ) (kind : Kind) (count data_length : ℕ) 
 unfolding fields_spelling
 length-fields_spelling id kind count data_length = refl
 
-pub front_written : (fields entries digest out new : List ℕ) → digest ≡ sha256 (take 23 (drop 1 out) ++ entries) → take 24 out ≡ 0xC5 ∷ fields → new ≡ (take 24 out ++ digest) ++ zeros 456 → new ≡ front_spelling fields entries
+pub front_written : (fields entries digest out new : List ℕ) → digest ≡ sha256 (take 23 (drop 1 out) ++ entries) → take 24 out ≡ CONTAINER_GATE ∷ fields → new ≡ (take 24 out ++ digest) ++ zeros 456 → new ≡ front_spelling fields entries
 unfolding front_spelling
 front_written fields entries digest out new digested begun h =
     let inner : take 23 (drop 1 out) ≡ fields = sym (drop-take 1 23 out) ∙ ap (drop 1) begun in
-    h ∙ ap (λ (l : List ℕ). (l ++ digest) ++ zeros 456) begun ∙ ap (λ (l : List ℕ). ((0xC5 ∷ fields) ++ l) ++ zeros 456) (digested ∙ ap (λ (l : List ℕ). sha256 (l ++ entries)) inner)
+    h ∙ ap (λ (l : List ℕ). (l ++ digest) ++ zeros 456) begun ∙ ap (λ (l : List ℕ). ((CONTAINER_GATE ∷ fields) ++ l) ++ zeros 456) (digested ∙ ap (λ (l : List ℕ). sha256 (l ++ entries)) inner)
 
 pub bytes_of-push : (es : List Entry) (e : Entry) → bytes_of (es ++ e ∷ []) ≡ bytes_of es + e.length
 bytes_of-push es e = omega (arith, sum_by-append (λ (x : Entry). x.length) es (e ∷ []))

@@ -1,5 +1,6 @@
 -- The rules of a container that speak of one number each. docs/FORMAT.md, 'Container slot', states them.
-use Rattle.std.specs.Prelude.{ℕ, zero, suc, ◌+◌, ◌*◌, ◌-◌, ◌^◌, List, [], ◌∷◌, Bool, false, ◌&&◌, ◌==◌, nat_le, Option, Some, None}
+use Rattle.std.specs.Prelude.{ℕ, zero, suc, ◌+◌, ◌*◌, List, [], ◌∷◌, Bool, false, ◌&&◌, ◌==◌, nat_le, Option, Some, None}
+use Rattle.disk_format.specs.declared.numbers.TheConstants.{DATA_BYTES, MOST_ENTRIES, MOST_SEGMENT, LAST_ID}
 use Rattle.container_meta.specs.declared.kind.Kind.{Kind}
 use Rattle.container_meta.specs.declared.kind.Kind.TheVariants.{Leaf, Tree}
 
@@ -12,13 +13,13 @@ abbrev pub is_within : ℕ → ℕ → ℕ → Bool
 is_within low high n = nat_le low n && nat_le n high
 
 abbrev pub is_id : ℕ → Bool
-is_id id = is_within 1 (2 ^ 64 - 2) id
+is_id id = is_within 1 LAST_ID id
 
 abbrev pub is_count : ℕ → Bool
-is_count count = is_within 1 1024 count
+is_count count = is_within 1 MOST_ENTRIES count
 
 abbrev pub is_data_length : ℕ → Bool
-is_data_length bytes = is_within 1 212480 bytes
+is_data_length bytes = is_within 1 DATA_BYTES bytes
 
 -- a kind's number in headers and keys
 abbrev pub kind_byte : Kind → ℕ
@@ -32,7 +33,7 @@ kind_of (suc n) = None
 
 -- the lengths of segments of a kind
 abbrev pub is_length : Kind → ℕ → Bool
-is_length Leaf bytes = is_within 1 16384 bytes
+is_length Leaf bytes = is_within 1 MOST_SEGMENT bytes
 is_length Tree bytes = false
 
 -- the levels of segments of a kind

@@ -6,13 +6,15 @@ use Rattle.sha2.specs.Sha256.{sha256}
 use Rattle.base_model.specs.Bytes.{range, byte_at}
 use Rattle.base_model.specs.Checks.{Check, behind, passes, ◌>>=◌}
 use Rattle.base_model.specs.Numbers.{number_at, seven_at}
+use Rattle.disk_format.specs.declared.numbers.TheConstants.{CONTAINER_GATE, HEADER_BYTES}
 use Rattle.container_meta.specs.declared.kind.Kind.{Kind}
 use Rattle.container_meta.specs.declared.kind.Kind.TheVariants.{Leaf}
 use Rattle.container_meta.specs.declared.entry.Entry.{Entry}
+use Rattle.container_meta.specs.declared.entry.Header.{Header}
 use Rattle.container_meta.specs.declared.fault.MetaFault.{MetaFault}
 use Rattle.container_meta.specs.declared.fault.MetaFault.TheVariants.{Gate, Magic, Field, Digest, Memory}
 use Rattle.container_meta.specs.Format.{magic, is_id, is_count, is_data_length, kind_of, is_length, is_level, entry_place}
-use Rattle.container_meta.specs.Spelling.{HeaderValue, bytes_of, has_digest}
+use Rattle.container_meta.specs.Spelling.{HeaderValue, with_entries, bytes_of, has_digest}
 
 -- What a function returned, seen by view, is what reading gives, unless memory ran out.
 abbrev pub Fails : {Y : Type 0} → MetaFault → Result Y MetaFault → Type 0
@@ -45,7 +47,7 @@ count_at bytes = number_at w16 18 bytes
 -- what has to hold before the digest can be taken
 abbrev pub opening_checks : List ℕ → List (Check MetaFault)
 opening_checks bytes =
-    record { holds = byte_at 0 bytes == 0xC5; fault = Gate (byte_at 0 bytes) }
+    record { holds = byte_at 0 bytes == CONTAINER_GATE; fault = Gate (byte_at 0 bytes) }
     ∷ record { holds = bytes_eq (range 1 7 bytes) magic; fault = Magic }
     ∷ field 18 (count_at bytes) (is_count (count_at bytes))
     ∷ []
@@ -76,7 +78,7 @@ entry_at at bytes = record { digest = range at 32 bytes; offset = number_at w32 
 abbrev pub is_end : ℕ → ℕ → ℕ → Bool
 is_end after data_length end = if after == 0 then end == data_length else nat_le end data_length
 
--- an entry that stands at a place behind others, and before so many
+-- an entry that stands at a place after others, and before so many
 abbrev pub entry_checks : Kind → ℕ → ℕ → List Entry → ℕ → List ℕ → List (Check MetaFault)
 entry_checks kind data_length after before at bytes =
     let e = entry_at at bytes in
@@ -87,20 +89,36 @@ entry_checks kind data_length after before at bytes =
     ∷ field (at + 41) (seven_at (at + 41) bytes) (seven_at (at + 41) bytes == 0)
     ∷ []
 
--- so many entries, behind those that were read before
+-- the entry that comes after others, or its first fault
+abbrev pub next_read : Kind → ℕ → ℕ → List Entry → List ℕ → Result Entry MetaFault
+next_read kind data_length after before bytes =
+    let at = entry_place (length before) in
+    behind (entry_checks kind data_length after before at bytes) (entry_at at bytes)
+
+-- so many entries, after those that were read before
 unfoldable pub entries_at : Kind → ℕ → ℕ → List Entry → List ℕ → Result (List Entry) MetaFault
 entries_at kind data_length zero before bytes = Ok before
 entries_at kind data_length (suc after) before bytes = do
-  e ← behind (entry_checks kind data_length after before (entry_place (length before)) bytes) (entry_at (entry_place (length before)) bytes)
+  e ← next_read kind data_length after before bytes
   entries_at kind data_length after (before ++ e ∷ []) bytes
 
--- zeros behind the entries
+-- zeros after the entries
 abbrev pub end_checks : List ℕ → List (Check MetaFault)
 end_checks bytes =
     let from = entry_place (count_at bytes) in
-    let end = zeros_end from (49664 - from) bytes in
-    field end (byte_at end bytes) (end == 49664)
+    let end = zeros_end from (HEADER_BYTES - from) bytes in
+    field end (byte_at end bytes) (end == HEADER_BYTES)
     ∷ []
+
+-- the entries, where they were read
+abbrev pub filled : Result (Unit {0}) MetaFault → List Entry → Result (List Entry) MetaFault
+filled (Ok done) entries = Ok entries
+filled (Err fault) entries = Err fault
+
+-- the header with its entries, where they were read
+abbrev pub decoded : Result Header MetaFault → List Entry → Result HeaderValue MetaFault
+decoded (Ok header) entries = Ok (with_entries header entries)
+decoded (Err fault) entries = Err fault
 
 abbrev pub kind_at : List ℕ → Kind
 kind_at bytes = unwrap_or (kind_of (byte_at 16 bytes)) Leaf

@@ -4,6 +4,7 @@ use Rattle.std.specs.List.{flat_map, list_any}
 use Rattle.std.specs.Str.{bytes_eq}
 use Rattle.sha2.specs.Sha256.{sha256}
 use Rattle.base_model.specs.Bytes.{range, key_of}
+use Rattle.disk_format.specs.declared.numbers.TheConstants.{DATA_BYTES, HEADER_BYTES, MOST_ENTRIES}
 use Rattle.container_meta.specs.declared.kind.Kind.{Kind}
 use Rattle.container_meta.specs.declared.entry.Entry.{Entry}
 use Rattle.container_meta.specs.Format.{kind_byte, is_length, is_level}
@@ -49,7 +50,7 @@ entries_from offset (s ∷ ss) = record { digest = sha256 s.bytes; offset = offs
 -- segments stand in a slot one after the other, from an offset of its data on
 abbrev pub StandFrom : ℕ → List Segment → List ℕ → Type 0
 StandFrom offset [] slot = Unit {0}
-StandFrom offset (s ∷ ss) slot = (range (49664 + offset) (length s.bytes) slot ≡ s.bytes) × StandFrom (offset + length s.bytes) ss slot
+StandFrom offset (s ∷ ss) slot = (range (HEADER_BYTES + offset) (length s.bytes) slot ≡ s.bytes) × StandFrom (offset + length s.bytes) ss slot
 
 -- the segments that entries cut bytes into
 abbrev pub segments_in : List Entry → List ℕ → List Segment
@@ -65,4 +66,4 @@ pub record CanAdd (contents : Contents) (s : KindSegment) : Type 0 where
 
 -- there is room for one more segment of so many bytes
 abbrev pub has_room : Contents → ℕ → Bool
-has_room contents bytes = nat_lt (length contents.segments) 1024 && nat_le (bytes_in contents.segments + bytes) 212480
+has_room contents bytes = nat_lt (length contents.segments) MOST_ENTRIES && nat_le (bytes_in contents.segments + bytes) DATA_BYTES

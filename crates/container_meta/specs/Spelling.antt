@@ -5,8 +5,10 @@ use Rattle.std.specs.List.{flat_map, list_any}
 use Rattle.std.specs.Str.{bytes_eq}
 use Rattle.std.specs.Int.{w16, w32, w64, to_be_bytes}
 use Rattle.sha2.specs.Sha256.{sha256}
+use Rattle.disk_format.specs.declared.numbers.TheConstants.{CONTAINER_GATE, DATA_BYTES}
 use Rattle.container_meta.specs.declared.kind.Kind.{Kind}
 use Rattle.container_meta.specs.declared.entry.Entry.{Entry}
+use Rattle.container_meta.specs.declared.entry.Header.{Header}
 use Rattle.container_meta.specs.declared.entry.Meta.{Meta}
 use Rattle.container_meta.specs.Format.{magic, is_id, is_count, is_data_length, kind_byte, kind_of, is_length, is_level}
 use Rattle.container_meta.specs.Segments.{Segment, bytes_in, data_of, entries_from}
@@ -17,6 +19,10 @@ pub record HeaderValue : Type 0 where
   pub kind : Kind
   pub data_length : ℕ
   pub entries : List Entry
+
+-- a header without entries, with these
+abbrev pub with_entries : Header → List Entry → HeaderValue
+with_entries h entries = record { id = h.id; kind = h.kind; data_length = h.data_length; entries = entries }
 
 abbrev pub view : Meta → HeaderValue
 view m = record { id = m.id; kind = m.kind; data_length = m.data_length; entries = m.entries.items }
@@ -34,7 +40,7 @@ fields_spelling id kind count data_length = magic ++ to_be_bytes w64 id ++ kind_
 
 -- the 512 bytes before the entries: the gate, the fields, the digest of fields and entries, zeros
 unfoldable pub front_spelling : List ℕ → List ℕ → List ℕ
-front_spelling fields entries = 0xC5 ∷ fields ++ sha256 (fields ++ entries) ++ zeros 456
+front_spelling fields entries = CONTAINER_GATE ∷ fields ++ sha256 (fields ++ entries) ++ zeros 456
 
 -- the 49,664 bytes of a header and its entries
 abbrev pub header_spelling : HeaderValue → List ℕ
@@ -50,7 +56,7 @@ bytes_of entries = sum_by (λ e. e.length) entries
 abbrev pub has_digest : List Entry → List ℕ → Bool
 has_digest entries digest = list_any (λ e. bytes_eq e.digest digest) entries
 
--- an entry that may stand behind others
+-- an entry that may stand after others
 pub record IsNext (kind : Kind) (before : List Entry) (e : Entry) : Type 0 where
   pub digest : length e.digest ≡ 32
   pub new : has_digest before e.digest ≡ false
@@ -58,7 +64,7 @@ pub record IsNext (kind : Kind) (before : List Entry) (e : Entry) : Type 0 where
   pub length : is_length kind e.length ≡ true
   pub level : is_level kind e.level ≡ true
 
--- each entry may stand behind those before it
+-- each entry may stand after those before it
 abbrev pub Follow : Kind → List Entry → List Entry → Type 0
 Follow kind before [] = Unit {0}
 Follow kind before (e ∷ es) = IsNext kind before e × Follow kind (before ++ e ∷ []) es
@@ -72,10 +78,14 @@ pub record IsHeader (h : HeaderValue) : Type 0 where
   pub entries : Follow h.kind [] h.entries
   pub whole : bytes_of h.entries ≡ h.data_length
 
+-- bytes that spell a header
+abbrev pub IsSpelled : HeaderValue → List ℕ → Type 0
+IsSpelled h bytes = IsHeader h × (bytes ≡ header_spelling h)
+
 -- the header of a container that holds these segments
 abbrev pub header_of : ℕ → Kind → List Segment → HeaderValue
 header_of id kind segments = record { id = id; kind = kind; data_length = bytes_in segments; entries = entries_from 0 segments }
 
 -- the 262,144 bytes of a container: its header, the bytes of the segments, zeros
 abbrev pub container_spelling : ℕ → Kind → List Segment → List ℕ
-container_spelling id kind segments = header_spelling (header_of id kind segments) ++ data_of segments ++ zeros (212480 - bytes_in segments)
+container_spelling id kind segments = header_spelling (header_of id kind segments) ++ data_of segments ++ zeros (DATA_BYTES - bytes_in segments)

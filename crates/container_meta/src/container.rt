@@ -1,30 +1,42 @@
 //! Containers that are being filled.
 
-ghost use Rattle.std.specs.Prelude.{◌≡◌, ◌+◌, vec_len, vec_capacity, ◌<◌, ◌≤◌, ◌^◌, ◌-◌, ◌↔◌, [], ◌∷◌, ◌++◌, length, IfOk, IsTrue, true, false, if◌then◌else◌};
+ghost use Rattle.std.specs.Prelude.{
+  ◌≡◌,
+  ◌+◌,
+  vec_len,
+  vec_capacity,
+  ◌<◌,
+  ◌≤◌,
+  ◌↔◌,
+  [],
+  ◌∷◌,
+  ◌++◌,
+  length,
+  IfOk,
+  IsTrue,
+  true,
+  if◌then◌else◌,
+};
 
 use crate::entry::{Entry, stands_in};
 use crate::kind::{Kind, byte_of};
 use crate::segment::Seg;
 use crate::writing::{Fields, put_data, put_entries, put_front};
+use disk_format::{DATA_BYTES, HEADER_BYTES, MOST_ENTRIES, SLOT_BYTES};
 use std::alloc::{AllocError, Global};
 use std::marker::Model;
 
-/// How many entries a container has room for.
-const MOST_ENTRIES: usize = 1_024;
-/// How many bytes of data a container has room for.
-const MOST_BYTES: usize = 212_480;
-
 /// Whether a segment was taken.
-#[derive(Clone, Copy, Debug, PartialEq, Eq)]
+#[derive(Clone, Copy)]
 pub enum Fit {
     /// It stands in the container now.
     Added,
-    /// The container has 1,024 entries, or the segment's bytes don't fit beside those that are there.
+    /// The container has as many entries as it may have, or the segment's bytes don't fit beside those that are there.
     NoRoom,
 }
 
 /// Adds an entry, for which memory is there.
-fn push_entry(entries: &mut Vec<Entry>, entry: Entry)
+pub(crate) fn push_entry(entries: &mut Vec<Entry>, entry: Entry)
     requires { vec_len entries.old < vec_capacity entries.old }
     ensures items { entries.new.items ≡ entries.old.items ++ entry ∷ [] }
     ensures capacity { vec_capacity entries.old ≤ vec_capacity entries.new }
@@ -41,8 +53,11 @@ fn push_bytes(bytes: &mut Vec<u8>, from: &[u8])
     bytes.extend_from_slice(from).unwrap();
 }
 
-/// A container that is being filled with segments of one kind, each there once.
-#[derive(Debug, Drop)]
+/// A container that is being filled with segments of one kind, each there once (docs/FORMAT.md, 'Container slot').
+///
+/// It has room for `disk_format::MOST_ENTRIES` segments of `disk_format::DATA_BYTES` bytes together, and takes the
+/// memory for all of them when it is made.
+#[derive(Drop)]
 pub struct OpenContainer {
     kind: Kind,
     entries: Vec<Entry>,
@@ -67,18 +82,18 @@ impl OpenContainer {
     ghost use Rattle.container_meta.specs.Segments.{CanAdd, StandFrom, has_key, has_room as room_for};
     ghost use Rattle.container_meta.specs.Spelling.{IsHeader, header_of, header_spelling, container_spelling};
 
-    /// An empty container, with all the memory that it will need.
+    /// An empty container, with all the memory that it will need. It fails for want of memory alone.
     pub fn new(alloc: Global, kind: Kind) -> Result<OpenContainer, AllocError>
         ensures { IfOk result (λ c. c ≡ record { kind = kind; segments = [] }) }
     {
         Ok(OpenContainer {
             kind,
             entries: Vec::with_capacity(alloc, MOST_ENTRIES)?,
-            bytes: Vec::with_capacity(alloc, MOST_BYTES)?,
+            bytes: Vec::with_capacity(alloc, DATA_BYTES as usize)?,
         })
     }
 
-    /// What the segments are.
+    /// The kind of its segments.
     pub fn kind(&self) -> Kind
         ensures { result ≡ self.now.kind }
     {
@@ -99,21 +114,22 @@ impl OpenContainer {
         self.entries.is_empty()
     }
 
-    /// Whether a segment with this key is in it.
+    /// Whether a segment with this key, its kind's number and its digest, is in it.
     pub fn has(&self, key: &[u8; 33]) -> bool
         ensures { result ≡ has_key self.now key.now }
     {
         byte_of(self.kind) == key[0] && stands_in(&self.entries, &key[1..])
     }
 
-    /// Whether a segment of so many bytes fits.
+    /// Whether a segment of so many bytes fits: `try_add` then adds it.
     pub fn has_room(&self, bytes: usize) -> bool
         ensures { result ≡ room_for self.now bytes }
     {
-        self.entries.len() < MOST_ENTRIES && bytes <= MOST_BYTES - self.bytes.len()
+        self.entries.len() < MOST_ENTRIES && bytes <= DATA_BYTES as usize - self.bytes.len()
     }
 
-    /// Adds a segment, unless the container has no room for it.
+    /// Adds a segment of the container's kind, whose key isn't in it yet and whose length and level that kind takes,
+    /// unless there is no room for it.
     pub fn try_add(&mut self, seg: &Seg) -> Fit
         requires { CanAdd self.old seg.now }
         ensures added { result ≡ Fit.Added → self.new ≡ record self.old { segments = self.old.segments ++ seg.now.segment ∷ [] } }
@@ -143,16 +159,17 @@ impl OpenContainer {
         self.bytes.clear();
     }
 
-    /// Writes the container under an id, as the 262,144 bytes of a slot.
+    /// Writes the container under an id, as the `disk_format::SLOT_BYTES` bytes of a slot. It holds a segment at least,
+    /// and the id is 1 to `disk_format::LAST_ID`.
     pub fn encode(&self, id: u64, image: &mut [u8])
         requires there { 1 ≤ length self.now.segments }
         requires id { is_id id ≡ true }
-        requires image { length image.old ≡ 262144 }
+        requires image { length image.old ≡ SLOT_BYTES }
         ensures image { image.new ≡ container_spelling id self.now.kind self.now.segments }
         // Each segment stands where its entry says.
         ensures stored { StandFrom 0 self.now.segments image.new }
         ensures header { IsHeader (header_of id self.now.kind self.now.segments) }
-        ensures front { range 0 49664 image.new ≡ header_spelling (header_of id self.now.kind self.now.segments) }
+        ensures front { range 0 HEADER_BYTES image.new ≡ header_spelling (header_of id self.now.kind self.now.segments) }
     {
         let (front, rest) = image.split_at_mut(512);
         let (entries, data) = rest.split_at_mut(49_152);

@@ -6,28 +6,39 @@ ghost use Rattle.container_meta.specs.Spelling.{has_digest};
 use crate::kind::Kind;
 
 /// Where a segment lies in its container.
-#[derive(Clone, Copy, Debug, PartialEq, Eq)]
+#[derive(Clone, Copy)]
 pub struct Entry {
     /// The SHA-256 of the segment's bytes.
     pub digest: [u8; 32],
-    /// The place of its first byte, from byte 49,664 of the slot on.
+    /// The place of its first byte, counted from the slot's data section, byte `disk_format::HEADER_BYTES`, on.
     pub offset: u32,
-    /// How many bytes it has.
+    /// How many bytes it has, from 1 to `disk_format::MOST_SEGMENT`.
     pub length: u32,
     /// 0 for data, and for a node of a tree its height above the data.
     pub level: u8,
 }
 
-/// A container's header and entries.
-#[derive(Debug, Drop)]
-pub struct Meta {
-    /// From 1 to 2^64 - 2.
+/// A container's header, without its entries.
+#[derive(Clone, Copy)]
+pub struct Header {
+    /// From 1 to `disk_format::LAST_ID`.
     pub id: u64,
     /// What the container's segments are.
     pub kind: Kind,
-    /// How many bytes its segments have together, from 1 to 212,480.
+    /// How many bytes its segments have together, from 1 to `disk_format::DATA_BYTES`.
     pub data_length: u32,
-    /// From 1 to 1,024 entries, in the order of their offsets, each with a digest of its own.
+}
+
+/// A container's header and entries.
+#[derive(Drop)]
+pub struct Meta {
+    /// From 1 to `disk_format::LAST_ID`.
+    pub id: u64,
+    /// What the container's segments are.
+    pub kind: Kind,
+    /// How many bytes its segments have together, from 1 to `disk_format::DATA_BYTES`.
+    pub data_length: u32,
+    /// From 1 to `disk_format::MOST_ENTRIES` of them, in the order of their offsets, each with a digest of its own.
     pub entries: Vec<Entry>,
 }
 

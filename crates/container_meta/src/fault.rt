@@ -5,19 +5,19 @@ ghost use Rattle.container_meta.specs.declared.fault.MetaFault.TheVariants.{Memo
 
 use std::alloc::{AllocError, AllocFailed};
 
-/// Why a header could not be read: the first check that failed, or want of memory.
-#[derive(Debug, Drop)]
+/// Why a header could not be read: the first check that failed (docs/FORMAT.md, 'Container slot'), or want of memory.
+#[derive(Clone, Copy)]
 pub enum MetaFault {
-    /// The gate isn't 0xC5, so no container stands here.
+    /// The gate isn't `disk_format::CONTAINER_GATE`, so no container stands here.
     Gate(u8),
     /// The magic isn't `DDFSCON`.
     Magic,
     /// A field breaks its rule.
     Field {
-        /// The field's first byte, or of a run of zeros or a digest the byte at fault, from the
-        /// slot's first byte on.
+        /// The field's first byte, from the slot's first byte on; of the zeros after the entries the first that is none.
         offset: u32,
-        /// The number that stands there.
+        /// The field as a number. Where it has more than eight bytes, one of them: of a digest the first, of zeros the
+        /// first that is none.
         got: u64,
     },
     /// The header and its entries have another digest than the header says.

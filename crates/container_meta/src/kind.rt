@@ -3,8 +3,10 @@
 ghost use Rattle.std.specs.Prelude.{◌≡◌, ◌≤◌, IsTrue};
 ghost use Rattle.container_meta.specs.Format.{kind_byte, kind_of, is_length, is_level};
 
-/// What a segment is to the store.
-#[derive(Clone, Copy, Debug, PartialEq, Eq)]
+use disk_format::MOST_SEGMENT;
+
+/// What a segment is to the store: a part of a file, or a node of a file's tree.
+#[derive(Clone, Copy)]
 pub enum Kind {
     /// A part of a file.
     Leaf,
@@ -35,10 +37,10 @@ pub(crate) fn kind_at(byte: u8) -> Option<Kind>
 /// Whether segments of a kind may have so many bytes.
 pub(crate) fn takes_length(kind: Kind, bytes: u32) -> bool
     ensures value { result ≡ is_length kind bytes }
-    ensures few { IsTrue result → bytes ≤ 16384 }
+    ensures few { IsTrue result → bytes ≤ MOST_SEGMENT }
 {
     match kind {
-        Kind::Leaf => (1..=16_384).contains(&bytes),
+        Kind::Leaf => (1..=MOST_SEGMENT).contains(&u64::from(bytes)),
         Kind::Tree => false,
     }
 }

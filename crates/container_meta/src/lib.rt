@@ -14,9 +14,12 @@ mod segment;
 mod writing;
 
 pub use container::{Fit, OpenContainer};
-pub use entry::{Entry, Meta};
+pub use entry::{Entry, Header, Meta};
 pub use fault::MetaFault;
 pub use kind::Kind;
 pub use place::{Key, Place};
-pub use reading::decode;
+pub use reading::{decode, decode_into};
 pub use segment::{Seg, digest_of};
+
+/// The seven bytes after a container's gate.
+pub(crate) const MAGIC: [u8; 7] = *b"DDFSCON";

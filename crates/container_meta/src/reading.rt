@@ -1,24 +1,40 @@
 //! Headers from bytes.
 
-ghost use Rattle.std.specs.Prelude.{◌≡◌, ℕ, ◌+◌, ◌*◌, ◌-◌, ◌^◌, ◌<◌, ◌≤◌, [], length, IfOk, Ok};
+ghost use Rattle.std.specs.Prelude.{◌≡◌, ℕ, ◌+◌, ◌*◌, ◌-◌, ◌^◌, ◌<◌, ◌≤◌, [], length, vec_capacity, IfOk, Ok};
 ghost use Rattle.std.specs.Int.{w32};
 ghost use Rattle.base_model.specs.Checks.{behind, passes};
 ghost use Rattle.base_model.specs.Numbers.{number_at};
 ghost use Rattle.container_meta.specs.declared.fault.MetaFault.TheVariants.{Field};
-ghost use Rattle.container_meta.specs.Format.{entry_place};
-ghost use Rattle.container_meta.specs.Spelling.{HeaderValue, IsHeader, view, header_spelling, bytes_of};
-ghost use Rattle.container_meta.specs.Reading.{Gives, count_at, kind_at as kind_in, opening_checks, digest_checks, field_checks, entry_checks, end_checks, entry_at, entries_at, header_at, is_end, zeros_in_front as zeros_before, zeros_end as end_of_zeros};
+ghost use Rattle.container_meta.specs.Spelling.{HeaderValue, IsHeader, IsSpelled, view, with_entries, header_spelling, bytes_of};
+ghost use Rattle.container_meta.specs.Reading.{
+  Gives,
+  filled,
+  decoded,
+  count_at,
+  kind_at as kind_in,
+  opening_checks,
+  digest_checks,
+  field_checks,
+  end_checks,
+  next_read,
+  entries_at,
+  header_at,
+  is_end,
+  zeros_in_front as zeros_before,
+  zeros_end as end_of_zeros,
+};
 
-use crate::entry::{Entry, Meta, stands_in};
+use crate::MAGIC;
+use crate::container::push_entry;
+use crate::entry::{Entry, Header, Meta, stands_in};
 use crate::fault::MetaFault;
 use crate::kind::{Kind, kind_at, takes_length, takes_level};
 use base_model::{digest_at, part, seven_at, u16_at, u32_at, u64_at};
+use disk_format::{CONTAINER_GATE, DATA_BYTES, HEADER_BYTES, LAST_ID, MOST_ENTRIES};
 use sha2::{Digest, Sha256};
 use std::alloc::Global;
 
-const MAGIC: [u8; 7] = *b"DDFSCON";
-
-/// How many zeros come before the first other byte.
+/// How many zeros come before the first byte that is none.
 fn zeros_in_front(bytes: &[u8]) -> usize
     ensures { result ≡ zeros_before bytes.now }
 {
@@ -39,20 +55,20 @@ fn zeros_end(bytes: &[u8], from: usize, count: usize) -> usize
     from + zeros_in_front(part(bytes, from, count))
 }
 
-/// The count of entries, behind the checks without which the digest can't be taken.
-fn count_behind_opening(bytes: &[u8]) -> Result<u16, MetaFault>
-    requires { length bytes.now ≡ 49664 }
+/// The count of entries, after the checks without which the digest can't be taken.
+fn checked_count(bytes: &[u8]) -> Result<u16, MetaFault>
+    requires { length bytes.now ≡ HEADER_BYTES }
     ensures value { result ≡ behind (opening_checks bytes.now) (count_at bytes.now) }
-    ensures few { IfOk result (λ count. count ≤ 1024) }
+    ensures few { IfOk result (λ count. count ≤ MOST_ENTRIES) }
 {
-    if bytes[0] != 0xC5 {
+    if bytes[0] != CONTAINER_GATE {
         return Err(MetaFault::Gate(bytes[0]));
     }
     if part(bytes, 1, 7) != MAGIC.as_slice() {
         return Err(MetaFault::Magic);
     }
     let count = u16_at(bytes, 18);
-    if !(1..=1_024).contains(&count) {
+    if !(1..=MOST_ENTRIES).contains(&usize::from(count)) {
         return Err(MetaFault::Field {
             offset: 18,
             got: u64::from(count),
@@ -62,9 +78,9 @@ fn count_behind_opening(bytes: &[u8]) -> Result<u16, MetaFault>
 }
 
 fn check_digest(bytes: &[u8], count: u16) -> Result<(), MetaFault>
-    requires length { length bytes.now ≡ 49664 }
+    requires length { length bytes.now ≡ HEADER_BYTES }
     requires count { count ≡ count_at bytes.now }
-    requires few { count ≤ 1024 }
+    requires few { count ≤ MOST_ENTRIES }
     ensures { result ≡ passes (digest_checks bytes.now) }
 {
     let mut hasher = Sha256::new();
@@ -78,14 +94,14 @@ fn check_digest(bytes: &[u8], count: u16) -> Result<(), MetaFault>
     Ok(())
 }
 
-/// The kind, behind the checks of the fields before the entries.
-fn kind_behind_fields(bytes: &[u8]) -> Result<Kind, MetaFault>
-    requires { length bytes.now ≡ 49664 }
+/// The kind, after the checks of the fields before the entries.
+fn checked_kind(bytes: &[u8]) -> Result<Kind, MetaFault>
+    requires { length bytes.now ≡ HEADER_BYTES }
     ensures value { result ≡ behind (field_checks bytes.now) (kind_in bytes.now) }
-    ensures small { IfOk result (λ _. number_at w32 20 bytes.now ≤ 212480) }
+    ensures small { IfOk result (λ _. number_at w32 20 bytes.now ≤ DATA_BYTES) }
 {
     let id = u64_at(bytes, 8);
-    if id == 0 || id == u64::MAX {
+    if !(1..=LAST_ID).contains(&id) {
         return Err(MetaFault::Field { offset: 8, got: id });
     }
     let Some(kind) = kind_at(bytes[16]) else {
@@ -101,7 +117,7 @@ fn kind_behind_fields(bytes: &[u8]) -> Result<Kind, MetaFault>
         });
     }
     let data_length = u32_at(bytes, 20);
-    if !(1..=212_480).contains(&data_length) {
+    if !(1..=DATA_BYTES).contains(&u64::from(data_length)) {
         return Err(MetaFault::Field {
             offset: 20,
             got: u64::from(data_length),
@@ -138,7 +154,7 @@ fn ends_right(after: u16, data_length: u32, end: u32) -> bool
     }
 }
 
-/// The entry that stands behind others whose data ends at `end`, and before `after` others.
+/// The entry that stands after others whose data ends at `end`, and before `after` more.
 fn next_entry(
     bytes: &[u8],
     kind: Kind,
@@ -147,11 +163,11 @@ fn next_entry(
     before: &[Entry],
     end: u32,
 ) -> Result<Entry, MetaFault>
-    requires length { length bytes.now ≡ 49664 }
-    requires place { length before.now + after < 1024 }
+    requires length { length bytes.now ≡ HEADER_BYTES }
+    requires place { length before.now + after < MOST_ENTRIES }
     requires end { end ≡ bytes_of before.now }
-    requires small { end ≤ 212480 }
-    ensures value { result ≡ behind (entry_checks kind data_length after before.now (entry_place (length before.now)) bytes.now) (entry_at (entry_place (length before.now)) bytes.now) }
+    requires small { end ≤ DATA_BYTES }
+    ensures value { result ≡ next_read kind data_length after before.now bytes.now }
     ensures fits { IfOk result (λ entry. end + entry.length ≤ data_length) }
 {
     let at = 512 + 48 * before.len();
@@ -180,32 +196,35 @@ fn next_entry(
     Ok(entry)
 }
 
-fn entries_in(
-    alloc: Global,
+/// Fills a list with so many entries, up to the first fault.
+fn read_entries(
     bytes: &[u8],
     kind: Kind,
     data_length: u32,
     count: u16,
-) -> Result<Vec<Entry>, MetaFault>
-    requires length { length bytes.now ≡ 49664 }
-    requires few { count ≤ 1024 }
-    requires small { data_length ≤ 212480 }
-    ensures { Gives (λ v. v.items) result (entries_at kind data_length count [] bytes.now) }
+    entries: &mut Vec<Entry>,
+) -> Result<(), MetaFault>
+    requires length { length bytes.now ≡ HEADER_BYTES }
+    requires few { count ≤ MOST_ENTRIES }
+    requires small { data_length ≤ DATA_BYTES }
+    requires none { entries.old.items ≡ [] }
+    requires room { MOST_ENTRIES ≤ vec_capacity entries.old }
+    ensures value { filled result entries.new.items ≡ entries_at kind data_length count [] bytes.now }
+    ensures capacity { vec_capacity entries.old ≤ vec_capacity entries.new }
 {
-    let mut entries = Vec::new(alloc);
     let mut end = 0;
     for i in 0..count {
-        let entry = next_entry(bytes, kind, data_length, count - 1 - i, &entries, end)?;
+        let entry = next_entry(bytes, kind, data_length, count - 1 - i, entries, end)?;
         end += entry.length;
-        entries.push(entry)?;
+        push_entry(entries, entry);
     }
-    Ok(entries)
+    Ok(())
 }
 
 fn check_end(bytes: &[u8], count: u16) -> Result<(), MetaFault>
-    requires length { length bytes.now ≡ 49664 }
+    requires length { length bytes.now ≡ HEADER_BYTES }
     requires count { count ≡ count_at bytes.now }
-    requires few { count ≤ 1024 }
+    requires few { count ≤ MOST_ENTRIES }
     ensures { result ≡ passes (end_checks bytes.now) }
 {
     let from = 512 + 48 * usize::from(count);
@@ -217,37 +236,64 @@ fn check_end(bytes: &[u8], count: u16) -> Result<(), MetaFault>
 }
 
 #[tactic(auto, unfolding(crate::specs::Reading::header_at))]
-fn header_in(alloc: Global, bytes: &[u8]) -> Result<Meta, MetaFault>
-    requires { length bytes.now ≡ 49664 }
-    ensures { Gives view result (header_at bytes.now) }
+fn header_into(bytes: &[u8], entries: &mut Vec<Entry>) -> Result<Header, MetaFault>
+    requires length { length bytes.now ≡ HEADER_BYTES }
+    requires room { MOST_ENTRIES ≤ vec_capacity entries.old }
+    ensures value { decoded result entries.new.items ≡ header_at bytes.now }
+    ensures capacity { vec_capacity entries.old ≤ vec_capacity entries.new }
 {
-    let count = count_behind_opening(bytes)?;
+    entries.clear();
+    let count = checked_count(bytes)?;
     check_digest(bytes, count)?;
-    let kind = kind_behind_fields(bytes)?;
+    let kind = checked_kind(bytes)?;
     let data_length = u32_at(bytes, 20);
-    let entries = entries_in(alloc, bytes, kind, data_length, count)?;
+    read_entries(bytes, kind, data_length, count, entries)?;
     check_end(bytes, count)?;
-    Ok(Meta {
+    Ok(Header {
         id: u64_at(bytes, 8),
         kind,
         data_length,
-        entries,
     })
 }
 
-/// The header that the first 49,664 bytes of a slot spell.
+/// The header that the first bytes of a slot spell. Its entries go into a list that is given, in the place of what it
+/// held; no memory is taken. After an error the list may hold any entries.
 ///
-/// The checks go in this order, and the first that fails is the fault: the gate, the magic, the
-/// count of entries, the digest, and then field by field. Want of memory is answered by
-/// `MetaFault::Memory`.
-pub fn decode(alloc: Global, bytes: &[u8]) -> Result<Meta, MetaFault>
-    requires { length bytes.now ≡ 49664 }
+/// The bytes are `disk_format::HEADER_BYTES`, and the list has memory for `disk_format::MOST_ENTRIES`. The checks go in
+/// the order of docs/FORMAT.md, 'Container slot', and the first that fails is the fault: the gate, the magic, the count
+/// of entries, the digest, and then field by field. It never answers `MetaFault::Memory`.
+pub fn decode_into(bytes: &[u8], entries: &mut Vec<Entry>) -> Result<Header, MetaFault>
+    requires length { length bytes.now ≡ HEADER_BYTES }
+    requires room { MOST_ENTRIES ≤ vec_capacity entries.old }
     // What is read is a header, and is spelled so.
-    ensures found { IfOk result (λ m. IsHeader (view m) × (bytes.now ≡ header_spelling (view m))) }
+    ensures found { IfOk result (λ h. IsSpelled (with_entries h entries.new.items) bytes.now) }
+    // What is spelled so is read.
+    ensures only { (h : HeaderValue) → IsHeader h → bytes.now ≡ header_spelling h → decoded result entries.new.items ≡ Ok h }
+    // Which fault it is.
+    ensures value { decoded result entries.new.items ≡ header_at bytes.now }
+    ensures capacity { vec_capacity entries.old ≤ vec_capacity entries.new }
+{
+    header_into(bytes, entries)
+}
+
+/// The header that the first `disk_format::HEADER_BYTES` bytes of a slot spell, with its entries in a list of their own.
+///
+/// The fault is the one that `decode_into` answers, or `MetaFault::Memory`.
+pub fn decode(alloc: Global, bytes: &[u8]) -> Result<Meta, MetaFault>
+    requires { length bytes.now ≡ HEADER_BYTES }
+    // What is read is a header, and is spelled so.
+    ensures found { IfOk result (λ m. IsSpelled (view m) bytes.now) }
     // What is spelled so is read, unless memory runs out.
     ensures only { (h : HeaderValue) → IsHeader h → bytes.now ≡ header_spelling h → Gives view result (Ok h) }
     // Which fault it is.
     ensures fault { Gives view result (header_at bytes.now) }
 {
-    header_in(alloc, bytes)
+    let mut entries = Vec::with_capacity(alloc, MOST_ENTRIES)?;
+    let header = decode_into(bytes, &mut entries)?;
+    Ok(Meta {
+        id: header.id,
+        kind: header.kind,
+        data_length: header.data_length,
+        entries,
+    })
 }

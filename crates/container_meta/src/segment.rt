@@ -16,7 +16,7 @@ pub fn digest_of(bytes: &[u8]) -> [u8; 32]
 }
 
 /// Bytes that the store keeps under their digest.
-#[derive(Debug, Drop)]
+#[derive(Drop)]
 pub struct Seg {
     kind: Kind,
     level: u8,
@@ -39,7 +39,7 @@ impl Model for Seg {
 impl Seg {
     ghost use Rattle.container_meta.specs.Segments.{segment_key};
 
-    /// A segment of a file. The bytes are copied.
+    /// A segment of a file, of any length. The bytes are copied; it fails for want of memory alone.
     pub fn leaf(alloc: Global, bytes: &[u8]) -> Result<Seg, AllocError>
         ensures { IfOk result (λ s. s ≡ record { kind = Kind.Leaf; segment = record { level = 0; bytes = bytes.now } }) }
     {
@@ -51,32 +51,35 @@ impl Seg {
         })
     }
 
+    /// Whether the bytes are a file's or a node's.
     pub fn kind(&self) -> Kind
         ensures { result ≡ self.now.kind }
     {
         self.kind
     }
 
+    /// Its height above the data: 0 for a part of a file.
     pub fn level(&self) -> u8
         ensures { result ≡ self.now.segment.level }
     {
         self.level
     }
 
+    /// Its bytes.
     pub fn bytes(&self) -> &[u8]
         ensures { result.now ≡ self.now.segment.bytes }
     {
         self.bytes.as_slice()
     }
 
-    /// The SHA-256 of the bytes.
+    /// The SHA-256 of the bytes (FIPS 180-4), as it was taken when the segment was made.
     pub fn digest(&self) -> [u8; 32]
         ensures { result ≡ sha256 self.now.segment.bytes }
     {
         self.digest
     }
 
-    /// The kind's number and the digest.
+    /// The key: the kind's number, 0 or 1, then the digest.
     pub fn key(&self) -> [u8; 33]
         ensures { result ≡ segment_key self.now.kind self.now.segment }
     {

@@ -5,12 +5,14 @@ ghost use Rattle.std.specs.Int.{w16, w32, w64, to_be_bytes};
 ghost use Rattle.base_model.specs.Bytes.{zeros};
 ghost use Rattle.container_meta.specs.Spelling.{HeaderValue, entry_spelling, entries_spelling, fields_spelling, front_spelling};
 
+use crate::MAGIC;
 use crate::entry::Entry;
 use crate::kind::{Kind, byte_of};
 use crate::segment::digest_of;
+use disk_format::{CONTAINER_GATE, DATA_BYTES, MOST_ENTRIES};
 use sha2::{Digest, Sha256};
 
-/// Writes bytes at a place, behind what stands before it.
+/// Writes bytes at a place, after what stands before it.
 fn put(out: &mut [u8], at: usize, from: &[u8])
     requires { at + length from.now ≤ length out.old }
     ensures { take (at + length from.now) out.new ≡ take at out.old ++ from.now }
@@ -18,7 +20,7 @@ fn put(out: &mut [u8], at: usize, from: &[u8])
     out[at..at + from.len()].copy_from_slice(from);
 }
 
-/// Writes so many zeros at a place, behind what stands before it.
+/// Writes so many zeros at a place, after what stands before it.
 fn put_zeros(out: &mut [u8], at: usize, count: usize)
     requires { at + count ≤ length out.old }
     ensures { take (at + count) out.new ≡ take at out.old ++ zeros count }
@@ -38,10 +40,10 @@ fn put_entry(out: &mut [u8], at: usize, entry: &Entry)
     put_zeros(out, at + 41, 7);
 }
 
-/// Writes the entries, and zeros behind them.
+/// Writes the entries, and zeros after them.
 pub(crate) fn put_entries(out: &mut [u8], entries: &[Entry])
     requires room { length out.old ≡ 49152 }
-    requires few { length entries.now ≤ 1024 }
+    requires few { length entries.now ≤ MOST_ENTRIES }
     ensures { out.new ≡ entries_spelling entries.now ++ zeros (49152 - 48 * length entries.now) }
 {
     for (i, entry) in entries.iter().enumerate() {
@@ -51,7 +53,7 @@ pub(crate) fn put_entries(out: &mut [u8], entries: &[Entry])
 }
 
 /// What a header says beside its entries.
-#[derive(Clone, Copy, Debug)]
+#[derive(Clone, Copy)]
 pub(crate) struct Fields {
     pub id: u64,
     pub kind: Kind,
@@ -62,9 +64,10 @@ pub(crate) struct Fields {
 /// Writes the gate and the fields before the digest.
 fn put_fields(out: &mut [u8], fields: &Fields)
     requires { length out.old ≡ 512 }
-    ensures { take 24 out.new ≡ 0xC5 ∷ fields_spelling fields.now.id fields.now.kind fields.now.count fields.now.data_length }
+    ensures { take 24 out.new ≡ CONTAINER_GATE ∷ fields_spelling fields.now.id fields.now.kind fields.now.count fields.now.data_length }
 {
-    put(out, 0, b"\xC5DDFSCON");
+    put(out, 0, &[CONTAINER_GATE]);
+    put(out, 1, &MAGIC);
     put(out, 8, &fields.id.to_be_bytes());
     put(out, 16, &[byte_of(fields.kind), 0]);
     put(out, 18, &fields.count.to_be_bytes());
@@ -85,11 +88,11 @@ pub(crate) fn put_front(out: &mut [u8], fields: &Fields, entries: &[u8])
     put_zeros(out, 56, 456);
 }
 
-/// Writes the data of the segments, and zeros behind it.
+/// Writes the data of the segments, and zeros after it.
 pub(crate) fn put_data(out: &mut [u8], bytes: &[u8])
-    requires room { length out.old ≡ 212480 }
-    requires fits { length bytes.now ≤ 212480 }
-    ensures { out.new ≡ bytes.now ++ zeros (212480 - length bytes.now) }
+    requires room { length out.old ≡ DATA_BYTES }
+    requires fits { length bytes.now ≤ DATA_BYTES }
+    ensures { out.new ≡ bytes.now ++ zeros (DATA_BYTES - length bytes.now) }
 {
     put(out, 0, bytes);
     put_zeros(out, bytes.len(), out.len() - bytes.len());

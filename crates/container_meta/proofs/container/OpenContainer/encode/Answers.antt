@@ -1,4 +1,5 @@
 use Rattle.std.proofs.Common.{◌≡◌, ℕ, ◌-◌, ◌*◌, List, ◌++◌, refl, ap, sym, subst, length, take, ◌∙◌, arith}
+use Rattle.disk_format.specs.declared.numbers.TheConstants.{DATA_BYTES, HEADER_BYTES}
 use Rattle.container_meta.specs.declared.entry.Entry.{Entry}
 use Rattle.container_meta.specs.Segments.{Contents, StandFrom}
 use Rattle.container_meta.specs.Spelling.{IsHeader, header_of, container_spelling, entries_spelling, fields_spelling, front_spelling}
@@ -16,7 +17,7 @@ returns-clause-image c =
     let count : c.len.result ≡ length es = c.len.ensures ∙ c.self.inside.entries.ok.0 in
     let held : c.len-2.result ≡ length bytes = c.len-2.ensures ∙ c.self.inside.bytes.ok.0 in
     let entries : c.put_entries.new.out ≡ spelled es = c.put_entries.ensures ∙ ap spelled c.deref.ensures.value in
-    let rest : c.put_data.new.out ≡ bytes ++ zeros (212480 - length bytes) = c.put_data.ensures ∙ ap (λ (l : List ℕ). l ++ zeros (212480 - length l)) c.deref-2.ensures.value in
+    let rest : c.put_data.new.out ≡ bytes ++ zeros (DATA_BYTES - length bytes) = c.put_data.ensures ∙ ap (λ (l : List ℕ). l ++ zeros (DATA_BYTES - length l)) c.deref-2.ensures.value in
     let front : c.put_front.new.out ≡ front_spelling (fields_spelling c.args.id c.self.inside.kind (length es) (length bytes)) (take (48 * length es) c.put_entries.new.out) =
     c.put_front.ensures
     ∙ ap (λ (n : ℕ). front_spelling (fields_spelling c.args.id c.self.inside.kind n c.len-2.result) (take (48 * c.len-3.result) c.put_entries.new.out)) count
@@ -37,4 +38,4 @@ pub returns-clause-stored : goal.returns-clause-stored
 returns-clause-stored c = subst (λ (l : List ℕ). StandFrom 0 c.args.self.now.segments l) (sym (returns-clause-image c)) (stand_in_spelling c.args.id c.args.self.now.kind c.args.self.now.segments (returns-clause-header c))
 
 pub returns-clause-front : goal.returns-clause-front
-returns-clause-front c = ap (range 0 49664) (returns-clause-image c) ∙ header-container_spelling c.args.id c.args.self.now.kind c.args.self.now.segments (returns-clause-header c)
+returns-clause-front c = ap (range 0 HEADER_BYTES) (returns-clause-image c) ∙ header-container_spelling c.args.id c.args.self.now.kind c.args.self.now.segments (returns-clause-header c)

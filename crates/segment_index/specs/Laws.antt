@@ -4,5 +4,5 @@ use Rattle.std.proofs.Common.{arith}
 use Rattle.disk_format.specs.Layout.{size_of, slot_at}
 
 -- the slots of a disk end before the disk does
-pub keeps_slots : (slots : ℕ) → slot_at slots ≤ size_of slots
-keeps_slots slots = omega arith
+pub slots_end : (slots : ℕ) → slot_at slots ≤ size_of slots
+slots_end slots = omega arith

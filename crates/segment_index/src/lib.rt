@@ -7,7 +7,7 @@ mod fault;
 mod index;
 mod map_index;
 
+pub use container_meta::{Key, Place};
 pub use fault::IndexFault;
 pub use index::Index;
 pub use map_index::MapIndex;
-pub use container_meta::{Key, Place};

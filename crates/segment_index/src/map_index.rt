@@ -1,7 +1,7 @@
 //! An index in memory.
 ghost use Rattle.std.specs.Prelude.{◌≡◌, Some, refl, OnOk, OnErr};
 ghost use Rattle.std.specs.FinMap as finite;
-ghost use Rattle.segment_index.specs.Places.{coded_places};
+ghost use Rattle.segment_index.specs.Places.{coded_places, HasPlaces};
 ghost use Rattle.container_meta.specs.Places.{PlaceMap};
 
 use crate::fault::IndexFault;
@@ -13,7 +13,7 @@ use std::collections::BTreeMap;
 use std::marker::Model;
 
 /// An index in memory. It calls the disk for nothing.
-#[derive(Debug, Drop)]
+#[derive(Drop)]
 pub struct MapIndex {
     entries: BTreeMap<Key, Place>,
 }
@@ -65,21 +65,24 @@ impl MapIndex {
 }
 
 impl Index for MapIndex {
-    ghost use Rattle.segment_index.specs.Laws.{keeps_slots};
+    ghost use Rattle.std.proofs.Common.{inl};
+    ghost use Rattle.segment_index.specs.Laws.{slots_end};
 
     ghost places = { λ i _. Some i };
 
-    ghost serves = { λ _ _. Unit {0} };
+    ghost serves = { λ i size. HasPlaces size i };
 
     ghost takes = { λ _ _ _. Unit {0} };
 
-    ghost kept = { λ _ size. size };
+    ghost owned_from = { λ _ size. size };
 
     ghost breaks = { λ _ _ _ _. ⊥ };
 
+    ghost is_known = { λ _ _ _. inl refl };
+
     ghost places_stay = { λ _ _ _ _. refl };
 
-    ghost keeps_slots = { λ _ slots _. keeps_slots slots };
+    ghost owns_no_slot = { λ _ slots _. slots_end slots };
 
     ghost takes_all = { λ _ _ _ _ _. tt };
 

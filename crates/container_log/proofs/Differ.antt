@@ -40,9 +40,9 @@ header_differs bytes fault =
     step_err FaultDiffers _ _ fault (behind_err FaultDiffers (end_checks bytes) _ fault (λ h. tt, tt)) (λ end z e. absurd cc)))))
 
 pub fault_differs : (bytes : List ℕ) (fault : MetaFault) (why : Why) → header_at bytes ≡ Err fault → why_of bytes fault ≡ Some why → Differs why
-fault_differs bytes fault (Field offset got) first told = tt
-fault_differs bytes (meta.Digest want got) (Digest w g) first told = let read : want ≢ got = header_differs bytes (meta.Digest want got) first in λ same. read cc
-fault_differs bytes (meta.Gate byte) (Digest w g) first told = cc
-fault_differs bytes meta.Magic (Digest w g) first told = cc
-fault_differs bytes (meta.Field offset got) (Digest w g) first told = cc
-fault_differs bytes meta.Memory (Digest w g) first told = cc
+fault_differs bytes fault (Field offset got) first named = tt
+fault_differs bytes (meta.Digest want got) (Digest w g) first named = let read : want ≢ got = header_differs bytes (meta.Digest want got) first in λ same. read cc
+fault_differs bytes (meta.Gate byte) (Digest w g) first named = cc
+fault_differs bytes meta.Magic (Digest w g) first named = cc
+fault_differs bytes (meta.Field offset got) (Digest w g) first named = cc
+fault_differs bytes meta.Memory (Digest w g) first named = cc

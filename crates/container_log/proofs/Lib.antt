@@ -1,3 +1,5 @@
 mod Differ
-mod Headers
-mod Slots
+pub mod Freeing
+pub mod Headers
+pub mod Sealing
+pub mod Slots

@@ -8,7 +8,7 @@ mod reading;
 mod slot;
 mod writing;
 
-pub use fault::{LogFault, Why};
+pub use fault::LogFault;
 pub use reading::{Spot, read_meta, read_segment};
 pub use slot::read_slot;
 pub use writing::{free, seal};

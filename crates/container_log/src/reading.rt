@@ -1,26 +1,25 @@
 //! Segments and headers read from their slots.
-ghost use Rattle.std.specs.Prelude.{◌≡◌, ◌+◌, ◌≤◌, List, ℕ, length, take, drop, OnOk, IfOk, IfErr};
+ghost use Rattle.std.specs.Prelude.{◌≡◌, ◌+◌, ◌≤◌, List, ℕ, length, take, drop, Some, OnOk, IfOk, IfErr};
 ghost use Rattle.sha2.specs.Sha256.{sha256};
-ghost use Rattle.base_model.specs.Bytes.{range};
-ghost use Rattle.base_model.specs.Fault.{Rose};
-ghost use Rattle.base_model.specs.Shown.{Shown, OnlyReads};
+ghost use Rattle.disk_format.specs.declared.numbers.TheConstants.{HEADER_BYTES, SLOT_BYTES};
 ghost use Rattle.disk_format.specs.Layout.{slot_at, data_at};
+ghost use Rattle.dd_disk.specs.Ending.{ending, Reads, UnlessFailed};
+ghost use Rattle.dd_disk.specs.Shows.{Shows};
 ghost use Rattle.container_meta.specs.Spelling.{HeaderValue, IsHeader, view, header_spelling};
-ghost use Rattle.container_log.specs.Faults.{why_of as named_by, GivesHeader, IsReadFault, IsHeaderFault, IsSegmentFault};
-ghost use Rattle.container_log.specs.declared.fault.LogFault.TheVariants.{Corrupt};
+ghost use Rattle.store_model.specs.Slots.{HoldsSlot};
+ghost use Rattle.container_log.specs.declared.fault.LogFault.TheVariants.{Corrupt, DiskRead};
+ghost use Rattle.container_log.specs.Faults.{blames, fails, why_of as named_by, IsDecodeFault, IsHeaderFault, IsSegmentFault};
+ghost use Rattle.container_log.specs.Parts.{header_bytes, segment_bytes, ReadAs};
 
-use crate::fault::{LogFault, Why};
-use crate::writing::slot_place;
+use crate::fault::LogFault;
 use base_model::seven_at;
 use container_meta::{Meta, MetaFault, decode, digest_of};
 use dd_disk::{Disk, DiskFault, read_at};
+use disk_format::{HEADER_BYTES, Why, data_at, slot_at};
 use std::alloc::{AllocError, Global};
 
-/// The bytes of a header and its entries.
-const HEADER: usize = 49_664;
-
 /// Where a segment lies, and its digest.
-#[derive(Clone, Copy, Debug, PartialEq, Eq)]
+#[derive(Clone, Copy)]
 pub struct Spot {
     pub slot: u32,
     /// The first byte, counted from the slot's data section.
@@ -49,13 +48,11 @@ fn read_whole<D: Disk>(disk: &mut D, place: &Spot, into: &mut [u8]) -> Result<()
     requires place { data_at place.now.slot + place.now.offset + place.now.length ≤ (D.view disk.old).size }
     requires length { length into.old ≡ place.now.length }
     ensures digest { OnOk result (sha256 into.new ≡ place.now.digest) }
-    ensures shown { OnOk result (Shows (D.view disk.old) (D.view disk.new) (λ image.
-        range (data_at place.now.slot + place.now.offset) place.now.length image ≡ into.new)) }
-    ensures reads { OnlyReads (D.view disk.old) (D.view disk.new) }
-    ensures fault { IfErr result (IsSegmentFault (Shows (D.view disk.old) (D.view disk.new)) (Rose (D.view disk.old).faults (D.view disk.new).faults) place.now) }
+    ensures shown { OnOk result (ReadAs (D.view disk.old) (D.view disk.new) (segment_bytes place.now) into.new) }
+    ensures reads { Reads (ending blames result) (D.view disk.old) (D.view disk.new) }
+    ensures fault { IfErr result (IsSegmentFault (ReadAs (D.view disk.old) (D.view disk.new) (segment_bytes place.now)) place.now) }
 {
-    let at = slot_place(place.slot) + HEADER as u64 + u64::from(place.offset);
-    match read_at(disk, at, into) {
+    match read_at(disk, data_at(place.slot) + u64::from(place.offset), into) {
         Ok(()) => {}
         Err(DiskFault) => return Err(LogFault::DiskRead),
     }
@@ -75,11 +72,10 @@ pub fn read_segment<D: Disk>(disk: &mut D, place: &Spot, buf: &mut [u8]) -> Resu
     requires room { place.now.length ≤ length buf.old }
     // On any disk, whatever it gives.
     ensures digest { OnOk result (sha256 (take place.now.length buf.new) ≡ place.now.digest) }
-    ensures shown { OnOk result (Shows (D.view disk.old) (D.view disk.new) (λ image.
-        range (data_at place.now.slot + place.now.offset) place.now.length image ≡ take place.now.length buf.new)) }
+    ensures shown { OnOk result (ReadAs (D.view disk.old) (D.view disk.new) (segment_bytes place.now) (take place.now.length buf.new)) }
     ensures rest { drop place.now.length buf.new ≡ drop place.now.length buf.old }
-    ensures reads { OnlyReads (D.view disk.old) (D.view disk.new) }
-    ensures fault { IfErr result (IsSegmentFault (Shows (D.view disk.old) (D.view disk.new)) (Rose (D.view disk.old).faults (D.view disk.new).faults) place.now) }
+    ensures reads { Reads (ending blames result) (D.view disk.old) (D.view disk.new) }
+    ensures fault { IfErr result (IsSegmentFault (ReadAs (D.view disk.old) (D.view disk.new) (segment_bytes place.now)) place.now) }
 {
     let length = place.length as usize;
     read_whole(disk, place, &mut buf[..length])
@@ -87,7 +83,7 @@ pub fn read_segment<D: Disk>(disk: &mut D, place: &Spot, buf: &mut [u8]) -> Resu
 
 // How a header breaks the format, by its first fault; none where memory ran out.
 fn why_of(bytes: &[u8], fault: MetaFault) -> Option<Why>
-    requires { length bytes.now ≡ 49664 }
+    requires { length bytes.now ≡ HEADER_BYTES }
     ensures { result ≡ named_by bytes.now fault }
 {
     match fault {
@@ -108,10 +104,10 @@ fn why_of(bytes: &[u8], fault: MetaFault) -> Option<Why>
 // The header in bytes that stand at a byte of the disk.
 #[tactic(auto, using(crate::proofs::Differ::fault_differs))]
 pub(crate) fn header_in(alloc: Global, at: u64, bytes: &[u8]) -> Result<Meta, LogFault>
-    requires { length bytes.now ≡ 49664 }
+    requires { length bytes.now ≡ HEADER_BYTES }
     ensures found { IfOk result (λ m. IsHeader (view m) × (bytes.now ≡ header_spelling (view m))) }
-    ensures only { (h : HeaderValue) → IsHeader h → bytes.now ≡ header_spelling h → GivesHeader h result }
-    ensures fault { IfErr result (IsHeaderFault (λ P. P bytes.now) ⊥ at) }
+    ensures only { (h : HeaderValue) → IsHeader h → bytes.now ≡ header_spelling h → UnlessFailed fails (λ m. view m ≡ h) result }
+    ensures fault { IfErr result (IsDecodeFault bytes.now at) }
 {
     match decode(alloc, bytes) {
         Ok(meta) => Ok(meta),
@@ -122,24 +118,23 @@ pub(crate) fn header_in(alloc: Global, at: u64, bytes: &[u8]) -> Result<Meta, Lo
     }
 }
 
-// Some bytes to read into.
+// Some bytes to read a header into.
 pub(crate) fn buffer(alloc: Global) -> Result<Vec<u8>, AllocError>
-    ensures { IfOk result (λ bytes. length bytes.items ≡ 49664) }
+    ensures { IfOk result (λ bytes. length bytes.items ≡ HEADER_BYTES) }
 {
-    vec![in alloc; 0u8; HEADER]
+    vec![in alloc; 0u8; HEADER_BYTES as usize]
 }
 
 // Reads the bytes of the header and entries in a slot.
-fn read_header<D: Disk>(alloc: Global, disk: &mut D, slot: u32) -> Result<Vec<u8>, LogFault>
-    requires { slot_at slot + 262144 ≤ (D.view disk.old).size }
-    ensures shown { IfOk result (λ bytes. Shows (D.view disk.old) (D.view disk.new) (λ image. range (slot_at slot) 49664 image ≡ bytes.items)) }
-    ensures length { IfOk result (λ bytes. length bytes.items ≡ 49664) }
-    ensures reads { OnlyReads (D.view disk.old) (D.view disk.new) }
-    ensures fault { IfErr result (IsReadFault (Rose (D.view disk.old).faults (D.view disk.new).faults)) }
+fn read_header<D: Disk>(disk: &mut D, slot: u32, bytes: &mut [u8]) -> Result<(), LogFault>
+    requires place { slot_at slot + SLOT_BYTES ≤ (D.view disk.old).size }
+    requires length { length bytes.old ≡ HEADER_BYTES }
+    ensures shown { OnOk result (ReadAs (D.view disk.old) (D.view disk.new) (header_bytes slot) bytes.new) }
+    ensures reads { Reads (ending blames result) (D.view disk.old) (D.view disk.new) }
+    ensures fault { IfErr result (λ fault. fault ≡ DiskRead) }
 {
-    let mut bytes = buffer(alloc)?;
-    match read_at(disk, slot_place(slot), bytes.as_mut_slice()) {
-        Ok(()) => Ok(bytes),
+    match read_at(disk, slot_at(slot), bytes) {
+        Ok(()) => Ok(()),
         Err(DiskFault) => Err(LogFault::DiskRead),
     }
 }
@@ -149,16 +144,16 @@ fn read_header<D: Disk>(alloc: Global, disk: &mut D, slot: u32) -> Result<Vec<u8
 /// A header that breaks the format is `LogFault::Damaged`, by the first check that fails in the order of docs/FORMAT.md,
 /// 'Container slot'; so is a slot whose gate is closed.
 pub fn read_meta<D: Disk>(alloc: Global, disk: &mut D, slot: u32) -> Result<Meta, LogFault>
-    requires { slot_at slot + 262144 ≤ (D.view disk.old).size }
-    ensures header { IfOk result (λ m. IsHeader (view m)) }
-    ensures shown { IfOk result (λ m. Shows (D.view disk.old) (D.view disk.new) (λ image. range (slot_at slot) 49664 image ≡ header_spelling (view m))) }
-    // What is spelled there is read, unless memory or the disk fails.
+    requires { slot_at slot + SLOT_BYTES ≤ (D.view disk.old).size }
+    ensures right { IfOk result (λ m. IsHeader (view m)) }
+    ensures shown { IfOk result (λ m. Shows (D.view disk.old) (D.view disk.new) (λ image. HoldsSlot image slot (Some (view m)))) }
+    // The header that the slot holds is answered, unless memory or the disk fails.
     ensures only { Shows (D.view disk.old) (D.view disk.new) (λ image.
-        (h : HeaderValue) → IsHeader h → range (slot_at slot) 49664 image ≡ header_spelling h → GivesHeader h result) }
-    ensures reads { OnlyReads (D.view disk.old) (D.view disk.new) }
-    ensures fault { IfErr result (IsHeaderFault (λ P. Shows (D.view disk.old) (D.view disk.new) (λ image. P (range (slot_at slot) 49664 image)))
-        (Rose (D.view disk.old).faults (D.view disk.new).faults) (slot_at slot)) }
+        (h : HeaderValue) → HoldsSlot image slot (Some h) → UnlessFailed fails (λ m. view m ≡ h) result) }
+    ensures reads { Reads (ending blames result) (D.view disk.old) (D.view disk.new) }
+    ensures fault { IfErr result (IsHeaderFault (ReadAs (D.view disk.old) (D.view disk.new) (header_bytes slot)) (slot_at slot)) }
 {
-    let bytes = read_header(alloc, disk, slot)?;
-    header_in(alloc, slot_place(slot), &bytes)
+    let mut bytes = buffer(alloc)?;
+    read_header(disk, slot, bytes.as_mut_slice())?;
+    header_in(alloc, slot_at(slot), &bytes)
 }

@@ -1,5 +1,6 @@
 pub mod Again
 pub mod Appended
+pub mod Breaks
 pub mod Chosen
 pub mod Damage
 pub mod Formats
@@ -10,5 +11,5 @@ pub mod Parts
 pub mod Replays
 pub mod Scanned
 pub mod Selectors
-pub mod Zeros
 pub mod Whole
+pub mod Zeros

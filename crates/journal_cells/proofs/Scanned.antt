@@ -1,57 +1,62 @@
 -- What reads of the journal show, cell by cell.
-use Rattle.std.proofs.Common.{◌≡◌, ◌≢◌, ℕ, suc, ◌+◌, ◌-◌, ◌<◌, List, [], ◌∷◌, ◌++◌, length, Some, None, Ok, Err, refl, sym, ap, ◌∙◌, subst, arith, length-append}
+use Rattle.std.proofs.Common.{◌≡◌, ◌≢◌, ℕ, suc, ◌+◌, ◌-◌, ◌<◌, List, [], ◌∷◌, ◌++◌, length, Some, None, Err, refl, sym, ap, ◌∙◌, subst, arith, length-append}
 use Rattle.std.specs.FinMap as finite
-use Rattle.dd_disk.specs.declared.disk.Disk.{Ghosts}
-use Rattle.dd_disk.proofs.Disks.{Saw, Reads, always, weaker, both}
 use Rattle.base_model.specs.Bytes.{range, byte_at}
-use Rattle.base_model.specs.Fault.{Rose}
 use Rattle.base_model.proofs.Ranges.{byte-range}
-use Rattle.base_model.proofs.Shown.{rose_since}
-use Rattle.disk_format.specs.Cells.{RecordValue, IsRecord, record_cell}
+use Rattle.disk_format.specs.Cells.{RecordValue, IsRecord}
 use Rattle.disk_format.specs.declared.numbers.TheConstants.{RECORD_GATE}
 use Rattle.disk_format.specs.Layout.{cell_at, half_cells}
+use Rattle.dd_disk.specs.View.{DiskView, OnlyReads}
+use Rattle.dd_disk.specs.Shows.{Shows}
+use Rattle.dd_disk.proofs.Shows.{always, weaker, both}
 use Rattle.namespace.specs.Names.{IsTaken, names_with}
 use Rattle.journal_cells.specs.declared.fault.CellFault.{CellFault}
-use Rattle.journal_cells.specs.declared.fault.CellFault.TheVariants.{Memory, DiskRead, DiskWrite, Damaged, NotAStore, Version}
-use Rattle.journal_cells.specs.Faults.{Differs, IsFoundFault, IsCellFault}
-use Rattle.journal_cells.specs.Records.{Replay, nothing_yet, behind_record, record_in, replayed}
-use Rattle.store_model.specs.Journal.{HoldsRecords}
-use Rattle.store_model.specs.Journal.{StandFrom}
-use Rattle.journal_cells.specs.Scanning.{IsNext, IsNextFault, Leave, IsPart, IsWhole}
+use Rattle.journal_cells.specs.declared.fault.CellFault.TheVariants.{Memory, DiskRead, DiskWrite, Damaged, NotAStore, Version, Numbers}
+use Rattle.journal_cells.specs.Faults.{IsFoundFault, IsRecordBreak, IsCellFault}
+use Rattle.journal_cells.specs.Records.{Replay, nothing_yet, after_record, record_in, replayed}
+use Rattle.journal_cells.specs.Scanning.{IsNext, HasNext, HasNextFault, Leave, HasPart, HasWhole, IsPart, IsWhole}
+use Rattle.journal_cells.proofs.Damage.{IsDamage, record_damage}
 use Rattle.journal_cells.proofs.Replays.{follow_push, stand_push, last_of_push, names_after_push, replayed_open, replayed_closed, replayed_fault, replayed_full, gate_stands}
 
 pub gate_read : (at : ℕ) (image cell : List ℕ) → range at 512 image ≡ cell → byte_at at image ≡ byte_at 0 cell
 gate_read at image cell read = ap (λ (p : ℕ). byte_at p image) (omega arith) ∙ sym (byte-range 0 at 512 image (omega arith)) ∙ ap (byte_at 0) read
 
-module _ {D : Type 0} (disk : Ghosts D) (old new : D) where
+-- a cell of a half that is damaged
+damage_break : (half at : ℕ) (replay : Replay) (f : CellFault) → at ≡ cell_at half replay.count → replay.count < half_cells → IsDamage at f → IsRecordBreak half f
+damage_break half at replay (Damaged there why) place room damage = ((replay.count, room, damage.0 ∙ place), damage.1)
+damage_break half at replay Memory place room damage = absurd damage
+damage_break half at replay DiskRead place room damage = absurd damage
+damage_break half at replay DiskWrite place room damage = absurd damage
+damage_break half at replay (NotAStore g m) place room damage = absurd damage
+damage_break half at replay (Version n) place room damage = absurd damage
+damage_break half at replay Numbers place room damage = absurd damage
+
+module _ (old new : DiskView) (half at : ℕ) (replay : Replay) (cell : List ℕ) (place : at ≡ cell_at half replay.count) (room : replay.count < half_cells) (gate : byte_at 0 cell ≡ RECORD_GATE) (read : Shows old new (λ image. range at 512 image ≡ cell)) where
+  fault_seen : (f : CellFault) → record_in at replay.previous replay.names cell ≡ Err f → IsRecordBreak half f × Shows old new (HasNextFault half replay f)
+  fault_seen f is = (
+    damage_break half at replay f place room (record_damage at replay.previous replay.names cell f is),
+    weaker old new (λ image sized same. let there = ap (λ p. range p 512 image) (sym place) ∙ same in record {
+      open_gate = gate_read (cell_at half replay.count) image cell there ∙ gate;
+      read = ap (record_in (cell_at half replay.count) replay.previous replay.names) there ∙ ap (λ p. record_in p replay.previous replay.names cell) (sym place) ∙ is;
+    }) read,
+  )
+
   -- the fault that a record has
-  pub next_fault : (half at : ℕ) (replay : Replay) (cell : List ℕ) (failed : Type 0) (e : CellFault) → at ≡ cell_at half replay.count → IsFoundFault (record_in at replay.previous replay.names cell) e → Differs e
-      → byte_at 0 cell ≡ RECORD_GATE → Saw disk old new (λ image. range at 512 image ≡ cell) → IsCellFault (λ f. IsNextFault (Saw disk old new) half replay f × Differs f) failed e
-  next_fault half at replay cell failed e place found differs gate read = by_fault e found differs
-    where
-      here : List ℕ → CellFault → Type 0
-      here image f = (byte_at (cell_at half replay.count) image ≡ RECORD_GATE) × (record_in (cell_at half replay.count) replay.previous replay.names (range (cell_at half replay.count) 512 image) ≡ Err f)
-
-      seen : (f : CellFault) → record_in at replay.previous replay.names cell ≡ Err f → Saw disk old new (λ image. here image f)
-      seen f is = weaker disk old new (λ image sized same. let there = ap (λ p. range p 512 image) (sym place) ∙ same in (
-        gate_read (cell_at half replay.count) image cell there ∙ gate,
-        ap (record_in (cell_at half replay.count) replay.previous replay.names) there ∙ ap (λ p. record_in p replay.previous replay.names cell) (sym place) ∙ is,
-      )) read
-
-      by_fault : (f : CellFault) → IsFoundFault (record_in at replay.previous replay.names cell) f → Differs f → IsCellFault (λ g. IsNextFault (Saw disk old new) half replay g × Differs g) failed f
-      by_fault Memory found differs = tt
-      by_fault DiskRead found differs = absurd found
-      by_fault DiskWrite found differs = absurd found
-      by_fault (Damaged place why) found differs = (seen (Damaged place why) found, differs)
-      by_fault (NotAStore g m) found differs = (seen (NotAStore g m) found, differs)
-      by_fault (Version n) found differs = (seen (Version n) found, differs)
+  pub next_fault : (e : CellFault) → IsFoundFault (record_in at replay.previous replay.names cell) e → IsCellFault (IsRecordBreak half) (λ f. Shows old new (HasNextFault half replay f)) e
+  next_fault Memory found = tt
+  next_fault DiskRead found = absurd found
+  next_fault DiskWrite found = absurd found
+  next_fault (Damaged there why) found = fault_seen (Damaged there why) found
+  next_fault (NotAStore g m) found = absurd found
+  next_fault (Version n) found = absurd found
+  next_fault Numbers found = absurd found
 
 -- ---- the way through a half
 
 leave_none : Leave [] nothing_yet
 leave_none = record { right = tt; count = refl; previous = refl; names = refl }
 
-leave_more : (records : List RecordValue) (replay : Replay) (r : RecordValue) → Leave records replay → IsRecord r → replay.previous < r.sequence → IsTaken replay.names r → Leave (records ++ r ∷ []) (behind_record replay r)
+leave_more : (records : List RecordValue) (replay : Replay) (r : RecordValue) → Leave records replay → IsRecord r → replay.previous < r.sequence → IsTaken replay.names r → Leave (records ++ r ∷ []) (after_record replay r)
 leave_more records replay r leave right rises taken =
     record {
       right = follow_push 0 finite.empty records r leave.right right (subst (λ p. p < r.sequence) leave.previous rises) (subst (λ n. IsTaken n r) leave.names taken);
@@ -60,91 +65,86 @@ leave_more records replay r leave right rises taken =
       names = ap (names_with r) leave.names ∙ sym (names_after_push records r finite.empty);
     }
 
-module _ {D : Type 0} (disk : Ghosts D) (gave_after : (d e f : D) (at : ℕ) (bytes : List ℕ) → disk.gave d e at bytes → disk.same e f → disk.gave d f at bytes) (gave_before : (d e f : D) (at : ℕ) (bytes : List ℕ) → disk.same d e → disk.gave e f at bytes → disk.gave d f at bytes) where
-  pub part_none : (half : ℕ) (d : D) → IsPart (Saw disk d d) half nothing_yet
-  part_none half d = record { records = []; leave = leave_none; seen = always disk d d _ (λ image sized. (tt, refl)) }
+pub part_none : (half : ℕ) (v : DiskView) → IsPart (Shows v v) half nothing_yet
+part_none half v = record { records = []; leave = leave_none; seen = always v v _ (λ image sized. record { stand = tt; goes_on = refl }) }
 
-  pub part_more : (half : ℕ) (old mid new : D) (replay : Replay) (r : RecordValue) → replay.count < half_cells → IsPart (Saw disk old mid) half replay → Reads disk old mid
-      → IsNext (Saw disk mid new) half replay (Some r) → Reads disk mid new → IsPart (Saw disk old new) half (behind_record replay r)
-  part_more half old mid new replay r room part before next after =
+-- the cells that a reader has left, the next one first
+left_after : (count : ℕ) → count < half_cells → half_cells - count ≡ suc (half_cells - suc count)
+left_after count room = omega (arith, room)
+
+more_stand : (half : ℕ) (records : List RecordValue) (replay : Replay) (r : RecordValue) (image : List ℕ) → replay.count < half_cells → Leave records replay → HasPart half records replay image → HasNext half replay r image
+    → HasPart half (records ++ r ∷ []) (after_record replay r) image
+more_stand half records replay r image room leave part next =
+    let here : cell_at half replay.count ≡ cell_at half (0 + length records) = omega (arith, leave.count) in
+    record {
+      stand = stand_push half 0 records r image part.stand (ap (λ at. range at 512 image) (sym here) ∙ next.spelled);
+      goes_on =
+          part.goes_on
+          ∙ ap (λ n. replayed half n replay image) (left_after replay.count room)
+          ∙ replayed_open half (half_cells - suc replay.count) replay image r (gate_stands (cell_at half replay.count) r image next.spelled) next.read;
+    }
+
+none_more : (half : ℕ) (records : List RecordValue) (replay : Replay) (image : List ℕ) → replay.count < half_cells → Leave records replay → HasPart half records replay image → byte_at (cell_at half replay.count) image ≢ RECORD_GATE
+    → HasWhole half records replay image
+none_more half records replay image room leave part closed = record {
+  holds = record {
+    few = omega (arith, room, leave.count);
+    right = leave.right;
+    stand = part.stand;
+    ends = λ short is. closed (ap (λ n. byte_at (cell_at half n) image) leave.count ∙ is);
+  };
+  read = part.goes_on ∙ replayed_closed half (half_cells - replay.count) replay image closed;
+}
+
+all_stand : (half : ℕ) (records : List RecordValue) (replay : Replay) (image : List ℕ) → replay.count ≡ half_cells → Leave records replay → HasPart half records replay image → HasWhole half records replay image
+all_stand half records replay image full leave part = record {
+  holds = record {
+    few = omega (arith, full, leave.count);
+    right = leave.right;
+    stand = part.stand;
+    ends = λ short. absurd (omega (arith, short, full, leave.count));
+  };
+  read = part.goes_on ∙ ap (λ n. replayed half n replay image) (omega (arith, full)) ∙ replayed_full half replay image;
+}
+
+module _ (half : ℕ) (old mid new : DiskView) (replay : Replay) (room : replay.count < half_cells) (part : IsPart (Shows old mid) half replay) (before : OnlyReads old mid) (after : OnlyReads mid new) where
+  pub part_more : (r : RecordValue) → IsNext (Shows mid new) half replay (Some r) → IsPart (Shows old new) half (after_record replay r)
+  part_more r next =
       record {
         records = part.records ++ r ∷ [];
         leave = leave_more part.records replay r part.leave next.0 next.1 next.2;
-        seen = weaker disk old new (λ image sized both_seen. more image both_seen) (both disk gave_after gave_before old mid new part.seen before next.3 after);
+        seen = weaker old new (λ image sized seen. more_stand half part.records replay r image room part.leave seen.0 seen.1) (both old mid new part.seen before next.3 after.later);
       }
-    where
-      more : (image : List ℕ) → (StandFrom half 0 part.records image × (replayed half half_cells nothing_yet image ≡ replayed half (half_cells - replay.count) replay image))
-          × ((range (cell_at half replay.count) 512 image ≡ record_cell r) × (record_in (cell_at half replay.count) replay.previous replay.names (range (cell_at half replay.count) 512 image) ≡ Ok r))
-          → StandFrom half 0 (part.records ++ r ∷ []) image × (replayed half half_cells nothing_yet image ≡ replayed half (half_cells - suc replay.count) (behind_record replay r) image)
-      more image seen =
-          let here : cell_at half replay.count ≡ cell_at half (0 + length part.records) = omega (arith, part.leave.count) in
-          let left : half_cells - replay.count ≡ suc (half_cells - suc replay.count) = omega (arith, room) in (
-            stand_push half 0 part.records r image seen.0.0 (ap (λ at. range at 512 image) (sym here) ∙ seen.1.0),
-            seen.0.1
-                ∙ ap (λ n. replayed half n replay image) left
-                ∙ replayed_open half (half_cells - suc replay.count) replay image r (gate_stands (cell_at half replay.count) r image seen.1.0) seen.1.1,
-          )
 
-  pub part_whole : (half : ℕ) (old mid new : D) (replay : Replay) → replay.count < half_cells → IsPart (Saw disk old mid) half replay → Reads disk old mid
-      → IsNext (Saw disk mid new) half replay None → Reads disk mid new → IsWhole (Saw disk old new) half replay
-  part_whole half old mid new replay room part before next after =
+  pub part_whole : IsNext (Shows mid new) half replay None → IsWhole (Shows old new) half replay
+  part_whole next =
       record {
         records = part.records;
         few = omega (arith, room, part.leave.count);
         leave = part.leave;
-        seen = weaker disk old new (λ image sized both_seen. whole image both_seen) (both disk gave_after gave_before old mid new part.seen before next after);
+        seen = weaker old new (λ image sized seen. none_more half part.records replay image room part.leave seen.0 seen.1) (both old mid new part.seen before next after.later);
       }
-    where
-      whole : (image : List ℕ) → (StandFrom half 0 part.records image × (replayed half half_cells nothing_yet image ≡ replayed half (half_cells - replay.count) replay image))
-          × (byte_at (cell_at half replay.count) image ≢ RECORD_GATE) → HoldsRecords half part.records image × (replayed half half_cells nothing_yet image ≡ Ok replay)
-      whole image seen = (
-        record {
-          few = omega (arith, room, part.leave.count);
-          right = part.leave.right;
-          stand = seen.0.0;
-          ends = λ short is. seen.1 (ap (λ n. byte_at (cell_at half n) image) part.leave.count ∙ is);
-        },
-        seen.0.1 ∙ replayed_closed half (half_cells - replay.count) replay image seen.1,
-      )
 
-  pub part_full : (half : ℕ) (old new : D) (replay : Replay) → replay.count ≡ half_cells → IsPart (Saw disk old new) half replay → IsWhole (Saw disk old new) half replay
-  part_full half old new replay full part =
-      record {
-        records = part.records;
-        few = omega (arith, full, part.leave.count);
-        leave = part.leave;
-        seen = weaker disk old new (λ image sized seen. (
-          record {
-            few = omega (arith, full, part.leave.count);
-            right = part.leave.right;
-            stand = seen.0;
-            ends = λ short. absurd (omega (arith, short, full, part.leave.count));
-          },
-          seen.1 ∙ ap (λ n. replayed half n replay image) left ∙ replayed_full half replay image,
-        )) part.seen;
-      }
-    where
-      left : half_cells - replay.count ≡ 0
-      left = omega (arith, full)
+  fault_on : (f : CellFault) → Shows mid new (HasNextFault half replay f) → Shows old new (λ image. replayed half half_cells nothing_yet image ≡ Err f)
+  fault_on f next =
+      weaker old new (λ image sized seen. seen.0.goes_on ∙ ap (λ n. replayed half n replay image) (left_after replay.count room) ∙ replayed_fault half (half_cells - suc replay.count) replay image f seen.1.open_gate seen.1.read)
+      (both old mid new part.seen before next after.later)
 
-  pub part_fault : (half : ℕ) (old mid new : D) (replay : Replay) (e : CellFault) → replay.count < half_cells → IsPart (Saw disk old mid) half replay → Reads disk old mid
-      → IsCellFault (λ f. IsNextFault (Saw disk mid new) half replay f × Differs f) (Rose (disk.faults mid) (disk.faults new)) e → Reads disk mid new
-      → IsCellFault (λ f. Saw disk old new (λ image. replayed half half_cells nothing_yet image ≡ Err f) × Differs f) (Rose (disk.faults old) (disk.faults new)) e
-  part_fault half old mid new replay e room part before fault after = by_fault e fault
-    where
-      left : half_cells - replay.count ≡ suc (half_cells - suc replay.count)
-      left = omega (arith, room)
+  pub part_fault : (e : CellFault) → IsCellFault (IsRecordBreak half) (λ f. Shows mid new (HasNextFault half replay f)) e
+      → IsCellFault (IsRecordBreak half) (λ f. Shows old new (λ image. replayed half half_cells nothing_yet image ≡ Err f)) e
+  part_fault Memory is = tt
+  part_fault DiskRead is = tt
+  part_fault DiskWrite is = absurd is
+  part_fault (Damaged at why) is = (is.0, fault_on (Damaged at why) is.1)
+  part_fault (NotAStore g m) is = absurd is.0
+  part_fault (Version n) is = absurd is.0
+  part_fault Numbers is = absurd is
 
-      seen : (f : CellFault) → IsNextFault (Saw disk mid new) half replay f → Saw disk old new (λ image. replayed half half_cells nothing_yet image ≡ Err f)
-      seen f next =
-          weaker disk old new (λ image sized shown. shown.0.1 ∙ ap (λ n. replayed half n replay image) left ∙ replayed_fault half (half_cells - suc replay.count) replay image f shown.1.0 shown.1.1)
-          (both disk gave_after gave_before old mid new part.seen before next after)
-
-      by_fault : (f : CellFault) → IsCellFault (λ g. IsNextFault (Saw disk mid new) half replay g × Differs g) (Rose (disk.faults mid) (disk.faults new)) f
-          → IsCellFault (λ g. Saw disk old new (λ image. replayed half half_cells nothing_yet image ≡ Err g) × Differs g) (Rose (disk.faults old) (disk.faults new)) f
-      by_fault Memory is = tt
-      by_fault DiskRead is = rose_since (disk.faults old) (disk.faults mid) (disk.faults new) before.later is
-      by_fault DiskWrite is = absurd is
-      by_fault (Damaged at why) is = (seen (Damaged at why) is.0, is.1)
-      by_fault (NotAStore g m) is = (seen (NotAStore g m) is.0, is.1)
-      by_fault (Version n) is = (seen (Version n) is.0, is.1)
+pub part_full : (half : ℕ) (old new : DiskView) (replay : Replay) → replay.count ≡ half_cells → IsPart (Shows old new) half replay → IsWhole (Shows old new) half replay
+part_full half old new replay full part =
+    record {
+      records = part.records;
+      few = omega (arith, full, part.leave.count);
+      leave = part.leave;
+      seen = weaker old new (λ image sized seen. all_stand half part.records replay image full part.leave seen) part.seen;
+    }

@@ -1,50 +1,35 @@
 -- The journal as a whole: the selector that counts and the records of its half.
-use Rattle.std.proofs.Common.{◌≡◌, ℕ, List, max, Result, Ok, Err, refl, sym, ap, ◌∙◌, arith}
-use Rattle.base_model.specs.Bytes.{range}
+use Rattle.std.proofs.Common.{◌≡◌, inl, inr, ℕ, ◌≤◌, List, max, Result, Ok, Err, IsTrue, refl, sym, ap, ◌∙◌, arith}
 use Rattle.base_model.specs.Checks.{◌>>=◌}
-use Rattle.base_model.specs.Fault.{Rose}
 use Rattle.base_model.proofs.Checks.{then_step}
-use Rattle.base_model.proofs.Shown.{rose_since}
 use Rattle.disk_format.specs.Cells.{RecordValue, SelectorValue, IsSelector}
-use Rattle.disk_format.specs.Layout.{selector_at, half_cells}
-use Rattle.dd_disk.specs.declared.disk.Disk.{Ghosts}
-use Rattle.dd_disk.proofs.Disks.{Saw, Reads, always, weaker, both}
+use Rattle.disk_format.specs.Layout.{half_cells}
+use Rattle.dd_disk.specs.View.{DiskView, OnlyReads}
+use Rattle.dd_disk.specs.Shows.{Shows}
+use Rattle.dd_disk.proofs.Shows.{always, weaker, both}
+use Rattle.store_model.specs.Journal.{HoldsSelector, IsOlder, HoldsJournal, last_of}
 use Rattle.journal_cells.specs.declared.fault.CellFault.{CellFault}
-use Rattle.journal_cells.specs.declared.fault.CellFault.TheVariants.{Memory, DiskRead, DiskWrite, Damaged, NotAStore, Version}
-use Rattle.journal_cells.specs.Faults.{Differs, IsCellFault}
-use Rattle.journal_cells.specs.Heads.{selectors_in}
+use Rattle.journal_cells.specs.declared.fault.CellFault.TheVariants.{Memory, DiskRead, DiskWrite, Damaged, NotAStore, Version, Numbers}
+use Rattle.journal_cells.specs.Faults.{fails, IsSelectorBreak, IsRecordBreak, IsJournalBreak, IsReadFault, IsCellFault}
+use Rattle.journal_cells.specs.Heads.{selector_of_image}
 use Rattle.journal_cells.specs.Records.{Replay, nothing_yet, replayed}
 use Rattle.journal_cells.specs.Journal.{IsScanned, IsTold, journal_in}
-use Rattle.store_model.specs.Journal.{last_of}
-use Rattle.store_model.specs.Journal.{HoldsJournal}
-use Rattle.store_model.specs.Journal.{IsOlder}
-use Rattle.store_model.specs.Journal.{HoldsSelector}
 use Rattle.journal_cells.specs.Scanning.{opened, IsWhole}
-use Rattle.journal_cells.proofs.Outcomes.{Unanswered}
 use Rattle.journal_cells.proofs.Replays.{replay_of, holds_again, replay_count, replay_previous, replay_names}
 
-abbrev both_cells : List ℕ → Result SelectorValue CellFault
-both_cells image = selectors_in (range (selector_at 0) 512 image) (range (selector_at 1) 512 image)
-
-no_selector : (image : List ℕ) (f : CellFault) → both_cells image ≡ Err f → journal_in image ≡ Err f
+no_selector : (image : List ℕ) (f : CellFault) → selector_of_image image ≡ Err f → journal_in image ≡ Err f
 unfolding journal_in
 no_selector image f e = ap (λ r. r >>= (λ (s : SelectorValue). replayed s.half half_cells nothing_yet image)) e
 
-half_of : (image : List ℕ) (s : SelectorValue) (read : Result Replay CellFault) → both_cells image ≡ Ok s → replayed s.half half_cells nothing_yet image ≡ read → journal_in image ≡ read
+half_of : (image : List ℕ) (s : SelectorValue) (read : Result Replay CellFault) → selector_of_image image ≡ Ok s → replayed s.half half_cells nothing_yet image ≡ read → journal_in image ≡ read
 unfolding journal_in
-half_of image s read e h = then_step (both_cells image) (λ (t : SelectorValue). replayed t.half half_cells nothing_yet image) s read e h
-
--- a fault of the same bytes
-fault_of : (found other : CellFault → Type 0) (failed before : Type 0) (e : CellFault) → ((f : CellFault) → found f → other f) → (before → failed) → IsCellFault (λ f. found f × Differs f) before e → IsCellFault (λ f. other f × Differs f) failed e
-fault_of found other failed before Memory then later is = tt
-fault_of found other failed before DiskRead then later is = later is
-fault_of found other failed before DiskWrite then later is = absurd is
-fault_of found other failed before (Damaged at why) then later is = (then (Damaged at why) is.0, is.1)
-fault_of found other failed before (NotAStore g m) then later is = (then (NotAStore g m) is.0, is.1)
-fault_of found other failed before (Version n) then later is = (then (Version n) is.0, is.1)
+half_of image s read e h = then_step (selector_of_image image) (λ (t : SelectorValue). replayed t.half half_cells nothing_yet image) s read e h
 
 ok_replay : (a b : Replay) → (let r : Result Replay CellFault = Ok a in r) ≡ Ok b → a ≡ b
 ok_replay a b e = cc
+
+not_both : (r : Replay) (f : CellFault) → (let read : Result Replay CellFault = Ok r in read) ≡ Err f → ⊥
+not_both r f e = cc
 
 -- what was read, of a journal that stands there
 told_of : (s t : SelectorValue) (records : List RecordValue) (replay : Replay) → s ≡ t → replay ≡ replay_of nothing_yet records → IsTold t records (opened s replay) replay.names (opened s replay).last
@@ -60,26 +45,45 @@ told_of s t records replay same is =
       last_is = ap (λ (v : SelectorValue). max v.last replay.previous) same ∙ ap (max t.last) previous;
     }
 
-module _ {D : Type 0} (disk : Ghosts D) where
-  pub selector_fault : (old new : D) (e : CellFault) → IsCellFault (λ f. Saw disk old new (λ image. both_cells image ≡ Err f) × Differs f) (Rose (disk.faults old) (disk.faults new)) e
-      → IsCellFault (λ f. Saw disk old new (λ image. journal_in image ≡ Err f) × Differs f) (Rose (disk.faults old) (disk.faults new)) e
-  selector_fault old new e is = fault_of _ _ _ _ e (λ f saw. weaker disk old new (λ image sized none. no_selector image f none) saw) (λ rose. rose) is
+-- what a reader finds in the half of the selector that stands there
+found_there : (s t : SelectorValue) (records : List RecordValue) (image : List ℕ) → s ≡ t → HoldsJournal image t records → replayed s.half half_cells nothing_yet image ≡ Ok (replay_of nothing_yet records)
+found_there s t records image same held = ap (λ (v : SelectorValue). replayed v.half half_cells nothing_yet image) same ∙ holds_again t.half records image held.records_are
 
-  module _ (gave_after : (d e f : D) (at : ℕ) (bytes : List ℕ) → disk.gave d e at bytes → disk.same e f → disk.gave d f at bytes) (gave_before : (d e f : D) (at : ℕ) (bytes : List ℕ) → disk.same d e → disk.gave e f at bytes → disk.gave d f at bytes) where
-    pub half_fault : (s : SelectorValue) (old mid new : D) (e : CellFault) → Saw disk old mid (λ image. both_cells image ≡ Ok s) → Reads disk old mid
-        → IsCellFault (λ f. Saw disk mid new (λ image. replayed s.half half_cells nothing_yet image ≡ Err f) × Differs f) (Rose (disk.faults mid) (disk.faults new)) e → Reads disk mid new
-        → IsCellFault (λ f. Saw disk old new (λ image. journal_in image ≡ Err f) × Differs f) (Rose (disk.faults old) (disk.faults new)) e
-    half_fault s old mid new e selector before is after =
-        fault_of _ _ _ _ e (λ f saw. weaker disk old new (λ image sized read. half_of image s (Err f) read.0 read.1) (both disk gave_after gave_before old mid new selector before saw after))
-        (rose_since (disk.faults old) (disk.faults mid) (disk.faults new) before.later) is
+-- ---- faults
 
-    pub scanned : (s : SelectorValue) (replay : Replay) (old mid new : D) → IsSelector s → Saw disk old mid (λ image. HoldsSelector image s × IsOlder image s) → Reads disk old mid
-        → IsWhole (Saw disk mid new) s.half replay → Reads disk mid new → IsScanned (Saw disk old new) (opened s replay) replay.names (opened s replay).last
-    scanned s replay old mid new right selector before whole after =
+pub selector_fault : (old new : DiskView) (e : CellFault) → IsReadFault IsSelectorBreak (λ f. Shows old new (λ image. selector_of_image image ≡ Err f)) e
+    → IsCellFault IsJournalBreak (λ f. Shows old new (λ image. journal_in image ≡ Err f)) e
+selector_fault old new Memory is = tt
+selector_fault old new DiskRead is = tt
+selector_fault old new DiskWrite is = absurd is
+selector_fault old new (Damaged at why) is = ((inl is.0.0, is.0.1), weaker old new (λ image sized none. no_selector image (Damaged at why) none) is.1)
+selector_fault old new (NotAStore g m) is = absurd is.0
+selector_fault old new (Version n) is = (is.0, weaker old new (λ image sized none. no_selector image (Version n) none) is.1)
+selector_fault old new Numbers is = absurd is
+
+module _ (s : SelectorValue) (old mid new : DiskView) (before : OnlyReads old mid) (after : OnlyReads mid new) where
+  pub half_fault : (e : CellFault) → s.half ≤ 1 → Shows old mid (λ image. selector_of_image image ≡ Ok s) → IsCellFault (IsRecordBreak s.half) (λ f. Shows mid new (λ image. replayed s.half half_cells nothing_yet image ≡ Err f)) e
+      → IsCellFault IsJournalBreak (λ f. Shows old new (λ image. journal_in image ≡ Err f)) e
+  half_fault Memory small selector is = tt
+  half_fault DiskRead small selector is = tt
+  half_fault DiskWrite small selector is = absurd is
+  half_fault (Damaged at why) small selector is = (
+    (inr (s.half, small, is.0.0), is.0.1),
+    weaker old new (λ image sized read. half_of image s (Err (Damaged at why)) read.0 read.1) (both old mid new selector before is.1 after.later),
+  )
+  half_fault (NotAStore g m) small selector is = absurd is.0
+  half_fault (Version n) small selector is = absurd is.0
+  half_fault Numbers small selector is = absurd is
+
+  -- ---- what was read
+
+  module _ (replay : Replay) (whole : IsWhole (Shows mid new) s.half replay) where
+    pub scanned : IsSelector s → Shows old mid (λ image. HoldsSelector image s × IsOlder image s) → IsScanned (Shows old new) (opened s replay) replay.names (opened s replay).last
+    scanned right selector =
         record {
           selector = s;
           records = whole.records;
-          holds = weaker disk old new (λ image sized seen. record { selector_is = seen.0.0; older = seen.0.1; records_are = seen.1.0 }) (both disk gave_after gave_before old mid new selector before whole.seen after);
+          holds = weaker old new (λ image sized seen. record { selector_is = seen.0.0; older = seen.0.1; records_are = seen.1.holds }) (both old mid new selector before whole.seen after.later);
           selector_right = right;
           few = whole.few;
           right = whole.leave.right;
@@ -95,37 +99,26 @@ module _ {D : Type 0} (disk : Ghosts D) where
         }
 
     -- the journal that stands there is the one that was read
-    pub only_one : (s : SelectorValue) (replay : Replay) (old mid new : D) → Saw disk old mid (λ image. (t : SelectorValue) → HoldsSelector image t → IsOlder image t → s ≡ t) → Reads disk old mid
-        → IsWhole (Saw disk mid new) s.half replay → Reads disk mid new
-        → Saw disk old new (λ image. (t : SelectorValue) (records : List RecordValue) → HoldsJournal image t records → IsTold t records (opened s replay) replay.names (opened s replay).last)
-    only_one s replay old mid new selector before whole after =
-        weaker disk old new (λ image sized seen t records held. by_half image t records held (seen.0 t held.selector_is held.older) seen.1.1) (both disk gave_after gave_before old mid new selector before whole.seen after)
-      where
-        by_half : (image : List ℕ) (t : SelectorValue) (records : List RecordValue) → HoldsJournal image t records → s ≡ t → replayed s.half half_cells nothing_yet image ≡ Ok replay → IsTold t records (opened s replay) replay.names (opened s replay).last
-        by_half image t records held same read =
-            told_of s t records replay same
-            (ok_replay replay (replay_of nothing_yet records) (sym read ∙ ap (λ (v : SelectorValue). replayed v.half half_cells nothing_yet image) same ∙ holds_again t.half records image held.records_are))
+    pub only_one : Shows old mid (λ image. (t : SelectorValue) → HoldsSelector image t → IsOlder image t → s ≡ t)
+        → Shows old new (λ image. (t : SelectorValue) (records : List RecordValue) → HoldsJournal image t records → IsTold t records (opened s replay) replay.names (opened s replay).last)
+    only_one selector =
+        weaker old new (λ image sized seen t records held.
+        let same = seen.0 t held.selector_is held.older in
+        told_of s t records replay same (ok_replay replay (replay_of nothing_yet records) (sym seen.1.read ∙ found_there s t records image same held))) (both old mid new selector before whole.seen after.later)
 
-    -- where a record has a fault, no journal stands there
-    pub none_stands : (s : SelectorValue) (old mid new : D) (e : CellFault) → Saw disk old mid (λ image. (t : SelectorValue) → HoldsSelector image t → IsOlder image t → s ≡ t) → Reads disk old mid
-        → IsCellFault (λ f. Saw disk mid new (λ image. replayed s.half half_cells nothing_yet image ≡ Err f) × Differs f) (Rose (disk.faults mid) (disk.faults new)) e → Reads disk mid new
-        → Saw disk old new (λ image. (t : SelectorValue) (records : List RecordValue) → HoldsJournal image t records → Unanswered e)
-    none_stands s old mid new e selector before is after = by_fault e is
-      where
-        stands : (f : CellFault) → Saw disk mid new (λ image. replayed s.half half_cells nothing_yet image ≡ Err f) → Saw disk old new (λ image. (t : SelectorValue) (records : List RecordValue) → HoldsJournal image t records → ⊥)
-        stands f saw =
-            weaker disk old new (λ image sized seen t records held. not_both (replay_of nothing_yet records) f
-            (sym (ap (λ (v : SelectorValue). replayed v.half half_cells nothing_yet image) (seen.0 t held.selector_is held.older) ∙ holds_again t.half records image held.records_are) ∙ seen.1))
-            (both disk gave_after gave_before old mid new selector before saw after)
-          where
-            not_both : (r : Replay) (f : CellFault) → (let read : Result Replay CellFault = Ok r in read) ≡ Err f → ⊥
-            not_both r f e = cc
+  -- where a record has a fault, no journal stands there
+  none_stands : (f : CellFault) → Shows old mid (λ image. (t : SelectorValue) → HoldsSelector image t → IsOlder image t → s ≡ t) → Shows mid new (λ image. replayed s.half half_cells nothing_yet image ≡ Err f)
+      → Shows old new (λ image. (t : SelectorValue) (records : List RecordValue) → HoldsJournal image t records → IsTrue (fails f))
+  none_stands f selector fault =
+      weaker old new (λ image sized seen t records held. absurd (not_both (replay_of nothing_yet records) f (sym (found_there s t records image (seen.0 t held.selector_is held.older) held) ∙ seen.1))) (both old mid new selector before fault after.later)
 
-        by_fault : (f : CellFault) → IsCellFault (λ g. Saw disk mid new (λ image. replayed s.half half_cells nothing_yet image ≡ Err g) × Differs g) (Rose (disk.faults mid) (disk.faults new)) f
-            → Saw disk old new (λ image. (t : SelectorValue) (records : List RecordValue) → HoldsJournal image t records → Unanswered f)
-        by_fault Memory is = always disk old new _ (λ image sized t records held. tt)
-        by_fault DiskRead is = always disk old new _ (λ image sized t records held. tt)
-        by_fault DiskWrite is = absurd is
-        by_fault (Damaged at why) is = stands (Damaged at why) is.0
-        by_fault (NotAStore g m) is = stands (NotAStore g m) is.0
-        by_fault (Version n) is = stands (Version n) is.0
+  -- where one stands, memory or the disk failed
+  pub fails_alone : (e : CellFault) → Shows old mid (λ image. (t : SelectorValue) → HoldsSelector image t → IsOlder image t → s ≡ t) → IsCellFault (IsRecordBreak s.half) (λ f. Shows mid new (λ image. replayed s.half half_cells nothing_yet image ≡ Err f)) e
+      → Shows old new (λ image. (t : SelectorValue) (records : List RecordValue) → HoldsJournal image t records → IsTrue (fails e))
+  fails_alone Memory selector is = always old new _ (λ image sized t records held. refl)
+  fails_alone DiskRead selector is = always old new _ (λ image sized t records held. refl)
+  fails_alone DiskWrite selector is = absurd is
+  fails_alone (Damaged at why) selector is = none_stands (Damaged at why) selector is.1
+  fails_alone (NotAStore g m) selector is = absurd is.0
+  fails_alone (Version n) selector is = absurd is.0
+  fails_alone Numbers selector is = absurd is

@@ -1,19 +1,24 @@
 //! The calls of a disk, with its faults as those of cells.
 ghost use Rattle.std.specs.Prelude.{◌≡◌, ◌+◌, ◌≤◌, length, OnOk, IfErr};
 ghost use Rattle.base_model.specs.Bytes.{range};
-ghost use Rattle.base_model.specs.Fault.{Rose};
-ghost use Rattle.base_model.specs.Shown.{Shown, OnlyReads};
+ghost use Rattle.dd_disk.specs.Ending.{ending, Reads};
+ghost use Rattle.dd_disk.specs.Shows.{Shows};
 ghost use Rattle.journal_cells.specs.declared.fault.CellFault.TheVariants.{DiskRead};
+ghost use Rattle.journal_cells.specs.Faults.{blames};
 
 use crate::fault::CellFault;
 use dd_disk::{Disk, DiskFault};
+use disk_format::CELL_BYTES;
+
+/// The bytes of a cell, as the length of an array.
+pub(crate) const CELL: usize = CELL_BYTES as usize;
 
 /// Reads as many bytes as `into` has.
 pub(crate) fn read_at<D: Disk>(disk: &mut D, at: u64, into: &mut [u8]) -> Result<(), CellFault>
     requires { at + length into.old ≤ (D.view disk.old).size }
     ensures shown { OnOk result (Shows (D.view disk.old) (D.view disk.new) (λ image. range at (length into.old) image ≡ into.new)) }
-    ensures reads { OnlyReads (D.view disk.old) (D.view disk.new) }
-    ensures fault { IfErr result (λ fault. (fault ≡ DiskRead) × Rose (D.view disk.old).faults (D.view disk.new).faults) }
+    ensures reads { Reads (ending blames result) (D.view disk.old) (D.view disk.new) }
+    ensures cause { IfErr result (λ fault. fault ≡ DiskRead) }
 {
     match dd_disk::read_at(disk, at, into) {
         Ok(()) => Ok(()),

@@ -1,34 +1,25 @@
 //! The journal of a store: which half counts, and where its next record goes.
-ghost use Rattle.std.specs.Prelude.{◌≡◌, ◌≤◌, ◌∷◌, ◌++◌, [], List, ℕ, true, OnOk, OnErr, IfErr};
-ghost use Rattle.std.specs.FinMap as finite;
-ghost use Rattle.base_model.specs.Known.{Known, KnownWith};
-ghost use Rattle.disk_format.specs.Cells.{RecordValue, record_cell};
-ghost use Rattle.disk_format.specs.Layout.{least_size, cell_at, half_cells};
+ghost use Rattle.std.specs.Prelude.{◌≡◌, ◌≤◌, OnOk, OnErr, IfErr};
+ghost use Rattle.disk_format.specs.Cells.{record_cell};
+ghost use Rattle.disk_format.specs.Layout.{cell_at as place_of_cell};
 ghost use Rattle.dd_disk.specs.Ending.{ending};
 ghost use Rattle.dd_disk.specs.Writes.{Puts, Writes};
 ghost use Rattle.dd_disk.specs.Gated.{TornFrom};
-ghost use Rattle.namespace.specs.Names.{IsTaken, names_after, record_value};
-ghost use Rattle.journal_cells.specs.Faults.{IsWriteFault, breaks};
-ghost use Rattle.journal_cells.specs.Journal.{Precedes, IsJournalOf, with_record};
+ghost use Rattle.namespace.specs.Names.{record_value};
+ghost use Rattle.journal_cells.specs.Faults.{blames, IsWriteFault};
+ghost use Rattle.journal_cells.specs.Journal.{IsJournal, Precedes, with_record};
+ghost use Rattle.journal_cells.specs.Appending.{Appends, IsAppended};
 
 use crate::fault::CellFault;
 use crate::spelling::encode;
 use dd_disk::{Disk, DiskFault, write_gated};
+use disk_format::{LEAST_SIZE, cell_at};
 use namespace::Record;
 use std::alloc::Global;
 use std::marker::Model;
 
-/// Where a cell of a half begins on the disk.
-pub(crate) fn cell_place(half: u8, cell: u32) -> u64
-    requires half { half ≤ 1 }
-    requires cell { cell ≤ half_cells }
-    ensures { result ≡ cell_at half cell }
-{
-    1_536 + 524_288 * u64::from(half) + 512 * u64::from(cell)
-}
-
 /// A journal that was read from its disk.
-#[derive(Clone, Copy, Debug, PartialEq, Eq)]
+#[derive(Clone, Copy)]
 pub struct Journal {
     pub(crate) half: u8,
     pub(crate) generation: u64,
@@ -46,7 +37,8 @@ impl Model for Journal {
 
     ghost inverse = { λ j. record { half = j.half; generation = j.generation; count = j.count; previous = j.previous; last = j.last } };
 
-    ghost invariant = { λ j. IsJournal (record { half = j.half; generation = j.generation; count = j.count; previous = j.previous; last = j.last }) };
+    ghost invariant = { λ j.
+        IsJournal (record { half = j.half; generation = j.generation; count = j.count; previous = j.previous; last = j.last }) };
 }
 
 impl Journal {
@@ -73,16 +65,16 @@ impl Journal {
         disk: &mut D,
         value: &Record,
     ) -> Result<(), CellFault>
-        requires size { least_size ≤ (D.view disk.old).size }
-        requires behind { Precedes self.old (record_value value.now) }
-        ensures writes { Writes (TornFrom (cell_at self.old.half self.old.count) (record_cell (record_value value.now))) (Puts (cell_at self.old.half self.old.count) (record_cell (record_value value.now)))
-            (ending breaks result) (D.view disk.old) (D.view disk.new) }
+        requires size { LEAST_SIZE ≤ (D.view disk.old).size }
+        requires follows { Precedes self.old (record_value value.now) }
+        ensures writes { let at = place_of_cell self.old.half self.old.count in let cell = record_cell (record_value value.now) in
+            Writes (TornFrom at cell) (Puts at cell) (ending blames result) (D.view disk.old) (D.view disk.new) }
         ensures journal { OnOk result (self.new ≡ with_record (record_value value.now) self.old) }
         ensures unchanged { OnErr result (self.new ≡ self.old) }
-        ensures half { self.old.half ≤ 1 }
-        ensures fault { IfErr result IsWriteFault }
+        ensures right { IsJournal self.old }
+        ensures cause { IfErr result IsWriteFault }
     {
-        let at = cell_place(self.half, self.count);
+        let at = cell_at(self.half, self.count);
         let cell = encode(alloc, value)?;
         match write_gated(disk, at, &cell) {
             Ok(()) => {}
@@ -94,7 +86,7 @@ impl Journal {
         Ok(())
     }
 
-    /// Writes a record behind the others: bytes 1 to 511 of its cell, a sync, the gate, a sync.
+    /// Writes a record after the others: bytes 1 to 511 of its cell, a sync, the gate, a sync.
     ///
     /// The half has to have room, and the record to be one that the format allows, of a greater sequence number than
     /// the one before it. `Memory` comes before the first write, `DiskWrite` where a write or a sync failed. Either
@@ -105,16 +97,13 @@ impl Journal {
         disk: &mut D,
         value: &Record,
     ) -> Result<(), CellFault>
-        requires size { least_size ≤ (D.view disk.old).size }
-        requires behind { Precedes self.old (record_value value.now) }
-        ensures writes { Writes (TornFrom (cell_at self.old.half self.old.count) (record_cell (record_value value.now))) (Puts (cell_at self.old.half self.old.count) (record_cell (record_value value.now)))
-            (ending breaks result) (D.view disk.old) (D.view disk.new) }
-        // The disk's journal is then the one before and the record.
-        ensures kept { OnOk result (Known (D.view disk.old).content (λ old. (records : List RecordValue) → IsJournalOf self.old records old
-            → IsTaken (names_after records finite.empty) (record_value value.now) → KnownWith (D.view disk.new).content (IsJournalOf self.new (records ++ record_value value.now ∷ [])))) }
+        requires size { LEAST_SIZE ≤ (D.view disk.old).size }
+        requires follows { Precedes self.old (record_value value.now) }
+        ensures writes { Writes (Appends self.old (record_value value.now)) (IsAppended self.old (record_value value.now))
+            (ending blames result) (D.view disk.old) (D.view disk.new) }
         ensures journal { OnOk result (self.new ≡ with_record (record_value value.now) self.old) }
         ensures unchanged { OnErr result (self.new ≡ self.old) }
-        ensures fault { IfErr result IsWriteFault }
+        ensures cause { IfErr result IsWriteFault }
     {
         self.write_record(alloc, disk, value)
     }

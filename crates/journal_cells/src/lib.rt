@@ -13,8 +13,7 @@ mod record;
 mod scanning;
 mod spelling;
 
-pub use fault::{CellFault, Why};
-pub use heads::FORMAT_GATE;
+pub use fault::CellFault;
 pub use journal::Journal;
 pub use opening::slots_of;
 pub use scanning::scan;

@@ -1,69 +1,67 @@
 //! The format cell and the selectors, read from a disk.
 ghost use Rattle.std.specs.Prelude.{◌≡◌, ◌≤◌, ◌+◌, ℕ, IfOk, IfErr, Ok, Err};
 ghost use Rattle.base_model.specs.Bytes.{range};
-ghost use Rattle.base_model.specs.Fault.{Rose};
-ghost use Rattle.base_model.specs.Shown.{Shown, OnlyReads};
 ghost use Rattle.disk_format.specs.Cells.{SelectorValue, IsSelector, format_cell};
-ghost use Rattle.disk_format.specs.Layout.{IsSlotCount, least_size, selector_at};
+ghost use Rattle.disk_format.specs.Layout.{IsSlotCount};
+ghost use Rattle.dd_disk.specs.Ending.{ending, Reads, UnlessFailed};
+ghost use Rattle.dd_disk.specs.Shows.{Shows};
+ghost use Rattle.store_model.specs.Journal.{HoldsSelector, IsOlder};
 ghost use Rattle.journal_cells.specs.declared.fault.CellFault.TheVariants.{DiskRead};
-ghost use Rattle.journal_cells.specs.Faults.{Differs, Gives, IsCellFault};
-ghost use Rattle.journal_cells.specs.Heads.{format_in as format_read, selectors_in as selectors_read};
-ghost use Rattle.store_model.specs.Journal.{IsOlder};
-ghost use Rattle.store_model.specs.Journal.{HoldsSelector};
+ghost use Rattle.journal_cells.specs.Faults.{blames, fails, IsFormatBreak, IsSelectorBreak, IsReadFault};
+ghost use Rattle.journal_cells.specs.Heads.{format_in as format_read, selector_of_image, AreSelectorCells};
 
-use crate::device::read_at;
+use crate::device::{CELL, read_at};
 use crate::fault::CellFault;
 use crate::heads::{Selector, format_in, selectors_in};
 use dd_disk::Disk;
+use disk_format::{CELL_BYTES, LEAST_SIZE, selector_at};
 
 /// The number of container slots, as the format cell says.
 ///
 /// It reads the first 512 bytes. `NotAStore`, `Damaged` and `Version` come by the first check that fails, in the order
-/// of docs/FORMAT.md, 'Cells'.
+/// of docs/FORMAT.md, 'Cells'. It takes no memory.
 pub fn slots_of<D: Disk>(disk: &mut D) -> Result<u32, CellFault>
-    requires { least_size ≤ (D.view disk.old).size }
-    ensures slots { IfOk result (λ slots. IsSlotCount slots) }
-    ensures shown { IfOk result (λ slots. Shows (D.view disk.old) (D.view disk.new) (λ image. range 0 512 image ≡ format_cell slots)) }
-    // What is spelled there is read, unless memory or the disk fails.
-    ensures only { Shows (D.view disk.old) (D.view disk.new) (λ image.
-        (slots : ℕ) → IsSlotCount slots → range 0 512 image ≡ format_cell slots → Gives (λ n. n ≡ slots) result) }
-    ensures reads { OnlyReads (D.view disk.old) (D.view disk.new) }
-    ensures fault { IfErr result (IsCellFault (λ fault. Shows (D.view disk.old) (D.view disk.new) (λ image. format_read (range 0 512 image) ≡ Err fault) × Differs fault)
-        (Rose (D.view disk.old).faults (D.view disk.new).faults)) }
+    requires { LEAST_SIZE ≤ (D.view disk.old).size }
+    ensures count { IfOk result IsSlotCount }
+    ensures shown { IfOk result (λ slots. Shows (D.view disk.old) (D.view disk.new) (λ image. range 0 CELL_BYTES image ≡ format_cell slots)) }
+    // What is spelled there is read, unless the disk fails.
+    ensures only { Shows (D.view disk.old) (D.view disk.new) (λ image. (slots : ℕ) → IsSlotCount slots
+        → range 0 CELL_BYTES image ≡ format_cell slots → UnlessFailed fails (λ n. n ≡ slots) result) }
+    ensures cause { IfErr result (IsReadFault IsFormatBreak (λ fault. Shows (D.view disk.old) (D.view disk.new) (λ image.
+        format_read (range 0 CELL_BYTES image) ≡ Err fault))) }
+    ensures reads { Reads (ending blames result) (D.view disk.old) (D.view disk.new) }
 {
-    let mut cell = [0u8; 512];
+    let mut cell = [0u8; CELL];
     read_at(disk, 0, &mut cell)?;
     format_in(&cell)
 }
 
 // The bytes of both selectors.
-fn read_both<D: Disk>(disk: &mut D) -> Result<([u8; 512], [u8; 512]), CellFault>
-    requires { least_size ≤ (D.view disk.old).size }
-    ensures shown { IfOk result (λ cells. Shows (D.view disk.old) (D.view disk.new) (λ image.
-        (range (selector_at 0) 512 image ≡ cells.0) × (range (selector_at 1) 512 image ≡ cells.1))) }
-    ensures reads { OnlyReads (D.view disk.old) (D.view disk.new) }
-    ensures fault { IfErr result (λ fault. (fault ≡ DiskRead) × Rose (D.view disk.old).faults (D.view disk.new).faults) }
+fn read_both<D: Disk>(disk: &mut D) -> Result<([u8; CELL], [u8; CELL]), CellFault>
+    requires { LEAST_SIZE ≤ (D.view disk.old).size }
+    ensures shown { IfOk result (λ cells. Shows (D.view disk.old) (D.view disk.new) (AreSelectorCells cells.0 cells.1)) }
+    ensures reads { Reads (ending blames result) (D.view disk.old) (D.view disk.new) }
+    ensures cause { IfErr result (λ fault. fault ≡ DiskRead) }
 {
-    let mut first = [0u8; 512];
-    let mut second = [0u8; 512];
-    read_at(disk, 512, &mut first)?;
-    read_at(disk, 1_024, &mut second)?;
+    let mut first = [0u8; CELL];
+    let mut second = [0u8; CELL];
+    read_at(disk, selector_at(0), &mut first)?;
+    read_at(disk, selector_at(1), &mut second)?;
     Ok((first, second))
 }
 
-/// The selector of the half that counts.
+/// The selector of the half that counts. It takes no memory.
 pub(crate) fn read_selectors<D: Disk>(disk: &mut D) -> Result<Selector, CellFault>
-    requires { least_size ≤ (D.view disk.old).size }
+    requires { LEAST_SIZE ≤ (D.view disk.old).size }
     ensures right { IfOk result IsSelector }
     ensures shown { IfOk result (λ s. Shows (D.view disk.old) (D.view disk.new) (λ image. HoldsSelector image s × IsOlder image s)) }
-    ensures only { Shows (D.view disk.old) (D.view disk.new) (λ image.
-        (s : SelectorValue) → HoldsSelector image s → IsOlder image s → Gives (λ t. t ≡ s) result) }
-    ensures read { IfOk result (λ s. Shows (D.view disk.old) (D.view disk.new) (λ image.
-        selectors_read (range (selector_at 0) 512 image) (range (selector_at 1) 512 image) ≡ Ok s)) }
-    ensures reads { OnlyReads (D.view disk.old) (D.view disk.new) }
-    ensures fault { IfErr result (IsCellFault (λ fault. Shows (D.view disk.old) (D.view disk.new) (λ image.
-        selectors_read (range (selector_at 0) 512 image) (range (selector_at 1) 512 image) ≡ Err fault) × Differs fault)
-        (Rose (D.view disk.old).faults (D.view disk.new).faults)) }
+    // What stands there is read, unless the disk fails.
+    ensures only { Shows (D.view disk.old) (D.view disk.new) (λ image. (s : SelectorValue) → HoldsSelector image s
+        → IsOlder image s → UnlessFailed fails (λ t. t ≡ s) result) }
+    ensures read { IfOk result (λ s. Shows (D.view disk.old) (D.view disk.new) (λ image. selector_of_image image ≡ Ok s)) }
+    ensures cause { IfErr result (IsReadFault IsSelectorBreak (λ fault. Shows (D.view disk.old) (D.view disk.new) (λ image.
+        selector_of_image image ≡ Err fault))) }
+    ensures reads { Reads (ending blames result) (D.view disk.old) (D.view disk.new) }
 {
     let (first, second) = read_both(disk)?;
     selectors_in(&first, &second)

@@ -1,33 +1,28 @@
 //! The journal, read from a disk.
 ghost use Rattle.std.specs.Prelude.{◌≡◌, ◌<◌, ◌≤◌, List, option_map, IfOk, IfErr, OnOk, Err};
-ghost use Rattle.base_model.specs.Fault.{Rose};
-ghost use Rattle.base_model.specs.Shown.{Shown, OnlyReads};
 ghost use Rattle.disk_format.specs.Cells.{RecordValue, SelectorValue, IsSelector};
-ghost use Rattle.disk_format.specs.Layout.{least_size, half_cells};
+ghost use Rattle.dd_disk.specs.Ending.{ending, Reads, UnlessFailed};
+ghost use Rattle.dd_disk.specs.Shows.{Shows};
 ghost use Rattle.namespace.specs.Names.{IsTaken, record_value};
-ghost use Rattle.journal_cells.specs.Faults.{Differs, Gives, IsCellFault};
-ghost use Rattle.journal_cells.specs.Records.{nothing_yet, behind_record, replayed};
-ghost use Rattle.journal_cells.specs.Journal.{IsScanned, IsTold, journal_in};
 ghost use Rattle.store_model.specs.Journal.{HoldsJournal};
-ghost use Rattle.store_model.specs.Journal.{HoldsRecords};
-ghost use Rattle.journal_cells.specs.Scanning.{replay, opened, IsNext, IsNextFault, IsWhole};
+ghost use Rattle.journal_cells.specs.Faults.{blames, fails, IsRecordBreak, IsJournalBreak, IsCellFault};
+ghost use Rattle.journal_cells.specs.Records.{nothing_yet, after_record, replayed};
+ghost use Rattle.journal_cells.specs.Journal.{IsScanned, IsTold, journal_in};
+ghost use Rattle.journal_cells.specs.Scanning.{replay, opened, IsNext, HasNextFault, IsWhole};
 
-use crate::device::read_at;
+use crate::device::{CELL, read_at};
 use crate::fault::CellFault;
 use crate::heads::Selector;
-use crate::journal::{Journal, cell_place};
+use crate::journal::Journal;
 use crate::opening::read_selectors;
 use crate::record::record_in;
-use crate::spelling::RECORD_GATE;
 use dd_disk::Disk;
+use disk_format::{HALF_CELLS, LEAST_SIZE, RECORD_GATE, cell_at};
 use namespace::{Names, Record};
 use std::alloc::Global;
 
-/// The records that a half has room for.
-const HALF_CELLS: u32 = 1_024;
-
 /// What the records that were read leave.
-#[derive(Debug, Drop)]
+#[derive(Drop)]
 struct Replayed {
     count: u32,
     /// The sequence number of the last of them, 0 where there is none.
@@ -48,9 +43,9 @@ impl Replayed {
 
     // Takes one more record, which the names have to take.
     fn add(&mut self, value: &Record) -> Result<(), CellFault>
-        requires room { self.old.count < half_cells }
+        requires room { self.old.count < HALF_CELLS }
         requires taken { IsTaken self.old.names (record_value value.now) }
-        ensures ok { OnOk result (replay self.new ≡ behind_record (replay self.old) (record_value value.now)) }
+        ensures ok { OnOk result (replay self.new ≡ after_record (replay self.old) (record_value value.now)) }
         ensures fault { IfErr result (λ fault. fault ≡ CellFault.Memory) }
     {
         match self.names.apply(value) {
@@ -64,7 +59,7 @@ impl Replayed {
     }
 }
 
-// The record behind those that were read, where the next cell is open.
+// The record after those that were read, where the next cell is open.
 fn read_next<D: Disk>(
     alloc: Global,
     disk: &mut D,
@@ -72,15 +67,16 @@ fn read_next<D: Disk>(
     before: &Replayed,
 ) -> Result<Option<Record>, CellFault>
     requires half { half ≤ 1 }
-    requires room { before.now.count < half_cells }
-    requires size { least_size ≤ (D.view disk.old).size }
-    ensures next { IfOk result (λ next. IsNext (Shows (D.view disk.old) (D.view disk.new)) half (replay before.now) (option_map record_value next)) }
-    ensures reads { OnlyReads (D.view disk.old) (D.view disk.new) }
-    ensures fault { IfErr result (IsCellFault (λ fault. IsNextFault (Shows (D.view disk.old) (D.view disk.new)) half (replay before.now) fault × Differs fault)
-        (Rose (D.view disk.old).faults (D.view disk.new).faults)) }
+    requires room { before.now.count < HALF_CELLS }
+    requires size { LEAST_SIZE ≤ (D.view disk.old).size }
+    ensures next { IfOk result (λ next.
+        IsNext (Shows (D.view disk.old) (D.view disk.new)) half (replay before.now) (option_map record_value next)) }
+    ensures cause { IfErr result (IsCellFault (IsRecordBreak half) (λ fault.
+        Shows (D.view disk.old) (D.view disk.new) (HasNextFault half (replay before.now) fault))) }
+    ensures reads { Reads (ending blames result) (D.view disk.old) (D.view disk.new) }
 {
-    let mut cell = [0u8; 512];
-    let at = cell_place(half, before.count);
+    let mut cell = [0u8; CELL];
+    let at = cell_at(half, before.count);
     read_at(disk, at, &mut cell)?;
     if cell[0] != RECORD_GATE {
         return Ok(None);
@@ -92,11 +88,11 @@ fn read_next<D: Disk>(
 // What the records of a half leave.
 fn read_half<D: Disk>(alloc: Global, disk: &mut D, half: u8) -> Result<Replayed, CellFault>
     requires half { half ≤ 1 }
-    requires size { least_size ≤ (D.view disk.old).size }
+    requires size { LEAST_SIZE ≤ (D.view disk.old).size }
     ensures whole { IfOk result (λ read. IsWhole (Shows (D.view disk.old) (D.view disk.new)) half (replay read)) }
-    ensures reads { OnlyReads (D.view disk.old) (D.view disk.new) }
-    ensures fault { IfErr result (IsCellFault (λ fault. Shows (D.view disk.old) (D.view disk.new) (λ image. replayed half half_cells nothing_yet image ≡ Err fault) × Differs fault)
-        (Rose (D.view disk.old).faults (D.view disk.new).faults)) }
+    ensures cause { IfErr result (IsCellFault (IsRecordBreak half) (λ fault. Shows (D.view disk.old) (D.view disk.new) (λ image.
+        replayed half HALF_CELLS nothing_yet image ≡ Err fault))) }
+    ensures reads { Reads (ending blames result) (D.view disk.old) (D.view disk.new) }
 {
     let mut before = Replayed::new(alloc);
     for _ in 0..HALF_CELLS {
@@ -111,7 +107,7 @@ fn read_half<D: Disk>(alloc: Global, disk: &mut D, half: u8) -> Result<Replayed,
 // The journal of a selector and of what the records of its half leave.
 fn journal_of(selector: &Selector, left: &Replayed) -> Journal
     requires right { IsSelector selector.now }
-    requires few { left.now.count ≤ half_cells }
+    requires few { left.now.count ≤ HALF_CELLS }
     ensures { result ≡ opened selector.now (replay left.now) }
 {
     Journal {
@@ -128,14 +124,14 @@ fn journal_of(selector: &Selector, left: &Replayed) -> Journal
 /// It reads the selectors, and then the cells of the half that counts, up to the first closed gate. `Damaged` and
 /// `Version` come by the first check that fails, in the order of docs/FORMAT.md, 'Cells', the earlier cell first.
 pub fn scan<D: Disk>(alloc: Global, disk: &mut D) -> Result<(Journal, Names, u64), CellFault>
-    requires { least_size ≤ (D.view disk.old).size }
+    requires { LEAST_SIZE ≤ (D.view disk.old).size }
     ensures found { IfOk result (λ read. IsScanned (Shows (D.view disk.old) (D.view disk.new)) read.0 read.1 read.2) }
     // A journal that stands there is read, unless memory or the disk fails.
-    ensures only { Shows (D.view disk.old) (D.view disk.new) (λ image. (s : SelectorValue) (records : List RecordValue) → HoldsJournal image s records
-        → Gives (λ read. IsTold s records read.0 read.1 read.2) result) }
-    ensures reads { OnlyReads (D.view disk.old) (D.view disk.new) }
-    ensures fault { IfErr result (IsCellFault (λ fault. Shows (D.view disk.old) (D.view disk.new) (λ image. journal_in image ≡ Err fault) × Differs fault)
-        (Rose (D.view disk.old).faults (D.view disk.new).faults)) }
+    ensures only { Shows (D.view disk.old) (D.view disk.new) (λ image. (s : SelectorValue) (records : List RecordValue)
+        → HoldsJournal image s records → UnlessFailed fails (λ read. IsTold s records read.0 read.1 read.2) result) }
+    ensures cause { IfErr result (IsCellFault IsJournalBreak (λ fault. Shows (D.view disk.old) (D.view disk.new) (λ image.
+        journal_in image ≡ Err fault))) }
+    ensures reads { Reads (ending blames result) (D.view disk.old) (D.view disk.new) }
 {
     let selector = read_selectors(disk)?;
     let left = read_half(alloc, disk, selector.half)?;

@@ -1,31 +1,26 @@
-use Rattle.std.proofs.Common.{◌≡◌, ◌∙◌, ℕ, List, sym, ap, refl}
-use Rattle.base_model.specs.Bytes.{range}
+use Rattle.std.proofs.Common.{◌≡◌, ◌∙◌, ℕ, List, sym, ap}
 use Rattle.disk_format.specs.Cells.{SelectorValue}
 use Rattle.disk_format.specs.Layout.{selector_at}
-use Rattle.dd_disk.proofs.Disks.{always, weaker}
-use Rattle.journal_cells.specs.Heads.{selectors_in as selectors_read}
-use Rattle.journal_cells.proofs.Outcomes.{broken, is_given, if_found, mapped, read_failed}
+use Rattle.base_model.specs.Bytes.{range}
+use Rattle.dd_disk.proofs.Shows.{always, weaker}
+use Rattle.journal_cells.specs.Faults.{IsSelectorBreak}
+use Rattle.journal_cells.specs.Heads.{selectors_in as selectors_read, selector_of_image, AreSelectorCells}
+use Rattle.journal_cells.proofs.Breaks.{selectors_break, selector_of_bytes}
+use Rattle.journal_cells.proofs.Outcomes.{cause_found, reads_found, read_failed}
 use Rattle.journal_cells.proofs.opening.read_selectors.Goals as goal
 
 pub returns-in_err-first-clause-only : goal.returns-in_err-first-clause-only
 returns-in_err-first-clause-only g c =
-    always g.D.Disk _ _ _ (λ image sized s held older. read_failed (λ (t : SelectorValue). t ≡ s) c.from_residual.result c.in_err-first.field-0.0 c.from_residual.ensures.1 c.in_err-first.ensures.fault.0)
+    always _ _ _ (λ image sized s held older. read_failed (λ (t : SelectorValue). t ≡ s) c.from_residual.result c.in_err-first.field-0.0 c.from_residual.ensures.1 c.in_err-first.ensures.cause)
 
-pub returns-clause-shown : goal.returns-clause-shown
-returns-clause-shown g c =
-    mapped c.selectors_in.result _ _ (λ s found. weaker g.D.Disk _ _ (λ image sized read. found image read.0 read.1) c.in_ok-first.ensures.shown) c.selectors_in.ensures.found
+both_read : (image first second : List ℕ) → AreSelectorCells first second image → selector_of_image image ≡ selectors_read first second
+both_read image first second cells = ap (λ l. selectors_read l (range (selector_at 1) 512 image)) cells.0 ∙ ap (selectors_read first) cells.1
 
-pub returns-clause-only : goal.returns-clause-only
-returns-clause-only g c =
-    weaker g.D.Disk _ _ (λ image sized read s held older. is_given (λ (t : SelectorValue). t ≡ s) c.selectors_in.result s (c.selectors_in.ensures.only image s read.0 read.1 held older) refl) c.in_ok-first.ensures.shown
+pub returns-clause-cause : goal.returns-clause-cause
+returns-clause-cause g c =
+    cause_found IsSelectorBreak selector_of_bytes _ c.selectors_in.result (λ f is. selectors_break c.in_ok-first.first c.in_ok-first.second f (sym c.selectors_in.ensures.read ∙ is))
+    (λ f is. weaker _ _ (λ image sized read. both_read image c.in_ok-first.first c.in_ok-first.second read ∙ sym c.selectors_in.ensures.read ∙ is) c.in_ok-first.ensures.shown)
 
-both_read : (image first second : List ℕ) → range (selector_at 0) 512 image ≡ first → range (selector_at 1) 512 image ≡ second → selectors_read (range (selector_at 0) 512 image) (range (selector_at 1) 512 image) ≡ selectors_read first second
-both_read image first second one other = ap (λ l. selectors_read l (range (selector_at 1) 512 image)) one ∙ ap (selectors_read first) other
-
-pub returns-clause-read : goal.returns-clause-read
-returns-clause-read g c =
-    if_found c.selectors_in.result _ (λ s is. weaker g.D.Disk _ _ (λ image sized read. both_read image c.in_ok-first.first c.in_ok-first.second read.0 read.1 ∙ sym c.selectors_in.ensures.read ∙ is) c.in_ok-first.ensures.shown)
-
-pub returns-clause-fault : goal.returns-clause-fault
-returns-clause-fault g c =
-    broken c.selectors_in.result _ _ c.selectors_in.ensures.breaks (λ f is. weaker g.D.Disk _ _ (λ image sized read. both_read image c.in_ok-first.first c.in_ok-first.second read.0 read.1 ∙ sym c.selectors_in.ensures.read ∙ is) c.in_ok-first.ensures.shown)
+pub returns-clause-reads : goal.returns-clause-reads
+returns-clause-reads g c =
+    reads_found IsSelectorBreak selector_of_bytes c.selectors_in.result _ _ c.in_ok-first.ensures.reads (λ f is. selectors_break c.in_ok-first.first c.in_ok-first.second f (sym c.selectors_in.ensures.read ∙ is))

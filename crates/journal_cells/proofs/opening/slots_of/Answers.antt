@@ -1,17 +1,20 @@
-use Rattle.std.proofs.Common.{◌≡◌, ◌∙◌, ℕ, sym, ap, refl}
-use Rattle.dd_disk.proofs.Disks.{always, weaker}
+use Rattle.std.proofs.Common.{◌≡◌, ◌∙◌, ℕ, sym, ap}
+use Rattle.dd_disk.proofs.Shows.{always, weaker}
+use Rattle.journal_cells.specs.Faults.{IsFormatBreak}
 use Rattle.journal_cells.specs.Heads.{format_in as format_read}
-use Rattle.journal_cells.proofs.Outcomes.{broken, is_given, read_failed}
+use Rattle.journal_cells.proofs.Breaks.{format_break, format_of_bytes}
+use Rattle.journal_cells.proofs.Outcomes.{cause_found, reads_found, read_failed}
 use Rattle.journal_cells.proofs.opening.slots_of.Goals as goal
 
 pub returns-in_err-read_at-clause-only : goal.returns-in_err-read_at-clause-only
 returns-in_err-read_at-clause-only g c =
-    always g.D.Disk _ _ _ (λ image sized slots count spelled. read_failed (λ (n : ℕ). n ≡ slots) c.from_residual.result c.in_err-read_at.field-0.0 c.from_residual.ensures.1 c.in_err-read_at.ensures.fault.0)
+    always _ _ _ (λ image sized slots count spelled. read_failed (λ (n : ℕ). n ≡ slots) c.from_residual.result c.in_err-read_at.field-0.0 c.from_residual.ensures.1 c.in_err-read_at.ensures.cause)
 
-pub returns-clause-only : goal.returns-clause-only
-returns-clause-only g c =
-    weaker g.D.Disk _ _ (λ image sized read slots count spelled. is_given (λ (n : ℕ). n ≡ slots) c.format_in.result slots (c.format_in.ensures.only slots count (sym read ∙ spelled)) refl) c.in_ok-read_at.ensures.shown
+pub returns-clause-cause : goal.returns-clause-cause
+returns-clause-cause g c =
+    cause_found IsFormatBreak format_of_bytes _ c.format_in.result (λ f is. format_break c.read_at.new.into f (sym c.format_in.ensures.read ∙ is))
+    (λ f is. weaker _ _ (λ image sized read. ap format_read read ∙ sym c.format_in.ensures.read ∙ is) c.in_ok-read_at.ensures.shown)
 
-pub returns-clause-fault : goal.returns-clause-fault
-returns-clause-fault g c =
-    broken c.format_in.result _ _ c.format_in.ensures.breaks (λ f is. weaker g.D.Disk _ _ (λ image sized read. ap format_read read ∙ sym c.format_in.ensures.read ∙ is) c.in_ok-read_at.ensures.shown)
+pub returns-clause-reads : goal.returns-clause-reads
+returns-clause-reads g c =
+    reads_found IsFormatBreak format_of_bytes c.format_in.result _ _ c.in_ok-read_at.ensures.reads (λ f is. format_break c.read_at.new.into f (sym c.format_in.ensures.read ∙ is))

@@ -10,7 +10,7 @@ use Rattle.reply_text.specs.declared.ending.Ending.{Ending}
 use Rattle.reply_text.specs.declared.ending.Ending.TheVariants.{Words, Source, Sink, Refused}
 use Rattle.store_model.specs.Files.{Files, with_file}
 use Rattle.store_model.specs.Image.{Store, Encodes, IsStoreOf, StandsFor, StandsForFiles, last_sequence}
-use Rattle.store_model.specs.Commands.{HoldsOpen, IsApart, with_segment, with_file_put}
+use Rattle.store_model.specs.Commands.{HoldsOpenableStore, HasNoCollisionsWith, with_segment, with_file_put}
 use Rattle.store_model.specs.Refusals.{IsPutRefusal}
 use Rattle.store_model.proofs.Placed.{last_same}
 use Rattle.store_model.proofs.Put.{last_put}
@@ -35,7 +35,7 @@ part_stands name bytes image store files (inr (inr holds)) = inr (stands_so imag
 
 -- what a device that fails in mid-put leaves
 pub left_by_put : (name bytes old new : List ℕ) (left : Option (List ℕ)) (o : OpenStore) → IsOpen old → TakesIn left bytes → ((store : Store) → Encodes old store → Represents store o)
-    → (IsApart old bytes → (store : Store) (files : Files) → Represents store o → IsStoreOf old store files → HoldsPart name bytes store files new) → IsLeftByIngest name left old new
+    → (HasNoCollisionsWith old bytes → (store : Store) (files : Files) → Represents store o → IsStoreOf old store files → HoldsPart name bytes store files new) → IsLeftByIngest name left old new
 left_by_put name bytes old new left o opened taken keeps part = inr (opened, (bytes, taken, λ apart store files holds. part apart store files (keeps store holds.right) holds))
 
 -- what a put that is refused leaves
@@ -62,12 +62,12 @@ module _ {D : Type 0} (disk : Ghosts D) (old mid new : D) where
   -- what a crash leaves, at any moment
   pub crash_by_put : (name bytes image : List ℕ) (left : Option (List ℕ)) (files : Files) (o : OpenStore) → TakesIn left bytes → StandsForFiles image files
       → Reads disk old mid → ((store : Store) → Encodes image store → Represents store o)
-      → ((store : Store) (fs : Files) → Represents store o → IsStoreOf image store fs → LeavesOnly disk.images disk.clock disk.images_since (λ c. IsApart image bytes → HoldsPart name bytes store fs c) mid new)
+      → ((store : Store) (fs : Files) → Represents store o → IsStoreOf image store fs → LeavesOnly disk.images disk.clock disk.images_since (λ c. HasNoCollisionsWith image bytes → HoldsPart name bytes store fs c) mid new)
       → LeavesOnly disk.images disk.clock disk.images_since (λ c. disk.images old c ⊎ MayStandFor name left image files c) old new
   crash_by_put name bytes image left files o taken stands reads keeps leaves =
       let store = stands.1.store in
       let holds = stands.1.holds in
-      let Part : List ℕ → Type 0 = λ c. IsApart image bytes → HoldsPart name bytes store files c in
+      let Part : List ℕ → Type 0 = λ c. HasNoCollisionsWith image bytes → HoldsPart name bytes store files c in
       let May : List ℕ → Type 0 = λ c. disk.images old c ⊎ MayStandFor name left image files c in
       leaves_on disk (disk.images old) May old mid new (λ c is. inl is)
       (leaves_reads disk (disk.images old) old mid (λ c is. is) reads)
@@ -92,7 +92,7 @@ no_put name bytes store (inr wrong) = wrong.1
 -- a put that is refused
 pub refused_by_put : (shown : (List ℕ → Type 0) → Type 0) (size size_mid : ℕ) (failed since : Type 0) (left left_now : Option (List ℕ)) (name bytes : List ℕ) (o : OpenStore) (store : Store) (refusal : Refusal) → TakesIn left bytes → (failed → since)
     → ((r : Refusal) → IsUnput size_mid o name bytes r → IsPutRefusal name bytes store r)
-    → ((r : Refusal) → IsPutRefusal name bytes store r → shown (HoldsOpen (λ s. IsPutRefusal name bytes s r)))
+    → ((r : Refusal) → IsPutRefusal name bytes store r → shown (HoldsOpenableStore (λ s. IsPutRefusal name bytes s r)))
     → IsStepFault failed (IsUnput size_mid o name bytes) refusal → IsRefused shown size since left left_now (Ingest name) refusal
 refused_by_put shown size size_mid failed since left left_now name bytes o store Memory taken rose found holds fault = tt
 refused_by_put shown size size_mid failed since left left_now name bytes o store DiskWrite taken rose found holds fault = inr (rose fault)

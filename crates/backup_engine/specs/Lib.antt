@@ -1,5 +1,5 @@
 pub mod Clauses
-pub mod Doing
+pub mod Effects
 pub mod Line
 pub mod LineValue
 pub mod Storing

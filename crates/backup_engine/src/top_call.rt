@@ -1,18 +1,11 @@
 //! The top call.
-ghost use Rattle.std.specs.Prelude.{◌≡◌, ◌≢◌, ◌⊎◌, ◌<◌, ◌-◌, ◌^◌, false, List, ℕ, length, map, string_bytes, OnOk, IfOk, IfErr};
-ghost use Rattle.base_model.specs.Fault.{Rose};
-ghost use Rattle.base_model.specs.Known.{Known, KnownWith};
-ghost use Rattle.base_model.specs.Shown.{Shown, IsLater};
-ghost use Rattle.dd_disk.specs.Disk.{Only, LeavesOnly};
-ghost use Rattle.store_model.specs.Files.{Files};
-ghost use Rattle.store_model.specs.Image.{StandsForFiles};
-ghost use Rattle.refusals.specs.declared.refusal.Refusal.TheVariants.{DiskWrite};
-ghost use Rattle.reply_text.specs.declared.ending.Ending.TheVariants.{Refused};
+ghost use Rattle.std.specs.Prelude.{◌≡◌, map, string_bytes, IfOk, IfErr};
+ghost use Rattle.dd_disk.specs.View.{IsLater};
 ghost use Rattle.reply_text.specs.Table.{status_of as table_status};
-ghost use Rattle.backup_engine.specs.Doing.{IsRightLine, IsDone, IsLeftBy, IsKeptBy, KeepsDisk, KeepsSource, KeepsFiles, CrashesTo, IsSynced, IsHarmless, size_made};
+ghost use Rattle.backup_engine.specs.Clauses.{IsNoted};
+ghost use Rattle.backup_engine.specs.Effects.{IsRightLine, KeepsSource, Did, GaveUp, Leaves, size_made};
 ghost use Rattle.backup_engine.specs.Line.{line_of};
 ghost use Rattle.backup_engine.specs.LineValue.{line_value};
-ghost use Rattle.backup_engine.specs.Clauses.{IsGivenUp, IsNoted, may_write};
 ghost use Rattle.backup_engine.specs.TopCall.{Promise, SurvivesCrash};
 
 use crate::format::format;
@@ -21,6 +14,7 @@ use crate::restore::restore;
 use crate::words::{Line, read_words};
 use dd_disk::Disk;
 use dd_io::{Sink, Source};
+use disk_format::size_of;
 use reply_text::{Ending, status_of, write_fault};
 use std::alloc::{AllocError, Global};
 
@@ -38,12 +32,9 @@ pub fn backup<R, D: Disk + Send, S: Source, K: Sink, Q: Sink>(
     sink: &mut K,
     notes: &mut Q,
 ) -> u8
-    ensures promise { Promise (line_of (map string_bytes words.now)) result
-        (Shows (D.view disk.old) (D.view disk.new)) (D.view disk.old).size (D.view disk.old).content (D.view disk.new).content (IsDurable (D.view disk.new)) (Rose (D.view disk.old).faults (D.view disk.new).faults)
-        (S.left source.old) (S.left source.new) (Rose (S.faults source.old) (S.faults source.new)) (K.written sink.old) (K.written sink.new) (Rose (K.faults sink.old) (K.faults sink.new))
-        (Q.written notes.old) (Q.written notes.new) (Rose (Q.faults notes.old) (Q.faults notes.new)) }
-    ensures crash { SurvivesCrash (line_of (map string_bytes words.now)) result (S.left source.old) (D.view disk.old).content (D.view disk.old).images (D.view disk.new).images
-        (λ c. (D.view disk.new).images c ⊎ (((D.view disk.old).clock < 2 ^ 64 - 1) × (D.view disk.new).images_since (D.view disk.old).clock c)) }
+    ensures promise { Promise (line_of (map string_bytes words.now)) result (D.view disk.old) (D.view disk.new)
+        (S.view source.old) (S.view source.new) (K.view sink.old) (K.view sink.new) (Q.view notes.old) (Q.view notes.new) }
+    ensures crash { SurvivesCrash (line_of (map string_bytes words.now)) result (S.view source.old).left (D.view disk.old) (D.view disk.new) }
     ensures later { IsLater (D.view disk.old) (D.view disk.new) }
 {
     backup_alone(rt, alloc, words, disk, source, sink, notes)
@@ -59,12 +50,9 @@ pub fn backup_alone<R, D: Disk + Send, S: Source, K: Sink, Q: Sink>(
     sink: &mut K,
     notes: &mut Q,
 ) -> u8
-    ensures promise { Promise (line_of (map string_bytes words.now)) result
-        (Shows (D.view disk.old) (D.view disk.new)) (D.view disk.old).size (D.view disk.old).content (D.view disk.new).content (IsDurable (D.view disk.new)) (Rose (D.view disk.old).faults (D.view disk.new).faults)
-        (S.left source.old) (S.left source.new) (Rose (S.faults source.old) (S.faults source.new)) (K.written sink.old) (K.written sink.new) (Rose (K.faults sink.old) (K.faults sink.new))
-        (Q.written notes.old) (Q.written notes.new) (Rose (Q.faults notes.old) (Q.faults notes.new)) }
-    ensures crash { SurvivesCrash (line_of (map string_bytes words.now)) result (S.left source.old) (D.view disk.old).content (D.view disk.old).images (D.view disk.new).images
-        (λ c. (D.view disk.new).images c ⊎ (((D.view disk.old).clock < 2 ^ 64 - 1) × (D.view disk.new).images_since (D.view disk.old).clock c)) }
+    ensures promise { Promise (line_of (map string_bytes words.now)) result (D.view disk.old) (D.view disk.new)
+        (S.view source.old) (S.view source.new) (K.view sink.old) (K.view sink.new) (Q.view notes.old) (Q.view notes.new) }
+    ensures crash { SurvivesCrash (line_of (map string_bytes words.now)) result (S.view source.old).left (D.view disk.old) (D.view disk.new) }
     ensures later { IsLater (D.view disk.old) (D.view disk.new) }
 {
     let Some(line) = read_words(words) else {
@@ -84,7 +72,7 @@ pub fn size_of_format(_alloc: Global, words: &[String]) -> Result<Option<u64>, A
     ensures { IfOk result (λ size. size ≡ size_made (line_of (map string_bytes words.now))) }
 {
     match read_words(words) {
-        Some(Line::Format(slots)) => Ok(Some(1_050_112 + 393_216 * u64::from(slots))),
+        Some(Line::Format(slots)) => Ok(Some(size_of(slots))),
         _ => Ok(None),
     }
 }
@@ -97,50 +85,10 @@ fn run_line<D: Disk, S: Source>(
     source: &mut S,
 ) -> Result<Vec<u8>, Ending>
     requires { IsRightLine line.now }
-    ensures done { IfOk result (λ reply. IsDone (Shows (D.view disk.old) (D.view disk.new)) (D.view disk.old).size (S.left source.old)
-        (D.view disk.old).content (D.view disk.new).content (line_value line.now) reply.items) }
-    ensures synced { OnOk result (IsSynced (line_value line.now) (IsDurable (D.view disk.new))) }
-    ensures left { Known (D.view disk.old).content (λ old. KnownWith (D.view disk.new).content (IsLeftBy (line_value line.now) (S.left source.old) old)) }
-    ensures refused { IfErr result (λ ending. ending ≢ Refused DiskWrite → Known (D.view disk.old).content (λ old. KnownWith (D.view disk.new).content (IsKeptBy (line_value line.now) (S.left source.old) old))) }
-    ensures untouched { IfErr result (λ ending. may_write (line_value line.now) ending ≡ false → (D.view disk.new).content ≡ (D.view disk.old).content) }
-    ensures kept { KeepsDisk (line_value line.now) (D.view disk.old).content (D.view disk.new).content }
-    ensures source { KeepsSource (line_value line.now) (S.left source.old) (S.left source.new) }
-    // What a crash leaves that comes at the end or at a moment since the start.
-    ensures crash { Known (D.view disk.old).content (λ old. CrashesTo (line_value line.now) (S.left source.old) old (D.view disk.old).images
-        (λ P. (c : List ℕ) → (D.view disk.new).images c ⊎ (((D.view disk.old).clock < 2 ^ 64 - 1) × (D.view disk.new).images_since (D.view disk.old).clock c) → P c)) }
-    ensures files { IfErr result (λ ending. ending ≢ Refused DiskWrite → Known (D.view disk.old).content (λ _. KeepsFiles (line_value line.now) (D.view disk.old).images (D.view disk.new).images)) }
-    ensures given_up { IfErr result (IsGivenUp (Shows (D.view disk.old) (D.view disk.new)) (D.view disk.old).size (Rose (D.view disk.old).faults (D.view disk.new).faults)
-        (Rose (S.faults source.old) (S.faults source.new)) (S.left source.old) (S.left source.new) (line_value line.now)) }
-    ensures harmless { Known (D.view disk.old).content (λ old. (files : Files) → StandsForFiles old files → IfErr result IsHarmless) }
-    ensures sized { Known (D.view disk.old).content (λ old. length old ≡ (D.view disk.old).size) }
-    ensures later { IsLater (D.view disk.old) (D.view disk.new) }
-{
-    do_line(alloc, line, disk, source)
-}
-
-// `run_line`, with what a crash leaves by one call after another.
-fn do_line<D: Disk, S: Source>(
-    alloc: Global,
-    line: &Line<'_>,
-    disk: &mut D,
-    source: &mut S,
-) -> Result<Vec<u8>, Ending>
-    requires { IsRightLine line.now }
-    ensures done { IfOk result (λ reply. IsDone (Shows (D.view disk.old) (D.view disk.new)) (D.view disk.old).size (S.left source.old)
-        (D.view disk.old).content (D.view disk.new).content (line_value line.now) reply.items) }
-    ensures synced { OnOk result (IsSynced (line_value line.now) (IsDurable (D.view disk.new))) }
-    ensures left { Known (D.view disk.old).content (λ old. KnownWith (D.view disk.new).content (IsLeftBy (line_value line.now) (S.left source.old) old)) }
-    ensures refused { IfErr result (λ ending. ending ≢ Refused DiskWrite → Known (D.view disk.old).content (λ old. KnownWith (D.view disk.new).content (IsKeptBy (line_value line.now) (S.left source.old) old))) }
-    ensures untouched { IfErr result (λ ending. may_write (line_value line.now) ending ≡ false → (D.view disk.new).content ≡ (D.view disk.old).content) }
-    ensures kept { KeepsDisk (line_value line.now) (D.view disk.old).content (D.view disk.new).content }
-    ensures source { KeepsSource (line_value line.now) (S.left source.old) (S.left source.new) }
-    ensures crash { Known (D.view disk.old).content (λ old. CrashesTo (line_value line.now) (S.left source.old) old (D.view disk.old).images (λ P. CrashLeaves P (D.view disk.old) (D.view disk.new))) }
-    ensures files { IfErr result (λ ending. ending ≢ Refused DiskWrite → Known (D.view disk.old).content (λ _. KeepsFiles (line_value line.now) (D.view disk.old).images (D.view disk.new).images)) }
-    ensures given_up { IfErr result (IsGivenUp (Shows (D.view disk.old) (D.view disk.new)) (D.view disk.old).size (Rose (D.view disk.old).faults (D.view disk.new).faults)
-        (Rose (S.faults source.old) (S.faults source.new)) (S.left source.old) (S.left source.new) (line_value line.now)) }
-    ensures harmless { Known (D.view disk.old).content (λ old. (files : Files) → StandsForFiles old files → IfErr result IsHarmless) }
-    ensures sized { Known (D.view disk.old).content (λ old. length old ≡ (D.view disk.old).size) }
-    ensures later { IsLater (D.view disk.old) (D.view disk.new) }
+    ensures did { IfOk result (λ reply. Did (line_value line.now) (S.view source.old).left (D.view disk.old) (D.view disk.new) reply.items) }
+    ensures gave_up { IfErr result (GaveUp (line_value line.now) (S.view source.old) (S.view source.new) (D.view disk.old) (D.view disk.new)) }
+    ensures leaves { Leaves (line_value line.now) (S.view source.old).left (D.view disk.old) (D.view disk.new) }
+    ensures source { KeepsSource (line_value line.now) (S.view source.old) (S.view source.new) }
 {
     match line {
         Line::Format(slots) => format(alloc, disk, *slots),
@@ -152,7 +100,7 @@ fn do_line<D: Disk, S: Source>(
 // Notes why a command was not done, and gives its status.
 fn give_up<Q: Sink>(notes: &mut Q, ending: &Ending) -> u8
     ensures status { result ≡ table_status ending.now }
-    ensures noted { IsNoted (Q.written notes.old) (Q.written notes.new) (Rose (Q.faults notes.old) (Q.faults notes.new)) ending.now }
+    ensures noted { IsNoted (Q.view notes.old) (Q.view notes.new) ending.now }
 {
     let _noted = write_fault(notes, ending);
     status_of(ending)

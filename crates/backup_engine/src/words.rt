@@ -1,12 +1,14 @@
 //! The words of a command line.
 ghost use Rattle.std.specs.Prelude.{◌≡◌, map, option_map, IfSome, IsTrue, string_bytes};
 ghost use Rattle.disk_format.specs.Layout.{IsSlotCount};
-ghost use Rattle.backup_engine.specs.Doing.{IsRightLine};
+ghost use Rattle.backup_engine.specs.Effects.{IsRightLine};
 ghost use Rattle.backup_engine.specs.Line.{line_of, command_of, argument_of, is_dashed, all_digits, begins_as_number, is_number, slots_of};
 ghost use Rattle.backup_engine.specs.LineValue.{line_value};
 
+use disk_format::is_slot_count;
+
 /// A line of the table of commands.
-#[derive(Clone, Copy, Debug, PartialEq, Eq)]
+#[derive(Clone, Copy)]
 pub(crate) enum Line<'a> {
     /// So many container slots, 4 to 65,536.
     Format(u32),
@@ -108,7 +110,7 @@ fn slot_count(word: &str) -> Option<u32>
     }
     match word.parse::<u32>() {
         Ok(slots) => {
-            if 4 <= slots && slots <= 65_536 {
+            if is_slot_count(slots) {
                 Some(slots)
             } else {
                 None

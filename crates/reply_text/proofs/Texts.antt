@@ -1,8 +1,7 @@
 -- The pieces of a line that carries something are that line. What is not here the check finds by itself.
-use Rattle.std.proofs.Common.{◌≡◌, ℕ, List, [], ◌∷◌, ◌++◌, append_assoc, codes, decimal, Result, OnOk, OnErr, Option, subst}
+use Rattle.std.proofs.Common.{◌≡◌, ℕ, List, [], ◌∷◌, ◌++◌, append_assoc, codes, decimal, Result, subst}
 use Rattle.hex.specs.Hex.{encode_lower}
-use Rattle.base_model.specs.Known.{Appended}
-use Rattle.dd_io.specs.Flow.{AppendedPart}
+use Rattle.dd_io.specs.Flow.{SinkView, Sends}
 use Rattle.refusals.specs.declared.refusal.Refusal.TheVariants.{Corrupt, Missing, NotAStore, Version, WrongSize}
 use Rattle.reply_text.specs.declared.ending.Ending.TheVariants.{Refused}
 use Rattle.reply_text.specs.Text.{fault_line, ending_text, refusal_text}
@@ -42,10 +41,6 @@ pub wrong_size_text : (want got : ℕ) (want_text got_text : List ℕ) → want_
 unfolding fault_line ending_text refusal_text
 wrong_size_text want got want_text got_text is_want is_got = rw (is_want, is_got) (simp append_assoc)
 
--- what was written whole, by another name
-pub ok_as : {T E : Type 0} (result : Result T E) (before now : Option (List ℕ)) (text same : List ℕ) → text ≡ same → OnOk result (Appended before now text) → OnOk result (Appended before now same)
-ok_as result before now text same is = subst (λ (t : List ℕ). OnOk result (Appended before now t)) is
-
--- what was written in part, by another name
-pub err_as : {T E : Type 0} (result : Result T E) (before now : Option (List ℕ)) (text same : List ℕ) → text ≡ same → OnErr result (AppendedPart before now text) → OnErr result (AppendedPart before now same)
-err_as result before now text same is = subst (λ (t : List ℕ). OnErr result (AppendedPart before now t)) is
+-- what was sent, by another name
+pub sends_as : {T E : Type 0} (result : Result T E) (old new : SinkView) (text same : List ℕ) → text ≡ same → Sends text result old new → Sends same result old new
+sends_as result old new text same is = subst (λ (t : List ℕ). Sends t result old new) is

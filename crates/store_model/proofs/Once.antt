@@ -147,8 +147,8 @@ none_filed held image None None none is = refl
 none_filed held image None (Some bytes) none is = absurd is
 none_filed held image (Some named) file none is = absurd (let wrong : Some named ≡ None = none in cc)
 
--- a name that has no root has no file in the map
+-- a name that is refused as one without a file has none in the map
 pub not_filed : (image name : List ℕ) (s t : Store) (files : Files) → Encodes image s → finite.get (names_of s) name ≡ None → IsStoreOf image t files → finite.get files name ≡ None
-not_filed image name s t files right refused holds =
+not_filed image name s t files right none holds =
     none_filed t.held image (finite.get (names_of t) name) (finite.get files name)
-    (ap (λ (x : Store). finite.get (names_of x) name) (store_once image t s holds.right right) ∙ refused) (holds.files_are name)
+    (ap (λ (x : Store). finite.get (names_of x) name) (store_once image t s holds.right right) ∙ none) (holds.files_are name)

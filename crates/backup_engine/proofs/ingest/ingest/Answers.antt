@@ -10,8 +10,8 @@ use Rattle.reply_text.specs.declared.ending.Ending.{Ending}
 use Rattle.reply_text.specs.declared.ending.Ending.TheVariants.{Refused}
 use Rattle.reply_text.specs.Text.{stored_line}
 use Rattle.store_model.specs.Files.{Files, root_of}
-use Rattle.store_model.specs.Image.{IsSound, StandsForFiles}
-use Rattle.store_model.specs.Commands.{HoldsOpen}
+use Rattle.store_model.specs.Image.{IsValidFor, StandsForFiles}
+use Rattle.store_model.specs.Commands.{HoldsOpenableStore}
 use Rattle.store_model.specs.Refusals.{IsPutRefusal}
 use Rattle.backup_engine.specs.Line.{Ingest}
 use Rattle.backup_engine.specs.Clauses.{TakesIn, IsOpen, IsGivenUp, IsKeptByIngest}
@@ -128,13 +128,13 @@ returns-in_err-put_file-clause-given_up g c =
     let failed = Rose (disk.faults mid) (disk.faults new) in
     let since = Rose (disk.faults old) (disk.faults new) in
     let taken = subst (TakesIn (source.left before)) (sym c.deref-2.ensures.value) c.in_ok-bytes.ensures.taken in
-    let sound = subst (λ (n : ℕ). IsSound n found.store) (sym first.size_is) found.sound in
+    let sound = subst (λ (n : ℕ). IsValidFor n found.store) (sym first.size_is) found.sound in
     passed_on c.from_residual-in_err-put_file.result
     (IsGivenUp (Saw disk old new) (disk.size old) since (Rose (source.faults before) (source.faults after)) (source.left before) (source.left after) (Ingest name))
     (Refused c.in_err-put_file.field-0.0) c.from_residual-in_err-put_file.ensures.1
     (refused_by_put (Saw disk old new) (disk.size old) (disk.size mid) failed since (source.left before) (source.left after) name bytes c.in_ok-opened.opened found.store c.in_err-put_file.field-0.0 taken (λ rose. rose_since _ _ _ first.later rose)
     (λ r wrong. wrong.found found.store found.keeps sound)
-    (λ (r : Refusal) (wrong : IsPutRefusal name bytes found.store r). shown_later disk.gave disk.content disk.size disk.same law.gave_after old mid new (HoldsOpen (λ s. IsPutRefusal name bytes s r))
+    (λ (r : Refusal) (wrong : IsPutRefusal name bytes found.store r). shown_later disk.gave disk.content disk.size disk.same law.gave_after old mid new (HoldsOpenableStore (λ s. IsPutRefusal name bytes s r))
     (weaker disk old mid (λ image sized right. (found.store, right, opened.reserve, wrong)) found.right) c.in_err-put_file.ensures.later.same_disk)
     c.in_err-put_file.ensures.refused)
 
@@ -151,7 +151,7 @@ returns-clause-done g c =
     let name = c.args.name.now in
     let bytes = c.deref-2.result.now in
     let taken = subst (TakesIn (g.S.Source.left c.args.source.now)) (sym c.deref-2.ensures.value) c.in_ok-bytes.ensures.taken in
-    let sound = subst (λ (n : ℕ). IsSound n found.store) (sym first.size_is) found.sound in
+    let sound = subst (λ (n : ℕ). IsValidFor n found.store) (sym first.size_is) found.sound in
     let can = c.in_ok-put_file.ensures.can found.store found.keeps sound in
     let keeps = λ (image : List ℕ) (told : disk.content old ≡ Some image). shown_told disk.gave disk.content disk.size disk.same old mid _ image c.in_ok-opened.ensures.only told (law.sized old image told) in
     let root : c.root_of.result ≡ root_of bytes = c.root_of.ensures ∙ ap root_of (c.deref.ensures.value ∙ sym c.deref-2.ensures.value) in (

@@ -1,24 +1,13 @@
 use Rattle.reply_text.specs.Text.{fault_line, ending_text, refusal_text}
 use Rattle.reply_text.proofs.notes.write_refusal.Goals as goal
 
-pub returns-in-DiskWrite-clause-ok : goal.returns-in-DiskWrite-clause-ok
+pub returns-in-DiskWrite : goal.returns-in-DiskWrite
 unfolding fault_line ending_text refusal_text
-returns-in-DiskWrite-clause-ok g c = rw c.in-DiskWrite.is c.write_pieces-in-DiskWrite.ensures.ok
+returns-in-DiskWrite g c = rw c.in-DiskWrite.is c.write_pieces-in-DiskWrite.ensures
 
-pub returns-in-DiskWrite-clause-err : goal.returns-in-DiskWrite-clause-err
+pub returns-in-AlreadyStore : goal.returns-in-AlreadyStore
 unfolding fault_line ending_text refusal_text
-returns-in-DiskWrite-clause-err g c = rw c.in-DiskWrite.is c.write_pieces-in-DiskWrite.ensures.err
+returns-in-AlreadyStore g c = rw c.in-AlreadyStore.is c.write_pieces-in-AlreadyStore.ensures
 
-pub returns-in-AlreadyStore-clause-ok : goal.returns-in-AlreadyStore-clause-ok
-unfolding fault_line ending_text refusal_text
-returns-in-AlreadyStore-clause-ok g c = rw c.in-AlreadyStore.is c.write_pieces-in-AlreadyStore.ensures.ok
-
-pub returns-in-AlreadyStore-clause-err : goal.returns-in-AlreadyStore-clause-err
-unfolding fault_line ending_text refusal_text
-returns-in-AlreadyStore-clause-err g c = rw c.in-AlreadyStore.is c.write_pieces-in-AlreadyStore.ensures.err
-
-pub returns-in-Corrupt-clause-ok : goal.returns-in-Corrupt-clause-ok
-returns-in-Corrupt-clause-ok g c = rw c.in-Corrupt.is c.write_corrupt.ensures.ok
-
-pub returns-in-Corrupt-clause-err : goal.returns-in-Corrupt-clause-err
-returns-in-Corrupt-clause-err g c = rw c.in-Corrupt.is c.write_corrupt.ensures.err
+pub returns-in-Corrupt : goal.returns-in-Corrupt
+returns-in-Corrupt g c = rw c.in-Corrupt.is c.write_corrupt.ensures

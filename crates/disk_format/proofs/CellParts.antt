@@ -6,7 +6,7 @@ use Rattle.sha2.specs.Sha256.{sha256}
 use Rattle.sha2.proofs.Facts256.{length-sha256}
 use Rattle.base_model.specs.Bytes.{range, byte_at, zeros}
 use Rattle.base_model.proofs.Ranges.{length-zeros, range-join, range-one, range-whole, range-first, range-second}
-use Rattle.disk_format.specs.Cells.{sealed, format_fields, selector_fields, put_fields, put_cell, Root}
+use Rattle.disk_format.specs.Cells.{sealed, format_fields, SelectorValue, selector_fields, put_fields, put_cell, Root}
 use Rattle.disk_format.specs.declared.numbers.TheConstants.{RECORD_GATE}
 
 pub gate-sealed : (gate : ℕ) (fields : List ℕ) → byte_at 0 (sealed gate fields) ≡ gate
@@ -21,9 +21,9 @@ pub length-format_fields : (slots : ℕ) → length (format_fields slots) ≡ 47
 unfolding format_fields
 length-format_fields slots = omega (arith, length-zeros 464)
 
-pub length-selector_fields : (generation half last : ℕ) → length (selector_fields generation half last) ≡ 479
+pub length-selector_fields : (s : SelectorValue) → length (selector_fields s) ≡ 479
 unfolding selector_fields
-length-selector_fields generation half last = omega (arith, length-zeros 451)
+length-selector_fields s = omega (arith, length-zeros 451)
 
 -- bytes behind others
 range-middle : (front x back : List ℕ) (at count : ℕ) → length front ≡ at → length x ≡ count → range at count (front ++ (x ++ back)) ≡ x

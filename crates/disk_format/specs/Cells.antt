@@ -17,12 +17,31 @@ format_fields slots = codes "DDFSIMG" ++ to_be_bytes w32 VERSION ++ to_be_bytes 
 abbrev pub format_cell : ℕ → List ℕ
 format_cell slots = sealed FORMAT_GATE (format_fields slots)
 
--- the form, the half that it selects, and the last sequence number
-unfoldable pub selector_fields : ℕ → ℕ → ℕ → List ℕ
-selector_fields generation half last = codes "DDFSSEL" ++ to_be_bytes w64 generation ++ to_be_bytes w32 VERSION ++ (half ∷ []) ++ to_be_bytes w64 last ++ zeros 451
+-- a selector: its form, which half counts, and the last sequence number before that half was begun
+pub record SelectorValue : Type 0 where
+  pub generation : ℕ
+  pub form : ℕ
+  pub half : ℕ
+  pub last : ℕ
 
-abbrev pub selector_cell : ℕ → ℕ → ℕ → List ℕ
-selector_cell generation half last = sealed SELECTOR_GATE (selector_fields generation half last)
+pub record IsSelector (s : SelectorValue) : Type 0 where
+  pub from_one : 1 ≤ s.generation
+  pub generation : s.generation < 2 ^ 64
+  pub form : s.form ≡ VERSION
+  pub half : s.half ≤ 1
+  pub last : s.last < 2 ^ 64
+
+-- the selector of an empty store
+abbrev pub first_selector : SelectorValue
+first_selector = record { generation = 1; form = VERSION; half = 0; last = 0 }
+
+-- bytes 1 to 479
+unfoldable pub selector_fields : SelectorValue → List ℕ
+selector_fields s =
+    codes "DDFSSEL" ++ to_be_bytes w64 s.generation ++ to_be_bytes w32 s.form ++ (s.half ∷ []) ++ to_be_bytes w64 s.last ++ zeros 451
+
+abbrev pub selector_cell : SelectorValue → List ℕ
+selector_cell s = sealed SELECTOR_GATE (selector_fields s)
 
 -- the root of a file: its length in bytes, and the level and digest of its tree
 pub record Root : Type 0 where
@@ -98,18 +117,6 @@ pub record IsRecord (r : RecordValue) : Type 0 where
   pub sequence : r.sequence < 2 ^ 64
   pub name : IsName r.name
   pub change : IsChange r.change
-
--- a selector: which half counts, and the last sequence number before that half was begun
-pub record SelectorValue : Type 0 where
-  pub generation : ℕ
-  pub half : ℕ
-  pub last : ℕ
-
-pub record IsSelector (s : SelectorValue) : Type 0 where
-  pub from_one : 1 ≤ s.generation
-  pub generation : s.generation < 2 ^ 64
-  pub half : s.half ≤ 1
-  pub last : s.last < 2 ^ 64
 
 abbrev pub put_cell : ℕ → List ℕ → Root → List ℕ
 put_cell sequence name root = sealed RECORD_GATE (put_fields sequence name root)

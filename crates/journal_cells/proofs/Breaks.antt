@@ -1,6 +1,6 @@
 -- What is so of the faults of the format cell and of the selectors, whatever the disk.
 use Rattle.std.proofs.Common.{◌≡◌, ◌≢◌, inl, inr, ℕ, Bool, true, false, List, Option, None, Some, Result, Ok, Err, refl, subst, eq-eqb}
-use Rattle.std.specs.Prelude.{◌==◌, ◌&&◌, codes, nat_lt, if◌then◌else◌}
+use Rattle.std.specs.Prelude.{◌==◌, ◌&&◌, codes, if◌then◌else◌}
 use Rattle.std.specs.Int.{w32}
 use Rattle.std.specs.Str.{bytes_eq}
 use Rattle.std.proofs.lemmas.Slice.Eq.{bytes_eq-Decides}
@@ -15,6 +15,7 @@ use Rattle.disk_format.specs.Cells.{SelectorValue}
 use Rattle.disk_format.specs.Layout.{selector_at}
 use Rattle.journal_cells.specs.declared.fault.CellFault.{CellFault}
 use Rattle.journal_cells.specs.declared.fault.CellFault.TheVariants.{Damaged}
+use Rattle.journal_cells.specs.declared.heads.Selection.{Selection}
 use Rattle.journal_cells.specs.Faults.{IsSelectorPlace, IsFormatBreak, IsSelectorBreak}
 use Rattle.journal_cells.specs.Heads.{format_checks, format_in, selector_checks, selector_value, selector_in, chosen, selectors_in}
 use Rattle.journal_cells.proofs.Outcomes.{IsOfBytes}
@@ -63,15 +64,11 @@ selector_break half before cell f place e =
     behind_err IsSelectorBreak (selector_checks half before cell) (Some (selector_value cell)) f (each_selector half before cell place)
     (open_err (byte_at 0 cell == SELECTOR_GATE) (behind (selector_checks half before cell) (Some (selector_value cell))) f e)
 
-neither_fails : (b : Bool) (s t : SelectorValue) (f : CellFault) → (let r : Result SelectorValue CellFault = if b then Ok t else Ok s in r) ≡ Err f → ⊥
-neither_fails true s t f e = cc
-neither_fails false s t f e = cc
-
 chosen_break : (gate : ℕ) (a b : Option SelectorValue) (f : CellFault) → chosen gate a b ≡ Err f → IsSelectorBreak f
-chosen_break gate None None f e = subst IsSelectorBreak (err_is {A = SelectorValue} (Damaged (selector_at 0) (Field 0 gate)) f e) (inl refl, tt)
+chosen_break gate None None f e = subst IsSelectorBreak (err_is {A = Selection} (Damaged (selector_at 0) (Field 0 gate)) f e) (inl refl, tt)
 chosen_break gate (Some s) None f e = absurd cc
 chosen_break gate None (Some t) f e = absurd cc
-chosen_break gate (Some s) (Some t) f e = absurd (neither_fails (nat_lt s.generation t.generation) s t f e)
+chosen_break gate (Some s) (Some t) f e = absurd cc
 
 pub selectors_break : (first second : List ℕ) (f : CellFault) → selectors_in first second ≡ Err f → IsSelectorBreak f
 unfolding selectors_in

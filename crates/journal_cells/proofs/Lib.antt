@@ -5,6 +5,7 @@ pub mod Chosen
 pub mod Damage
 pub mod Formats
 pub mod Found
+pub mod Listed
 pub mod Names
 pub mod Outcomes
 pub mod Parts

@@ -6,24 +6,25 @@ use Rattle.disk_format.specs.Cells.{RecordValue, SelectorValue, IsSelector}
 use Rattle.disk_format.specs.Layout.{half_cells}
 use Rattle.dd_disk.specs.View.{DiskView, OnlyReads}
 use Rattle.dd_disk.specs.Shows.{Shows}
-use Rattle.dd_disk.proofs.Shows.{always, weaker, both}
+use Rattle.dd_disk.proofs.Shows.{always, weaker, both, until}
 use Rattle.store_model.specs.Journal.{HoldsSelector, IsOlder, HoldsJournal, last_of}
 use Rattle.journal_cells.specs.declared.fault.CellFault.{CellFault}
 use Rattle.journal_cells.specs.declared.fault.CellFault.TheVariants.{Memory, DiskRead, DiskWrite, Damaged, NotAStore, Version, Numbers}
 use Rattle.journal_cells.specs.Faults.{fails, IsSelectorBreak, IsRecordBreak, IsJournalBreak, IsReadFault, IsCellFault}
-use Rattle.journal_cells.specs.Heads.{selector_of_image}
+use Rattle.journal_cells.specs.declared.heads.Selection.{Selection}
+use Rattle.journal_cells.specs.Heads.{HoldsSelection, selection_of}
 use Rattle.journal_cells.specs.Records.{Replay, nothing_yet, replayed}
 use Rattle.journal_cells.specs.Journal.{IsScanned, IsTold, journal_in}
 use Rattle.journal_cells.specs.Scanning.{opened, IsWhole}
 use Rattle.journal_cells.proofs.Replays.{replay_of, holds_again, replay_count, replay_previous, replay_names}
 
-no_selector : (image : List ℕ) (f : CellFault) → selector_of_image image ≡ Err f → journal_in image ≡ Err f
+no_selector : (image : List ℕ) (f : CellFault) → selection_of image ≡ Err f → journal_in image ≡ Err f
 unfolding journal_in
-no_selector image f e = ap (λ r. r >>= (λ (s : SelectorValue). replayed s.half half_cells nothing_yet image)) e
+no_selector image f e = ap (λ r. r >>= (λ (s : Selection). replayed s.selector.half half_cells nothing_yet image)) e
 
-half_of : (image : List ℕ) (s : SelectorValue) (read : Result Replay CellFault) → selector_of_image image ≡ Ok s → replayed s.half half_cells nothing_yet image ≡ read → journal_in image ≡ read
+half_of : (image : List ℕ) (s : Selection) (read : Result Replay CellFault) → selection_of image ≡ Ok s → replayed s.selector.half half_cells nothing_yet image ≡ read → journal_in image ≡ read
 unfolding journal_in
-half_of image s read e h = then_step (selector_of_image image) (λ (t : SelectorValue). replayed t.half half_cells nothing_yet image) s read e h
+half_of image s read e h = then_step (selection_of image) (λ (t : Selection). replayed t.selector.half half_cells nothing_yet image) s read e h
 
 ok_replay : (a b : Replay) → (let r : Result Replay CellFault = Ok a in r) ≡ Ok b → a ≡ b
 ok_replay a b e = cc
@@ -32,7 +33,7 @@ not_both : (r : Replay) (f : CellFault) → (let read : Result Replay CellFault 
 not_both r f e = cc
 
 -- what was read, of a journal that stands there
-told_of : (s t : SelectorValue) (records : List RecordValue) (replay : Replay) → s ≡ t → replay ≡ replay_of nothing_yet records → IsTold t records (opened s replay) replay.names (opened s replay).last
+told_of : (s : Selection) (t : SelectorValue) (records : List RecordValue) (replay : Replay) → s.selector ≡ t → replay ≡ replay_of nothing_yet records → IsTold t records (opened s replay) replay.names (opened s replay).last
 told_of s t records replay same is =
     let previous : replay.previous ≡ last_of 0 records = ap (λ (r : Replay). r.previous) is ∙ replay_previous nothing_yet records in
     record {
@@ -51,7 +52,7 @@ found_there s t records image same held = ap (λ (v : SelectorValue). replayed v
 
 -- ---- faults
 
-pub selector_fault : (old new : DiskView) (e : CellFault) → IsReadFault IsSelectorBreak (λ f. Shows old new (λ image. selector_of_image image ≡ Err f)) e
+pub selector_fault : (old new : DiskView) (e : CellFault) → IsReadFault IsSelectorBreak (λ f. Shows old new (λ image. selection_of image ≡ Err f)) e
     → IsCellFault IsJournalBreak (λ f. Shows old new (λ image. journal_in image ≡ Err f)) e
 selector_fault old new Memory is = tt
 selector_fault old new DiskRead is = tt
@@ -61,14 +62,14 @@ selector_fault old new (NotAStore g m) is = absurd is.0
 selector_fault old new (Version n) is = (is.0, weaker old new (λ image sized none. no_selector image (Version n) none) is.1)
 selector_fault old new Numbers is = absurd is
 
-module _ (s : SelectorValue) (old mid new : DiskView) (before : OnlyReads old mid) (after : OnlyReads mid new) where
-  pub half_fault : (e : CellFault) → s.half ≤ 1 → Shows old mid (λ image. selector_of_image image ≡ Ok s) → IsCellFault (IsRecordBreak s.half) (λ f. Shows mid new (λ image. replayed s.half half_cells nothing_yet image ≡ Err f)) e
+module _ (s : Selection) (old mid new : DiskView) (before : OnlyReads old mid) (after : OnlyReads mid new) where
+  pub half_fault : (e : CellFault) → s.selector.half ≤ 1 → Shows old mid (λ image. selection_of image ≡ Ok s) → IsCellFault (IsRecordBreak s.selector.half) (λ f. Shows mid new (λ image. replayed s.selector.half half_cells nothing_yet image ≡ Err f)) e
       → IsCellFault IsJournalBreak (λ f. Shows old new (λ image. journal_in image ≡ Err f)) e
   half_fault Memory small selector is = tt
   half_fault DiskRead small selector is = tt
   half_fault DiskWrite small selector is = absurd is
   half_fault (Damaged at why) small selector is = (
-    (inr (s.half, small, is.0.0), is.0.1),
+    (inr (s.selector.half, small, is.0.0), is.0.1),
     weaker old new (λ image sized read. half_of image s (Err (Damaged at why)) read.0 read.1) (both old mid new selector before is.1 after.later),
   )
   half_fault (NotAStore g m) small selector is = absurd is.0
@@ -77,13 +78,14 @@ module _ (s : SelectorValue) (old mid new : DiskView) (before : OnlyReads old mi
 
   -- ---- what was read
 
-  module _ (replay : Replay) (whole : IsWhole (Shows mid new) s.half replay) where
-    pub scanned : IsSelector s → Shows old mid (λ image. HoldsSelector image s × IsOlder image s) → IsScanned (Shows old new) (opened s replay) replay.names (opened s replay).last
+  module _ (replay : Replay) (whole : IsWhole (Shows mid new) s.selector.half replay) where
+    pub scanned : IsSelector s.selector → Shows old mid (HoldsSelection s) → IsScanned (Shows old new) (opened s replay) replay.names (opened s replay).last
     scanned right selector =
         record {
-          selector = s;
+          selector = s.selector;
           records = whole.records;
-          holds = weaker old new (λ image sized seen. record { selector_is = seen.0.0; older = seen.0.1; records_are = seen.1.holds }) (both old mid new selector before whole.seen after.later);
+          holds = weaker old new (λ image sized seen. record { selector_is = seen.0.selector_is; older = seen.0.older; records_are = seen.1.holds }) (both old mid new selector before whole.seen after.later);
+          other = weaker old new (λ image sized seen. seen.other) (until old mid new selector before.later.clock_is after.later);
           selector_right = right;
           few = whole.few;
           right = whole.leave.right;
@@ -94,26 +96,26 @@ module _ (s : SelectorValue) (old mid new : DiskView) (before : OnlyReads old mi
             previous = whole.leave.previous;
             names_are = whole.leave.names;
             journal_last = refl;
-            last_is = ap (max s.last) whole.leave.previous;
+            last_is = ap (max s.selector.last) whole.leave.previous;
           };
         }
 
     -- the journal that stands there is the one that was read
-    pub only_one : Shows old mid (λ image. (t : SelectorValue) → HoldsSelector image t → IsOlder image t → s ≡ t)
+    pub only_one : Shows old mid (λ image. (t : SelectorValue) → HoldsSelector image t → IsOlder image t → s.selector ≡ t)
         → Shows old new (λ image. (t : SelectorValue) (records : List RecordValue) → HoldsJournal image t records → IsTold t records (opened s replay) replay.names (opened s replay).last)
     only_one selector =
         weaker old new (λ image sized seen t records held.
         let same = seen.0 t held.selector_is held.older in
-        told_of s t records replay same (ok_replay replay (replay_of nothing_yet records) (sym seen.1.read ∙ found_there s t records image same held))) (both old mid new selector before whole.seen after.later)
+        told_of s t records replay same (ok_replay replay (replay_of nothing_yet records) (sym seen.1.read ∙ found_there s.selector t records image same held))) (both old mid new selector before whole.seen after.later)
 
   -- where a record has a fault, no journal stands there
-  none_stands : (f : CellFault) → Shows old mid (λ image. (t : SelectorValue) → HoldsSelector image t → IsOlder image t → s ≡ t) → Shows mid new (λ image. replayed s.half half_cells nothing_yet image ≡ Err f)
+  none_stands : (f : CellFault) → Shows old mid (λ image. (t : SelectorValue) → HoldsSelector image t → IsOlder image t → s.selector ≡ t) → Shows mid new (λ image. replayed s.selector.half half_cells nothing_yet image ≡ Err f)
       → Shows old new (λ image. (t : SelectorValue) (records : List RecordValue) → HoldsJournal image t records → IsTrue (fails f))
   none_stands f selector fault =
-      weaker old new (λ image sized seen t records held. absurd (not_both (replay_of nothing_yet records) f (sym (found_there s t records image (seen.0 t held.selector_is held.older) held) ∙ seen.1))) (both old mid new selector before fault after.later)
+      weaker old new (λ image sized seen t records held. absurd (not_both (replay_of nothing_yet records) f (sym (found_there s.selector t records image (seen.0 t held.selector_is held.older) held) ∙ seen.1))) (both old mid new selector before fault after.later)
 
   -- where one stands, memory or the disk failed
-  pub fails_alone : (e : CellFault) → Shows old mid (λ image. (t : SelectorValue) → HoldsSelector image t → IsOlder image t → s ≡ t) → IsCellFault (IsRecordBreak s.half) (λ f. Shows mid new (λ image. replayed s.half half_cells nothing_yet image ≡ Err f)) e
+  pub fails_alone : (e : CellFault) → Shows old mid (λ image. (t : SelectorValue) → HoldsSelector image t → IsOlder image t → s.selector ≡ t) → IsCellFault (IsRecordBreak s.selector.half) (λ f. Shows mid new (λ image. replayed s.selector.half half_cells nothing_yet image ≡ Err f)) e
       → Shows old new (λ image. (t : SelectorValue) (records : List RecordValue) → HoldsJournal image t records → IsTrue (fails e))
   fails_alone Memory selector is = always old new _ (λ image sized t records held. refl)
   fails_alone DiskRead selector is = always old new _ (λ image sized t records held. refl)

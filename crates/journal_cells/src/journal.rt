@@ -10,9 +10,10 @@ ghost use Rattle.journal_cells.specs.Faults.{blames, IsWriteFault};
 ghost use Rattle.journal_cells.specs.Journal.{IsJournal, Precedes, with_record};
 ghost use Rattle.journal_cells.specs.Appending.{Appends, IsAppended};
 
+use crate::device::write_cell;
 use crate::fault::CellFault;
 use crate::spelling::encode;
-use dd_disk::{Disk, DiskFault, write_gated};
+use dd_disk::Disk;
 use disk_format::{LEAST_SIZE, cell_at};
 use namespace::Record;
 use std::alloc::Global;
@@ -21,10 +22,17 @@ use std::marker::Model;
 /// A journal that was read from its disk.
 #[derive(Clone, Copy)]
 pub struct Journal {
+    /// The half that counts, 0 or 1.
     pub(crate) half: u8,
+    /// That of its selector.
     pub(crate) generation: u64,
+    /// Whether the gate of the other half's selector is open.
+    pub(crate) other_open: bool,
+    /// How many records stand in the half.
     pub(crate) count: u32,
+    /// The sequence number of the last of them, 0 where there is none.
     pub(crate) previous: u64,
+    /// The last sequence number of all.
     pub(crate) last: u64,
 }
 
@@ -33,12 +41,32 @@ impl Model for Journal {
 
     ghost Value = { JournalValue };
 
-    ghost view = { λ j. record { half = j.half; generation = j.generation; count = j.count; previous = j.previous; last = j.last } };
+    ghost view = { λ j. record {
+      half = j.half;
+      generation = j.generation;
+      other_open = j.other_open;
+      count = j.count;
+      previous = j.previous;
+      last = j.last;
+    } };
 
-    ghost inverse = { λ j. record { half = j.half; generation = j.generation; count = j.count; previous = j.previous; last = j.last } };
+    ghost inverse = { λ j. record {
+      half = j.half;
+      generation = j.generation;
+      other_open = j.other_open;
+      count = j.count;
+      previous = j.previous;
+      last = j.last;
+    } };
 
-    ghost invariant = { λ j.
-        IsJournal (record { half = j.half; generation = j.generation; count = j.count; previous = j.previous; last = j.last }) };
+    ghost invariant = { λ j. IsJournal (record {
+      half = j.half;
+      generation = j.generation;
+      other_open = j.other_open;
+      count = j.count;
+      previous = j.previous;
+      last = j.last;
+    }) };
 }
 
 impl Journal {
@@ -76,20 +104,17 @@ impl Journal {
     {
         let at = cell_at(self.half, self.count);
         let cell = encode(alloc, value)?;
-        match write_gated(disk, at, &cell) {
-            Ok(()) => {}
-            Err(DiskFault) => return Err(CellFault::DiskWrite),
-        }
+        write_cell(disk, at, &cell)?;
         self.count += 1;
         self.previous = value.sequence;
-        self.last = self.last.max(value.sequence);
+        self.last = value.sequence;
         Ok(())
     }
 
     /// Writes a record after the others: bytes 1 to 511 of its cell, a sync, the gate, a sync.
     ///
     /// The half has to have room, and the record to be one that the format allows, of a greater sequence number than
-    /// the one before it. `Memory` comes before the first write, `DiskWrite` where a write or a sync failed. Either
+    /// the last of all. `Memory` comes before the first write, `DiskWrite` where a write or a sync failed. Either
     /// leaves the journal as it was; after `DiskWrite` the record may stand on the disk or not.
     pub fn append<D: Disk>(
         &mut self,

@@ -14,6 +14,7 @@ mod scanning;
 mod spelling;
 
 pub use fault::CellFault;
+pub use heads::Selector;
 pub use journal::Journal;
 pub use opening::slots_of;
 pub use scanning::scan;

@@ -8,11 +8,11 @@ ghost use Rattle.dd_disk.specs.Shows.{Shows};
 ghost use Rattle.store_model.specs.Journal.{HoldsSelector, IsOlder};
 ghost use Rattle.journal_cells.specs.declared.fault.CellFault.TheVariants.{DiskRead};
 ghost use Rattle.journal_cells.specs.Faults.{blames, fails, IsFormatBreak, IsSelectorBreak, IsReadFault};
-ghost use Rattle.journal_cells.specs.Heads.{format_in as format_read, selector_of_image, AreSelectorCells};
+ghost use Rattle.journal_cells.specs.Heads.{format_in as format_read, selection_of, AreSelectorCells, HoldsSelection};
 
 use crate::device::{CELL, read_at};
 use crate::fault::CellFault;
-use crate::heads::{Selector, format_in, selectors_in};
+use crate::heads::{Selection, format_in, selectors_in};
 use dd_disk::Disk;
 use disk_format::{CELL_BYTES, LEAST_SIZE, selector_at};
 
@@ -23,7 +23,8 @@ use disk_format::{CELL_BYTES, LEAST_SIZE, selector_at};
 pub fn slots_of<D: Disk>(disk: &mut D) -> Result<u32, CellFault>
     requires { LEAST_SIZE ≤ (D.view disk.old).size }
     ensures count { IfOk result IsSlotCount }
-    ensures shown { IfOk result (λ slots. Shows (D.view disk.old) (D.view disk.new) (λ image. range 0 CELL_BYTES image ≡ format_cell slots)) }
+    ensures shown { IfOk result (λ slots. Shows (D.view disk.old) (D.view disk.new) (λ image.
+        range 0 CELL_BYTES image ≡ format_cell slots)) }
     // What is spelled there is read, unless the disk fails.
     ensures only { Shows (D.view disk.old) (D.view disk.new) (λ image. (slots : ℕ) → IsSlotCount slots
         → range 0 CELL_BYTES image ≡ format_cell slots → UnlessFailed fails (λ n. n ≡ slots) result) }
@@ -50,17 +51,17 @@ fn read_both<D: Disk>(disk: &mut D) -> Result<([u8; CELL], [u8; CELL]), CellFaul
     Ok((first, second))
 }
 
-/// The selector of the half that counts. It takes no memory.
-pub(crate) fn read_selectors<D: Disk>(disk: &mut D) -> Result<Selector, CellFault>
+/// What the selectors say: that of the half that counts, and whether the other one is open. It takes no memory.
+pub(crate) fn read_selectors<D: Disk>(disk: &mut D) -> Result<Selection, CellFault>
     requires { LEAST_SIZE ≤ (D.view disk.old).size }
-    ensures right { IfOk result IsSelector }
-    ensures shown { IfOk result (λ s. Shows (D.view disk.old) (D.view disk.new) (λ image. HoldsSelector image s × IsOlder image s)) }
+    ensures right { IfOk result (λ s. IsSelector s.selector) }
+    ensures shown { IfOk result (λ s. Shows (D.view disk.old) (D.view disk.new) (HoldsSelection s)) }
     // What stands there is read, unless the disk fails.
     ensures only { Shows (D.view disk.old) (D.view disk.new) (λ image. (s : SelectorValue) → HoldsSelector image s
-        → IsOlder image s → UnlessFailed fails (λ t. t ≡ s) result) }
-    ensures read { IfOk result (λ s. Shows (D.view disk.old) (D.view disk.new) (λ image. selector_of_image image ≡ Ok s)) }
+        → IsOlder image s → UnlessFailed fails (λ t. t.selector ≡ s) result) }
+    ensures read { IfOk result (λ s. Shows (D.view disk.old) (D.view disk.new) (λ image. selection_of image ≡ Ok s)) }
     ensures cause { IfErr result (IsReadFault IsSelectorBreak (λ fault. Shows (D.view disk.old) (D.view disk.new) (λ image.
-        selector_of_image image ≡ Err fault))) }
+        selection_of image ≡ Err fault))) }
     ensures reads { Reads (ending blames result) (D.view disk.old) (D.view disk.new) }
 {
     let (first, second) = read_both(disk)?;

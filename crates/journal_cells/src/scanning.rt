@@ -12,7 +12,7 @@ ghost use Rattle.journal_cells.specs.Scanning.{replay, opened, IsNext, HasNextFa
 
 use crate::device::{CELL, read_at};
 use crate::fault::CellFault;
-use crate::heads::Selector;
+use crate::heads::Selection;
 use crate::journal::Journal;
 use crate::opening::read_selectors;
 use crate::record::record_in;
@@ -104,15 +104,17 @@ fn read_half<D: Disk>(alloc: Global, disk: &mut D, half: u8) -> Result<Replayed,
     Ok(before)
 }
 
-// The journal of a selector and of what the records of its half leave.
-fn journal_of(selector: &Selector, left: &Replayed) -> Journal
-    requires right { IsSelector selector.now }
+// The journal of what the selectors say and of what the records of the half leave.
+fn journal_of(selection: &Selection, left: &Replayed) -> Journal
+    requires right { IsSelector selection.now.selector }
     requires few { left.now.count ≤ HALF_CELLS }
-    ensures { result ≡ opened selector.now (replay left.now) }
+    ensures { result ≡ opened selection.now (replay left.now) }
 {
+    let selector = &selection.selector;
     Journal {
         half: selector.half,
         generation: selector.generation,
+        other_open: selection.other_open,
         count: left.count,
         previous: left.previous,
         last: selector.last.max(left.previous),
@@ -133,9 +135,9 @@ pub fn scan<D: Disk>(alloc: Global, disk: &mut D) -> Result<(Journal, Names, u64
         journal_in image ≡ Err fault))) }
     ensures reads { Reads (ending blames result) (D.view disk.old) (D.view disk.new) }
 {
-    let selector = read_selectors(disk)?;
-    let left = read_half(alloc, disk, selector.half)?;
-    let journal = journal_of(&selector, &left);
+    let selection = read_selectors(disk)?;
+    let left = read_half(alloc, disk, selection.selector.half)?;
+    let journal = journal_of(&selection, &left);
     let last = journal.last();
     Ok((journal, left.names, last))
 }

@@ -6,7 +6,7 @@ use Rattle.std.specs.Cmp.Lexicographic.{slice_cmp}
 use Rattle.std.specs.FinMap as finite
 use Rattle.base_model.specs.Bytes.{range, byte_at}
 use Rattle.disk_format.specs.Layout.{IsSlotCount, size_of, slot_at, cell_at, half_cells}
-use Rattle.disk_format.specs.Cells.{selector_cell}
+use Rattle.disk_format.specs.Cells.{selector_cell, first_selector}
 use Rattle.disk_format.specs.declared.numbers.TheConstants.{CONTAINER_GATE, RECORD_GATE, SELECTOR_GATE}
 use Rattle.container_meta.specs.Spelling.{HeaderValue}
 use Rattle.namespace.specs.declared.record.Named.{Named}
@@ -45,7 +45,7 @@ pub record IsLaidOut (slots : ℕ) (image : List ℕ) : Type 0 where
   pub count : IsSlotCount slots
   pub size : length image ≡ size_of slots
   pub format : HasFormat slots image
-  pub selector : range 512 512 image ≡ selector_cell 1 0 0
+  pub selector : range 512 512 image ≡ selector_cell first_selector
   pub other_selector : byte_at 1024 image ≢ SELECTOR_GATE
   pub records : (cell : ℕ) → cell < half_cells → byte_at (cell_at 0 cell) image ≢ RECORD_GATE
   pub containers : (slot : ℕ) → slot < slots → byte_at (slot_at slot) image ≢ CONTAINER_GATE
@@ -58,7 +58,7 @@ formatted_holds slots image laid = record {
     size = laid.size;
     format = laid.format;
     journal = record {
-      selector_is = (record { from_one = omega arith; generation = omega arith; half = omega arith; last = omega arith }, laid.selector);
+      selector_is = (record { from_one = omega arith; generation = omega arith; form = refl; half = omega arith; last = omega arith }, laid.selector);
       older = inl laid.other_selector;
       records_are = record { few = omega arith; right = tt; stand = tt; ends = λ less. laid.records 0 less };
     };

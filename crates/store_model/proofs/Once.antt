@@ -50,7 +50,7 @@ cell_once s t image one other half =
 -- of two in different cells the one that counts is of the greater generation
 greater : (s t : SelectorValue) (image : List ℕ) → HoldsSelector image t → t.half ≡ 1 - s.half → IsOlder image s → t.generation < s.generation
 greater s t image other half (inl closed) =
-    absurd (closed (ap (λ (h : ℕ). byte_at (selector_at h) image) (sym half) ∙ first_byte (selector_at t.half) 512 _ image (omega arith) other.1 ∙ gate_of_selector t.generation t.half t.last))
+    absurd (closed (ap (λ (h : ℕ). byte_at (selector_at h) image) (sym half) ∙ first_byte (selector_at t.half) 512 _ image (omega arith) other.1 ∙ gate_of_selector t))
 greater s t image other half (inr (u, place, holds, less)) =
     subst (λ (x : SelectorValue). x.generation < s.generation) (cell_once u t image holds other (place ∙ sym half)) less
 

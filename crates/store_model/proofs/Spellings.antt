@@ -64,37 +64,37 @@ same_format a b small little same =
     same_4 a b small little (sym (slots_spelled a) ∙ ap (λ (l : List ℕ). take 4 (drop 11 l)) fields ∙ slots_spelled b)
 
 -- a selector
-generation_spelled : (generation half last : ℕ) → take 8 (drop 7 (selector_fields generation half last)) ≡ to_be_bytes w64 generation
+generation_spelled : (s : SelectorValue) → take 8 (drop 7 (selector_fields s)) ≡ to_be_bytes w64 s.generation
 unfolding selector_fields
-generation_spelled generation half last = refl
+generation_spelled s = refl
 
-last_spelled : (generation half last : ℕ) → take 8 (drop 20 (selector_fields generation half last)) ≡ to_be_bytes w64 last
+last_spelled : (s : SelectorValue) → take 8 (drop 20 (selector_fields s)) ≡ to_be_bytes w64 s.last
 unfolding selector_fields
-last_spelled generation half last = refl
+last_spelled s = refl
 
-length_selector : (generation half last : ℕ) → length (selector_fields generation half last) ≡ 479
+length_selector : (s : SelectorValue) → length (selector_fields s) ≡ 479
 unfolding selector_fields
-length_selector generation half last = omega (arith, length-zeros 451)
+length_selector s = omega (arith, length-zeros 451)
 
 -- of one half
-pub same_selector : (s t : SelectorValue) → IsSelector s → IsSelector t → s.half ≡ t.half → selector_cell s.generation s.half s.last ≡ selector_cell t.generation t.half t.last → s ≡ t
+pub same_selector : (s t : SelectorValue) → IsSelector s → IsSelector t → s.half ≡ t.half → selector_cell s ≡ selector_cell t → s ≡ t
 same_selector s t right also half same =
-    let fields = same_fields SELECTOR_GATE (selector_fields s.generation s.half s.last) (selector_fields t.generation t.half t.last)
-    (length_selector s.generation s.half s.last ∙ sym (length_selector t.generation t.half t.last)) same in
+    let fields = same_fields SELECTOR_GATE (selector_fields s) (selector_fields t) (length_selector s ∙ sym (length_selector t)) same in
     let generation : s.generation ≡ t.generation =
     same_8 s.generation t.generation right.generation also.generation
-    (sym (generation_spelled s.generation s.half s.last) ∙ ap (λ (l : List ℕ). take 8 (drop 7 l)) fields ∙ generation_spelled t.generation t.half t.last) in
+    (sym (generation_spelled s) ∙ ap (λ (l : List ℕ). take 8 (drop 7 l)) fields ∙ generation_spelled t) in
     let last : s.last ≡ t.last =
-    same_8 s.last t.last right.last also.last (sym (last_spelled s.generation s.half s.last) ∙ ap (λ (l : List ℕ). take 8 (drop 20 l)) fields ∙ last_spelled t.generation t.half t.last) in
-    by_fields s.generation t.generation s.half t.half s.last t.last generation half last
+    same_8 s.last t.last right.last also.last (sym (last_spelled s) ∙ ap (λ (l : List ℕ). take 8 (drop 20 l)) fields ∙ last_spelled t) in
+    by_fields s.generation t.generation s.form t.form s.half t.half s.last t.last generation (right.form ∙ sym also.form) half last
   where
-    by_fields : (a b c d e f : ℕ) → a ≡ b → c ≡ d → e ≡ f → (let x : SelectorValue = record { generation = a; half = c; last = e } in x) ≡ record { generation = b; half = d; last = f }
-    by_fields a b c d e f p q r = cc
+    by_fields : (a b v w c d e f : ℕ) → a ≡ b → v ≡ w → c ≡ d → e ≡ f
+        → (let x : SelectorValue = record { generation = a; form = v; half = c; last = e } in x) ≡ record { generation = b; form = w; half = d; last = f }
+    by_fields a b v w c d e f p o q r = cc
 
 -- an open selector's gate
-pub gate_of_selector : (generation half last : ℕ) → byte_at 0 (selector_cell generation half last) ≡ SELECTOR_GATE
+pub gate_of_selector : (s : SelectorValue) → byte_at 0 (selector_cell s) ≡ SELECTOR_GATE
 unfolding sealed
-gate_of_selector generation half last = refl
+gate_of_selector s = refl
 
 -- ---- records
 

@@ -3,7 +3,7 @@ use Rattle.std.specs.Prelude.{◌≡◌, ◌≢◌, ◌⊎◌, ℕ, suc, ◌-◌
 use Rattle.sha2.specs.Sha256.{sha256}
 use Rattle.base_model.specs.Bytes.{key_of}
 use Rattle.disk_format.specs.Layout.{half_cells}
-use Rattle.disk_format.specs.Cells.{RecordValue, IsName}
+use Rattle.disk_format.specs.Cells.{RecordValue, IsName, first_selector}
 use Rattle.disk_format.specs.Cells.Change.{Put}
 use Rattle.namespace.specs.Names.{HasRoom}
 use Rattle.store_model.specs.Files.{no_files, root_of}
@@ -14,7 +14,7 @@ use Rattle.store_model.specs.Image.{Store, Encodes, IsStoreOf, names_of, last_se
 abbrev pub empty_store : ℕ → Store
 empty_store slots = record {
   slots = slots;
-  selector = record { generation = 1; half = 0; last = 0 };
+  selector = first_selector;
   records = [];
   held = replicate slots None;
 }

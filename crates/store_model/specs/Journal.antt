@@ -9,7 +9,7 @@ use Rattle.namespace.specs.Names.{NameMap, IsTaken, names_with}
 
 -- the cell of a selector holds it
 abbrev pub HoldsSelector : List ℕ → SelectorValue → Type 0
-HoldsSelector image s = IsSelector s × (range (selector_at s.half) 512 image ≡ selector_cell s.generation s.half s.last)
+HoldsSelector image s = IsSelector s × (range (selector_at s.half) 512 image ≡ selector_cell s)
 
 -- the other selector is closed, or right and of a lower generation
 abbrev pub IsOlder : List ℕ → SelectorValue → Type 0

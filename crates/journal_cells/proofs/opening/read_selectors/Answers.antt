@@ -1,19 +1,19 @@
 use Rattle.std.proofs.Common.{◌≡◌, ◌∙◌, ℕ, List, sym, ap}
-use Rattle.disk_format.specs.Cells.{SelectorValue}
 use Rattle.disk_format.specs.Layout.{selector_at}
 use Rattle.base_model.specs.Bytes.{range}
 use Rattle.dd_disk.proofs.Shows.{always, weaker}
+use Rattle.journal_cells.specs.declared.heads.Selection.{Selection}
 use Rattle.journal_cells.specs.Faults.{IsSelectorBreak}
-use Rattle.journal_cells.specs.Heads.{selectors_in as selectors_read, selector_of_image, AreSelectorCells}
+use Rattle.journal_cells.specs.Heads.{selectors_in as selectors_read, selection_of, AreSelectorCells}
 use Rattle.journal_cells.proofs.Breaks.{selectors_break, selector_of_bytes}
 use Rattle.journal_cells.proofs.Outcomes.{cause_found, reads_found, read_failed}
 use Rattle.journal_cells.proofs.opening.read_selectors.Goals as goal
 
 pub returns-in_err-first-clause-only : goal.returns-in_err-first-clause-only
 returns-in_err-first-clause-only g c =
-    always _ _ _ (λ image sized s held older. read_failed (λ (t : SelectorValue). t ≡ s) c.from_residual.result c.in_err-first.field-0.0 c.from_residual.ensures.1 c.in_err-first.ensures.cause)
+    always _ _ _ (λ image sized s held older. read_failed (λ (t : Selection). t.selector ≡ s) c.from_residual.result c.in_err-first.field-0.0 c.from_residual.ensures.1 c.in_err-first.ensures.cause)
 
-both_read : (image first second : List ℕ) → AreSelectorCells first second image → selector_of_image image ≡ selectors_read first second
+both_read : (image first second : List ℕ) → AreSelectorCells first second image → selection_of image ≡ selectors_read first second
 both_read image first second cells = ap (λ l. selectors_read l (range (selector_at 1) 512 image)) cells.0 ∙ ap (selectors_read first) cells.1
 
 pub returns-clause-cause : goal.returns-clause-cause

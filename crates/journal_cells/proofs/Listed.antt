@@ -1,0 +1,15 @@
+-- The faults of checks that fail, and the one that a reader answers.
+use Rattle.std.proofs.Common.{◌≡◌, Bool, true, false, List, [], ◌∷◌, Result, Err, refl}
+use Rattle.std.specs.Prelude.{if◌then◌else◌}
+use Rattle.base_model.specs.Checks.{Check, behind}
+use Rattle.journal_cells.specs.declared.fault.CellFault.{CellFault}
+use Rattle.journal_cells.specs.Checks.{faults_of, answer_of}
+
+one_more : {A : Type 0} (b : Bool) (f : CellFault) (value : A) (rest : Result A CellFault) (fs : List CellFault) → rest ≡ answer_of fs value → (if b then rest else Err f) ≡ answer_of (if b then fs else f ∷ fs) value
+one_more true f value rest fs is = is
+one_more false f value rest fs is = refl
+
+-- a reader answers the first of all faults
+pub first_of_all : {A : Type 0} (checks : List (Check CellFault)) (value : A) → behind checks value ≡ answer_of (faults_of checks) value
+first_of_all [] value = refl
+first_of_all (c ∷ cs) value = one_more c.holds c.fault value (behind cs value) (faults_of cs) (first_of_all cs value)

@@ -44,7 +44,8 @@ head_fault asked bytes =
     else if length bytes == 1 then wrong 1 0
     else if slice_index bytes 1 == NODE_FORM then
     if nat_lt (length bytes) 4 then wrong 2 0
-    else if short_number (drop 2 bytes) == 0 || nat_lt MOST_CHILDREN (short_number (drop 2 bytes)) then wrong 2 (short_number (drop 2 bytes))
+    else if short_number (drop 2 bytes) == 0 || nat_lt MOST_CHILDREN (short_number (drop 2 bytes)) then
+    wrong 2 (short_number (drop 2 bytes))
     else None
     else wrong 1 (slice_index bytes 1)
 

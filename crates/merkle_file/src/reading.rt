@@ -2,7 +2,8 @@
 
 ghost use Rattle.std.specs.Prelude.{◌≡◌, ◌+◌, ◌*◌, ◌≤◌, ◌<◌, ℕ, IfOk, IsOk, IsTrue, OnOk, length, drop};
 ghost use Rattle.merkle_file.specs.Node.{Contents, IsNode, spelling};
-ghost use Rattle.merkle_file.specs.Reading.{IsAsked, IsWithin, SpellsNode, any_node, child_in, children_in, contents_in, entries_fault, entry_fault};
+ghost use Rattle.merkle_file.specs.Reading.{IsAsked, IsWithin, SpellsNode, any_node, child_in, children_in, contents_in, entries_fault};
+ghost use Rattle.merkle_file.specs.Reading.{entry_fault};
 ghost use Rattle.merkle_file.specs.Reading.{first_fault, found_fault, head_fault, is_right_length, long_number, short_number};
 
 use crate::fault::FieldFault;

@@ -33,7 +33,9 @@ first_from test n (suc count) = if test n then n else first_from test (n + 1) co
 -- the length of the first segment: all bytes where they are at most 2,048, and else up to the first boundary from
 -- 2,048 on, or up to the end where there is none
 unfoldable pub first_length : List ℕ → ℕ
-first_length bytes = if nat_le (length bytes) LEAST_SEGMENT then length bytes else first_from (is_boundary bytes) LEAST_SEGMENT (length bytes - LEAST_SEGMENT)
+first_length bytes =
+    if nat_le (length bytes) LEAST_SEGMENT then length bytes
+    else first_from (is_boundary bytes) LEAST_SEGMENT (length bytes - LEAST_SEGMENT)
 
 -- the first segments, at most `count` of them: a segment, and then the segments of what follows it
 unfoldable pub segments_up_to : ℕ → List ℕ → List (List ℕ)

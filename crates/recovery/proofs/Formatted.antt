@@ -4,7 +4,7 @@ use Rattle.std.proofs.lemmas.Bool.Decides.{eqb_tells}
 use Rattle.base_model.specs.Bytes.{range, written, byte_at, zeros}
 use Rattle.base_model.proofs.Ranges.{length-written, range-written, range-written-after, length-zeros, byte-range}
 use Rattle.disk_format.specs.Layout.{IsSlotCount, size_of, slot_at, cell_at}
-use Rattle.disk_format.specs.Cells.{sealed, format_fields, selector_fields, format_cell, selector_cell}
+use Rattle.disk_format.specs.Cells.{sealed, format_fields, selector_fields, format_cell, selector_cell, first_selector}
 use Rattle.disk_format.specs.declared.numbers.TheConstants.{CELL_BYTES, FIRST_SELECTOR, FIRST_SLOT, FORMAT_GATE, SELECTOR_GATE, RECORD_GATE, CONTAINER_GATE}
 use Rattle.disk_format.proofs.CellParts.{length-sealed, length-format_fields, length-selector_fields}
 use Rattle.dd_disk.specs.Gated.{TornFrom}
@@ -22,8 +22,8 @@ BLANKS = FIRST_SLOT - FIRST_SELECTOR
 pub length-format_cell : (slots : ℕ) → length (format_cell slots) ≡ CELL_BYTES
 length-format_cell slots = length-sealed FORMAT_GATE (format_fields slots) (length-format_fields slots)
 
-pub length-first_selector : length (selector_cell 1 0 0) ≡ CELL_BYTES
-length-first_selector = length-sealed SELECTOR_GATE (selector_fields 1 0 0) (length-selector_fields 1 0 0)
+pub length-first_selector : length (selector_cell first_selector) ≡ CELL_BYTES
+length-first_selector = length-sealed SELECTOR_GATE (selector_fields first_selector) (length-selector_fields first_selector)
 
 -- the byte that a read of one byte gave
 pub first_byte : (image gate : List ℕ) → range 0 1 image ≡ gate → byte_at 0 image ≡ byte_at 0 gate
@@ -44,7 +44,7 @@ more_closed slot None mid is = ap (option_map (written (slot_at slot) (0 ∷ [])
 more_closed slot (Some old) mid is = rw (add-one, is) refl
 
 -- all but the format cell was written
-pub laid_told : (slots : ℕ) (blanks selector : List ℕ) (content : Option (List ℕ)) → blanks ≡ zeros BLANKS → selector ≡ selector_cell 1 0 0
+pub laid_told : (slots : ℕ) (blanks selector : List ℕ) (content : Option (List ℕ)) → blanks ≡ zeros BLANKS → selector ≡ selector_cell first_selector
     → option_map (written FIRST_SELECTOR selector) (option_map (with_closed slots) (option_map (written FIRST_SELECTOR blanks) content)) ≡ option_map (laid_out slots) content
 unfolding laid_out
 laid_told slots blanks selector None blank is = refl
@@ -106,13 +106,13 @@ module _ (slots : ℕ) (old : List ℕ) (count : IsSlotCount slots) (sized : len
   size_of_closed : length closed ≡ size_of slots
   size_of_closed = length-closed slots blanked (omega (arith, size_of_blanked)) ∙ size_of_blanked
 
-  room_of_selector : 512 + length (selector_cell 1 0 0) ≤ length closed
+  room_of_selector : 512 + length (selector_cell first_selector) ≤ length closed
   room_of_selector = omega (arith, length-first_selector, size_of_closed)
 
   -- all but the format cell keeps the size
   pub size_of_laid : length (laid_out slots old) ≡ size_of slots
   unfolding laid_out
-  size_of_laid = length-written FIRST_SELECTOR (selector_cell 1 0 0) closed room_of_selector ∙ size_of_closed
+  size_of_laid = length-written FIRST_SELECTOR (selector_cell first_selector) closed room_of_selector ∙ size_of_closed
 
   abbrev formatted : List ℕ
   formatted = written 0 (format_cell slots) (laid_out slots old)
@@ -120,18 +120,18 @@ module _ (slots : ℕ) (old : List ℕ) (count : IsSlotCount slots) (sized : len
   room_of_cell : 0 + length (format_cell slots) ≤ length (laid_out slots old)
   room_of_cell = omega (arith, length-format_cell slots, size_of_laid)
 
-  selector_there : range 512 512 formatted ≡ selector_cell 1 0 0
+  selector_there : range 512 512 formatted ≡ selector_cell first_selector
   unfolding laid_out
   selector_there =
       range-written-after 512 512 0 (format_cell slots) (laid_out slots old) (omega (arith, length-format_cell slots)) room_of_cell
-      ∙ range-written FIRST_SELECTOR 512 (selector_cell 1 0 0) closed (omega (arith, size_of_closed)) length-first_selector
+      ∙ range-written FIRST_SELECTOR 512 (selector_cell first_selector) closed (omega (arith, size_of_closed)) length-first_selector
 
   -- after the first selector
   byte_after : (p : ℕ) → 1024 ≤ p → byte_at p formatted ≡ byte_at p closed
   unfolding laid_out
   byte_after p after =
       byte-written-after p 0 (format_cell slots) (laid_out slots old) (omega (arith, length-format_cell slots)) room_of_cell
-      ∙ byte-written-after p 512 (selector_cell 1 0 0) closed (omega (arith, length-first_selector)) room_of_selector
+      ∙ byte-written-after p 512 (selector_cell first_selector) closed (omega (arith, length-first_selector)) room_of_selector
 
   zero_there : (p : ℕ) → 1024 ≤ p → p < FIRST_SLOT → byte_at p formatted ≡ 0
   zero_there p after before =

@@ -3,7 +3,7 @@ use Rattle.std.specs.Prelude.{◌≡◌, ◌≢◌, ◌⊎◌, ℕ, ◌-◌, zer
 use Rattle.base_model.specs.Bytes.{written, byte_at, zeros}
 use Rattle.disk_format.specs.declared.numbers.TheConstants.{FORMAT_GATE, FIRST_SELECTOR, FIRST_SLOT}
 use Rattle.disk_format.specs.Layout.{size_of, slot_at}
-use Rattle.disk_format.specs.Cells.{selector_cell}
+use Rattle.disk_format.specs.Cells.{selector_cell, first_selector}
 use Rattle.dd_disk.specs.View.{DiskView, IsLater, CrashLeaves}
 use Rattle.refusals.specs.declared.refusal.Refusal.{Refusal}
 use Rattle.refusals.specs.declared.refusal.Refusal.TheVariants.{Memory, DiskRead, DiskWrite, AlreadyStore, WrongSize}
@@ -37,7 +37,7 @@ with_closed (suc slot) old = written (slot_at slot) (0 ∷ []) (with_closed slot
 -- an image with zeros in place of its selectors and journal, its slots closed, and then the first selector
 unfoldable pub laid_out : ℕ → List ℕ → List ℕ
 laid_out slots old =
-    written FIRST_SELECTOR (selector_cell 1 0 0) (with_closed slots (written FIRST_SELECTOR (zeros (FIRST_SLOT - FIRST_SELECTOR)) old))
+    written FIRST_SELECTOR (selector_cell first_selector) (with_closed slots (written FIRST_SELECTOR (zeros (FIRST_SLOT - FIRST_SELECTOR)) old))
 
 -- Calls that open no store: where no image that a crash may leave has one, none has one after them.
 pub record StaysBlank (slots : ℕ) (old new : DiskView) : Type 0 where

@@ -3,7 +3,7 @@ ghost use Rattle.std.specs.Prelude.{◌≡◌, ◌≢◌, ◌⊎◌, List, ℕ, 
 ghost use Rattle.base_model.specs.Bytes.{byte_at, zeros};
 ghost use Rattle.base_model.specs.Known.{Known, KnownWith};
 ghost use Rattle.disk_format.specs.Layout.{IsSlotCount, size_of};
-ghost use Rattle.disk_format.specs.Cells.{format_cell, selector_cell};
+ghost use Rattle.disk_format.specs.Cells.{format_cell, selector_cell, first_selector};
 ghost use Rattle.disk_format.specs.declared.numbers.TheConstants.{FORMAT_GATE as OPEN};
 ghost use Rattle.dd_disk.specs.View.{OnlyReads, IsDurable, CrashLeaves};
 ghost use Rattle.dd_disk.specs.Ending.{WriteCall, ending, CountsFault, Reads};
@@ -17,13 +17,21 @@ ghost use Rattle.recovery.specs.Formatting.{IsBlankOrFormatted, IsLeftByFormat, 
 
 use base_model::zeros;
 use dd_disk::{Disk, DiskFault, read_at, sync_all, write_gated};
-use disk_format::{FIRST_SELECTOR, FIRST_SLOT, FORMAT_GATE, size_of, slot_at};
-use journal_cells::{encode_format, encode_selector};
+use disk_format::{FIRST_SELECTOR, FIRST_SLOT, FORMAT_GATE, VERSION, size_of, slot_at};
+use journal_cells::{Selector, encode_format, encode_selector};
 use refusals::Refusal;
 use std::alloc::Global;
 
 /// The bytes of the selectors and of the journal after them.
 const BLANKS: usize = (FIRST_SLOT - FIRST_SELECTOR) as usize;
+
+/// The selector of an empty store.
+const FIRST: Selector = Selector {
+    generation: 1,
+    form: VERSION,
+    half: 0,
+    last: 0,
+};
 
 // Refuses a disk of another size than that of so many slots, and one that has a store.
 fn may_format<D: Disk>(disk: &mut D, slots: u32) -> Result<(), Refusal>
@@ -72,7 +80,7 @@ fn lay_out<D: Disk>(
 ) -> Result<(), DiskFault>
     requires size { (D.view disk.old).size ≡ size_of slots }
     requires blanks { blanks.now ≡ zeros BLANKS }
-    requires selector { selector.now ≡ selector_cell 1 0 0 }
+    requires selector { selector.now ≡ selector_cell first_selector }
     ensures ok { OnOk result ((D.view disk.new).content ≡ option_map (laid_out slots) (D.view disk.old).content) }
     ensures stays { StaysBlank slots (D.view disk.old) (D.view disk.new) }
     ensures faults { CountsFault (ending (λ _. WriteCall) result) (D.view disk.old).faults (D.view disk.new).faults }
@@ -95,7 +103,7 @@ fn write_cells<D: Disk>(
     requires size { (D.view disk.old).size ≡ size_of slots }
     requires blank { Known (D.view disk.old).content (λ _. (c : List ℕ) → (D.view disk.old).images c → IsBlankOf slots c) }
     requires blanks { blanks.now ≡ zeros BLANKS }
-    requires selector { selector.now ≡ selector_cell 1 0 0 }
+    requires selector { selector.now ≡ selector_cell first_selector }
     requires cell { cell.now ≡ format_cell slots }
     ensures { Writes (λ _ _. IsBlankOrFormatted slots) (λ _. IsFormatted slots) (ending (λ _. WriteCall) result)
         (D.view disk.old) (D.view disk.new) }
@@ -117,7 +125,7 @@ fn write_store<D: Disk>(
     requires size { (D.view disk.old).size ≡ size_of slots }
     requires blank { Known (D.view disk.old).content (IsBlankOf slots) }
     requires blanks { blanks.now ≡ zeros BLANKS }
-    requires selector { selector.now ≡ selector_cell 1 0 0 }
+    requires selector { selector.now ≡ selector_cell first_selector }
     requires cell { cell.now ≡ format_cell slots }
     ensures writes { Writes (λ _ _. IsBlankOrFormatted slots) (λ _. IsFormatted slots) (ending (λ _. WriteCall) result)
         (D.view disk.old) (D.view disk.new) }
@@ -150,7 +158,7 @@ pub fn format<D: Disk>(alloc: Global, disk: &mut D, slots: u32) -> Result<(), Re
     may_format(disk, slots)?;
     // All memory before the first write, so that want of it leaves the disk as it was.
     let blanks = zeros(alloc, BLANKS)?;
-    let selector = encode_selector(alloc, 1, 0, 0)?;
+    let selector = encode_selector(alloc, &FIRST)?;
     let cell = encode_format(alloc, slots)?;
     match write_store(disk, slots, &blanks, &selector, &cell) {
         Ok(()) => Ok(()),

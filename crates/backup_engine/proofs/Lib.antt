@@ -1,6 +1,9 @@
 mod Crashes
+mod Formatting
 mod Numbers
+mod Opened
 mod Putting
+mod Reading
 mod Restoring
 mod Taking
 mod TopCall

@@ -20,7 +20,7 @@ use Rattle.reply_text.specs.Text.{fault_line}
 use Rattle.store_model.specs.Files.{Files, with_file}
 use Rattle.store_model.specs.Image.{Store, IsStoreOf, StandsFor, StandsForFiles, names_of}
 use Rattle.store_model.specs.Commands.{IsFormatted, HoldsOpenableStore, HasNoCollisionsWith, CanPlace, CanCommit, with_segment, with_file_put}
-use Rattle.store_model.specs.Refusals.{FitsPut, IsPutRefusal, HasRoot, FitsRoot, IsRootRefusal, AreBytesOf}
+use Rattle.store_model.specs.Refusals.{FitsPut, IsPutRefusal, HasRoot, FitsRoot, IsRootRefusal, HasFound, AreBytesOf}
 use Rattle.store_state.specs.Refused.{blames}
 use Rattle.recovery.specs.Opening.{IsOpenRefusal}
 use Rattle.recovery.specs.Formatting.{IsFormatRefusal}
@@ -67,7 +67,8 @@ IsReadRefusal shown name DiskRead = Unit {0}
 IsReadRefusal shown name BadName = ¬ (IsName name) × shown IsOpen
 IsReadRefusal shown name NoFile = IsName name × shown (HoldsOpenableStore (λ store. map.get (names_of store) name ≡ None))
 IsReadRefusal shown name refusal =
-    IsName name × ((root : Root) × FitsRoot root refusal × shown (HoldsWith (λ store image. HasRoot name root store × IsRootRefusal root refusal store image)))
+    IsName name × ((root : Root) × FitsRoot root refusal × HasFound shown root refusal
+    × shown (HoldsOpenableStore (λ store. HasRoot name root store × IsRootRefusal root store refusal)))
 
 -- What has to be so where a command is refused. `shown` says what reads showed of the disk, `size` is its size, `left` and
 -- `left_now` what the source had and has.
@@ -148,7 +149,8 @@ IsLeftByIngest name left old new =
 -- What a refused `ingest` leaves: what stood before, or the store that was opened, with the file's segment.
 abbrev pub IsKeptByIngest : Option (List ℕ) → List ℕ → List ℕ → Type 0
 IsKeptByIngest left old new =
-    (new ≡ old) ⊎ (IsOpen old × ((bytes : List ℕ) × TakesIn left bytes × ((store : Store) (files : Files) → IsStoreOf old store files → IsStoreOf new (with_segment bytes store) files)))
+    (new ≡ old)
+    ⊎ (IsOpen old × ((bytes : List ℕ) × TakesIn left bytes × ((store : Store) (files : Files) → IsStoreOf old store files → (new ≡ old) ⊎ IsStoreOf new (with_segment bytes store) files)))
 
 -- What a crash may leave of a store of these files while a file is put in.
 abbrev pub MayStandFor : List ℕ → Option (List ℕ) → List ℕ → Files → List ℕ → Type 0

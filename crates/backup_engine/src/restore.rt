@@ -1,5 +1,5 @@
 //! Giving a file back.
-ghost use Rattle.std.specs.Prelude.{◌≡◌, None, IfOk, IfErr};
+ghost use Rattle.std.specs.Prelude.{◌≡◌, List, ℕ, Option, IfOk, IfErr};
 ghost use Rattle.dd_disk.specs.View.{OnlyReads};
 ghost use Rattle.dd_io.specs.Flow.{SourceView};
 ghost use Rattle.backup_engine.specs.Line.{Restore};
@@ -13,7 +13,7 @@ use std::alloc::Global;
 
 /// The bytes of the file of a name.
 pub(crate) fn restore<D: Disk>(alloc: Global, disk: &mut D, name: &str) -> Result<Vec<u8>, Ending>
-    ensures did { IfOk result (λ bytes. Did (Restore name.now) None (D.view disk.old) (D.view disk.new) bytes.items) }
+    ensures did { IfOk result (λ bytes. (left : Option (List ℕ)) → Did (Restore name.now) left (D.view disk.old) (D.view disk.new) bytes.items) }
     ensures gave_up { IfErr result (λ ending. (source : SourceView) → GaveUp (Restore name.now) source source (D.view disk.old) (D.view disk.new) ending) }
     ensures reads { OnlyReads (D.view disk.old) (D.view disk.new) }
 {

@@ -1,5 +1,6 @@
--- A header whose digest is at fault has another digest than it says.
-use Rattle.std.proofs.Common.{◌≡◌, ◌≢◌, ℕ, zero, suc, List, [], ◌∷◌, ◌++◌, length, Some, Err}
+-- What is so of the first fault of a header: it is not want of memory, and where its digest is at fault, it has another
+-- digest than it says.
+use Rattle.std.proofs.Common.{◌≡◌, ◌≢◌, ℕ, zero, suc, List, [], ◌∷◌, ◌++◌, length, Some, None, Err}
 use Rattle.base_model.specs.Bytes.{range}
 use Rattle.base_model.specs.Checks.{behind}
 use Rattle.base_model.proofs.Checks.{behind_err, step_err, unequal}
@@ -18,7 +19,7 @@ FaultDiffers (meta.Gate byte) = Unit {0}
 FaultDiffers meta.Magic = Unit {0}
 FaultDiffers (meta.Field offset got) = Unit {0}
 FaultDiffers (meta.Digest want got) = want ≢ got
-FaultDiffers meta.Memory = Unit {0}
+FaultDiffers meta.Memory = ⊥
 
 entries_differ : (kind : Kind) (data_length after : ℕ) (before : List Entry) (bytes : List ℕ) (fault : MetaFault) → entries_at kind data_length after before bytes ≡ Err fault → FaultDiffers fault
 unfolding entries_at
@@ -46,3 +47,10 @@ fault_differs bytes (meta.Gate byte) (Digest w g) first named = cc
 fault_differs bytes meta.Magic (Digest w g) first named = cc
 fault_differs bytes (meta.Field offset got) (Digest w g) first named = cc
 fault_differs bytes meta.Memory (Digest w g) first named = cc
+
+pub fault_is_named : (bytes : List ℕ) (fault : MetaFault) → header_at bytes ≡ Err fault → why_of bytes fault ≡ None → ⊥
+fault_is_named bytes (meta.Gate byte) first none = cc
+fault_is_named bytes meta.Magic first none = cc
+fault_is_named bytes (meta.Field offset got) first none = cc
+fault_is_named bytes (meta.Digest want got) first none = cc
+fault_is_named bytes meta.Memory first none = header_differs bytes meta.Memory first

@@ -5,10 +5,10 @@ use Rattle.dd_disk.specs.Ending.{Done, ending, Reads}
 use Rattle.dd_disk.proofs.Ended.{reads_then}
 use Rattle.container_log.specs.declared.fault.LogFault.{LogFault}
 use Rattle.container_log.specs.declared.fault.LogFault.TheVariants.{Memory, DiskRead, DiskWrite, Damaged, Corrupt}
-use Rattle.container_log.specs.Faults.{blames, IsDecodeFault, IsHeaderFault}
+use Rattle.container_log.specs.Faults.{blames, OrMemory, IsDecodeFault, IsHeaderFault}
 
 -- what is read from bytes blames no call of the disk
-pub decode_reads : {T : Type 0} (result : Result T LogFault) (bytes : List ℕ) (at : ℕ) (old new : DiskView) → IfErr result (IsDecodeFault bytes at) → Reads Done old new → Reads (ending blames result) old new
+pub decode_reads : {T : Type 0} (result : Result T LogFault) (bytes : List ℕ) (at : ℕ) (old new : DiskView) → IfErr result (OrMemory (IsDecodeFault bytes at)) → Reads Done old new → Reads (ending blames result) old new
 decode_reads (Ok m) bytes at old new fault reads = reads
 decode_reads (Err Memory) bytes at old new fault reads = reads_then old new reads
 decode_reads (Err DiskRead) bytes at old new fault reads = absurd fault
@@ -17,7 +17,7 @@ decode_reads (Err (Damaged place why)) bytes at old new fault reads = reads_then
 decode_reads (Err (Corrupt slot offset count want got)) bytes at old new fault reads = absurd fault
 
 -- what was found, by what is known more
-pub fault_weaker : (found more : List ℕ → Type 0) (at : ℕ) (e : LogFault) → ((bytes : List ℕ) → found bytes → more bytes) → IsHeaderFault found at e → IsHeaderFault more at e
+pub fault_weaker : (found more : List ℕ → Type 0) (at : ℕ) (e : LogFault) → ((bytes : List ℕ) → found bytes → more bytes) → OrMemory (IsHeaderFault found at) e → OrMemory (IsHeaderFault more at) e
 fault_weaker found more at Memory each fault = tt
 fault_weaker found more at DiskRead each fault = tt
 fault_weaker found more at DiskWrite each fault = absurd fault

@@ -110,10 +110,9 @@ module _ (slot id : ℕ) (kind : Kind) (segments : List Segment) (cell : List �
       written_whole whole,
     )
 
-pub writes_sealed : (slot id at : ℕ) (kind : Kind) (segments : List Segment) (cell : List ℕ) (e : Ending) (old new : DiskView) → at ≡ slot_at slot → slot_at slot + SLOT_BYTES ≤ old.size
-    → IsSlotOf id kind segments cell → Writes (TornFrom at cell) (Puts at cell) e old new → Writes (Seals slot id kind segments) (IsSealed slot id kind segments) e old new
-writes_sealed slot id at kind segments cell e old new there fits is writes =
-    let here : Writes (TornFrom (slot_at slot) cell) (Puts (slot_at slot) cell) e old new = subst (λ (p : ℕ). Writes (TornFrom p cell) (Puts p cell) e old new) there writes in
+pub writes_sealed : (slot id : ℕ) (kind : Kind) (segments : List Segment) (cell : List ℕ) (e : Ending) (old new : DiskView) → slot_at slot + SLOT_BYTES ≤ old.size
+    → IsSlotOf id kind segments cell → Writes (TornFrom (slot_at slot) cell) (Puts (slot_at slot) cell) e old new → Writes (Seals slot id kind segments) (IsSealed slot id kind segments) e old new
+writes_sealed slot id kind segments cell e old new fits is writes =
     writes_weaker (TornFrom (slot_at slot) cell) (Seals slot id kind segments) (Puts (slot_at slot) cell) (IsSealed slot id kind segments) old new
     (λ given c known whole. sealed_whole slot id kind segments cell is given c (omega (arith, fits, old.sized given known)) whole)
     e
@@ -121,4 +120,4 @@ writes_sealed slot id at kind segments cell e old new there fits is writes =
       | inl body ↦ body_torn slot id kind segments cell is d c (omega (arith, fits, old.image_sized d image)) body given
       | inr stands ↦ gate_torn slot id kind segments cell is given c (omega (arith, fits, old.sized given known)) stands.0 stands.1 d
     ])
-    here
+    writes

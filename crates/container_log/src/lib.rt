@@ -9,6 +9,6 @@ mod slot;
 mod writing;
 
 pub use fault::LogFault;
-pub use reading::{Spot, read_meta, read_segment};
+pub use reading::{Spot, read_meta, read_meta_into, read_segment};
 pub use slot::read_slot;
 pub use writing::{free, seal};

@@ -1,19 +1,19 @@
 //! Segments and headers read from their slots.
-ghost use Rattle.std.specs.Prelude.{◌≡◌, ◌+◌, ◌≤◌, List, ℕ, length, take, drop, Some, OnOk, IfOk, IfErr};
+ghost use Rattle.std.specs.Prelude.{◌≡◌, ◌+◌, ◌≤◌, List, ℕ, length, take, drop, vec_capacity, Some, OnOk, IfOk, IfErr};
 ghost use Rattle.sha2.specs.Sha256.{sha256};
-ghost use Rattle.disk_format.specs.declared.numbers.TheConstants.{HEADER_BYTES, SLOT_BYTES};
+ghost use Rattle.disk_format.specs.declared.numbers.TheConstants.{HEADER_BYTES, MOST_ENTRIES, SLOT_BYTES};
 ghost use Rattle.disk_format.specs.Layout.{slot_at, data_at};
 ghost use Rattle.dd_disk.specs.Ending.{ending, Reads, UnlessFailed};
 ghost use Rattle.dd_disk.specs.Shows.{Shows};
-ghost use Rattle.container_meta.specs.Spelling.{HeaderValue, IsHeader, view, header_spelling};
+ghost use Rattle.container_meta.specs.Spelling.{HeaderValue, IsHeader, IsSpelled, view, with_entries, header_spelling};
 ghost use Rattle.store_model.specs.Slots.{HoldsSlot};
 ghost use Rattle.container_log.specs.declared.fault.LogFault.TheVariants.{Corrupt, DiskRead};
-ghost use Rattle.container_log.specs.Faults.{blames, fails, why_of as named_by, IsDecodeFault, IsHeaderFault, IsSegmentFault};
+ghost use Rattle.container_log.specs.Faults.{blames, fails, OrMemory, why_of as named_by, IsDecodeFault, IsHeaderFault, IsSegmentFault};
 ghost use Rattle.container_log.specs.Parts.{header_bytes, segment_bytes, ReadAs};
 
 use crate::fault::LogFault;
 use base_model::seven_at;
-use container_meta::{Meta, MetaFault, decode, digest_of};
+use container_meta::{Entry, Header, Meta, MetaFault, decode, decode_into, digest_of};
 use dd_disk::{Disk, DiskFault, read_at};
 use disk_format::{HEADER_BYTES, Why, data_at, slot_at};
 use std::alloc::{AllocError, Global};
@@ -101,13 +101,34 @@ fn why_of(bytes: &[u8], fault: MetaFault) -> Option<Why>
     }
 }
 
+// The header in bytes that stand at a byte of the disk. Its entries go into a list that is given.
+#[tactic(auto, using(crate::proofs::Differ::fault_differs, crate::proofs::Differ::fault_is_named))]
+fn header_into(at: u64, bytes: &[u8], entries: &mut Vec<Entry>) -> Result<Header, LogFault>
+    requires length { length bytes.now ≡ HEADER_BYTES }
+    requires room { MOST_ENTRIES ≤ vec_capacity entries.old }
+    ensures found { IfOk result (λ h. IsSpelled (with_entries h entries.new.items) bytes.now) }
+    ensures only { (h : HeaderValue) → IsHeader h → bytes.now ≡ header_spelling h
+        → UnlessFailed fails (λ header. with_entries header entries.new.items ≡ h) result }
+    ensures room { vec_capacity entries.old ≤ vec_capacity entries.new }
+    ensures fault { IfErr result (IsDecodeFault bytes.now at) }
+{
+    match decode_into(bytes, entries) {
+        Ok(header) => Ok(header),
+        Err(fault) => match why_of(bytes, fault) {
+            Some(why) => Err(LogFault::Damaged { at, why }),
+            // Where no memory is taken, none is wanted.
+            None => unreachable!(),
+        },
+    }
+}
+
 // The header in bytes that stand at a byte of the disk.
 #[tactic(auto, using(crate::proofs::Differ::fault_differs))]
 pub(crate) fn header_in(alloc: Global, at: u64, bytes: &[u8]) -> Result<Meta, LogFault>
     requires { length bytes.now ≡ HEADER_BYTES }
-    ensures found { IfOk result (λ m. IsHeader (view m) × (bytes.now ≡ header_spelling (view m))) }
+    ensures found { IfOk result (λ m. IsSpelled (view m) bytes.now) }
     ensures only { (h : HeaderValue) → IsHeader h → bytes.now ≡ header_spelling h → UnlessFailed fails (λ m. view m ≡ h) result }
-    ensures fault { IfErr result (IsDecodeFault bytes.now at) }
+    ensures fault { IfErr result (OrMemory (IsDecodeFault bytes.now at)) }
 {
     match decode(alloc, bytes) {
         Ok(meta) => Ok(meta),
@@ -139,10 +160,38 @@ fn read_header<D: Disk>(disk: &mut D, slot: u32, bytes: &mut [u8]) -> Result<(),
     }
 }
 
-/// Reads the header and entries of the container in a slot of the disk.
+/// Reads the header of the container in a slot of the disk, and its entries into a list that is given, in the place of
+/// what it held. It takes no memory: `raw` is a buffer of `disk_format::HEADER_BYTES` bytes for what is read, and
+/// `entries` has memory for `disk_format::MOST_ENTRIES`.
 ///
 /// A header that breaks the format is `LogFault::Damaged`, by the first check that fails in the order of docs/FORMAT.md,
-/// 'Container slot'; so is a slot whose gate is closed.
+/// 'Container slot'; so is a slot whose gate is closed. After an error `raw` and `entries` may hold anything.
+pub fn read_meta_into<D: Disk>(
+    disk: &mut D,
+    slot: u32,
+    raw: &mut [u8],
+    entries: &mut Vec<Entry>,
+) -> Result<Header, LogFault>
+    requires place { slot_at slot + SLOT_BYTES ≤ (D.view disk.old).size }
+    requires length { length raw.old ≡ HEADER_BYTES }
+    requires room { MOST_ENTRIES ≤ vec_capacity entries.old }
+    ensures right { IfOk result (λ h. IsHeader (with_entries h entries.new.items)) }
+    ensures shown { IfOk result (λ h. Shows (D.view disk.old) (D.view disk.new) (λ image.
+        HoldsSlot image slot (Some (with_entries h entries.new.items)))) }
+    // The header that the slot holds is answered, unless the disk fails.
+    ensures only { Shows (D.view disk.old) (D.view disk.new) (λ image. (h : HeaderValue) → HoldsSlot image slot (Some h)
+        → UnlessFailed fails (λ header. with_entries header entries.new.items ≡ h) result) }
+    ensures room { vec_capacity entries.old ≤ vec_capacity entries.new }
+    ensures reads { Reads (ending blames result) (D.view disk.old) (D.view disk.new) }
+    ensures fault { IfErr result (IsHeaderFault (ReadAs (D.view disk.old) (D.view disk.new) (header_bytes slot)) (slot_at slot)) }
+{
+    read_header(disk, slot, raw)?;
+    header_into(slot_at(slot), raw, entries)
+}
+
+/// Reads the header and entries of the container in a slot of the disk.
+///
+/// The errors are those of `read_meta_into`, and `LogFault::Memory`.
 pub fn read_meta<D: Disk>(alloc: Global, disk: &mut D, slot: u32) -> Result<Meta, LogFault>
     requires { slot_at slot + SLOT_BYTES ≤ (D.view disk.old).size }
     ensures right { IfOk result (λ m. IsHeader (view m)) }
@@ -151,7 +200,8 @@ pub fn read_meta<D: Disk>(alloc: Global, disk: &mut D, slot: u32) -> Result<Meta
     ensures only { Shows (D.view disk.old) (D.view disk.new) (λ image.
         (h : HeaderValue) → HoldsSlot image slot (Some h) → UnlessFailed fails (λ m. view m ≡ h) result) }
     ensures reads { Reads (ending blames result) (D.view disk.old) (D.view disk.new) }
-    ensures fault { IfErr result (IsHeaderFault (ReadAs (D.view disk.old) (D.view disk.new) (header_bytes slot)) (slot_at slot)) }
+    ensures fault { IfErr result (OrMemory (IsHeaderFault (ReadAs (D.view disk.old) (D.view disk.new) (header_bytes slot))
+        (slot_at slot))) }
 {
     let mut bytes = buffer(alloc)?;
     read_header(disk, slot, bytes.as_mut_slice())?;

@@ -8,7 +8,7 @@ ghost use Rattle.dd_disk.specs.Shows.{Shows};
 ghost use Rattle.container_meta.specs.Spelling.{HeaderValue, IsHeader, view};
 ghost use Rattle.store_model.specs.Slots.{HoldsSlot};
 ghost use Rattle.container_log.specs.declared.fault.LogFault.TheVariants.{DiskRead};
-ghost use Rattle.container_log.specs.Faults.{blames, fails, IsHeaderFault};
+ghost use Rattle.container_log.specs.Faults.{blames, fails, OrMemory, IsHeaderFault};
 ghost use Rattle.container_log.specs.Parts.{header_bytes, ReadAs, ReadIfOpen};
 
 use crate::fault::LogFault;
@@ -57,8 +57,8 @@ fn read_open<D: Disk>(alloc: Global, disk: &mut D, slot: u32) -> Result<Meta, Lo
     ensures only { Shows (D.view disk.old) (D.view disk.new) (λ image. byte_at (slot_at slot) image ≡ CONTAINER_GATE →
         (h : HeaderValue) → HoldsSlot image slot (Some h) → UnlessFailed fails (λ m. view m ≡ h) result) }
     ensures reads { Reads (ending blames result) (D.view disk.old) (D.view disk.new) }
-    ensures fault { IfErr result (IsHeaderFault (λ bytes. (byte_at 0 bytes ≡ CONTAINER_GATE)
-        × ReadIfOpen (D.view disk.old) (D.view disk.new) slot bytes) (slot_at slot)) }
+    ensures fault { IfErr result (OrMemory (IsHeaderFault (λ bytes. (byte_at 0 bytes ≡ CONTAINER_GATE)
+        × ReadIfOpen (D.view disk.old) (D.view disk.new) slot bytes) (slot_at slot))) }
 {
     let mut bytes = buffer(alloc)?;
     read_rest(disk, slot, bytes.as_mut_slice())?;
@@ -77,8 +77,8 @@ pub fn read_slot<D: Disk>(alloc: Global, disk: &mut D, slot: u32) -> Result<Opti
     ensures only { Shows (D.view disk.old) (D.view disk.new) (λ image. (held : Option HeaderValue) → HoldsSlot image slot held
         → UnlessFailed fails (λ m. held ≡ option_map view m) result) }
     ensures reads { Reads (ending blames result) (D.view disk.old) (D.view disk.new) }
-    ensures fault { IfErr result (IsHeaderFault (λ bytes. (byte_at 0 bytes ≡ CONTAINER_GATE)
-        × ReadAs (D.view disk.old) (D.view disk.new) (header_bytes slot) bytes) (slot_at slot)) }
+    ensures fault { IfErr result (OrMemory (IsHeaderFault (λ bytes. (byte_at 0 bytes ≡ CONTAINER_GATE)
+        × ReadAs (D.view disk.old) (D.view disk.new) (header_bytes slot) bytes) (slot_at slot))) }
 {
     let gate = read_gate(disk, slot)?;
     if gate != CONTAINER_GATE {

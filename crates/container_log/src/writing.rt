@@ -3,7 +3,8 @@ ghost use Rattle.std.specs.Prelude.{◌≡◌, ◌+◌, ◌≤◌, true, length,
 ghost use Rattle.disk_format.specs.declared.numbers.TheConstants.{SLOT_BYTES};
 ghost use Rattle.disk_format.specs.Layout.{slot_at};
 ghost use Rattle.dd_disk.specs.Ending.{ending};
-ghost use Rattle.dd_disk.specs.Writes.{Writes};
+ghost use Rattle.dd_disk.specs.Gated.{TornFrom};
+ghost use Rattle.dd_disk.specs.Writes.{Puts, Writes};
 ghost use Rattle.container_meta.specs.Format.{is_id};
 ghost use Rattle.container_meta.specs.Spelling.{container_spelling};
 ghost use Rattle.container_log.specs.declared.fault.LogFault.TheVariants.{DiskWrite};
@@ -15,7 +16,22 @@ use container_meta::OpenContainer;
 use dd_disk::{Disk, DiskFault, write_gated, write_synced};
 use disk_format::slot_at;
 
-/// Writes a container under an id to a slot of the disk. `image` is 262,144 bytes for its spelling.
+// Writes the bytes of a container to its slot, the gate once the bytes after it are on the disk.
+fn write_container<D: Disk>(disk: &mut D, slot: u32, bytes: &[u8]) -> Result<(), LogFault>
+    requires place { slot_at slot + SLOT_BYTES ≤ (D.view disk.old).size }
+    requires length { length bytes.now ≡ SLOT_BYTES }
+    ensures writes { Writes (TornFrom (slot_at slot) bytes.now) (Puts (slot_at slot) bytes.now)
+        (ending blames result) (D.view disk.old) (D.view disk.new) }
+    ensures fault { IfErr result (λ fault. fault ≡ DiskWrite) }
+{
+    match write_gated(disk, slot_at(slot), bytes) {
+        Ok(()) => Ok(()),
+        Err(DiskFault) => Err(LogFault::DiskWrite),
+    }
+}
+
+/// Writes a container under an id to a slot of the disk. `image` is a buffer of `disk_format::SLOT_BYTES` bytes for its
+/// spelling, which it holds then, also where the write fails.
 ///
 /// The gate is written once the bytes after it are on the disk. The one error is `LogFault::DiskWrite`.
 pub fn seal<D: Disk>(
@@ -35,10 +51,7 @@ pub fn seal<D: Disk>(
     ensures fault { IfErr result (λ fault. fault ≡ DiskWrite) }
 {
     filled.encode(id, image);
-    match write_gated(disk, slot_at(slot), image) {
-        Ok(()) => Ok(()),
-        Err(DiskFault) => Err(LogFault::DiskWrite),
-    }
+    write_container(disk, slot, image)
 }
 
 /// Closes a slot of the disk: writes 0 over its gate. The one error is `LogFault::DiskWrite`.

@@ -72,7 +72,12 @@ field_checks bytes =
     ∷ []
 
 abbrev pub entry_at : ℕ → List ℕ → Entry
-entry_at at bytes = record { digest = range at 32 bytes; offset = number_at w32 (at + 32) bytes; length = number_at w32 (at + 36) bytes; level = byte_at (at + 40) bytes }
+entry_at at bytes = record {
+  digest = range at 32 bytes;
+  offset = number_at w32 (at + 32) bytes;
+  length = number_at w32 (at + 36) bytes;
+  level = byte_at (at + 40) bytes;
+}
 
 -- the data of an entry ends where the next one's begins, and that of the last at the data's end
 abbrev pub is_end : ℕ → ℕ → ℕ → Bool

@@ -45,12 +45,15 @@ data_of segments = flat_map (λ s. s.bytes) segments
 -- the entries of segments whose bytes begin at an offset
 abbrev pub entries_from : ℕ → List Segment → List Entry
 entries_from offset [] = []
-entries_from offset (s ∷ ss) = record { digest = sha256 s.bytes; offset = offset; length = length s.bytes; level = s.level } ∷ entries_from (offset + length s.bytes) ss
+entries_from offset (s ∷ ss) =
+    record { digest = sha256 s.bytes; offset = offset; length = length s.bytes; level = s.level }
+    ∷ entries_from (offset + length s.bytes) ss
 
 -- segments stand in a slot one after the other, from an offset of its data on
 abbrev pub StandFrom : ℕ → List Segment → List ℕ → Type 0
 StandFrom offset [] slot = Unit {0}
-StandFrom offset (s ∷ ss) slot = (range (HEADER_BYTES + offset) (length s.bytes) slot ≡ s.bytes) × StandFrom (offset + length s.bytes) ss slot
+StandFrom offset (s ∷ ss) slot =
+    (range (HEADER_BYTES + offset) (length s.bytes) slot ≡ s.bytes) × StandFrom (offset + length s.bytes) ss slot
 
 -- the segments that entries cut bytes into
 abbrev pub segments_in : List Entry → List ℕ → List Segment

@@ -36,7 +36,8 @@ entries_spelling entries = flat_map entry_spelling entries
 
 -- bytes 1 to 23
 unfoldable pub fields_spelling : ℕ → Kind → ℕ → ℕ → List ℕ
-fields_spelling id kind count data_length = magic ++ to_be_bytes w64 id ++ kind_byte kind ∷ 0 ∷ to_be_bytes w16 count ++ to_be_bytes w32 data_length
+fields_spelling id kind count data_length =
+    magic ++ to_be_bytes w64 id ++ kind_byte kind ∷ 0 ∷ to_be_bytes w16 count ++ to_be_bytes w32 data_length
 
 -- the 512 bytes before the entries: the gate, the fields, the digest of fields and entries, zeros
 unfoldable pub front_spelling : List ℕ → List ℕ → List ℕ
@@ -88,4 +89,5 @@ header_of id kind segments = record { id = id; kind = kind; data_length = bytes_
 
 -- the 262,144 bytes of a container: its header, the bytes of the segments, zeros
 abbrev pub container_spelling : ℕ → Kind → List Segment → List ℕ
-container_spelling id kind segments = header_spelling (header_of id kind segments) ++ data_of segments ++ zeros (DATA_BYTES - bytes_in segments)
+container_spelling id kind segments =
+    header_spelling (header_of id kind segments) ++ data_of segments ++ zeros (DATA_BYTES - bytes_in segments)

@@ -1,22 +1,7 @@
 //! Containers that are being filled.
 
-ghost use Rattle.std.specs.Prelude.{
-  ◌≡◌,
-  ◌+◌,
-  vec_len,
-  vec_capacity,
-  ◌<◌,
-  ◌≤◌,
-  ◌↔◌,
-  [],
-  ◌∷◌,
-  ◌++◌,
-  length,
-  IfOk,
-  IsTrue,
-  true,
-  if◌then◌else◌,
-};
+ghost use Rattle.std.specs.Prelude.{◌≡◌, ◌+◌, vec_len, vec_capacity, ◌<◌, ◌≤◌, ◌↔◌, [], ◌∷◌, ◌++◌, length, IfOk, IsTrue, true};
+ghost use Rattle.std.specs.Prelude.{if◌then◌else◌};
 
 use crate::entry::{Entry, stands_in};
 use crate::kind::{Kind, byte_of};

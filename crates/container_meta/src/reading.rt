@@ -6,23 +6,9 @@ ghost use Rattle.base_model.specs.Checks.{behind, passes};
 ghost use Rattle.base_model.specs.Numbers.{number_at};
 ghost use Rattle.container_meta.specs.declared.fault.MetaFault.TheVariants.{Field};
 ghost use Rattle.container_meta.specs.Spelling.{HeaderValue, IsHeader, IsSpelled, view, with_entries, header_spelling, bytes_of};
-ghost use Rattle.container_meta.specs.Reading.{
-  Gives,
-  filled,
-  decoded,
-  count_at,
-  kind_at as kind_in,
-  opening_checks,
-  digest_checks,
-  field_checks,
-  end_checks,
-  next_read,
-  entries_at,
-  header_at,
-  is_end,
-  zeros_in_front as zeros_before,
-  zeros_end as end_of_zeros,
-};
+ghost use Rattle.container_meta.specs.Reading.{Gives, filled, decoded, count_at, kind_at as kind_in, opening_checks, digest_checks};
+ghost use Rattle.container_meta.specs.Reading.{field_checks, end_checks, next_read, entries_at, header_at, is_end};
+ghost use Rattle.container_meta.specs.Reading.{zeros_in_front as zeros_before, zeros_end as end_of_zeros};
 
 use crate::MAGIC;
 use crate::container::push_entry;

@@ -10,7 +10,7 @@ use Rattle.std.proofs.lemmas.List.{length-append, append-nil, drop-set-lt, drop-
 use Rattle.std.proofs.lemmas.List.Sums.{sum_by-append}
 use Rattle.merkle_file.specs.declared.node.Child.{Child}
 use Rattle.merkle_file.specs.declared.top.Top.{Top}
-use Rattle.merkle_file.specs.declared.node.TheConstants.{GREATEST_CHILDREN}
+use Rattle.disk_format.specs.declared.numbers.TheConstants.{MOST_CHILDREN}
 use Rattle.merkle_file.specs.Node.{Contents, total, spelling, IsChild}
 use Rattle.merkle_file.specs.Tree.{parent}
 use Rattle.merkle_file.specs.Building.{count_of, total_of}
@@ -67,12 +67,12 @@ unfolding close
 close_some level carried row rows e some = rw (e, ne_eqb (length (row ++ carried)) 0 (λ z. omega (arith, z))) refl
 
 -- divisible by the greatest number of children
-room_above : (n row count carried : ℕ) → 0 < n → GREATEST_CHILDREN * (row + GREATEST_CHILDREN * count + carried) ≤ GREATEST_CHILDREN ^ suc n → 1 ≤ row + carried → GREATEST_CHILDREN * (count + 1) ≤ GREATEST_CHILDREN ^ n
+room_above : (n row count carried : ℕ) → 0 < n → MOST_CHILDREN * (row + MOST_CHILDREN * count + carried) ≤ MOST_CHILDREN ^ suc n → 1 ≤ row + carried → MOST_CHILDREN * (count + 1) ≤ MOST_CHILDREN ^ n
 room_above zero row count carried lt room some = absurd (omega arith)
-room_above (suc m) row count carried lt room some = omega (arith, room, pow-suc GREATEST_CHILDREN (suc m), pow-suc GREATEST_CHILDREN m)
+room_above (suc m) row count carried lt room some = omega (arith, room, pow-suc MOST_CHILDREN (suc m), pow-suc MOST_CHILDREN m)
 
-room_none : (n row count carried : ℕ) → GREATEST_CHILDREN * (row + GREATEST_CHILDREN * count + carried) ≤ GREATEST_CHILDREN ^ suc n → GREATEST_CHILDREN * count ≤ GREATEST_CHILDREN ^ n
-room_none n row count carried room = omega (arith, room, pow-suc GREATEST_CHILDREN n)
+room_none : (n row count carried : ℕ) → MOST_CHILDREN * (row + MOST_CHILDREN * count + carried) ≤ MOST_CHILDREN ^ suc n → MOST_CHILDREN * count ≤ MOST_CHILDREN ^ n
+room_none n row count carried room = omega (arith, room, pow-suc MOST_CHILDREN n)
 
 pub can_close_some : (level : ℕ) (carried row : List Child) (rows : List (List Child)) → CanClose level carried (row ∷ rows) → (are_empty rows && nat_le (length (row ++ carried)) 1) ≡ false
     → 1 ≤ length (row ++ carried) → CanClose (level + 1) (parent (node_of level (row ++ carried)) ∷ []) rows

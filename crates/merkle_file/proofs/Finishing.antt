@@ -8,7 +8,7 @@ use Rattle.std.proofs.lemmas.List.{length-append, append-nil, map-append, nil_fr
 use Rattle.std.proofs.lemmas.Grind.{flat_map-append}
 use Rattle.std.proofs.lemmas.List.Concat.{flat_map-cons}
 use Rattle.merkle_file.specs.declared.node.Child.{Child}
-use Rattle.merkle_file.specs.declared.node.TheConstants.{GREATEST_CHILDREN}
+use Rattle.disk_format.specs.declared.numbers.TheConstants.{MOST_CHILDREN}
 use Rattle.merkle_file.specs.Node.{Contents}
 use Rattle.merkle_file.specs.Tree.{Tree, joined, child_of, nodes_of, level_of, root_of, parent, is_whole, whole_from, rest_from, whole, rest, last_group, grouped, tree_over}
 use Rattle.merkle_file.specs.Building.{open_trees, nodes_in_rows}
@@ -33,7 +33,7 @@ left_all begun (x ∷ xs) e =
 
 -- the groups of a list with one more, or none
 grouped_with : {X : Type 0} (xs carried : List X) → length carried ≤ 1 → grouped (xs ++ carried) ≡ whole xs ++ last_group (rest xs ++ carried)
-grouped_with xs [] le = rw (append-nil, append-nil) refl
+grouped_with xs [] le = simp append-nil
 grouped_with xs (x ∷ []) le =
     elim (cases_Bool (is_whole (rest xs ++ x ∷ []))) [
       | inl full ↦ (let g = whole_push [] xs x full in rw (g.0, g.1) (append-nil (whole xs ++ (rest xs ++ x ∷ []) ∷ []) ∙ ap (λ gs. whole xs ++ gs) (sym (last_some (rest xs) x))))
@@ -48,7 +48,7 @@ grouped_with xs (x ∷ y ∷ ys) le = absurd (omega arith)
 -- ---- empty rows
 
 -- Where all rows are empty, there is no tree.
-none_where_empty : {A : Type 0} (leaf : A → Child) (levels level : ℕ) (ts : List (Tree A)) → length ts < GREATEST_CHILDREN ^ levels → are_empty (child_rows leaf (open_trees levels level ts)) ≡ true → ts ≡ []
+none_where_empty : {A : Type 0} (leaf : A → Child) (levels level : ℕ) (ts : List (Tree A)) → length ts < MOST_CHILDREN ^ levels → are_empty (child_rows leaf (open_trees levels level ts)) ≡ true → ts ≡ []
 unfolding open_trees
 none_where_empty leaf zero level ts room e = nil_from_length ts (omega arith)
 none_where_empty leaf (suc levels) level ts room e =
@@ -57,7 +57,7 @@ none_where_empty leaf (suc levels) level ts room e =
     let none : length (map (child_of leaf) (rest ts)) ≡ 0 = eqb-true _ _ both.0 in
     let row : length (rest ts) ≡ 0 = omega (arith, length-children leaf (rest ts), none) in
     let above = none_where_empty leaf levels (level + 1) (map (joined (level + 1)) (whole ts))
-    (omega (arith, room, count.sum, pow-suc GREATEST_CHILDREN levels, length-joined (level + 1) (whole ts))) both.1 in
+    (omega (arith, room, count.sum, pow-suc MOST_CHILDREN levels, length-joined (level + 1) (whole ts))) both.1 in
     nil_from_length ts (omega (arith, count.sum, row, length-joined (level + 1) (whole ts), ap length above))
 
 -- where there is no tree, all rows are empty, and no node is in them
@@ -161,14 +161,14 @@ more_levels levels level [] le = absurd (omega arith)
 more_levels levels level (t ∷ []) le = absurd (omega arith)
 more_levels levels level (t ∷ u ∷ ts) le = refl
 
-room_some : (levels groups left carried : ℕ) → 0 < levels → GREATEST_CHILDREN * ((GREATEST_CHILDREN * groups + left) + carried) ≤ GREATEST_CHILDREN ^ suc levels → 1 ≤ left + carried
-    → GREATEST_CHILDREN * (groups + 1) ≤ GREATEST_CHILDREN ^ levels
+room_some : (levels groups left carried : ℕ) → 0 < levels → MOST_CHILDREN * ((MOST_CHILDREN * groups + left) + carried) ≤ MOST_CHILDREN ^ suc levels → 1 ≤ left + carried
+    → MOST_CHILDREN * (groups + 1) ≤ MOST_CHILDREN ^ levels
 room_some zero groups left carried lt room some = absurd (omega arith)
-room_some (suc m) groups left carried lt room some = omega (arith, room, pow-suc GREATEST_CHILDREN (suc m), pow-suc GREATEST_CHILDREN m)
+room_some (suc m) groups left carried lt room some = omega (arith, room, pow-suc MOST_CHILDREN (suc m), pow-suc MOST_CHILDREN m)
 
-pow_positive : (k : ℕ) → 0 < GREATEST_CHILDREN ^ k
+pow_positive : (k : ℕ) → 0 < MOST_CHILDREN ^ k
 pow_positive zero = omega arith
-pow_positive (suc k) = omega (arith, pow-suc GREATEST_CHILDREN k, pow_positive k)
+pow_positive (suc k) = omega (arith, pow-suc MOST_CHILDREN k, pow_positive k)
 
 last_cases : {X : Type 0} (xs : List X) → (xs ≡ []) ⊎ ((1 ≤ length xs) × (last_group xs ≡ xs ∷ []))
 last_cases [] = inl refl
@@ -199,13 +199,13 @@ two_trees leaf levels level ts carried test =
     ]
 
 level_above : {A : Type 0} (leaf : A → Child) (levels level : ℕ) (ts carried : List (Tree A)) → is_only leaf levels level ts carried ≡ false
-    → GREATEST_CHILDREN * (length ts + length carried) ≤ GREATEST_CHILDREN ^ suc levels → 0 < levels
+    → MOST_CHILDREN * (length ts + length carried) ≤ MOST_CHILDREN ^ suc levels → 0 < levels
 level_above leaf zero level ts carried test room = absurd (omega (arith, two_trees leaf zero level ts carried test, room))
 level_above leaf (suc levels) level ts carried test room = omega arith
 
 -- the last row
 finish_here : {A : Type 0} (leaf : A → Child) (levels level : ℕ) (ts carried : List (Tree A)) → AtLevel level ts → AtLevel level carried
-    → GREATEST_CHILDREN * (length ts + length carried) ≤ GREATEST_CHILDREN ^ suc levels → is_only leaf levels level ts carried ≡ true
+    → MOST_CHILDREN * (length ts + length carried) ≤ MOST_CHILDREN ^ suc levels → is_only leaf levels level ts carried ≡ true
     → IsFinished leaf level (rest ts ∷ open_trees levels (level + 1) (map (joined (level + 1)) (whole ts))) carried (tree_over (suc levels) level (ts ++ carried))
 finish_here leaf levels level ts carried at ct room test =
     let r : List (Tree _) = rest ts in
@@ -215,7 +215,7 @@ finish_here leaf levels level ts carried at ct room test =
     let both = and_parts (are_empty (child_rows leaf rows)) (nat_le (length (map (child_of leaf) r ++ map (child_of leaf) carried)) 1) test in
     let few : length (map (child_of leaf) r ++ map (child_of leaf) carried) ≤ 1 = leb-true _ 1 both.1 in
     let none : ups ≡ [] = none_where_empty leaf levels (level + 1) ups
-    (omega (arith, room, count.sum, pow-suc GREATEST_CHILDREN levels, pow_positive levels, length-joined (level + 1) (whole ts))) both.0 in
+    (omega (arith, room, count.sum, pow-suc MOST_CHILDREN levels, pow_positive levels, length-joined (level + 1) (whole ts))) both.0 in
     let no_group : whole ts ≡ [] = nil_from_length (whole ts) (omega (arith, length-joined (level + 1) (whole ts), ap length none)) in
     let all : r ≡ ts = left_all [] ts no_group in
     let no_node : nodes_in_rows leaf rows ≡ [] = ap (λ (us : List (Tree _)). nodes_in_rows leaf (open_trees levels (level + 1) us)) none ∙ (empty_where_none leaf levels (level + 1)).1 in
@@ -224,7 +224,7 @@ finish_here leaf levels level ts carried at ct room test =
     (subst (λ (xs : List (Tree _)). AtLevel level (xs ++ carried)) (sym all) (all_both level ts carried at ct)))
 
 pub finish_law : {A : Type 0} (leaf : A → Child) (levels level : ℕ) (ts carried : List (Tree A)) → length carried ≤ 1 → 0 < levels → AtLevel level ts → AtLevel level carried
-    → GREATEST_CHILDREN * (length ts + length carried) ≤ GREATEST_CHILDREN ^ levels
+    → MOST_CHILDREN * (length ts + length carried) ≤ MOST_CHILDREN ^ levels
     → IsFinished leaf level (open_trees levels level ts) carried (tree_over levels level (ts ++ carried))
 unfolding open_trees
 finish_law leaf zero level ts carried le lt at ct room = absurd (omega arith)
@@ -244,7 +244,7 @@ finish_law leaf (suc levels) level ts carried le lt at ct room =
           elim (last_cases (r ++ carried)) [
             | inl none ↦
                 (let ih = finish_law leaf levels (level + 1) ups [] (omega arith) above (at_joined (level + 1) (whole ts)) tt
-                (omega (arith, room, count.sum, pow-suc GREATEST_CHILDREN levels, counted_ups)) in
+                (omega (arith, room, count.sum, pow-suc MOST_CHILDREN levels, counted_ups)) in
                 let same : tree_over (suc levels) level (ts ++ carried) ≡ tree_over levels (level + 1) (ups ++ []) = tree ∙ rw none refl in
                 rw same (finish_skip leaf level r rows carried _ more none ih))
             | inr some ↦

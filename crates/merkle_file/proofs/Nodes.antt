@@ -9,7 +9,7 @@ use Rattle.std.proofs.lemmas.List.Concat.{flat_map-cons}
 use Rattle.std.proofs.lemmas.List.Sums.{sum_by-cons}
 use Rattle.merkle_file.specs.declared.node.Child.{Child}
 use Rattle.merkle_file.specs.declared.reading.Asked.{Asked}
-use Rattle.merkle_file.specs.declared.node.TheConstants.{FORM, GREATEST_CHILDREN, GREATEST_LENGTH}
+use Rattle.disk_format.specs.declared.numbers.TheConstants.{NODE_FORM, MOST_CHILDREN, MOST_FILE}
 use Rattle.merkle_file.specs.Node.{Contents, total, entry, spelling, IsChild, IsNode}
 use Rattle.merkle_file.specs.Reading.{short_number, long_number, child_in, children_in, contents_in, head_fault, entry_fault, entries_fault, first_fault, IsAsked, IsWithin}
 use Rattle.merkle_file.proofs.Fields.{IsBytes, IsBytes-drop, nothing_if, nothing_unless, or_else_none, short_back, short_again, IsRight, entry_takes, entry_parts, length-entry, child_again, length_again, entry_again}
@@ -79,9 +79,12 @@ pub record IsHead (asked : Asked) (bytes : List ℕ) : Type 0 where
   pub long : 4 ≤ length bytes
   pub lowest : asked.lowest ≤ slice_index bytes 0
   pub greatest : slice_index bytes 0 ≤ asked.greatest
-  pub form : slice_index bytes 1 ≡ FORM
+  pub form : slice_index bytes 1 ≡ NODE_FORM
   pub some : 1 ≤ short_number (drop 2 bytes)
-  pub most : short_number (drop 2 bytes) ≤ GREATEST_CHILDREN
+  pub most : short_number (drop 2 bytes) ≤ MOST_CHILDREN
+
+positive : (n : ℕ) → (n ≡ 0 → ⊥) → 1 ≤ n
+positive n some = omega arith
 
 head_takes : (asked : Asked) (bytes : List ℕ) → head_fault asked bytes ≡ None → IsHead asked bytes
 unfolding head_fault
@@ -100,7 +103,7 @@ head_takes asked bytes e =
       lowest = ltb-false _ _ level.0;
       greatest = ltb-false _ _ level.1;
       form = eqb-true _ _ d.0;
-      some = omega (arith, some);
+      some = positive (short_number (drop 2 bytes)) some;
       most = ltb-false _ _ count.1;
     }
 
@@ -111,9 +114,9 @@ head_again asked bytes h =
       ne_eqb (length bytes) 0 (λ e. omega (arith, h.long)),
       or_from _ _ (le-ltb (slice_index bytes 0) asked.lowest h.lowest) (le-ltb asked.greatest (slice_index bytes 0) h.greatest),
       ne_eqb (length bytes) 1 (λ e. omega (arith, h.long)),
-      eq-eqb (slice_index bytes 1) FORM h.form,
+      eq-eqb (slice_index bytes 1) NODE_FORM h.form,
       le-ltb (length bytes) 4 h.long,
-      or_from _ _ (ne_eqb (short_number (drop 2 bytes)) 0 (λ e. omega (arith, h.some))) (le-ltb GREATEST_CHILDREN (short_number (drop 2 bytes)) h.most),
+      or_from _ _ (ne_eqb (short_number (drop 2 bytes)) 0 (λ e. omega (arith, h.some))) (le-ltb MOST_CHILDREN (short_number (drop 2 bytes)) h.most),
     ) refl
 
 four_parts : (bytes : List ℕ) → 4 ≤ length bytes → bytes ≡ (slice_index bytes 0 ∷ slice_index bytes 1 ∷ take 2 (drop 2 bytes)) ++ drop 4 bytes
@@ -146,8 +149,8 @@ node_takes asked bytes may fits e =
       spelled = four_parts bytes head.long
           ∙ ap (λ (t : List ℕ). (slice_index bytes 0 ∷ slice_index bytes 1 ∷ take 2 (drop 2 bytes)) ++ t) entries.parts
           ∙ ap (λ (f : ℕ). (slice_index bytes 0 ∷ f ∷ take 2 (drop 2 bytes)) ++ said) head.form
-          ∙ ap (λ (t : List ℕ). (slice_index bytes 0 ∷ FORM ∷ t) ++ said) (sym back)
-          ∙ ap (λ (k : ℕ). (slice_index bytes 0 ∷ FORM ∷ to_be_bytes w16 k) ++ said) (sym entries.count);
+          ∙ ap (λ (t : List ℕ). (slice_index bytes 0 ∷ NODE_FORM ∷ t) ++ said) (sym back)
+          ∙ ap (λ (k : ℕ). (slice_index bytes 0 ∷ NODE_FORM ∷ to_be_bytes w16 k) ++ said) (sym entries.count);
       node = record {
         above = omega (arith, may.lowest, head.lowest);
         level = omega (arith, may.greatest, head.greatest);
@@ -165,7 +168,7 @@ none_sum [] e = refl
 none_sum (c ∷ cs) e = absurd (omega (arith, e))
 
 -- entries that are spelled have no wrong field, and are read again
-entries_again : (asked : Asked) (level at before : ℕ) (children : List Child) → asked.most ≤ GREATEST_LENGTH → AllByRecursion (IsChild level) children
+entries_again : (asked : Asked) (level at before : ℕ) (children : List Child) → asked.most ≤ MOST_FILE → AllByRecursion (IsChild level) children
     → before + total children ≤ asked.most → (0 < length children → asked.least ≤ before + total children)
     → (entries_fault asked level (length children) at before (flat_map entry children) ≡ None) × (children_in (length children) (flat_map entry children) ≡ children)
 unfolding entries_fault children_in
@@ -197,7 +200,7 @@ unfolding spelling
 node_again asked n may right within =
     let rest : List ℕ = flat_map entry n.children in
     let k : ℕ = length n.children in
-    let bytes : List ℕ = n.level ∷ FORM ∷ (to_be_bytes w16 k ++ rest) in
+    let bytes : List ℕ = n.level ∷ NODE_FORM ∷ (to_be_bytes w16 k ++ rest) in
     let small : k < 2 ^ 16 = omega (arith, right.most) in
     let count : short_number (drop 2 bytes) ≡ k = short_again k rest small in
     let entries = entries_again asked n.level 4 0 n.children may.most right.each (omega (arith, within.most)) (λ h. omega (arith, within.least)) in

@@ -9,7 +9,7 @@ use Rattle.std.proofs.lemmas.List.{length-append, append-nil, set_split, drop_mo
 use Rattle.std.proofs.lemmas.List.Sums.{sum_by-append}
 use Rattle.sha2.specs.Sha256.{sha256, digest_bytes}
 use Rattle.merkle_file.specs.declared.node.Child.{Child}
-use Rattle.merkle_file.specs.declared.node.TheConstants.{GREATEST_CHILDREN, GREATEST_LENGTH}
+use Rattle.disk_format.specs.declared.numbers.TheConstants.{MOST_CHILDREN, MOST_FILE}
 use Rattle.merkle_file.specs.Node.{Contents, total, spelling, IsChild}
 use Rattle.merkle_file.specs.Tree.{parent}
 use Rattle.merkle_file.specs.Building.{count_of, total_of}
@@ -46,20 +46,20 @@ can_take level c row rows h = record {
 abbrev pub node_over : ℕ → List Child → Child → Contents
 node_over level row c = record { level = level + 1; children = row ++ c ∷ [] }
 
-pub parent_is_child : (level : ℕ) (row : List Child) (c : Child) → 1 ≤ c.length → total row + c.length ≤ GREATEST_LENGTH → IsChild (level + 1 + 1) (parent (node_over level row c))
+pub parent_is_child : (level : ℕ) (row : List Child) (c : Child) → 1 ≤ c.length → total row + c.length ≤ MOST_FILE → IsChild (level + 1 + 1) (parent (node_over level row c))
 parent_is_child level row c some most = record {
   digest = length-sha256 (spelling (node_over level row c));
   some = omega (arith, total_push row c, some);
   most = rw (ne_eqb (level + 1 + 1) 1 (λ e. omega (arith, e))) (omega (arith, total_push row c, most));
 }
 
-pub can_next : (level : ℕ) (c : Child) (row : List Child) (rows : List (List Child)) → length row + 1 ≡ GREATEST_CHILDREN → CanPlace level c (row ∷ rows) → CanPlace (level + 1) (parent (node_over level row c)) rows
+pub can_next : (level : ℕ) (c : Child) (row : List Child) (rows : List (List Child)) → length row + 1 ≡ MOST_CHILDREN → CanPlace level c (row ∷ rows) → CanPlace (level + 1) (parent (node_over level row c)) rows
 unfolding total_of count_of
 can_next level c row rows full h = record {
   levels = omega (arith, h.levels);
   right = h.right.2;
   child = parent_is_child level row c h.child.some (omega (arith, h.total));
-  room = omega (arith, h.room, pow-suc GREATEST_CHILDREN (length rows), full);
+  room = omega (arith, h.room, pow-suc MOST_CHILDREN (length rows), full);
   total = omega (arith, h.total, total_push row c);
 }
 
@@ -67,15 +67,15 @@ pub can_not : (level : ℕ) (c : Child) → CanPlace level c [] → ⊥
 unfolding count_of
 can_not level c h = omega (arith, h.room)
 
-pub place_next : (level : ℕ) (c : Child) (row : List Child) (rows : List (List Child)) → length row + 1 ≡ GREATEST_CHILDREN
+pub place_next : (level : ℕ) (c : Child) (row : List Child) (rows : List (List Child)) → length row + 1 ≡ MOST_CHILDREN
     → place level c (row ∷ rows) ≡ record { rows = [] ∷ (place (level + 1) (parent (node_over level row c)) rows).rows; nodes = node_over level row c ∷ (place (level + 1) (parent (node_over level row c)) rows).nodes }
 unfolding place
-place_next level c row rows full = rw (eq-eqb (length row + 1) GREATEST_CHILDREN full) refl
+place_next level c row rows full = rw (eq-eqb (length row + 1) MOST_CHILDREN full) refl
 
-pub place_here : (level : ℕ) (c : Child) (row : List Child) (rows : List (List Child)) → length row + 1 < GREATEST_CHILDREN
+pub place_here : (level : ℕ) (c : Child) (row : List Child) (rows : List (List Child)) → length row + 1 < MOST_CHILDREN
     → place level c (row ∷ rows) ≡ record { rows = (row ++ c ∷ []) ∷ rows; nodes = [] }
 unfolding place
-place_here level c row rows few = rw (ne_eqb (length row + 1) GREATEST_CHILDREN (λ e. omega (arith, e))) refl
+place_here level c row rows few = rw (ne_eqb (length row + 1) MOST_CHILDREN (λ e. omega (arith, e))) refl
 
 -- ---- one row after the other, in a loop
 
@@ -98,7 +98,7 @@ pub record IsOnWay (i : ℕ) (c : Child) (now : List (List Child)) (nodes : List
   pub nodes_too : nodes ++ (place i c (drop i now)).nodes ≡ all_nodes
 
 pub way_ends : (i : ℕ) (c : Child) (now : List (List Child)) (nodes : List Contents) (all_rows : List (List Child)) (all_nodes : List Contents) (row : List Child)
-    → IsOnWay i c now nodes all_rows all_nodes → i < length now → drop i now ≡ row ∷ drop (i + 1) now → length row + 1 < GREATEST_CHILDREN
+    → IsOnWay i c now nodes all_rows all_nodes → i < length now → drop i now ≡ row ∷ drop (i + 1) now → length row + 1 < MOST_CHILDREN
     → (set now i (row ++ c ∷ []) ≡ all_rows) × (nodes ≡ all_nodes)
 way_ends i c now nodes all_rows all_nodes row h lt front few =
     let placed : place i c (drop i now) ≡ record { rows = (row ++ c ∷ []) ∷ drop (i + 1) now; nodes = [] } = ap (place i c) front ∙ place_here i c row (drop (i + 1) now) few in (
@@ -107,7 +107,7 @@ way_ends i c now nodes all_rows all_nodes row h lt front few =
     )
 
 pub way_goes_on : (i : ℕ) (c : Child) (now : List (List Child)) (nodes : List Contents) (all_rows : List (List Child)) (all_nodes : List Contents) (row : List Child)
-    → IsOnWay i c now nodes all_rows all_nodes → i < length now → drop i now ≡ row ∷ drop (i + 1) now → length row + 1 ≡ GREATEST_CHILDREN
+    → IsOnWay i c now nodes all_rows all_nodes → i < length now → drop i now ≡ row ∷ drop (i + 1) now → length row + 1 ≡ MOST_CHILDREN
     → IsOnWay (i + 1) (parent (node_over i row c)) (set now i []) (nodes ++ node_over i row c ∷ []) all_rows all_nodes
 way_goes_on i c now nodes all_rows all_nodes row h lt front full =
     let node : Contents = node_over i row c in

@@ -4,7 +4,7 @@ use Rattle.std.proofs.lemmas.Bool.{cases_lt}
 use Rattle.std.specs.Global.{Vec}
 use Rattle.std.proofs.lemmas.List.{append-nil, map-append, take_at}
 use Rattle.merkle_file.specs.declared.node.Child.{Child}
-use Rattle.merkle_file.specs.declared.node.TheConstants.{GREATEST_CHILDREN, GREATEST_LEVEL}
+use Rattle.disk_format.specs.declared.numbers.TheConstants.{MOST_CHILDREN, MOST_LEVEL}
 use Rattle.merkle_file.specs.Node.{Contents, IsChild}
 use Rattle.merkle_file.specs.Tree.{Leaf, nodes_of, root_of, itself, whole_from, rest_from, tree_over, tree_of}
 use Rattle.merkle_file.specs.Building.{Progress, Holds, IsProgress, MayPush, open_trees, open_over, nodes_in_rows, count_of, total_of, AreRows}
@@ -31,24 +31,24 @@ fresh_counts (suc levels) level =
     let h = fresh_counts levels (level + 1) in
     (omega (arith, h.0), omega (arith, h.1), (omega arith, tt, h.2), ap suc h.3)
 
-pub fresh_progress : (rows : List (List Child)) (finished : List Contents) → rows ≡ replicate GREATEST_LEVEL [] → IsProgress (progress rows finished)
+pub fresh_progress : (rows : List (List Child)) (finished : List Contents) → rows ≡ replicate MOST_LEVEL [] → IsProgress (progress rows finished)
 fresh_progress rows finished e =
-    let h = fresh_counts GREATEST_LEVEL 0 in
+    let h = fresh_counts MOST_LEVEL 0 in
     rw e (record { levels = h.3; rows = h.2; count = omega (arith, h.0); total = omega (arith, h.1) })
 
-pub fresh_holds : (rows : List (List Child)) (finished : List Contents) → rows ≡ replicate GREATEST_LEVEL [] → finished ≡ [] → Holds (progress rows finished) [] []
+pub fresh_holds : (rows : List (List Child)) (finished : List Contents) → rows ≡ replicate MOST_LEVEL [] → finished ≡ [] → Holds (progress rows finished) [] []
 fresh_holds rows finished e none =
-    let h = fresh_counts GREATEST_LEVEL 0 in
+    let h = fresh_counts MOST_LEVEL 0 in
     record {
-      rows = e ∙ sym (fresh_rows GREATEST_LEVEL 0);
-      nodes = none ∙ sym (empty_where_none itself GREATEST_LEVEL 0).1;
+      rows = e ∙ sym (fresh_rows MOST_LEVEL 0);
+      nodes = none ∙ sym (empty_where_none itself MOST_LEVEL 0).1;
       count = ap count_of e ∙ h.0;
       length = ap total_of e ∙ h.1;
     }
 
 -- rows that were cleared, where they are part of a vector
-pub cleared : (n : ℕ) (rows before : List (Vec Child)) (other : List (Vec Child)) → length rows ≡ n → items_of rows ≡ replicate (length before) [] → length before ≡ GREATEST_LEVEL
-    → items_of (take n (rows ++ drop (length rows) other)) ≡ replicate GREATEST_LEVEL []
+pub cleared : (n : ℕ) (rows before : List (Vec Child)) (other : List (Vec Child)) → length rows ≡ n → items_of rows ≡ replicate (length before) [] → length before ≡ MOST_LEVEL
+    → items_of (take n (rows ++ drop (length rows) other)) ≡ replicate MOST_LEVEL []
 cleared n rows before other len empty six = ap items_of (take_at rows (drop (length rows) other) n len) ∙ empty ∙ ap (λ (k : ℕ). replicate k []) six
 
 -- ---- one more
@@ -63,7 +63,7 @@ pub placed_right : (level : ℕ) (c : Child) (rows : List (List Child)) → CanP
 unfolding count_of total_of
 placed_right level c [] h = absurd (can_not level c h)
 placed_right level c (row ∷ rows) h =
-    elim (cases_lt (length row + 1) GREATEST_CHILDREN) [
+    elim (cases_lt (length row + 1) MOST_CHILDREN) [
       | inl few ↦
           (let here = place_here level c row rows few in
           rw here (record {
@@ -73,7 +73,7 @@ placed_right level c (row ∷ rows) h =
             total_is = omega (arith, total_push row c);
           }))
       | inr many ↦
-          (let full : length row + 1 ≡ GREATEST_CHILDREN = omega (arith, h.right.0) in
+          (let full : length row + 1 ≡ MOST_CHILDREN = omega (arith, h.right.0) in
           let next = place_next level c row rows full in
           let above = placed_right (level + 1) _ rows (can_next level c row rows full h) in
           rw next (record {
@@ -130,8 +130,8 @@ pub pushed_holds : (rows rows' : List (List Child)) (finished finished' : List C
     → Holds (progress rows finished) pushed taken → Holds (progress rows' finished') (pushed ++ c ∷ []) taken
 pushed_holds rows rows' finished finished' c pushed taken h may digest e f holds =
     let placed = placed_right 0 c rows (may_place rows finished c h may digest) in
-    let law = push_law itself GREATEST_LEVEL 0 (map Leaf pushed) (Leaf c) (omega (arith, length-leaves pushed, holds.count, may.count)) in
-    let later : open_trees GREATEST_LEVEL 0 (map Leaf pushed ++ Leaf c ∷ []) ≡ open_over (pushed ++ c ∷ []) = ap (open_trees GREATEST_LEVEL 0) (sym (map-append Leaf pushed (c ∷ []))) in
+    let law = push_law itself MOST_LEVEL 0 (map Leaf pushed) (Leaf c) (omega (arith, length-leaves pushed, holds.count, may.count)) in
+    let later : open_trees MOST_LEVEL 0 (map Leaf pushed ++ Leaf c ∷ []) ≡ open_over (pushed ++ c ∷ []) = ap (open_trees MOST_LEVEL 0) (sym (map-append Leaf pushed (c ∷ []))) in
     record {
       rows = e ∙ ap (λ (rs : List (List Child)). (place 0 c rs).rows) holds.rows ∙ law.rows ∙ ap (child_rows itself) later;
       nodes = ap (λ (ns : List Contents). taken ++ ns) f ∙ sym (append_assoc taken finished (place 0 c rows).nodes)
@@ -155,8 +155,8 @@ at_leaves (c ∷ cs) = (refl, at_leaves cs)
 pub finished_holds : (rows : List (List Child)) (finished : List Contents) (pushed : List Child) (taken : List Contents) → IsProgress (progress rows finished) → Holds (progress rows finished) pushed taken
     → ((close 0 [] rows).top ≡ root_of itself (tree_of pushed)) × (taken ++ (finished ++ (close 0 [] rows).nodes) ≡ nodes_of itself (tree_of pushed))
 finished_holds rows finished pushed taken h holds =
-    let law = finish_law itself GREATEST_LEVEL 0 (map Leaf pushed) [] (omega arith) (omega arith) (at_leaves pushed) tt (omega (arith, length-leaves pushed, holds.count, h.count)) in
-    let same : tree_over GREATEST_LEVEL 0 (map Leaf pushed ++ []) ≡ tree_of pushed = ap (tree_over GREATEST_LEVEL 0) (append-nil (map Leaf pushed)) in (
+    let law = finish_law itself MOST_LEVEL 0 (map Leaf pushed) [] (omega arith) (omega arith) (at_leaves pushed) tt (omega (arith, length-leaves pushed, holds.count, h.count)) in
+    let same : tree_over MOST_LEVEL 0 (map Leaf pushed ++ []) ≡ tree_of pushed = ap (tree_over MOST_LEVEL 0) (append-nil (map Leaf pushed)) in (
       ap (λ (rs : List (List Child)). (close 0 [] rs).top) holds.rows ∙ law.top ∙ ap (root_of itself) same,
       sym (append_assoc taken finished (close 0 [] rows).nodes)
           ∙ ap (λ (ns : List Contents). ns ++ (close 0 [] rows).nodes) holds.nodes

@@ -7,7 +7,7 @@ use Rattle.std.proofs.lemmas.List.{length-append, append-nil, map-append}
 use Rattle.std.proofs.lemmas.Grind.{flat_map-append}
 use Rattle.std.proofs.lemmas.List.Concat.{flat_map-cons}
 use Rattle.merkle_file.specs.declared.node.Child.{Child}
-use Rattle.merkle_file.specs.declared.node.TheConstants.{GREATEST_CHILDREN}
+use Rattle.disk_format.specs.declared.numbers.TheConstants.{MOST_CHILDREN}
 use Rattle.merkle_file.specs.Node.{Contents}
 use Rattle.merkle_file.specs.Tree.{Tree, trees, joined, child_of, children_of, nodes_of, nodes_below, parent, is_whole, whole_from, rest_from, whole, rest}
 use Rattle.merkle_file.specs.Building.{open_trees, nodes_in_rows}
@@ -39,18 +39,18 @@ rest_push begun (y ∷ ys) x e =
 
 -- how many groups, and how many elements are left
 pub record IsCounted (begun all groups left : ℕ) : Type 0 where
-  pub sum : begun + all ≡ GREATEST_CHILDREN * groups + left
-  pub few : left < GREATEST_CHILDREN
+  pub sum : begun + all ≡ MOST_CHILDREN * groups + left
+  pub few : left < MOST_CHILDREN
 
-pub counted : {X : Type 0} (begun xs : List X) → length begun < GREATEST_CHILDREN → IsCounted (length begun) (length xs) (length (whole_from begun xs)) (length (rest_from begun xs))
+pub counted : {X : Type 0} (begun xs : List X) → length begun < MOST_CHILDREN → IsCounted (length begun) (length xs) (length (whole_from begun xs)) (length (rest_from begun xs))
 unfolding whole_from rest_from
 counted begun [] lt = record { sum = omega arith; few = lt }
 counted begun (y ∷ ys) lt =
     let one : length (begun ++ y ∷ []) ≡ length begun + 1 = length-append begun (y ∷ []) in
     elim (cases_Bool (is_whole (begun ++ y ∷ []))) [
-      | inl full ↦ (let ih = counted [] ys (omega arith) in let is : length (begun ++ y ∷ []) ≡ GREATEST_CHILDREN = eqb-true _ _ full in
+      | inl full ↦ (let ih = counted [] ys (omega arith) in let is : length (begun ++ y ∷ []) ≡ MOST_CHILDREN = eqb-true _ _ full in
           rw full (record { sum = omega (arith, ih.sum, is, one); few = ih.few }))
-      | inr few ↦ (let isnt : length (begun ++ y ∷ []) ≡ GREATEST_CHILDREN → ⊥ = eqb-false _ _ few in
+      | inr few ↦ (let isnt : length (begun ++ y ∷ []) ≡ MOST_CHILDREN → ⊥ = eqb-false _ _ few in
           let ih = counted (begun ++ y ∷ []) ys (omega (arith, one, isnt)) in
           rw few (record { sum = omega (arith, ih.sum, one); few = ih.few }))
     ]
@@ -105,7 +105,7 @@ length-joined level [] = refl
 length-joined level (g ∷ groups) = ap suc (length-joined level groups)
 
 -- the first row has room
-push_here : {A : Type 0} (leaf : A → Child) (level : ℕ) (r : List (Tree A)) (rows : List (List (Tree A))) (t : Tree A) → length r + 1 < GREATEST_CHILDREN
+push_here : {A : Type 0} (leaf : A → Child) (level : ℕ) (r : List (Tree A)) (rows : List (List (Tree A))) (t : Tree A) → length r + 1 < MOST_CHILDREN
     → IsPushed leaf level (r ∷ rows) ((r ++ t ∷ []) ∷ rows) t
 push_here leaf level r rows t few =
     let len = length-children leaf r in
@@ -117,7 +117,7 @@ push_here leaf level r rows t few =
     }
 
 -- the first row becomes a tree of the next
-push_up : {A : Type 0} (leaf : A → Child) (level : ℕ) (r : List (Tree A)) (rows rows' : List (List (Tree A))) (t : Tree A) → length r + 1 ≡ GREATEST_CHILDREN
+push_up : {A : Type 0} (leaf : A → Child) (level : ℕ) (r : List (Tree A)) (rows rows' : List (List (Tree A))) (t : Tree A) → length r + 1 ≡ MOST_CHILDREN
     → IsPushed leaf (level + 1) rows rows' (joined (level + 1) (r ++ t ∷ [])) → IsPushed leaf level (r ∷ rows) ([] ∷ rows') t
 push_up leaf level r rows rows' t full up =
     let len = length-children leaf r in
@@ -136,7 +136,7 @@ push_up leaf level r rows rows' t full up =
           ∙ ap (λ (ns : List Contents). ns ++ []) nodes_up;
     }
 
-pub push_law : {A : Type 0} (leaf : A → Child) (levels level : ℕ) (ts : List (Tree A)) (t : Tree A) → length ts + 1 < GREATEST_CHILDREN ^ levels
+pub push_law : {A : Type 0} (leaf : A → Child) (levels level : ℕ) (ts : List (Tree A)) (t : Tree A) → length ts + 1 < MOST_CHILDREN ^ levels
     → IsPushed leaf level (open_trees levels level ts) (open_trees levels level (ts ++ t ∷ [])) t
 unfolding open_trees
 push_law leaf zero level ts t room = absurd (omega arith)
@@ -148,15 +148,15 @@ push_law leaf (suc levels) level ts t room =
     elim (cases_Bool (is_whole (r ++ t ∷ []))) [
       | inl full ↦
           (let groups = whole_push [] ts t full in
-          let is : length r + 1 ≡ GREATEST_CHILDREN = omega (arith, length-append r (t ∷ []), eqb-true _ _ full) in
+          let is : length r + 1 ≡ MOST_CHILDREN = omega (arith, length-append r (t ∷ []), eqb-true _ _ full) in
           let up : Tree _ = joined (level + 1) (r ++ t ∷ []) in
-          let ih = push_law leaf levels (level + 1) above up (omega (arith, room, count.sum, pow-suc GREATEST_CHILDREN levels, length-joined (level + 1) (whole ts), is)) in
+          let ih = push_law leaf levels (level + 1) above up (omega (arith, room, count.sum, pow-suc MOST_CHILDREN levels, length-joined (level + 1) (whole ts), is)) in
           let later : [] ∷ open_trees levels (level + 1) (above ++ up ∷ []) ≡ open_trees (suc levels) level (ts ++ t ∷ []) =
           rw (groups.0, groups.1, map-append) refl in
           subst (λ (after : List (List (Tree _))). IsPushed leaf level (r ∷ rows) after t) later (push_up leaf level r rows (open_trees levels (level + 1) (above ++ up ∷ [])) t is ih))
       | inr few ↦
           (let groups = rest_push [] ts t few in
-          let isnt : length r + 1 ≡ GREATEST_CHILDREN → ⊥ = λ e. eqb-false _ _ few (length-append r (t ∷ []) ∙ e) in
+          let isnt : length r + 1 ≡ MOST_CHILDREN → ⊥ = λ e. eqb-false _ _ few (length-append r (t ∷ []) ∙ e) in
           let later : (r ++ t ∷ []) ∷ rows ≡ open_trees (suc levels) level (ts ++ t ∷ []) = rw (groups.0, groups.1) refl in
           subst (λ (after : List (List (Tree _))). IsPushed leaf level (r ∷ rows) after t) later (push_here leaf level r rows t (omega (arith, isnt, count.few))))
     ]

@@ -6,7 +6,7 @@ use Rattle.std.proofs.lemmas.Bool.{cases_Bool, ne_eqb, eqb-false}
 use Rattle.std.proofs.lemmas.List.{length-append}
 use Rattle.std.proofs.lemmas.List.Sums.{sum_by-append, sum_by-cons}
 use Rattle.merkle_file.specs.declared.node.Child.{Child}
-use Rattle.merkle_file.specs.declared.node.TheConstants.{GREATEST_CHILDREN, GREATEST_LENGTH, GREATEST_LEVEL, GREATEST_SEGMENT}
+use Rattle.disk_format.specs.declared.numbers.TheConstants.{MOST_CHILDREN, MOST_FILE, MOST_LEVEL, MOST_SEGMENT}
 use Rattle.merkle_file.specs.Node.{IsChild, spelling, total}
 use Rattle.merkle_file.specs.Tree.{Tree, Empty, Leaf, Node, trees, joined, child_of, children_of, level_of, of_segment, is_whole, whole_from, rest_from, whole, rest, last_group, grouped, tree_over}
 use Rattle.merkle_file.specs.Walk.{AreBelow, IsTree, TreesAreRight, contents_of, trees_in}
@@ -28,14 +28,14 @@ pub record IsRightAt (level : ℕ) (t : Segments) : Type 0 where
 pub record IsGroup (level : ℕ) (g : List Segments) : Type 0 where
   pub each : AllByRecursion (IsRightAt level) g
   pub some : 1 ≤ length g
-  pub few : length g ≤ GREATEST_CHILDREN
+  pub few : length g ≤ MOST_CHILDREN
 
-push_group : (level : ℕ) (begun : List Segments) (t : Segments) → length begun < GREATEST_CHILDREN → AllByRecursion (IsRightAt level) begun → IsRightAt level t → IsGroup level (begun ++ t ∷ [])
+push_group : (level : ℕ) (begun : List Segments) (t : Segments) → length begun < MOST_CHILDREN → AllByRecursion (IsRightAt level) begun → IsRightAt level t → IsGroup level (begun ++ t ∷ [])
 push_group level begun t lt all right = record { each = all_push (IsRightAt level) begun t all right; some = omega (arith, length-append begun (t ∷ [])); few = omega (arith, length-append begun (t ∷ [])) }
 
 -- whole groups are groups, and what is left is less than one
-groups_right : (level : ℕ) (begun ts : List Segments) → length begun < GREATEST_CHILDREN → AllByRecursion (IsRightAt level) begun → AllByRecursion (IsRightAt level) ts
-    → AllByRecursion (IsGroup level) (whole_from begun ts) × AllByRecursion (IsRightAt level) (rest_from begun ts) × (length (rest_from begun ts) < GREATEST_CHILDREN)
+groups_right : (level : ℕ) (begun ts : List Segments) → length begun < MOST_CHILDREN → AllByRecursion (IsRightAt level) begun → AllByRecursion (IsRightAt level) ts
+    → AllByRecursion (IsGroup level) (whole_from begun ts) × AllByRecursion (IsRightAt level) (rest_from begun ts) × (length (rest_from begun ts) < MOST_CHILDREN)
 unfolding whole_from rest_from
 groups_right level begun [] lt all right = (tt, all, lt)
 groups_right level begun (t ∷ ts) lt all right =
@@ -43,11 +43,11 @@ groups_right level begun (t ∷ ts) lt all right =
     elim (cases_Bool (is_whole (begun ++ t ∷ []))) [
       | inl full ↦ (let others = groups_right level [] ts (omega arith) tt right.1 in rw full ((group, others.0), others.1, others.2))
       | inr few ↦
-          (let isnt : length (begun ++ t ∷ []) ≡ GREATEST_CHILDREN → ⊥ = eqb-false _ _ few in
+          (let isnt : length (begun ++ t ∷ []) ≡ MOST_CHILDREN → ⊥ = eqb-false _ _ few in
           rw few (groups_right level (begun ++ t ∷ []) ts (omega (arith, isnt, group.few)) group.each right.1))
     ]
 
-last_right : (level : ℕ) (ts : List Segments) → AllByRecursion (IsRightAt level) ts → length ts < GREATEST_CHILDREN → AllByRecursion (IsGroup level) (last_group ts)
+last_right : (level : ℕ) (ts : List Segments) → AllByRecursion (IsRightAt level) ts → length ts < MOST_CHILDREN → AllByRecursion (IsGroup level) (last_group ts)
 last_right level [] all lt = tt
 last_right level (t ∷ ts) all lt = (record { each = all; some = omega arith; few = omega arith }, tt)
 
@@ -103,7 +103,7 @@ some_size : (level : ℕ) (g : List Segments) → 1 ≤ length g → AllByRecurs
 some_size level [] some all = absurd (omega arith)
 some_size level (t ∷ ts) some all = omega (arith, all.0.child.some, sum_by-cons size t ts)
 
-joined_right : (level : ℕ) (g : List Segments) → level < GREATEST_LEVEL → IsGroup level g → sizes g ≤ GREATEST_LENGTH → IsRightAt (level + 1) (joined (level + 1) g)
+joined_right : (level : ℕ) (g : List Segments) → level < MOST_LEVEL → IsGroup level g → sizes g ≤ MOST_FILE → IsRightAt (level + 1) (joined (level + 1) g)
 joined_right level g low group few =
     let each = group_each level g group.each in
     let sum = group_total g in
@@ -127,7 +127,7 @@ joined_right level g low group few =
       };
     }
 
-row_right : (level : ℕ) (gs : List (List Segments)) → level < GREATEST_LEVEL → AllByRecursion (IsGroup level) gs → sum_by sizes gs ≤ GREATEST_LENGTH
+row_right : (level : ℕ) (gs : List (List Segments)) → level < MOST_LEVEL → AllByRecursion (IsGroup level) gs → sum_by sizes gs ≤ MOST_FILE
     → AllByRecursion (IsRightAt (level + 1)) (map (joined (level + 1)) gs) × (sizes (map (joined (level + 1)) gs) ≡ sum_by sizes gs)
 row_right level [] low all few = (tt, refl)
 row_right level (g ∷ gs) low all few =
@@ -144,7 +144,7 @@ one_tree level Empty right = tt
 one_tree level (Leaf segment) right = (right.tree, tt)
 one_tree level (Node l ts) right = (right.tree, tt)
 
-tree_right : (levels level : ℕ) (ts : List Segments) → level + levels ≡ GREATEST_LEVEL → AllByRecursion (IsRightAt level) ts → sizes ts ≤ GREATEST_LENGTH → AllByRecursion IsTree (trees_in (tree_over levels level ts))
+tree_right : (levels level : ℕ) (ts : List Segments) → level + levels ≡ MOST_LEVEL → AllByRecursion (IsRightAt level) ts → sizes ts ≤ MOST_FILE → AllByRecursion IsTree (trees_in (tree_over levels level ts))
 unfolding tree_over
 tree_right zero level [] e all few = tt
 tree_right (suc levels) level [] e all few = tt
@@ -153,11 +153,11 @@ tree_right (suc levels) level (t ∷ []) e all few = one_tree level t all.0
 tree_right zero level (t ∷ u ∷ ts) e all few = tt
 tree_right (suc levels) level (t ∷ u ∷ ts) e all few =
     let gs : List (List Segments) = grouped (t ∷ u ∷ ts) in
-    let sum : sum_by sizes gs ≤ GREATEST_LENGTH = omega (arith, grouped_sizes (t ∷ u ∷ ts), few) in
+    let sum : sum_by sizes gs ≤ MOST_FILE = omega (arith, grouped_sizes (t ∷ u ∷ ts), few) in
     let row = row_right level gs (omega (arith, e)) (grouped_right level (t ∷ u ∷ ts) all) sum in
     tree_right levels (level + 1) (map (joined (level + 1)) gs) (omega (arith, e)) row.0 (omega (arith, row.1, sum))
 
-leaves_right : (segments : List (List ℕ)) → AllByRecursion (λ segment. (1 ≤ length segment) × (length segment ≤ GREATEST_SEGMENT)) segments
+leaves_right : (segments : List (List ℕ)) → AllByRecursion (λ segment. (1 ≤ length segment) × (length segment ≤ MOST_SEGMENT)) segments
     → AllByRecursion (IsRightAt 0) (map Leaf segments) × (sizes (map Leaf segments) ≡ sum_by length segments)
 leaves_right [] all = (tt, refl)
 leaves_right (s ∷ ss) all =
@@ -169,4 +169,4 @@ leaves_right (s ∷ ss) all =
 pub trees_are_right : TreesAreRight
 trees_are_right segments all few =
     let right = leaves_right segments all in
-    tree_right GREATEST_LEVEL 0 (map Leaf segments) refl right.0 (omega (arith, right.1, few))
+    tree_right MOST_LEVEL 0 (map Leaf segments) refl right.0 (omega (arith, right.1, few))

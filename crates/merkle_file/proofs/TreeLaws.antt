@@ -8,7 +8,7 @@ use Rattle.std.proofs.lemmas.Grind.{flat_map-append}
 use Rattle.std.proofs.lemmas.List.Concat.{flat_map-cons}
 use Rattle.merkle_file.specs.declared.node.Child.{Child}
 use Rattle.merkle_file.specs.declared.top.Top.{Top}
-use Rattle.merkle_file.specs.declared.node.TheConstants.{GREATEST_CHILDREN, GREATEST_LEVEL}
+use Rattle.disk_format.specs.declared.numbers.TheConstants.{MOST_CHILDREN, MOST_LEVEL}
 use Rattle.merkle_file.specs.Node.{Contents}
 use Rattle.merkle_file.specs.Tree.{Tree, Trees, Empty, Leaf, Node, NoTree, Then, trees, joined, leaves, leaves_below, child_of, children_of, nodes_of, nodes_below, level_of, root_of, of_segment, itself, parent, is_whole, whole_from, rest_from, whole, rest, last_group, grouped, tree_over, tree_of, SegmentsAlike, LeavesAreSegments}
 use Rattle.merkle_file.proofs.Pushing.{counted}
@@ -64,7 +64,7 @@ length_map h [] = refl
 length_map h (x ∷ xs) = ap suc (length_map h xs)
 
 same_whole : {X Y : Type 0} (h : X → Y) (begun : List X) (x : X) → is_whole (map h begun ++ h x ∷ []) ≡ is_whole (begun ++ x ∷ [])
-same_whole h begun x = ap (λ (n : ℕ). eqb n GREATEST_CHILDREN) (omega (arith, length-append (map h begun) (h x ∷ []), length-append begun (x ∷ []), length_map h begun))
+same_whole h begun x = ap (λ (n : ℕ). eqb n MOST_CHILDREN) (omega (arith, length-append (map h begun) (h x ∷ []), length-append begun (x ∷ []), length_map h begun))
 
 whole-map : {X Y : Type 0} (h : X → Y) (begun xs : List X) → whole_from (map h begun) (map h xs) ≡ map (map h) (whole_from begun xs)
 unfolding whole_from
@@ -122,7 +122,7 @@ leaves-map f (x ∷ xs) = ap (λ (ts : List (Tree _)). Leaf (f x) ∷ ts) (leave
 pub segments_alike : SegmentsAlike
 segments_alike segments =
     let same : tree_of (map of_segment segments) ≡ with_leaves of_segment (tree_of segments) =
-    ap (tree_over GREATEST_LEVEL 0) (leaves-map of_segment segments) ∙ tree_over-map of_segment GREATEST_LEVEL 0 (map Leaf segments) in
+    ap (tree_over MOST_LEVEL 0) (leaves-map of_segment segments) ∙ tree_over-map of_segment MOST_LEVEL 0 (map Leaf segments) in
     (ap (root_of itself) same ∙ same_root of_segment (tree_of segments), ap (nodes_of itself) same ∙ same_nodes of_segment (tree_of segments))
 
 -- ---- the leaves of a tree
@@ -176,12 +176,12 @@ last_few [] = omega arith
 last_few (x ∷ xs) = omega arith
 
 -- there are few enough groups for one level less
-groups_few : {A : Type 0} (levels level : ℕ) (ts : List (Tree A)) → length ts ≤ GREATEST_CHILDREN ^ suc levels → length (map (joined level) (grouped ts)) ≤ GREATEST_CHILDREN ^ levels
+groups_few : {A : Type 0} (levels level : ℕ) (ts : List (Tree A)) → length ts ≤ MOST_CHILDREN ^ suc levels → length (map (joined level) (grouped ts)) ≤ MOST_CHILDREN ^ levels
 groups_few levels level ts few =
     let count = counted [] ts (omega arith) in
-    omega (arith, few, count.sum, pow-suc GREATEST_CHILDREN levels, length_map (joined level) (grouped ts), length-append (whole ts) (last_group (rest ts)), length-last (rest ts), last_few (rest ts))
+    omega (arith, few, count.sum, pow-suc MOST_CHILDREN levels, length_map (joined level) (grouped ts), length-append (whole ts) (last_group (rest ts)), length-last (rest ts), last_few (rest ts))
 
-leaves_over : {A : Type 0} (levels level : ℕ) (ts : List (Tree A)) → length ts ≤ GREATEST_CHILDREN ^ levels → leaves (tree_over levels level ts) ≡ flat ts
+leaves_over : {A : Type 0} (levels level : ℕ) (ts : List (Tree A)) → length ts ≤ MOST_CHILDREN ^ levels → leaves (tree_over levels level ts) ≡ flat ts
 unfolding tree_over
 leaves_over zero level [] few = refl
 leaves_over (suc levels) level [] few = refl
@@ -198,4 +198,4 @@ flat-leaves (x ∷ xs) = flat_map-cons leaves (Leaf x) (map Leaf xs) ∙ ap (λ 
 
 pub leaves_are_segments : LeavesAreSegments
 leaves_are_segments segments few =
-    leaves_over GREATEST_LEVEL 0 (map Leaf segments) (omega (arith, few, length_map {Y = Tree (List ℕ)} Leaf segments)) ∙ flat-leaves segments
+    leaves_over MOST_LEVEL 0 (map Leaf segments) (omega (arith, few, length_map {Y = Tree (List ℕ)} Leaf segments)) ∙ flat-leaves segments

@@ -4,7 +4,7 @@ use Rattle.std.proofs.lemmas.List.{drop-drop, length-append, reverse-append, tak
 use Rattle.std.proofs.Math.Seq.{drop-length}
 use Rattle.merkle_file.specs.declared.node.Child.{Child}
 use Rattle.merkle_file.specs.declared.top.Top.{Top}
-use Rattle.merkle_file.specs.declared.node.TheConstants.{GREATEST_CHILDREN}
+use Rattle.disk_format.specs.declared.numbers.TheConstants.{MOST_CHILDREN}
 use Rattle.merkle_file.specs.declared.stack.TheConstants.{STACK}
 use Rattle.merkle_file.specs.Node.{Contents, IsNode}
 use Rattle.merkle_file.specs.Reading.{child_in, children_in, IsAsked, IsWithin}
@@ -36,7 +36,7 @@ pushed_child before level all i c e =
 
 -- ---- room
 
-room_below : (level : ℕ) (cs : List Child) (ts : List Top) → 1 ≤ level → length cs ≤ GREATEST_CHILDREN → length ts + (GREATEST_CHILDREN - 1) * level < STACK → HasRoom ts → HasRoom (map (below level) cs ++ ts)
+room_below : (level : ℕ) (cs : List Child) (ts : List Top) → 1 ≤ level → length cs ≤ MOST_CHILDREN → length ts + (MOST_CHILDREN - 1) * level < STACK → HasRoom ts → HasRoom (map (below level) cs ++ ts)
 room_below level [] ts some few room rest = rest
 room_below level (c ∷ cs) ts some few room rest =
     (λ _. omega (arith, length-append (map (below level) cs) ts, length_map cs, room, few, some), room_below level cs ts some (omega arith) room rest)
@@ -47,7 +47,7 @@ room_below level (c ∷ cs) ts some few room rest =
 
 -- a node in the place of the tree that it is
 pub record IsOpened (n : Contents) (left : List Top) : Type 0 where
-  pub few : length left + GREATEST_CHILDREN ≤ STACK
+  pub few : length left + MOST_CHILDREN ≤ STACK
   pub room : HasRoom (opened n ++ left)
 
 open_tree : (t : Top) (ts : List Top) (n : Contents) → HasRoom (t ∷ ts) → IsNode n → n.level ≡ t.level → IsOpened n ts

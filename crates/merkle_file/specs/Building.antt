@@ -2,8 +2,8 @@
 use Rattle.std.specs.Prelude.{◌≡◌, ◌≤◌, ◌<◌, ℕ, zero, suc, ◌+◌, ◌*◌, List, [], ◌∷◌, ◌++◌, length, map}
 use Rattle.std.specs.List.{flat_map, AllByRecursion}
 use Rattle.merkle_file.specs.declared.node.Child.{Child}
-use Rattle.merkle_file.specs.declared.node.TheConstants.{GREATEST_CHILDREN, GREATEST_LENGTH, GREATEST_LEVEL, GREATEST_SEGMENT}
-use Rattle.merkle_file.specs.declared.top.TheConstants.{GREATEST_COUNT}
+use Rattle.disk_format.specs.declared.numbers.TheConstants.{MOST_CHILDREN, MOST_FILE, MOST_LEVEL, MOST_SEGMENT}
+use Rattle.merkle_file.specs.declared.top.TheConstants.{MOST_LEAVES}
 use Rattle.merkle_file.specs.Node.{Contents, total, IsChild}
 use Rattle.merkle_file.specs.Tree.{Tree, Leaf, joined, child_of, nodes_of, itself, whole, rest}
 
@@ -18,7 +18,7 @@ pub record Progress : Type 0 where
 -- how many leaves lie below rows
 unfoldable pub count_of : List (List Child) → ℕ
 count_of [] = 0
-count_of (row ∷ rows) = length row + GREATEST_CHILDREN * count_of rows
+count_of (row ∷ rows) = length row + MOST_CHILDREN * count_of rows
 
 -- how many bytes lie below rows
 unfoldable pub total_of : List (List Child) → ℕ
@@ -39,7 +39,7 @@ nodes_in_rows leaf [] = []
 nodes_in_rows leaf (row ∷ rows) = nodes_in_rows leaf rows ++ flat_map (nodes_of leaf) row
 
 abbrev pub open_over : List Child → List (List (Tree Child))
-open_over pushed = open_trees GREATEST_LEVEL 0 (map Leaf pushed)
+open_over pushed = open_trees MOST_LEVEL 0 (map Leaf pushed)
 
 -- A builder has been pushed these elements since it was new or finished a tree, and these nodes were taken.
 pub record Holds (b : Progress) (pushed : List Child) (taken : List Contents) : Type 0 where
@@ -53,18 +53,18 @@ pub record Holds (b : Progress) (pushed : List Child) (taken : List Contents) : 
 -- rows from a level on: less than a whole group of right children in each
 abbrev pub AreRows : ℕ → List (List Child) → Type 0
 AreRows level [] = Unit {0}
-AreRows level (row ∷ rows) = (length row < GREATEST_CHILDREN) × AllByRecursion (IsChild (level + 1)) row × AreRows (level + 1) rows
+AreRows level (row ∷ rows) = (length row < MOST_CHILDREN) × AllByRecursion (IsChild (level + 1)) row × AreRows (level + 1) rows
 
 -- what holds of every builder
 pub record IsProgress (b : Progress) : Type 0 where
-  pub levels : length b.rows ≡ GREATEST_LEVEL
+  pub levels : length b.rows ≡ MOST_LEVEL
   pub rows : AreRows 0 b.rows
-  pub count : count_of b.rows ≤ GREATEST_COUNT
-  pub total : total_of b.rows ≤ GREATEST_LENGTH
+  pub count : count_of b.rows ≤ MOST_LEAVES
+  pub total : total_of b.rows ≤ MOST_FILE
 
 -- a segment may be pushed: it has a right length, and is not too much
 pub record MayPush (b : Progress) (c : Child) : Type 0 where
   pub some : 1 ≤ c.length
-  pub most : c.length ≤ GREATEST_SEGMENT
-  pub count : count_of b.rows < GREATEST_COUNT
-  pub total : total_of b.rows + c.length ≤ GREATEST_LENGTH
+  pub most : c.length ≤ MOST_SEGMENT
+  pub count : count_of b.rows < MOST_LEAVES
+  pub total : total_of b.rows + c.length ≤ MOST_FILE

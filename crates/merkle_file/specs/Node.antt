@@ -4,7 +4,7 @@ use Rattle.std.specs.List.{flat_map, AllByRecursion}
 use Rattle.std.specs.Int.{w16, w64, to_be_bytes}
 use Rattle.sha2.specs.Sha256.{sha256}
 use Rattle.merkle_file.specs.declared.node.Child.{Child}
-use Rattle.merkle_file.specs.declared.node.TheConstants.{FORM, GREATEST_CHILDREN, GREATEST_LENGTH, GREATEST_LEVEL, GREATEST_SEGMENT}
+use Rattle.disk_format.specs.declared.numbers.TheConstants.{NODE_FORM, MOST_CHILDREN, MOST_FILE, MOST_LEVEL, MOST_SEGMENT}
 
 -- what a node says: its level, and of each child the digest and the length of its subtree
 pub record Contents : Type 0 where
@@ -21,7 +21,7 @@ entry c = c.digest ++ to_be_bytes w64 c.length
 
 -- the one spelling of a node: its level, the form, the number of children, and of each its entry
 unfoldable pub spelling : Contents → List ℕ
-spelling n = (n.level ∷ FORM ∷ to_be_bytes w16 (length n.children)) ++ flat_map entry n.children
+spelling n = (n.level ∷ NODE_FORM ∷ to_be_bytes w16 (length n.children)) ++ flat_map entry n.children
 
 -- the digest of a node is that of its spelling
 abbrev pub node_digest : Contents → List ℕ
@@ -29,7 +29,7 @@ node_digest n = sha256 (spelling n)
 
 -- the greatest length of a child: those of a node of level 1 are segments
 abbrev pub greatest_child : ℕ → ℕ
-greatest_child level = if level == 1 then GREATEST_SEGMENT else GREATEST_LENGTH
+greatest_child level = if level == 1 then MOST_SEGMENT else MOST_FILE
 
 -- what a node of this level may have as a child
 pub record IsChild (level : ℕ) (c : Child) : Type 0 where
@@ -40,8 +40,8 @@ pub record IsChild (level : ℕ) (c : Child) : Type 0 where
 -- the rules of a node
 pub record IsNode (n : Contents) : Type 0 where
   pub above : 1 ≤ n.level
-  pub level : n.level ≤ GREATEST_LEVEL
+  pub level : n.level ≤ MOST_LEVEL
   pub some : 1 ≤ length n.children
-  pub most : length n.children ≤ GREATEST_CHILDREN
+  pub most : length n.children ≤ MOST_CHILDREN
   pub each : AllByRecursion (IsChild n.level) n.children
-  pub total : total n.children ≤ GREATEST_LENGTH
+  pub total : total n.children ≤ MOST_FILE

@@ -6,8 +6,8 @@ use Rattle.merkle_file.specs.declared.fault.FieldFault.{FieldFault}
 use Rattle.merkle_file.specs.declared.fault.NodeFault.{NodeFault}
 use Rattle.merkle_file.specs.declared.fault.NodeFault.TheVariants.{Field, Memory}
 use Rattle.merkle_file.specs.declared.reading.Asked.{Asked}
-use Rattle.merkle_file.specs.declared.node.TheConstants.{FORM, GREATEST_CHILDREN, GREATEST_LENGTH, GREATEST_LEVEL}
-use Rattle.merkle_file.specs.Node.{Contents, total, greatest_child}
+use Rattle.disk_format.specs.declared.numbers.TheConstants.{NODE_FORM, MOST_CHILDREN, MOST_FILE, MOST_LEVEL}
+use Rattle.merkle_file.specs.Node.{Contents, IsNode, spelling, total, greatest_child}
 
 -- a field that stands at a place and was got so
 abbrev pub wrong : ℕ → ℕ → Option FieldFault
@@ -42,9 +42,10 @@ head_fault asked bytes =
     if length bytes == 0 then wrong 0 0
     else if nat_lt (slice_index bytes 0) asked.lowest || nat_lt asked.greatest (slice_index bytes 0) then wrong 0 (slice_index bytes 0)
     else if length bytes == 1 then wrong 1 0
-    else if slice_index bytes 1 == FORM then
+    else if slice_index bytes 1 == NODE_FORM then
     if nat_lt (length bytes) 4 then wrong 2 0
-    else if short_number (drop 2 bytes) == 0 || nat_lt GREATEST_CHILDREN (short_number (drop 2 bytes)) then wrong 2 (short_number (drop 2 bytes))
+    else if short_number (drop 2 bytes) == 0 || nat_lt MOST_CHILDREN (short_number (drop 2 bytes)) then
+    wrong 2 (short_number (drop 2 bytes))
     else None
     else wrong 1 (slice_index bytes 1)
 
@@ -85,12 +86,12 @@ first_fault asked bytes =
 -- what may be asked: no level and no length beyond a node's own limits
 pub record IsAsked (asked : Asked) : Type 0 where
   pub lowest : 1 ≤ asked.lowest
-  pub greatest : asked.greatest ≤ GREATEST_LEVEL
-  pub most : asked.most ≤ GREATEST_LENGTH
+  pub greatest : asked.greatest ≤ MOST_LEVEL
+  pub most : asked.most ≤ MOST_FILE
 
 -- any node may come
 abbrev pub any_node : Asked
-any_node = record { lowest = 1; greatest = GREATEST_LEVEL; least = 0; most = GREATEST_LENGTH }
+any_node = record { lowest = 1; greatest = MOST_LEVEL; least = 0; most = MOST_FILE }
 
 -- a node within what is asked
 pub record IsWithin (asked : Asked) (n : Contents) : Type 0 where
@@ -98,6 +99,10 @@ pub record IsWithin (asked : Asked) (n : Contents) : Type 0 where
   pub greatest : n.level ≤ asked.greatest
   pub least : asked.least ≤ total n.children
   pub most : total n.children ≤ asked.most
+
+-- bytes are a node within what is asked
+abbrev pub SpellsNode : Asked → List ℕ → Type 0
+SpellsNode asked bytes = (bytes ≡ spelling (contents_in bytes)) × IsNode (contents_in bytes) × IsWithin asked (contents_in bytes)
 
 -- what a check found
 abbrev pub found_fault : {A : Type 0} → Result A FieldFault → Option FieldFault

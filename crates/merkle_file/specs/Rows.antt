@@ -3,7 +3,7 @@ use Rattle.std.specs.Prelude.{◌≡◌, ◌≤◌, ◌<◌, ℕ, ◌+◌, ◌*�
 use Rattle.std.specs.Global.{Vec}
 use Rattle.std.specs.List.{AllByRecursion}
 use Rattle.merkle_file.specs.declared.node.Child.{Child}
-use Rattle.merkle_file.specs.declared.node.TheConstants.{GREATEST_CHILDREN, GREATEST_LENGTH, GREATEST_LEVEL}
+use Rattle.disk_format.specs.declared.numbers.TheConstants.{MOST_CHILDREN, MOST_FILE, MOST_LEVEL}
 use Rattle.merkle_file.specs.Node.{total, IsChild, IsNode}
 use Rattle.merkle_file.specs.Building.{count_of, total_of, AreRows}
 
@@ -13,29 +13,29 @@ items_of rows = map (λ row. row.items) rows
 
 -- a child may be added to a row of a level
 pub record CanTake (level : ℕ) (row : List Child) (c : Child) : Type 0 where
-  pub low : level < GREATEST_LEVEL
-  pub few : length row < GREATEST_CHILDREN
+  pub low : level < MOST_LEVEL
+  pub few : length row < MOST_CHILDREN
   pub each : AllByRecursion (IsChild (level + 1)) row
   pub child : IsChild (level + 1) c
-  pub total : total row + c.length ≤ GREATEST_LENGTH
+  pub total : total row + c.length ≤ MOST_FILE
 
 -- a child may be placed in the first of these rows, which go from a level to the last
 pub record CanPlace (level : ℕ) (c : Child) (rows : List (List Child)) : Type 0 where
-  pub levels : level + length rows ≡ GREATEST_LEVEL
+  pub levels : level + length rows ≡ MOST_LEVEL
   pub right : AreRows level rows
   pub child : IsChild (level + 1) c
-  pub room : count_of rows + 1 < GREATEST_CHILDREN ^ length rows
-  pub total : total_of rows + c.length ≤ GREATEST_LENGTH
+  pub room : count_of rows + 1 < MOST_CHILDREN ^ length rows
+  pub total : total_of rows + c.length ≤ MOST_FILE
 
 -- these rows, which go from a level to the last, may be closed with a child that the row below became
 pub record CanClose (level : ℕ) (carried : List Child) (rows : List (List Child)) : Type 0 where
-  pub levels : level + length rows ≡ GREATEST_LEVEL
+  pub levels : level + length rows ≡ MOST_LEVEL
   pub some : 0 < length rows
   pub right : AreRows level rows
   pub one : length carried ≤ 1
   pub each : AllByRecursion (IsChild (level + 1)) carried
-  pub room : GREATEST_CHILDREN * (count_of rows + length carried) ≤ GREATEST_CHILDREN ^ length rows
-  pub total : total_of rows + total carried ≤ GREATEST_LENGTH
+  pub room : MOST_CHILDREN * (count_of rows + length carried) ≤ MOST_CHILDREN ^ length rows
+  pub total : total_of rows + total carried ≤ MOST_FILE
 
 -- children are a node of a level, if there are any
 abbrev pub AreNode : ℕ → List Child → Type 0

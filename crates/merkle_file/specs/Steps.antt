@@ -5,7 +5,7 @@ use Rattle.std.specs.List.{list_all}
 use Rattle.sha2.specs.Sha256.{sha256}
 use Rattle.merkle_file.specs.declared.node.Child.{Child}
 use Rattle.merkle_file.specs.declared.top.Top.{Top}
-use Rattle.merkle_file.specs.declared.node.TheConstants.{GREATEST_CHILDREN}
+use Rattle.disk_format.specs.declared.numbers.TheConstants.{MOST_CHILDREN}
 use Rattle.merkle_file.specs.Node.{Contents}
 use Rattle.merkle_file.specs.Tree.{parent}
 
@@ -17,7 +17,7 @@ pub record Placed : Type 0 where
 unfoldable pub place : ℕ → Child → List (List Child) → Placed
 place level c [] = record { rows = []; nodes = [] }
 place level c (row ∷ rows) =
-    if length row + 1 == GREATEST_CHILDREN then
+    if length row + 1 == MOST_CHILDREN then
     (let node : Contents = record { level = level + 1; children = row ++ c ∷ [] } in
     let above = place (level + 1) (parent node) rows in
     record { rows = [] ∷ above.rows; nodes = node ∷ above.nodes })

@@ -4,7 +4,7 @@ use Rattle.std.specs.List.{flat_map}
 use Rattle.sha2.specs.Sha256.{sha256}
 use Rattle.merkle_file.specs.declared.node.Child.{Child}
 use Rattle.merkle_file.specs.declared.top.Top.{Top}
-use Rattle.merkle_file.specs.declared.node.TheConstants.{GREATEST_CHILDREN, GREATEST_LEVEL}
+use Rattle.disk_format.specs.declared.numbers.TheConstants.{MOST_CHILDREN, MOST_LEVEL}
 use Rattle.merkle_file.specs.Node.{Contents, total, node_digest}
 
 -- A tree over leaves: nothing, a leaf, or a node of a level over its children in order. Where the leaves are
@@ -91,14 +91,14 @@ itself c = c
 
 -- A group is whole as soon as it has the greatest number of children.
 abbrev pub is_whole : {X : Type 0} → List X → Bool
-is_whole group = length group == GREATEST_CHILDREN
+is_whole group = length group == MOST_CHILDREN
 
 -- the whole groups of a list, from the left, where a group is begun already
 unfoldable pub whole_from : {X : Type 0} → List X → List X → List (List X)
 whole_from begun [] = []
 whole_from begun (x ∷ xs) = if is_whole (begun ++ x ∷ []) then (begun ++ x ∷ []) ∷ whole_from [] xs else whole_from (begun ++ x ∷ []) xs
 
--- what is left behind them
+-- what is left after them
 unfoldable pub rest_from : {X : Type 0} → List X → List X → List X
 rest_from begun [] = begun
 rest_from begun (x ∷ xs) = if is_whole (begun ++ x ∷ []) then rest_from [] xs else rest_from (begun ++ x ∷ []) xs
@@ -126,9 +126,9 @@ tree_over levels level (t ∷ []) = t
 tree_over zero level (t ∷ u ∷ ts) = Empty
 tree_over (suc levels) level (t ∷ u ∷ ts) = tree_over levels (level + 1) (map (joined (level + 1)) (grouped (t ∷ u ∷ ts)))
 
--- the tree over leaves, of which there are at most 64 ^ 6
+-- the tree over leaves, of which there are at most MOST_CHILDREN ^ MOST_LEVEL
 abbrev pub tree_of : {A : Type 0} → List A → Tree A
-tree_of xs = tree_over GREATEST_LEVEL 0 (map Leaf xs)
+tree_of xs = tree_over MOST_LEVEL 0 (map Leaf xs)
 
 -- ---- the laws of trees
 
@@ -140,4 +140,4 @@ SegmentsAlike = (segments : List (List ℕ)) →
 
 -- The leaves of the tree over a list are the list, in order, if it is not too long for six levels.
 abbrev pub LeavesAreSegments : Type 0
-LeavesAreSegments = (segments : List (List ℕ)) → length segments ≤ GREATEST_CHILDREN ^ GREATEST_LEVEL → leaves (tree_of segments) ≡ segments
+LeavesAreSegments = (segments : List (List ℕ)) → length segments ≤ MOST_CHILDREN ^ MOST_LEVEL → leaves (tree_of segments) ≡ segments

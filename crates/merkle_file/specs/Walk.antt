@@ -6,12 +6,12 @@ use Rattle.merkle_file.specs.declared.fault.FieldFault.{FieldFault}
 use Rattle.merkle_file.specs.declared.reading.Asked.{Asked}
 use Rattle.merkle_file.specs.declared.want.Want.{Want}
 use Rattle.merkle_file.specs.declared.want.Want.TheVariants as wants
-use Rattle.merkle_file.specs.declared.node.TheConstants.{GREATEST_CHILDREN, GREATEST_LENGTH, GREATEST_LEVEL, GREATEST_SEGMENT}
+use Rattle.disk_format.specs.declared.numbers.TheConstants.{MOST_CHILDREN, MOST_FILE, MOST_LEVEL, MOST_SEGMENT}
 use Rattle.merkle_file.specs.declared.stack.TheConstants.{STACK}
-use Rattle.merkle_file.specs.Node.{Contents, IsNode, total}
+use Rattle.merkle_file.specs.Node.{Contents, IsNode, spelling, total}
 use Rattle.std.specs.List.{flat_map, AllByRecursion}
 use Rattle.merkle_file.specs.Tree.{Tree, Trees, Empty, Leaf, Node, NoTree, Then, leaves, level_of, children_of, root_of, of_segment, tree_of}
-use Rattle.merkle_file.specs.Reading.{first_fault}
+use Rattle.merkle_file.specs.Reading.{contents_in, first_fault}
 
 -- what a walk asks for: the first tree that is still to come
 abbrev pub wanted : List Top → Want
@@ -48,9 +48,9 @@ pub record IsNamed (t : Top) (n : Contents) : Type 0 where
 abbrev pub asked_for : Top → Asked
 asked_for t = record {
   lowest = t.level;
-  greatest = min t.level GREATEST_LEVEL;
+  greatest = min t.level MOST_LEVEL;
   least = t.length;
-  most = min t.length GREATEST_LENGTH;
+  most = min t.length MOST_FILE;
 }
 
 abbrev pub fault_for : List Top → List ℕ → Option FieldFault
@@ -68,7 +68,7 @@ start_of t = if t.length == 0 then (if t.level == 0 then [] else t ∷ []) else 
 -- Below each tree that is to come there are few enough that all of its nodes have room on the stack.
 abbrev pub HasRoom : List Top → Type 0
 HasRoom [] = Unit {0}
-HasRoom (t ∷ ts) = (t.level ≤ GREATEST_LEVEL → length ts + (GREATEST_CHILDREN - 1) * t.level < STACK) × HasRoom ts
+HasRoom (t ∷ ts) = (t.level ≤ MOST_LEVEL → length ts + (MOST_CHILDREN - 1) * t.level < STACK) × HasRoom ts
 
 -- ---- a walk down the tree over segments
 
@@ -97,6 +97,10 @@ trees_in Empty = []
 trees_in (Leaf segment) = Leaf segment ∷ []
 trees_in (Node level ts) = Node level ts ∷ []
 
+-- bytes are the node that comes next, as it was named
+abbrev pub SpellsNext : List Top → List ℕ → Type 0
+SpellsNext ts bytes = (bytes ≡ spelling (contents_in bytes)) × IsNode (contents_in bytes) × IsNextNamed ts (contents_in bytes)
+
 -- These trees, in order, are to come.
 pub record Ahead (c : List Top) (ts : List (Tree (List ℕ))) : Type 0 where
   pub tops : c ≡ map (root_of of_segment) ts
@@ -108,5 +112,5 @@ segments_in ts = flat_map leaves ts
 
 -- The tree over segments of right lengths, no more of them than a file has bytes, has right nodes alone.
 abbrev pub TreesAreRight : Type 0
-TreesAreRight = (segments : List (List ℕ)) → AllByRecursion (λ segment. (1 ≤ length segment) × (length segment ≤ GREATEST_SEGMENT)) segments
-    → sum_by length segments ≤ GREATEST_LENGTH → AllByRecursion IsTree (trees_in (tree_of segments))
+TreesAreRight = (segments : List (List ℕ)) → AllByRecursion (λ segment. (1 ≤ length segment) × (length segment ≤ MOST_SEGMENT)) segments
+    → sum_by length segments ≤ MOST_FILE → AllByRecursion IsTree (trees_in (tree_of segments))

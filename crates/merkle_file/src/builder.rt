@@ -1,11 +1,13 @@
-use crate::node::{Child, GREATEST_LEVEL, Node};
+use crate::node::{Child, Node};
 use crate::rows::{clear, close, empty_rows, place_leaf};
 use crate::top::Top;
+use disk_format::MOST_LEVEL;
 use std::alloc::{AllocError, Global};
 use std::collections::VecDeque;
 use std::marker::Model;
 
-/// Builds the tree over the segments of a file as they come, and gives its nodes, children before parents.
+/// Builds the tree over the segments of a file as they come (docs/FORMAT.md, "Nodes"), and gives its nodes, children
+/// before parents.
 /// It keeps less than one node's children for each level, and the nodes that were not taken.
 ///
 /// After an `Err` it is as new: what was pushed and not taken is forgotten.
@@ -35,7 +37,7 @@ impl TreeBuilder {
     ghost use Rattle.merkle_file.specs.Tree.{itself, nodes_of, root_of, tree_of};
     ghost use Rattle.merkle_file.specs.Building.{Holds, IsProgress, MayPush, count_of, total_of};
 
-    /// A builder that was pushed nothing.
+    /// A builder that was pushed nothing. It fails for want of memory alone.
     pub fn new(alloc: Global) -> Result<TreeBuilder, AllocError>
         ensures { IfOk result (λ b. Holds b [] []) }
     {
@@ -46,8 +48,9 @@ impl TreeBuilder {
         })
     }
 
-    /// Adds a segment at the end: its digest, and its length from 1 to 16,384. A tree has at most 2^29
-    /// segments and 2^40 bytes. Each node that is whole thereby is finished, from the lowest up.
+    /// Adds a segment at the end: its digest, and its length from 1 to `disk_format::MOST_SEGMENT`. A tree has at most
+    /// 2^29 segments and `disk_format::MOST_FILE` bytes. Each node that is whole thereby is finished, from the lowest
+    /// up. It fails for want of memory alone, and the builder is then as new.
     pub fn push(&mut self, child: Child) -> Result<(), AllocError>
         requires { MayPush self.old child }
         ensures pushed { OnOk result ((pushed : List Child) (taken : List Contents) →
@@ -67,7 +70,7 @@ impl TreeBuilder {
         }
     }
 
-    /// Takes the first finished node that was not taken.
+    /// Takes the first finished node that was not taken, if there is one.
     pub fn take(&mut self) -> Option<Node>
         ensures first { self.old.finished ≡ option_to_list result ++ self.new.finished }
         ensures none { IfNone result (self.old.finished ≡ []) }
@@ -78,14 +81,15 @@ impl TreeBuilder {
         self.finished.pop_front()
     }
 
-    /// Finishes the nodes that are not whole, and gives the root of the tree over all that was pushed. The
-    /// nodes that were not taken can still be taken, and nothing more is pushed.
+    /// Finishes the nodes that are not whole, and gives the root of the tree over all that was pushed: of nothing, the
+    /// root of an empty file. The nodes that were not taken can still be taken; what is pushed next begins another
+    /// tree. It fails for want of memory alone, and the builder is then as new: the nodes that were not taken are lost.
     pub fn finish(&mut self) -> Result<Top, AllocError>
         ensures top { IfOk result (λ top. (pushed : List Child) (taken : List Contents) →
             Holds self.old pushed taken → top ≡ root_of itself (tree_of pushed)) }
         ensures nodes { OnOk result ((pushed : List Child) (taken : List Contents) →
             Holds self.old pushed taken → taken ++ self.new.finished ≡ nodes_of itself (tree_of pushed)) }
-        ensures rows { self.new.rows ≡ replicate GREATEST_LEVEL [] }
+        ensures rows { self.new.rows ≡ replicate MOST_LEVEL [] }
         ensures err { OnErr result (Holds self.new [] []) }
     {
         let closed = close(self.alloc, &mut self.rows, &mut self.finished);

@@ -6,7 +6,7 @@ use std::alloc::{AllocError, Global};
 use std::marker::Model;
 
 /// A walk down a tree from its root, which is fed the nodes that it asks for and passes its leaves in
-/// order. It trusts no bytes: a node has to be as its parent or the root names it. (That its digest is the
+/// order (docs/FORMAT.md, "Nodes"). It trusts no bytes: a node has to be as its parent or the root names it. (That its digest is the
 /// one named, the caller sees.)
 #[derive(Drop)]
 pub struct Cursor {
@@ -34,9 +34,11 @@ impl Cursor {
     ghost use Rattle.std.specs.Prelude.{◌≡◌, ◌∷◌, ◌++◌, List, ℕ, IfOk, IsOk, OnErr, OnOk, drop};
     ghost use Rattle.merkle_file.specs.Node.{Contents, IsNode, spelling};
     ghost use Rattle.merkle_file.specs.Reading.{contents_in, found_fault};
-    ghost use Rattle.merkle_file.specs.Walk.{Ahead, IsTree, contents_of, list_of, segments_in, trees_in, IsLeafNext, IsNext, IsNextNamed, IsNodeNext, fault_for, opened, start_of, wanted};
+    ghost use Rattle.merkle_file.specs.Walk.{Ahead, IsTree, contents_of, list_of, segments_in, trees_in, IsLeafNext, IsNext, IsNextNamed};
+    ghost use Rattle.merkle_file.specs.Walk.{IsNodeNext, SpellsNext, fault_for, opened, start_of, wanted};
 
-    /// A walk from a root. It takes the memory for six nodes' children here, and none later.
+    /// A walk from a root: of any bytes, since each node is checked as it comes. It takes the memory for the children
+    /// of `disk_format::MOST_LEVEL` nodes here, and none later, and fails for want of it alone.
     pub fn new(alloc: Global, top: &Top) -> Result<Cursor, AllocError>
         ensures start { IfOk result (λ c. c ≡ start_of top.now) }
         ensures tree { IfOk result (λ c. (t : Tree (List ℕ)) → AllByRecursion IsTree (trees_in t) →
@@ -70,15 +72,16 @@ impl Cursor {
     }
 
     /// Takes the bytes of the node that is wanted. What comes next is what they spell, before what was to
-    /// come behind the node. Bytes that are no node, or not of the level and length that were named, are
+    /// come after the node. Bytes that are no node, or not of the level and length that were named, are
     /// refused by the first such field, and change nothing. Where the lengths of the children do not add up
     /// to what was named, that is the length where their sum first passes it, or the last length.
     pub fn feed(&mut self, bytes: &[u8]) -> Result<(), FieldFault>
         requires { IsNodeNext self.old }
         ensures fault { found_fault result ≡ fault_for self.old bytes.now }
-        ensures found { OnOk result ((bytes.now ≡ spelling (contents_in bytes.now)) × IsNode (contents_in bytes.now) × IsNextNamed self.old (contents_in bytes.now)) }
+        ensures found { OnOk result (SpellsNext self.old bytes.now) }
         ensures ok { OnOk result (self.new ≡ opened (contents_in bytes.now) ++ drop 1 self.old) }
-        ensures only { (n : Contents) → IsNode n → IsNextNamed self.old n → bytes.now ≡ spelling n → IsOk result × (contents_in bytes.now ≡ n) }
+        ensures only { (n : Contents) → IsNode n → IsNextNamed self.old n → bytes.now ≡ spelling n
+            → IsOk result × (contents_in bytes.now ≡ n) }
         ensures err { OnErr result (self.new ≡ self.old) }
 
         // A right node of the tree puts its children in its place, so the segments to come stay.
@@ -90,7 +93,7 @@ impl Cursor {
         open_next(&mut self.stack, bytes)
     }
 
-    /// Passes the segment that is wanted.
+    /// Passes the segment that is wanted, where one is.
     pub fn pass(&mut self)
         requires { IsLeafNext self.old }
         ensures rest { self.new ≡ drop 1 self.old }

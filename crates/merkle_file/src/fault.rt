@@ -1,8 +1,5 @@
-use thiserror::Error;
-
-/// A field of a node that breaks a rule.
-#[derive(Clone, Copy, Debug, PartialEq, Eq, Error)]
-#[error("the field at {offset} is {got}")]
+/// A field of a node that breaks a rule (docs/FORMAT.md, "Nodes").
+#[derive(Clone, Copy)]
 pub struct FieldFault {
     /// Where the field begins, counted from the node's first byte.
     pub offset: u32,
@@ -12,11 +9,15 @@ pub struct FieldFault {
 }
 
 /// Why bytes gave no node.
-#[derive(Debug, Drop, Error)]
+#[derive(Clone, Copy)]
 pub enum NodeFault {
     /// The first field, in order of offset, that breaks a rule, as in [`FieldFault`].
-    #[error("the field at {offset} is {got}")]
-    Field { offset: u32, got: u64 },
-    #[error("out of memory")]
+    Field {
+        /// Where the field begins, counted from the node's first byte.
+        offset: u32,
+        /// The field as a number, 0 where it isn't there whole, or the first byte after the last field.
+        got: u64,
+    },
+    /// Memory ran out.
     Memory,
 }

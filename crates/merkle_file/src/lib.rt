@@ -1,4 +1,4 @@
-//! Merkle trees of segments: nodes of at most 64 children, as bytes and back, the tree over a list of
+//! Merkle trees of segments: nodes of at most `disk_format::MOST_CHILDREN` children, as bytes and back, the tree over a list of
 //! segments, built as they come, and a walk down a tree that is fed its nodes. `docs/FORMAT.md`, "Nodes",
 //! has the format.
 #![tactic(auto)]

@@ -7,27 +7,19 @@ use std::marker::Model;
 /// A SHA-256 digest.
 pub type Hash = [u8; 32];
 
-/// The most children of a node.
-pub const GREATEST_CHILDREN: usize = 64;
-/// The greatest level of a node. The lowest is 1.
-pub const GREATEST_LEVEL: u8 = 6;
-/// The form byte of the nodes that are written and read here.
-pub const FORM: u8 = 1;
-/// The greatest length of a segment, in bytes.
-pub const GREATEST_SEGMENT: u64 = 16384;
-/// The greatest length of a file, in bytes.
-pub const GREATEST_LENGTH: u64 = 1099511627776;
-
-/// What a node says of a child: the digest of a segment or of a node, and how many bytes of the file lie
-/// below it.
-#[derive(Clone, Copy, Debug, PartialEq, Eq)]
+/// What a node says of a child.
+#[derive(Clone, Copy)]
 pub struct Child {
+    /// The SHA-256 of the segment, or of the node as `Node::encode` spells it.
     pub digest: Hash,
+    /// How many bytes of the file lie below it, from 1 to `disk_format::MOST_SEGMENT` of a segment, and to
+    /// `disk_format::MOST_FILE` of a node.
     pub length: u64,
 }
 
-/// A node of a tree: its level from 1 to 6, and 1 to 64 children.
-#[derive(Debug, Drop)]
+/// A node of a tree (docs/FORMAT.md, "Nodes"): its level from 1 to `disk_format::MOST_LEVEL`, and 1 to
+/// `disk_format::MOST_CHILDREN` children.
+#[derive(Drop)]
 pub struct Node {
     level: u8,
     children: Vec<Child>,
@@ -48,7 +40,7 @@ impl Node {
     ghost use Rattle.merkle_file.specs.Node.{Contents, IsNode, spelling, total};
     ghost use Rattle.merkle_file.specs.Reading.{AnswersFault, IsNodeUnlessMemory, any_node, first_fault};
 
-    /// A node of a level over these children.
+    /// A node of a level over these children, which keep the rules of a node. It fails for want of memory alone.
     pub fn new(alloc: Global, level: u8, children: &[Child]) -> Result<Node, AllocError>
         requires { IsNode (record { level = level; children = children.now }) }
         ensures { IfOk result (λ n. n ≡ record { level = level; children = children.now }) }
@@ -65,7 +57,7 @@ impl Node {
         Node { level, children }
     }
 
-    /// Its level, from 1 to 6. The children of a node of level 1 are segments.
+    /// Its level. The children of a node of level 1 are segments.
     pub fn level(&self) -> u8
         ensures value { result ≡ self.now.level }
         ensures right { IsNode self.now }
@@ -88,7 +80,7 @@ impl Node {
         self.children.iter().map(|child| child.length).sum()
     }
 
-    /// The one spelling of this node, `4 + 40 * k` bytes for k children.
+    /// The one spelling of this node, `4 + 40 * k` bytes for k children. It fails for want of memory alone.
     #[tactic(auto, unfolding(crate::specs::Node::spelling))]
     pub fn encode(&self, alloc: Global) -> Result<Vec<u8>, AllocError>
         ensures { IfOk result (λ bytes. bytes.items ≡ spelling self.now) }
@@ -100,7 +92,7 @@ impl Node {
     }
 
     /// The node that the bytes spell, all of the bytes. Any other bytes are refused by the first field, in
-    /// order of offset, that breaks a rule.
+    /// order of offset, that breaks a rule; bytes of a node are refused for want of memory alone.
     pub fn decode(alloc: Global, bytes: &[u8]) -> Result<Node, NodeFault>
         ensures found { IfOk result (λ n. IsNode n × (bytes.now ≡ spelling n)) }
         ensures only { (n : Contents) → IsNode n → bytes.now ≡ spelling n → IsNodeUnlessMemory result n }

@@ -2,12 +2,13 @@
 
 ghost use Rattle.std.specs.Prelude.{◌≡◌, ◌+◌, ◌*◌, ◌≤◌, ◌<◌, ℕ, IfOk, IsOk, IsTrue, OnOk, length, drop};
 ghost use Rattle.merkle_file.specs.Node.{Contents, IsNode, spelling};
-ghost use Rattle.merkle_file.specs.Reading.{IsAsked, IsWithin, any_node, child_in, children_in, contents_in, entries_fault, entry_fault, first_fault, found_fault, head_fault, is_right_length, long_number, short_number};
+ghost use Rattle.merkle_file.specs.Reading.{IsAsked, IsWithin, SpellsNode, any_node, child_in, children_in, contents_in, entries_fault};
+ghost use Rattle.merkle_file.specs.Reading.{entry_fault};
+ghost use Rattle.merkle_file.specs.Reading.{first_fault, found_fault, head_fault, is_right_length, long_number, short_number};
 
 use crate::fault::FieldFault;
-use crate::node::{
-    Child, FORM, GREATEST_CHILDREN, GREATEST_LENGTH, GREATEST_LEVEL, GREATEST_SEGMENT,
-};
+use crate::node::Child;
+use disk_format::{MOST_CHILDREN, MOST_FILE, MOST_LEVEL, MOST_SEGMENT, NODE_FORM};
 use std::alloc::{AllocError, Global};
 
 /// What is asked of a node: between which levels it is, and how many bytes of the file lie below it.
@@ -22,16 +23,16 @@ pub(crate) struct Asked {
 /// Any node will do.
 pub(crate) const ANY_NODE: Asked = Asked {
     lowest: 1,
-    greatest: GREATEST_LEVEL,
+    greatest: MOST_LEVEL,
     least: 0,
-    most: GREATEST_LENGTH,
+    most: MOST_FILE,
 };
 
 /// Whether bytes are a node as asked, and if not, the first field that says so.
 pub(crate) fn check(bytes: &[u8], asked: &Asked) -> Result<(), FieldFault>
     requires { IsAsked asked.now }
     ensures fault { found_fault result ≡ first_fault asked.now bytes.now }
-    ensures found { OnOk result ((bytes.now ≡ spelling (contents_in bytes.now)) × IsNode (contents_in bytes.now) × IsWithin asked.now (contents_in bytes.now)) }
+    ensures found { OnOk result (SpellsNode asked.now bytes.now) }
     ensures only { (n : Contents) → IsNode n → IsWithin asked.now n → bytes.now ≡ spelling n → IsOk result × (contents_in bytes.now ≡ n) }
     ensures long { OnOk result (length bytes.now ≡ 4 + 40 * short_number (drop 2 bytes.now)) }
 {
@@ -49,7 +50,7 @@ pub(crate) fn count_of(bytes: &[u8]) -> u16
 
 /// The first field, from the left, that breaks a rule.
 fn check_fields(bytes: &[u8], asked: &Asked) -> Result<(), FieldFault>
-    requires { asked.now.most ≤ GREATEST_LENGTH }
+    requires { asked.now.most ≤ MOST_FILE }
     ensures fault { found_fault result ≡ first_fault asked.now bytes.now }
     ensures long { OnOk result (4 ≤ length bytes.now) }
 {
@@ -62,7 +63,7 @@ fn check_fields(bytes: &[u8], asked: &Asked) -> Result<(), FieldFault>
 fn check_head(bytes: &[u8], asked: &Asked) -> Result<u16, FieldFault>
     ensures fault { found_fault result ≡ head_fault asked.now bytes.now }
     ensures count { IfOk result (λ count. count ≡ short_number (drop 2 bytes.now)) }
-    ensures few { IfOk result (λ count. count ≤ GREATEST_CHILDREN) }
+    ensures few { IfOk result (λ count. count ≤ MOST_CHILDREN) }
     ensures long { OnOk result (4 ≤ length bytes.now) }
 {
     if bytes.len() == 0 {
@@ -77,7 +78,7 @@ fn check_head(bytes: &[u8], asked: &Asked) -> Result<u16, FieldFault>
     if bytes.len() == 1 {
         return Err(FieldFault { offset: 1, got: 0 });
     }
-    if bytes[1] != FORM {
+    if bytes[1] != NODE_FORM {
         return Err(FieldFault {
             offset: 1,
             got: bytes[1] as u64,
@@ -87,7 +88,7 @@ fn check_head(bytes: &[u8], asked: &Asked) -> Result<u16, FieldFault>
         return Err(FieldFault { offset: 2, got: 0 });
     }
     let count = u16::from_be_bytes([bytes[2], bytes[3]]);
-    if count == 0 || GREATEST_CHILDREN < count as usize {
+    if count == 0 || MOST_CHILDREN < count as usize {
         return Err(FieldFault {
             offset: 2,
             got: count as u64,
@@ -99,8 +100,8 @@ fn check_head(bytes: &[u8], asked: &Asked) -> Result<u16, FieldFault>
 /// Checks the entries, which are to fill the bytes.
 #[tactic(auto, unfolding(crate::specs::Reading::entries_fault))]
 fn check_entries(bytes: &[u8], asked: &Asked, level: u8, count: u16) -> Result<(), FieldFault>
-    requires count { count ≤ GREATEST_CHILDREN }
-    requires most { asked.now.most ≤ GREATEST_LENGTH }
+    requires count { count ≤ MOST_CHILDREN }
+    requires most { asked.now.most ≤ MOST_FILE }
     ensures { found_fault result ≡ entries_fault asked.now level count 4 0 bytes.now }
 {
     let mut rest = bytes;
@@ -134,11 +135,11 @@ fn check_entry(
     before: u64,
 ) -> Result<u64, FieldFault>
     requires at { at < 10000 }
-    requires before { before ≤ GREATEST_LENGTH }
-    requires most { asked.now.most ≤ GREATEST_LENGTH }
+    requires before { before ≤ MOST_FILE }
+    requires most { asked.now.most ≤ MOST_FILE }
     ensures fault { found_fault result ≡ entry_fault asked.now level more at before bytes.now }
     ensures length { IfOk result (λ n. n ≡ long_number (drop 32 bytes.now)) }
-    ensures below { IfOk result (λ n. before + n ≤ GREATEST_LENGTH) }
+    ensures below { IfOk result (λ n. before + n ≤ MOST_FILE) }
     ensures long { OnOk result (40 ≤ length bytes.now) }
 {
     if bytes.len() < 32 {
@@ -166,16 +167,12 @@ fn check_entry(
 /// children follow it.
 #[tactic(auto, unfolding(crate::specs::Reading::is_right_length))]
 fn is_right_length(asked: &Asked, level: u8, more: u16, before: u64, length: u64) -> bool
-    requires before { before ≤ GREATEST_LENGTH }
-    requires most { asked.now.most ≤ GREATEST_LENGTH }
+    requires before { before ≤ MOST_FILE }
+    requires most { asked.now.most ≤ MOST_FILE }
     ensures right { result ≡ is_right_length asked.now level more before length }
-    ensures below { IsTrue result → before + length ≤ GREATEST_LENGTH }
+    ensures below { IsTrue result → before + length ≤ MOST_FILE }
 {
-    let greatest = if level == 1 {
-        GREATEST_SEGMENT
-    } else {
-        GREATEST_LENGTH
-    };
+    let greatest = if level == 1 { MOST_SEGMENT } else { MOST_FILE };
     1 <= length
         && length <= greatest
         && before + length <= asked.most

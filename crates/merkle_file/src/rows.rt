@@ -9,8 +9,9 @@ ghost use Rattle.merkle_file.specs.Tree.{parent};
 ghost use Rattle.merkle_file.specs.Steps.{are_empty, close, place, top_of};
 ghost use Rattle.merkle_file.specs.Rows.{AreNode, CanClose, CanPlace, CanTake, items_of};
 
-use crate::node::{Child, GREATEST_CHILDREN, GREATEST_LEVEL, Node};
+use crate::node::{Child, Node};
 use crate::top::Top;
+use disk_format::{MOST_CHILDREN, MOST_LEVEL};
 use sha2::{Digest, Sha256};
 use std::alloc::{AllocError, Global};
 use std::collections::VecDeque;
@@ -36,11 +37,12 @@ fn place_in_row(
 ) -> Result<Option<Node>, AllocError>
     requires { CanTake level row.old.items child }
     ensures { IfOk result (λ node. MatchOption node
-        ((row.new.items ≡ row.old.items ++ child ∷ []) × (length row.old.items + 1 < GREATEST_CHILDREN))
-        (λ n. (n ≡ record { level = level + 1; children = row.old.items ++ child ∷ [] }) × (row.new.items ≡ []) × (length row.old.items + 1 ≡ GREATEST_CHILDREN))) }
+        ((row.new.items ≡ row.old.items ++ child ∷ []) × (length row.old.items + 1 < MOST_CHILDREN))
+        (λ n. (n ≡ record { level = level + 1; children = row.old.items ++ child ∷ [] }) × (row.new.items ≡ [])
+        × (length row.old.items + 1 ≡ MOST_CHILDREN))) }
 {
     row.push(child)?;
-    if row.len() < GREATEST_CHILDREN {
+    if row.len() < MOST_CHILDREN {
         return Ok(None);
     }
     let children = mem::replace(row, Vec::new(alloc));
@@ -175,10 +177,10 @@ pub(crate) fn clear(rows: &mut [Vec<Child>])
 
 /// A row for each level, with no child in any.
 pub(crate) fn empty_rows(alloc: Global) -> Result<Vec<Vec<Child>>, AllocError>
-    ensures { IfOk result (λ rows. items_of rows.items ≡ replicate GREATEST_LEVEL []) }
+    ensures { IfOk result (λ rows. items_of rows.items ≡ replicate MOST_LEVEL []) }
 {
     let mut rows = Vec::new(alloc);
-    for _ in 0..GREATEST_LEVEL {
+    for _ in 0..MOST_LEVEL {
         rows.push(Vec::new(alloc))?;
     }
     Ok(rows)

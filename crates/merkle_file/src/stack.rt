@@ -1,18 +1,20 @@
 //! The trees that are still to come on a walk, the next one last.
 
-ghost use Rattle.std.specs.Prelude.{◌≡◌, ◌+◌, ◌-◌, ◌*◌, ◌≤◌, ◌<◌, ◌∷◌, ◌++◌, IfOk, IsOk, OnErr, OnOk, drop, length, map, reverse, take, vec_capacity};
+ghost use Rattle.std.specs.Prelude.{◌≡◌, ◌+◌, ◌-◌, ◌*◌, ◌≤◌, ◌<◌, ◌∷◌, ◌++◌, IfOk, IsOk, OnErr, OnOk, drop, length, map, reverse, take};
+ghost use Rattle.std.specs.Prelude.{vec_capacity};
 ghost use Rattle.merkle_file.specs.Node.{Contents, IsNode, spelling};
 ghost use Rattle.merkle_file.specs.Reading.{children_in, contents_in, found_fault};
-ghost use Rattle.merkle_file.specs.Walk.{HasRoom, IsNextNamed, IsNodeNext, asked_for, below, fault_for, opened};
+ghost use Rattle.merkle_file.specs.Walk.{HasRoom, IsNextNamed, IsNodeNext, SpellsNext, asked_for, below, fault_for, opened};
 
 use crate::fault::FieldFault;
-use crate::node::{Child, GREATEST_CHILDREN, GREATEST_LENGTH, GREATEST_LEVEL};
+use crate::node::Child;
 use crate::reading::{Asked, check, count_of, read_child};
 use crate::top::Top;
+use disk_format::{MOST_CHILDREN, MOST_FILE, MOST_LEVEL};
 
 /// The most trees that are to come at once: the last of six nodes' children, and all but one of the
 /// others'.
-pub(crate) const STACK: usize = 1 + GREATEST_LEVEL as usize * (GREATEST_CHILDREN - 1);
+pub(crate) const STACK: usize = 1 + MOST_LEVEL as usize * (MOST_CHILDREN - 1);
 
 /// What is asked of the node that a parent or the root names.
 fn asked_for(top: &Top) -> Asked
@@ -20,9 +22,9 @@ fn asked_for(top: &Top) -> Asked
 {
     Asked {
         lowest: top.level,
-        greatest: top.level.min(GREATEST_LEVEL),
+        greatest: top.level.min(MOST_LEVEL),
         least: top.length,
-        most: top.length.min(GREATEST_LENGTH),
+        most: top.length.min(MOST_FILE),
     }
 }
 
@@ -69,9 +71,10 @@ pub(crate) fn open_next(stack: &mut Vec<Top>, bytes: &[u8]) -> Result<(), FieldF
     requires room { HasRoom (reverse stack.old.items) }
     requires capacity { STACK ≤ vec_capacity stack.old }
     ensures fault { found_fault result ≡ fault_for (reverse stack.old.items) bytes.now }
-    ensures found { OnOk result ((bytes.now ≡ spelling (contents_in bytes.now)) × IsNode (contents_in bytes.now) × IsNextNamed (reverse stack.old.items) (contents_in bytes.now)) }
+    ensures found { OnOk result (SpellsNext (reverse stack.old.items) bytes.now) }
     ensures ok { OnOk result (reverse stack.new.items ≡ opened (contents_in bytes.now) ++ drop 1 (reverse stack.old.items)) }
-    ensures only { (n : Contents) → IsNode n → IsNextNamed (reverse stack.old.items) n → bytes.now ≡ spelling n → IsOk result × (contents_in bytes.now ≡ n) }
+    ensures only { (n : Contents) → IsNode n → IsNextNamed (reverse stack.old.items) n → bytes.now ≡ spelling n
+        → IsOk result × (contents_in bytes.now ≡ n) }
     ensures err { OnErr result (stack.new.items ≡ stack.old.items) }
     ensures room { HasRoom (reverse stack.new.items) }
     ensures capacity { STACK ≤ vec_capacity stack.new }

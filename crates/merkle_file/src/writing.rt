@@ -5,15 +5,16 @@ ghost use Rattle.std.specs.List.{flat_map};
 ghost use Rattle.std.specs.Int.{to_be_bytes, w16};
 ghost use Rattle.merkle_file.specs.Node.{entry};
 
-use crate::node::{Child, FORM};
+use crate::node::Child;
 use byteorder::{BigEndian, ByteOrder};
+use disk_format::NODE_FORM;
 use std::alloc::AllocError;
 
 /// Writes what comes before the entries.
 pub(crate) fn push_head(bytes: &mut Vec<u8>, level: u8, count: u16) -> Result<(), AllocError>
-    ensures { OnOk result (bytes.new.items ≡ bytes.old.items ++ (level ∷ FORM ∷ to_be_bytes w16 count)) }
+    ensures { OnOk result (bytes.new.items ≡ bytes.old.items ++ (level ∷ NODE_FORM ∷ to_be_bytes w16 count)) }
 {
-    let mut head = [level, FORM, 0, 0];
+    let mut head = [level, NODE_FORM, 0, 0];
     BigEndian::write_u16(&mut head[2..], count);
     bytes.extend_from_slice(&head)
 }

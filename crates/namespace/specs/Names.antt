@@ -28,7 +28,10 @@ NameMap = finite.FinMap (slice_cmp nat_cmp) Named
 
 abbrev pub coded_named : Coded Named
 coded_named =
-    code_by (ℕ × (ℕ × (ℕ × List ℕ))) (coded× coded_ℕ (coded× coded_ℕ (coded× coded_ℕ (coded_list coded_ℕ)))) (λ n. (n.sequence, (n.root.length, (n.root.level, n.root.digest)))) (λ p. record { sequence = p.0; root = record { length = p.1.0; level = p.1.1.0; digest = p.1.1.1 } }) (λ _. refl)
+    code_by (ℕ × (ℕ × (ℕ × List ℕ))) (coded× coded_ℕ (coded× coded_ℕ (coded× coded_ℕ (coded_list coded_ℕ))))
+    (λ n. (n.sequence, (n.root.length, (n.root.level, n.root.digest))))
+    (λ p. record { sequence = p.0; root = record { length = p.1.0; level = p.1.1.0; digest = p.1.1.1 } })
+    (λ _. refl)
 
 abbrev pub coded_names : Coded NameMap
 coded_names = finite.code (coded_list coded_ℕ) coded_named
@@ -95,7 +98,8 @@ AreRefused names (r ∷ rs) fault = IsRefused names r fault ⊎ (IsTaken names r
 
 -- what is answered to one who asks for a name's root
 abbrev pub IsAnswer : NameMap → List ℕ → Result Root NameFault → Type 0
-IsAnswer names name (Ok root) = IsName name × ((sequence : ℕ) × (finite.get names name ≡ Some (record { sequence = sequence; root = root })))
+IsAnswer names name (Ok root) =
+    IsName name × ((sequence : ℕ) × (finite.get names name ≡ Some (record { sequence = sequence; root = root })))
 IsAnswer names name (Err NoFile) = IsName name × (finite.get names name ≡ None)
 IsAnswer names name (Err BadName) = ¬ (IsName name)
 IsAnswer names name (Err TooMany) = ⊥

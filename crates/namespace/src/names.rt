@@ -3,20 +3,8 @@
 ghost use Rattle.std.specs.Prelude.{◌≡◌, ◌⊎◌, IfOk, IfErr, OnOk, OnErr, IsTrue, IsSome, None, not, map};
 ghost use Rattle.std.specs.FinMap as finite;
 ghost use Rattle.disk_format.specs.Cells.{IsName};
-ghost use Rattle.namespace.specs.Names.{
-  HasRoom,
-  IsFull,
-  IsTaken,
-  IsRefused,
-  AreTaken,
-  AreRefused,
-  IsAnswer,
-  AreNames,
-  record_value,
-  put_of,
-  names_with,
-  names_after,
-};
+ghost use Rattle.namespace.specs.Names.{HasRoom, IsFull, IsTaken, IsRefused, AreTaken, AreRefused, IsAnswer, AreNames, record_value};
+ghost use Rattle.namespace.specs.Names.{put_of, names_with, names_after};
 
 use crate::fault::NameFault;
 use crate::name::is_name;

@@ -2,11 +2,10 @@
 use Rattle.std.proofs.Common.{◌≡◌, ◌≢◌, inl, inr, ℕ, zero, suc, ◌+◌, ◌-◌, ◌<◌, ◌≤◌, List, [], ◌∷◌, length, drop, refl, sym, ◌∙◌, ap, arith, add-one, subst, Option, Some, None, option_map}
 use Rattle.std.proofs.lemmas.Bool.Decides.{eqb_tells}
 use Rattle.base_model.specs.Bytes.{range, written, byte_at, zeros}
-use Rattle.base_model.specs.Known.{KnownWith}
 use Rattle.base_model.proofs.Ranges.{length-written, range-written, range-written-after, length-zeros, byte-range}
 use Rattle.disk_format.specs.Layout.{IsSlotCount, size_of, slot_at, cell_at}
-use Rattle.disk_format.specs.Cells.{sealed, format_fields, selector_fields, format_cell, selector_cell}
-use Rattle.disk_format.specs.declared.numbers.TheConstants.{FORMAT_GATE}
+use Rattle.disk_format.specs.Cells.{sealed, format_fields, selector_fields, format_cell, selector_cell, first_selector}
+use Rattle.disk_format.specs.declared.numbers.TheConstants.{CELL_BYTES, FIRST_SELECTOR, FIRST_SLOT, FORMAT_GATE, SELECTOR_GATE, RECORD_GATE, CONTAINER_GATE}
 use Rattle.disk_format.proofs.CellParts.{length-sealed, length-format_fields, length-selector_fields}
 use Rattle.dd_disk.specs.Gated.{TornFrom}
 use Rattle.store_model.specs.Image.{IsBlankOf}
@@ -16,19 +15,19 @@ use Rattle.base_model.proofs.ByteAt.{byte-written, byte-zeros, byte-written-befo
 use Rattle.recovery.specs.Formatting.{with_closed, laid_out, IsBlankOrFormatted}
 use Rattle.recovery.proofs.Blank.{blank_torn}
 
-pub length-format_cell : (slots : ℕ) → length (format_cell slots) ≡ 512
+-- the bytes of the selectors and of the journal
+abbrev pub BLANKS : ℕ
+BLANKS = FIRST_SLOT - FIRST_SELECTOR
+
+pub length-format_cell : (slots : ℕ) → length (format_cell slots) ≡ CELL_BYTES
 length-format_cell slots = length-sealed FORMAT_GATE (format_fields slots) (length-format_fields slots)
 
-pub length-first_selector : length (selector_cell 1 0 0) ≡ 512
-length-first_selector = length-sealed 0xB5 (selector_fields 1 0 0) (length-selector_fields 1 0 0)
+pub length-first_selector : length (selector_cell first_selector) ≡ CELL_BYTES
+length-first_selector = length-sealed SELECTOR_GATE (selector_fields first_selector) (length-selector_fields first_selector)
 
 -- the byte that a read of one byte gave
 pub first_byte : (image gate : List ℕ) → range 0 1 image ≡ gate → byte_at 0 image ≡ byte_at 0 gate
 first_byte image gate read = sym (byte-range 0 0 1 image (omega arith)) ∙ ap (byte_at 0) read
-
--- the one content that is told is blank
-pub told_blank : (slots : ℕ) (image : List ℕ) (content : Option (List ℕ)) → content ≡ Some image → KnownWith content (IsBlankOf slots) → IsBlankOf slots image
-told_blank slots image content told (value, is, blank) = let same : value ≡ image = cc in subst (IsBlankOf slots) same blank
 
 -- ---- what each write makes of the content
 
@@ -45,8 +44,8 @@ more_closed slot None mid is = ap (option_map (written (slot_at slot) (0 ∷ [])
 more_closed slot (Some old) mid is = rw (add-one, is) refl
 
 -- all but the format cell was written
-pub laid_told : (slots : ℕ) (blanks selector : List ℕ) (content : Option (List ℕ)) → blanks ≡ zeros 1049600 → selector ≡ selector_cell 1 0 0
-    → option_map (written 512 selector) (option_map (with_closed slots) (option_map (written 512 blanks) content)) ≡ option_map (laid_out slots) content
+pub laid_told : (slots : ℕ) (blanks selector : List ℕ) (content : Option (List ℕ)) → blanks ≡ zeros BLANKS → selector ≡ selector_cell first_selector
+    → option_map (written FIRST_SELECTOR selector) (option_map (with_closed slots) (option_map (written FIRST_SELECTOR blanks) content)) ≡ option_map (laid_out slots) content
 unfolding laid_out
 laid_told slots blanks selector None blank is = refl
 laid_told slots blanks selector (Some old) blank is = rw (blank, is) refl
@@ -62,7 +61,7 @@ length-closed (suc slot) old room =
     length-written (slot_at slot) (0 ∷ []) (with_closed slot old) (omega (arith, before, room)) ∙ before
 
 -- and each byte before them
-pub byte-closed : (p slots : ℕ) (old : List ℕ) → size_of slots ≤ length old → p < 1050112 → byte_at p (with_closed slots old) ≡ byte_at p old
+pub byte-closed : (p slots : ℕ) (old : List ℕ) → size_of slots ≤ length old → p < FIRST_SLOT → byte_at p (with_closed slots old) ≡ byte_at p old
 unfolding with_closed
 byte-closed p zero old room before = refl
 byte-closed p (suc slot) old room before =
@@ -93,27 +92,27 @@ gate_again gate fields = refl
 
 module _ (slots : ℕ) (old : List ℕ) (count : IsSlotCount slots) (sized : length old ≡ size_of slots) where
   abbrev blanked : List ℕ
-  blanked = written 512 (zeros 1049600) old
+  blanked = written FIRST_SELECTOR (zeros BLANKS) old
 
   abbrev closed : List ℕ
   closed = with_closed slots blanked
 
-  room_of_zeros : 512 + length (zeros 1049600) ≤ length old
-  room_of_zeros = omega (arith, length-zeros 1049600, sized, count.0)
+  room_of_zeros : 512 + length (zeros BLANKS) ≤ length old
+  room_of_zeros = omega (arith, length-zeros BLANKS, sized, count.0)
 
   size_of_blanked : length blanked ≡ size_of slots
-  size_of_blanked = length-written 512 (zeros 1049600) old room_of_zeros ∙ sized
+  size_of_blanked = length-written FIRST_SELECTOR (zeros BLANKS) old room_of_zeros ∙ sized
 
   size_of_closed : length closed ≡ size_of slots
   size_of_closed = length-closed slots blanked (omega (arith, size_of_blanked)) ∙ size_of_blanked
 
-  room_of_selector : 512 + length (selector_cell 1 0 0) ≤ length closed
+  room_of_selector : 512 + length (selector_cell first_selector) ≤ length closed
   room_of_selector = omega (arith, length-first_selector, size_of_closed)
 
   -- all but the format cell keeps the size
   pub size_of_laid : length (laid_out slots old) ≡ size_of slots
   unfolding laid_out
-  size_of_laid = length-written 512 (selector_cell 1 0 0) closed room_of_selector ∙ size_of_closed
+  size_of_laid = length-written FIRST_SELECTOR (selector_cell first_selector) closed room_of_selector ∙ size_of_closed
 
   abbrev formatted : List ℕ
   formatted = written 0 (format_cell slots) (laid_out slots old)
@@ -121,25 +120,25 @@ module _ (slots : ℕ) (old : List ℕ) (count : IsSlotCount slots) (sized : len
   room_of_cell : 0 + length (format_cell slots) ≤ length (laid_out slots old)
   room_of_cell = omega (arith, length-format_cell slots, size_of_laid)
 
-  selector_there : range 512 512 formatted ≡ selector_cell 1 0 0
+  selector_there : range 512 512 formatted ≡ selector_cell first_selector
   unfolding laid_out
   selector_there =
       range-written-after 512 512 0 (format_cell slots) (laid_out slots old) (omega (arith, length-format_cell slots)) room_of_cell
-      ∙ range-written 512 512 (selector_cell 1 0 0) closed (omega (arith, size_of_closed)) length-first_selector
+      ∙ range-written FIRST_SELECTOR 512 (selector_cell first_selector) closed (omega (arith, size_of_closed)) length-first_selector
 
-  -- behind the first selector
+  -- after the first selector
   byte_after : (p : ℕ) → 1024 ≤ p → byte_at p formatted ≡ byte_at p closed
   unfolding laid_out
-  byte_after p behind =
+  byte_after p after =
       byte-written-after p 0 (format_cell slots) (laid_out slots old) (omega (arith, length-format_cell slots)) room_of_cell
-      ∙ byte-written-after p 512 (selector_cell 1 0 0) closed (omega (arith, length-first_selector)) room_of_selector
+      ∙ byte-written-after p 512 (selector_cell first_selector) closed (omega (arith, length-first_selector)) room_of_selector
 
-  zero_there : (p : ℕ) → 1024 ≤ p → p < 1050112 → byte_at p formatted ≡ 0
-  zero_there p behind before =
-      byte_after p behind
+  zero_there : (p : ℕ) → 1024 ≤ p → p < FIRST_SLOT → byte_at p formatted ≡ 0
+  zero_there p after before =
+      byte_after p after
       ∙ byte-closed p slots blanked (omega (arith, size_of_blanked)) before
-      ∙ byte-written p 512 (p - 512) (zeros 1049600) old (omega arith) (omega (arith, length-zeros 1049600)) room_of_zeros
-      ∙ byte-zeros (p - 512) 1049600 (omega arith)
+      ∙ byte-written p 512 (p - 512) (zeros BLANKS) old (omega arith) (omega (arith, length-zeros BLANKS)) room_of_zeros
+      ∙ byte-zeros (p - FIRST_SELECTOR) BLANKS (omega arith)
 
   slot_there : (slot : ℕ) → slot < slots → byte_at (slot_at slot) formatted ≡ 0
   slot_there slot within = byte_after (slot_at slot) (omega arith) ∙ slot_closed slots slot blanked (omega (arith, size_of_blanked)) within
@@ -151,9 +150,9 @@ module _ (slots : ℕ) (old : List ℕ) (count : IsSlotCount slots) (sized : len
     size = length-written 0 (format_cell slots) (laid_out slots old) room_of_cell ∙ size_of_laid;
     format = range-written 0 512 (format_cell slots) (laid_out slots old) (omega (arith, size_of_laid)) (length-format_cell slots);
     selector = selector_there;
-    other_selector = zero_closed (byte_at 1024 formatted) 0xB5 (zero_there 1024 (omega arith) (omega arith)) (omega arith);
-    records = λ cell within. zero_closed (byte_at (cell_at 0 cell) formatted) 0xA5 (zero_there (cell_at 0 cell) (omega arith) (omega (arith, within))) (omega arith);
-    containers = λ slot within. zero_closed (byte_at (slot_at slot) formatted) 0xC5 (slot_there slot within) (omega arith);
+    other_selector = zero_closed (byte_at 1024 formatted) SELECTOR_GATE (zero_there 1024 (omega arith) (omega arith)) (omega arith);
+    records = λ cell within. zero_closed (byte_at (cell_at 0 cell) formatted) RECORD_GATE (zero_there (cell_at 0 cell) (omega arith) (omega (arith, within))) (omega arith);
+    containers = λ slot within. zero_closed (byte_at (slot_at slot) formatted) CONTAINER_GATE (slot_there slot within) (omega arith);
   })
 
   -- what the write of the format cell may leave of an image that is blank

@@ -1,5 +1,6 @@
 mod Blank
 mod Formatted
-mod JournalFaults
+mod Pushed
 mod Reading
 mod Steps
+mod Storing

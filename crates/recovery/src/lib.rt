@@ -8,5 +8,4 @@ mod opening;
 mod slots;
 
 pub use formatting::format;
-pub use opening::{Opened, open};
-pub use slots::Containers;
+pub use opening::open;

@@ -1,52 +1,29 @@
 //! Opening a store.
-ghost use Rattle.std.specs.Prelude.{◌≡◌, ◌≤◌, OnOk, IfOk, IfErr};
-ghost use Rattle.base_model.specs.Fault.{Rose};
-ghost use Rattle.base_model.specs.Shown.{Shown, OnlyReads};
-ghost use Rattle.dd_disk.specs.Disk.{Only};
-ghost use Rattle.disk_format.specs.Layout.{IsSlotCount, size_of, least_size};
-ghost use Rattle.journal_cells.specs.Journal.{IsScanned, IsTold};
+ghost use Rattle.std.specs.Prelude.{◌≡◌, ◌≤◌, IsTrue, OnOk, IfOk, IfErr};
+ghost use Rattle.disk_format.specs.Layout.{IsSlotCount, size_of};
+ghost use Rattle.dd_disk.specs.View.{IsDurable};
+ghost use Rattle.dd_disk.specs.Ending.{ending, Reads};
+ghost use Rattle.dd_disk.specs.Shows.{Shows};
+ghost use Rattle.journal_cells.specs.Journal.{IsScanned};
 ghost use Rattle.store_model.specs.Image.{Store, Encodes, HasFormat};
-ghost use Rattle.recovery.specs.Opening.{Answers, Keeps, IsSized, IsFound, IsOpened, Opens, IsBeginRefusal, IsOpenRefusal, cell_why, cell_refusal};
+ghost use Rattle.store_state.specs.Refused.{blames, fails};
+ghost use Rattle.recovery.specs.Opening.{IsSized, IsFound, IsOpened, Opens, IsBeginRefusal, IsOpenRefusal, cell_refusal};
 
-use crate::slots::{Containers, read_slots};
-use refusals::{Refusal, Why};
+use crate::slots::read_slots;
 use dd_disk::{Disk, DiskFault, sync_all};
-use journal_cells::{CellFault, Journal, Why as CellWhy, scan, slots_of};
+use disk_format::{LEAST_SIZE, RESERVE, size_of};
+use journal_cells::{CellFault, Journal, scan, slots_of};
 use namespace::Names;
+use refusals::Refusal;
 use std::alloc::Global;
-
-/// The bytes of the smallest disk.
-const LEAST_SIZE: u64 = 2_622_976;
-/// The bytes before the container slots.
-pub(crate) const HEAD: u64 = 1_050_112;
-/// The bytes of a container slot, and of its share of what lies behind the slots.
-const SLOT: u64 = 393_216;
-
-/// What a store holds, as its opening finds it.
-#[derive(Debug, Drop)]
-pub struct Opened {
-    /// How many container slots the disk has.
-    pub slots: u32,
-    pub journal: Journal,
-    pub names: Names,
-    pub containers: Containers,
-}
+use store_state::OpenStore;
 
 /// The format cell and the journal, as they were read.
-#[derive(Debug, Drop)]
+#[derive(Drop)]
 struct Front {
     slots: u32,
     journal: Journal,
     names: Names,
-}
-
-fn why_of(why: CellWhy) -> Why
-    ensures { result ≡ cell_why why }
-{
-    match why {
-        CellWhy::Digest { want, got } => Why::Digest { want, got },
-        CellWhy::Field { offset, got } => Why::Field { offset, got },
-    }
 }
 
 // A fault of a cell as a refusal.
@@ -57,28 +34,19 @@ fn refused_by(fault: CellFault) -> Refusal
         CellFault::Memory => Refusal::Memory,
         CellFault::DiskRead => Refusal::DiskRead,
         CellFault::DiskWrite => Refusal::DiskWrite,
-        CellFault::Damaged { at, why } => Refusal::Damaged {
-            at,
-            why: why_of(why),
-        },
+        CellFault::Damaged { at, why } => Refusal::Damaged { at, why },
         CellFault::NotAStore { gate, magic } => Refusal::NotAStore { gate, magic },
         CellFault::Version { n } => Refusal::Version { n },
+        CellFault::Numbers => Refusal::Numbers,
     }
-}
-
-// The size of a disk of so many slots.
-pub(crate) fn size_for(slots: u32) -> u64
-    ensures { result ≡ size_of slots }
-{
-    HEAD + SLOT * u64::from(slots)
 }
 
 // Syncs the disk, and sees that it isn't smaller than each may be.
 fn begin<D: Disk>(disk: &mut D) -> Result<(), Refusal>
-    ensures least { OnOk result (least_size ≤ (D.view disk.old).size) }
-    ensures synced { OnOk result (IsDurable (D.view disk.new)) }
-    ensures reads { OnlyReads (D.view disk.old) (D.view disk.new) }
-    ensures refused { IfErr result (IsBeginRefusal (D.view disk.old).size (Rose (D.view disk.old).faults (D.view disk.new).faults)) }
+    ensures least { OnOk result (LEAST_SIZE ≤ (D.view disk.old).size) }
+    ensures durable { OnOk result (IsDurable (D.view disk.new)) }
+    ensures reads { Reads (ending blames result) (D.view disk.old) (D.view disk.new) }
+    ensures refused { IfErr result (IsBeginRefusal (D.view disk.old).size) }
 {
     match sync_all(disk) {
         Ok(()) => {}
@@ -96,13 +64,14 @@ fn begin<D: Disk>(disk: &mut D) -> Result<(), Refusal>
 
 // The number of slots that the format cell says.
 fn count_slots<D: Disk>(disk: &mut D) -> Result<u32, Refusal>
-    ensures least { OnOk result (least_size ≤ (D.view disk.old).size) }
-    ensures count { IfOk result (λ slots. IsSlotCount slots) }
+    ensures least { OnOk result (LEAST_SIZE ≤ (D.view disk.old).size) }
+    ensures count { IfOk result IsSlotCount }
     ensures format { IfOk result (λ slots. Shows (D.view disk.old) (D.view disk.new) (HasFormat slots)) }
-    ensures only { Shows (D.view disk.old) (D.view disk.new) (λ image. (store : Store) → Encodes image store → Answers (λ n. n ≡ store.slots) result) }
-    ensures synced { OnOk result (IsDurable (D.view disk.new)) }
-    ensures reads { OnlyReads (D.view disk.old) (D.view disk.new) }
-    ensures refused { IfErr result (IsOpenRefusal (Shows (D.view disk.old) (D.view disk.new)) (D.view disk.old).size (Rose (D.view disk.old).faults (D.view disk.new).faults)) }
+    ensures only { IfErr result (λ refusal. Shows (D.view disk.old) (D.view disk.new) (λ image. (store : Store)
+        → Encodes image store → IsTrue (fails refusal))) }
+    ensures durable { OnOk result (IsDurable (D.view disk.new)) }
+    ensures reads { Reads (ending blames result) (D.view disk.old) (D.view disk.new) }
+    ensures refused { IfErr result (IsOpenRefusal (Shows (D.view disk.old) (D.view disk.new)) (D.view disk.old).size) }
 {
     begin(disk)?;
     match slots_of(disk) {
@@ -113,14 +82,15 @@ fn count_slots<D: Disk>(disk: &mut D) -> Result<u32, Refusal>
 
 // The number of slots of a disk that has their size.
 fn read_format<D: Disk>(disk: &mut D) -> Result<u32, Refusal>
-    ensures sized { IfOk result (λ slots. IsSized (Shows (D.view disk.old) (D.view disk.new)) (D.view disk.old).size slots) }
-    ensures only { Shows (D.view disk.old) (D.view disk.new) (λ image. (store : Store) → Encodes image store → Answers (λ n. n ≡ store.slots) result) }
-    ensures synced { OnOk result (IsDurable (D.view disk.new)) }
-    ensures reads { OnlyReads (D.view disk.old) (D.view disk.new) }
-    ensures refused { IfErr result (IsOpenRefusal (Shows (D.view disk.old) (D.view disk.new)) (D.view disk.old).size (Rose (D.view disk.old).faults (D.view disk.new).faults)) }
+    ensures sized { IfOk result (IsSized (Shows (D.view disk.old) (D.view disk.new)) (D.view disk.old).size) }
+    ensures only { IfErr result (λ refusal. Shows (D.view disk.old) (D.view disk.new) (λ image. (store : Store)
+        → Encodes image store → IsTrue (fails refusal))) }
+    ensures durable { OnOk result (IsDurable (D.view disk.new)) }
+    ensures reads { Reads (ending blames result) (D.view disk.old) (D.view disk.new) }
+    ensures refused { IfErr result (IsOpenRefusal (Shows (D.view disk.old) (D.view disk.new)) (D.view disk.old).size) }
 {
     let slots = count_slots(disk)?;
-    let want = size_for(slots);
+    let want = size_of(slots);
     let got = disk.size();
     if got != want {
         return Err(Refusal::WrongSize { want, got });
@@ -131,11 +101,13 @@ fn read_format<D: Disk>(disk: &mut D) -> Result<u32, Refusal>
 // The format cell and the journal.
 fn read_front<D: Disk>(alloc: Global, disk: &mut D) -> Result<Front, Refusal>
     ensures sized { IfOk result (λ front. IsSized (Shows (D.view disk.old) (D.view disk.new)) (D.view disk.old).size front.slots) }
-    ensures scanned { IfOk result (λ front. IsScanned (Shows (D.view disk.old) (D.view disk.new)) front.journal front.names front.journal.last) }
-    ensures only { Shows (D.view disk.old) (D.view disk.new) (λ image. (store : Store) → Encodes image store → Answers (λ front. (front.slots ≡ store.slots) × IsTold store.selector store.records front.journal front.names front.journal.last) result) }
-    ensures synced { OnOk result (IsDurable (D.view disk.new)) }
-    ensures reads { OnlyReads (D.view disk.old) (D.view disk.new) }
-    ensures refused { IfErr result (IsOpenRefusal (Shows (D.view disk.old) (D.view disk.new)) (D.view disk.old).size (Rose (D.view disk.old).faults (D.view disk.new).faults)) }
+    ensures scanned { IfOk result (λ front.
+        IsScanned (Shows (D.view disk.old) (D.view disk.new)) front.journal front.names front.journal.last) }
+    ensures only { IfErr result (λ refusal. Shows (D.view disk.old) (D.view disk.new) (λ image. (store : Store)
+        → Encodes image store → IsTrue (fails refusal))) }
+    ensures durable { OnOk result (IsDurable (D.view disk.new)) }
+    ensures reads { Reads (ending blames result) (D.view disk.old) (D.view disk.new) }
+    ensures refused { IfErr result (IsOpenRefusal (Shows (D.view disk.old) (D.view disk.new)) (D.view disk.old).size) }
 {
     let slots = read_format(disk)?;
     match scan(alloc, disk) {
@@ -149,16 +121,17 @@ fn read_front<D: Disk>(alloc: Global, disk: &mut D) -> Result<Front, Refusal>
 }
 
 // All that a store holds, however few slots are free.
-fn open_all<D: Disk>(alloc: Global, disk: &mut D) -> Result<Opened, Refusal>
+fn open_all<D: Disk>(alloc: Global, disk: &mut D) -> Result<OpenStore, Refusal>
     ensures found { IfOk result (IsFound (Shows (D.view disk.old) (D.view disk.new)) (D.view disk.old).size) }
-    ensures only { Shows (D.view disk.old) (D.view disk.new) (λ image. (store : Store) → Encodes image store → Answers (Keeps store) result) }
-    ensures synced { OnOk result (IsDurable (D.view disk.new)) }
-    ensures reads { OnlyReads (D.view disk.old) (D.view disk.new) }
-    ensures refused { IfErr result (IsOpenRefusal (Shows (D.view disk.old) (D.view disk.new)) (D.view disk.old).size (Rose (D.view disk.old).faults (D.view disk.new).faults)) }
+    ensures only { IfErr result (λ refusal. Shows (D.view disk.old) (D.view disk.new) (λ image. (store : Store)
+        → Encodes image store → IsTrue (fails refusal))) }
+    ensures durable { OnOk result (IsDurable (D.view disk.new)) }
+    ensures reads { Reads (ending blames result) (D.view disk.old) (D.view disk.new) }
+    ensures refused { IfErr result (IsOpenRefusal (Shows (D.view disk.old) (D.view disk.new)) (D.view disk.old).size) }
 {
     let front = read_front(alloc, disk)?;
     let containers = read_slots(alloc, disk, front.slots)?;
-    Ok(Opened {
+    Ok(OpenStore {
         slots: front.slots,
         journal: front.journal,
         names: front.names,
@@ -172,20 +145,20 @@ fn open_all<D: Disk>(alloc: Global, disk: &mut D) -> Result<Opened, Refusal>
 /// Refusals, in the order in which they come: `DiskWrite` where the sync fails; `WrongSize` below the smallest size;
 /// `NotAStore`, `Version` and `Damaged` of the format cell; `WrongSize` where the size isn't that of its slots; `Damaged`
 /// and `Version` of the journal; `Damaged` of a container; `Full` where fewer than two slots are closed. `DiskRead` and
-/// `Memory` may come in place of any behind the first size. No file is read.
-pub fn open<D: Disk>(alloc: Global, disk: &mut D) -> Result<Opened, Refusal>
+/// `Memory` may come in place of any after the first size. No file is read.
+pub fn open<D: Disk>(alloc: Global, disk: &mut D) -> Result<OpenStore, Refusal>
     ensures opened { IfOk result (IsOpened (Shows (D.view disk.old) (D.view disk.new)) (D.view disk.old).size) }
     // A store of the right size, whose cells and headers are right and whose ids differ, is opened, unless memory or the
     // disk fails, or too few slots are free.
     ensures only { Shows (D.view disk.old) (D.view disk.new) (λ image. (store : Store) → Encodes image store → Opens store result) }
     // All that was written stands after a crash.
-    ensures synced { OnOk result (IsDurable (D.view disk.new)) }
-    ensures reads { OnlyReads (D.view disk.old) (D.view disk.new) }
-    ensures refused { IfErr result (IsOpenRefusal (Shows (D.view disk.old) (D.view disk.new)) (D.view disk.old).size (Rose (D.view disk.old).faults (D.view disk.new).faults)) }
+    ensures durable { OnOk result (IsDurable (D.view disk.new)) }
+    ensures reads { Reads (ending blames result) (D.view disk.old) (D.view disk.new) }
+    ensures refused { IfErr result (IsOpenRefusal (Shows (D.view disk.old) (D.view disk.new)) (D.view disk.old).size) }
 {
     let opened = open_all(alloc, disk)?;
     let free = opened.containers.free();
-    if free < 2 {
+    if free < RESERVE {
         return Err(Refusal::Full { free });
     }
     Ok(opened)

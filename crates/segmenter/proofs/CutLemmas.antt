@@ -6,6 +6,7 @@ use Rattle.std.proofs.lemmas.List.{length-take-le, length-take, take-append-le, 
 use Rattle.std.proofs.lemmas.Bool.{le-leb, lt-leb, eq-eqb, ne_eqb, both_ways, cases_lt, cases_eq, cases_Bool}
 use Rattle.std.proofs.Math.Bool.{or-true}
 use Rattle.std.proofs.Math.Seq.{take-append-add}
+use Rattle.disk_format.specs.declared.numbers.TheConstants.{LEAST_SEGMENT, MOST_SEGMENT}
 use Rattle.segmenter.specs.Segments.{is_hit, window_value, window_at, is_boundary}
 use Rattle.segmenter.specs.Cutting.{NoBoundary, ends_segment, IsFirstSegment, IsHeld, IsFirstHit, IsCut}
 use Rattle.segmenter.proofs.SegmentLemmas.{is_boundary-append, is_boundary-greatest, first_segment}
@@ -14,11 +15,11 @@ use Rattle.segmenter.proofs.SegmentLemmas.{is_boundary-append, is_boundary-great
 
 pub is_boundary-hit : (bytes : List ℕ) (n : ℕ) → is_hit (window_at bytes n) ≡ true → is_boundary bytes n ≡ true
 unfolding is_boundary
-is_boundary-hit bytes n h = rw h (or-true (n == 16384))
+is_boundary-hit bytes n h = rw h (or-true (n == MOST_SEGMENT))
 
-pub is_boundary-miss : (bytes : List ℕ) (n : ℕ) → n ≢ 16384 → is_hit (window_at bytes n) ≡ false → is_boundary bytes n ≡ false
+pub is_boundary-miss : (bytes : List ℕ) (n : ℕ) → n ≢ MOST_SEGMENT → is_hit (window_at bytes n) ≡ false → is_boundary bytes n ≡ false
 unfolding is_boundary
-is_boundary-miss bytes n other h = let different : (n == 16384) ≡ false = ne_eqb n 16384 other in rw (different, h) refl
+is_boundary-miss bytes n other h = let different : (n == MOST_SEGMENT) ≡ false = ne_eqb n MOST_SEGMENT other in rw (different, h) refl
 
 -- the boundaries within the first bytes of a list are those of the list
 is_boundary-take : (bytes : List ℕ) (end n : ℕ) → n ≤ end → end ≤ length bytes → is_boundary (take end bytes) n ≡ is_boundary bytes n
@@ -44,8 +45,8 @@ window_at-range bytes n long =
 
 -- ---- from a scan to a cut
 
-module _ (bytes : List ℕ) (start end value : ℕ) (hit whole : Bool) (least : 2048 ≤ start)
-    (at_most : length bytes ≤ 16384) (uncut : NoBoundary bytes start) (scan : IsFirstHit bytes start end value hit) where
+module _ (bytes : List ℕ) (start end value : ℕ) (hit whole : Bool) (least : LEAST_SEGMENT ≤ start)
+    (at_most : length bytes ≤ MOST_SEGMENT) (uncut : NoBoundary bytes start) (scan : IsFirstHit bytes start end value hit) where
   before_end : NoBoundary bytes end
   before_end k low high = elim (cases_lt k start) [
     | inl before ↦ uncut k low before
@@ -64,7 +65,7 @@ module _ (bytes : List ℕ) (start end value : ℕ) (hit whole : Bool) (least : 
     rolled = λ _ _. scan.rolled;
   }
 
-  not_yet : hit ≡ false → end ≢ 16384 → NoBoundary bytes (length bytes + 1)
+  not_yet : hit ≡ false → end ≢ MOST_SEGMENT → NoBoundary bytes (length bytes + 1)
   not_yet missed short k low high = elim (cases_lt k end) [
     | inl before ↦ before_end k low before
     | inr later ↦
@@ -73,10 +74,10 @@ module _ (bytes : List ℕ) (start end value : ℕ) (hit whole : Bool) (least : 
         ap (is_boundary bytes) here ∙ is_boundary-miss bytes end short (sym scan.tested ∙ missed)
   ]
 
-  pub cut_at_end : hit ≡ false → whole ≡ (end == 16384) → IsCut bytes start end value whole
-  cut_at_end missed is_whole = elim (cases_eq end 16384) [
+  pub cut_at_end : hit ≡ false → whole ≡ (end == MOST_SEGMENT) → IsCut bytes start end value whole
+  cut_at_end missed is_whole = elim (cases_eq end MOST_SEGMENT) [
     | inl full ↦
-        let yes : whole ≡ true = is_whole ∙ eq-eqb end 16384 full in
+        let yes : whole ≡ true = is_whole ∙ eq-eqb end MOST_SEGMENT full in
         record {
           after = scan.after;
           within = scan.within;
@@ -86,7 +87,7 @@ module _ (bytes : List ℕ) (start end value : ℕ) (hit whole : Bool) (least : 
           rolled = λ _ _. scan.rolled;
         }
     | inr short ↦
-        let no : whole ≡ false = is_whole ∙ ne_eqb end 16384 short in
+        let no : whole ≡ false = is_whole ∙ ne_eqb end MOST_SEGMENT short in
         record {
           after = scan.after;
           within = scan.within;
@@ -106,7 +107,7 @@ module _ (bytes : List ℕ) (seen end value : ℕ) (whole : Bool) (cut : IsCut b
   still_uncut : NoBoundary (take end bytes) (length (take end bytes))
   still_uncut k low high = is_boundary-take bytes end k (omega (arith, size)) cut.within ∙ cut.uncut k low (omega (arith, size))
 
-  pub held_from_cut : (capacity : ℕ) → 16384 ≤ capacity → length bytes ≤ 16384 → IsHeld (take end bytes) capacity value whole
+  pub held_from_cut : (capacity : ℕ) → MOST_SEGMENT ≤ capacity → length bytes ≤ MOST_SEGMENT → IsHeld (take end bytes) capacity value whole
   held_from_cut capacity room at_most = record {
     room = room;
     at_most = omega (arith, size, cut.within);
@@ -129,18 +130,18 @@ module _ (bytes : List ℕ) (seen end value : ℕ) (whole : Bool) (cut : IsCut b
   ends_at_cut : whole ≡ true → ends_segment (take end bytes) ≡ true
   unfolding ends_segment
   ends_at_cut h =
-      let enough : nat_le 2048 (length (take end bytes)) ≡ true = le-leb 2048 (length (take end bytes)) (omega (arith, size, (cut.ended h).0)) in
+      let enough : nat_le LEAST_SEGMENT (length (take end bytes)) ≡ true = le-leb LEAST_SEGMENT (length (take end bytes)) (omega (arith, size, (cut.ended h).0)) in
       let boundary : is_boundary (take end bytes) (length (take end bytes)) ≡ true = boundary_at_end ∙ (cut.ended h).1 in
       rw (enough, boundary) refl
 
   goes_on_at_cut : whole ≡ false → ends_segment (take end bytes) ≡ false
   unfolding ends_segment
-  goes_on_at_cut h = elim (cases_lt (length (take end bytes)) 2048) [
-    | inl short ↦ let few : nat_le 2048 (length (take end bytes)) ≡ false = lt-leb 2048 (length (take end bytes)) short in rw few refl
+  goes_on_at_cut h = elim (cases_lt (length (take end bytes)) LEAST_SEGMENT) [
+    | inl short ↦ let few : nat_le LEAST_SEGMENT (length (take end bytes)) ≡ false = lt-leb LEAST_SEGMENT (length (take end bytes)) short in rw few refl
     | inr long ↦
         let none : is_boundary (take end bytes) (length (take end bytes)) ≡ false =
         boundary_at_end ∙ (cut.ongoing h).1 end (omega (arith, size)) (omega (arith, cut.within)) in
-        let enough : nat_le 2048 (length (take end bytes)) ≡ true = le-leb 2048 (length (take end bytes)) long in
+        let enough : nat_le LEAST_SEGMENT (length (take end bytes)) ≡ true = le-leb LEAST_SEGMENT (length (take end bytes)) long in
         rw (enough, none) refl
   ]
 
@@ -152,14 +153,14 @@ module _ (bytes : List ℕ) (seen end value : ℕ) (whole : Bool) (cut : IsCut b
 
 -- `old` are the bytes held, and `all` are these and as many of the piece as there is room for
 module _ (old piece all : List ℕ) (capacity value₀ end value : ℕ) (whole : Bool)
-    (held : IsHeld old capacity value₀ false) (filled : all ≡ old ++ take (16384 - length old) piece)
+    (held : IsHeld old capacity value₀ false) (filled : all ≡ old ++ take (MOST_SEGMENT - length old) piece)
     (cut : IsCut all (length old) end value whole) where
-  size_of_all : length all ≡ length old + min (16384 - length old) (length piece)
+  size_of_all : length all ≡ length old + min (MOST_SEGMENT - length old) (length piece)
   size_of_all =
-      ap length filled ∙ length-append old (take (16384 - length old) piece)
-      ∙ ap (λ n. length old + n) (length-take (16384 - length old) piece)
+      ap length filled ∙ length-append old (take (MOST_SEGMENT - length old) piece)
+      ∙ ap (λ n. length old + n) (length-take (MOST_SEGMENT - length old) piece)
 
-  pub piece_at_most : length all ≤ 16384
+  pub piece_at_most : length all ≤ MOST_SEGMENT
   piece_at_most = omega (arith, size_of_all, held.at_most)
 
   pub taken_at_most : end - length old ≤ length piece
@@ -168,17 +169,17 @@ module _ (old piece all : List ℕ) (capacity value₀ end value : ℕ) (whole :
   pub taken_bytes : take end all ≡ old ++ take (end - length old) piece
   taken_bytes =
       let after : end ≡ length old + (end - length old) = omega (arith, cut.after) in
-      let inside : end - length old ≤ 16384 - length old = omega (arith, size_of_all, cut.within) in
+      let inside : end - length old ≤ MOST_SEGMENT - length old = omega (arith, size_of_all, cut.within) in
       ap (take end) filled
-      ∙ ap (λ n. take n (old ++ take (16384 - length old) piece)) after
-      ∙ take-append-add old (take (16384 - length old) piece) (end - length old)
-      ∙ ap (λ bytes. old ++ bytes) (take-take (end - length old) (16384 - length old) piece inside)
+      ∙ ap (λ n. take n (old ++ take (MOST_SEGMENT - length old) piece)) after
+      ∙ take-append-add old (take (MOST_SEGMENT - length old) piece) (end - length old)
+      ∙ ap (λ bytes. old ++ bytes) (take-take (end - length old) (MOST_SEGMENT - length old) piece inside)
 
   -- while the segment goes on, it isn't of the greatest length
-  not_full : whole ≡ false → length all < 16384
-  not_full h = elim (cases_lt (length all) 16384) [
+  not_full : whole ≡ false → length all < MOST_SEGMENT
+  not_full h = elim (cases_lt (length all) MOST_SEGMENT) [
     | inl less ↦ less
-    | inr full ↦ absurd (both_ways (is_boundary all 16384) ((cut.ongoing h).1 16384 (omega arith) (omega arith)) (is_boundary-greatest all))
+    | inr full ↦ absurd (both_ways (is_boundary all MOST_SEGMENT) ((cut.ongoing h).1 MOST_SEGMENT (omega arith) (omega arith)) (is_boundary-greatest all))
   ]
 
   pub taken_all : whole ≡ false → end - length old ≡ length piece
@@ -204,7 +205,7 @@ module _ (old more all : List ℕ) (capacity value : ℕ) (held : IsHeld old cap
       ap (λ bytes. is_boundary bytes k) filled
       ∙ is_boundary-append old more k (omega arith) ∙ held.ongoing refl k low high
 
-  pub rolled_after : 2048 ≤ length old → value ≡ window_value (window_at all (length old))
+  pub rolled_after : LEAST_SEGMENT ≤ length old → value ≡ window_value (window_at all (length old))
   rolled_after long =
       held.rolled refl long
       ∙ ap window_value (sym (ap (λ bytes. window_at bytes (length old)) filled ∙ window_at-append old more (length old) (omega arith)))

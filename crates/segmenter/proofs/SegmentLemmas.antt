@@ -6,6 +6,7 @@ use Rattle.std.proofs.lemmas.List.{length-take-le, take-append-le, take-append-d
 use Rattle.std.proofs.lemmas.List.Elements.{All-from_recursion}
 use Rattle.std.proofs.lemmas.Bool.{le-leb, lt-leb, cases_lt}
 use Rattle.std.proofs.Math.Seq.{take-append_seam, drop-append_seam, take-length}
+use Rattle.disk_format.specs.declared.numbers.TheConstants.{LEAST_SEGMENT, MOST_SEGMENT}
 use Rattle.segmenter.specs.Segments.{is_hit, window_at, is_boundary, first_from, first_length, segments_up_to, segments_of, AllButLast, IsSegmentation}
 use Rattle.segmenter.specs.Cutting.{NoBoundary, IsFirstSegment}
 
@@ -13,10 +14,10 @@ use Rattle.segmenter.specs.Cutting.{NoBoundary, IsFirstSegment}
 pub is_boundary-append : (bytes more : List ℕ) (n : ℕ) → n ≤ length bytes → is_boundary (bytes ++ more) n ≡ is_boundary bytes n
 unfolding is_boundary window_at
 is_boundary-append bytes more n h =
-    ap (λ front. (n == 16384) || is_hit (drop (n - 48) front)) (take-append-le n bytes more h)
+    ap (λ front. (n == MOST_SEGMENT) || is_hit (drop (n - 48) front)) (take-append-le n bytes more h)
 
 -- the greatest length is a boundary
-pub is_boundary-greatest : (bytes : List ℕ) → is_boundary bytes 16384 ≡ true
+pub is_boundary-greatest : (bytes : List ℕ) → is_boundary bytes MOST_SEGMENT ≡ true
 unfolding is_boundary
 is_boundary-greatest bytes = refl
 
@@ -78,73 +79,73 @@ module _ (test : ℕ → Bool) where
 -- ---- the length of the first segment
 
 module _ (bytes : List ℕ) where
-  pub first_length-short : length bytes ≤ 2048 → first_length bytes ≡ length bytes
+  pub first_length-short : length bytes ≤ LEAST_SEGMENT → first_length bytes ≡ length bytes
   unfolding first_length
-  first_length-short h = let short : nat_le (length bytes) 2048 ≡ true = le-leb (length bytes) 2048 h in rw short refl
+  first_length-short h = let short : nat_le (length bytes) LEAST_SEGMENT ≡ true = le-leb (length bytes) LEAST_SEGMENT h in rw short refl
 
-  pub first_length-long : 2048 < length bytes → first_length bytes ≡ first_from (is_boundary bytes) 2048 (length bytes - 2048)
+  pub first_length-long : LEAST_SEGMENT < length bytes → first_length bytes ≡ first_from (is_boundary bytes) LEAST_SEGMENT (length bytes - LEAST_SEGMENT)
   unfolding first_length
-  first_length-long h = let long : nat_le (length bytes) 2048 ≡ false = lt-leb (length bytes) 2048 h in rw long refl
+  first_length-long h = let long : nat_le (length bytes) LEAST_SEGMENT ≡ false = lt-leb (length bytes) LEAST_SEGMENT h in rw long refl
 
   pub first_length-le : first_length bytes ≤ length bytes
   first_length-le =
-      elim (cases_lt 2048 (length bytes)) [
-        | inl long ↦ omega (arith, first_length-long long, first_from-high (is_boundary bytes) (length bytes - 2048) 2048)
+      elim (cases_lt LEAST_SEGMENT (length bytes)) [
+        | inl long ↦ omega (arith, first_length-long long, first_from-high (is_boundary bytes) (length bytes - LEAST_SEGMENT) LEAST_SEGMENT)
         | inr short ↦ omega (arith, first_length-short short)
       ]
 
-  pub first_length-le_greatest : first_length bytes ≤ 16384
+  pub first_length-le_greatest : first_length bytes ≤ MOST_SEGMENT
   first_length-le_greatest =
-      elim (cases_lt 2048 (length bytes)) [
+      elim (cases_lt LEAST_SEGMENT (length bytes)) [
         | inl long ↦ omega (
           arith,
           first_length-long long,
-          first_from-le (is_boundary bytes) (length bytes - 2048) 2048 14336 (is_boundary-greatest bytes),
+          first_from-le (is_boundary bytes) (length bytes - LEAST_SEGMENT) LEAST_SEGMENT 14336 (is_boundary-greatest bytes),
         )
         | inr short ↦ omega (arith, first_length-short short)
       ]
 
   pub first_length-pos : 0 < length bytes → 0 < first_length bytes
   first_length-pos h =
-      elim (cases_lt 2048 (length bytes)) [
-        | inl long ↦ omega (arith, first_length-long long, first_from-low (is_boundary bytes) (length bytes - 2048) 2048)
+      elim (cases_lt LEAST_SEGMENT (length bytes)) [
+        | inl long ↦ omega (arith, first_length-long long, first_from-low (is_boundary bytes) (length bytes - LEAST_SEGMENT) LEAST_SEGMENT)
         | inr short ↦ omega (arith, first_length-short short)
       ]
 
   -- a segment that isn't the last has at least 2,048 bytes
-  pub first_length-least : first_length bytes < length bytes → 2048 ≤ first_length bytes
+  pub first_length-least : first_length bytes < length bytes → LEAST_SEGMENT ≤ first_length bytes
   first_length-least h =
-      elim (cases_lt 2048 (length bytes)) [
-        | inl long ↦ omega (arith, first_length-long long, first_from-low (is_boundary bytes) (length bytes - 2048) 2048)
+      elim (cases_lt LEAST_SEGMENT (length bytes)) [
+        | inl long ↦ omega (arith, first_length-long long, first_from-low (is_boundary bytes) (length bytes - LEAST_SEGMENT) LEAST_SEGMENT)
         | inr short ↦ omega (arith, first_length-short short)
       ]
 
   -- bytes with no boundary before their end are one segment
   pub first_length-rest : NoBoundary bytes (length bytes) → first_length bytes ≡ length bytes
   first_length-rest uncut =
-      elim (cases_lt 2048 (length bytes)) [
+      elim (cases_lt LEAST_SEGMENT (length bytes)) [
         | inl long ↦ omega (
           arith,
           first_length-long long,
-          first_from-none (is_boundary bytes) (length bytes - 2048) 2048 (λ k low high. uncut k low (omega arith)),
+          first_from-none (is_boundary bytes) (length bytes - LEAST_SEGMENT) LEAST_SEGMENT (λ k low high. uncut k low (omega arith)),
         )
         | inr short ↦ first_length-short short
       ]
 
 -- the first segment ends at the first boundary
-pub first_length-at : (bytes : List ℕ) (n : ℕ) → 2048 ≤ n → n < length bytes → NoBoundary bytes n → is_boundary bytes n ≡ true →
+pub first_length-at : (bytes : List ℕ) (n : ℕ) → LEAST_SEGMENT ≤ n → n < length bytes → NoBoundary bytes n → is_boundary bytes n ≡ true →
     first_length bytes ≡ n
 first_length-at bytes n least inside uncut ends =
-    let same : 2048 + (n - 2048) ≡ n = omega arith in
-    let ending : is_boundary bytes (2048 + (n - 2048)) ≡ true = ap (is_boundary bytes) same ∙ ends in
+    let same : LEAST_SEGMENT + (n - LEAST_SEGMENT) ≡ n = omega arith in
+    let ending : is_boundary bytes (LEAST_SEGMENT + (n - LEAST_SEGMENT)) ≡ true = ap (is_boundary bytes) same ∙ ends in
     first_length-long bytes (omega arith)
-    ∙ first_from-at (is_boundary bytes) (length bytes - 2048) 2048 (n - 2048) (omega arith) (λ k low high. uncut k low (omega arith)) ending
+    ∙ first_from-at (is_boundary bytes) (length bytes - LEAST_SEGMENT) LEAST_SEGMENT (n - LEAST_SEGMENT) (omega arith) (λ k low high. uncut k low (omega arith)) ending
     ∙ same
 
 -- up to their first boundary bytes are the first segment of whatever they begin
-module _ (bytes more : List ℕ) (uncut : NoBoundary bytes (length bytes)) (least : 2048 ≤ length bytes)
+module _ (bytes more : List ℕ) (uncut : NoBoundary bytes (length bytes)) (least : LEAST_SEGMENT ≤ length bytes)
     (ends : is_boundary bytes (length bytes) ≡ true) where
-  within : (k : ℕ) → 2048 ≤ k → k < length bytes → is_boundary (bytes ++ more) k ≡ false
+  within : (k : ℕ) → LEAST_SEGMENT ≤ k → k < length bytes → is_boundary (bytes ++ more) k ≡ false
   within k low high = is_boundary-append bytes more k (omega arith) ∙ uncut k low high
 
   pub first_length-append : first_length (bytes ++ more) ≡ length bytes
@@ -204,7 +205,7 @@ segments_of-rest bytes h uncut =
     ∙ ap (λ rest. bytes ∷ rest) segments_of-none
 
 -- up to their first boundary bytes are the first segment of whatever they begin
-pub first_segment : (bytes : List ℕ) → NoBoundary bytes (length bytes) → 2048 ≤ length bytes → is_boundary bytes (length bytes) ≡ true →
+pub first_segment : (bytes : List ℕ) → NoBoundary bytes (length bytes) → LEAST_SEGMENT ≤ length bytes → is_boundary bytes (length bytes) ≡ true →
     IsFirstSegment bytes
 first_segment bytes uncut least ends = record {
   first = λ more.
@@ -242,7 +243,7 @@ not_empty_up_to (suc count) (x ∷ xs) = (
   not_empty_up_to count (drop (first_length (x ∷ xs)) (x ∷ xs)),
 )
 
-at_most_up_to : (count : ℕ) (bytes : List ℕ) → AllByRecursion (λ segment. length segment ≤ 16384) (segments_up_to count bytes)
+at_most_up_to : (count : ℕ) (bytes : List ℕ) → AllByRecursion (λ segment. length segment ≤ MOST_SEGMENT) (segments_up_to count bytes)
 unfolding segments_up_to
 at_most_up_to zero bytes = tt
 at_most_up_to (suc count) [] = tt
@@ -263,12 +264,12 @@ more_bytes zero bytes h = absurd (omega arith)
 more_bytes (suc count) [] h = absurd (omega arith)
 more_bytes (suc count) (x ∷ xs) h = omega arith
 
-at_least_up_to : (count : ℕ) (bytes : List ℕ) → AllButLast (λ segment. 2048 ≤ length segment) (segments_up_to count bytes)
+at_least_up_to : (count : ℕ) (bytes : List ℕ) → AllButLast (λ segment. LEAST_SEGMENT ≤ length segment) (segments_up_to count bytes)
 unfolding segments_up_to
 at_least_up_to zero bytes = tt
 at_least_up_to (suc count) [] = tt
 at_least_up_to (suc count) (x ∷ xs) =
-    AllButLast-cons (λ segment. 2048 ≤ length segment) (take (first_length (x ∷ xs)) (x ∷ xs))
+    AllButLast-cons (λ segment. LEAST_SEGMENT ≤ length segment) (take (first_length (x ∷ xs)) (x ∷ xs))
     (segments_up_to count (drop (first_length (x ∷ xs)) (x ∷ xs)))
     (λ another.
     let more : 0 < length (drop (first_length (x ∷ xs)) (x ∷ xs)) =
@@ -283,6 +284,6 @@ unfolding segments_of
 segments_of-laws bytes = record {
   together = together_up_to (length bytes) bytes (omega arith);
   not_empty = All-from_recursion (λ segment. 0 < length segment) (segments_up_to (length bytes) bytes) (not_empty_up_to (length bytes) bytes);
-  at_most = All-from_recursion (λ segment. length segment ≤ 16384) (segments_up_to (length bytes) bytes) (at_most_up_to (length bytes) bytes);
+  at_most = All-from_recursion (λ segment. length segment ≤ MOST_SEGMENT) (segments_up_to (length bytes) bytes) (at_most_up_to (length bytes) bytes);
   at_least = at_least_up_to (length bytes) bytes;
 }

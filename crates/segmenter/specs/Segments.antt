@@ -1,6 +1,7 @@
 -- The content-defined segmentation of a list of bytes (docs/FORMAT.md, "Segmenting").
 use Rattle.std.specs.Prelude.{◌≡◌, ℕ, suc, zero, ◌+◌, ◌-◌, ◌*◌, ◌/◌, ◌%◌, ◌^◌, ◌≤◌, ◌<◌, Bool, ◌==◌, ◌||◌, nat_le, if◌then◌else◌, List, [], ◌∷◌, length, take, drop, All}
 use Rattle.std.specs.List.{concat}
+use Rattle.disk_format.specs.declared.numbers.TheConstants.{LEAST_SEGMENT, MOST_SEGMENT}
 
 -- the sum of the bytes, each times the multiplier to the power of how many bytes follow it: of a window of 48, the
 -- byte at i is multiplied by the multiplier to the power of 47 - i
@@ -22,7 +23,7 @@ window_at bytes n = drop (n - 48) (take n bytes)
 
 -- a segment of at least 2,048 bytes ends after n bytes: it is of the greatest length, or the window there hits
 unfoldable pub is_boundary : List ℕ → ℕ → Bool
-is_boundary bytes n = (n == 16384) || is_hit (window_at bytes n)
+is_boundary bytes n = (n == MOST_SEGMENT) || is_hit (window_at bytes n)
 
 -- the least of the `count` numbers from n on that pass the test, and n + count where none of them does
 unfoldable pub first_from : (ℕ → Bool) → ℕ → ℕ → ℕ
@@ -32,7 +33,9 @@ first_from test n (suc count) = if test n then n else first_from test (n + 1) co
 -- the length of the first segment: all bytes where they are at most 2,048, and else up to the first boundary from
 -- 2,048 on, or up to the end where there is none
 unfoldable pub first_length : List ℕ → ℕ
-first_length bytes = if nat_le (length bytes) 2048 then length bytes else first_from (is_boundary bytes) 2048 (length bytes - 2048)
+first_length bytes =
+    if nat_le (length bytes) LEAST_SEGMENT then length bytes
+    else first_from (is_boundary bytes) LEAST_SEGMENT (length bytes - LEAST_SEGMENT)
 
 -- the first segments, at most `count` of them: a segment, and then the segments of what follows it
 unfoldable pub segments_up_to : ℕ → List ℕ → List (List ℕ)
@@ -55,5 +58,5 @@ AllButLast P (segment ∷ next ∷ rest) = P segment × AllButLast P (next ∷ r
 pub record IsSegmentation (bytes : List ℕ) (segments : List (List ℕ)) : Type 0 where
   pub together : concat segments ≡ bytes
   pub not_empty : All (λ segment. 0 < length segment) segments
-  pub at_most : All (λ segment. length segment ≤ 16384) segments
-  pub at_least : AllButLast (λ segment. 2048 ≤ length segment) segments
+  pub at_most : All (λ segment. length segment ≤ MOST_SEGMENT) segments
+  pub at_least : AllButLast (λ segment. LEAST_SEGMENT ≤ length segment) segments

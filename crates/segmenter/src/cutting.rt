@@ -1,21 +1,17 @@
 //! A cutter, which takes a stream in any pieces and shows its segments one by one.
 
-ghost use Rattle.std.specs.Prelude.{◌≡◌, ℕ, ◌+◌, ◌<◌, ◌≤◌, ◌↔◌, true, false, IsTrue, IfOk, List, [], ◌∷◌, ◌++◌, length, take, vec_len, vec_capacity, ◌-◌};
+ghost use Rattle.std.specs.Prelude.{◌≡◌, ℕ, ◌+◌, ◌-◌, ◌<◌, ◌≤◌, ◌↔◌, true, false, IsTrue, IfOk, List, [], ◌∷◌, ◌++◌, length, take};
+ghost use Rattle.std.specs.Prelude.{vec_len, vec_capacity};
 ghost use Rattle.segmenter.specs.Segments.{segments_of, window_value, window_at};
-ghost use Rattle.segmenter.specs.Cutting.{empty_hand, whole_segments, ends_segment, IsFirstSegment, HasCut, NoBoundary, IsCut};
+ghost use Rattle.segmenter.specs.Cutting.{empty_hand, whole_segments, Takes, Ends, IsOne, HasCut, NoBoundary, IsCut};
 
 use crate::rolling::{WINDOW, first_hit, value_of};
+use disk_format::{LEAST_SEGMENT, MOST_SEGMENT};
 use std::alloc::{AllocError, Global};
 use std::marker::Model;
 
-/// The least length of a segment that isn't the last, in bytes.
-pub const LEAST: usize = 2_048;
-
-/// The greatest length of a segment, in bytes.
-pub const GREATEST: usize = 16_384;
-
 /// What a piece gave to the segment in hand.
-#[derive(Clone, Copy, Debug, PartialEq, Eq)]
+#[derive(Clone, Copy)]
 pub struct Taken {
     /// How many of the piece's first bytes were taken.
     pub taken: usize,
@@ -33,21 +29,21 @@ struct Cut {
 
 /// Appends as many of the bytes as a segment has room for. The buffer has that room, so this takes no memory.
 fn fill(held: &mut Vec<u8>, bytes: &[u8])
-    requires capacity { 16384 ≤ vec_capacity held.old }
-    requires at_most { vec_len held.old ≤ 16384 }
-    ensures capacity { 16384 ≤ vec_capacity held.new }
-    ensures bytes { held.new.items ≡ held.old.items ++ take (16384 - vec_len held.old) bytes.now }
+    requires capacity { MOST_SEGMENT ≤ vec_capacity held.old }
+    requires at_most { vec_len held.old ≤ MOST_SEGMENT }
+    ensures capacity { MOST_SEGMENT ≤ vec_capacity held.new }
+    ensures bytes { held.new.items ≡ held.old.items ++ take (MOST_SEGMENT - vec_len held.old) bytes.now }
 {
-    let copied = bytes.len().min(GREATEST - held.len());
+    let copied = bytes.len().min(MOST_SEGMENT as usize - held.len());
     held.extend_from_slice(&bytes[..copied]).unwrap();
 }
 
 /// Finds the end of the first segment, which isn't among the first `from` bytes but may be right after them. `value`
 /// is that of the window there.
 fn cut_from(bytes: &[u8], from: usize, value: u64) -> Cut
-    requires least { 2048 ≤ from }
+    requires least { LEAST_SEGMENT ≤ from }
     requires within { from ≤ length bytes.now }
-    requires at_most { length bytes.now ≤ 16384 }
+    requires at_most { length bytes.now ≤ MOST_SEGMENT }
     requires uncut { NoBoundary bytes.now from }
     requires rolled { value ≡ window_value (window_at bytes.now from) }
     ensures { IsCut bytes.now from result.end result.value result.whole }
@@ -56,7 +52,7 @@ fn cut_from(bytes: &[u8], from: usize, value: u64) -> Cut
     Cut {
         end: scan.end,
         value: scan.value,
-        whole: scan.hit || scan.end == GREATEST,
+        whole: scan.hit || scan.end == MOST_SEGMENT as usize,
     }
 }
 
@@ -64,26 +60,31 @@ fn cut_from(bytes: &[u8], from: usize, value: u64) -> Cut
 /// after these, where they are enough for one to be looked at.
 fn first_cut(bytes: &[u8], seen: usize, value: u64) -> Cut
     requires seen { seen ≤ length bytes.now }
-    requires at_most { length bytes.now ≤ 16384 }
+    requires at_most { length bytes.now ≤ MOST_SEGMENT }
     requires uncut { NoBoundary bytes.now (seen + 1) }
-    requires rolled { 2048 ≤ seen → value ≡ window_value (window_at bytes.now seen) }
+    requires rolled { LEAST_SEGMENT ≤ seen → value ≡ window_value (window_at bytes.now seen) }
     ensures { IsCut bytes.now seen result.end result.value result.whole }
 {
-    if bytes.len() < LEAST {
+    if bytes.len() < LEAST_SEGMENT {
         return Cut {
             end: bytes.len(),
             value,
             whole: false,
         };
     }
-    if seen < LEAST {
-        return cut_from(bytes, LEAST, value_of(&bytes[LEAST - WINDOW..LEAST]));
+    if seen < LEAST_SEGMENT {
+        return cut_from(
+            bytes,
+            LEAST_SEGMENT,
+            value_of(&bytes[LEAST_SEGMENT - WINDOW..LEAST_SEGMENT]),
+        );
     }
     cut_from(bytes, seen, value)
 }
 
-/// Cuts a stream into segments. It holds the bytes of one segment, the one in hand.
-#[derive(Debug, Drop)]
+/// Cuts a stream into segments (docs/FORMAT.md, "Segmenting"). It holds the bytes of one segment, the one in hand, at
+/// most `disk_format::MOST_SEGMENT`.
+#[derive(Drop)]
 pub struct Cutter {
     held: Vec<u8>,
     // the value of the window at the end of the bytes, once there are enough of them for a cut
@@ -103,14 +104,14 @@ impl Model for Cutter {
 }
 
 impl Cutter {
-    /// A cutter at the start of a stream. It takes the memory of a segment of the greatest length, and no call after
-    /// it takes any.
+    /// A cutter at the start of a stream. It takes the memory of a segment of the greatest length, and fails for want of
+    /// it alone; no call after it takes any.
     pub fn new(alloc: Global) -> Result<Self, AllocError>
         ensures empty { IfOk result (λ cutter. cutter ≡ empty_hand) }
         ensures so_far { IfOk result (HasCut [] []) }
     {
         Ok(Cutter {
-            held: Vec::with_capacity(alloc, GREATEST)?,
+            held: Vec::with_capacity(alloc, MOST_SEGMENT as usize)?,
             value: 0,
             whole: false,
         })
@@ -119,24 +120,10 @@ impl Cutter {
     /// Takes bytes up to the end of the segment in hand, and says how many and whether that segment is whole now.
     /// Where it is whole already, or was made so by `finish`, it takes none until `next`.
     pub fn push(&mut self, bytes: &[u8]) -> Taken
-        ensures taken { result.taken ≤ length bytes.now }
-        ensures bytes { self.new.bytes ≡ self.old.bytes ++ take result.taken bytes.now }
-        ensures whole { self.new.whole ≡ result.whole }
-
-        // It stops before the end of the piece only where the segment is whole, and then it took something.
-        ensures all { result.whole ≡ false → result.taken ≡ length bytes.now }
-        ensures some { self.old.whole ≡ false → 0 < length bytes.now → 0 < result.taken }
-        ensures unchanged { self.old.whole ≡ true → (result.taken ≡ 0) × (self.new ≡ self.old) }
-
-        // It is whole exactly where a segment has to end, and its bytes are then the first segment of the stream.
-        ensures ends { self.old.whole ≡ false → result.whole ≡ ends_segment self.new.bytes }
-        ensures first { self.old.whole ≡ false → result.whole ≡ true → IsFirstSegment self.new.bytes }
-        ensures at_least { self.old.whole ≡ false → result.whole ≡ true → 2048 ≤ length self.new.bytes }
-
+        ensures takes { Takes self.old bytes.now result self.new }
+        ensures ends { self.old.whole ≡ false → Ends self.new.bytes result.whole }
         // Whole or not, what is in hand is never more than one segment.
-        ensures one { 0 < length self.new.bytes → segments_of self.new.bytes ≡ self.new.bytes ∷ [] }
-        ensures at_most { length self.new.bytes ≤ 16384 }
-
+        ensures one { IsOne self.new.bytes }
         // Over a whole run: what was taken so far is the segments shown so far and what is in hand.
         ensures so_far { (taken : List ℕ) (shown : List (List ℕ)) → HasCut taken shown self.old
             → HasCut (taken ++ take result.taken bytes.now) shown self.new }
@@ -164,7 +151,7 @@ impl Cutter {
     /// The bytes of the segment in hand: the whole segment, or what was taken of it so far.
     pub fn segment(&self) -> &[u8]
         ensures bytes { result.now ≡ self.now.bytes }
-        ensures at_most { length result.now ≤ 16384 }
+        ensures at_most { length result.now ≤ MOST_SEGMENT }
     {
         &self.held
     }

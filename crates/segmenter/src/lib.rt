@@ -6,5 +6,5 @@ mod cutting;
 mod rolling;
 mod whole;
 
-pub use cutting::{Cutter, GREATEST, LEAST, Taken};
+pub use cutting::{Cutter, Taken};
 pub use whole::{cut_pieces, segmentation_laws, segments_plainly};

@@ -5,7 +5,7 @@ ghost use Rattle.segmenter.specs.Segments.{window_value, window_at, is_hit};
 ghost use Rattle.segmenter.specs.Cutting.{IsFirstHit};
 
 /// The bytes of a window.
-pub const WINDOW: usize = 48;
+pub(crate) const WINDOW: usize = 48;
 
 /// What the value of a window is multiplied by, modulo 2^64, for each byte that comes in.
 const MULTIPLIER: u64 = 0x9E37_79B9_7F4A_7C15;

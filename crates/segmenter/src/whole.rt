@@ -5,12 +5,13 @@ ghost use Rattle.std.specs.List.{flat_map};
 ghost use Rattle.segmenter.specs.Segments.{is_boundary, first_length, segments_of, IsSegmentation};
 ghost use Rattle.segmenter.specs.Cutting.{HasCut, empty_hand};
 
-use crate::cutting::{Cutter, GREATEST, LEAST};
+use crate::cutting::Cutter;
 use crate::rolling::{WINDOW, hits, value_of};
+use disk_format::{LEAST_SEGMENT, MOST_SEGMENT};
 use std::alloc::{AllocError, Global};
 
 /// The segments of a stream that comes in these pieces. Some may be empty, and it doesn't matter how the stream was
-/// cut into them.
+/// cut into them. It fails for want of memory alone.
 pub fn cut_pieces(alloc: Global, pieces: &[Vec<u8>]) -> Result<Vec<Vec<u8>>, AllocError>
     ensures { IfOk result (λ segments. map (λ segment. segment.items) segments.items
         ≡ segments_of (flat_map (λ piece. piece.items) pieces.now)) }
@@ -51,7 +52,8 @@ fn cut_piece(
     Ok(())
 }
 
-/// The segments of a list, found by looking at each window anew. It is slow, and says what `Cutter` has to show.
+/// The segments of a list, found by looking at each window anew. It is slow, and says what `Cutter` has to show. It
+/// fails for want of memory alone.
 pub fn segments_plainly(alloc: Global, bytes: &[u8]) -> Result<Vec<Vec<u8>>, AllocError>
     ensures { IfOk result (λ segments. map (λ segment. segment.items) segments.items ≡ segments_of bytes.now) }
 {
@@ -71,7 +73,7 @@ fn plain_first_length(bytes: &[u8]) -> usize
     ensures within { result ≤ length bytes.now }
     ensures some { 0 < length bytes.now → 0 < result }
 {
-    for n in LEAST..bytes.len() {
+    for n in LEAST_SEGMENT..bytes.len() {
         if is_boundary_at(bytes, n) {
             return n;
         }
@@ -81,11 +83,11 @@ fn plain_first_length(bytes: &[u8]) -> usize
 
 /// Whether a segment of these bytes ends after n of them.
 fn is_boundary_at(bytes: &[u8], n: usize) -> bool
-    requires least { 2048 ≤ n }
+    requires least { LEAST_SEGMENT ≤ n }
     requires within { n ≤ length bytes.now }
     ensures { result ≡ is_boundary bytes.now n }
 {
-    n == GREATEST || hits(value_of(&bytes[n - WINDOW..n]))
+    n == MOST_SEGMENT as usize || hits(value_of(&bytes[n - WINDOW..n]))
 }
 
 /// What the segments of every list have: put together they are the list, none is empty, each has at most 16,384

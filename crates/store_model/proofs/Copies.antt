@@ -3,16 +3,17 @@ use Rattle.std.proofs.Common.{◌≡◌, ◌⊎◌, inl, inr, ℕ, zero, suc, �
 use Rattle.std.specs.Prelude.{nat_lt, nat_le, ◌&&◌, if◌then◌else◌}
 use Rattle.std.specs.List.{AllByRecursion}
 use Rattle.std.specs.Str.{bytes_eq}
-use Rattle.std.proofs.lemmas.Bool.{leb-true}
+use Rattle.std.proofs.lemmas.Bool.{leb-true, eqb-true}
 use Rattle.std.proofs.lemmas.List.Sums.{sum_by-append, sum_by-cons}
 use Rattle.std.proofs.lemmas.Slice.Eq.{bytes_eq-Decides}
 use Rattle.sha2.specs.Sha256.{sha256}
 use Rattle.base_model.specs.Bytes.{range, key_of}
+use Rattle.disk_format.specs.declared.numbers.TheConstants.{MOST_LEVEL}
 use Rattle.disk_format.specs.Layout.{data_at}
 use Rattle.container_meta.specs.declared.entry.Entry.{Entry}
 use Rattle.container_meta.specs.declared.kind.Kind.{Kind}
 use Rattle.container_meta.specs.declared.kind.Kind.TheVariants.{Leaf, Tree}
-use Rattle.container_meta.specs.Format.{kind_byte, is_length}
+use Rattle.container_meta.specs.Format.{kind_byte, is_length, is_level}
 use Rattle.container_meta.specs.Spelling.{HeaderValue, IsHeader, Follow, bytes_of}
 use Rattle.store_model.specs.Slots.{HoldSlots, AreHeaders, Copy, place_of, copy_in, newer, newest}
 use Rattle.store_model.specs.Image.{Store, Encodes, AreCopies, bytes_at}
@@ -82,17 +83,18 @@ lies from (c ∷ cs) key copy e = elim (one_of (copy_in from c key) (newest (fro
 
 -- an entry that is found after others ends where they do or before
 ends_within : (kind : Kind) (test : Entry → Bool) (before entries : List Entry) (entry : Entry) → Follow kind before entries → find test entries ≡ Some entry
-    → (entry.offset + entry.length ≤ bytes_of before + bytes_of entries) × (is_length kind entry.length ≡ true)
+    → (entry.offset + entry.length ≤ bytes_of before + bytes_of entries) × (is_length kind entry.length ≡ true) × (is_level kind entry.level ≡ true)
 ends_within kind test before [] entry follow e = absurd cc
 ends_within kind test before (x ∷ xs) entry follow e =
-    elim (test x) as (λ b. cond b (Some x) (find test xs) ≡ Some entry → (entry.offset + entry.length ≤ bytes_of before + bytes_of (x ∷ xs)) × (is_length kind entry.length ≡ true)) [
+    elim (test x)
+    as (λ b. cond b (Some x) (find test xs) ≡ Some entry → (entry.offset + entry.length ≤ bytes_of before + bytes_of (x ∷ xs)) × (is_length kind entry.length ≡ true) × (is_level kind entry.level ≡ true)) [
       | true ↦ λ is.
           let same = some_same x entry is in
-          subst (λ (y : Entry). (y.offset + y.length ≤ bytes_of before + bytes_of (x ∷ xs)) × (is_length kind y.length ≡ true)) same
-          (omega (arith, follow.0.offset, sum_by-cons (λ (y : Entry). y.length) x xs), follow.0.length)
+          subst (λ (y : Entry). (y.offset + y.length ≤ bytes_of before + bytes_of (x ∷ xs)) × (is_length kind y.length ≡ true) × (is_level kind y.level ≡ true)) same
+          (omega (arith, follow.0.offset, sum_by-cons (λ (y : Entry). y.length) x xs), follow.0.length, follow.0.level)
       | false ↦ λ is.
           let rest = ends_within kind test (before ++ x ∷ []) xs entry follow.1 is in
-          (omega (arith, rest.0, sum_by-cons (λ (y : Entry). y.length) x xs, sum_by-append (λ (y : Entry). y.length) before (x ∷ []), sum_by-cons (λ (y : Entry). y.length) x []), rest.1)
+          (omega (arith, rest.0, sum_by-cons (λ (y : Entry). y.length) x xs, sum_by-append (λ (y : Entry). y.length) before (x ∷ []), sum_by-cons (λ (y : Entry). y.length) x []), rest.1, rest.2)
     ] e
 
 both_true : (a b : Bool) → a && b ≡ true → (a ≡ true) × (b ≡ true)
@@ -105,6 +107,11 @@ length_within Leaf n e =
     let parts = both_true (nat_le 1 n) (nat_le n 16384) e in
     (leb-true 1 n parts.0, leb-true n 16384 parts.1)
 length_within Tree n e = absurd cc
+
+-- and their levels
+level_within : (kind : Kind) (level : ℕ) → is_level kind level ≡ true → level ≤ MOST_LEVEL
+level_within Leaf level e = let zero_level : level ≡ 0 = eqb-true level 0 e in omega (arith, zero_level)
+level_within Tree level e = absurd cc
 
 -- data is at most as long as its section
 pub data_within : (h : HeaderValue) → IsHeader h → bytes_of h.entries ≤ 212480
@@ -126,6 +133,7 @@ pub record IsWithin (slots : ℕ) (copy : Copy) : Type 0 where
   pub ends : copy.place.offset + copy.place.length ≤ 212480
   pub some : 1 ≤ copy.place.length
   pub few : copy.place.length ≤ 16384
+  pub level : copy.place.level ≤ MOST_LEVEL
 
 -- a copy in slots lies within them
 pub newest_within : (held : List (Option HeaderValue)) (key : List ℕ) (copy : Copy) → AreHeaders held → newest 0 held key ≡ Some copy → IsWithin (length held) copy
@@ -139,6 +147,7 @@ newest_within held key copy headers e =
       ends = omega (arith, bounds.0, data_within l.header right);
       some = sizes.0;
       few = sizes.1;
+      level = level_within l.header.kind l.entry.level bounds.2;
     })
 
 -- slots that hold headers have such

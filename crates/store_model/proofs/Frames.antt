@@ -1,89 +1,145 @@
--- What a write into a container slot changes nothing of.
-use Rattle.std.proofs.Common.{◌≡◌, ◌≢◌, ◌⊎◌, inl, inr, ℕ, ◌+◌, ◌-◌, ◌<◌, ◌≤◌, true, false, List, [], ◌∷◌, length, Option, Some, None, refl, sym, ◌∙◌, arith}
-use Rattle.std.specs.Prelude.{nat_lt}
-use Rattle.std.proofs.lemmas.Bool.{ltb-true, ltb-false}
+-- What an image keeps of a store where parts of it are as they were.
+use Rattle.std.proofs.Common.{◌≡◌, inl, inr, ℕ, ◌+◌, ◌-◌, ◌<◌, ◌≤◌, List, [], ◌∷◌, ◌++◌, length, Option, Some, None, sym, ◌∙◌, ap, arith}
+use Rattle.std.specs.List.{AllByRecursion}
+use Rattle.std.proofs.lemmas.List.Sums.{sum_by-append, sum_by-cons}
+use Rattle.sha2.specs.Sha256.{sha256}
 use Rattle.base_model.specs.Bytes.{range, byte_at}
+use Rattle.base_model.proofs.ByteAt.{byte_of_range}
+use Rattle.disk_format.specs.declared.numbers.TheConstants.{FIRST_HALF, FIRST_SLOT, SLOT_BYTES}
 use Rattle.disk_format.specs.Cells.{RecordValue, SelectorValue}
 use Rattle.disk_format.specs.Layout.{slot_at, data_at, selector_at, cell_at, half_cells}
-use Rattle.container_meta.specs.Spelling.{HeaderValue}
-use Rattle.store_model.specs.Slots.{HoldsSlot}
-use Rattle.store_model.specs.Journal.{ClosedFrom, HoldsJournal, StandFrom, IsOlder, HoldsSelector}
-use Rattle.base_model.proofs.Frames.{byte_before, byte_after}
-use Rattle.base_model.specs.Frames.{SameOutside}
-use Rattle.store_model.specs.Image.{HasFormat}
+use Rattle.container_meta.specs.declared.entry.Entry.{Entry}
+use Rattle.container_meta.specs.declared.kind.Kind.{Kind}
+use Rattle.container_meta.specs.Spelling.{HeaderValue, IsHeader, Follow, bytes_of}
+use Rattle.namespace.specs.declared.record.Named.{Named}
+use Rattle.store_model.specs.Journal.{HoldsSelector, IsOlder, StandFrom, HoldsJournal, ClosedFrom}
+use Rattle.store_model.specs.Slots.{HoldsSlot, HoldSlots, AreHeaders, Copy, newest}
+use Rattle.store_model.specs.Image.{HasFormat, AreCopies, HasCopy, IsFileOf, bytes_at}
+use Rattle.store_model.specs.Commands.{leaf_key}
+use Rattle.store_model.proofs.Copies.{data_within, newest_within}
 
--- two numbers that differ
-pub below_or_above : (a b : ℕ) → a ≢ b → (a < b) ⊎ (b < a)
-below_or_above a b other = elim (nat_lt a b) as (λ less. nat_lt a b ≡ less → (a < b) ⊎ (b < a)) [
-  | true ↦ λ is. inl (ltb-true a b is)
-  | false ↦ λ is. inr (let least : b ≤ a = ltb-false a b is in omega arith)
-] refl
+-- the bytes before a place are as they were
+abbrev pub SameTo : ℕ → List ℕ → List ℕ → Type 0
+SameTo place old new = (p n : ℕ) → p + n ≤ place → range p n new ≡ range p n old
 
-module _ (slot : ℕ) (old new : List ℕ) (same : SameOutside (slot_at slot) 262144 old new) where
-  -- the part of the disk before the slots
-  front_kept : (p n : ℕ) → p + n ≤ 1050112 → range p n new ≡ range p n old
-  front_kept p n within = same.before p n (omega (arith, within))
+-- and those of a slot
+abbrev pub SameSlot : ℕ → List ℕ → List ℕ → Type 0
+SameSlot slot old new = (p n : ℕ) → slot_at slot ≤ p → p + n ≤ slot_at slot + SLOT_BYTES → range p n new ≡ range p n old
 
-  front_byte : (p : ℕ) → p < 1050112 → byte_at p new ≡ byte_at p old
-  front_byte p within = byte_before p (slot_at slot) 262144 old new (omega (arith, within)) same
+-- and those of so many slots, from one on
+abbrev pub SameSlots : ℕ → ℕ → List ℕ → List ℕ → Type 0
+SameSlots from count old new = (slot : ℕ) → from ≤ slot → slot < from + count → SameSlot slot old new
 
-  -- the format cell
+-- ---- the cells before the journal's halves
+
+module _ (old new : List ℕ) (same : SameTo FIRST_HALF old new) where
   pub format_kept : (slots : ℕ) → HasFormat slots old → HasFormat slots new
-  format_kept slots format = front_kept 0 512 (omega arith) ∙ format
+  format_kept slots format = same 0 512 (omega arith) ∙ format
 
-  selector_kept : (s : SelectorValue) → HoldsSelector old s → HoldsSelector new s
-  selector_kept s holds = (holds.0, front_kept (selector_at s.half) 512 (omega (arith, holds.0.half)) ∙ holds.1)
+  pub selector_kept : (s : SelectorValue) → HoldsSelector old s → HoldsSelector new s
+  selector_kept s holds = (holds.0, same (selector_at s.half) 512 (omega (arith, holds.0.half)) ∙ holds.1)
 
-  older_kept : (s : SelectorValue) → IsOlder old s → IsOlder new s
-  older_kept s (inl closed) = inl (λ opened. closed (sym (front_byte (selector_at (1 - s.half)) (omega arith)) ∙ opened))
+  pub older_kept : (s : SelectorValue) → IsOlder old s → IsOlder new s
+  older_kept s (inl closed) =
+      let here : range (selector_at (1 - s.half)) 1 new ≡ range (selector_at (1 - s.half)) 1 old = same (selector_at (1 - s.half)) 1 (omega arith) in
+      inl (λ opened. closed (sym (byte_of_range (selector_at (1 - s.half)) old new here) ∙ opened))
   older_kept s (inr (t, half, holds, lower)) = inr (t, half, selector_kept t holds, lower)
+
+-- ---- all before the slots
+
+module _ (old new : List ℕ) (same : SameTo FIRST_SLOT old new) where
+  to_halves : SameTo FIRST_HALF old new
+  to_halves p n within = same p n (omega (arith, within))
 
   stand_kept : (half cell : ℕ) (records : List RecordValue) → half ≤ 1 → cell + length records ≤ half_cells → StandFrom half cell records old → StandFrom half cell records new
   stand_kept half cell [] low few stands = tt
-  stand_kept half cell (r ∷ rs) low few stands = (
-    front_kept (cell_at half cell) 512 (omega arith) ∙ stands.0,
-    stand_kept half (cell + 1) rs low (omega arith) stands.1,
-  )
+  stand_kept half cell (r ∷ rs) low few stands = (same (cell_at half cell) 512 (omega arith) ∙ stands.0, stand_kept half (cell + 1) rs low (omega arith) stands.1)
 
-  -- the journal
+  gate_kept : (half cell : ℕ) → half ≤ 1 → cell < half_cells → byte_at (cell_at half cell) new ≡ byte_at (cell_at half cell) old
+  gate_kept half cell low within = byte_of_range (cell_at half cell) old new (same (cell_at half cell) 1 (omega arith))
+
   pub journal_kept : (selector : SelectorValue) (records : List RecordValue) → HoldsJournal old selector records → HoldsJournal new selector records
   journal_kept selector records journal =
       let low : selector.half ≤ 1 = journal.selector_is.0.half in
       record {
-        selector_is = selector_kept selector journal.selector_is;
-        older = older_kept selector journal.older;
+        selector_is = selector_kept old new to_halves selector journal.selector_is;
+        older = older_kept old new to_halves selector journal.older;
         records_are = record {
           few = journal.records_are.few;
           right = journal.records_are.right;
           stand = stand_kept selector.half 0 records low (omega (arith, journal.records_are.few)) journal.records_are.stand;
-          ends = λ room opened. journal.records_are.ends room (sym (front_byte (cell_at selector.half (length records)) (omega (arith, low, room))) ∙ opened);
+          ends = λ room opened. journal.records_are.ends room (sym (gate_kept selector.half (length records) low room) ∙ opened);
         };
       }
 
   -- cells that aren't open
   pub closed_kept : (half from : ℕ) → half ≤ 1 → ClosedFrom half from old → ClosedFrom half from new
-  closed_kept half from low closed cell first within opened = closed cell first within (sym (front_byte (cell_at half cell) (omega (arith, low, within))) ∙ opened)
+  closed_kept half from low closed cell first within opened = closed cell first within (sym (gate_kept half cell low within) ∙ opened)
 
-  gate_kept : (other : ℕ) → other ≢ slot → byte_at (slot_at other) new ≡ byte_at (slot_at other) old
-  gate_kept other differ = elim (below_or_above other slot differ) [
-    | inl below ↦ byte_before (slot_at other) (slot_at slot) 262144 old new (omega (arith, below)) same
-    | inr above ↦ byte_after (slot_at other) (slot_at slot) 262144 old new (omega (arith, above)) same
-  ]
+-- ---- a slot
 
-  -- the bytes of a segment in another slot
-  pub place_kept : (other offset n : ℕ) → other ≢ slot → offset + n ≤ 212480 → range (data_at other + offset) n new ≡ range (data_at other + offset) n old
-  place_kept other offset n differ within = elim (below_or_above other slot differ) [
-    | inl below ↦ same.before (data_at other + offset) n (omega (arith, below, within))
-    | inr above ↦ same.after (data_at other + offset) n (omega (arith, above))
-  ]
+-- the entries of a slot have the digests of their bytes
+abbrev pub HaveDigests : ℕ → List Entry → List ℕ → Type 0
+HaveDigests slot entries image = AllByRecursion (λ e. sha256 (range (data_at slot + e.offset) e.length image) ≡ e.digest) entries
 
-  header_kept : (other : ℕ) → other ≢ slot → range (slot_at other) 49664 new ≡ range (slot_at other) 49664 old
-  header_kept other differ = elim (below_or_above other slot differ) [
-    | inl below ↦ same.before (slot_at other) 49664 (omega (arith, below))
-    | inr above ↦ same.after (slot_at other) 49664 (omega (arith, above))
-  ]
+module _ (slot : ℕ) (old new : List ℕ) (same : SameSlot slot old new) where
+  -- what it holds
+  pub slot_kept : (held : Option HeaderValue) → HoldsSlot old slot held → HoldsSlot new slot held
+  slot_kept None closed = λ opened. closed (sym (byte_of_range (slot_at slot) old new (same (slot_at slot) 1 (omega arith) (omega arith))) ∙ opened)
+  slot_kept (Some h) holds = (holds.0, same (slot_at slot) 49664 (omega arith) (omega arith) ∙ holds.1)
 
-  -- what another slot holds
-  pub slot_kept : (other : ℕ) (held : Option HeaderValue) → other ≢ slot → HoldsSlot old other held → HoldsSlot new other held
-  slot_kept other None differ closed = λ opened. closed (sym (gate_kept other differ) ∙ opened)
-  slot_kept other (Some h) differ holds = (holds.0, header_kept other differ ∙ holds.1)
+  -- the bytes of a segment
+  pub place_kept : (offset n : ℕ) → offset + n ≤ 212480 → range (data_at slot + offset) n new ≡ range (data_at slot + offset) n old
+  place_kept offset n within = same (data_at slot + offset) n (omega arith) (omega (arith, within))
+
+  entries_kept : (kind : Kind) (before entries : List Entry) → Follow kind before entries → bytes_of before + bytes_of entries ≤ 212480 → HaveDigests slot entries old → HaveDigests slot entries new
+  entries_kept kind before [] follow few all = tt
+  entries_kept kind before (e ∷ es) follow few all =
+      let here = place_kept e.offset e.length (omega (arith, follow.0.offset, few, sum_by-cons (λ (y : Entry). y.length) e es)) in
+      let more : bytes_of (before ++ e ∷ []) + bytes_of es ≤ 212480 =
+      omega (arith, few, sum_by-cons (λ (y : Entry). y.length) e es, sum_by-append (λ (y : Entry). y.length) before (e ∷ []), sum_by-cons (λ (y : Entry). y.length) e []) in
+      (ap sha256 here ∙ all.0, entries_kept kind (before ++ e ∷ []) es follow.1 more all.1)
+
+  -- its entries
+  pub digests_kept : (h : HeaderValue) → IsHeader h → HaveDigests slot h.entries old → HaveDigests slot h.entries new
+  digests_kept h right = entries_kept h.kind [] h.entries right.entries (omega (arith, data_within h right))
+
+-- ---- slots in a row
+
+module _ (old new : List ℕ) where
+  -- what each holds
+  pub slots_kept : (from : ℕ) (held : List (Option HeaderValue)) → SameSlots from (length held) old new → HoldSlots from held old → HoldSlots from held new
+  slots_kept from [] same holds = tt
+  slots_kept from (c ∷ cs) same holds = (
+    slot_kept from old new (same from (omega arith) (omega arith)) c holds.0,
+    slots_kept (from + 1) cs (λ slot above below. same slot (omega (arith, above)) (omega (arith, below))) holds.1,
+  )
+
+  -- and that the bytes of each entry have its digest
+  pub copies_kept : (from : ℕ) (held : List (Option HeaderValue)) → SameSlots from (length held) old new → AreHeaders held → AreCopies from held old → AreCopies from held new
+  copies_kept from [] same headers copies = tt
+  copies_kept from (None ∷ cs) same headers copies = copies_kept (from + 1) cs (λ slot above below. same slot (omega (arith, above)) (omega (arith, below))) headers copies
+  copies_kept from (Some h ∷ cs) same headers copies = (
+    digests_kept from old new (same from (omega arith) (omega arith)) h headers.0 copies.0,
+    copies_kept (from + 1) cs (λ slot above below. same slot (omega (arith, above)) (omega (arith, below))) headers.1 copies.1,
+  )
+
+  -- the bytes of a copy
+  pub copy_kept : (held : List (Option HeaderValue)) (key : List ℕ) (copy : Copy) → AreHeaders held → newest 0 held key ≡ Some copy → SameSlot copy.place.slot old new
+      → bytes_at copy.place new ≡ bytes_at copy.place old
+  copy_kept held key copy headers e same = place_kept copy.place.slot old new same copy.place.offset copy.place.length (newest_within held key copy headers e).ends
+
+  -- where each slot is as it was, so is each copy of a file's segment
+  pub has_copy_kept : (held : List (Option HeaderValue)) → SameSlots 0 (length held) old new → AreHeaders held → (bytes : List ℕ) → HasCopy held bytes old → HasCopy held bytes new
+  has_copy_kept held same headers bytes (inl empty) = inl empty
+  has_copy_kept held same headers bytes (inr (copy, found, is)) =
+      let here : SameSlot copy.place.slot old new = same copy.place.slot (omega arith) (omega (arith, (newest_within held (leaf_key bytes) copy headers found).slot)) in
+      inr (copy, found, copy_kept held (leaf_key bytes) copy headers found here ∙ is)
+
+-- a file goes on, if its copy does
+pub file_kept : (held held' : List (Option HeaderValue)) (old new : List ℕ) → ((bytes : List ℕ) → HasCopy held bytes old → HasCopy held' bytes new)
+    → (named : Option Named) (file : Option (List ℕ)) → IsFileOf held old named file → IsFileOf held' new named file
+file_kept held held' old new each None None is = tt
+file_kept held held' old new each None (Some bytes) is = is
+file_kept held held' old new each (Some named) None is = is
+file_kept held held' old new each (Some named) (Some bytes) is = (is.0, each bytes is.1)

@@ -3,7 +3,6 @@ pub mod Empty
 pub mod Filled
 pub mod Frames
 pub mod Free
-pub mod JournalWrites
 pub mod Kept
 pub mod Lookups
 pub mod NewestWith
@@ -12,6 +11,7 @@ pub mod Placed
 pub mod Put
 pub mod Records
 pub mod Roots
+pub mod Scratch
 pub mod Sealed
 pub mod Sound
 pub mod Spellings

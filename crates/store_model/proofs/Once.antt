@@ -26,13 +26,13 @@ first_byte at count part image some is =
 
 -- ---- slots
 
-slot_once : (slot : ℕ) (a b : Option HeaderValue) (image : List ℕ) → HoldsSlot image slot a → HoldsSlot image slot b → a ≡ b
+pub slot_once : (slot : ℕ) (a b : Option HeaderValue) (image : List ℕ) → HoldsSlot image slot a → HoldsSlot image slot b → a ≡ b
 slot_once slot None None image one other = refl
 slot_once slot None (Some h) image one other = absurd (one (first_byte (slot_at slot) 49664 _ image (omega arith) other.1 ∙ gate_of_header h))
 slot_once slot (Some h) None image one other = absurd (other (first_byte (slot_at slot) 49664 _ image (omega arith) one.1 ∙ gate_of_header h))
 slot_once slot (Some h) (Some g) image one other = ap Some (same_header h g one.0 other.0 (sym one.1 ∙ other.1))
 
-slots_once : (slot : ℕ) (cs ds : List (Option HeaderValue)) (image : List ℕ) → length cs ≡ length ds → HoldSlots slot cs image → HoldSlots slot ds image → cs ≡ ds
+pub slots_once : (slot : ℕ) (cs ds : List (Option HeaderValue)) (image : List ℕ) → length cs ≡ length ds → HoldSlots slot cs image → HoldSlots slot ds image → cs ≡ ds
 slots_once slot [] [] image many one other = refl
 slots_once slot [] (d ∷ ds) image many one other = absurd (omega (arith, many))
 slots_once slot (c ∷ cs) [] image many one other = absurd (omega (arith, many))

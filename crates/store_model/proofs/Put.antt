@@ -13,7 +13,7 @@ use Rattle.base_model.specs.Frames.{SameOutside}
 use Rattle.base_model.proofs.Checks.{both_true}
 use Rattle.disk_format.specs.Layout.{cell_at, half_cells}
 use Rattle.disk_format.specs.Cells.{RecordValue, IsRoot, IsRecord}
-use Rattle.disk_format.specs.declared.numbers.TheConstants.{CELL_BYTES}
+use Rattle.disk_format.specs.declared.numbers.TheConstants.{CELL_BYTES, FIRST_HALF}
 use Rattle.container_meta.specs.Spelling.{HeaderValue}
 use Rattle.namespace.specs.declared.record.Named.{Named}
 use Rattle.namespace.specs.Names.{NameMap, IsTaken}
@@ -21,7 +21,9 @@ use Rattle.store_model.specs.Journal.{HoldsRecords, last_of, ClosedFrom}
 use Rattle.store_model.specs.Files.{Files, with_file, root_of}
 use Rattle.store_model.specs.Image.{Store, Encodes, IsStoreOf, IsFileOf, AreFilesOf, HasCopy, names_of, last_sequence}
 use Rattle.store_model.specs.Commands.{CanCommit, put_of_file, with_put}
-use Rattle.store_model.proofs.JournalWrites.{kept_slots, kept_copies, kept_copy, kept_files, kept_format, kept_selector, kept_older}
+use Rattle.store_model.specs.Slots.{AreHeaders}
+use Rattle.store_model.proofs.Copies.{headers_of_right}
+use Rattle.store_model.proofs.Frames.{SameTo, SameSlots, format_kept, selector_kept, older_kept, slots_kept, copies_kept, has_copy_kept, file_kept}
 use Rattle.store_model.proofs.Records.{last_of_push, names_after_push}
 
 -- ---- the record
@@ -89,31 +91,36 @@ files_put name bytes image store files copy are q =
 
 -- ---- the image
 
--- where the cell of the next record lies
-abbrev place_of_next : Store → ℕ
-place_of_next store = cell_at store.selector.half (length store.records)
-
 module _ (image new : List ℕ) (store : Store) (files : Files) (is : IsStoreOf image store files) (room : length store.records < half_cells)
     (same : SameOutside (cell_at store.selector.half (length store.records)) CELL_BYTES image new) where
-  ends : place_of_next store + 512 ≤ 1050112
-  ends = omega (arith, is.right.journal.selector_is.0.half, room)
+  front : SameTo FIRST_HALF image new
+  front p n within = same.before p n (omega (arith, within))
 
-  after : 1536 ≤ place_of_next store
-  after = omega arith
+  slots : SameSlots 0 (length store.held) image new
+  slots slot from below p n above ends = same.after p n (omega (arith, above, is.right.journal.selector_is.0.half, room))
+
+  headers : AreHeaders store.held
+  headers = headers_of_right image store is.right
+
+  copies : (bytes : List ℕ) → HasCopy store.held bytes image → HasCopy store.held bytes new
+  copies = has_copy_kept image new store.held slots headers
+
+  files_on : AreFilesOf store.held (names_of store) new files
+  files_on name = file_kept store.held store.held image new copies (finite.get (names_of store) name) (finite.get files name) (is.files_are name)
 
   -- what isn't of the records alone goes on
   right_where : (records : List RecordValue) → HoldsRecords store.selector.half records new → Encodes new (record store { records = records })
   right_where records holds = record {
     count = is.right.count;
     size = same.size ∙ is.right.size;
-    format = kept_format (place_of_next store) 512 image new same after store.slots is.right.format;
+    format = format_kept image new front store.slots is.right.format;
     journal = record {
-      selector_is = kept_selector (place_of_next store) 512 image new same after store.selector is.right.journal.selector_is;
-      older = kept_older (place_of_next store) 512 image new same after store.selector is.right.journal.older;
+      selector_is = selector_kept image new front store.selector is.right.journal.selector_is;
+      older = older_kept image new front store.selector is.right.journal.older;
       records_are = holds;
     };
     many = is.right.many;
-    slots_are = kept_slots (place_of_next store) 512 image new same ends 0 store.held is.right.slots_are;
+    slots_are = slots_kept image new 0 store.held slots is.right.slots_are;
     different = is.right.different;
   }
 
@@ -122,8 +129,8 @@ module _ (image new : List ℕ) (store : Store) (files : Files) (is : IsStoreOf 
   unput_stands records past = record {
     right = right_where store.records records;
     past = past;
-    copies = kept_copies (place_of_next store) 512 image new same ends 0 store.held is.copies;
-    files_are = kept_files (place_of_next store) 512 image new same ends store.held (names_of store) files is.files_are;
+    copies = copies_kept image new 0 store.held slots headers is.copies;
+    files_are = files_on;
     reserve = is.reserve;
   }
 
@@ -133,8 +140,7 @@ module _ (image new : List ℕ) (store : Store) (files : Files) (is : IsStoreOf 
   put_stands name bytes copy records past = record {
     right = right_where (store.records ++ put_of_file name bytes store ∷ []) records;
     past = subst (λ (k : ℕ). ClosedFrom store.selector.half k new) (sym (length-append store.records (put_of_file name bytes store ∷ []))) past;
-    copies = kept_copies (place_of_next store) 512 image new same ends 0 store.held is.copies;
-    files_are = files_put name bytes new store files (kept_copy (place_of_next store) 512 image new same ends store.held bytes copy)
-        (kept_files (place_of_next store) 512 image new same ends store.held (names_of store) files is.files_are);
+    copies = copies_kept image new 0 store.held slots headers is.copies;
+    files_are = files_put name bytes new store files (copies bytes copy) files_on;
     reserve = is.reserve;
   }

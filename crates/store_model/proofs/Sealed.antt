@@ -5,20 +5,19 @@ use Rattle.std.specs.FinMap as finite
 use Rattle.sha2.specs.Sha256.{sha256}
 use Rattle.base_model.specs.Bytes.{range, byte_at}
 use Rattle.base_model.specs.Frames.{SameOutside}
-use Rattle.disk_format.specs.declared.numbers.TheConstants.{CONTAINER_GATE, SLOT_BYTES}
+use Rattle.disk_format.specs.declared.numbers.TheConstants.{CONTAINER_GATE, FIRST_SLOT, SLOT_BYTES}
 use Rattle.disk_format.specs.Layout.{slot_at, data_at}
 use Rattle.container_meta.specs.declared.kind.Kind.TheVariants.{Leaf}
 use Rattle.container_meta.specs.Spelling.{HeaderValue}
-use Rattle.namespace.specs.declared.record.Named.{Named}
 use Rattle.store_model.specs.Files.{Files}
-use Rattle.store_model.specs.Slots.{HoldsSlot, HoldsContainer, HoldSlots, AreHeaders, DifferentIds, leaf_segment, one_segment, last_id, free_slots, first_free, with_slot}
-use Rattle.store_model.specs.Image.{Store, Encodes, IsStoreOf, AreCopies, IsFileOf, HasCopy, names_of}
+use Rattle.store_model.specs.Slots.{Copy, newest, HoldsSlot, HoldsContainer, HoldSlots, AreHeaders, DifferentIds, leaf_segment, one_segment, last_id, free_slots, first_free, with_slot}
+use Rattle.store_model.specs.Image.{Store, Encodes, IsStoreOf, AreCopies, HasCopy, names_of, bytes_at}
 use Rattle.store_model.specs.Commands.{leaf_key, copy_of, with_container, CanAdd}
 use Rattle.store_model.proofs.Copies.{headers_of_right}
 use Rattle.store_model.proofs.Filled.{length-with_slot, free_less, different_with}
-use Rattle.store_model.proofs.Frames.{format_kept, journal_kept, closed_kept}
-use Rattle.store_model.proofs.Kept.{holds_with, holds_still, copies_with, copies_still, copy_kept}
-use Rattle.store_model.proofs.NewestWith.{new_copy, newest_new, newest_other, keys_differ}
+use Rattle.store_model.proofs.Frames.{SameTo, format_kept, journal_kept, closed_kept, copy_kept, file_kept}
+use Rattle.store_model.proofs.Kept.{other_same, holds_with, holds_still, copies_with, copies_still}
+use Rattle.store_model.proofs.NewestWith.{new_copy, newest_new, newest_other, keys_differ, not_free}
 
 closed_from : (from slot : ℕ) (held : List (Option HeaderValue)) (image : List ℕ) → slot ≡ from + first_free held → 1 ≤ free_slots held → HoldSlots from held image
     → HoldsSlot image slot None
@@ -30,14 +29,6 @@ closed_from from slot (Some h ∷ cs) image place some holds = closed_from (from
 pub first_free_closed : (image : List ℕ) (store : Store) → Encodes image store → 1 ≤ free_slots store.held → HoldsSlot image (first_free store.held) None
 first_free_closed image store right some = closed_from 0 (first_free store.held) store.held image (omega arith) some right.slots_are
 
--- a file goes on, if its copy does
-file_on : (held held' : List (Option HeaderValue)) (old new : List ℕ) → ((bytes : List ℕ) → HasCopy held bytes old → HasCopy held' bytes new)
-    → (named : Option Named) (file : Option (List ℕ)) → IsFileOf held old named file → IsFileOf held' new named file
-file_on held held' old new each None None is = tt
-file_on held held' old new each None (Some bytes) is = is
-file_on held held' old new each (Some named) None is = is
-file_on held held' old new each (Some named) (Some bytes) is = (is.0, each bytes is.1)
-
 module _ (image new : List ℕ) (store : Store) (files : Files) (holds : IsStoreOf image store files) (same : SameOutside (slot_at (first_free store.held)) SLOT_BYTES image new) where
   some : 1 ≤ free_slots store.held
   some = omega (arith, holds.reserve)
@@ -48,13 +39,21 @@ module _ (image new : List ℕ) (store : Store) (files : Files) (holds : IsStore
   place : first_free store.held ≡ 0 + first_free store.held
   place = omega arith
 
+  front : SameTo FIRST_SLOT image new
+  front p n within = same.before p n (omega (arith, within))
+
+  -- a copy lies in another slot
+  kept : (key : List ℕ) (copy : Copy) → newest 0 store.held key ≡ Some copy → bytes_at copy.place new ≡ bytes_at copy.place image
+  kept key copy is =
+      copy_kept image new store.held key copy headers is (other_same (first_free store.held) copy.place.slot image new same (not_free store.held key copy some is))
+
   -- the same but for the slots
   right_on : (held : List (Option HeaderValue)) → length held ≡ length store.held → HoldSlots 0 held new → DifferentIds held → Encodes new (record store { held = held })
   right_on held many slots_are different = record {
     count = holds.right.count;
     size = same.size ∙ holds.right.size;
-    format = format_kept (first_free store.held) image new same store.slots holds.right.format;
-    journal = journal_kept (first_free store.held) image new same store.selector store.records holds.right.journal;
+    format = format_kept image new (λ p n within. front p n (omega (arith, within))) store.slots holds.right.format;
+    journal = journal_kept image new front store.selector store.records holds.right.journal;
     many = many ∙ holds.right.many;
     slots_are = slots_are;
     different = different;
@@ -64,9 +63,9 @@ module _ (image new : List ℕ) (store : Store) (files : Files) (holds : IsStore
       → ((bytes : List ℕ) → HasCopy store.held bytes image → HasCopy held bytes new) → 2 ≤ free_slots held → IsStoreOf new (record store { held = held }) files
   store_on held right copies each reserve = record {
     right = right;
-    past = closed_kept (first_free store.held) image new same store.selector.half (length store.records) holds.right.journal.selector_is.0.half holds.past;
+    past = closed_kept image new front store.selector.half (length store.records) holds.right.journal.selector_is.0.half holds.past;
     copies = copies;
-    files_are = λ name. file_on store.held held image new each (finite.get (names_of store) name) (finite.get files name) (holds.files_are name);
+    files_are = λ name. file_kept store.held held image new each (finite.get (names_of store) name) (finite.get files name) (holds.files_are name);
     reserve = reserve;
   }
 
@@ -78,7 +77,7 @@ module _ (image new : List ℕ) (store : Store) (files : Files) (holds : IsStore
     where
       each : (bytes : List ℕ) → HasCopy store.held bytes image → HasCopy store.held bytes new
       each bytes (inl empty) = inl empty
-      each bytes (inr (copy, newest_is, there)) = inr (copy, newest_is, copy_kept (first_free store.held) image new same store.held (leaf_key bytes) copy refl some headers newest_is ∙ there)
+      each bytes (inr (copy, newest_is, there)) = inr (copy, newest_is, kept (leaf_key bytes) copy newest_is ∙ there)
 
   -- ---- the slot has a container of a segment that was not held
 
@@ -93,7 +92,7 @@ module _ (image new : List ℕ) (store : Store) (files : Files) (holds : IsStore
         let header : HeaderValue = one_segment (suc (last_id store.held)) bytes in
         store_on (with_slot (first_free store.held) header store.held)
         (right_on (with_slot (first_free store.held) header store.held) (length-with_slot (first_free store.held) header store.held)
-        (holds_with (first_free store.held) image new same 0 header store.held place some container.header holds.right.slots_are)
+        (holds_with (first_free store.held) image new same 0 header store.held place container.header holds.right.slots_are)
         (different_with (first_free store.held) header store.held holds.right.different (omega arith)))
         (copies_with (first_free store.held) image new same 0 header store.held place (ap sha256 bytes_there, tt) headers holds.copies)
         each (omega (arith, free_less header store.held some, can.slot))
@@ -103,7 +102,7 @@ module _ (image new : List ℕ) (store : Store) (files : Files) (holds : IsStore
         each other (inr (copy, newest_is, there)) = inr (
           copy,
           newest_other 0 (suc (last_id store.held)) bytes store.held (leaf_key other) (keys_differ 0 store.held (leaf_key bytes) (leaf_key other) copy none newest_is) some ∙ newest_is,
-          copy_kept (first_free store.held) image new same store.held (leaf_key other) copy refl some headers newest_is ∙ there,
+          kept (leaf_key other) copy newest_is ∙ there,
         )
 
     -- Its newest copy of the segment is these bytes.

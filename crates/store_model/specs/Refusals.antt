@@ -1,6 +1,6 @@
 -- Why the commands are refused (docs/MODEL.md, 'Refusals'). What a refusal says of the words and of the bytes alone
 -- stands apart (`Fits..`) from what it says of the store, so that it holds over a disk that tells nothing, too.
-use Rattle.std.specs.Prelude.{◌≡◌, ◌≢◌, ◌⊎◌, ℕ, ◌+◌, ◌-◌, ◌^◌, ◌<◌, ◌≤◌, ◌==◌, if◌then◌else◌, List, [], length, Option, Some, None}
+use Rattle.std.specs.Prelude.{◌≡◌, ◌≢◌, ◌⊎◌, ℕ, ◌+◌, ◌-◌, ◌^◌, ◌<◌, ◌≤◌, ◌==◌, if◌then◌else◌, List, [], length, Some, None}
 use Rattle.std.specs.FinMap as finite
 use Rattle.sha2.specs.Sha256.{sha256}
 use Rattle.base_model.specs.Bytes.{range, key_of}
@@ -11,7 +11,7 @@ use Rattle.disk_format.specs.Cells.{Root, IsName}
 use Rattle.namespace.specs.Names.{HasRoom, IsFull}
 use Rattle.refusals.specs.declared.refusal.Difference.TheVariants.{Length}
 use Rattle.refusals.specs.declared.refusal.Refusal.{Refusal}
-use Rattle.refusals.specs.declared.refusal.Refusal.TheVariants.{NoFile, BadName, TooMany, Full, Clash, Corrupt, Missing, Numbers, Damaged}
+use Rattle.refusals.specs.declared.refusal.Refusal.TheVariants.{BadName, TooMany, Full, Clash, Corrupt, Missing, Numbers, Damaged}
 use Rattle.store_model.specs.Slots.{Copy, last_id, free_slots}
 use Rattle.store_model.specs.Image.{Store, names_of, last_sequence, bytes_at}
 use Rattle.store_model.specs.Commands.{leaf_key, copy_of, CanPlace}

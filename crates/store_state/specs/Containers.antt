@@ -24,12 +24,14 @@ pub record IsFirstFree (slot : ℕ) (held : List (Option HeaderValue)) : Type 0 
 
 -- the copy of a key among the first entries of a data container
 abbrev pub copy_from : ℕ → ℕ → List Entry → List ℕ → Option Copy
-copy_from slot id entries key = option_map (λ e. record { id = id; place = place_of slot e }) (find (λ e. bytes_eq (key_of 0 e.digest) key) entries)
+copy_from slot id entries key =
+    option_map (λ e. record { id = id; place = place_of slot e }) (find (λ e. bytes_eq (key_of 0 e.digest) key) entries)
 
 -- and of the first entries of one container more
 pub record ArePart (held : List (Option HeaderValue)) (slot id : ℕ) (entries : List Entry) (tables : Containers) : Type 0 where
   pub slot_is : slot ≡ length held
-  pub index : (key : List ℕ) → finite.get tables.index key ≡ option_map (λ c. c.place) (newer (newest 0 held key) (copy_from slot id entries key))
+  pub index : (key : List ℕ)
+      → finite.get tables.index key ≡ option_map (λ c. c.place) (newer (newest 0 held key) (copy_from slot id entries key))
   pub ids : tables.ids.items ≡ ids_of held
   pub last : tables.last_id ≡ last_id held
 

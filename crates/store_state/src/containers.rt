@@ -72,7 +72,8 @@ impl Containers {
 
     /// Takes one more slot, which is closed.
     pub fn add_closed(&mut self) -> Result<(), AllocError>
-        ensures { OnOk result ((held : List (Option HeaderValue)) → RepresentsContainers held self.old → RepresentsContainers (held ++ None ∷ []) self.new) }
+        ensures { OnOk result ((held : List (Option HeaderValue)) → RepresentsContainers held self.old
+            → RepresentsContainers (held ++ None ∷ []) self.new) }
     {
         self.ids.push(0)?;
         Ok(())
@@ -106,7 +107,8 @@ impl Containers {
     // Takes the entries of the container that stands after the slots that were read.
     fn add_entries(&mut self, slot: u32, meta: &Meta) -> Result<(), AllocError>
         requires { IsHeader (view meta.now) }
-        ensures { OnOk result ((held : List (Option HeaderValue)) → ArePart held slot meta.now.id [] self.old → ArePart held slot meta.now.id meta.now.entries.items self.new) }
+        ensures { OnOk result ((held : List (Option HeaderValue)) → ArePart held slot meta.now.id [] self.old
+            → ArePart held slot meta.now.id meta.now.entries.items self.new) }
     {
         for entry in &meta.entries {
             self.add_entry(slot, meta.id, entry)?;
@@ -117,7 +119,8 @@ impl Containers {
     /// Takes one more slot, which has a container; `slot` is its number.
     pub fn add(&mut self, slot: u32, meta: &Meta) -> Result<(), AllocError>
         requires { IsHeader (view meta.now) }
-        ensures { OnOk result ((held : List (Option HeaderValue)) → slot ≡ length held → RepresentsContainers held self.old → RepresentsContainers (held ++ Some (view meta.now) ∷ []) self.new) }
+        ensures { OnOk result ((held : List (Option HeaderValue)) → slot ≡ length held → RepresentsContainers held self.old
+            → RepresentsContainers (held ++ Some (view meta.now) ∷ []) self.new) }
     {
         self.add_entries(slot, meta)?;
         self.ids.push(meta.id)?;
@@ -136,7 +139,8 @@ impl Containers {
     pub fn is_unused_id(&self, id: u64) -> bool
         requires { 1 ≤ id }
         ensures unused { (held : List (Option HeaderValue)) → RepresentsContainers held self.now → IsTrue result → IsUnusedId id held }
-        ensures used { (held : List (Option HeaderValue)) → RepresentsContainers held self.now → IsTrue (not result) → IsUnusedId id held → ⊥ }
+        ensures used { (held : List (Option HeaderValue)) → RepresentsContainers held self.now → IsTrue (not result)
+            → ¬ (IsUnusedId id held) }
     {
         !self.ids.contains(&id)
     }
@@ -152,8 +156,10 @@ impl Containers {
     /// The closed slot of least number, if there is one.
     pub fn first_free(&self) -> Option<u32>
         requires { length self.now.ids.items ≤ MANY }
-        ensures some { IfSome result (λ slot. (held : List (Option HeaderValue)) → RepresentsContainers held self.now → AreHeaders held → IsFirstFree slot held) }
-        ensures none { result ≡ None → (held : List (Option HeaderValue)) → RepresentsContainers held self.now → AreHeaders held → free_slots held ≡ 0 }
+        ensures some { IfSome result (λ slot. (held : List (Option HeaderValue)) → RepresentsContainers held self.now
+            → AreHeaders held → IsFirstFree slot held) }
+        ensures none { result ≡ None → (held : List (Option HeaderValue)) → RepresentsContainers held self.now
+            → AreHeaders held → free_slots held ≡ 0 }
     {
         let slot = first_zero(&self.ids)?;
         Some(slot as u32)
@@ -162,7 +168,8 @@ impl Containers {
     /// Takes what the next slot holds; `slot` is its number.
     pub fn take(&mut self, slot: u32, held: &Option<Meta>) -> Result<(), AllocError>
         requires { IfSome held.now (λ m. IsHeader (view m)) }
-        ensures { OnOk result ((before : List (Option HeaderValue)) → slot ≡ length before → RepresentsContainers before self.old → RepresentsContainers (before ++ option_map view held.now ∷ []) self.new) }
+        ensures { OnOk result ((before : List (Option HeaderValue)) → slot ≡ length before → RepresentsContainers before self.old
+            → RepresentsContainers (before ++ option_map view held.now ∷ []) self.new) }
     {
         match held {
             Some(meta) => self.add(slot, meta),

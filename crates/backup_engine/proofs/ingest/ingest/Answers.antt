@@ -1,171 +1,142 @@
-use Rattle.std.proofs.Common.{◌≡◌, ◌≢◌, ◌∙◌, ap, sym, subst, Some, List, ℕ}
-use Rattle.base_model.specs.Fault.{Rose}
-use Rattle.base_model.specs.Known.{Known, KnownWith}
+use Rattle.std.proofs.Common.{◌≡◌, ◌∙◌, inl, inr, ap, sym, subst, refl}
 use Rattle.base_model.proofs.Outcome.{passed_on}
-use Rattle.base_model.proofs.Shown.{shown_told, shown_later, rose_since}
-use Rattle.dd_disk.proofs.Disks.{Saw, weaker}
-use Rattle.refusals.specs.declared.refusal.Refusal.{Refusal}
-use Rattle.refusals.specs.declared.refusal.Refusal.TheVariants.{DiskWrite}
-use Rattle.reply_text.specs.declared.ending.Ending.{Ending}
+use Rattle.dd_disk.proofs.Ended.{reads_then}
+use Rattle.dd_disk.proofs.Later.{later_here}
+use Rattle.refusals.specs.declared.refusal.Refusal.TheVariants.{Memory}
 use Rattle.reply_text.specs.declared.ending.Ending.TheVariants.{Refused}
 use Rattle.reply_text.specs.Text.{stored_line}
-use Rattle.store_model.specs.Files.{Files, root_of}
-use Rattle.store_model.specs.Image.{IsValidFor, StandsForFiles}
-use Rattle.store_model.specs.Commands.{HoldsOpenableStore}
-use Rattle.store_model.specs.Refusals.{IsPutRefusal}
+use Rattle.store_model.specs.Files.{root_of}
 use Rattle.backup_engine.specs.Line.{Ingest}
-use Rattle.backup_engine.specs.Clauses.{TakesIn, IsOpen, IsGivenUp, IsKeptByIngest}
-use Rattle.backup_engine.proofs.Restoring.{holds_open}
-use Rattle.backup_engine.proofs.Putting.{left_by_put, kept_by_put, kept_stands, stands_put, crash_by_put, refused_by_source, refused_by_put}
+use Rattle.backup_engine.specs.Clauses.{TakesIn}
+use Rattle.backup_engine.specs.Effects.{GaveUp}
+use Rattle.backup_engine.proofs.Opened.{Opened, found_some, found_valid, holds, unopened_harmless}
+use Rattle.backup_engine.proofs.Putting.{Put, put_leaves, put_gave_up, ingests}
+use Rattle.backup_engine.proofs.Reading.{gave_up_reads, leaves_reads}
+use Rattle.backup_engine.proofs.Taking.{refused_by_source, reads_of_source, source_no_image}
 use Rattle.backup_engine.proofs.ingest.ingest.Goals as goal
 
-pub returns-in_err-bytes-clause-given_up : goal.returns-in_err-bytes-clause-given_up
-returns-in_err-bytes-clause-given_up g c =
-    let disk = g.D.Disk in
-    let source = g.S.Source in
-    let opened = c.in_ok-opened.ensures.opened in
-    let before = c.args.source.now in
-    let after = c.take_in.new.source in
-    passed_on c.from_residual-in_err-bytes.result
-    (IsGivenUp (Saw disk c.args.disk.now c.open.new.disk) (disk.size c.args.disk.now) (Rose (disk.faults c.args.disk.now) (disk.faults c.open.new.disk)) (Rose (source.faults before) (source.faults after)) (source.left before) (source.left after) (Ingest c.args.name.now))
-    c.in_err-bytes.field-0.0 c.from_residual-in_err-bytes.ensures.1
-    (refused_by_source (Saw disk c.args.disk.now c.open.new.disk) (disk.size c.args.disk.now) (Rose (disk.faults c.args.disk.now) (disk.faults c.open.new.disk)) (Rose (source.faults before) (source.faults after)) (source.left before) (source.left after) c.args.name.now
-    c.in_err-bytes.field-0.0 (holds_open disk c.args.disk.now c.open.new.disk c.in_ok-opened.opened opened (λ s i. Unit {0}) (λ i. tt)) c.in_err-bytes.ensures.fault)
+-- ---- the store was not opened
 
-pub returns-in_err-put_file-clause-left : goal.returns-in_err-put_file-clause-left
-returns-in_err-put_file-clause-left g c = λ old told.
-    let disk = g.D.Disk in
-    let first = c.in_ok-opened.ensures.reads in
-    let sized = g.met.D.Disk.sized c.args.disk.now old told in
-    let keeps = shown_told disk.gave disk.content disk.size disk.same c.args.disk.now c.open.new.disk _ old c.in_ok-opened.ensures.only told sized in
-    let opened = shown_told disk.gave disk.content disk.size disk.same c.args.disk.now c.open.new.disk IsOpen old (holds_open disk c.args.disk.now c.open.new.disk c.in_ok-opened.opened c.in_ok-opened.ensures.opened (λ s i. Unit {0}) (λ i. tt)) told sized in
-    let taken = subst (TakesIn (g.S.Source.left c.args.source.now)) (sym c.deref-2.ensures.value) c.in_ok-bytes.ensures.taken in
-    let left = c.in_err-put_file.ensures.left old (first.content_is ∙ told) in
-    (left.0, left.1, left_by_put c.args.name.now c.deref-2.result.now old left.0 (g.S.Source.left c.args.source.now) c.in_ok-opened.opened opened taken keeps left.2)
+pub returns-in_err-opened-clause-gave_up : goal.returns-in_err-opened-clause-gave_up
+returns-in_err-opened-clause-gave_up g c =
+    let old = g.D.Disk.view c.args.disk.now in
+    let mid = g.D.Disk.view c.open.new.disk in
+    let source = g.S.Source.view c.args.source.now in
+    let refusal = c.in_err-opened.field-0.0 in
+    passed_on c.from_residual.result (GaveUp (Ingest c.args.name.now) source source old mid) (Refused refusal) c.from_residual.ensures.1
+    (gave_up_reads (Ingest c.args.name.now) source source old mid (Refused refusal) (inl (c.in_err-opened.ensures.refused, refl)) c.in_err-opened.ensures.reads
+    (unopened_harmless old mid refusal c.in_err-opened.ensures.only))
 
-pub returns-clause-left : goal.returns-clause-left
-returns-clause-left g c = λ old told.
-    let disk = g.D.Disk in
-    let first = c.in_ok-opened.ensures.reads in
-    let sized = g.met.D.Disk.sized c.args.disk.now old told in
-    let keeps = shown_told disk.gave disk.content disk.size disk.same c.args.disk.now c.open.new.disk _ old c.in_ok-opened.ensures.only told sized in
-    let opened = shown_told disk.gave disk.content disk.size disk.same c.args.disk.now c.open.new.disk IsOpen old (holds_open disk c.args.disk.now c.open.new.disk c.in_ok-opened.opened c.in_ok-opened.ensures.opened (λ s i. Unit {0}) (λ i. tt)) told sized in
-    let taken = subst (TakesIn (g.S.Source.left c.args.source.now)) (sym c.deref-2.ensures.value) c.in_ok-bytes.ensures.taken in
-    let left = c.in_ok-put_file.ensures.left old (first.content_is ∙ told) in
-    (left.0, left.1, left_by_put c.args.name.now c.deref-2.result.now old left.0 (g.S.Source.left c.args.source.now) c.in_ok-opened.opened opened taken keeps left.2)
+pub returns-in_err-opened-clause-leaves : goal.returns-in_err-opened-clause-leaves
+returns-in_err-opened-clause-leaves g c = leaves_reads (Ingest c.args.name.now) _ _ _ c.in_err-opened.ensures.reads.only
 
-pub returns-in_err-put_file-clause-crash : goal.returns-in_err-put_file-clause-crash
-returns-in_err-put_file-clause-crash g c = λ old told files stands.
-    let disk = g.D.Disk in
-    let law = g.met.D.Disk in
-    let first = c.in_ok-opened.ensures.reads in
-    let sized = law.sized c.args.disk.now old told in
-    let keeps = shown_told disk.gave disk.content disk.size disk.same c.args.disk.now c.open.new.disk _ old c.in_ok-opened.ensures.only told sized in
-    let taken = subst (TakesIn (g.S.Source.left c.args.source.now)) (sym c.deref-2.ensures.value) c.in_ok-bytes.ensures.taken in
-    crash_by_put disk c.args.disk.now c.open.new.disk c.put_file.new.disk c.args.name.now c.deref-2.result.now old (g.S.Source.left c.args.source.now) files c.in_ok-opened.opened taken stands first keeps
-    (c.in_err-put_file.ensures.crash c.in_ok-opened.ensures.synced old (first.content_is ∙ told))
+-- ---- the source was not taken in
 
-pub returns-clause-crash : goal.returns-clause-crash
-returns-clause-crash g c = λ old told files stands.
-    let disk = g.D.Disk in
-    let law = g.met.D.Disk in
-    let first = c.in_ok-opened.ensures.reads in
-    let sized = law.sized c.args.disk.now old told in
-    let keeps = shown_told disk.gave disk.content disk.size disk.same c.args.disk.now c.open.new.disk _ old c.in_ok-opened.ensures.only told sized in
-    let taken = subst (TakesIn (g.S.Source.left c.args.source.now)) (sym c.deref-2.ensures.value) c.in_ok-bytes.ensures.taken in
-    crash_by_put disk c.args.disk.now c.open.new.disk c.put_file.new.disk c.args.name.now c.deref-2.result.now old (g.S.Source.left c.args.source.now) files c.in_ok-opened.opened taken stands first keeps
-    (c.in_ok-put_file.ensures.crash c.in_ok-opened.ensures.synced old (first.content_is ∙ told))
+pub returns-in_err-bytes-clause-gave_up : goal.returns-in_err-bytes-clause-gave_up
+returns-in_err-bytes-clause-gave_up g c =
+    let old = g.D.Disk.view c.args.disk.now in
+    let mid = g.D.Disk.view c.open.new.disk in
+    let was : Opened old mid c.in_ok-opened.opened =
+    record { opened = c.in_ok-opened.ensures.opened; only = c.in_ok-opened.ensures.only; durable = c.in_ok-opened.ensures.durable; reads = c.in_ok-opened.ensures.reads } in
+    let source = g.S.Source.view c.args.source.now in
+    let source_now = g.S.Source.view c.take_in.new.source in
+    let ending = c.in_err-bytes.field-0.0 in
+    let fault = c.in_err-bytes.ensures.fault in
+    passed_on c.from_residual-in_err-bytes.result (GaveUp (Ingest c.args.name.now) source source_now old mid) ending c.from_residual-in_err-bytes.ensures.1
+    (gave_up_reads (Ingest c.args.name.now) source source_now old mid ending
+    (refused_by_source old mid source source_now c.args.name.now ending (holds old mid c.in_ok-opened.opened was mid (λ store image. Unit {0}) (later_here mid) (λ image. tt)) fault)
+    (reads_of_source old mid source source_now ending fault was.reads) (λ image known files stands. source_no_image source source_now ending fault))
 
-pub returns-in_err-put_file-clause-kept : goal.returns-in_err-put_file-clause-kept
-returns-in_err-put_file-clause-kept g c =
-    let disk = g.D.Disk in
-    let first = c.in_ok-opened.ensures.reads in
-    let taken = subst (TakesIn (g.S.Source.left c.args.source.now)) (sym c.deref-2.ensures.value) c.in_ok-bytes.ensures.taken in
-    passed_on c.from_residual-in_err-put_file.result
-    (λ (ending : Ending). ending ≢ Refused DiskWrite → Known (disk.content c.args.disk.now) (λ old. KnownWith (disk.content c.put_file.new.disk) (IsKeptByIngest (g.S.Source.left c.args.source.now) old)))
-    (Refused c.in_err-put_file.field-0.0) c.from_residual-in_err-put_file.ensures.1
-    (λ other old told.
-    let sized = g.met.D.Disk.sized c.args.disk.now old told in
-    let keeps = shown_told disk.gave disk.content disk.size disk.same c.args.disk.now c.open.new.disk _ old c.in_ok-opened.ensures.only told sized in
-    let opened = shown_told disk.gave disk.content disk.size disk.same c.args.disk.now c.open.new.disk IsOpen old (holds_open disk c.args.disk.now c.open.new.disk c.in_ok-opened.opened c.in_ok-opened.ensures.opened (λ s i. Unit {0}) (λ i. tt)) told sized in
-    let kept = c.in_err-put_file.ensures.kept (λ e. other (ap Refused e)) old (first.content_is ∙ told) in
-    (kept.0, kept.1, kept_by_put c.deref-2.result.now old kept.0 (g.S.Source.left c.args.source.now) c.in_ok-opened.opened opened taken keeps kept.2))
+pub returns-in_err-bytes-clause-leaves : goal.returns-in_err-bytes-clause-leaves
+returns-in_err-bytes-clause-leaves g c = leaves_reads (Ingest c.args.name.now) _ _ _ c.in_ok-opened.ensures.reads.only
 
-pub returns-in_err-put_file-clause-files : goal.returns-in_err-put_file-clause-files
-returns-in_err-put_file-clause-files g c =
-    let disk = g.D.Disk in
-    let law = g.met.D.Disk in
-    let first = c.in_ok-opened.ensures.reads in
-    let taken = subst (TakesIn (g.S.Source.left c.args.source.now)) (sym c.deref-2.ensures.value) c.in_ok-bytes.ensures.taken in
-    passed_on c.from_residual-in_err-put_file.result
-    (λ (ending : Ending). ending ≢ Refused DiskWrite → Known (disk.content c.args.disk.now) (λ _. (files : Files) → ((i : List ℕ) → disk.images c.args.disk.now i → StandsForFiles i files) → (i : List ℕ) → disk.images c.put_file.new.disk i → StandsForFiles i files))
-    (Refused c.in_err-put_file.field-0.0) c.from_residual-in_err-put_file.ensures.1
-    (λ other old told files each i image.
-    let sized = law.sized c.args.disk.now old told in
-    let keeps = shown_told disk.gave disk.content disk.size disk.same c.args.disk.now c.open.new.disk _ old c.in_ok-opened.ensures.only told sized in
-    let opened = shown_told disk.gave disk.content disk.size disk.same c.args.disk.now c.open.new.disk IsOpen old (holds_open disk c.args.disk.now c.open.new.disk c.in_ok-opened.opened c.in_ok-opened.ensures.opened (λ s i. Unit {0}) (λ i. tt)) told sized in
-    let mine : c.in_err-put_file.field-0.0 ≢ DiskWrite = λ e. other (ap Refused e) in
-    let kept = c.in_err-put_file.ensures.kept mine old (first.content_is ∙ told) in
-    let only = c.in_err-put_file.ensures.settled c.in_ok-opened.ensures.synced mine kept.0 kept.1 i image in
-    subst (λ (n : List ℕ). StandsForFiles n files) (sym only)
-    (kept_stands (g.S.Source.left c.args.source.now) old kept.0 files (each old (law.as_read c.args.disk.now old told)) (kept_by_put c.deref-2.result.now old kept.0 (g.S.Source.left c.args.source.now) c.in_ok-opened.opened opened taken keeps kept.2)))
+-- ---- there was no memory for the reply
 
-pub returns-in_err-put_file-clause-given_up : goal.returns-in_err-put_file-clause-given_up
-returns-in_err-put_file-clause-given_up g c =
-    let disk = g.D.Disk in
-    let law = g.met.D.Disk in
-    let source = g.S.Source in
-    let old = c.args.disk.now in
-    let mid = c.open.new.disk in
-    let new = c.put_file.new.disk in
-    let before = c.args.source.now in
-    let after = c.take_in.new.source in
-    let opened = c.in_ok-opened.ensures.opened in
-    let found = opened.found in
-    let first = c.in_ok-opened.ensures.reads in
-    let name = c.args.name.now in
+pub returns-in_err-reply-clause-gave_up : goal.returns-in_err-reply-clause-gave_up
+returns-in_err-reply-clause-gave_up g c =
+    let old = g.D.Disk.view c.args.disk.now in
+    let mid = g.D.Disk.view c.open.new.disk in
+    let source = g.S.Source.view c.args.source.now in
+    let source_now = g.S.Source.view c.take_in.new.source in
+    passed_on c.from_residual-in_err-reply.result (GaveUp (Ingest c.args.name.now) source source_now old mid) (Refused Memory) c.from_residual-in_err-reply.ensures.1
+    (gave_up_reads (Ingest c.args.name.now) source source_now old mid (Refused Memory) (inr tt) (reads_then old mid c.in_ok-opened.ensures.reads) (λ image known files stands. tt))
+
+pub returns-in_err-reply-clause-leaves : goal.returns-in_err-reply-clause-leaves
+returns-in_err-reply-clause-leaves g c = leaves_reads (Ingest c.args.name.now) _ _ _ c.in_ok-opened.ensures.reads.only
+
+-- ---- the file was put in, or refused
+
+pub put_file-requires-clause-state : goal.put_file-requires-clause-state
+put_file-requires-clause-state g c =
+    let old = g.D.Disk.view c.args.disk.now in
+    let mid = g.D.Disk.view c.open.new.disk in
+    let was : Opened old mid c.in_ok-opened.opened =
+    record { opened = c.in_ok-opened.ensures.opened; only = c.in_ok-opened.ensures.only; durable = c.in_ok-opened.ensures.durable; reads = c.in_ok-opened.ensures.reads } in
+    found_some old mid c.in_ok-opened.opened was
+
+pub returns-in_err-put_file-clause-gave_up : goal.returns-in_err-put_file-clause-gave_up
+returns-in_err-put_file-clause-gave_up g c =
+    let old = g.D.Disk.view c.args.disk.now in
+    let mid = g.D.Disk.view c.open.new.disk in
+    let was : Opened old mid c.in_ok-opened.opened =
+    record { opened = c.in_ok-opened.ensures.opened; only = c.in_ok-opened.ensures.only; durable = c.in_ok-opened.ensures.durable; reads = c.in_ok-opened.ensures.reads } in
+    let source = g.S.Source.view c.args.source.now in
+    let source_now = g.S.Source.view c.take_in.new.source in
     let bytes = c.deref-2.result.now in
-    let failed = Rose (disk.faults mid) (disk.faults new) in
-    let since = Rose (disk.faults old) (disk.faults new) in
-    let taken = subst (TakesIn (source.left before)) (sym c.deref-2.ensures.value) c.in_ok-bytes.ensures.taken in
-    let sound = subst (λ (n : ℕ). IsValidFor n found.store) (sym first.size_is) found.sound in
-    passed_on c.from_residual-in_err-put_file.result
-    (IsGivenUp (Saw disk old new) (disk.size old) since (Rose (source.faults before) (source.faults after)) (source.left before) (source.left after) (Ingest name))
-    (Refused c.in_err-put_file.field-0.0) c.from_residual-in_err-put_file.ensures.1
-    (refused_by_put (Saw disk old new) (disk.size old) (disk.size mid) failed since (source.left before) (source.left after) name bytes c.in_ok-opened.opened found.store c.in_err-put_file.field-0.0 taken (λ rose. rose_since _ _ _ first.later rose)
-    (λ r wrong. wrong.found found.store found.keeps sound)
-    (λ (r : Refusal) (wrong : IsPutRefusal name bytes found.store r). shown_later disk.gave disk.content disk.size disk.same law.gave_after old mid new (HoldsOpenableStore (λ s. IsPutRefusal name bytes s r))
-    (weaker disk old mid (λ image sized right. (found.store, right, opened.reserve, wrong)) found.right) c.in_err-put_file.ensures.later.same_disk)
-    c.in_err-put_file.ensures.refused)
+    let taken = subst (TakesIn source.left) (sym c.deref-2.ensures.value) c.in_ok-bytes.ensures.taken in
+    let new = g.D.Disk.view c.put_file.new.disk in
+    let refusal = c.in_err-put_file.field-0.0 in
+    passed_on c.from_residual-in_err-put_file.result (GaveUp (Ingest c.args.name.now) source source_now old new) (Refused refusal) c.from_residual-in_err-put_file.ensures.1
+    (put_gave_up c.args.name.now bytes source source_now c.in_ok-opened.opened old mid new was taken refusal
+    (record { moves = c.in_err-put_file.ensures.moves; calls = c.in_err-put_file.ensures.disk }) c.in_err-put_file.ensures.untouched c.in_err-put_file.ensures.refused)
 
-pub returns-clause-done : goal.returns-clause-done
-returns-clause-done g c =
-    let disk = g.D.Disk in
-    let law = g.met.D.Disk in
-    let old = c.args.disk.now in
-    let mid = c.open.new.disk in
-    let new = c.put_file.new.disk in
-    let opened = c.in_ok-opened.ensures.opened in
-    let found = opened.found in
-    let first = c.in_ok-opened.ensures.reads in
-    let name = c.args.name.now in
+pub returns-in_err-put_file-clause-leaves : goal.returns-in_err-put_file-clause-leaves
+returns-in_err-put_file-clause-leaves g c =
+    let old = g.D.Disk.view c.args.disk.now in
+    let mid = g.D.Disk.view c.open.new.disk in
+    let was : Opened old mid c.in_ok-opened.opened =
+    record { opened = c.in_ok-opened.ensures.opened; only = c.in_ok-opened.ensures.only; durable = c.in_ok-opened.ensures.durable; reads = c.in_ok-opened.ensures.reads } in
+    let source = g.S.Source.view c.args.source.now in
+    let source_now = g.S.Source.view c.take_in.new.source in
     let bytes = c.deref-2.result.now in
-    let taken = subst (TakesIn (g.S.Source.left c.args.source.now)) (sym c.deref-2.ensures.value) c.in_ok-bytes.ensures.taken in
-    let sound = subst (λ (n : ℕ). IsValidFor n found.store) (sym first.size_is) found.sound in
-    let can = c.in_ok-put_file.ensures.can found.store found.keeps sound in
-    let keeps = λ (image : List ℕ) (told : disk.content old ≡ Some image). shown_told disk.gave disk.content disk.size disk.same old mid _ image c.in_ok-opened.ensures.only told (law.sized old image told) in
-    let root : c.root_of.result ≡ root_of bytes = c.root_of.ensures ∙ ap root_of (c.deref.ensures.value ∙ sym c.deref-2.ensures.value) in (
-      bytes,
-      record {
-        name_is_good = can.1.named;
-        taken = taken;
-        can = shown_later disk.gave disk.content disk.size disk.same law.gave_after old mid new _ (weaker disk old mid (λ image sized right. (found.store, right, opened.reserve, can)) found.right) c.in_ok-put_file.ensures.later.same_disk;
-        stands = λ image told.
-            let put = c.in_ok-put_file.ensures.stands image (first.content_is ∙ told) in
-            (put.0, put.1, λ apart files last stands. stands_put name bytes image put.0 files last stands (put.2 apart stands.store files (keeps image told stands.store stands.holds.right) stands.holds));
-        adds = λ image told.
-            let put = c.in_ok-put_file.ensures.stands image (first.content_is ∙ told) in
-            (put.0, put.1, λ apart store files holds. put.2 apart store files (keeps image told store holds.right) holds);
-      },
-      c.in_ok-reply.ensures ∙ ap (λ n. stored_line n c.root_of.result) c.as_bytes.ensures.value ∙ ap (stored_line name) root,
-    )
+    let taken = subst (TakesIn source.left) (sym c.deref-2.ensures.value) c.in_ok-bytes.ensures.taken in
+    let new = g.D.Disk.view c.put_file.new.disk in
+    put_leaves c.args.name.now bytes source.left c.in_ok-opened.opened old mid new was taken _ (record { moves = c.in_err-put_file.ensures.moves; calls = c.in_err-put_file.ensures.disk })
+
+pub returns-clause-leaves : goal.returns-clause-leaves
+returns-clause-leaves g c =
+    let old = g.D.Disk.view c.args.disk.now in
+    let mid = g.D.Disk.view c.open.new.disk in
+    let was : Opened old mid c.in_ok-opened.opened =
+    record { opened = c.in_ok-opened.ensures.opened; only = c.in_ok-opened.ensures.only; durable = c.in_ok-opened.ensures.durable; reads = c.in_ok-opened.ensures.reads } in
+    let source = g.S.Source.view c.args.source.now in
+    let source_now = g.S.Source.view c.take_in.new.source in
+    let bytes = c.deref-2.result.now in
+    let taken = subst (TakesIn source.left) (sym c.deref-2.ensures.value) c.in_ok-bytes.ensures.taken in
+    let new = g.D.Disk.view c.put_file.new.disk in
+    put_leaves c.args.name.now bytes source.left c.in_ok-opened.opened old mid new was taken _ (record { moves = c.in_ok-put_file.ensures.moves; calls = c.in_ok-put_file.ensures.disk })
+
+pub returns-clause-did : goal.returns-clause-did
+returns-clause-did g c =
+    let old = g.D.Disk.view c.args.disk.now in
+    let mid = g.D.Disk.view c.open.new.disk in
+    let was : Opened old mid c.in_ok-opened.opened =
+    record { opened = c.in_ok-opened.ensures.opened; only = c.in_ok-opened.ensures.only; durable = c.in_ok-opened.ensures.durable; reads = c.in_ok-opened.ensures.reads } in
+    let source = g.S.Source.view c.args.source.now in
+    let source_now = g.S.Source.view c.take_in.new.source in
+    let bytes = c.deref-2.result.now in
+    let taken = subst (TakesIn source.left) (sym c.deref-2.ensures.value) c.in_ok-bytes.ensures.taken in
+    let new = g.D.Disk.view c.put_file.new.disk in
+    let name = c.args.name.now in
+    let store = was.opened.found.store in
+    let root : c.root_of.result ≡ root_of bytes = c.root_of.ensures ∙ ap root_of (c.deref.ensures.value ∙ sym c.deref-2.ensures.value) in
+    record {
+      done = (
+        bytes,
+        ingests name bytes source.left c.in_ok-opened.opened old mid new was taken (record { moves = c.in_ok-put_file.ensures.moves; calls = c.in_ok-put_file.ensures.disk })
+        (c.in_ok-put_file.ensures.can store was.opened.found.represents (found_valid old mid c.in_ok-opened.opened was)),
+        c.in_ok-reply.ensures ∙ ap (λ n. stored_line n c.root_of.result) c.as_bytes.ensures.value ∙ ap (stored_line name) root,
+      );
+      durable = c.in_ok-put_file.ensures.durable;
+      faults_stay = c.in_ok-put_file.ensures.disk.faults_are ∙ was.reads.faults_are;
+    }

@@ -1,103 +1,93 @@
-use Rattle.std.proofs.Common.{◌∙◌, sym, None}
-use Rattle.base_model.specs.Fault.{Rose}
+use Rattle.std.proofs.Common.{◌∙◌, inl, inr, refl}
 use Rattle.base_model.proofs.Outcome.{passed_on}
-use Rattle.base_model.proofs.Shown.{shown_told, rose_since}
-use Rattle.dd_disk.proofs.Disks.{Saw, weaker, both}
-use Rattle.refusals.specs.declared.refusal.Refusal.{Refusal}
+use Rattle.dd_disk.proofs.Ended.{reads_on}
+use Rattle.dd_io.specs.Flow.{SourceView}
+use Rattle.reply_text.specs.declared.ending.Ending.{Ending}
 use Rattle.reply_text.specs.declared.ending.Ending.TheVariants.{Refused}
-use Rattle.store_model.specs.Image.{Store, Encodes}
-use Rattle.store_model.specs.Commands.{IsPlausible}
-use Rattle.store_model.specs.Refusals.{IsRootRefusal}
-use Rattle.store_model.proofs.Roots.{root_of_name, file_of_root, same_file}
-use Rattle.store_state.specs.State.{Represents}
+use Rattle.store_model.proofs.Roots.{root_of_name}
 use Rattle.backup_engine.specs.Line.{Restore}
-use Rattle.backup_engine.specs.Clauses.{IsGivenUp}
-use Rattle.backup_engine.specs.Doing.{IsHarmless}
-use Rattle.backup_engine.proofs.Restoring.{fault_mapped, refused_by_name, refused_by_root, harmless_root, harmless_read}
+use Rattle.backup_engine.specs.Effects.{GaveUp}
+use Rattle.backup_engine.proofs.Opened.{Opened, represented, found_some, found_valid, unopened_harmless}
+use Rattle.backup_engine.proofs.Reading.{gave_up_reads}
+use Rattle.backup_engine.proofs.Restoring.{refused_by_name, harmless_name, reads_of_name, refused_by_root, harmless_read, restores}
 use Rattle.backup_engine.proofs.restore.restore.Goals as goal
 
-pub returns-in_err-root-clause-given_up : goal.returns-in_err-root-clause-given_up
-returns-in_err-root-clause-given_up g c =
-    let disk = g.D.Disk in
-    passed_on c.from_residual-in_err-root.result (IsGivenUp (Saw disk c.args.disk.now c.open.new.disk) (disk.size c.args.disk.now) (Rose (disk.faults c.args.disk.now) (disk.faults c.open.new.disk)) ⊥ None None (Restore c.args.name.now))
-    (Refused c.in_err-root.field-0.0) c.from_residual-in_err-root.ensures.1
-    (refused_by_name disk c.args.disk.now c.open.new.disk c.in_ok-opened.opened _ c.args.name.now c.in_err-root.field-0.0 c.in_ok-opened.ensures.opened c.in_err-root.ensures.refused)
+-- ---- the store was not opened
+
+pub returns-in_err-opened-clause-gave_up : goal.returns-in_err-opened-clause-gave_up
+returns-in_err-opened-clause-gave_up g c =
+    let old = g.D.Disk.view c.args.disk.now in
+    let mid = g.D.Disk.view c.open.new.disk in
+    let refusal = c.in_err-opened.field-0.0 in
+    passed_on c.from_residual.result (λ (ending : Ending). (source : SourceView) → GaveUp (Restore c.args.name.now) source source old mid ending) (Refused refusal) c.from_residual.ensures.1
+    (λ source. gave_up_reads (Restore c.args.name.now) source source old mid (Refused refusal) (inl c.in_err-opened.ensures.refused) c.in_err-opened.ensures.reads
+    (unopened_harmless old mid refusal c.in_err-opened.ensures.only))
+
+-- ---- the name has no root
+
+pub returns-in_err-root-clause-gave_up : goal.returns-in_err-root-clause-gave_up
+returns-in_err-root-clause-gave_up g c =
+    let old = g.D.Disk.view c.args.disk.now in
+    let mid = g.D.Disk.view c.open.new.disk in
+    let was : Opened old mid c.in_ok-opened.opened =
+    record { opened = c.in_ok-opened.ensures.opened; only = c.in_ok-opened.ensures.only; durable = c.in_ok-opened.ensures.durable; reads = c.in_ok-opened.ensures.reads } in
+    let refusal = c.in_err-root.field-0.0 in
+    let wrong = c.in_err-root.ensures.refused in
+    passed_on c.from_residual-in_err-root.result (λ (ending : Ending). (source : SourceView) → GaveUp (Restore c.args.name.now) source source old mid ending) (Refused refusal) c.from_residual-in_err-root.ensures.1
+    (λ source. gave_up_reads (Restore c.args.name.now) source source old mid (Refused refusal) (inr (refused_by_name old mid c.in_ok-opened.opened was c.args.name.now refusal wrong))
+    (reads_of_name old mid c.in_ok-opened.opened c.args.name.now refusal wrong was.reads) (λ image known files stands. harmless_name c.in_ok-opened.opened c.args.name.now refusal wrong))
+
+-- ---- its bytes were read, or not
+
+pub read_root-requires-clause-state : goal.read_root-requires-clause-state
+read_root-requires-clause-state g c =
+    let old = g.D.Disk.view c.args.disk.now in
+    let mid = g.D.Disk.view c.open.new.disk in
+    let was : Opened old mid c.in_ok-opened.opened =
+    record { opened = c.in_ok-opened.ensures.opened; only = c.in_ok-opened.ensures.only; durable = c.in_ok-opened.ensures.durable; reads = c.in_ok-opened.ensures.reads } in
+    found_some old mid c.in_ok-opened.opened was
 
 pub read_root-requires-clause-right : goal.read_root-requires-clause-right
 read_root-requires-clause-right g c =
-    let found = c.in_ok-opened.ensures.opened.found in
-    root_of_name _ found.store c.args.name.now c.in_ok-root.root found.sound (c.in_ok-root.ensures.root.1 found.store found.keeps.journal)
+    let old = g.D.Disk.view c.args.disk.now in
+    let mid = g.D.Disk.view c.open.new.disk in
+    let was : Opened old mid c.in_ok-opened.opened =
+    record { opened = c.in_ok-opened.ensures.opened; only = c.in_ok-opened.ensures.only; durable = c.in_ok-opened.ensures.durable; reads = c.in_ok-opened.ensures.reads } in
+    let found = was.opened.found in
+    root_of_name mid.size found.store c.args.name.now c.in_ok-root.root (found_valid old mid c.in_ok-opened.opened was) (c.in_ok-root.ensures.root found.store found.represents.journal)
 
-pub returns-in_err-bytes-clause-given_up : goal.returns-in_err-bytes-clause-given_up
-returns-in_err-bytes-clause-given_up g c =
-    let disk = g.D.Disk in
-    let law = g.met.D.Disk in
-    let old = c.args.disk.now in
-    let mid = c.open.new.disk in
-    let new = c.read_root.new.disk in
-    let opened = c.in_ok-opened.ensures.opened in
-    let store = opened.found.store in
-    let keeps = opened.found.keeps in
+pub returns-in_err-bytes-clause-gave_up : goal.returns-in_err-bytes-clause-gave_up
+returns-in_err-bytes-clause-gave_up g c =
+    let old = g.D.Disk.view c.args.disk.now in
+    let mid = g.D.Disk.view c.open.new.disk in
+    let was : Opened old mid c.in_ok-opened.opened =
+    record { opened = c.in_ok-opened.ensures.opened; only = c.in_ok-opened.ensures.only; durable = c.in_ok-opened.ensures.durable; reads = c.in_ok-opened.ensures.reads } in
+    let new = g.D.Disk.view c.read_root.new.disk in
+    let name = c.args.name.now in
+    let opened = c.in_ok-opened.opened in
     let root = c.in_ok-root.root in
-    let first = c.in_ok-opened.ensures.reads in
-    let second = c.in_err-bytes.ensures.reads in
+    let has = c.in_ok-root.ensures.root in
     let refusal = c.in_err-bytes.field-0.0 in
-    let failed = Rose (disk.faults mid) (disk.faults new) in
-    let Known : Refusal → Type 0 = λ r. IsPlausible r × Saw disk mid new (λ image. (s : Store) → Represents s c.in_ok-opened.opened → IsRootRefusal root r s image) in
-    let Found : Refusal → Type 0 = λ r. IsPlausible r × Saw disk old new (λ image. Encodes image store × IsRootRefusal root r store image) in
-    passed_on c.from_residual-in_err-bytes.result (IsGivenUp (Saw disk old new) (disk.size old) (Rose (disk.faults old) (disk.faults new)) ⊥ None None (Restore c.args.name.now))
-    (Refused refusal) c.from_residual-in_err-bytes.ensures.1
-    (refused_by_root disk old new failed (Rose (disk.faults old) (disk.faults new)) c.args.name.now root store refusal c.in_ok-root.ensures.root.0 (c.in_ok-root.ensures.root.1 store keeps.journal) opened.reserve (λ rose. rose_since _ _ _ first.later rose)
-    (fault_mapped failed failed Known Found refusal (λ rose. rose)
-    (λ (r : Refusal) (wrong : Known r). (wrong.0, weaker disk old new (λ image sized shown. (shown.0, shown.1 store keeps)) (both disk law.gave_after law.gave_before old mid new opened.found.right first wrong.1 second)))
-    c.in_err-bytes.ensures.refused))
-
-pub returns-in_err-bytes-clause-harmless : goal.returns-in_err-bytes-clause-harmless
-returns-in_err-bytes-clause-harmless g c = λ old told files stands.
-    let disk = g.D.Disk in
-    let law = g.met.D.Disk in
-    let mid = c.open.new.disk in
-    let new = c.read_root.new.disk in
-    let first = c.in_ok-opened.ensures.reads in
+    let wrong = c.in_err-bytes.ensures.refused in
+    let second = c.in_err-bytes.ensures.reads in
+    passed_on c.from_residual-in_err-bytes.result (λ (ending : Ending). (source : SourceView) → GaveUp (Restore name) source source old new ending) (Refused refusal) c.from_residual-in_err-bytes.ensures.1
+    (λ source. gave_up_reads (Restore name) source source old new (Refused refusal) (inr (refused_by_root old mid new opened was second.only.later name root c.in_ok-root.ensures.named has refusal wrong))
+    (reads_on _ old mid new was.reads second)
+    (λ image known files stands.
     let store = stands.1.store in
-    let holds = stands.1.holds in
-    let root = c.in_ok-root.root in
-    let sized = law.sized c.args.disk.now old told in
-    let keeps = shown_told disk.gave disk.content disk.size disk.same c.args.disk.now mid _ old c.in_ok-opened.ensures.only told sized store holds.right in
-    let failed = Rose (disk.faults mid) (disk.faults new) in
-    let Known : Refusal → Type 0 = λ r. IsPlausible r × Saw disk mid new (λ image. (s : Store) → Represents s c.in_ok-opened.opened → IsRootRefusal root r s image) in
-    passed_on c.from_residual-in_err-bytes.result IsHarmless (Refused c.in_err-bytes.field-0.0) c.from_residual-in_err-bytes.ensures.1
-    (harmless_read failed c.in_err-bytes.field-0.0
-    (fault_mapped failed failed Known (λ r. IsHarmless (Refused r)) c.in_err-bytes.field-0.0 (λ rose. rose)
-    (λ (r : Refusal) (wrong : Known r). harmless_root c.args.name.now root r store old files holds (c.in_ok-root.ensures.root.1 store keeps.journal)
-    (shown_told disk.gave disk.content disk.size disk.same mid new _ old wrong.1 (first.content_is ∙ told) (sized ∙ sym first.size_is) store keeps))
-    c.in_err-bytes.ensures.refused))
+    let represents = represented old mid opened was image known store stands.1.holds.right in
+    harmless_read mid new name root store image files (was.reads.only.content_is ∙ known) stands.1.holds (has store represents.journal) opened refusal represents wrong))
 
-pub returns-clause-done : goal.returns-clause-done
-returns-clause-done g c =
-    let disk = g.D.Disk in
-    let law = g.met.D.Disk in
-    let mid = c.open.new.disk in
-    let new = c.read_root.new.disk in
-    let opened = c.in_ok-opened.ensures.opened in
-    let found = opened.found in
-    let root = c.in_ok-root.root in
-    let bytes = c.in_ok-bytes.bytes.items in
-    let first = c.in_ok-opened.ensures.reads in
+pub returns-clause-did : goal.returns-clause-did
+returns-clause-did g c = λ left.
+    let old = g.D.Disk.view c.args.disk.now in
+    let mid = g.D.Disk.view c.open.new.disk in
+    let was : Opened old mid c.in_ok-opened.opened =
+    record { opened = c.in_ok-opened.ensures.opened; only = c.in_ok-opened.ensures.only; durable = c.in_ok-opened.ensures.durable; reads = c.in_ok-opened.ensures.reads } in
+    let new = g.D.Disk.view c.read_root.new.disk in
     let second = c.in_ok-bytes.ensures.reads in
-    let shown = c.in_ok-bytes.ensures.shown in
     record {
-      name_is_good = c.in_ok-root.ensures.root.0;
-      root = root;
-      length_is = c.in_ok-bytes.ensures.bytes.0;
-      digest_is = c.in_ok-bytes.ensures.bytes.1;
-      held = weaker disk _ _ (λ image sized seen. (found.store, seen.0, opened.reserve, (c.in_ok-root.ensures.root.1 found.store found.keeps.journal, seen.1 found.store found.keeps)))
-          (both disk law.gave_after law.gave_before c.args.disk.now mid new found.right first shown second);
-      file = λ old told files stands.
-          let store = stands.1.store in
-          let holds = stands.1.holds in
-          let sized = law.sized c.args.disk.now old told in
-          let keeps = shown_told disk.gave disk.content disk.size disk.same c.args.disk.now mid _ old c.in_ok-opened.ensures.only told sized store holds.right in
-          let are = shown_told disk.gave disk.content disk.size disk.same mid new _ old shown (first.content_is ∙ told) (sized ∙ sym first.size_is) store keeps in
-          same_file c.args.name.now root store old bytes files (file_of_root c.args.name.now root store old files holds (c.in_ok-root.ensures.root.1 store keeps.journal)) c.in_ok-bytes.ensures.bytes.0 are;
+      done = restores old mid new c.in_ok-opened.opened was second.only.later c.args.name.now c.in_ok-root.root c.in_ok-bytes.bytes.items c.in_ok-root.ensures.named c.in_ok-root.ensures.root c.in_ok-bytes.ensures.bytes c.in_ok-bytes.ensures.shown;
+      durable = tt;
+      faults_stay = second.faults_are ∙ was.reads.faults_are;
     }

@@ -1,32 +1,30 @@
-use Rattle.std.proofs.Common.{◌+◌, ◌*◌, [], ◌∷◌, option_map, arith, ap, ◌∙◌, refl}
+use Rattle.std.proofs.Common.{ℕ, [], ◌∷◌, option_map, arith, ap, ◌∙◌, refl}
 use Rattle.base_model.specs.Bytes.{written}
-use Rattle.recovery.proofs.Blank.{stays_here, stays_write, stays_on, later_still}
+use Rattle.recovery.proofs.Blank.{stays_here, stays_write, stays_on}
 use Rattle.recovery.proofs.Formatted.{none_closed, more_closed}
 use Rattle.recovery.proofs.formatting.close_slots.Goals as goal
 
 pub loop-slot-init : goal.loop-slot-init
-loop-slot-init g c = (
-  none_closed (g.D.Disk.content c.args.disk.now),
-  stays_here g.D.Disk c.args.slots c.args.disk.now,
-  record { size_is = refl; later = omega arith; same_disk = g.met.D.Disk.same_here c.args.disk.now },
-)
+loop-slot-init g c =
+    let view = g.D.Disk.view c.args.disk.now in
+    (none_closed view.content, stays_here c.args.slots view, refl)
 
-pub write_at-requires : goal.write_at-requires
-write_at-requires g c =
-    omega (arith, c.loop-slot.invariant.2.size_is, c.requires, c.from.ensures, c.loop-slot-test.true)
+pub write-requires : goal.write-requires
+write-requires g c =
+    omega (arith, c.loop-slot.invariant.1.later.size_is, c.requires, c.slot_at.ensures, c.loop-slot-test.true)
 
 -- the slots that were closed before, and the one whose write failed
-pub returns-in_err-write_at-clause-stays : goal.returns-in_err-write_at-clause-stays
-returns-in_err-write_at-clause-stays g c =
-    stays_on g.D.Disk c.args.slots _ _ _ c.loop-slot.invariant.1
-    (stays_write g.D.Disk c.args.slots _ 1 _ _ (omega arith) (omega (arith, c.from.ensures, c.loop-slot-test.true)) c.in_err-write_at.ensures.torn c.in_err-write_at.ensures.crash)
+pub returns-in_err-write-clause-stays : goal.returns-in_err-write-clause-stays
+returns-in_err-write-clause-stays g c =
+    stays_on c.args.slots _ _ _ c.loop-slot.invariant.1
+    (stays_write c.args.slots _ 1 _ _ (omega (arith, c.slot_at.ensures)) (omega (arith, c.slot_at.ensures, c.loop-slot-test.true)) c.in_err-write.ensures.later c.in_err-write.ensures.leaves)
 
 pub loop-slot-preserved : goal.loop-slot-preserved
-loop-slot-preserved g c = (
-  c.in_ok-write_at.ensures.ok
-      ∙ ap (λ n. option_map (written (1050112 + 262144 * n) (0 ∷ [])) (g.D.Disk.content c.loop-slot.disk)) c.from.ensures
-      ∙ more_closed c.loop-slot.slot (g.D.Disk.content c.args.disk.now) (g.D.Disk.content c.loop-slot.disk) c.loop-slot.invariant.0,
-  stays_on g.D.Disk c.args.slots _ _ _ c.loop-slot.invariant.1
-      (stays_write g.D.Disk c.args.slots _ 1 _ _ (omega arith) (omega (arith, c.from.ensures, c.loop-slot-test.true)) c.in_ok-write_at.ensures.torn c.in_ok-write_at.ensures.crash),
-  later_still g.D.Disk c.args.slots g.met.D.Disk.same_on _ _ _ c.loop-slot.invariant.2 c.in_ok-write_at.ensures.later,
-)
+loop-slot-preserved g c =
+    let old = g.D.Disk.view c.args.disk.now in
+    let mid = g.D.Disk.view c.loop-slot.disk in (
+      c.in_ok-write.ensures.ok ∙ ap (λ (n : ℕ). option_map (written n (0 ∷ [])) mid.content) c.slot_at.ensures ∙ more_closed c.loop-slot.slot old.content mid.content c.loop-slot.invariant.0,
+      stays_on c.args.slots _ _ _ c.loop-slot.invariant.1
+          (stays_write c.args.slots _ 1 _ _ (omega (arith, c.slot_at.ensures)) (omega (arith, c.slot_at.ensures, c.loop-slot-test.true)) c.in_ok-write.ensures.later c.in_ok-write.ensures.leaves),
+      c.in_ok-write.ensures.count ∙ c.loop-slot.invariant.2,
+    )

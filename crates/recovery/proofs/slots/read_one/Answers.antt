@@ -1,8 +1,9 @@
-use Rattle.dd_disk.proofs.Disks.{always}
+use Rattle.std.proofs.Common.{refl}
+use Rattle.dd_disk.proofs.Shows.{always}
 use Rattle.recovery.proofs.slots.read_one.Goals as goal
 
 pub returns-in-Err-Memory-clause-only : goal.returns-in-Err-Memory-clause-only
-returns-in-Err-Memory-clause-only g c = always g.D.Disk _ _ _ (λ image sized held holds. tt)
+returns-in-Err-Memory-clause-only g c = always _ _ _ (λ image sized held holds. refl)
 
 pub returns-in-Err-DiskRead-clause-only : goal.returns-in-Err-DiskRead-clause-only
-returns-in-Err-DiskRead-clause-only g c = always g.D.Disk _ _ _ (λ image sized held holds. tt)
+returns-in-Err-DiskRead-clause-only g c = always _ _ _ (λ image sized held holds. refl)

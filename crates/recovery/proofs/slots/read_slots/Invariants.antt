@@ -1,7 +1,9 @@
-use Rattle.dd_disk.proofs.Disks.{Saw, Reads}
-use Rattle.recovery.specs.Slots.{ArePartOf}
+use Rattle.dd_disk.specs.Ending.{Done, Reads}
+use Rattle.dd_disk.specs.Shows.{Shows}
+use Rattle.recovery.specs.Slots.{AreSlots}
 use Rattle.recovery.proofs.slots.read_slots.Given as goal
 
 abbrev pub invariant-loop-slot : goal.invariant-loop-slot
 invariant-loop-slot g l =
-    Reads g.D.Disk l.fn.disk l.disk × ArePartOf (Saw g.D.Disk l.fn.disk l.disk) l.slot l.told
+    let view = g.D.Disk.view in
+    Reads Done (view l.fn.disk) (view l.disk) × AreSlots (Shows (view l.fn.disk) (view l.disk)) l.slot l.tables

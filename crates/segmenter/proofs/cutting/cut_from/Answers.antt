@@ -1,4 +1,5 @@
 use Rattle.std.proofs.Common.{nat_eq, refl}
+use Rattle.disk_format.specs.declared.numbers.TheConstants.{MOST_SEGMENT}
 use Rattle.segmenter.proofs.CutLemmas.{cut_at_hit, cut_at_end}
 use Rattle.segmenter.proofs.cutting.cut_from.Goals as goal
 
@@ -12,5 +13,5 @@ returns-then-scan c =
 pub returns-else-scan : goal.returns-else-scan
 returns-else-scan c =
     cut_at_end c.args.bytes.now c.args.from c.first_hit-scan.result.end c.first_hit-scan.result.value c.first_hit-scan.result.hit
-    (nat_eq c.first_hit-scan.result.end 16384) c.requires.least c.requires.at_most c.requires.uncut c.first_hit-scan.ensures
+    (nat_eq c.first_hit-scan.result.end MOST_SEGMENT) c.requires.least c.requires.at_most c.requires.uncut c.first_hit-scan.ensures
     c.if-scan.false refl

@@ -9,7 +9,7 @@ pub loop-rest-preserved-then-step : goal.loop-rest-preserved-then-step
 loop-rest-preserved-then-step c =
     let before = c.loop-rest.invariant.so_far in
     let n = c.push-step.result.taken in
-    let whole : c.push-step.new.self.whole ≡ true = c.push-step.ensures.whole ∙ c.if-step.true in
+    let whole : c.push-step.new.self.whole ≡ true = c.push-step.ensures.takes.whole ∙ c.if-step.true in
     let shown : map (λ segment. segment.items) c.push.new.self.items ≡ map (λ segment. segment.items) c.loop-rest.segments.items ++ whole_segments c.push-step.new.self =
     ap (map (λ segment. segment.items)) c.in_ok-push.ensures.items
     ∙ map-append (λ segment. segment.items) c.loop-rest.segments.items (c.in_ok-from_slice.field-0 ∷ [])
@@ -32,7 +32,7 @@ loop-rest-preserved c =
     let before = c.loop-rest.invariant.so_far in
     let n = c.push-step.result.taken in
     record {
-      ongoing = c.push-step.ensures.whole ∙ c.if-step.false;
+      ongoing = c.push-step.ensures.takes.whole ∙ c.if-step.false;
       so_far = (
         before.0 ++ take n c.loop-rest.rest.now,
         taken_more before.0 c.loop-rest.rest.now c.args.piece.now n before.1,

@@ -5,7 +5,7 @@ use Rattle.std.specs.declared.alloc.AllocError.{AllocError}
 use Rattle.merkle_file.specs.declared.top.Top.{Top}
 use Rattle.merkle_file.specs.Node.{Contents}
 use Rattle.merkle_file.specs.declared.node.Child.{Child}
-use Rattle.merkle_file.specs.declared.node.TheConstants.{GREATEST_LEVEL}
+use Rattle.disk_format.specs.declared.numbers.TheConstants.{MOST_LEVEL}
 use Rattle.merkle_file.specs.Building.{Progress, Holds}
 use Rattle.merkle_file.specs.Steps.{close}
 use Rattle.merkle_file.specs.Rows.{items_of}
@@ -16,13 +16,13 @@ use Rattle.merkle_file.proofs.builder.TreeBuilder.finish.Goals as goal
 pub invariant_of-self : goal.invariant_of-self
 invariant_of-self c =
     let len : length c.clear.new.rows ≡ c.self.inside.rows.len = omega (arith, c.clear.auto.rows, c.deref_mut-2.ensures.len) in
-    let six : length c.deref_mut-2.result.now ≡ GREATEST_LEVEL = omega (arith, c.deref_mut-2.ensures.len, c.deref_mut.ensures.len, ap (λ (rs : List (Vec Child)). length rs) c.deref_mut.ensures.value, length-items c.self.inside.rows.items, c.self.invariant.levels) in
+    let six : length c.deref_mut-2.result.now ≡ MOST_LEVEL = omega (arith, c.deref_mut-2.ensures.len, c.deref_mut.ensures.len, ap (λ (rs : List (Vec Child)). length rs) c.deref_mut.ensures.value, length-items c.self.inside.rows.items, c.self.invariant.levels) in
     fresh_progress _ c.clear-then-is_err.new.self.items (cleared c.self.inside.rows.len c.clear.new.rows c.deref_mut-2.result.now _ len c.clear.ensures six)
 
 pub invariant_of-self-else-is_err : goal.invariant_of-self-else-is_err
 invariant_of-self-else-is_err c =
     let len : length c.clear.new.rows ≡ c.self.inside.rows.len = omega (arith, c.clear.auto.rows, c.deref_mut-2.ensures.len) in
-    let six : length c.deref_mut-2.result.now ≡ GREATEST_LEVEL = omega (arith, c.deref_mut-2.ensures.len, c.deref_mut.ensures.len, ap (λ (rs : List (Vec Child)). length rs) c.deref_mut.ensures.value, length-items c.self.inside.rows.items, c.self.invariant.levels) in
+    let six : length c.deref_mut-2.result.now ≡ MOST_LEVEL = omega (arith, c.deref_mut-2.ensures.len, c.deref_mut.ensures.len, ap (λ (rs : List (Vec Child)). length rs) c.deref_mut.ensures.value, length-items c.self.inside.rows.items, c.self.invariant.levels) in
     fresh_progress _ c.close-closed.new.finished.items (cleared c.self.inside.rows.len c.clear.new.rows c.deref_mut-2.result.now _ len c.clear.ensures six)
 
 if_top : (r : Result Top AllocError) (x : Top) (P : Top → Type 0) → IfOk r (λ top. top ≡ x) → P x → IfOk r P
@@ -54,5 +54,5 @@ returns-else-is_err-clause-nodes c =
 pub returns-then-is_err-clause-err : goal.returns-then-is_err-clause-err
 returns-then-is_err-clause-err c =
     let len : length c.clear.new.rows ≡ c.self.inside.rows.len = omega (arith, c.clear.auto.rows, c.deref_mut-2.ensures.len) in
-    let six : length c.deref_mut-2.result.now ≡ GREATEST_LEVEL = omega (arith, c.deref_mut-2.ensures.len, c.deref_mut.ensures.len, ap (λ (rs : List (Vec Child)). length rs) c.deref_mut.ensures.value, length-items c.self.inside.rows.items, c.self.invariant.levels) in
+    let six : length c.deref_mut-2.result.now ≡ MOST_LEVEL = omega (arith, c.deref_mut-2.ensures.len, c.deref_mut.ensures.len, ap (λ (rs : List (Vec Child)). length rs) c.deref_mut.ensures.value, length-items c.self.inside.rows.items, c.self.invariant.levels) in
     on_err c.close-closed.result _ (fresh_holds _ c.clear-then-is_err.new.self.items (cleared c.self.inside.rows.len c.clear.new.rows c.deref_mut-2.result.now _ len c.clear.ensures six) c.clear-then-is_err.ensures.items)

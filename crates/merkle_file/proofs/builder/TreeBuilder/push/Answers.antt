@@ -7,7 +7,7 @@ use Rattle.merkle_file.specs.Steps.{place}
 use Rattle.merkle_file.specs.Rows.{items_of}
 use Rattle.merkle_file.proofs.Progress.{cleared, fresh_holds, fresh_progress, pushed_holds, pushed_progress, pushed_counts}
 use Rattle.merkle_file.proofs.Placing.{length-items}
-use Rattle.merkle_file.specs.declared.node.TheConstants.{GREATEST_LEVEL}
+use Rattle.disk_format.specs.declared.numbers.TheConstants.{MOST_LEVEL}
 use Rattle.merkle_file.proofs.builder.TreeBuilder.push.Goals as goal
 
 pub invariant_of-self : goal.invariant_of-self
@@ -54,7 +54,7 @@ returns-in-Ok-clause-length c =
 pub invariant_of-self-in-Err : goal.invariant_of-self-in-Err
 invariant_of-self-in-Err c =
     let len : length c.clear.new.rows ≡ c.self.inside.rows.len = omega (arith, c.clear.auto.rows, c.deref_mut-in-Err.ensures.len) in
-    let six : length c.deref_mut-in-Err.result.now ≡ GREATEST_LEVEL = omega (arith, c.deref_mut-in-Err.ensures.len, c.deref_mut.ensures.len, ap (λ (rs : List (Vec Child)). length rs) c.deref_mut.ensures.value, length-items c.self.inside.rows.items, c.self.invariant.levels) in
+    let six : length c.deref_mut-in-Err.result.now ≡ MOST_LEVEL = omega (arith, c.deref_mut-in-Err.ensures.len, c.deref_mut.ensures.len, ap (λ (rs : List (Vec Child)). length rs) c.deref_mut.ensures.value, length-items c.self.inside.rows.items, c.self.invariant.levels) in
     fresh_progress _ c.clear-in-Err.new.self.items (cleared c.self.inside.rows.len c.clear.new.rows c.deref_mut-in-Err.result.now _ len c.clear.ensures six)
 
 pub returns-in-Err-clause-few : goal.returns-in-Err-clause-few
@@ -63,5 +63,5 @@ returns-in-Err-clause-few c = invariant_of-self-in-Err c
 pub returns-in-Err-clause-err : goal.returns-in-Err-clause-err
 returns-in-Err-clause-err c =
     let len : length c.clear.new.rows ≡ c.self.inside.rows.len = omega (arith, c.clear.auto.rows, c.deref_mut-in-Err.ensures.len) in
-    let six : length c.deref_mut-in-Err.result.now ≡ GREATEST_LEVEL = omega (arith, c.deref_mut-in-Err.ensures.len, c.deref_mut.ensures.len, ap (λ (rs : List (Vec Child)). length rs) c.deref_mut.ensures.value, length-items c.self.inside.rows.items, c.self.invariant.levels) in
+    let six : length c.deref_mut-in-Err.result.now ≡ MOST_LEVEL = omega (arith, c.deref_mut-in-Err.ensures.len, c.deref_mut.ensures.len, ap (λ (rs : List (Vec Child)). length rs) c.deref_mut.ensures.value, length-items c.self.inside.rows.items, c.self.invariant.levels) in
     fresh_holds _ c.clear-in-Err.new.self.items (cleared c.self.inside.rows.len c.clear.new.rows c.deref_mut-in-Err.result.now _ len c.clear.ensures six) c.clear-in-Err.ensures.items

@@ -1,5 +1,5 @@
 -- Slots, and one more after them.
-use Rattle.std.proofs.Common.{◌≡◌, ◌≢◌, ℕ, ◌+◌, List, [], ◌∷◌, ◌++◌, length, Option, Some, None, sym, subst, arith}
+use Rattle.std.proofs.Common.{◌≢◌, ℕ, ◌+◌, List, [], ◌∷◌, ◌++◌, length, Option, Some, None, sym, subst, arith}
 use Rattle.container_meta.specs.Spelling.{HeaderValue}
 use Rattle.store_model.specs.Slots.{HoldsSlot, HoldSlots, IsUnusedId, DifferentIds}
 

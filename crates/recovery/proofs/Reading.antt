@@ -1,9 +1,8 @@
 -- Slots that are read one after the other.
 use Rattle.std.proofs.Common.{◌≡◌, ◌≢◌, inl, inr, ℕ, zero, suc, ◌+◌, ◌<◌, List, [], ◌∷◌, ◌++◌, length, Option, None, Some, refl, sym, ap, ◌∙◌, subst, arith, length-append}
 use Rattle.std.specs.Prelude.{IsTrue}
-use Rattle.base_model.specs.Bytes.{range, byte_at}
-use Rattle.disk_format.specs.declared.numbers.TheConstants.{CONTAINER_GATE, HEADER_BYTES}
-use Rattle.disk_format.specs.declared.why.Why.{Why}
+use Rattle.base_model.specs.Bytes.{range}
+use Rattle.disk_format.specs.declared.numbers.TheConstants.{HEADER_BYTES}
 use Rattle.disk_format.specs.declared.why.Why.TheVariants.{Field}
 use Rattle.disk_format.specs.Layout.{slot_at}
 use Rattle.dd_disk.specs.View.{DiskView, OnlyReads}
@@ -18,7 +17,7 @@ use Rattle.store_model.proofs.Spellings.{gate_of_header}
 use Rattle.store_state.specs.declared.containers.Containers.{Containers}
 use Rattle.store_state.specs.Containers.{RepresentsContainers}
 use Rattle.store_state.specs.Refused.{fails}
-use Rattle.recovery.specs.Slots.{AreSlots, MayFollow, BreaksHeader, HasUsedId, IsSlotDamage, HoldsDamage, IsSlotRefusal, IsDamagedSlot, IsSlotsRefusal}
+use Rattle.recovery.specs.Slots.{AreSlots, MayFollow, BreaksHeader, IsSlotDamage, HoldsDamage, IsSlotRefusal, IsSlotsRefusal}
 use Rattle.recovery.proofs.Pushed.{hold-push, different-push, different-push-none}
 
 -- ---- a slot among others

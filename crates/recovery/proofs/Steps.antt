@@ -6,7 +6,6 @@ use Rattle.base_model.specs.Bytes.{range}
 use Rattle.disk_format.specs.declared.numbers.TheConstants.{CELL_BYTES, LEAST_SIZE}
 use Rattle.disk_format.specs.declared.why.Why.{Why}
 use Rattle.disk_format.specs.Layout.{IsSlotCount, size_of}
-use Rattle.disk_format.specs.Cells.{RecordValue, SelectorValue}
 use Rattle.dd_disk.specs.View.{DiskView, OnlyReads}
 use Rattle.dd_disk.specs.Ending.{ending_of, Reads}
 use Rattle.dd_disk.specs.Shows.{Shows}
@@ -18,14 +17,14 @@ use Rattle.journal_cells.specs.declared.fault.CellFault.TheVariants as cell
 use Rattle.journal_cells.specs.Faults as cells
 use Rattle.journal_cells.specs.Faults.{IsFormatBreak, IsJournalBreak, IsReadFault, IsCellFault}
 use Rattle.journal_cells.specs.Heads.{format_in}
-use Rattle.journal_cells.specs.Journal.{JournalValue, IsScanned, IsTold, journal_in}
+use Rattle.journal_cells.specs.Journal.{JournalValue, IsScanned, journal_in}
 use Rattle.refusals.specs.declared.refusal.Refusal.{Refusal}
 use Rattle.refusals.specs.declared.refusal.Refusal.TheVariants.{Memory, DiskRead, DiskWrite, Full, Damaged, WrongSize}
 use Rattle.store_model.specs.Image.{Store, HasFormat}
 use Rattle.store_model.proofs.Spellings.{same_format}
 use Rattle.store_state.specs.declared.open_store.OpenStore.{OpenStore}
 use Rattle.store_state.specs.Refused.{blames, fails}
-use Rattle.recovery.specs.Slots.{AreSlots, HoldsDamage, IsSlotDamage, IsDamagedSlot, IsSlotsRefusal}
+use Rattle.recovery.specs.Slots.{AreSlots, IsDamagedSlot, IsSlotsRefusal}
 use Rattle.recovery.specs.Opening.{IsSized, IsFound, Opens, IsBeginRefusal, IsOpenRefusal, BreaksFormat, BreaksJournal, BreaksSlots, cell_refusal}
 
 -- ---- a refusal that says nothing of the image
@@ -192,4 +191,5 @@ module _ (old mid new : DiskView) (before : OnlyReads old mid) where
         slots_are = seen.1;
         different = slots.different;
       }) (both old mid new (also old mid sized.format scanned.holds) before slots.holds after.later);
+      other = until old mid new scanned.other before.later.clock_is after.later;
     }

@@ -1,11 +1,11 @@
 -- How an empty store is written, on a disk whose content is blank.
-use Rattle.std.proofs.Common.{◌≡◌, ◌≢◌, ◌⊎◌, inl, inr, ℕ, ◌+◌, ◌≤◌, List, length, Some, Option, option_map, refl, sym, ◌∙◌, ap, subst, arith}
+use Rattle.std.proofs.Common.{◌≡◌, ◌≢◌, ◌⊎◌, inl, inr, ℕ, List, Some, option_map, refl, sym, ◌∙◌, ap, subst}
 use Rattle.base_model.specs.Bytes.{byte_at, written}
 use Rattle.base_model.specs.Known.{Known, KnownWith}
 use Rattle.disk_format.specs.declared.numbers.TheConstants.{FORMAT_GATE}
 use Rattle.disk_format.specs.Layout.{IsSlotCount, size_of}
 use Rattle.disk_format.specs.Cells.{format_cell}
-use Rattle.dd_disk.specs.View.{DiskView, IsLater, OnlyReads, IsDurable, CrashLeaves, SteppedFrom}
+use Rattle.dd_disk.specs.View.{DiskView, OnlyReads, IsDurable, CrashLeaves, SteppedFrom}
 use Rattle.dd_disk.specs.Ending.{Ending, Done, Refused, Unread, Broken, CountsFault, Reads}
 use Rattle.dd_disk.specs.Shows.{Shows}
 use Rattle.dd_disk.specs.Writes.{Puts, Writes, Written}

@@ -25,6 +25,14 @@ use std::alloc::Global;
 /// The bytes of the selectors and of the journal after them.
 const BLANKS: usize = (FIRST_SLOT - FIRST_SELECTOR) as usize;
 
+/// The selector of an empty store.
+const FIRST: Selector = Selector {
+    generation: 1,
+    form: VERSION,
+    half: 0,
+    last: 0,
+};
+
 // Refuses a disk of another size than that of so many slots, and one that has a store.
 fn may_format<D: Disk>(disk: &mut D, slots: u32) -> Result<(), Refusal>
     requires { IsSlotCount slots }
@@ -150,13 +158,7 @@ pub fn format<D: Disk>(alloc: Global, disk: &mut D, slots: u32) -> Result<(), Re
     may_format(disk, slots)?;
     // All memory before the first write, so that want of it leaves the disk as it was.
     let blanks = zeros(alloc, BLANKS)?;
-    let first = Selector {
-        generation: 1,
-        form: VERSION,
-        half: 0,
-        last: 0,
-    };
-    let selector = encode_selector(alloc, &first)?;
+    let selector = encode_selector(alloc, &FIRST)?;
     let cell = encode_format(alloc, slots)?;
     match write_store(disk, slots, &blanks, &selector, &cell) {
         Ok(()) => Ok(()),

@@ -1,6 +1,3 @@
-use Rattle.std.proofs.Common.{◌≡◌, inl, inr, List, Some, ◌∙◌, sym}
-use Rattle.base_model.specs.Bytes.{byte_at}
-use Rattle.disk_format.specs.declared.numbers.TheConstants.{FORMAT_GATE}
 use Rattle.dd_disk.specs.Ending.{Done, Broken}
 use Rattle.dd_disk.proofs.Shows.{until, shown_content}
 use Rattle.recovery.proofs.Storing.{blank_content, format_leaves, format_acts, format_left}

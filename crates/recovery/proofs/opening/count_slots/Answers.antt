@@ -1,4 +1,4 @@
-use Rattle.std.proofs.Common.{◌≡◌, ◌∙◌, sym, subst}
+use Rattle.std.proofs.Common.{◌∙◌, sym, subst}
 use Rattle.base_model.proofs.Outcome.{passed_on}
 use Rattle.dd_disk.specs.Ending.{ending_of}
 use Rattle.dd_disk.specs.Shows.{Shows}
@@ -6,7 +6,7 @@ use Rattle.dd_disk.proofs.Shows.{always, weaker, since}
 use Rattle.dd_disk.proofs.Ended.{reads_on}
 use Rattle.store_state.specs.Refused.{blames}
 use Rattle.recovery.specs.Opening.{IsOpenRefusal}
-use Rattle.recovery.proofs.Steps.{begin_fails, begin_refusal, is_large, cell_fails, cell_reads, format_refusal}
+use Rattle.recovery.proofs.Steps.{begin_fails, is_large, cell_fails, cell_reads, format_refusal}
 use Rattle.recovery.proofs.opening.count_slots.Goals as goal
 
 pub returns-in_err-begin-clause-only : goal.returns-in_err-begin-clause-only

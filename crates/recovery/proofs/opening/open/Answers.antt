@@ -1,4 +1,4 @@
-use Rattle.std.proofs.Common.{◌≤◌, ◌∙◌, ap, sym, subst}
+use Rattle.std.proofs.Common.{◌≤◌, ◌∙◌, ap, subst}
 use Rattle.dd_disk.proofs.Shows.{weaker}
 use Rattle.store_model.specs.Image.{Store}
 use Rattle.store_model.specs.Slots.{free_slots}

@@ -1,7 +1,7 @@
-use Rattle.std.proofs.Common.{◌∙◌, sym}
+use Rattle.std.proofs.Common.{◌∙◌}
 use Rattle.base_model.proofs.Outcome.{passed_on}
 use Rattle.dd_disk.specs.Ending.{Reads, ending_of}
-use Rattle.dd_disk.proofs.Shows.{weaker, since, both}
+use Rattle.dd_disk.proofs.Shows.{weaker, both}
 use Rattle.dd_disk.proofs.Ended.{reads_on}
 use Rattle.dd_disk.proofs.Moves.{passed}
 use Rattle.store_state.specs.Refused.{blames}

@@ -1,11 +1,10 @@
-use Rattle.std.proofs.Common.{Option, refl, sym, subst, IfSome, ℕ}
+use Rattle.std.proofs.Common.{Option, refl, sym, subst, IfSome}
 use Rattle.std.specs.Prelude.{option_map}
 use Rattle.base_model.proofs.Outcome.{passed_on}
 use Rattle.container_meta.specs.declared.entry.Meta.{Meta}
 use Rattle.container_meta.specs.Spelling.{IsHeader, view}
 use Rattle.dd_disk.specs.Shows.{Shows}
 use Rattle.dd_disk.proofs.Shows.{weaker}
-use Rattle.dd_disk.proofs.Ended.{reads_then}
 use Rattle.disk_format.specs.declared.why.Why.TheVariants.{Field}
 use Rattle.store_model.specs.Slots.{HoldsSlot}
 use Rattle.store_model.proofs.Once.{slot_once}

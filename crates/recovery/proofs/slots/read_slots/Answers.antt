@@ -2,7 +2,6 @@ use Rattle.std.proofs.Common.{ℕ, refl, sym, arith, subst}
 use Rattle.std.specs.Prelude.{option_map}
 use Rattle.base_model.proofs.Outcome.{passed_on}
 use Rattle.container_meta.specs.Spelling.{view}
-use Rattle.dd_disk.specs.View.{DiskView}
 use Rattle.dd_disk.specs.Ending.{Reads, ending_of}
 use Rattle.dd_disk.specs.Shows.{Shows}
 use Rattle.dd_disk.proofs.Shows.{always}

@@ -136,11 +136,21 @@ module _ (name bytes : List ℕ) (source source_now : SourceView) (o : OpenStore
 
   put_kept : refusal ≢ DiskWrite → Known old.content (λ given. KnownWith new.content (IsKeptByIngest source.left given))
   put_kept other given known =
-      let end = now name bytes source.left o old mid new was taken _ put given known in
-      (end.0, end.1, inr (is_open old mid o was given known, (bytes, taken, λ store files holding. elim (arrived_kept other given known store files holding) [
-        | inl reads ↦ inl (some_same end.0 given (sym end.1 ∙ reads.content_is ∙ was.reads.only.content_is ∙ known))
-        | inr rests ↦ inr (rests.each end.0 (new.as_read end.0 end.1))
-      ])))
+      let end = now name bytes source.left o old mid new was taken _ put given known in (
+        end.0,
+        end.1,
+        inr (
+          is_open old mid o was given known,
+          (
+            bytes,
+            taken,
+            λ store files holding. elim (arrived_kept other given known store files holding) [
+              | inl reads ↦ inl (some_same end.0 given (sym end.1 ∙ reads.content_is ∙ was.reads.only.content_is ∙ known))
+              | inr rests ↦ inr (rests.each end.0 (new.as_read end.0 end.1))
+            ],
+          ),
+        ),
+      )
 
   put_files : refusal ≢ DiskWrite → Known old.content (λ _. KeepsFiles (Ingest name) old.images new.images)
   put_files other given known = λ files stand c image.

@@ -176,12 +176,12 @@ module _ (first : List ℕ) (calls : List Call) (stop count : ℕ) (fill : Fill)
       found : LeavesOut stop calls → images_past first calls (stop - 1) (stop_image first calls stop fill)
       found parts = elim parts.later [
         | inl none ↦
-          let whole : reached stop calls ≡ calls = sym (append-nil (reached stop calls)) ∙ ap (λ (l : List Call). reached stop calls ++ l) (sym none) ∙ parts.split in
-          inl (subst (λ (l : List Call). images_of first l (stop_image first calls stop fill)) whole left)
+            let whole : reached stop calls ≡ calls = sym (append-nil (reached stop calls)) ∙ ap (λ (l : List Call). reached stop calls ++ l) (sym none) ∙ parts.split in
+            inl (subst (λ (l : List Call). images_of first l (stop_image first calls stop fill)) whole left)
         | inr next ↦
-          let is : reached stop calls ++ next.0 ∷ next.1.0 ≡ calls = ap (λ (l : List Call). reached stop calls ++ l) (sym next.1.1) ∙ parts.split in
-          inr (subst (λ (l : List Call). images_before first (λ d. d ≡ first) l (stop - 1) (stop_image first calls stop fill)) is
-          (before_at next.0 (reached stop calls) next.1.0 first (λ d. d ≡ first) (stop - 1) (stop_image first calls stop fill) (omega (arith, some, next.1.2)) left))
+            let is : reached stop calls ++ next.0 ∷ next.1.0 ≡ calls = ap (λ (l : List Call). reached stop calls ++ l) (sym next.1.1) ∙ parts.split in
+            inr (subst (λ (l : List Call). images_before first (λ d. d ≡ first) l (stop - 1) (stop_image first calls stop fill)) is
+            (before_at next.0 (reached stop calls) next.1.0 first (λ d. d ≡ first) (stop - 1) (stop_image first calls stop fill) (omega (arith, some, next.1.2)) left))
       ]
 
 -- ---- the loop over what was not synced

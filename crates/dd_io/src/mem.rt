@@ -39,7 +39,6 @@ impl MemSource {
 
 impl Source for MemSource {
     ghost use Rattle.dd_io.specs.Scripted.{source_script};
-
     ghost use Rattle.std.specs.Prelude.{drop};
 
     ghost view = { λ s. record { left = Some (drop s.place s.bytes.items); faults = s.faults } };

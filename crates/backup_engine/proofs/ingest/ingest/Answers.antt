@@ -134,7 +134,7 @@ returns-clause-did g c =
       done = (
         bytes,
         ingests name bytes source.left c.in_ok-opened.opened old mid new was taken (record { puts = c.in_ok-put_file.ensures.moves; calls = c.in_ok-put_file.ensures.disk })
-        (c.in_ok-put_file.ensures.can.store_has store was.opened.found.represents (found_valid old mid c.in_ok-opened.opened was)),
+            (c.in_ok-put_file.ensures.can.store_has store was.opened.found.represents (found_valid old mid c.in_ok-opened.opened was)),
         c.in_ok-reply.ensures ∙ ap (λ n. stored_line n c.root_of.result) c.as_bytes.ensures.value ∙ ap (stored_line name) root,
       );
       durable = c.in_ok-put_file.ensures.durable;

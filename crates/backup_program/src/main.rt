@@ -8,14 +8,18 @@ use std::env;
 use std::fs::{self, File, OpenOptions};
 use std::io::{self, ErrorKind, Write};
 use std::process::ExitCode;
+use thiserror::Error;
 
-/// Why the program ends before a command runs.
-#[derive(Clone, Copy)]
+/// Why the program ends before a command runs. The texts are lines of the notes.
+#[derive(Clone, Copy, Debug, Error)]
 enum Failure {
     /// The words of the command line have no file, or can't be read.
+    #[error("fault words")]
     Words,
     /// The file can't be opened, made or locked: another run may have it.
+    #[error("fault file")]
     File,
+    #[error("fault 1 memory")]
     Memory,
 }
 
@@ -27,14 +31,6 @@ impl Failure {
             Failure::Memory => 1,
         }
     }
-
-    fn text(&self) -> &'static str {
-        match self {
-            Failure::Words => "fault words",
-            Failure::File => "fault file",
-            Failure::Memory => "fault 1 memory",
-        }
-    }
 }
 
 fn main(rt: HostRuntime) -> ExitCode {
@@ -42,7 +38,7 @@ fn main(rt: HostRuntime) -> ExitCode {
         Ok(status) => status,
         Err(failure) => {
             // A failure of standard error changes no status.
-            let _written = eprintln!(rt; "{}", failure.text());
+            let _written = eprintln!(rt; "{failure}");
             failure.status()
         }
     };

@@ -92,7 +92,6 @@ fn read_copy<D: Disk>(
 /// Refusals: `Missing` where no segment of its key is held, `DiskRead`, `Corrupt` where the bytes that are read have
 /// another digest, `Damaged` at the place of the bytes where they have the digest and another length than the root's, and
 /// `Memory`.
-#[tactic(auto, using(crate::proofs::Empty::empty_shown))]
 pub fn read_root<D: Disk>(
     alloc: Global,
     disk: &mut D,

@@ -1,8 +1,12 @@
-use Rattle.std.proofs.Common.{sym, ◌∙◌, ap}
+use Rattle.std.proofs.Common.{inl, sym, ◌∙◌, ap}
 use Rattle.disk_format.specs.Cells.{Root}
+use Rattle.dd_disk.proofs.Shows.{always}
 use Rattle.store_model.specs.Commands.{copy_of}
 use Rattle.store_model.proofs.Lookups.{lacks, found_within}
 use Rattle.read_steps.proofs.read.read_root.Goals as goal
+
+pub returns-then-root-eq0-clause-shown : goal.returns-then-root-eq0-clause-shown
+returns-then-root-eq0-clause-shown g c = always _ _ _ (λ image sized store keeps. inl c.new.ensures.items)
 
 pub returns-in_default-clause-refused : goal.returns-in_default-clause-refused
 returns-in_default-clause-refused g c = record {

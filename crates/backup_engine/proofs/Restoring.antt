@@ -67,9 +67,15 @@ module _ (old mid new : DiskView) (o : OpenStore) (was : Opened old mid o) (late
       → IsName name × ((r : Root) × FitsRoot r refusal × HasFound (Shows old new) r refusal × Shows old new (HoldsOpenableStore (λ store. HasRoot name r store × IsRootRefusal r store refusal)))
   unread refusal wrong =
       let store = was.opened.found.store in
-      let represents = was.opened.found.represents in
-      (good, (root, wrong.fits, found_since old mid new root refusal was.reads wrong.found,
-      holds old mid o was new (λ s image. HasRoot name root s × IsRootRefusal root s refusal) later (λ image. (has store represents.journal, wrong.held store represents))))
+      let represents = was.opened.found.represents in (
+        good,
+        (
+          root,
+          wrong.fits,
+          found_since old mid new root refusal was.reads wrong.found,
+          holds old mid o was new (λ s image. HasRoot name root s × IsRootRefusal root s refusal) later (λ image. (has store represents.journal, wrong.held store represents)),
+        ),
+      )
 
   pub refused_by_root : (refusal : Refusal) → IsFileRefusal (Shows mid new) o root refusal → IsReadRefusal (Shows old new) name refusal
   refused_by_root Memory wrong = tt

@@ -19,7 +19,7 @@ is_dashed (first ∷ second ∷ rest) = first == 45
 abbrev pub is_separator : List ℕ → Bool
 is_separator word = bytes_eq word (codes "--")
 
--- The one argument of a command. One that begins with a dash stands behind `--`.
+-- The one argument of a command. One that begins with a dash stands after `--`.
 abbrev pub argument_of : List (List ℕ) → Option (List ℕ)
 argument_of [] = None
 argument_of (word ∷ []) = if is_dashed word then None else Some word

@@ -174,6 +174,7 @@ reached stop (call ∷ calls) = if is_left_out stop call then [] else call ∷ r
 -- is filled so.
 abbrev pub stop_image : List ℕ → List Call → ℕ → Fill → List ℕ
 stop_image first calls stop fill = filled_after fill (reached stop calls) first first
+
 -- The laws of a disk, of one in memory.
 
 -- what reads give may be left
@@ -242,4 +243,3 @@ pub image_length : (first bytes : List ℕ) (calls : List Call) (count : ℕ) (c
 image_length first bytes calls count c replayed past left =
     let all = lengths calls (length first) count first (λ d. d ≡ first) past refl (λ d is. ap length is) in
     all.1 c left ∙ sym all.0 ∙ ap length replayed
-

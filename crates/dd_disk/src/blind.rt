@@ -91,8 +91,10 @@ impl Disk for BlindDisk {
         requires { at + length from.now ≤ length (held self.old) }
         ensures held { (held self.new ≡ written at from.now (held self.old)) × (lies_of self.new ≡ lies_of self.old) }
         ensures done { IsOk result }
-        ensures leaves { CrashLeaves (SteppedFrom (Torn at (length from.now)) (blind_view self.old)) (blind_view self.old) (blind_view self.new) }
-        ensures tears { OnOk result ((d c : List ℕ) → (blind_view self.old).images d → Torn at (length from.now) d c → (blind_view self.new).images c) }
+        ensures leaves { CrashLeaves (SteppedFrom (Torn at (length from.now)) (blind_view self.old))
+            (blind_view self.old) (blind_view self.new) }
+        ensures tears { OnOk result ((d c : List ℕ) → (blind_view self.old).images d → Torn at (length from.now) d c
+            → (blind_view self.new).images c) }
         ensures later { IsLater (blind_view self.old) (blind_view self.new) }
         ensures rises { Rose (blind_view self.old).clock (blind_view self.new).clock }
     {

@@ -4,6 +4,7 @@ use Rattle.std.specs.List.{list_all}
 use Rattle.std.specs.Char.{is_ascii_digit}
 use Rattle.std.specs.Str.{bytes_eq}
 use Rattle.std.specs.Str.Parse.{digits_value}
+use Rattle.disk_format.specs.declared.numbers.TheConstants.{LEAST_SLOTS, MOST_SLOTS}
 
 pub data CommandLine : Type 0 where
   Format : (slots : ℕ) → CommandLine
@@ -45,7 +46,8 @@ is_number word = all_digits word && begins_as_number word
 -- how many slots a word stands for, 4 to 65,536
 abbrev pub slots_of : List ℕ → Option ℕ
 slots_of word =
-    if is_number word && nat_le 4 (digits_value 10 word) && nat_le (digits_value 10 word) 65536 then Some (digits_value 10 word) else None
+    if is_number word && nat_le LEAST_SLOTS (digits_value 10 word) && nat_le (digits_value 10 word) MOST_SLOTS
+    then Some (digits_value 10 word) else None
 
 abbrev pub command_of : List ℕ → List ℕ → Option CommandLine
 command_of command argument =

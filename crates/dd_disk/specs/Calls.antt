@@ -117,8 +117,8 @@ is_to_fail fails number = list_any (λ fail. fail == number) fails
 
 -- A call was done only where it isn't to fail, and failed only where it is; it was missed only for want of room.
 abbrev pub AsScripted : Noted → List ℕ → ℕ → ℕ → ℕ → Type 0
-AsScripted Done fails number missed_before missed_now = is_to_fail fails number ≡ false
-AsScripted Failed fails number missed_before missed_now = is_to_fail fails number ≡ true
+AsScripted Done fails number missed_before missed_now = (is_to_fail fails number ≡ false) × (missed_now ≡ missed_before)
+AsScripted Failed fails number missed_before missed_now = (is_to_fail fails number ≡ true) × (missed_now ≡ missed_before)
 AsScripted Missed fails number missed_before missed_now = Rose missed_before missed_now
 
 -- ---- what was asked

@@ -25,7 +25,7 @@ use Rattle.store_state.specs.declared.open_store.OpenStore.{OpenStore}
 use Rattle.store_state.specs.Refused.{blames}
 use Rattle.ingest_steps.specs.Steps.{IsStepRefusal, IsUnput, HoldsPart, PutsFile, putting, may_follow_a_write}
 use Rattle.backup_engine.specs.Line.{Ingest}
-use Rattle.backup_engine.specs.Clauses.{TakesIn, IsOpen, IsTakeRefusal, Ingests, IsLeftByIngest, IsKeptByIngest, MayStandFor}
+use Rattle.backup_engine.specs.Clauses.{TakesIn, IsTakeRefusal, Ingests, IsLeftByIngest, IsKeptByIngest, MayStandFor}
 use Rattle.backup_engine.specs.Effects.{KeepsFiles, BlamesNoImage, GaveUp, Leaves}
 use Rattle.backup_engine.proofs.Opened.{Opened, represented, found_valid, holds, is_open}
 

@@ -10,7 +10,7 @@ use Rattle.backup_engine.specs.Line.{Ingest}
 use Rattle.backup_engine.specs.Clauses.{TakesIn}
 use Rattle.backup_engine.specs.Effects.{GaveUp}
 use Rattle.backup_engine.proofs.Opened.{Opened, found_some, found_valid, holds, unopened_harmless}
-use Rattle.backup_engine.proofs.Putting.{Put, put_leaves, put_gave_up, ingests}
+use Rattle.backup_engine.proofs.Putting.{put_leaves, put_gave_up, ingests}
 use Rattle.backup_engine.proofs.Reading.{gave_up_reads, leaves_reads}
 use Rattle.backup_engine.proofs.Taking.{refused_by_source, reads_of_source, source_no_image}
 use Rattle.backup_engine.proofs.ingest.ingest.Goals as goal

@@ -1,0 +1,191 @@
+//! Commands, and calls of the disk, one after another on one disk.
+use crate::containers::header_text;
+use crate::text::Text;
+use crate::words::{Fault, add_piece, bytes_of, number, word_of, words_of};
+use backup_engine::{backup, backup_alone};
+use dd_disk::Disk;
+use dd_io::{MemSink, MemSource};
+use std::alloc::Global;
+
+/// What came of a chain: the answers of its items, parted as they are.
+pub(crate) fn answers_of<D: Disk + Send>(
+    rt: &HostRuntime,
+    disk: &mut D,
+    chain: &str,
+) -> Result<String, Fault> {
+    let mut text = Text::new(rt.alloc());
+    for item in chain.split(" ; ") {
+        text.part_by(" ; ");
+        answer(rt, disk, item, &mut text)?;
+    }
+    Ok(text.whole()?)
+}
+
+/// An item is a call of the disk, or a command.
+fn answer<D: Disk + Send>(
+    rt: &HostRuntime,
+    disk: &mut D,
+    item: &str,
+    text: &mut Text,
+) -> Result<(), Fault> {
+    let alloc = rt.alloc();
+    let words = words_of(alloc, item)?;
+    match words.as_slice() {
+        ["@read", at, count] => {
+            let found = read_part(alloc, disk, number(at)?, number(count)?)?;
+            add_read(text, found);
+        }
+        ["@write", at, bytes @ ..] => {
+            let done = write_part(disk, number(at)?, &bytes_of(alloc, bytes)?)?;
+            text.add(word_for(done));
+        }
+        ["@sync"] => text.add(word_for(disk.sync().is_ok())),
+        ["@calls"] => add_calls(text, disk.moment(), disk.faults()),
+        ["@header", at] => {
+            let found = read_part(alloc, disk, number(at)?, 49_664)?;
+            text.add(header_text(alloc, found)?.as_str());
+        }
+        words => {
+            let run = run_of(alloc, words)?;
+            add_run(rt, disk, run, text);
+        }
+    }
+    Ok(())
+}
+
+fn word_for(done: bool) -> &'static str {
+    if done { "done" } else { "failed" }
+}
+
+/// How many calls a disk has had, and how many of them failed.
+fn add_calls(text: &mut Text, calls: u64, failed: u64) {
+    text.add_number(calls);
+    text.add(" calls ");
+    text.add_number(failed);
+    text.add(" failed");
+}
+
+fn add_read(text: &mut Text, found: Option<Vec<u8>>) {
+    match found {
+        Some(bytes) => text.add_bytes(&bytes),
+        None => text.add(word_for(false)),
+    }
+}
+
+/// Reads bytes of a disk, if the read is done.
+fn read_part<D: Disk>(
+    alloc: Global,
+    disk: &mut D,
+    at: u64,
+    count: u64,
+) -> Result<Option<Vec<u8>>, Fault> {
+    let size = disk.size();
+    if at > size || count > size - at || count > 1_000_000 {
+        return Err(Fault::Place);
+    }
+    let mut bytes = vec![in alloc; 0u8; count as usize]?;
+    if disk.read(at, &mut bytes).is_ok() {
+        Ok(Some(bytes))
+    } else {
+        Ok(None)
+    }
+}
+
+/// Writes bytes to a disk, and says whether that is done.
+fn write_part<D: Disk>(disk: &mut D, at: u64, bytes: &[u8]) -> Result<bool, Fault> {
+    let size = disk.size();
+    if at > size || bytes.len() as u64 > size - at {
+        return Err(Fault::Place);
+    }
+    Ok(disk.write(at, bytes).is_ok())
+}
+
+/// A command with its source, and the calls of its streams that fail.
+#[derive(Drop)]
+struct Run {
+    words: Vec<String>,
+    is_alone: bool,
+    source: Vec<u8>,
+    source_fails: Vec<u64>,
+    sink_fails: Vec<u64>,
+    notes_fails: Vec<u64>,
+}
+
+/// The run that the words of a line stand for: those of the command, `< BYTES` of the source, and `!source=CALL`,
+/// `!sink=CALL` and `!notes=CALL` for calls that fail, and `!alone` for the top call of commands that start no threads.
+fn run_of(alloc: Global, words: &[&str]) -> Result<Run, Fault> {
+    let mut run = Run {
+        words: Vec::new(alloc),
+        is_alone: false,
+        source: Vec::new(alloc),
+        source_fails: Vec::new(alloc),
+        sink_fails: Vec::new(alloc),
+        notes_fails: Vec::new(alloc),
+    };
+    let mut is_source = false;
+    for word in words {
+        if *word == "<" {
+            is_source = true;
+        } else if *word == "!alone" {
+            run.is_alone = true;
+        } else if let Some(script) = word.strip_prefix('!') {
+            add_failing(&mut run, script)?;
+        } else if is_source {
+            add_piece(alloc, word, &mut run.source)?;
+        } else {
+            run.words.push(word_of(alloc, word)?)?;
+        }
+    }
+    Ok(run)
+}
+
+fn add_failing(run: &mut Run, script: &str) -> Result<(), Fault> {
+    let (stream, call) = script.split_once('=').ok_or(Fault::Line)?;
+    let call = number(call)?;
+    match stream {
+        "source" => run.source_fails.push(call)?,
+        "sink" => run.sink_fails.push(call)?,
+        "notes" => run.notes_fails.push(call)?,
+        _ => return Err(Fault::Line),
+    }
+    Ok(())
+}
+
+/// Runs the words over a disk. The answer is the status, then what went to the sink, then the notes.
+fn add_run<D: Disk + Send>(rt: &HostRuntime, disk: &mut D, run: Run, text: &mut Text) {
+    let alloc = rt.alloc();
+    let mut source = MemSource::new(run.source, run.source_fails);
+    let mut sink = MemSink::new(alloc, run.sink_fails);
+    let mut notes = MemSink::new(alloc, run.notes_fails);
+    let status = if run.is_alone {
+        backup_alone(
+            rt,
+            alloc,
+            &run.words,
+            disk,
+            &mut source,
+            &mut sink,
+            &mut notes,
+        )
+    } else {
+        backup(
+            rt,
+            alloc,
+            &run.words,
+            disk,
+            &mut source,
+            &mut sink,
+            &mut notes,
+        )
+    };
+    text.add_number(u64::from(status));
+    add_stream(text, sink.bytes(), status == 0);
+    add_stream(text, notes.bytes(), false);
+}
+
+fn add_stream(text: &mut Text, bytes: &[u8], is_always: bool) {
+    if is_always || !bytes.is_empty() {
+        text.add(" ");
+        text.add_line(bytes);
+    }
+}

@@ -1,0 +1,35 @@
+//! The rows that call a codec.
+use crate::containers::container;
+use crate::cutting::{cut, cutter};
+use crate::nodes::{node, tree, walk};
+use crate::places::index;
+use crate::registry::{names, replay};
+use crate::streams::{sink, size, source};
+use crate::words::{Fault, words_of};
+use std::alloc::Global;
+
+/// What a codec answers to the words behind its name.
+pub(crate) fn codec_answer(alloc: Global, row: &str) -> Result<String, Fault> {
+    let (codec, rest) = row.split_once(' ').unwrap_or((row, ""));
+    match codec {
+        "cutter" => cutter(alloc, rest),
+        "container" => container(alloc, rest),
+        "names" => names(alloc, rest),
+        "replay" => replay(alloc, rest),
+        "index" => index(alloc, rest),
+        "source" => source(alloc, rest),
+        "sink" => sink(alloc, rest),
+        _ => plain_answer(alloc, codec, &words_of(alloc, rest)?),
+    }
+}
+
+fn plain_answer(alloc: Global, codec: &str, words: &[&str]) -> Result<String, Fault> {
+    match codec {
+        "cut" => cut(alloc, words),
+        "node" => node(alloc, words),
+        "tree" => tree(alloc, words),
+        "walk" => walk(alloc, words),
+        "size" => size(alloc, words),
+        _ => Err(Fault::Line),
+    }
+}

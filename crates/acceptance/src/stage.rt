@@ -1,0 +1,283 @@
+//! The disk that a transcript works on.
+use crate::cells::{change, seal};
+use crate::chain::answers_of;
+use crate::text::Text;
+use crate::words::{Fault, add_piece, bytes_of, number, numbers_of, words_of};
+use dd_disk::{Asked, BlindDisk, FileDisk, Fill, MemDisk};
+use std::alloc::Global;
+use std::fs::File;
+use std::io;
+
+/// What stands after a stop where a write was not synced, and how a transcript calls it: what was there, what was written,
+/// and the gates of each kind of cell.
+const FILLS: [(&str, Fill); 7] = [
+    ("old", Fill::Old),
+    ("new", Fill::New),
+    ("00", Fill::Byte(0)),
+    ("a5", Fill::Byte(0xA5)),
+    ("b5", Fill::Byte(0xB5)),
+    ("c5", Fill::Byte(0xC5)),
+    ("d5", Fill::Byte(0xD5)),
+];
+
+/// An image that was saved under a name.
+#[derive(Drop)]
+struct Saved {
+    name: String,
+    bytes: Vec<u8>,
+}
+
+/// The disk, and the images that were saved.
+#[derive(Drop)]
+pub(crate) struct Stage {
+    disk: MemDisk,
+    saved: Vec<Saved>,
+}
+
+/// A disk of these bytes, none of whose calls fails.
+fn disk_of(alloc: Global, bytes: Vec<u8>) -> MemDisk {
+    MemDisk::new(bytes, Vec::new(alloc))
+}
+
+impl Stage {
+    pub(crate) fn new(alloc: Global) -> Stage {
+        Stage {
+            disk: disk_of(alloc, Vec::new(alloc)),
+            saved: Vec::new(alloc),
+        }
+    }
+
+    /// Does what a line without an answer says.
+    pub(crate) fn prepare(&mut self, alloc: Global, line: &str) -> Result<(), Fault> {
+        let words = words_of(alloc, line)?;
+        match words.as_slice() {
+            ["zeros", size] => self.show(zeros(alloc, number(size)?)?),
+            ["disk", bytes @ ..] => self.show(bytes_of(alloc, bytes)?),
+            ["put", at, bytes @ ..] => self.put(alloc, number(at)?, &bytes_of(alloc, bytes)?)?,
+            ["seal", at] => self.seal(alloc, number(at)?)?,
+            ["save", name] => self.save(alloc, name)?,
+            ["load", name] => self.load(name)?,
+            ["again", calls @ ..] => self.again(alloc, numbers_of(alloc, calls)?)?,
+            _ => return Err(Fault::Line),
+        }
+        Ok(())
+    }
+
+    // From here on the disk has these bytes, and its calls are counted anew.
+    fn show(&mut self, bytes: Vec<u8>) {
+        self.disk = disk_of(*bytes.allocator(), bytes);
+    }
+
+    fn put(&mut self, alloc: Global, at: u64, from: &[u8]) -> Result<(), Fault> {
+        let mut bytes = self.disk.bytes().to_vec(alloc)?;
+        change(&mut bytes, at, from)?;
+        self.show(bytes);
+        Ok(())
+    }
+
+    fn seal(&mut self, alloc: Global, at: u64) -> Result<(), Fault> {
+        let mut bytes = self.disk.bytes().to_vec(alloc)?;
+        seal(&mut bytes, at)?;
+        self.show(bytes);
+        Ok(())
+    }
+
+    fn save(&mut self, alloc: Global, name: &str) -> Result<(), Fault> {
+        self.saved.push(Saved {
+            name: name.to_string(alloc)?,
+            bytes: self.disk.bytes().to_vec(alloc)?,
+        })?;
+        Ok(())
+    }
+
+    // From here on the calls of the disk are counted anew, and these fail.
+    fn again(&mut self, alloc: Global, fails: Vec<u64>) -> Result<(), Fault> {
+        self.disk = MemDisk::new(self.disk.bytes().to_vec(alloc)?, fails);
+        Ok(())
+    }
+
+    // The image that was saved last under a name.
+    fn load(&mut self, name: &str) -> Result<(), Fault> {
+        let mut found = None;
+        for saved in &self.saved {
+            if saved.name.as_str() == name {
+                found = Some(saved.bytes.clone()?);
+            }
+        }
+        self.show(found.ok_or(Fault::Place)?);
+        Ok(())
+    }
+
+    /// What a chain answers over the disk, or over another that is made of it for this chain alone.
+    pub(crate) fn answer(
+        &mut self,
+        rt: &HostRuntime,
+        over: &str,
+        chain: &str,
+    ) -> Result<String, Fault> {
+        let alloc = rt.alloc();
+        let words = words_of(alloc, over)?;
+        match words.as_slice() {
+            [] => answers_of(rt, &mut self.disk, chain),
+            ["sealed", at, edits @ ..] => {
+                let mut bytes = self.edited(alloc, number(at)?, edits)?;
+                seal(&mut bytes, number(at)?)?;
+                answers_of(rt, &mut disk_of(alloc, bytes), chain)
+            }
+            ["unsealed", at, edits @ ..] => {
+                let bytes = self.edited(alloc, number(at)?, edits)?;
+                answers_of(rt, &mut disk_of(alloc, bytes), chain)
+            }
+            ["fail", calls @ ..] => {
+                let bytes = self.disk.bytes().to_vec(alloc)?;
+                answers_of(
+                    rt,
+                    &mut MemDisk::new(bytes, numbers_of(alloc, calls)?),
+                    chain,
+                )
+            }
+            ["lie", lies @ ..] => {
+                let bytes = self.disk.bytes().to_vec(alloc)?;
+                answers_of(rt, &mut BlindDisk::new(bytes, lies_of(alloc, lies)?), chain)
+            }
+            ["crash", call] => self.after_stops(rt, number(call)?, chain),
+            ["file", length, size] => over_file(rt, number(length)?, number(size)?, chain),
+            _ => Err(Fault::Line),
+        }
+    }
+
+    // The bytes of the disk, with `OFFSET=BYTES` put over the cell or header at a place.
+    fn edited(&self, alloc: Global, at: u64, edits: &[&str]) -> Result<Vec<u8>, Fault> {
+        let mut bytes = self.disk.bytes().to_vec(alloc)?;
+        for edit in edits {
+            let (offset, from) = edit_of(alloc, edit)?;
+            change(&mut bytes, at.saturating_add(offset), &from)?;
+        }
+        Ok(bytes)
+    }
+
+    // What a chain answers over each image that a stop inside a call of the disk leaves.
+    fn after_stops(&self, rt: &HostRuntime, call: u64, chain: &str) -> Result<String, Fault> {
+        let alloc = rt.alloc();
+        if call == 0 {
+            return Err(Fault::Place);
+        }
+        let mut answers = Vec::new(alloc);
+        for (_name, fill) in FILLS {
+            let image = self.disk.crash_image(alloc, call, fill)?;
+            answers.push(answers_of(rt, &mut disk_of(alloc, image), chain)?)?;
+        }
+        Ok(by_fill(alloc, &answers).whole()?)
+    }
+
+    /// What was asked of the disk in a call.
+    pub(crate) fn call_text(&self, alloc: Global, number: u64) -> Result<String, Fault> {
+        let mut text = Text::new(alloc);
+        for call in self.disk.calls() {
+            if call.number == number {
+                add_asked(&mut text, &call.asked);
+            }
+        }
+        Ok(text.whole()?)
+    }
+}
+
+fn zeros(alloc: Global, size: u64) -> Result<Vec<u8>, Fault> {
+    if size > 100_000_000 {
+        return Err(Fault::Place);
+    }
+    Ok(vec![in alloc; 0u8; size as usize]?)
+}
+
+fn edit_of(alloc: Global, edit: &str) -> Result<(u64, Vec<u8>), Fault> {
+    let (offset, piece) = edit.split_once('=').ok_or(Fault::Line)?;
+    let mut bytes = Vec::new(alloc);
+    add_piece(alloc, piece, &mut bytes)?;
+    Ok((number(offset)?, bytes))
+}
+
+// `PLACE=BYTE` each: what reads give there.
+fn lies_of(alloc: Global, words: &[&str]) -> Result<Vec<(u64, u8)>, Fault> {
+    let mut lies = Vec::new(alloc);
+    for word in words {
+        let (place, bytes) = edit_of(alloc, word)?;
+        for byte in &bytes {
+            lies.push((place, *byte))?;
+        }
+    }
+    Ok(lies)
+}
+
+// The answers, each once, behind the names of the fills that have it.
+fn by_fill(alloc: Global, answers: &[String]) -> Text {
+    let mut text = Text::new(alloc);
+    for (i, answer) in answers.iter().enumerate() {
+        if first_of(answers, answer.as_str()) == i {
+            text.part_by(" | ");
+            add_fills(&mut text, answers, answer.as_str());
+            text.add(answer.as_str());
+        }
+    }
+    text
+}
+
+// Where an answer stands first.
+fn first_of(answers: &[String], answer: &str) -> usize {
+    for (i, other) in answers.iter().enumerate() {
+        if other.as_str() == answer {
+            return i;
+        }
+    }
+    answers.len()
+}
+
+// The names of the fills that have an answer, or `each`.
+fn add_fills(text: &mut Text, answers: &[String], answer: &str) {
+    let mut names = Text::new(text.alloc());
+    let mut is_each = true;
+    for ((name, _fill), other) in FILLS.iter().zip(answers) {
+        if other.as_str() == answer {
+            names.part_by(" ");
+            names.add(name);
+        } else {
+            is_each = false;
+        }
+    }
+    text.add(if is_each { "each" } else { names.as_str() });
+    text.add(": ");
+}
+
+fn add_asked(text: &mut Text, asked: &Asked) {
+    match asked {
+        Asked::Read(at, count) => add_range(text, "read", *at, *count),
+        Asked::Write(at, bytes) => add_range(text, "write", *at, bytes.len() as u64),
+        Asked::Sync => text.add("sync"),
+    }
+}
+
+fn add_range(text: &mut Text, word: &str, at: u64, count: u64) {
+    text.add(word);
+    text.add(" ");
+    text.add_number(at);
+    text.add(" ");
+    text.add_number(count);
+}
+
+// What a chain answers over a file of so many zeros, as a disk of this size.
+fn over_file(rt: &HostRuntime, length: u64, size: u64, chain: &str) -> Result<String, Fault> {
+    let Ok(file) = file_of(rt, length) else {
+        return Err(Fault::File);
+    };
+    answers_of(rt, &mut FileDisk::new(file, size), chain)
+}
+
+fn file_of(rt: &HostRuntime, length: u64) -> io::Result<File> {
+    let file = File::options()
+        .read(true)
+        .write(true)
+        .create(true)
+        .truncate(true)
+        .open(rt, "disk.img")?;
+    file.set_len(length)?;
+    Ok(file)
+}

@@ -1,0 +1,178 @@
+//! Transcripts: their lines, and what is reported of them.
+use crate::codecs::codec_answer;
+use crate::stage::Stage;
+use crate::words::{Fault, number};
+use std::alloc::{AllocError, Global};
+use std::io;
+
+/// A text, and the mark `{NAME}` that stands for it.
+#[derive(Drop)]
+struct Name {
+    mark: String,
+    text: String,
+}
+
+/// What transcripts work on, one after another: a stage, and the names that stand for texts. It counts the rows that were
+/// run, and what failed.
+#[derive(Drop)]
+pub(crate) struct Suite {
+    stage: Stage,
+    names: Vec<Name>,
+    pub(crate) rows: u64,
+    pub(crate) failed: u64,
+}
+
+impl Suite {
+    pub(crate) fn new(alloc: Global) -> Suite {
+        Suite {
+            stage: Stage::new(alloc),
+            names: Vec::new(alloc),
+            rows: 0,
+            failed: 0,
+        }
+    }
+
+    /// Goes through a transcript. A line that begins with a space goes on with the one before it.
+    pub(crate) fn run(&mut self, rt: &HostRuntime, text: &str) -> io::Result<()> {
+        let mut line = String::new(rt.alloc());
+        for next in text.lines() {
+            if next.starts_with(' ') {
+                line.push_str(" ")?;
+                line.push_str(next.trim())?;
+            } else {
+                self.run_line(rt, line.as_str())?;
+                line.clear();
+                line.push_str(next)?;
+            }
+        }
+        self.run_line(rt, line.as_str())
+    }
+
+    fn run_line(&mut self, rt: &HostRuntime, line: &str) -> io::Result<()> {
+        if let Some(title) = line.strip_prefix("## ") {
+            return println!(rt; "\n{title}");
+        }
+        if line.is_empty() || line.starts_with('#') {
+            return Ok(());
+        }
+        let line = expanded(rt.alloc(), line, &self.names)?;
+        self.follow(rt, line.as_str())
+    }
+
+    // Does what a line says: a name, a row, or what is to be done before rows.
+    fn follow(&mut self, rt: &HostRuntime, line: &str) -> io::Result<()> {
+        if let Some(words) = line.strip_prefix("let ") {
+            return Ok(self.add_name(rt.alloc(), words)?);
+        }
+        if let Some((row, wanted)) = line.split_once(" => ") {
+            return self.run_rows(rt, row, wanted);
+        }
+        match self.stage.prepare(rt.alloc(), line) {
+            Ok(()) => Ok(()),
+            Err(fault) => {
+                self.failed = self.failed.saturating_add(1);
+                println!(rt; "FAILED {line}\n  {}", fault.text())
+            }
+        }
+    }
+
+    // `NAME TEXT`, or `NAME TEXT*COUNT` for a text so many times.
+    fn add_name(&mut self, alloc: Global, words: &str) -> Result<(), AllocError> {
+        let (name, value) = words.split_once(' ').unwrap_or((words, ""));
+        let (piece, count) = value.split_once('*').unwrap_or((value, "1"));
+        let mut text = String::new(alloc);
+        for _ in 0..number(count).unwrap_or(1) {
+            text.push_str(piece)?;
+        }
+        self.names.push(Name {
+            mark: format!(in alloc; "{{{name}}}")?,
+            text,
+        })?;
+        Ok(())
+    }
+
+    // A row, or with `many FROM TO` before it a row for each number, which stands where `#` is.
+    fn run_rows(&mut self, rt: &HostRuntime, row: &str, wanted: &str) -> io::Result<()> {
+        let failed = self.failed;
+        match span_of(row) {
+            Some((from, to, each)) => {
+                for number in from..=to {
+                    self.run_numbered(rt, number, each, wanted)?;
+                }
+            }
+            None => self.run_row(rt, row, wanted)?,
+        }
+        if self.failed == failed {
+            println!(rt; "ok {}", front_of(row))?;
+        }
+        Ok(())
+    }
+
+    fn run_numbered(
+        &mut self,
+        rt: &HostRuntime,
+        number: u64,
+        row: &str,
+        wanted: &str,
+    ) -> io::Result<()> {
+        let alloc = rt.alloc();
+        let digits = format!(in alloc; "{number}")?;
+        let row = row.replace(alloc, "#", digits.as_str())?;
+        let wanted = wanted.replace(alloc, "#", digits.as_str())?;
+        self.run_row(rt, row.as_str(), wanted.as_str())
+    }
+
+    // Runs a row. One of stops is a row for each of the seven fills.
+    fn run_row(&mut self, rt: &HostRuntime, row: &str, wanted: &str) -> io::Result<()> {
+        let count = if row.starts_with("crash") { 7 } else { 1 };
+        self.rows = self.rows.saturating_add(count);
+        let found = match self.answer(rt, row) {
+            Ok(found) => found,
+            Err(fault) => fault.text().to_string(rt.alloc())?,
+        };
+        if found.as_str() != wanted {
+            self.failed = self.failed.saturating_add(1);
+            println!(rt; "FAILED {row}\n  wanted {wanted}\n  found  {found}")?;
+        }
+        Ok(())
+    }
+
+    fn answer(&mut self, rt: &HostRuntime, row: &str) -> Result<String, Fault> {
+        if let Some(call) = row.strip_prefix("call ") {
+            return self.stage.call_text(rt.alloc(), number(call)?);
+        }
+        match row.split_once('$') {
+            Some((over, chain)) => self.stage.answer(rt, over, chain),
+            None => codec_answer(rt.alloc(), row),
+        }
+    }
+}
+
+// A line, with `{NAME}` replaced by what the name stands for.
+fn expanded(alloc: Global, line: &str, names: &[Name]) -> Result<String, AllocError> {
+    let mut line = line.to_string(alloc)?;
+    for name in names {
+        if line.contains('{') {
+            line = line.replace(alloc, name.mark.as_str(), name.text.as_str())?;
+        }
+    }
+    Ok(line)
+}
+
+// The numbers of `many FROM TO`, and the row behind them.
+fn span_of(row: &str) -> Option<(u64, u64, &str)> {
+    let (from, rest) = row.strip_prefix("many ")?.split_once(' ')?;
+    let (to, each) = rest.split_once(' ')?;
+    match (number(from), number(to)) {
+        (Ok(from), Ok(to)) => Some((from, to, each)),
+        _ => None,
+    }
+}
+
+// The front of a row, as much as the report shows.
+fn front_of(row: &str) -> &str {
+    match row.char_indices().nth(100) {
+        Some((end, _)) => row.get(..end).unwrap_or(row),
+        None => row,
+    }
+}

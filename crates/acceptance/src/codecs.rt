@@ -8,7 +8,7 @@ use crate::streams::{sink, size, source};
 use crate::words::{Fault, words_of};
 use std::alloc::Global;
 
-/// What a codec answers to the words behind its name.
+/// What a codec answers to the words after its name.
 pub(crate) fn codec_answer(alloc: Global, row: &str) -> Result<String, Fault> {
     let (codec, rest) = row.split_once(' ').unwrap_or((row, ""));
     match codec {

@@ -1,5 +1,5 @@
 //! Runs transcripts: lines that make disks, break them and run commands over them, and calls of codecs. Each row has what
-//! is to come of it behind `=>`. Standard input names the files, one a line; docs/FORMAT.md is what the rows are written from.
+//! is to come of it after `=>`. Standard input names the files, one a line; docs/FORMAT.md is what the rows are written from.
 #![tactic(auto)]
 
 mod cells;

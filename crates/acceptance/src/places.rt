@@ -4,7 +4,7 @@ use crate::words::{Fault, byte_of, words_of};
 use segment_index::{Key, MapIndex, Place};
 use std::alloc::Global;
 
-/// Calls of an index in memory. A key is `KIND BYTE`, 32 times that byte behind its kind; a place is a slot.
+/// Calls of an index in memory. A key is `KIND BYTE`, 32 times that byte after its kind; a place is a slot.
 pub(crate) fn index(alloc: Global, chain: &str) -> Result<String, Fault> {
     let mut index = MapIndex::new(alloc);
     let mut text = Text::new(alloc);

@@ -208,7 +208,7 @@ fn lies_of(alloc: Global, words: &[&str]) -> Result<Vec<(u64, u8)>, Fault> {
     Ok(lies)
 }
 
-// The answers, each once, behind the names of the fills that have it.
+// The answers, each once, after the names of the fills that have it.
 fn by_fill(alloc: Global, answers: &[String]) -> Text {
     let mut text = Text::new(alloc);
     for (i, answer) in answers.iter().enumerate() {

@@ -42,7 +42,7 @@ impl Text {
         }
     }
 
-    /// Begins a part behind the parts that are there.
+    /// Begins a part after the parts that are there.
     pub(crate) fn part_by(&mut self, mark: &str) {
         if !self.text.is_empty() {
             self.add(mark);

@@ -159,7 +159,7 @@ fn expanded(alloc: Global, line: &str, names: &[Name]) -> Result<String, AllocEr
     Ok(line)
 }
 
-// The numbers of `many FROM TO`, and the row behind them.
+// The numbers of `many FROM TO`, and the row after them.
 fn span_of(row: &str) -> Option<(u64, u64, &str)> {
     let (from, rest) = row.strip_prefix("many ")?.split_once(' ')?;
     let (to, each) = rest.split_once(' ')?;

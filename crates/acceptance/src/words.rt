@@ -79,7 +79,7 @@ pub(crate) fn bytes_of(alloc: Global, words: &[&str]) -> Result<Vec<u8>, Fault> 
     Ok(bytes)
 }
 
-/// Adds a piece of bytes: hex digits, or text in quotes, or `noise`; with `*COUNT` behind it so many times, or of noise
+/// Adds a piece of bytes: hex digits, or text in quotes, or `noise`; with `*COUNT` after it so many times, or of noise
 /// so many bytes.
 pub(crate) fn add_piece(alloc: Global, word: &str, bytes: &mut Vec<u8>) -> Result<(), Fault> {
     let (piece, count) = match word.split_once('*') {

@@ -1,5 +1,5 @@
 -- What `format` leaves where it is refused.
-use Rattle.std.proofs.Common.{◌≡◌, ◌≢◌, ◌⊎◌, inl, false, refl, ◌∙◌, ap, subst, Option, List, ℕ}
+use Rattle.std.proofs.Common.{◌≡◌, ◌≢◌, ◌⊎◌, false, refl, ◌∙◌, ap, subst, Option, List, ℕ}
 use Rattle.base_model.specs.Bytes.{byte_at}
 use Rattle.base_model.specs.Known.{Known, KnownWith}
 use Rattle.dd_disk.specs.View.{DiskView, OnlyReads, CrashLeaves}

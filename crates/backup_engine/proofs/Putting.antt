@@ -6,7 +6,7 @@ use Rattle.dd_disk.specs.Ending as disk
 use Rattle.dd_disk.specs.Ending.{ending_of}
 use Rattle.dd_disk.specs.Shows.{Shows}
 use Rattle.dd_disk.specs.Moves as moves
-use Rattle.dd_disk.specs.Moves.{Way, Arrives, Moved, Moves, Calls}
+use Rattle.dd_disk.specs.Moves.{Way, Arrives, Moved, Calls}
 use Rattle.dd_disk.proofs.Ended.{counts_on}
 use Rattle.dd_disk.proofs.Later.{later_on, leaves_on, reads_leave}
 use Rattle.dd_disk.proofs.Moves.{stands_durable}
@@ -23,10 +23,9 @@ use Rattle.store_model.proofs.Placed.{last_same}
 use Rattle.store_model.proofs.Put.{last_put}
 use Rattle.store_state.specs.declared.open_store.OpenStore.{OpenStore}
 use Rattle.store_state.specs.Refused.{blames}
-use Rattle.store_state.specs.State.{Represents}
-use Rattle.ingest_steps.specs.Steps.{IsStepRefusal, IsUnput, HoldsPart, putting, may_follow_a_write}
+use Rattle.ingest_steps.specs.Steps.{IsStepRefusal, IsUnput, HoldsPart, PutsFile, putting, may_follow_a_write}
 use Rattle.backup_engine.specs.Line.{Ingest}
-use Rattle.backup_engine.specs.Clauses.{TakesIn, IsOpen, IsTakeRefusal, Ingests, IsLeftByIngest, IsKeptByIngest, MayStandFor}
+use Rattle.backup_engine.specs.Clauses.{TakesIn, IsTakeRefusal, Ingests, IsLeftByIngest, IsKeptByIngest, MayStandFor}
 use Rattle.backup_engine.specs.Effects.{KeepsFiles, BlamesNoImage, GaveUp, Leaves}
 use Rattle.backup_engine.proofs.Opened.{Opened, represented, found_valid, holds, is_open}
 
@@ -59,7 +58,7 @@ arrives_kept way refusal old new other arrives = arrives
 
 -- what `put_file` promises of a store that was opened
 pub record Put (name bytes : List ℕ) (o : OpenStore) (e : disk.Ending) (mid new : DiskView) : Type 0 where
-  pub moves : (given : List ℕ) (store : Store) (files : Files) → Represents store o → Moves (putting given name bytes store files) e mid new
+  pub puts : PutsFile o name bytes e mid new
   pub calls : Calls e mid new
 
 module _ (name bytes : List ℕ) (left : Option (List ℕ)) (o : OpenStore) (old mid new : DiskView) (was : Opened old mid o) (taken : TakesIn left bytes) (e : disk.Ending) (put : Put name bytes o e mid new) where
@@ -72,7 +71,7 @@ module _ (name bytes : List ℕ) (left : Option (List ℕ)) (o : OpenStore) (old
 
   module _ (given : List ℕ) (known : old.content ≡ Some given) (store : Store) (files : Files) (holding : IsStoreOf given store files) where
     moved : Moved (putting given name bytes store files) e mid new
-    moved = put.moves given store files (represented old mid o was given known store holding.right)
+    moved = put.puts.moves given store files (represented old mid o was given known store holding.right)
         (stands_durable _ mid given was.durable (was.reads.only.content_is ∙ known) (holding, λ apart. apart))
 
   put_left : Known old.content (λ given. KnownWith new.content (IsLeftByIngest name left given))
@@ -137,11 +136,21 @@ module _ (name bytes : List ℕ) (source source_now : SourceView) (o : OpenStore
 
   put_kept : refusal ≢ DiskWrite → Known old.content (λ given. KnownWith new.content (IsKeptByIngest source.left given))
   put_kept other given known =
-      let end = now name bytes source.left o old mid new was taken _ put given known in
-      (end.0, end.1, inr (is_open old mid o was given known, (bytes, taken, λ store files holding. elim (arrived_kept other given known store files holding) [
-        | inl reads ↦ inl (some_same end.0 given (sym end.1 ∙ reads.content_is ∙ was.reads.only.content_is ∙ known))
-        | inr rests ↦ inr (rests.each end.0 (new.as_read end.0 end.1))
-      ])))
+      let end = now name bytes source.left o old mid new was taken _ put given known in (
+        end.0,
+        end.1,
+        inr (
+          is_open old mid o was given known,
+          (
+            bytes,
+            taken,
+            λ store files holding. elim (arrived_kept other given known store files holding) [
+              | inl reads ↦ inl (some_same end.0 given (sym end.1 ∙ reads.content_is ∙ was.reads.only.content_is ∙ known))
+              | inr rests ↦ inr (rests.each end.0 (new.as_read end.0 end.1))
+            ],
+          ),
+        ),
+      )
 
   put_files : refusal ≢ DiskWrite → Known old.content (λ _. KeepsFiles (Ingest name) old.images new.images)
   put_files other given known = λ files stand c image.

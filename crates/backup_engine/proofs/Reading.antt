@@ -1,5 +1,5 @@
 -- What a command leaves that did no more than read.
-use Rattle.std.proofs.Common.{◌≡◌, ◌⊎◌, inl, inr, List, ℕ, Option, refl, ◌∙◌}
+use Rattle.std.proofs.Common.{◌⊎◌, inl, List, ℕ, Option, refl, ◌∙◌}
 use Rattle.base_model.specs.Known.{Known}
 use Rattle.dd_disk.specs.View.{DiskView, OnlyReads, CrashLeaves}
 use Rattle.dd_disk.specs.Ending.{Reads, ending_of}

@@ -1,8 +1,7 @@
 -- What `restore` answers, and why it is refused.
-use Rattle.std.proofs.Common.{◌≡◌, ◌≢◌, inl, inr, ℕ, ◌+◌, List, length, Some, None, sym, ◌∙◌, ap}
+use Rattle.std.proofs.Common.{◌≡◌, ◌≢◌, inl, inr, ℕ, ◌+◌, List, length, Some, sym, ◌∙◌, ap}
 use Rattle.sha2.specs.Sha256.{sha256}
 use Rattle.base_model.specs.Bytes.{range}
-use Rattle.base_model.specs.Known.{Known}
 use Rattle.disk_format.specs.Layout.{data_at}
 use Rattle.disk_format.specs.Cells.{Root, IsName}
 use Rattle.disk_format.specs.declared.why.Why.TheVariants.{Digest, Field}
@@ -13,11 +12,11 @@ use Rattle.dd_disk.proofs.Ended.{reads_then}
 use Rattle.dd_disk.proofs.Later.{later_here}
 use Rattle.dd_disk.proofs.Shows.{weaker, since, both, shown_content}
 use Rattle.refusals.specs.declared.refusal.Refusal.{Refusal}
-use Rattle.refusals.specs.declared.refusal.Refusal.TheVariants.{Memory, NoFile, BadName, DiskRead, Corrupt, Missing, NotAStore, Version, Damaged}
+use Rattle.refusals.specs.declared.refusal.Refusal.TheVariants.{Memory, NoFile, BadName, DiskRead, Corrupt, Missing, Damaged}
 use Rattle.reply_text.specs.declared.ending.Ending.TheVariants.{Refused}
 use Rattle.store_model.specs.Files.{Files}
 use Rattle.store_model.specs.Slots.{Copy}
-use Rattle.store_model.specs.Image.{Store, Encodes, IsStoreOf, HasCopy, StandsForFiles, bytes_at}
+use Rattle.store_model.specs.Image.{Store, IsStoreOf, HasCopy, bytes_at}
 use Rattle.store_model.specs.Commands.{HoldsOpenableStore, copy_of}
 use Rattle.store_model.specs.Refusals.{FitsRoot, HasRoot, IsRootRefusal, WereFound, HasFound, AreBytesOf, root_key}
 use Rattle.store_model.proofs.Copies.{some_same}
@@ -26,10 +25,9 @@ use Rattle.store_state.specs.declared.open_store.OpenStore.{OpenStore}
 use Rattle.store_state.specs.Refused.{blames}
 use Rattle.store_state.specs.State.{Represents, RepresentsNames}
 use Rattle.read_steps.specs.Reading.{IsNameRefusal, IsUnread, IsFileRefusal}
-use Rattle.backup_engine.specs.Line.{Restore}
 use Rattle.backup_engine.specs.Clauses.{IsReadRefusal, Restores}
 use Rattle.backup_engine.specs.Effects.{BlamesNoImage}
-use Rattle.backup_engine.proofs.Opened.{Opened, represented, holds, is_open}
+use Rattle.backup_engine.proofs.Opened.{Opened, represented, holds}
 
 -- ---- why it is refused
 
@@ -67,9 +65,15 @@ module _ (old mid new : DiskView) (o : OpenStore) (was : Opened old mid o) (late
       → IsName name × ((r : Root) × FitsRoot r refusal × HasFound (Shows old new) r refusal × Shows old new (HoldsOpenableStore (λ store. HasRoot name r store × IsRootRefusal r store refusal)))
   unread refusal wrong =
       let store = was.opened.found.store in
-      let represents = was.opened.found.represents in
-      (good, (root, wrong.fits, found_since old mid new root refusal was.reads wrong.found,
-      holds old mid o was new (λ s image. HasRoot name root s × IsRootRefusal root s refusal) later (λ image. (has store represents.journal, wrong.held store represents))))
+      let represents = was.opened.found.represents in (
+        good,
+        (
+          root,
+          wrong.fits,
+          found_since old mid new root refusal was.reads wrong.found,
+          holds old mid o was new (λ s image. HasRoot name root s × IsRootRefusal root s refusal) later (λ image. (has store represents.journal, wrong.held store represents)),
+        ),
+      )
 
   pub refused_by_root : (refusal : Refusal) → IsFileRefusal (Shows mid new) o root refusal → IsReadRefusal (Shows old new) name refusal
   refused_by_root Memory wrong = tt

@@ -4,6 +4,7 @@ use Rattle.std.specs.List.{list_all}
 use Rattle.std.specs.Char.{is_ascii_digit}
 use Rattle.std.specs.Str.{bytes_eq}
 use Rattle.std.specs.Str.Parse.{digits_value}
+use Rattle.disk_format.specs.declared.numbers.TheConstants.{LEAST_SLOTS, MOST_SLOTS}
 
 pub data CommandLine : Type 0 where
   Format : (slots : ℕ) → CommandLine
@@ -19,7 +20,7 @@ is_dashed (first ∷ second ∷ rest) = first == 45
 abbrev pub is_separator : List ℕ → Bool
 is_separator word = bytes_eq word (codes "--")
 
--- The one argument of a command. One that begins with a dash stands behind `--`.
+-- The one argument of a command. One that begins with a dash stands after `--`.
 abbrev pub argument_of : List (List ℕ) → Option (List ℕ)
 argument_of [] = None
 argument_of (word ∷ []) = if is_dashed word then None else Some word
@@ -45,7 +46,8 @@ is_number word = all_digits word && begins_as_number word
 -- how many slots a word stands for, 4 to 65,536
 abbrev pub slots_of : List ℕ → Option ℕ
 slots_of word =
-    if is_number word && nat_le 4 (digits_value 10 word) && nat_le (digits_value 10 word) 65536 then Some (digits_value 10 word) else None
+    if is_number word && nat_le LEAST_SLOTS (digits_value 10 word) && nat_le (digits_value 10 word) MOST_SLOTS
+    then Some (digits_value 10 word) else None
 
 abbrev pub command_of : List ℕ → List ℕ → Option CommandLine
 command_of command argument =

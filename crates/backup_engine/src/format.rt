@@ -12,8 +12,10 @@ use std::alloc::Global;
 /// Makes an empty store of so many slots, on a disk of their size that has none, and gives the reply.
 pub(crate) fn format<D: Disk>(alloc: Global, disk: &mut D, slots: u32) -> Result<Vec<u8>, Ending>
     requires { IsSlotCount slots }
-    ensures did { IfOk result (λ reply. (left : Option (List ℕ)) → Did (Format slots) left (D.view disk.old) (D.view disk.new) reply.items) }
-    ensures gave_up { IfErr result (λ ending. (source : SourceView) → GaveUp (Format slots) source source (D.view disk.old) (D.view disk.new) ending) }
+    ensures did { IfOk result (λ reply. (left : Option (List ℕ))
+        → Did (Format slots) left (D.view disk.old) (D.view disk.new) reply.items) }
+    ensures gave_up { IfErr result (λ ending. (source : SourceView)
+        → GaveUp (Format slots) source source (D.view disk.old) (D.view disk.new) ending) }
     ensures leaves { (left : Option (List ℕ)) → Leaves (Format slots) left (D.view disk.old) (D.view disk.new) }
 {
     // Its memory is taken before the first write.

@@ -13,8 +13,10 @@ use std::alloc::Global;
 
 /// The bytes of the file of a name.
 pub(crate) fn restore<D: Disk>(alloc: Global, disk: &mut D, name: &str) -> Result<Vec<u8>, Ending>
-    ensures did { IfOk result (λ bytes. (left : Option (List ℕ)) → Did (Restore name.now) left (D.view disk.old) (D.view disk.new) bytes.items) }
-    ensures gave_up { IfErr result (λ ending. (source : SourceView) → GaveUp (Restore name.now) source source (D.view disk.old) (D.view disk.new) ending) }
+    ensures did { IfOk result (λ bytes. (left : Option (List ℕ))
+        → Did (Restore name.now) left (D.view disk.old) (D.view disk.new) bytes.items) }
+    ensures gave_up { IfErr result (λ ending. (source : SourceView)
+        → GaveUp (Restore name.now) source source (D.view disk.old) (D.view disk.new) ending) }
     ensures reads { OnlyReads (D.view disk.old) (D.view disk.new) }
 {
     let opened = open(alloc, disk)?;

@@ -34,7 +34,8 @@ pub fn backup<R, D: Disk + Send, S: Source, K: Sink, Q: Sink>(
 ) -> u8
     ensures promise { Promise (line_of (map string_bytes words.now)) result (D.view disk.old) (D.view disk.new)
         (S.view source.old) (S.view source.new) (K.view sink.old) (K.view sink.new) (Q.view notes.old) (Q.view notes.new) }
-    ensures crash { SurvivesCrash (line_of (map string_bytes words.now)) result (S.view source.old).left (D.view disk.old) (D.view disk.new) }
+    ensures crash { SurvivesCrash (line_of (map string_bytes words.now)) result
+        (S.view source.old).left (D.view disk.old) (D.view disk.new) }
     ensures later { IsLater (D.view disk.old) (D.view disk.new) }
 {
     backup_alone(rt, alloc, words, disk, source, sink, notes)
@@ -52,7 +53,8 @@ pub fn backup_alone<R, D: Disk + Send, S: Source, K: Sink, Q: Sink>(
 ) -> u8
     ensures promise { Promise (line_of (map string_bytes words.now)) result (D.view disk.old) (D.view disk.new)
         (S.view source.old) (S.view source.new) (K.view sink.old) (K.view sink.new) (Q.view notes.old) (Q.view notes.new) }
-    ensures crash { SurvivesCrash (line_of (map string_bytes words.now)) result (S.view source.old).left (D.view disk.old) (D.view disk.new) }
+    ensures crash { SurvivesCrash (line_of (map string_bytes words.now)) result
+        (S.view source.old).left (D.view disk.old) (D.view disk.new) }
     ensures later { IsLater (D.view disk.old) (D.view disk.new) }
 {
     let Some(line) = read_words(words) else {
@@ -85,8 +87,10 @@ fn run_line<D: Disk, S: Source>(
     source: &mut S,
 ) -> Result<Vec<u8>, Ending>
     requires { IsRightLine line.now }
-    ensures did { IfOk result (λ reply. Did (line_value line.now) (S.view source.old).left (D.view disk.old) (D.view disk.new) reply.items) }
-    ensures gave_up { IfErr result (GaveUp (line_value line.now) (S.view source.old) (S.view source.new) (D.view disk.old) (D.view disk.new)) }
+    ensures did { IfOk result (λ reply.
+        Did (line_value line.now) (S.view source.old).left (D.view disk.old) (D.view disk.new) reply.items) }
+    ensures gave_up { IfErr result (GaveUp (line_value line.now)
+        (S.view source.old) (S.view source.new) (D.view disk.old) (D.view disk.new)) }
     ensures leaves { Leaves (line_value line.now) (S.view source.old).left (D.view disk.old) (D.view disk.new) }
     ensures source { KeepsSource (line_value line.now) (S.view source.old) (S.view source.new) }
 {

@@ -40,7 +40,7 @@ fn table_line<'a>(command: &str, argument: &'a str) -> Option<Line<'a>>
     }
 }
 
-// The one argument of a command. One that begins with a dash stands behind `--`.
+// The one argument of a command. One that begins with a dash stands after `--`.
 fn only_argument(words: &[String]) -> Option<&str>
     ensures { option_map (λ word. word.now) result ≡ argument_of (map string_bytes words.now) }
 {

@@ -8,14 +8,18 @@ use std::env;
 use std::fs::{self, File, OpenOptions};
 use std::io::{self, ErrorKind, Write};
 use std::process::ExitCode;
+use thiserror::Error;
 
-/// Why the program ends before a command runs.
-#[derive(Clone, Copy)]
+/// Why the program ends before a command runs. The texts are lines of the notes.
+#[derive(Clone, Copy, Debug, Error)]
 enum Failure {
     /// The words of the command line have no file, or can't be read.
+    #[error("fault words")]
     Words,
-    /// The file can't be opened, or made.
+    /// The file can't be opened, made or locked: another run may have it.
+    #[error("fault file")]
     File,
+    #[error("fault 1 memory")]
     Memory,
 }
 
@@ -27,14 +31,6 @@ impl Failure {
             Failure::Memory => 1,
         }
     }
-
-    fn text(&self) -> &'static str {
-        match self {
-            Failure::Words => "fault words",
-            Failure::File => "fault file",
-            Failure::Memory => "fault 1 memory",
-        }
-    }
 }
 
 fn main(rt: HostRuntime) -> ExitCode {
@@ -42,7 +38,7 @@ fn main(rt: HostRuntime) -> ExitCode {
         Ok(status) => status,
         Err(failure) => {
             // A failure of standard error changes no status.
-            let _written = eprintln!(rt; "{}", failure.text());
+            let _written = eprintln!(rt; "{failure}");
             failure.status()
         }
     };
@@ -78,11 +74,13 @@ fn hold_streams(rt: &HostRuntime) -> Result<[File; 3], Failure> {
     Ok([hold()?, hold()?, hold()?])
 }
 
-// The disk's file. One that is missing is made for a `format` alone, with the size that it wants.
+// The disk's file, which no other run has from here to its end. One that is missing is made for a `format` alone, with
+// the size that it wants.
 fn open_disk(rt: &HostRuntime, path: &str, command: &[String]) -> Result<FileDisk, Failure> {
     let made = size_of_format(rt.alloc(), command).map_err(|_| Failure::Memory)?;
     match OpenOptions::new().read(true).write(true).open(rt, path) {
         Ok(file) => {
+            lock(&file)?;
             let size = file.metadata().map_err(failure_of)?.len();
             Ok(FileDisk::new(file, size))
         }
@@ -93,7 +91,8 @@ fn open_disk(rt: &HostRuntime, path: &str, command: &[String]) -> Result<FileDis
     }
 }
 
-// A new file of so many zero bytes.
+// A new file of so many zero bytes. One that can't be locked and sized is removed again: of another size it would never
+// become a store.
 fn make_disk(rt: &HostRuntime, path: &str, size: u64) -> Result<FileDisk, Failure> {
     let file = OpenOptions::new()
         .read(true)
@@ -101,12 +100,25 @@ fn make_disk(rt: &HostRuntime, path: &str, size: u64) -> Result<FileDisk, Failur
         .create_new(true)
         .open(rt, path)
         .map_err(failure_of)?;
-    if let Err(error) = file.set_len(size) {
-        // A file of another size would never become a store.
-        let _removed = fs::remove_file(rt, path);
-        return Err(failure_of(error));
+    match lock_and_size(&file, size) {
+        Ok(()) => Ok(FileDisk::new(file, size)),
+        Err(failure) => {
+            let _removed = fs::remove_file(rt, path);
+            Err(failure)
+        }
     }
-    Ok(FileDisk::new(file, size))
+}
+
+fn lock_and_size(file: &File, size: u64) -> Result<(), Failure> {
+    lock(file)?;
+    file.set_len(size).map_err(failure_of)
+}
+
+// Two runs on one image would overwrite each other's work. The lock goes with the open file, so no run leaves one
+// behind, however it ends. It is not waited for: the run that has it may wait for its source.
+fn lock(file: &File) -> Result<(), Failure> {
+    file.try_lock()
+        .map_err(|error| failure_of(io::Error::from(error)))
 }
 
 fn failure_of(error: io::Error) -> Failure {

@@ -1,6 +1,6 @@
 -- What a write changes nothing of.
 use Rattle.std.proofs.Common.{◌≡◌, ℕ, ◌+◌, ◌<◌, ◌≤◌, List, length, arith}
-use Rattle.base_model.specs.Bytes.{range, written, byte_at}
+use Rattle.base_model.specs.Bytes.{written, byte_at}
 use Rattle.base_model.specs.Frames.{SameOutside}
 use Rattle.base_model.proofs.Ranges.{length-written, range-written-before, range-written-after}
 use Rattle.base_model.proofs.ByteAt.{byte_of_range}

@@ -2,8 +2,8 @@
 -- digest than it says.
 use Rattle.std.proofs.Common.{◌≡◌, ◌≢◌, ℕ, zero, suc, List, [], ◌∷◌, ◌++◌, length, Some, None, Err}
 use Rattle.base_model.specs.Bytes.{range}
-use Rattle.base_model.specs.Checks.{behind}
-use Rattle.base_model.proofs.Checks.{behind_err, step_err, unequal}
+use Rattle.base_model.specs.Checks.{checked}
+use Rattle.base_model.proofs.Checks.{checked_err, step_err, unequal}
 use Rattle.container_meta.specs.declared.kind.Kind.{Kind}
 use Rattle.container_meta.specs.declared.entry.Entry.{Entry}
 use Rattle.container_meta.specs.declared.fault.MetaFault.{MetaFault}
@@ -27,18 +27,18 @@ entries_differ kind data_length zero before bytes fault e = absurd cc
 entries_differ kind data_length (suc after) before bytes fault e =
     let checks = entry_checks kind data_length after before (entry_place (length before)) bytes in
     let entry = entry_at (entry_place (length before)) bytes in
-    step_err FaultDiffers (behind checks entry) (λ x. entries_at kind data_length after (before ++ x ∷ []) bytes) fault
-    (behind_err FaultDiffers checks entry fault (λ h. tt, (λ h. tt, (λ h. tt, (λ h. tt, (λ h. tt, tt))))))
+    step_err FaultDiffers (checked checks entry) (λ x. entries_at kind data_length after (before ++ x ∷ []) bytes) fault
+    (checked_err FaultDiffers checks entry fault (λ h. tt, (λ h. tt, (λ h. tt, (λ h. tt, (λ h. tt, tt))))))
     (λ x is. entries_differ kind data_length after (before ++ x ∷ []) bytes fault) e
 
 header_differs : (bytes : List ℕ) (fault : MetaFault) → header_at bytes ≡ Err fault → FaultDiffers fault
 unfolding header_at
 header_differs bytes fault =
-    step_err FaultDiffers _ _ fault (behind_err FaultDiffers (opening_checks bytes) _ fault (λ h. tt, (λ h. tt, (λ h. tt, tt)))) (λ count c.
-    step_err FaultDiffers _ _ fault (behind_err FaultDiffers (digest_checks bytes) _ fault (unequal (range 24 32 bytes) (digest_at bytes), tt)) (λ digest d.
-    step_err FaultDiffers _ _ fault (behind_err FaultDiffers (field_checks bytes) _ fault (λ h. tt, (λ h. tt, (λ h. tt, (λ h. tt, (λ h. tt, tt)))))) (λ kind k.
+    step_err FaultDiffers _ _ fault (checked_err FaultDiffers (opening_checks bytes) _ fault (λ h. tt, (λ h. tt, (λ h. tt, tt)))) (λ count c.
+    step_err FaultDiffers _ _ fault (checked_err FaultDiffers (digest_checks bytes) _ fault (unequal (range 24 32 bytes) (digest_at bytes), tt)) (λ digest d.
+    step_err FaultDiffers _ _ fault (checked_err FaultDiffers (field_checks bytes) _ fault (λ h. tt, (λ h. tt, (λ h. tt, (λ h. tt, (λ h. tt, tt)))))) (λ kind k.
     step_err FaultDiffers _ _ fault (entries_differ kind _ count [] bytes fault) (λ entries es.
-    step_err FaultDiffers _ _ fault (behind_err FaultDiffers (end_checks bytes) _ fault (λ h. tt, tt)) (λ end z e. absurd cc)))))
+    step_err FaultDiffers _ _ fault (checked_err FaultDiffers (end_checks bytes) _ fault (λ h. tt, tt)) (λ end z e. absurd cc)))))
 
 pub fault_differs : (bytes : List ℕ) (fault : MetaFault) (why : Why) → header_at bytes ≡ Err fault → why_of bytes fault ≡ Some why → Differs why
 fault_differs bytes fault (Field offset got) first named = tt

@@ -1,5 +1,6 @@
 //! Containers written to their slots, and slots made free.
-ghost use Rattle.std.specs.Prelude.{◌≡◌, ◌+◌, ◌≤◌, true, length, IfErr};
+ghost use Rattle.std.specs.Prelude.{◌≡◌, ◌∷◌, ◌+◌, ◌≤◌, [], true, length, OnOk, IfErr};
+ghost use Rattle.base_model.specs.Known.{Known, KnownWith};
 ghost use Rattle.disk_format.specs.declared.numbers.TheConstants.{SLOT_BYTES};
 ghost use Rattle.disk_format.specs.Layout.{slot_at};
 ghost use Rattle.dd_disk.specs.Ending.{ending};
@@ -46,6 +47,8 @@ pub fn seal<D: Disk>(
     requires id { is_id id ≡ true }
     requires image { length image.old ≡ SLOT_BYTES }
     ensures image { image.new ≡ container_spelling id filled.now.kind filled.now.segments }
+    ensures whole { OnOk result (Known (D.view disk.old).content (λ given. KnownWith (D.view disk.new).content
+        (Puts (slot_at slot) image.new given))) }
     ensures writes { Writes (Seals slot id filled.now.kind filled.now.segments) (IsSealed slot id filled.now.kind filled.now.segments)
         (ending blames result) (D.view disk.old) (D.view disk.new) }
     ensures fault { IfErr result (λ fault. fault ≡ DiskWrite) }
@@ -57,6 +60,8 @@ pub fn seal<D: Disk>(
 /// Closes a slot of the disk: writes 0 over its gate. The one error is `LogFault::DiskWrite`.
 pub fn free<D: Disk>(disk: &mut D, slot: u32) -> Result<(), LogFault>
     requires { slot_at slot + SLOT_BYTES ≤ (D.view disk.old).size }
+    ensures whole { OnOk result (Known (D.view disk.old).content (λ given. KnownWith (D.view disk.new).content
+        (Puts (slot_at slot) (0 ∷ []) given))) }
     ensures writes { Writes (λ _. Frees slot) (IsFreed slot) (ending blames result) (D.view disk.old) (D.view disk.new) }
     ensures fault { IfErr result (λ fault. fault ≡ DiskWrite) }
 {

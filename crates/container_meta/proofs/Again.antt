@@ -9,9 +9,9 @@ use Rattle.std.proofs.lemmas.List.Sums.{sum_by-append}
 use Rattle.std.proofs.lemmas.Slice.Eq.{bytes_eq-Decides}
 use Rattle.sha2.specs.Sha256.{sha256}
 use Rattle.base_model.specs.Bytes.{range, byte_at, zeros}
-use Rattle.base_model.specs.Checks.{behind, passes}
+use Rattle.base_model.specs.Checks.{checked, passes}
 use Rattle.base_model.specs.Numbers.{number_at, seven_at}
-use Rattle.base_model.proofs.Checks.{AllHold, behind_all, then_step, both, both_true, not_false}
+use Rattle.base_model.proofs.Checks.{AllHold, checked_all, then_step, both, both_true, not_false}
 use Rattle.base_model.proofs.Numbers.{number_2, number_4, number_8}
 use Rattle.base_model.proofs.Ranges.{range-range, range-first, range-second, range-whole}
 use Rattle.disk_format.specs.declared.numbers.TheConstants.{CONTAINER_GATE, DATA_BYTES, HEADER_BYTES, MOST_ENTRIES}
@@ -84,7 +84,7 @@ entries_again kind data_length before (e ∷ es) bytes fits allowed here whole s
     let one_more : length (before ++ e ∷ []) ≡ length before + 1 = length-append before (e ∷ []) in
     let there : range (entry_place (length (before ++ e ∷ []))) (48 * n) bytes ≡ entries_spelling es = ap (λ (k : ℕ). range k (48 * n) bytes) (omega (arith, one_more)) ∙ second_part at (48 * n) bytes (entry_spelling e) (entries_spelling es) long rest_long both_parts in
     let others = entries_again kind data_length (before ++ e ∷ []) es bytes (omega (arith, one_more)) allowed.1 there (ap bytes_of (append_assoc before (e ∷ []) es) ∙ whole) small in
-    let passed : next_read kind data_length n before bytes ≡ Ok (entry_at at bytes) = behind_all (entry_checks kind data_length n before at bytes) (entry_at at bytes) (entry_passes kind data_length n before at bytes e read.0 read.1 next (omega arith) (λ none. omega (arith, no_more es none))) in
+    let passed : next_read kind data_length n before bytes ≡ Ok (entry_at at bytes) = checked_all (entry_checks kind data_length n before at bytes) (entry_at at bytes) (entry_passes kind data_length n before at bytes e read.0 read.1 next (omega arith) (λ none. omega (arith, no_more es none))) in
     then_step (next_read kind data_length n before bytes) (λ (y : Entry). entries_at kind data_length n (before ++ y ∷ []) bytes) (entry_at at bytes) (Ok (before ++ e ∷ es)) passed
     (ap (λ (y : Entry). entries_at kind data_length n (before ++ y ∷ []) bytes) read.0 ∙ others ∙ ap (λ (l : List Entry). Ok l) (append_assoc before (e ∷ []) es))
 
@@ -155,9 +155,9 @@ header_again bytes h long allowed is =
     let rest : range (entry_place count) (HEADER_BYTES - entry_place count) bytes ≡ zeros (HEADER_BYTES - entry_place count) =
     ap (λ (k : ℕ). range k (HEADER_BYTES - k) bytes) from ∙ ap (λ (k : ℕ). range (512 + 48 * length h.entries) k bytes) (omega arith) ∙ p.rest ∙ ap zeros (omega arith) in
     let end : AllHold (end_checks bytes) = (zeros_end_of (entry_place count) (HEADER_BYTES - entry_place count) HEADER_BYTES bytes (omega arith) rest, tt) in
-    then_step (behind (opening_checks bytes) count) _ count (Ok h) (behind_all (opening_checks bytes) count opening)
-    (then_step (passes (digest_checks bytes)) _ tt (Ok h) (behind_all (digest_checks bytes) tt digest)
-    (then_step (behind (field_checks bytes) (kind_at bytes)) _ (kind_at bytes) (Ok h) (behind_all (field_checks bytes) (kind_at bytes) fields)
+    then_step (checked (opening_checks bytes) count) _ count (Ok h) (checked_all (opening_checks bytes) count opening)
+    (then_step (passes (digest_checks bytes)) _ tt (Ok h) (checked_all (digest_checks bytes) tt digest)
+    (then_step (checked (field_checks bytes) (kind_at bytes)) _ (kind_at bytes) (Ok h) (checked_all (field_checks bytes) (kind_at bytes) fields)
     (then_step (entries_at (kind_at bytes) data_length count [] bytes) _ h.entries (Ok h) entries
-    (then_step (passes (end_checks bytes)) _ tt (Ok h) (behind_all (end_checks bytes) tt end)
+    (then_step (passes (end_checks bytes)) _ tt (Ok h) (checked_all (end_checks bytes) tt end)
     (ap (λ (v : HeaderValue). Ok v) (same_header _ _ _ _ _ _ h.entries f.id_is kind f.length_is))))))

@@ -8,9 +8,9 @@ use Rattle.std.proofs.lemmas.List.{append-nil, nil_from_length}
 use Rattle.std.proofs.lemmas.Slice.Eq.{bytes_eq-Decides}
 use Rattle.sha2.specs.Sha256.{sha256}
 use Rattle.base_model.specs.Bytes.{range, byte_at, zeros}
-use Rattle.base_model.specs.Checks.{Check, behind, passes, ◌>>=◌}
+use Rattle.base_model.specs.Checks.{Check, checked, passes, ◌>>=◌}
 use Rattle.base_model.specs.Numbers.{number_at, seven_at}
-use Rattle.base_model.proofs.Checks.{AllHold, bind_ok, behind_ok, ok_is, both, not_true}
+use Rattle.base_model.proofs.Checks.{AllHold, bind_ok, checked_ok, ok_is, both, not_true}
 use Rattle.base_model.proofs.Numbers.{IsBytes, spelled_2, spelled_4, spelled_8}
 use Rattle.base_model.proofs.Ranges.{length-range, range-join}
 use Rattle.disk_format.specs.declared.numbers.TheConstants.{CONTAINER_GATE, HEADER_BYTES, MOST_ENTRIES}
@@ -29,7 +29,7 @@ use Rattle.container_meta.proofs.Parts.{FieldParts, fields_from_parts, Parts, sp
 
 -- ---- the entries
 
--- what was read behind others
+-- what was read after others
 pub record Read (kind : Kind) (data_length n : ℕ) (before : List Entry) (bytes : List ℕ) (all : List Entry) : Type 0 where
   pub rest : List Entry
   pub parts : all ≡ before ++ rest
@@ -61,7 +61,7 @@ entries_found kind data_length (suc n) before bytes all fits long e =
     let at : ℕ = entry_place (length before) in
     let x : Entry = entry_at at bytes in
     let a = bind_ok (next_read kind data_length n before bytes) (λ (y : Entry). entries_at kind data_length n (before ++ y ∷ []) bytes) all e in
-    let b = behind_ok (entry_checks kind data_length n before at bytes) x a.0 a.1 in
+    let b = checked_ok (entry_checks kind data_length n before at bytes) x a.0 a.1 in
     let next : entries_at kind data_length n (before ++ x ∷ []) bytes ≡ Ok all = ap (λ (y : Entry). entries_at kind data_length n (before ++ y ∷ []) bytes) b.1 ∙ a.2 in
     let one_more : length (before ++ x ∷ []) ≡ length before + 1 = length-append before (x ∷ []) in
     let r = entries_found kind data_length n (before ++ x ∷ []) bytes all fits (omega (arith, one_more)) next in
@@ -132,15 +132,15 @@ abbrev at_entries : List ℕ → ℕ → Kind → Result HeaderValue MetaFault
 at_entries bytes count kind = entries_at kind (number_at w32 20 bytes) count [] bytes >>= at_end bytes kind
 
 abbrev at_fields : List ℕ → ℕ → Unit {0} → Result HeaderValue MetaFault
-at_fields bytes count digest = behind (field_checks bytes) (kind_at bytes) >>= at_entries bytes count
+at_fields bytes count digest = checked (field_checks bytes) (kind_at bytes) >>= at_entries bytes count
 
 abbrev at_digest : List ℕ → ℕ → Result HeaderValue MetaFault
 at_digest bytes count = passes (digest_checks bytes) >>= at_fields bytes count
 
-after_checks : {A B F : Type 0} (checks : List (Check F)) (x : A) (f : A → Result B F) (y : B) → (behind checks x >>= f) ≡ Ok y → AllHold checks × (f x ≡ Ok y)
+after_checks : {A B F : Type 0} (checks : List (Check F)) (x : A) (f : A → Result B F) (y : B) → (checked checks x >>= f) ≡ Ok y → AllHold checks × (f x ≡ Ok y)
 after_checks checks x f y e =
-    let step = bind_ok (behind checks x) f y e in
-    let held = behind_ok checks x step.0 step.1 in
+    let step = bind_ok (checked checks x) f y e in
+    let held = checked_ok checks x step.0 step.1 in
     (held.0, ap f held.1 ∙ step.2)
 
 -- where a header was read, each check held

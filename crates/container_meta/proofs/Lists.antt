@@ -34,7 +34,7 @@ unfolding zeros
 zeros_in_front-zeros zero = refl
 zeros_in_front-zeros (suc n) = ap suc (zeros_in_front-zeros n)
 
--- what was written last stands behind what was written before
+-- what was written last stands after what was written before
 pub next_written : (at n : ℕ) (front bytes old new : List ℕ) → take at old ≡ front → take (at + n) new ≡ take at old ++ bytes → take (at + n) new ≡ front ++ bytes
 next_written at n front bytes old new before e = e ∙ ap (λ (l : List ℕ). l ++ bytes) before
 

@@ -36,26 +36,26 @@ entry_spelled at bytes fits h none =
 
 -- ---- as spelled
 
--- what stands behind an entry's digest
+-- what stands after an entry's digest
 tail_spelling : Entry → List ℕ
 tail_spelling e = (to_be_bytes w32 e.offset ++ to_be_bytes w32 e.length) ++ e.level ∷ zeros 7
 
-behind_digest : (e : Entry) → entry_spelling e ≡ e.digest ++ tail_spelling e
+after_digest : (e : Entry) → entry_spelling e ≡ e.digest ++ tail_spelling e
 unfolding entry_spelling tail_spelling
-behind_digest e = regroup e.digest (to_be_bytes w32 e.offset) (to_be_bytes w32 e.length) (e.level ∷ zeros 7)
+after_digest e = regroup e.digest (to_be_bytes w32 e.offset) (to_be_bytes w32 e.length) (e.level ∷ zeros 7)
   where
     regroup : (d o l z : List ℕ) → ((d ++ o) ++ l) ++ z ≡ d ++ ((o ++ l) ++ z)
     regroup d o l z = simp append_assoc
 
 pub length-entry_spelling : (e : Entry) → length e.digest ≡ 32 → length (entry_spelling e) ≡ 48
 unfolding tail_spelling
-length-entry_spelling e long = ap length (behind_digest e) ∙ omega (arith, length-append e.digest (tail_spelling e), length-zeros 7)
+length-entry_spelling e long = ap length (after_digest e) ∙ omega (arith, length-append e.digest (tail_spelling e), length-zeros 7)
 
 -- a part of an entry that stands at a place
 part_of_entry : (at p n : ℕ) (bytes : List ℕ) (e : Entry) → length e.digest ≡ 32 → range at 48 bytes ≡ entry_spelling e → (32 + p) + n ≤ 48 → range (at + (32 + p)) n bytes ≡ range p n (tail_spelling e)
 part_of_entry at p n bytes e long here within =
     sym (range-range (32 + p) n at 48 bytes within)
-    ∙ ap (range (32 + p) n) (here ∙ behind_digest e)
+    ∙ ap (range (32 + p) n) (here ∙ after_digest e)
     ∙ range-second p n 32 (32 + p) e.digest (tail_spelling e) long refl
 
 first_of_tail : (e : Entry) → range 0 4 (tail_spelling e) ≡ to_be_bytes w32 e.offset
@@ -81,7 +81,7 @@ same_entry d d' o o' l l' v v' hd ho hl hv = cc
 pub entry_again : (at : ℕ) (bytes : List ℕ) (e : Entry) → at + 48 ≤ length bytes → length e.digest ≡ 32 → e.offset < 2 ^ 32 → e.length < 2 ^ 32 → range at 48 bytes ≡ entry_spelling e → (entry_at at bytes ≡ e) × (seven_at (at + 41) bytes ≡ 0)
 unfolding number_at seven_at zeros
 entry_again at bytes e fits long offset_fits length_fits here =
-    let digest : range at 32 bytes ≡ e.digest = ap (λ (k : ℕ). range k 32 bytes) (omega arith) ∙ sym (range-range 0 32 at 48 bytes (omega arith)) ∙ ap (range 0 32) (here ∙ behind_digest e) ∙ range-first 0 32 e.digest (tail_spelling e) (omega arith) ∙ whole e.digest long in
+    let digest : range at 32 bytes ≡ e.digest = ap (λ (k : ℕ). range k 32 bytes) (omega arith) ∙ sym (range-range 0 32 at 48 bytes (omega arith)) ∙ ap (range 0 32) (here ∙ after_digest e) ∙ range-first 0 32 e.digest (tail_spelling e) (omega arith) ∙ whole e.digest long in
     let offset : number_at w32 (at + 32) bytes ≡ e.offset = ap (from_be_bytes w32) (part_of_entry at 0 4 bytes e long here (omega arith) ∙ first_of_tail e) ∙ from_be_bytes-to_be_bytes_4 e.offset offset_fits in
     let long_is : number_at w32 (at + 36) bytes ≡ e.length = ap (from_be_bytes w32) (part_of_entry at 4 4 bytes e long here (omega arith) ∙ second_of_tail e) ∙ from_be_bytes-to_be_bytes_4 e.length length_fits in
     let level : byte_at (at + 40) bytes ∷ [] ≡ e.level ∷ [] = sym (range-one (at + 40) bytes (omega arith)) ∙ part_of_entry at 8 1 bytes e long here (omega arith) ∙ level_of_tail e in

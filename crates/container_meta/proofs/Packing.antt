@@ -131,7 +131,7 @@ and_false : (a b : Bool) → a ≡ true → a && b ≡ false → b ≡ false
 and_false true b h e = e
 and_false false b h e = absurd cc
 
--- the entry of a segment that may be added may stand behind the others
+-- the entry of a segment that may be added may stand after the others
 pub next_allowed : (kind : Kind) (es : List Entry) (bytes : List ℕ) (s : KindSegment) → es ≡ entries_from 0 (segments_in es bytes) → bytes_of es ≡ length bytes → CanAdd (record { kind = kind; segments = segments_in es bytes }) s → IsNext kind es (entry_for (length bytes) s.segment)
 next_allowed kind es bytes s exact whole can =
     let digest : List ℕ = sha256 s.segment.bytes in

@@ -31,20 +31,20 @@ length-header_spelling h allowed =
 regrouped : (a b c d : List ℕ) → a ++ ((b ++ c) ++ d) ≡ (a ++ b) ++ (c ++ d)
 regrouped a b c d = simp append_assoc
 
-stand_behind : (offset : ℕ) (ss : List Segment) (front rest slot : List ℕ) → length front ≡ HEADER_BYTES + offset → slot ≡ front ++ (data_of ss ++ rest) → StandFrom offset ss slot
-stand_behind offset [] front rest slot long is = tt
-stand_behind offset (s ∷ ss) front rest slot long is =
+stand_after : (offset : ℕ) (ss : List Segment) (front rest slot : List ℕ) → length front ≡ HEADER_BYTES + offset → slot ≡ front ++ (data_of ss ++ rest) → StandFrom offset ss slot
+stand_after offset [] front rest slot long is = tt
+stand_after offset (s ∷ ss) front rest slot long is =
     let parts : slot ≡ front ++ ((s.bytes ++ data_of ss) ++ rest) = is ∙ ap (λ (l : List ℕ). front ++ (l ++ rest)) (flat_map-cons (λ (x : Segment). x.bytes) s ss) in
     let here : range (HEADER_BYTES + offset) (length s.bytes) slot ≡ s.bytes =
     ap (range (HEADER_BYTES + offset) (length s.bytes)) (parts ∙ ap (λ (l : List ℕ). front ++ l) (append_assoc s.bytes (data_of ss) rest))
     ∙ range-second 0 (length s.bytes) (HEADER_BYTES + offset) (HEADER_BYTES + offset) front (s.bytes ++ (data_of ss ++ rest)) long (omega arith)
     ∙ range-first 0 (length s.bytes) s.bytes (data_of ss ++ rest) (omega arith)
     ∙ range-whole (length s.bytes) s.bytes refl in
-    (here, stand_behind (offset + length s.bytes) ss (front ++ s.bytes) rest slot (omega (arith, length-append front s.bytes, long)) (parts ∙ regrouped front s.bytes (data_of ss) rest))
+    (here, stand_after (offset + length s.bytes) ss (front ++ s.bytes) rest slot (omega (arith, length-append front s.bytes, long)) (parts ∙ regrouped front s.bytes (data_of ss) rest))
 
 pub stand_in_spelling : (id : ℕ) (kind : Kind) (ss : List Segment) → IsHeader (header_of id kind ss) → StandFrom 0 ss (container_spelling id kind ss)
 stand_in_spelling id kind ss allowed =
-    stand_behind 0 ss (header_spelling (header_of id kind ss)) (zeros (DATA_BYTES - bytes_in ss)) (container_spelling id kind ss) (length-header_spelling (header_of id kind ss) allowed)
+    stand_after 0 ss (header_spelling (header_of id kind ss)) (zeros (DATA_BYTES - bytes_in ss)) (container_spelling id kind ss) (length-header_spelling (header_of id kind ss) allowed)
     (append_assoc (header_spelling (header_of id kind ss)) (data_of ss) (zeros (DATA_BYTES - bytes_in ss)))
 
 pub length-container_spelling : (id : ℕ) (kind : Kind) (ss : List Segment) → IsHeader (header_of id kind ss) → bytes_in ss ≤ DATA_BYTES → length (container_spelling id kind ss) ≡ SLOT_BYTES

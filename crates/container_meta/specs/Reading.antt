@@ -4,7 +4,7 @@ use Rattle.std.specs.Str.{bytes_eq}
 use Rattle.std.specs.Int.{w16, w32, w64}
 use Rattle.sha2.specs.Sha256.{sha256}
 use Rattle.base_model.specs.Bytes.{range, byte_at}
-use Rattle.base_model.specs.Checks.{Check, behind, passes, ◌>>=◌}
+use Rattle.base_model.specs.Checks.{Check, checked, passes, ◌>>=◌}
 use Rattle.base_model.specs.Numbers.{number_at, seven_at}
 use Rattle.disk_format.specs.declared.numbers.TheConstants.{CONTAINER_GATE, HEADER_BYTES}
 use Rattle.container_meta.specs.declared.kind.Kind.{Kind}
@@ -98,7 +98,7 @@ entry_checks kind data_length after before at bytes =
 abbrev pub next_read : Kind → ℕ → ℕ → List Entry → List ℕ → Result Entry MetaFault
 next_read kind data_length after before bytes =
     let at = entry_place (length before) in
-    behind (entry_checks kind data_length after before at bytes) (entry_at at bytes)
+    checked (entry_checks kind data_length after before at bytes) (entry_at at bytes)
 
 -- so many entries, after those that were read before
 unfoldable pub entries_at : Kind → ℕ → ℕ → List Entry → List ℕ → Result (List Entry) MetaFault
@@ -131,9 +131,9 @@ kind_at bytes = unwrap_or (kind_of (byte_at 16 bytes)) Leaf
 -- the header that the bytes spell, or the first fault
 unfoldable pub header_at : List ℕ → Result HeaderValue MetaFault
 header_at bytes = do
-  count ← behind (opening_checks bytes) (count_at bytes)
+  count ← checked (opening_checks bytes) (count_at bytes)
   digest ← passes (digest_checks bytes)
-  kind ← behind (field_checks bytes) (kind_at bytes)
+  kind ← checked (field_checks bytes) (kind_at bytes)
   entries ← entries_at kind (number_at w32 20 bytes) count [] bytes
   end ← passes (end_checks bytes)
   Ok (record { id = number_at w64 8 bytes; kind = kind; data_length = number_at w32 20 bytes; entries = entries })

@@ -2,7 +2,7 @@
 
 ghost use Rattle.std.specs.Prelude.{◌≡◌, ℕ, ◌+◌, ◌*◌, ◌-◌, ◌^◌, ◌<◌, ◌≤◌, [], length, vec_capacity, IfOk, Ok};
 ghost use Rattle.std.specs.Int.{w32};
-ghost use Rattle.base_model.specs.Checks.{behind, passes};
+ghost use Rattle.base_model.specs.Checks.{checked, passes};
 ghost use Rattle.base_model.specs.Numbers.{number_at};
 ghost use Rattle.container_meta.specs.declared.fault.MetaFault.TheVariants.{Field};
 ghost use Rattle.container_meta.specs.Spelling.{HeaderValue, IsHeader, IsSpelled, view, with_entries, header_spelling, bytes_of};
@@ -44,7 +44,7 @@ fn zeros_end(bytes: &[u8], from: usize, count: usize) -> usize
 /// The count of entries, after the checks without which the digest can't be taken.
 fn checked_count(bytes: &[u8]) -> Result<u16, MetaFault>
     requires { length bytes.now ≡ HEADER_BYTES }
-    ensures value { result ≡ behind (opening_checks bytes.now) (count_at bytes.now) }
+    ensures value { result ≡ checked (opening_checks bytes.now) (count_at bytes.now) }
     ensures few { IfOk result (λ count. count ≤ MOST_ENTRIES) }
 {
     if bytes[0] != CONTAINER_GATE {
@@ -83,7 +83,7 @@ fn check_digest(bytes: &[u8], count: u16) -> Result<(), MetaFault>
 /// The kind, after the checks of the fields before the entries.
 fn checked_kind(bytes: &[u8]) -> Result<Kind, MetaFault>
     requires { length bytes.now ≡ HEADER_BYTES }
-    ensures value { result ≡ behind (field_checks bytes.now) (kind_in bytes.now) }
+    ensures value { result ≡ checked (field_checks bytes.now) (kind_in bytes.now) }
     ensures small { IfOk result (λ _. number_at w32 20 bytes.now ≤ DATA_BYTES) }
 {
     let id = u64_at(bytes, 8);

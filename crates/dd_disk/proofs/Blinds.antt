@@ -1,10 +1,6 @@
 -- One more call of a disk that tells nothing, and never fails.
-use Rattle.std.proofs.Common.{◌≡◌, inl, inr, ℕ, ◌-◌, ◌^◌, ◌+◌, ◌≤◌, List, length, refl, sym, ◌∙◌, ap, subst, arith}
-use Rattle.std.specs.Prelude.{min}
-use Rattle.dd_disk.specs.View.{DiskView, IsLater, OnlyReads, CrashLeaves, SteppedFrom}
-use Rattle.dd_disk.specs.Ending.{Done, Reads}
+use Rattle.std.proofs.Common.{◌≡◌, ℕ, ◌+◌, ◌≤◌, List, length, ◌∙◌, arith}
 use Rattle.dd_disk.specs.Writes.{Torn}
-use Rattle.dd_disk.specs.Untold.{no_content}
 use Rattle.dd_disk.proofs.Images.{torn_same, torn_length}
 
 -- an image of this size is some image of this size, torn anywhere

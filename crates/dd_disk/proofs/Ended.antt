@@ -1,6 +1,6 @@
 -- How calls ended, one after the other.
-use Rattle.std.proofs.Common.{◌≡◌, ℕ, ◌≤◌, refl, subst, arith}
-use Rattle.dd_disk.specs.View.{DiskView, OnlyReads}
+use Rattle.std.proofs.Common.{◌≡◌, ℕ, refl, subst, arith}
+use Rattle.dd_disk.specs.View.{DiskView}
 use Rattle.dd_disk.specs.Ending.{Ending, Blame, Done, Refused, Unread, Broken, ending_of, CountsFault, Reads}
 use Rattle.dd_disk.proofs.Later.{reads_here, reads_on as only_reads_on}
 

@@ -51,10 +51,10 @@ module _ (P B Q : List ℕ → Type 0) (steps : List ℕ → List ℕ → List �
       ]) (writes.steps given known) in
       record { leaves = leaves; arrives = arrives_written e stands writes.later leaves writes.written }
 
--- of a cell behind a gate it is enough to look at what a write of it makes of one image
+-- of a cell after a gate it is enough to look at what a write of it makes of one image
 pub gated_each : (P B : List ℕ → Type 0) (at : ℕ) (cell : List ℕ) → ((given c : List ℕ) → P given → CellTorn at cell given c → B c)
     → (given d c : List ℕ) → P given → P d → TornFrom at cell given d c → B c
-gated_each P B at cell each given d c has was (inl behind) = each d c was (inl behind)
+gated_each P B at cell each given d c has was (inl after) = each d c was (inl after)
 gated_each P B at cell each given d c has was (inr whole) = each given c has (inr whole)
 
 -- nothing was called

@@ -1,17 +1,13 @@
 -- One more call of a disk in memory.
-use Rattle.std.proofs.Common.{◌≡◌, ◌⊎◌, inl, inr, ⊎_elim, ℕ, ◌+◌, ◌<◌, ◌≤◌, Bool, true, false, List, [], ◌∷◌, ◌++◌, ◌-◌, length, get_or, take, drop, refl, sym, ◌∙◌, ap, subst, arith, append_assoc, take-append-drop}
-use Rattle.std.proofs.lemmas.List.{append-nil}
-use Rattle.std.proofs.lemmas.Slice.{first_rest}
+use Rattle.std.proofs.Common.{◌≡◌, ◌⊎◌, inl, inr, ⊎_elim, ℕ, ◌+◌, ◌<◌, ◌≤◌, Bool, true, false, List, [], ◌∷◌, ◌++◌, length, take, drop, refl, sym, ◌∙◌, ap, subst, arith, take-append-drop}
 use Rattle.dd_disk.specs.Writes.{Torn}
-use Rattle.dd_disk.specs.Calls.{CrashSteps, TimeAdvances, shown_length, lengths, first_of, end_of, shown_by, image_by, images_by, shown_after, images_after, images_before, images_of, images_past, IsPast, Made, Skipped, Notes, as_read}
+use Rattle.dd_disk.specs.Calls.{CrashSteps, TimeAdvances, shown_length, lengths, first_of, end_of, shown_by, images_by, shown_after, images_after, images_before, images_of, images_past, IsPast, Made, Skipped, Notes}
 use Rattle.dd_disk.specs.declared.mem.MemDisk.{MemDisk}
 use Rattle.dd_disk.specs.declared.call.Call.{Call}
 use Rattle.dd_disk.specs.declared.call.Asked.{Asked}
-use Rattle.dd_disk.specs.declared.call.Asked.TheVariants.{Read, Write, Sync}
 use Rattle.dd_disk.specs.declared.call.Noted.{Noted}
 use Rattle.dd_disk.specs.declared.call.Noted.TheVariants.{Done, Failed, Missed}
-use Rattle.base_model.proofs.Ranges.{length-written}
-use Rattle.dd_disk.proofs.Images.{torn_same, torn_length}
+use Rattle.dd_disk.proofs.Images.{torn_same}
 
 module _ (last : Call) where
   shown-push : (calls : List Call) (shown : List ℕ) → shown_after shown (calls ++ last ∷ []) ≡ shown_by last.asked (shown_after shown calls)

@@ -1,12 +1,11 @@
 -- How the image of a stop is made.
 use Rattle.std.proofs.Common.{◌≡◌, ◌⊎◌, inl, inr, ℕ, ◌+◌, ◌-◌, ◌<◌, ◌≤◌, Bool, true, false, cond, List, [], ◌∷◌, ◌++◌, length, take, drop, get_or, refl, sym, ◌∙◌, ap, subst, arith, append_assoc, length-drop, take-append-drop}
-use Rattle.std.specs.Prelude.{nat_lt, nat_le, replicate}
 use Rattle.std.proofs.lemmas.List.{append-nil, take_more, drop_more, drop-drop, length-replicate, length-take-le}
 use Rattle.std.proofs.lemmas.Bool.{leb-true, ltb-true}
 use Rattle.base_model.specs.Bytes.{range, written}
-use Rattle.base_model.proofs.Ranges.{length-written, length-range}
+use Rattle.base_model.proofs.Ranges.{length-range}
 use Rattle.dd_disk.specs.Writes.{Torn}
-use Rattle.dd_disk.specs.Calls.{shown_length, first_of, end_of, shown_by, image_by, images_by, shown_after, images_after, images_before, images_of, images_past, IsPast, left_out, is_left_out, filled, filled_by, filled_after, reached, stop_image}
+use Rattle.dd_disk.specs.Calls.{shown_length, end_of, shown_by, image_by, images_by, shown_after, images_after, images_before, images_of, images_past, IsPast, left_out, is_left_out, filled, filled_by, filled_after, reached, stop_image}
 use Rattle.dd_disk.specs.Stops.{filled_write, EndsSynced}
 use Rattle.dd_disk.specs.declared.call.Call.{Call}
 use Rattle.dd_disk.specs.declared.call.Fill.{Fill}
@@ -176,12 +175,12 @@ module _ (first : List ℕ) (calls : List Call) (stop count : ℕ) (fill : Fill)
       found : LeavesOut stop calls → images_past first calls (stop - 1) (stop_image first calls stop fill)
       found parts = elim parts.later [
         | inl none ↦
-          let whole : reached stop calls ≡ calls = sym (append-nil (reached stop calls)) ∙ ap (λ (l : List Call). reached stop calls ++ l) (sym none) ∙ parts.split in
-          inl (subst (λ (l : List Call). images_of first l (stop_image first calls stop fill)) whole left)
+            let whole : reached stop calls ≡ calls = sym (append-nil (reached stop calls)) ∙ ap (λ (l : List Call). reached stop calls ++ l) (sym none) ∙ parts.split in
+            inl (subst (λ (l : List Call). images_of first l (stop_image first calls stop fill)) whole left)
         | inr next ↦
-          let is : reached stop calls ++ next.0 ∷ next.1.0 ≡ calls = ap (λ (l : List Call). reached stop calls ++ l) (sym next.1.1) ∙ parts.split in
-          inr (subst (λ (l : List Call). images_before first (λ d. d ≡ first) l (stop - 1) (stop_image first calls stop fill)) is
-          (before_at next.0 (reached stop calls) next.1.0 first (λ d. d ≡ first) (stop - 1) (stop_image first calls stop fill) (omega (arith, some, next.1.2)) left))
+            let is : reached stop calls ++ next.0 ∷ next.1.0 ≡ calls = ap (λ (l : List Call). reached stop calls ++ l) (sym next.1.1) ∙ parts.split in
+            inr (subst (λ (l : List Call). images_before first (λ d. d ≡ first) l (stop - 1) (stop_image first calls stop fill)) is
+            (before_at next.0 (reached stop calls) next.1.0 first (λ d. d ≡ first) (stop - 1) (stop_image first calls stop fill) (omega (arith, some, next.1.2)) left))
       ]
 
 -- ---- the loop over what was not synced

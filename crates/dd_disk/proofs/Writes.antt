@@ -1,5 +1,5 @@
 -- Writes, one after the other.
-use Rattle.std.proofs.Common.{◌≡◌, inl, inr, ℕ, List, Some, Result, Ok, Err, OnOk, refl, subst, arith}
+use Rattle.std.proofs.Common.{◌≡◌, inl, inr, ℕ, List, Some, Result, Ok, Err, OnOk, refl, subst}
 use Rattle.base_model.specs.Known.{Known, KnownWith}
 use Rattle.dd_disk.specs.View.{DiskView, SteppedFrom}
 use Rattle.dd_disk.specs.Ending.{Ending, Blame, WriteCall, ending, ending_of, Done, Refused, Unread, Broken}

@@ -117,8 +117,8 @@ is_to_fail fails number = list_any (λ fail. fail == number) fails
 
 -- A call was done only where it isn't to fail, and failed only where it is; it was missed only for want of room.
 abbrev pub AsScripted : Noted → List ℕ → ℕ → ℕ → ℕ → Type 0
-AsScripted Done fails number missed_before missed_now = is_to_fail fails number ≡ false
-AsScripted Failed fails number missed_before missed_now = is_to_fail fails number ≡ true
+AsScripted Done fails number missed_before missed_now = (is_to_fail fails number ≡ false) × (missed_now ≡ missed_before)
+AsScripted Failed fails number missed_before missed_now = (is_to_fail fails number ≡ true) × (missed_now ≡ missed_before)
 AsScripted Missed fails number missed_before missed_now = Rose missed_before missed_now
 
 -- ---- what was asked
@@ -174,6 +174,7 @@ reached stop (call ∷ calls) = if is_left_out stop call then [] else call ∷ r
 -- is filled so.
 abbrev pub stop_image : List ℕ → List Call → ℕ → Fill → List ℕ
 stop_image first calls stop fill = filled_after fill (reached stop calls) first first
+
 -- The laws of a disk, of one in memory.
 
 -- what reads give may be left
@@ -242,4 +243,3 @@ pub image_length : (first bytes : List ℕ) (calls : List Call) (count : ℕ) (c
 image_length first bytes calls count c replayed past left =
     let all = lengths calls (length first) count first (λ d. d ≡ first) past refl (λ d is. ap length is) in
     all.1 c left ∙ sym all.0 ∙ ap length replayed
-

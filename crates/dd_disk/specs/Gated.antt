@@ -3,7 +3,7 @@ use Rattle.std.specs.Prelude.{◌≡◌, ◌⊎◌, ℕ, ◌+◌, ◌-◌, List,
 use Rattle.base_model.specs.Bytes.{written}
 use Rattle.dd_disk.specs.Writes.{Torn}
 
--- From an image old, of a disk that gives these bytes: the bytes behind the gate are torn; or all of them stand, on what
+-- From an image old, of a disk that gives these bytes: the bytes after the gate are torn; or all of them stand, on what
 -- the disk returned, with some gate before them.
 abbrev pub TornFrom : ℕ → List ℕ → List ℕ → List ℕ → List ℕ → Type 0
 TornFrom at cell bytes old new =

@@ -74,6 +74,6 @@ pub record FollowsScript {T E : Type 0} (is : Asked → Type 0) (old new : MemDi
   pub script : failing new ≡ failing old
   pub first : first_held new ≡ first_held old
   pub replayed : shown new ≡ shown_after (first_held new) (calls_of new)
-  pub done : OnOk result ((is_to_fail (failing old) (call_count old + 1) ≡ false) × IsNoted is true old new)
-  pub failed : OnErr result (((is_to_fail (failing old) (call_count old + 1) ≡ true) × IsNoted is false old new)
+  pub done : OnOk result ((is_to_fail (failing old) (call_count old + 1) ≡ false) × IsNoted is true old new × (missed_count new ≡ missed_count old))
+  pub failed : OnErr result (((is_to_fail (failing old) (call_count old + 1) ≡ true) × IsNoted is false old new × (missed_count new ≡ missed_count old))
       ⊎ (Rose (missed_count old) (missed_count new) × (calls_of new ≡ calls_of old) × (shown new ≡ shown old)))

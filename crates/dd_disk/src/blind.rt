@@ -1,5 +1,5 @@
 // A disk in memory that tells nothing of its content, and may lie.
-ghost use Rattle.std.specs.Prelude.{◌≡◌, ◌+◌, ◌≤◌, List, ℕ, [], ◌∷◌, length, IsOk, OnOk};
+ghost use Rattle.std.specs.Prelude.{◌≡◌, ◌+◌, ◌-◌, ◌^◌, ◌≤◌, min, List, ℕ, [], ◌∷◌, length, IsOk, OnOk};
 ghost use Rattle.base_model.specs.Bytes.{range, written};
 ghost use Rattle.base_model.specs.Fault.{Rose};
 ghost use Rattle.dd_disk.specs.View.{IsLater, CrashLeaves, SteppedFrom};
@@ -22,13 +22,14 @@ pub struct BlindDisk {
 }
 
 impl BlindDisk {
-    ghost use Rattle.dd_disk.specs.Blind.{held, lies_of};
+    ghost use Rattle.dd_disk.specs.Blind.{held, lies_of, moment_of, last_write_of};
 
     /// A lie is a place and the byte that reads give there. Of two at one place the later one is given.
     pub fn new(bytes: Vec<u8>, lies: Vec<(u64, u8)>) -> BlindDisk
         ensures size { (⟦<BlindDisk as Disk>⟧.view result).size ≡ length bytes.items }
         ensures held { held result ≡ bytes.items }
         ensures lies { lies_of result ≡ lies.items }
+        ensures time { (moment_of result ≡ 0) × (last_write_of result ≡ 0) }
     {
         BlindDisk {
             bytes,
@@ -64,7 +65,7 @@ fn tell_lie(lie: (u64, u8), at: u64, into: &mut [u8])
 }
 
 impl Disk for BlindDisk {
-    ghost use Rattle.dd_disk.specs.Blind.{held, lies_of, blind_view};
+    ghost use Rattle.dd_disk.specs.Blind.{held, lies_of, moment_of, last_write_of, blind_view};
 
     ghost view = { blind_view };
 
@@ -77,6 +78,7 @@ impl Disk for BlindDisk {
         ensures gives { TellsLies (lies_of self.old) at (range at (length into.old) (held self.old)) into.new }
         ensures done { IsOk result }
         ensures held { (held self.new ≡ held self.old) × (lies_of self.new ≡ lies_of self.old) }
+        ensures time { (moment_of self.new ≡ min (moment_of self.old + 1) (2 ^ 64 - 1)) × (last_write_of self.new ≡ last_write_of self.old) }
         ensures returned { (blind_view self.new).read_returned (blind_view self.old).clock at into.new }
         ensures rises { Rose (blind_view self.old).clock (blind_view self.new).clock }
         ensures reads { Reads Done (blind_view self.old) (blind_view self.new) }
@@ -90,9 +92,12 @@ impl Disk for BlindDisk {
     fn write(&mut self, at: u64, from: &[u8]) -> Result<(), DiskFault>
         requires { at + length from.now ≤ length (held self.old) }
         ensures held { (held self.new ≡ written at from.now (held self.old)) × (lies_of self.new ≡ lies_of self.old) }
+        ensures time { (moment_of self.new ≡ min (moment_of self.old + 1) (2 ^ 64 - 1)) × (last_write_of self.new ≡ moment_of self.new) }
         ensures done { IsOk result }
-        ensures leaves { CrashLeaves (SteppedFrom (Torn at (length from.now)) (blind_view self.old)) (blind_view self.old) (blind_view self.new) }
-        ensures tears { OnOk result ((d c : List ℕ) → (blind_view self.old).images d → Torn at (length from.now) d c → (blind_view self.new).images c) }
+        ensures leaves { CrashLeaves (SteppedFrom (Torn at (length from.now)) (blind_view self.old))
+            (blind_view self.old) (blind_view self.new) }
+        ensures tears { OnOk result ((d c : List ℕ) → (blind_view self.old).images d → Torn at (length from.now) d c
+            → (blind_view self.new).images c) }
         ensures later { IsLater (blind_view self.old) (blind_view self.new) }
         ensures rises { Rose (blind_view self.old).clock (blind_view self.new).clock }
     {
@@ -105,6 +110,7 @@ impl Disk for BlindDisk {
     fn sync(&mut self) -> Result<(), DiskFault>
         ensures done { IsOk result }
         ensures held { (held self.new ≡ held self.old) × (lies_of self.new ≡ lies_of self.old) }
+        ensures time { (moment_of self.new ≡ min (moment_of self.old + 1) (2 ^ 64 - 1)) × (last_write_of self.new ≡ last_write_of self.old) }
         ensures rises { Rose (blind_view self.old).clock (blind_view self.new).clock }
         ensures reads { Reads Done (blind_view self.old) (blind_view self.new) }
     {

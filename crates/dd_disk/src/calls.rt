@@ -34,7 +34,8 @@ pub fn sync_all<D: Disk>(disk: &mut D) -> Result<(), DiskFault>
 /// Where the write or the sync fails the answer is `DiskFault`, and reads give any bytes in the range.
 pub fn write_synced<D: Disk>(disk: &mut D, at: u64, from: &[u8]) -> Result<(), DiskFault>
     requires { at + length from.now ≤ (D.view disk.old).size }
-    ensures { Writes (λ _. Torn at (length from.now)) (Puts at from.now) (ending (λ _. WriteCall) result) (D.view disk.old) (D.view disk.new) }
+    ensures { Writes (λ _. Torn at (length from.now)) (Puts at from.now) (ending (λ _. WriteCall) result)
+        (D.view disk.old) (D.view disk.new) }
 {
     disk.write(at, from)?;
     sync_all(disk)

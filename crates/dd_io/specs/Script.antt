@@ -22,5 +22,5 @@ pub record IsFresh (script : Script) (fails : List ℕ) : Type 0 where
 pub record FollowsScript {T E : Type 0} (old new : Script) (result : Result T E) : Type 0 where
   pub counted : new.calls ≡ min (old.calls + 1) (2 ^ 64 - 1)
   pub same : new.fails ≡ old.fails
-  pub done : OnOk result (is_to_fail old.fails.items new.calls ≡ false)
-  pub failed : OnErr result ((is_to_fail old.fails.items new.calls ≡ true) ⊎ Rose old.missed new.missed)
+  pub done : OnOk result ((is_to_fail old.fails.items new.calls ≡ false) × (new.missed ≡ old.missed))
+  pub failed : OnErr result (((is_to_fail old.fails.items new.calls ≡ true) × (new.missed ≡ old.missed)) ⊎ Rose old.missed new.missed)

@@ -39,16 +39,18 @@ impl MemSource {
 
 impl Source for MemSource {
     ghost use Rattle.dd_io.specs.Scripted.{source_script};
-
     ghost use Rattle.std.specs.Prelude.{drop};
 
     ghost view = { λ s. record { left = Some (drop s.place s.bytes.items); faults = s.faults } };
 
     fn read(&mut self, into: &mut [u8]) -> Result<usize, SourceFault>
         ensures count { IfOk result (λ n. n ≤ length into.old) }
-        ensures bytes { IfOk result (λ n. Known (⟦<MemSource as Source>⟧.view self.old).left (λ bytes. Takes n bytes into.new (⟦<MemSource as Source>⟧.view self.new).left)) }
-        ensures end { IfOk result (λ n. n ≡ 0 → 0 < length into.old → Known (⟦<MemSource as Source>⟧.view self.old).left (λ bytes. bytes ≡ [])) }
-        ensures err { OnErr result (Known (⟦<MemSource as Source>⟧.view self.old).left (λ bytes. (⟦<MemSource as Source>⟧.view self.new).left ≡ Some bytes)) }
+        ensures bytes { IfOk result (λ n. Known (⟦<MemSource as Source>⟧.view self.old).left
+            (λ bytes. Takes n bytes into.new (⟦<MemSource as Source>⟧.view self.new).left)) }
+        ensures end { IfOk result (λ n. n ≡ 0 → 0 < length into.old
+            → Known (⟦<MemSource as Source>⟧.view self.old).left (λ bytes. bytes ≡ [])) }
+        ensures err { OnErr result (Known (⟦<MemSource as Source>⟧.view self.old).left
+            (λ bytes. (⟦<MemSource as Source>⟧.view self.new).left ≡ Some bytes)) }
         ensures cause { HasCause (⟦<MemSource as Source>⟧.view self.old).faults (⟦<MemSource as Source>⟧.view self.new).faults result }
         ensures script { FollowsScript (source_script self.old) (source_script self.new) result }
         ensures no_memory { missed_count (source_script self.new) ≡ missed_count (source_script self.old) }

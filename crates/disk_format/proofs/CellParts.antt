@@ -25,7 +25,7 @@ pub length-selector_fields : (s : SelectorValue) → length (selector_fields s) 
 unfolding selector_fields
 length-selector_fields s = omega (arith, length-zeros 451)
 
--- bytes behind others
+-- bytes after others
 range-middle : (front x back : List ℕ) (at count : ℕ) → length front ≡ at → length x ≡ count → range at count (front ++ (x ++ back)) ≡ x
 unfolding range
 range-middle front x back at count before long = ap (take count) (drop_at front (x ++ back) at before) ∙ take_at x back count long
@@ -89,9 +89,9 @@ sealed_from_parts gate fields cell long p =
     sym (range-join 0 1 479 1 cell refl) ∙ ap (λ (l : List ℕ). l ++ range 1 479 cell) (range-one 0 cell (omega arith) ∙ ap (λ (b : ℕ). b ∷ []) p.gate_is) ∙ ap (λ (l : List ℕ). gate ∷ l) p.fields_are in
     sym (range-whole 512 cell long) ∙ sym (range-join 0 480 32 480 cell refl) ∙ ap (λ (l : List ℕ). l ++ range 480 32 cell) a ∙ ap (λ (l : List ℕ). (gate ∷ fields) ++ l) p.digest_is
 
-behind_gate : (gate : ℕ) (fields : List ℕ) → length fields ≡ 479 → range 1 479 (gate ∷ fields) ≡ fields
+after_gate : (gate : ℕ) (fields : List ℕ) → length fields ≡ 479 → range 1 479 (gate ∷ fields) ≡ fields
 unfolding range
-behind_gate gate fields long = take_all 479 fields (omega (arith, long))
+after_gate gate fields long = take_all 479 fields (omega (arith, long))
 
 pub parts_of_sealed : (gate : ℕ) (fields cell : List ℕ) → length fields ≡ 479 → cell ≡ sealed gate fields → Sealed gate fields cell
 unfolding sealed
@@ -99,6 +99,6 @@ parts_of_sealed gate fields cell long is =
     let front : length (gate ∷ fields) ≡ 480 = omega (arith, long) in
     record {
       gate_is = ap (byte_at 0) is;
-      fields_are = ap (range 1 479) is ∙ range-first 1 479 (gate ∷ fields) (sha256 fields) (omega (arith, front)) ∙ behind_gate gate fields long;
+      fields_are = ap (range 1 479) is ∙ range-first 1 479 (gate ∷ fields) (sha256 fields) (omega (arith, front)) ∙ after_gate gate fields long;
       digest_is = ap (range 480 32) is ∙ range-second 0 32 480 480 (gate ∷ fields) (sha256 fields) front refl ∙ range-whole 32 (sha256 fields) (length-sha256 fields);
     }

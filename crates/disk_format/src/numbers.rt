@@ -70,5 +70,4 @@ pub fn numbers_of_the_format()
     ensures cells { HasNumbersOfCells }
     ensures slots { HasNumbersOfSlots }
     ensures files { HasNumbersOfFiles }
-{
-}
+{}

@@ -1,12 +1,17 @@
 //! Where the parts of a disk image lie (docs/FORMAT.md, 'The disk').
 ghost use Rattle.std.specs.Prelude.{◌≡◌, ◌<◌, ◌≤◌};
 ghost use Rattle.disk_format.specs.Layout.{
-    size_of as size_of_disk, slot_at as place_of_slot, data_at as place_of_data, cell_at as place_of_cell,
-    selector_at as place_of_selector, is_slot_count as is_count_of_slots};
+  size_of as size_of_disk,
+  slot_at as place_of_slot,
+  data_at as place_of_data,
+  cell_at as place_of_cell,
+  selector_at as place_of_selector,
+  is_slot_count as is_count_of_slots,
+};
 
 use crate::numbers::{
-    CELL_BYTES, FIRST_HALF, FIRST_SELECTOR, FIRST_SLOT, HALF_BYTES, HEADER_BYTES, LEAST_SLOTS, MOST_SLOTS,
-    SCRATCH_BYTES, SLOT_BYTES,
+    CELL_BYTES, FIRST_HALF, FIRST_SELECTOR, FIRST_SLOT, HALF_BYTES, HEADER_BYTES, LEAST_SLOTS,
+    MOST_SLOTS, SCRATCH_BYTES, SLOT_BYTES,
 };
 
 /// Whether a disk may have so many container slots.

@@ -6,9 +6,9 @@ use Rattle.std.specs.Str.{bytes_eq}
 use Rattle.std.proofs.lemmas.Slice.Eq.{bytes_eq-Decides}
 use Rattle.sha2.specs.Sha256.{sha256}
 use Rattle.base_model.specs.Bytes.{range, byte_at}
-use Rattle.base_model.specs.Checks.{behind, ◌>>=◌}
+use Rattle.base_model.specs.Checks.{checked, ◌>>=◌}
 use Rattle.base_model.specs.Numbers.{number_at}
-use Rattle.base_model.proofs.Checks.{EachFault, behind_err, step_err, err_is, both_true, unequal}
+use Rattle.base_model.proofs.Checks.{EachFault, checked_err, step_err, err_is, both_true, unequal}
 use Rattle.disk_format.specs.declared.numbers.TheConstants.{FORMAT_GATE, SELECTOR_GATE, VERSION}
 use Rattle.disk_format.specs.declared.why.Why.TheVariants.{Field}
 use Rattle.disk_format.specs.Cells.{SelectorValue}
@@ -29,7 +29,7 @@ not_store cell other gate magic =
 
 pub format_break : (cell : List ℕ) (f : CellFault) → format_in cell ≡ Err f → IsFormatBreak f
 unfolding format_in
-format_break cell f e = behind_err IsFormatBreak (format_checks cell) (number_at w32 12 cell) f (
+format_break cell f e = checked_err IsFormatBreak (format_checks cell) (number_at w32 12 cell) f (
   λ h. not_store cell h,
   (
     λ h. (refl, unequal (range 480 32 cell) (sha256 (range 1 479 cell)) h),
@@ -61,8 +61,8 @@ open_err false r f e = absurd cc
 selector_break : (half : ℕ) (before : Option SelectorValue) (cell : List ℕ) (f : CellFault) → IsSelectorPlace (selector_at half) → selector_in half before cell ≡ Err f → IsSelectorBreak f
 unfolding selector_in
 selector_break half before cell f place e =
-    behind_err IsSelectorBreak (selector_checks half before cell) (Some (selector_value cell)) f (each_selector half before cell place)
-    (open_err (byte_at 0 cell == SELECTOR_GATE) (behind (selector_checks half before cell) (Some (selector_value cell))) f e)
+    checked_err IsSelectorBreak (selector_checks half before cell) (Some (selector_value cell)) f (each_selector half before cell place)
+    (open_err (byte_at 0 cell == SELECTOR_GATE) (checked (selector_checks half before cell) (Some (selector_value cell))) f e)
 
 chosen_break : (gate : ℕ) (a b : Option SelectorValue) (f : CellFault) → chosen gate a b ≡ Err f → IsSelectorBreak f
 chosen_break gate None None f e = subst IsSelectorBreak (err_is {A = Selection} (Damaged (selector_at 0) (Field 0 gate)) f e) (inl refl, tt)

@@ -1,7 +1,7 @@
 -- The faults of checks that fail, and the one that a reader answers.
 use Rattle.std.proofs.Common.{◌≡◌, Bool, true, false, List, [], ◌∷◌, Result, Err, refl}
 use Rattle.std.specs.Prelude.{if◌then◌else◌}
-use Rattle.base_model.specs.Checks.{Check, behind}
+use Rattle.base_model.specs.Checks.{Check, checked}
 use Rattle.journal_cells.specs.declared.fault.CellFault.{CellFault}
 use Rattle.journal_cells.specs.Checks.{faults_of, answer_of}
 
@@ -10,6 +10,6 @@ one_more true f value rest fs is = is
 one_more false f value rest fs is = refl
 
 -- a reader answers the first of all faults
-pub first_of_all : {A : Type 0} (checks : List (Check CellFault)) (value : A) → behind checks value ≡ answer_of (faults_of checks) value
+pub first_of_all : {A : Type 0} (checks : List (Check CellFault)) (value : A) → checked checks value ≡ answer_of (faults_of checks) value
 first_of_all [] value = refl
-first_of_all (c ∷ cs) value = one_more c.holds c.fault value (behind cs value) (faults_of cs) (first_of_all cs value)
+first_of_all (c ∷ cs) value = one_more c.holds c.fault value (checked cs value) (faults_of cs) (first_of_all cs value)

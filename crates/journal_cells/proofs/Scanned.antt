@@ -10,13 +10,14 @@ use Rattle.dd_disk.specs.View.{DiskView, OnlyReads}
 use Rattle.dd_disk.specs.Shows.{Shows}
 use Rattle.dd_disk.proofs.Shows.{always, weaker, both}
 use Rattle.namespace.specs.Names.{IsTaken, names_with}
+use Rattle.store_model.proofs.Records.{last_of_push, names_after_push}
 use Rattle.journal_cells.specs.declared.fault.CellFault.{CellFault}
 use Rattle.journal_cells.specs.declared.fault.CellFault.TheVariants.{Memory, DiskRead, DiskWrite, Damaged, NotAStore, Version, Numbers}
 use Rattle.journal_cells.specs.Faults.{IsFoundFault, IsRecordBreak, IsCellFault}
 use Rattle.journal_cells.specs.Records.{Replay, nothing_yet, after_record, record_in, replayed}
 use Rattle.journal_cells.specs.Scanning.{IsNext, HasNext, HasNextFault, Leave, HasPart, HasWhole, IsPart, IsWhole}
 use Rattle.journal_cells.proofs.Damage.{IsDamage, record_damage}
-use Rattle.journal_cells.proofs.Replays.{follow_push, stand_push, last_of_push, names_after_push, replayed_open, replayed_closed, replayed_fault, replayed_full, gate_stands}
+use Rattle.journal_cells.proofs.Replays.{follow_push, stand_push, replayed_open, replayed_closed, replayed_fault, replayed_full, gate_stands}
 
 pub gate_read : (at : ℕ) (image cell : List ℕ) → range at 512 image ≡ cell → byte_at at image ≡ byte_at 0 cell
 gate_read at image cell read = ap (λ (p : ℕ). byte_at p image) (omega arith) ∙ sym (byte-range 0 at 512 image (omega arith)) ∙ ap (byte_at 0) read

@@ -86,6 +86,13 @@ impl Journal {
         self.last
     }
 
+    // Where the next record goes.
+    fn next_place(&self) -> u64
+        ensures { result ≡ place_of_cell self.now.half self.now.count }
+    {
+        cell_at(self.half, self.count)
+    }
+
     // `append`, by what it writes.
     fn write_record<D: Disk>(
         &mut self,
@@ -102,7 +109,7 @@ impl Journal {
         ensures right { IsJournal self.old }
         ensures cause { IfErr result IsWriteFault }
     {
-        let at = cell_at(self.half, self.count);
+        let at = self.next_place();
         let cell = encode(alloc, value)?;
         write_cell(disk, at, &cell)?;
         self.count += 1;

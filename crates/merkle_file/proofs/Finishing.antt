@@ -16,7 +16,7 @@ use Rattle.merkle_file.specs.Steps.{are_empty, top_of, close, Closed}
 use Rattle.merkle_file.proofs.Closing.{node_of, close_last, close_none, close_some}
 use Rattle.merkle_file.proofs.Pushing.{whole_push, rest_push, counted, child_of-joined, nodes_of-joined, said, child_rows, length-children, length-joined}
 
--- ---- what is left behind whole groups
+-- ---- what is left after whole groups
 
 -- where there is no whole group, all is left
 left_all : {X : Type 0} (begun xs : List X) → whole_from begun xs ≡ [] → rest_from begun xs ≡ begun ++ xs

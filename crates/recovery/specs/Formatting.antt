@@ -37,7 +37,8 @@ with_closed (suc slot) old = written (slot_at slot) (0 ∷ []) (with_closed slot
 -- an image with zeros in place of its selectors and journal, its slots closed, and then the first selector
 unfoldable pub laid_out : ℕ → List ℕ → List ℕ
 laid_out slots old =
-    written FIRST_SELECTOR (selector_cell first_selector) (with_closed slots (written FIRST_SELECTOR (zeros (FIRST_SLOT - FIRST_SELECTOR)) old))
+    let blanked = written FIRST_SELECTOR (zeros (FIRST_SLOT - FIRST_SELECTOR)) old in
+    written FIRST_SELECTOR (selector_cell first_selector) (with_closed slots blanked)
 
 -- Calls that open no store: where no image that a crash may leave has one, none has one after them.
 pub record StaysBlank (slots : ℕ) (old new : DiskView) : Type 0 where

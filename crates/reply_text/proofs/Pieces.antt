@@ -15,7 +15,7 @@ pub pieces_more : {X : Type 0} (f : X → List ℕ) (pieces : List X) (i : ℕ) 
 pieces_more f pieces i d below =
     ap (flat_map f) (take_more pieces i d below) ∙ flat_map-append f (take i pieces) (get_or pieces i d ∷ []) ∙ ap (λ (t : List ℕ). flat_map f (take i pieces) ++ t) (flat_map-cons f (get_or pieces i d) [] ∙ append-nil _)
 
--- the pieces before one, it, and those behind it
+-- the pieces before one, it, and those after it
 pub pieces_split : {X : Type 0} (f : X → List ℕ) (pieces : List X) (i : ℕ) (d : X) → i < length pieces
     → flat_map f pieces ≡ flat_map f (take i pieces) ++ (f (get_or pieces i d) ++ flat_map f (drop (suc i) pieces))
 pieces_split f pieces i d below =

@@ -6,7 +6,8 @@ ghost use Rattle.dd_io.specs.Flow.{Sends};
 ghost use Rattle.refusals.specs.declared.refusal.Difference.TheVariants.{Length};
 ghost use Rattle.disk_format.specs.declared.why.Why.TheVariants.{Digest, Field};
 ghost use Rattle.reply_text.specs.declared.ending.Ending.TheVariants.{Refused};
-ghost use Rattle.refusals.specs.declared.refusal.Refusal.TheVariants.{Full, Clash, Corrupt, Missing, NotAStore, Version, Damaged, WrongSize};
+ghost use Rattle.refusals.specs.declared.refusal.Refusal.TheVariants.{Full, Clash, Corrupt, Missing};
+ghost use Rattle.refusals.specs.declared.refusal.Refusal.TheVariants.{NotAStore, Version, Damaged, WrongSize};
 ghost use Rattle.reply_text.specs.Text.{fault_line};
 
 use crate::ending::Ending;

@@ -1,5 +1,6 @@
 //! The containers of a store in memory.
-ghost use Rattle.std.specs.Prelude.{◌≡◌, ◌∷◌, ◌++◌, [], List, Option, None, Some, length, not, false, count_by, position, ◌==◌, ◌≤◌, IsTrue, option_map, OnOk, IfSome};
+ghost use Rattle.std.specs.Prelude.{◌≡◌, ◌∷◌, ◌++◌, [], List, Option, None, Some, length, not, false};
+ghost use Rattle.std.specs.Prelude.{count_by, position, ◌==◌, ◌≤◌, IsTrue, option_map, OnOk, IfSome};
 ghost use Rattle.std.specs.FinMap as finite;
 ghost use Rattle.base_model.specs.Bytes.{key_of};
 ghost use Rattle.disk_format.specs.declared.numbers.TheConstants.{MOST_SLOTS as MANY};

@@ -1,6 +1,4 @@
-use Rattle.std.proofs.Common.{refl, inl}
 use Rattle.base_model.proofs.Outcome.{passed_on}
-use Rattle.dd_disk.specs.Ending.{ending_of}
 use Rattle.dd_disk.proofs.Ended.{reads_refused}
 use Rattle.dd_disk.proofs.Later.{reads_here}
 use Rattle.dd_io.specs.Flow.{SourceView}

@@ -10,7 +10,7 @@ use Rattle.backup_engine.specs.Line.{Ingest}
 use Rattle.backup_engine.specs.Clauses.{TakesIn}
 use Rattle.backup_engine.specs.Effects.{GaveUp}
 use Rattle.backup_engine.proofs.Opened.{Opened, found_some, found_valid, holds, unopened_harmless}
-use Rattle.backup_engine.proofs.Putting.{Put, put_leaves, put_gave_up, ingests}
+use Rattle.backup_engine.proofs.Putting.{put_leaves, put_gave_up, ingests}
 use Rattle.backup_engine.proofs.Reading.{gave_up_reads, leaves_reads}
 use Rattle.backup_engine.proofs.Taking.{refused_by_source, reads_of_source, source_no_image}
 use Rattle.backup_engine.proofs.ingest.ingest.Goals as goal
@@ -88,7 +88,7 @@ returns-in_err-put_file-clause-gave_up g c =
     let refusal = c.in_err-put_file.field-0.0 in
     passed_on c.from_residual-in_err-put_file.result (GaveUp (Ingest c.args.name.now) source source_now old new) (Refused refusal) c.from_residual-in_err-put_file.ensures.1
     (put_gave_up c.args.name.now bytes source source_now c.in_ok-opened.opened old mid new was taken refusal
-    (record { moves = c.in_err-put_file.ensures.moves; calls = c.in_err-put_file.ensures.disk }) c.in_err-put_file.ensures.untouched c.in_err-put_file.ensures.refused)
+    (record { puts = c.in_err-put_file.ensures.moves; calls = c.in_err-put_file.ensures.disk }) c.in_err-put_file.ensures.untouched c.in_err-put_file.ensures.refused)
 
 pub returns-in_err-put_file-clause-leaves : goal.returns-in_err-put_file-clause-leaves
 returns-in_err-put_file-clause-leaves g c =
@@ -101,7 +101,7 @@ returns-in_err-put_file-clause-leaves g c =
     let bytes = c.deref-2.result.now in
     let taken = subst (TakesIn source.left) (sym c.deref-2.ensures.value) c.in_ok-bytes.ensures.taken in
     let new = g.D.Disk.view c.put_file.new.disk in
-    put_leaves c.args.name.now bytes source.left c.in_ok-opened.opened old mid new was taken _ (record { moves = c.in_err-put_file.ensures.moves; calls = c.in_err-put_file.ensures.disk })
+    put_leaves c.args.name.now bytes source.left c.in_ok-opened.opened old mid new was taken _ (record { puts = c.in_err-put_file.ensures.moves; calls = c.in_err-put_file.ensures.disk })
 
 pub returns-clause-leaves : goal.returns-clause-leaves
 returns-clause-leaves g c =
@@ -114,7 +114,7 @@ returns-clause-leaves g c =
     let bytes = c.deref-2.result.now in
     let taken = subst (TakesIn source.left) (sym c.deref-2.ensures.value) c.in_ok-bytes.ensures.taken in
     let new = g.D.Disk.view c.put_file.new.disk in
-    put_leaves c.args.name.now bytes source.left c.in_ok-opened.opened old mid new was taken _ (record { moves = c.in_ok-put_file.ensures.moves; calls = c.in_ok-put_file.ensures.disk })
+    put_leaves c.args.name.now bytes source.left c.in_ok-opened.opened old mid new was taken _ (record { puts = c.in_ok-put_file.ensures.moves; calls = c.in_ok-put_file.ensures.disk })
 
 pub returns-clause-did : goal.returns-clause-did
 returns-clause-did g c =
@@ -133,8 +133,8 @@ returns-clause-did g c =
     record {
       done = (
         bytes,
-        ingests name bytes source.left c.in_ok-opened.opened old mid new was taken (record { moves = c.in_ok-put_file.ensures.moves; calls = c.in_ok-put_file.ensures.disk })
-        (c.in_ok-put_file.ensures.can store was.opened.found.represents (found_valid old mid c.in_ok-opened.opened was)),
+        ingests name bytes source.left c.in_ok-opened.opened old mid new was taken (record { puts = c.in_ok-put_file.ensures.moves; calls = c.in_ok-put_file.ensures.disk })
+            (c.in_ok-put_file.ensures.can.store_has store was.opened.found.represents (found_valid old mid c.in_ok-opened.opened was)),
         c.in_ok-reply.ensures ∙ ap (λ n. stored_line n c.root_of.result) c.as_bytes.ensures.value ∙ ap (stored_line name) root,
       );
       durable = c.in_ok-put_file.ensures.durable;

@@ -1,4 +1,4 @@
-use Rattle.std.proofs.Common.{◌∙◌, inl, inr, refl}
+use Rattle.std.proofs.Common.{◌∙◌, inl, inr}
 use Rattle.base_model.proofs.Outcome.{passed_on}
 use Rattle.dd_disk.proofs.Ended.{reads_on}
 use Rattle.dd_io.specs.Flow.{SourceView}

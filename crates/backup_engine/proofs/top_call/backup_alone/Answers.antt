@@ -3,8 +3,8 @@ use Rattle.base_model.specs.Known.{Appended}
 use Rattle.dd_io.specs.Flow.{AppendedPart}
 use Rattle.reply_text.specs.Table.{status_of}
 use Rattle.backup_engine.specs.LineValue.{line_value}
-use Rattle.backup_engine.proofs.Crashes.{survives, survives_words}
-use Rattle.backup_engine.proofs.TopCall.{gives_up, did_it, no_words}
+use Rattle.backup_engine.proofs.Crashes.{survives}
+use Rattle.backup_engine.proofs.TopCall.{gives_up, did_it}
 use Rattle.backup_engine.proofs.top_call.backup_alone.Goals as goal
 
 -- ---- the command was done

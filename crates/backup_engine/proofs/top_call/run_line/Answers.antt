@@ -1,6 +1,5 @@
 use Rattle.std.proofs.Common.{IfOk, IfErr, refl, sym, subst}
 use Rattle.base_model.proofs.Outcome.{map_ok, map_err}
-use Rattle.reply_text.specs.declared.ending.Ending.{Ending}
 use Rattle.backup_engine.specs.declared.words.Line.{Line}
 use Rattle.backup_engine.specs.LineValue.{line_value}
 use Rattle.backup_engine.specs.Effects.{Did, GaveUp, Leaves, KeepsSource}

@@ -1,5 +1,3 @@
-use Rattle.std.proofs.Common.{ap, sym, ◌∙◌}
-use Rattle.dd_disk.proofs.Images.{torn_same}
 use Rattle.dd_disk.proofs.Stops.{fill_old}
 use Rattle.dd_disk.proofs.crash.fill_in.Goals as goal
 

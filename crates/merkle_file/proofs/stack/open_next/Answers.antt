@@ -8,7 +8,7 @@ use Rattle.merkle_file.specs.Walk.{HasRoom, below, opened}
 use Rattle.merkle_file.proofs.Walking.{is_named, length-children_in, opened_next}
 use Rattle.merkle_file.proofs.stack.open_next.Goals as goal
 
--- the tree that was next, and those behind it
+-- the tree that was next, and those after it
 split : (items now left : List Top) (t : Top) (len : ℕ) → now ≡ items → length now ≡ len → reverse now ≡ t ∷ reverse (take (length now - 1) now) → left ≡ take (len - 1) items
     → reverse items ≡ t ∷ reverse left
 split items now left t len is len_is e left_is =

@@ -1,11 +1,13 @@
 use Rattle.std.proofs.Common.{◌≡◌, ◌∙◌, inl, inr, ap, sym, subst, refl}
 use Rattle.base_model.proofs.Outcome.{passed_on}
+use Rattle.dd_disk.specs.Ending.{Done, ending_of}
 use Rattle.dd_disk.proofs.Ended.{reads_then}
 use Rattle.dd_disk.proofs.Later.{later_here}
 use Rattle.refusals.specs.declared.refusal.Refusal.TheVariants.{Memory}
 use Rattle.reply_text.specs.declared.ending.Ending.TheVariants.{Refused}
 use Rattle.reply_text.specs.Text.{stored_line}
 use Rattle.store_model.specs.Files.{root_of}
+use Rattle.store_state.specs.Refused.{blames}
 use Rattle.backup_engine.specs.Line.{Ingest}
 use Rattle.backup_engine.specs.Clauses.{TakesIn}
 use Rattle.backup_engine.specs.Effects.{GaveUp}
@@ -101,7 +103,7 @@ returns-in_err-put_file-clause-leaves g c =
     let bytes = c.deref-2.result.now in
     let taken = subst (TakesIn source.left) (sym c.deref-2.ensures.value) c.in_ok-bytes.ensures.taken in
     let new = g.D.Disk.view c.put_file.new.disk in
-    put_leaves c.args.name.now bytes source.left c.in_ok-opened.opened old mid new was taken _ (record { puts = c.in_err-put_file.ensures.moves; calls = c.in_err-put_file.ensures.disk })
+    put_leaves c.args.name.now bytes source.left c.in_ok-opened.opened old mid new was taken (ending_of (blames c.in_err-put_file.field-0.0)) (record { puts = c.in_err-put_file.ensures.moves; calls = c.in_err-put_file.ensures.disk })
 
 pub returns-clause-leaves : goal.returns-clause-leaves
 returns-clause-leaves g c =
@@ -114,7 +116,7 @@ returns-clause-leaves g c =
     let bytes = c.deref-2.result.now in
     let taken = subst (TakesIn source.left) (sym c.deref-2.ensures.value) c.in_ok-bytes.ensures.taken in
     let new = g.D.Disk.view c.put_file.new.disk in
-    put_leaves c.args.name.now bytes source.left c.in_ok-opened.opened old mid new was taken _ (record { puts = c.in_ok-put_file.ensures.moves; calls = c.in_ok-put_file.ensures.disk })
+    put_leaves c.args.name.now bytes source.left c.in_ok-opened.opened old mid new was taken Done (record { puts = c.in_ok-put_file.ensures.moves; calls = c.in_ok-put_file.ensures.disk })
 
 pub returns-clause-did : goal.returns-clause-did
 returns-clause-did g c =

@@ -2,7 +2,7 @@ use Rattle.std.proofs.Common.{ℕ, refl, sym, arith, subst}
 use Rattle.std.specs.Prelude.{option_map}
 use Rattle.base_model.proofs.Outcome.{passed_on}
 use Rattle.container_meta.specs.Spelling.{view}
-use Rattle.dd_disk.specs.Ending.{Reads, ending_of}
+use Rattle.dd_disk.specs.Ending.{Done, Reads, ending_of}
 use Rattle.dd_disk.specs.Shows.{Shows}
 use Rattle.dd_disk.proofs.Shows.{always}
 use Rattle.dd_disk.proofs.Ended.{reads_none, reads_on, reads_then}
@@ -44,13 +44,15 @@ pub returns-in_err-take-clause-reads : goal.returns-in_err-take-clause-reads
 returns-in_err-take-clause-reads g c =
     let view = g.D.Disk.view in
     passed (λ e. Reads e (view c.args.disk.now) (view c.read_next.new.disk)) blames c.from_residual-in_err-take.result Memory c.from_residual-in_err-take.ensures.1
-    (reads_then _ _ (reads_on _ _ _ _ c.loop-slot.invariant.0 c.in_ok-held.ensures.reads))
+    (reads_then (view c.args.disk.now) (view c.read_next.new.disk)
+    (reads_on Done (view c.args.disk.now) (view c.loop-slot.disk) (view c.read_next.new.disk) c.loop-slot.invariant.0 c.in_ok-held.ensures.reads))
 
 pub loop-slot-preserved : goal.loop-slot-preserved
 loop-slot-preserved g c =
     let part = c.loop-slot.invariant.1 in
-    let reads = c.in_ok-held.ensures.reads in (
-      reads_on _ _ _ _ c.loop-slot.invariant.0 reads,
+    let reads = c.in_ok-held.ensures.reads in
+    let seen = g.D.Disk.view in (
+      reads_on Done (seen c.args.disk.now) (seen c.loop-slot.disk) (seen c.read_next.new.disk) c.loop-slot.invariant.0 reads,
       more _ _ _ c.loop-slot.slot c.loop-slot.tables part c.loop-slot.invariant.0.only reads.only c.take.new.self (option_map view c.in_ok-held.held) (c.in_ok-held.ensures.follows part.held part.represents)
           c.in_ok-held.ensures.shown (c.in_ok-take.ensures part.held (sym part.many) part.represents),
     )

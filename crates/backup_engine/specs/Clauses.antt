@@ -58,7 +58,8 @@ IsTakeRefusal shown left name Memory = Unit {0}
 IsTakeRefusal shown left name DiskWrite = Unit {0}
 IsTakeRefusal shown left name TooLong = shown IsOpen × Known left (λ bytes. 2048 < length bytes)
 IsTakeRefusal shown left name refusal =
-    (bytes : List ℕ) × TakesIn left bytes × FitsPut name bytes refusal × shown (HoldsOpenableStore (λ store. IsPutRefusal name bytes store refusal))
+    (bytes : List ℕ) × TakesIn left bytes × FitsPut name bytes refusal
+        × shown (HoldsOpenableStore (λ store. IsPutRefusal name bytes store refusal))
 
 -- why a file is not given back by a store that was opened
 abbrev pub IsReadRefusal : ((List ℕ → Type 0) → Type 0) → List ℕ → Refusal → Type 0
@@ -74,7 +75,8 @@ IsReadRefusal shown name refusal =
 -- `left_now` what the source had and has.
 abbrev pub IsRefused : ((List ℕ → Type 0) → Type 0) → ℕ → Option (List ℕ) → Option (List ℕ) → CommandLine → Refusal → Type 0
 IsRefused shown size left left_now (Format slots) refusal = IsFormatRefusal shown size slots refusal
-IsRefused shown size left left_now (Ingest name) refusal = (IsOpenRefusal shown size refusal × (left_now ≡ left)) ⊎ IsTakeRefusal shown left name refusal
+IsRefused shown size left left_now (Ingest name) refusal =
+    (IsOpenRefusal shown size refusal × (left_now ≡ left)) ⊎ IsTakeRefusal shown left name refusal
 IsRefused shown size left left_now (Restore name) refusal = IsOpenRefusal shown size refusal ⊎ IsReadRefusal shown name refusal
 
 -- What has to be so where a command gave up before its reply.
@@ -83,7 +85,8 @@ IsGivenUp command disk disk_now source source_now Words = ⊥
 IsGivenUp command disk disk_now source source_now Sink = ⊥
 IsGivenUp command disk disk_now source source_now Source =
     (name : List ℕ) × (command ≡ Ingest name) × Shows disk disk_now IsOpen × Rose source.faults source_now.faults
-IsGivenUp command disk disk_now source source_now (Refused refusal) = IsRefused (Shows disk disk_now) disk.size source.left source_now.left command refusal
+IsGivenUp command disk disk_now source source_now (Refused refusal) =
+    IsRefused (Shows disk disk_now) disk.size source.left source_now.left command refusal
 
 -- what an ending blames of the disk
 abbrev pub disk_blame : Ending → Blame
@@ -95,7 +98,8 @@ abbrev pub IsCaused : Option CommandLine → DiskView → DiskView → SourceVie
 IsCaused line disk disk_now source source_now sink sink_now Words = line ≡ None
 IsCaused line disk disk_now source source_now sink sink_now Sink = Rose sink.faults sink_now.faults
 IsCaused line disk disk_now source source_now sink sink_now (Refused Memory) = Unit {0}
-IsCaused line disk disk_now source source_now sink sink_now ending = (command : CommandLine) × (line ≡ Some command) × IsGivenUp command disk disk_now source source_now ending
+IsCaused line disk disk_now source source_now sink sink_now ending =
+    (command : CommandLine) × (line ≡ Some command) × IsGivenUp command disk disk_now source source_now ending
 
 -- the endings of a command that may leave the disk other than it was
 abbrev pub may_write : CommandLine → Ending → Bool
@@ -127,8 +131,14 @@ pub record Ingests (name bytes : List ℕ) (left : Option (List ℕ)) (disk disk
   pub name_is_good : IsName name
   pub taken : TakesIn left bytes
   pub can : Shows disk disk_now (HoldsOpenableStore (λ store. CanPlace bytes store × CanCommit name store))
-  pub stands : Known disk.content (λ old. KnownWith disk_now.content (λ new. HasNoCollisionsWith old bytes → (files : Files) (last : ℕ) → StandsFor old files last → StandsFor new (with_file files name bytes) (suc last)))
-  pub adds : Known disk.content (λ old. KnownWith disk_now.content (λ new. HasNoCollisionsWith old bytes → (store : Store) (files : Files) → IsStoreOf old store files → IsStoreOf new (with_file_put name bytes store) (with_file files name bytes)))
+  pub stands : Known disk.content
+      (λ old. KnownWith disk_now.content
+      (λ new. HasNoCollisionsWith old bytes → (files : Files) (last : ℕ) → StandsFor old files last
+      → StandsFor new (with_file files name bytes) (suc last)))
+  pub adds : Known disk.content
+      (λ old. KnownWith disk_now.content
+      (λ new. HasNoCollisionsWith old bytes → (store : Store) (files : Files) → IsStoreOf old store files
+      → IsStoreOf new (with_file_put name bytes store) (with_file files name bytes)))
 
 -- `restore` that took effect: the bytes have the length and digest of the root that the name was read to have, and lie at
 -- its newest copy; and are those of the file where the disk tells its content.
@@ -144,16 +154,20 @@ pub record Restores (name bytes : List ℕ) (disk disk_now : DiskView) : Type 0 
 -- (`IsLeftByFormat` is recovery's).
 abbrev pub IsLeftByIngest : List ℕ → Option (List ℕ) → List ℕ → List ℕ → Type 0
 IsLeftByIngest name left old new =
-    (new ≡ old) ⊎ (IsOpen old × ((bytes : List ℕ) × TakesIn left bytes × (HasNoCollisionsWith old bytes → (store : Store) (files : Files) → IsStoreOf old store files → HoldsPart name bytes store files new)))
+    (new ≡ old) ⊎ (IsOpen old × ((bytes : List ℕ) × TakesIn left bytes
+        × (HasNoCollisionsWith old bytes → (store : Store) (files : Files) → IsStoreOf old store files
+        → HoldsPart name bytes store files new)))
 
 -- What a refused `ingest` leaves: what stood before, or the store that was opened, with the file's segment.
 abbrev pub IsKeptByIngest : Option (List ℕ) → List ℕ → List ℕ → Type 0
 IsKeptByIngest left old new =
     (new ≡ old)
-    ⊎ (IsOpen old × ((bytes : List ℕ) × TakesIn left bytes × ((store : Store) (files : Files) → IsStoreOf old store files → (new ≡ old) ⊎ IsStoreOf new (with_segment bytes store) files)))
+    ⊎ (IsOpen old × ((bytes : List ℕ) × TakesIn left bytes
+        × ((store : Store) (files : Files) → IsStoreOf old store files → (new ≡ old) ⊎ IsStoreOf new (with_segment bytes store) files)))
 
 -- What a crash may leave of a store of these files while a file is put in.
 abbrev pub MayStandFor : List ℕ → Option (List ℕ) → List ℕ → Files → List ℕ → Type 0
 MayStandFor name left old files image =
     StandsForFiles image files
-    ⊎ ((bytes : List ℕ) × TakesIn left bytes × (HasNoCollisionsWith old bytes → StandsForFiles image files ⊎ StandsForFiles image (with_file files name bytes)))
+    ⊎ ((bytes : List ℕ) × TakesIn left bytes
+        × (HasNoCollisionsWith old bytes → StandsForFiles image files ⊎ StandsForFiles image (with_file files name bytes)))

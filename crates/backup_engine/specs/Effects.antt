@@ -35,7 +35,8 @@ size_made (Some (Restore name)) = None
 -- the command was done, and this is its reply
 abbrev pub IsDone : CommandLine → Option (List ℕ) → DiskView → DiskView → List ℕ → Type 0
 IsDone (Format slots) left disk disk_now reply = Formats slots disk disk_now × (reply ≡ formatted_line slots)
-IsDone (Ingest name) left disk disk_now reply = (bytes : List ℕ) × Ingests name bytes left disk disk_now × (reply ≡ stored_line name (root_of bytes))
+IsDone (Ingest name) left disk disk_now reply =
+    (bytes : List ℕ) × Ingests name bytes left disk disk_now × (reply ≡ stored_line name (root_of bytes))
 IsDone (Restore name) left disk disk_now reply = Restores name reply disk disk_now
 
 -- a command that writes ends with all of it on the disk
@@ -71,14 +72,17 @@ KeepsSource (Restore name) source source_now = source_now.left ≡ source.left
 -- What a crash leaves while a command runs, of a disk that told these bytes and had these images. `leaves P`: at each moment
 -- it leaves an image that has P.
 abbrev pub CrashesTo : CommandLine → Option (List ℕ) → List ℕ → (List ℕ → Type 0) → ((List ℕ → Type 0) → Type 0) → Type 0
-CrashesTo (Format slots) left old images leaves = leaves (λ c. images c ⊎ IsBlankOrFormatted slots c) × (byte_at 0 old ≡ FORMAT_GATE → leaves images)
-CrashesTo (Ingest name) left old images leaves = (files : Files) → StandsForFiles old files → leaves (λ c. images c ⊎ MayStandFor name left old files c)
+CrashesTo (Format slots) left old images leaves =
+    leaves (λ c. images c ⊎ IsBlankOrFormatted slots c) × (byte_at 0 old ≡ FORMAT_GATE → leaves images)
+CrashesTo (Ingest name) left old images leaves = (files : Files) → StandsForFiles old files
+    → leaves (λ c. images c ⊎ MayStandFor name left old files c)
 CrashesTo (Restore name) left old images leaves = leaves images
 
 -- What a crash may leave once a command was refused, but for a write that failed: no more than before, or the same files.
 abbrev pub KeepsFiles : CommandLine → (List ℕ → Type 0) → (List ℕ → Type 0) → Type 0
 KeepsFiles (Format slots) images images_now = (c : List ℕ) → images_now c → images c
-KeepsFiles (Ingest name) images images_now = (files : Files) → ((c : List ℕ) → images c → StandsForFiles c files) → (c : List ℕ) → images_now c → StandsForFiles c files
+KeepsFiles (Ingest name) images images_now = (files : Files) → ((c : List ℕ) → images c → StandsForFiles c files) → (c : List ℕ)
+    → images_now c → StandsForFiles c files
 KeepsFiles (Restore name) images images_now = (c : List ℕ) → images_now c → images c
 
 -- nothing is said to be damaged or foreign

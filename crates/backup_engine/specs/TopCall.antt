@@ -22,7 +22,8 @@ use Rattle.backup_engine.specs.Effects.{SinceStart}
 
 -- A command that was not done: its status, its cause, and its line in the notes. The disk's count of faults rose where a
 -- call of it is blamed, and else is as it was.
-pub record Ended (line : Option CommandLine) (status : ℕ) (disk disk_now : DiskView) (source source_now : SourceView) (sink sink_now notes notes_now : SinkView) : Type 0 where
+pub record Ended (line : Option CommandLine) (status : ℕ) (disk disk_now : DiskView) (source source_now : SourceView)
+    (sink sink_now notes notes_now : SinkView) : Type 0 where
   pub ending : Ending
   pub status_is : status_of ending ≡ status
   pub caused : IsCaused line disk disk_now source source_now sink sink_now ending
@@ -30,7 +31,8 @@ pub record Ended (line : Option CommandLine) (status : ℕ) (disk disk_now : Dis
   pub untouched : (command : CommandLine) → line ≡ Some command → may_write command ending ≡ false → disk_now.content ≡ disk.content
   pub in_notes : IsNoted notes notes_now ending
 
-pub record Promise (line : Option CommandLine) (status : ℕ) (disk disk_now : DiskView) (source source_now : SourceView) (sink sink_now notes notes_now : SinkView) : Type 0 where
+pub record Promise (line : Option CommandLine) (status : ℕ) (disk disk_now : DiskView) (source source_now : SourceView)
+    (sink sink_now notes notes_now : SinkView) : Type 0 where
   -- Words that are no line of the table end with 2, or for want of memory with 1.
   pub words : status ≡ 2 → line ≡ None
   pub no_line : line ≡ None → (status ≡ 2) ⊎ (status ≡ 1)
@@ -45,8 +47,10 @@ pub record Promise (line : Option CommandLine) (status : ℕ) (disk disk_now : D
   pub format_is_durable : (slots : ℕ) → line ≡ Some (Format slots) → TookEffect status → IsDurable disk_now
   pub ingest_is_durable : (name : List ℕ) → line ≡ Some (Ingest name) → TookEffect status → IsDurable disk_now
   -- What a device that fails in mid-command leaves, and what a refusal does.
-  pub format_failed : (slots : ℕ) → line ≡ Some (Format slots) → status ≡ 4 → Known disk.content (λ old. KnownWith disk_now.content (IsLeftByFormat slots old))
-  pub ingest_failed : (name : List ℕ) → line ≡ Some (Ingest name) → status ≡ 4 → Known disk.content (λ old. KnownWith disk_now.content (IsLeftByIngest name source.left old))
+  pub format_failed : (slots : ℕ) → line ≡ Some (Format slots) → status ≡ 4
+      → Known disk.content (λ old. KnownWith disk_now.content (IsLeftByFormat slots old))
+  pub ingest_failed : (name : List ℕ) → line ≡ Some (Ingest name) → status ≡ 4
+      → Known disk.content (λ old. KnownWith disk_now.content (IsLeftByIngest name source.left old))
   pub ingest_refused : (name : List ℕ) → line ≡ Some (Ingest name) → status ≢ 0 → status ≢ 4 → status ≢ 6
       → Known disk.content (λ old. KnownWith disk_now.content (IsKeptByIngest source.left old))
   -- In all other cases the disk is as it was, and nothing is written. `ingest` alone reads the source.
@@ -68,14 +72,20 @@ pub record Promise (line : Option CommandLine) (status : ℕ) (disk disk_now : D
 -- What a crash leaves, of a disk that tells its content, at each moment of the call.
 pub record SurvivesCrash (line : Option CommandLine) (status : ℕ) (left : Option (List ℕ)) (disk disk_now : DiskView) : Type 0 where
   -- `format`: as it was, or blank, or an empty store. Of a disk that has a store: as it was.
-  pub format : (slots : ℕ) → line ≡ Some (Format slots) → Known disk.content (λ old. (c : List ℕ) → SinceStart disk disk_now c → disk.images c ⊎ IsBlankOrFormatted slots c)
-  pub format_of_store : (slots : ℕ) → line ≡ Some (Format slots) → Known disk.content (λ old. byte_at 0 old ≡ FORMAT_GATE → (c : List ℕ) → SinceStart disk disk_now c → disk.images c)
+  pub format : (slots : ℕ) → line ≡ Some (Format slots)
+      → Known disk.content (λ old. (c : List ℕ) → SinceStart disk disk_now c → disk.images c ⊎ IsBlankOrFormatted slots c)
+  pub format_of_store : (slots : ℕ) → line ≡ Some (Format slots)
+      → Known disk.content (λ old. byte_at 0 old ≡ FORMAT_GATE → (c : List ℕ) → SinceStart disk disk_now c → disk.images c)
   -- `ingest` of a disk that stands for these files: as it was, or the files from before or after it.
   pub ingest : (name : List ℕ) → line ≡ Some (Ingest name)
-      → Known disk.content (λ old. (files : Files) → StandsForFiles old files → (c : List ℕ) → SinceStart disk disk_now c → disk.images c ⊎ MayStandFor name left old files c)
-  pub restore : (name : List ℕ) → line ≡ Some (Restore name) → Known disk.content (λ old. (c : List ℕ) → SinceStart disk disk_now c → disk.images c)
+      → Known disk.content (λ old. (files : Files) → StandsForFiles old files → (c : List ℕ) → SinceStart disk disk_now c
+          → disk.images c ⊎ MayStandFor name left old files c)
+  pub restore : (name : List ℕ) → line ≡ Some (Restore name)
+      → Known disk.content (λ old. (c : List ℕ) → SinceStart disk disk_now c → disk.images c)
   pub words : line ≡ None → (c : List ℕ) → SinceStart disk disk_now c → disk.images c
   -- What it leaves once a command was refused, but for a write that failed: no more than before, or the same files.
-  pub refused : ((name : List ℕ) → line ≢ Some (Ingest name)) → status ≢ 0 → status ≢ 4 → status ≢ 6 → Known disk.content (λ old. (c : List ℕ) → disk_now.images c → disk.images c)
+  pub refused : ((name : List ℕ) → line ≢ Some (Ingest name)) → status ≢ 0 → status ≢ 4 → status ≢ 6
+      → Known disk.content (λ old. (c : List ℕ) → disk_now.images c → disk.images c)
   pub ingest_refused : (name : List ℕ) → line ≡ Some (Ingest name) → status ≢ 0 → status ≢ 4 → status ≢ 6
-      → Known disk.content (λ old. (files : Files) → ((c : List ℕ) → disk.images c → StandsForFiles c files) → (c : List ℕ) → disk_now.images c → StandsForFiles c files)
+      → Known disk.content (λ old. (files : Files) → ((c : List ℕ) → disk.images c → StandsForFiles c files) → (c : List ℕ)
+          → disk_now.images c → StandsForFiles c files)

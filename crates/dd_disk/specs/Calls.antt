@@ -163,7 +163,8 @@ filled_by fill Sync false shown image = image
 -- one image after these calls, the first of them first
 abbrev pub filled_after : Fill → List Call → List ℕ → List ℕ → List ℕ
 filled_after fill [] shown image = image
-filled_after fill (call ∷ calls) shown image = filled_after fill calls (shown_by call.asked shown) (filled_by fill call.asked call.done shown image)
+filled_after fill (call ∷ calls) shown image =
+    filled_after fill calls (shown_by call.asked shown) (filled_by fill call.asked call.done shown image)
 
 -- the calls that a stop inside the call of this number lets through
 abbrev pub reached : ℕ → List Call → List Call
@@ -178,39 +179,46 @@ stop_image first calls stop fill = filled_after fill (reached stop calls) first 
 -- The laws of a disk, of one in memory.
 
 -- what reads give may be left
-reads_by : (asked : Asked) (done : Bool) (shown : List ℕ) (images : List ℕ → Type 0) → images shown → images_by asked done shown images (shown_by asked shown)
+reads_by : (asked : Asked) (done : Bool) (shown : List ℕ) (images : List ℕ → Type 0) → images shown
+    → images_by asked done shown images (shown_by asked shown)
 reads_by (Read at count) done shown images here = here
 reads_by (Write at bytes) done shown images here = (shown, here, record { bytes = bytes.items; count = refl; holds = refl })
 reads_by Sync true shown images here = refl
 reads_by Sync false shown images here = here
 
-pub as_read : (calls : List Call) (shown : List ℕ) (images : List ℕ → Type 0) → images shown → images_after shown images calls (shown_after shown calls)
+pub as_read : (calls : List Call) (shown : List ℕ) (images : List ℕ → Type 0) → images shown
+    → images_after shown images calls (shown_after shown calls)
 as_read [] shown images here = here
 as_read (call ∷ calls) shown images here = as_read calls _ _ (reads_by call.asked call.done shown images here)
 
 -- no call lies in the future
-none_later : (calls : List Call) (size count : ℕ) (shown : List ℕ) (images : List ℕ → Type 0) (c : List ℕ) → IsPast size count calls → images_before shown images calls count c → ⊥
+none_later : (calls : List Call) (size count : ℕ) (shown : List ℕ) (images : List ℕ → Type 0) (c : List ℕ) → IsPast size count calls
+    → images_before shown images calls count c → ⊥
 none_later [] size count shown images c past left = left
 none_later (call ∷ calls) size count shown images c past (inl here) = omega (arith, past.0, here.0)
 none_later (call ∷ calls) size count shown images c past (inr there) = none_later calls size count _ _ c past.1.1 there
 
-before_earlier : (calls : List Call) (shown : List ℕ) (images : List ℕ → Type 0) (t u : ℕ) (c : List ℕ) → t ≤ u → images_before shown images calls u c → images_before shown images calls t c
+before_earlier : (calls : List Call) (shown : List ℕ) (images : List ℕ → Type 0) (t u : ℕ) (c : List ℕ) → t ≤ u
+    → images_before shown images calls u c → images_before shown images calls t c
 before_earlier [] shown images t u c le left = left
 before_earlier (call ∷ calls) shown images t u c le (inl here) = inl (omega (arith, le, here.0), here.1)
 before_earlier (call ∷ calls) shown images t u c le (inr there) = inr (before_earlier calls _ _ t u c le there)
 
-pub only_past : (size count : ℕ) (first : List ℕ) (calls : List Call) (c : List ℕ) → IsPast size count calls → images_past first calls count c → images_of first calls c
+pub only_past : (size count : ℕ) (first : List ℕ) (calls : List Call) (c : List ℕ) → IsPast size count calls
+    → images_past first calls count c → images_of first calls c
 only_past size count first calls c past (inl now) = now
 only_past size count first calls c past (inr left) = absurd (none_later calls size count first _ c past left)
 
-pub past_earlier : (first : List ℕ) (calls : List Call) (t u : ℕ) (c : List ℕ) → t ≤ u → images_past first calls u c → images_past first calls t c
+pub past_earlier : (first : List ℕ) (calls : List Call) (t u : ℕ) (c : List ℕ) → t ≤ u → images_past first calls u c
+    → images_past first calls t c
 past_earlier first calls t u c le (inl now) = inl now
 past_earlier first calls t u c le (inr left) = inr (before_earlier calls first _ t u c le left)
 
 pub known_length : (bytes known : List ℕ) → Some bytes ≡ Some known → length known ≡ length bytes
 known_length bytes known is = cc
 
-pub known_as_read : (first bytes known : List ℕ) (calls : List Call) → shown_after first calls ≡ bytes → Some bytes ≡ Some known → images_of first calls known
+pub known_as_read : (first bytes known : List ℕ) (calls : List Call) → shown_after first calls ≡ bytes → Some bytes ≡ Some known
+    → images_of first calls known
 known_as_read first bytes known calls replayed is =
     let same : shown_after first calls ≡ known = cc in
     subst (images_of first calls) same (as_read calls first (λ d. d ≡ first) refl)
@@ -224,7 +232,8 @@ shown_length (Read at count) shown fits = refl
 shown_length (Write at bytes) shown fits = length-written at bytes.items shown fits
 shown_length Sync shown fits = refl
 
-images_length : (asked : Asked) (done : Bool) (size : ℕ) (shown : List ℕ) (images : List ℕ → Type 0) → length shown ≡ size → end_of asked ≤ size → ((c : List ℕ) → images c → length c ≡ size)
+images_length : (asked : Asked) (done : Bool) (size : ℕ) (shown : List ℕ) (images : List ℕ → Type 0) → length shown ≡ size
+    → end_of asked ≤ size → ((c : List ℕ) → images c → length c ≡ size)
     → (c : List ℕ) → images_by asked done shown images c → length c ≡ size
 images_length (Read at count) done size shown images is fits each c left = each c left
 images_length (Write at bytes) done size shown images is fits each c left =
@@ -233,13 +242,16 @@ images_length (Write at bytes) done size shown images is fits each c left =
 images_length Sync true size shown images is fits each c left = ap length left ∙ is
 images_length Sync false size shown images is fits each c left = each c left
 
-pub lengths : (calls : List Call) (size count : ℕ) (shown : List ℕ) (images : List ℕ → Type 0) → IsPast size count calls → length shown ≡ size → ((c : List ℕ) → images c → length c ≡ size)
+pub lengths : (calls : List Call) (size count : ℕ) (shown : List ℕ) (images : List ℕ → Type 0) → IsPast size count calls
+    → length shown ≡ size → ((c : List ℕ) → images c → length c ≡ size)
     → (length (shown_after shown calls) ≡ size) × ((c : List ℕ) → images_after shown images calls c → length c ≡ size)
 lengths [] size count shown images past is each = (is, each)
 lengths (call ∷ calls) size count shown images past is each =
-    lengths calls size count _ _ past.1.1 (shown_length call.asked shown (omega (arith, is, past.1.0)) ∙ is) (images_length call.asked call.done size shown images is past.1.0 each)
+    lengths calls size count _ _ past.1.1 (shown_length call.asked shown (omega (arith, is, past.1.0)) ∙ is)
+    (images_length call.asked call.done size shown images is past.1.0 each)
 
-pub image_length : (first bytes : List ℕ) (calls : List Call) (count : ℕ) (c : List ℕ) → shown_after first calls ≡ bytes → IsPast (length first) count calls → images_of first calls c → length c ≡ length bytes
+pub image_length : (first bytes : List ℕ) (calls : List Call) (count : ℕ) (c : List ℕ) → shown_after first calls ≡ bytes
+    → IsPast (length first) count calls → images_of first calls c → length c ≡ length bytes
 image_length first bytes calls count c replayed past left =
     let all = lengths calls (length first) count first (λ d. d ≡ first) past refl (λ d is. ap length is) in
     all.1 c left ∙ sym all.0 ∙ ap length replayed

@@ -39,10 +39,12 @@ mem_view d = record {
   faults = fault_count d;
   loans = [];
   sized = λ bytes known. known_length d.bytes.items bytes known;
-  image_sized = λ c left. image_length (first_of d.first d.bytes.items) d.bytes.items d.log.calls.items d.log.count c d.replayed d.past left;
+  image_sized = λ c left. image_length
+      (first_of d.first d.bytes.items) d.bytes.items d.log.calls.items d.log.count c d.replayed d.past left;
   as_read = λ bytes known. known_as_read (first_of d.first d.bytes.items) d.bytes.items bytes d.log.calls.items d.replayed known;
   counts_now = λ t c le now. inl now;
-  only_now = λ c before left. only_past (length (first_of d.first d.bytes.items)) d.log.count (first_of d.first d.bytes.items) d.log.calls.items c d.past left;
+  only_now = λ c before left. only_past (length (first_of d.first d.bytes.items)) d.log.count
+      (first_of d.first d.bytes.items) d.log.calls.items c d.past left;
   earlier = λ t u c le left. past_earlier (first_of d.first d.bytes.items) d.log.calls.items t u c le left;
   returned_earlier = λ t u at bytes le returned. tt;
 }
@@ -74,6 +76,8 @@ pub record FollowsScript {T E : Type 0} (is : Asked → Type 0) (old new : MemDi
   pub script : failing new ≡ failing old
   pub first : first_held new ≡ first_held old
   pub replayed : shown new ≡ shown_after (first_held new) (calls_of new)
-  pub done : OnOk result ((is_to_fail (failing old) (call_count old + 1) ≡ false) × IsNoted is true old new × (missed_count new ≡ missed_count old))
-  pub failed : OnErr result (((is_to_fail (failing old) (call_count old + 1) ≡ true) × IsNoted is false old new × (missed_count new ≡ missed_count old))
+  pub done : OnOk result ((is_to_fail (failing old) (call_count old + 1) ≡ false) × IsNoted is true old new
+      × (missed_count new ≡ missed_count old))
+  pub failed : OnErr result (((is_to_fail (failing old) (call_count old + 1) ≡ true) × IsNoted is false old new
+      × (missed_count new ≡ missed_count old))
       ⊎ (Rose (missed_count old) (missed_count new) × (calls_of new ≡ calls_of old) × (shown new ≡ shown old)))

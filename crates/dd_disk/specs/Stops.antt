@@ -12,4 +12,5 @@ filled_write fill at bytes image = written at (filled fill (range at (length byt
 
 -- no calls, or ones of which the last is a sync that was done
 abbrev pub EndsSynced : List Call → Type 0
-EndsSynced calls = (calls ≡ []) ⊎ ((before : List Call) × ((last : Call) × (calls ≡ before ++ last ∷ []) × (last.done ≡ true) × (last.asked ≡ Sync)))
+EndsSynced calls = (calls ≡ [])
+    ⊎ ((before : List Call) × ((last : Call) × (calls ≡ before ++ last ∷ []) × (last.done ≡ true) × (last.asked ≡ Sync)))

@@ -31,7 +31,8 @@ Written whole Broken old new = Unit {0}
 
 -- The whole is written, and durable; or nothing was; or it broke. At any moment a crash leaves an image from before, or a
 -- step from one, which may go by the content at the start.
-pub record Writes (step : List ℕ → List ℕ → List ℕ → Type 0) (whole : List ℕ → List ℕ → Type 0) (ending : Ending) (old new : DiskView) : Type 0 where
+pub record Writes (step : List ℕ → List ℕ → List ℕ → Type 0) (whole : List ℕ → List ℕ → Type 0) (ending : Ending)
+    (old new : DiskView) : Type 0 where
   pub later : IsLater old new
   pub steps : Known old.content (λ given. CrashLeaves (SteppedFrom (step given) old) old new)
   pub written : Written whole ending old new

@@ -78,7 +78,8 @@ impl Disk for BlindDisk {
         ensures gives { TellsLies (lies_of self.old) at (range at (length into.old) (held self.old)) into.new }
         ensures done { IsOk result }
         ensures held { (held self.new ≡ held self.old) × (lies_of self.new ≡ lies_of self.old) }
-        ensures time { (moment_of self.new ≡ min (moment_of self.old + 1) (2 ^ 64 - 1)) × (last_write_of self.new ≡ last_write_of self.old) }
+        ensures time { (moment_of self.new ≡ min (moment_of self.old + 1) (2 ^ 64 - 1))
+            × (last_write_of self.new ≡ last_write_of self.old) }
         ensures returned { (blind_view self.new).read_returned (blind_view self.old).clock at into.new }
         ensures rises { Rose (blind_view self.old).clock (blind_view self.new).clock }
         ensures reads { Reads Done (blind_view self.old) (blind_view self.new) }
@@ -110,7 +111,8 @@ impl Disk for BlindDisk {
     fn sync(&mut self) -> Result<(), DiskFault>
         ensures done { IsOk result }
         ensures held { (held self.new ≡ held self.old) × (lies_of self.new ≡ lies_of self.old) }
-        ensures time { (moment_of self.new ≡ min (moment_of self.old + 1) (2 ^ 64 - 1)) × (last_write_of self.new ≡ last_write_of self.old) }
+        ensures time { (moment_of self.new ≡ min (moment_of self.old + 1) (2 ^ 64 - 1))
+            × (last_write_of self.new ≡ last_write_of self.old) }
         ensures rises { Rose (blind_view self.old).clock (blind_view self.new).clock }
         ensures reads { Reads Done (blind_view self.old) (blind_view self.new) }
     {

@@ -58,7 +58,8 @@ pub record IsName (name : List ℕ) : Type 0 where
 -- operation 1: the name has this root from that sequence number on
 unfoldable pub put_fields : ℕ → List ℕ → Root → List ℕ
 put_fields sequence name root =
-    (1 ∷ length name ∷ []) ++ to_be_bytes w64 sequence ++ to_be_bytes w64 root.length ++ (root.level ∷ []) ++ root.digest ++ name ++ zeros (428 - length name)
+    (1 ∷ length name ∷ []) ++ to_be_bytes w64 sequence ++ to_be_bytes w64 root.length ++ (root.level ∷ []) ++ root.digest ++ name
+        ++ zeros (428 - length name)
 
 -- what a record says of its name
 pub data Change : Type 0 where
@@ -84,7 +85,8 @@ root_in Delete = record { length = 0; level = 0; digest = zeros 32 }
 unfoldable pub record_front : RecordValue → List ℕ
 record_front r =
     let root = root_in r.change in
-    (operation_of r.change ∷ length r.name ∷ []) ++ to_be_bytes w64 r.sequence ++ to_be_bytes w64 root.length ++ (root.level ∷ []) ++ root.digest
+    (operation_of r.change ∷ length r.name ∷ []) ++ to_be_bytes w64 r.sequence ++ to_be_bytes w64 root.length ++ (root.level ∷ [])
+        ++ root.digest
 
 unfoldable pub record_fields : RecordValue → List ℕ
 record_fields r = record_front r ++ r.name ++ zeros (428 - length r.name)

@@ -59,7 +59,7 @@ IsTakeRefusal shown left name DiskWrite = Unit {0}
 IsTakeRefusal shown left name TooLong = shown IsOpen × Known left (λ bytes. 2048 < length bytes)
 IsTakeRefusal shown left name refusal =
     (bytes : List ℕ) × TakesIn left bytes × FitsPut name bytes refusal
-        × shown (HoldsOpenableStore (λ store. IsPutRefusal name bytes store refusal))
+    × shown (HoldsOpenableStore (λ store. IsPutRefusal name bytes store refusal))
 
 -- why a file is not given back by a store that was opened
 abbrev pub IsReadRefusal : ((List ℕ → Type 0) → Type 0) → List ℕ → Refusal → Type 0
@@ -155,19 +155,19 @@ pub record Restores (name bytes : List ℕ) (disk disk_now : DiskView) : Type 0 
 abbrev pub IsLeftByIngest : List ℕ → Option (List ℕ) → List ℕ → List ℕ → Type 0
 IsLeftByIngest name left old new =
     (new ≡ old) ⊎ (IsOpen old × ((bytes : List ℕ) × TakesIn left bytes
-        × (HasNoCollisionsWith old bytes → (store : Store) (files : Files) → IsStoreOf old store files
-        → HoldsPart name bytes store files new)))
+    × (HasNoCollisionsWith old bytes → (store : Store) (files : Files) → IsStoreOf old store files
+    → HoldsPart name bytes store files new)))
 
 -- What a refused `ingest` leaves: what stood before, or the store that was opened, with the file's segment.
 abbrev pub IsKeptByIngest : Option (List ℕ) → List ℕ → List ℕ → Type 0
 IsKeptByIngest left old new =
     (new ≡ old)
     ⊎ (IsOpen old × ((bytes : List ℕ) × TakesIn left bytes
-        × ((store : Store) (files : Files) → IsStoreOf old store files → (new ≡ old) ⊎ IsStoreOf new (with_segment bytes store) files)))
+    × ((store : Store) (files : Files) → IsStoreOf old store files → (new ≡ old) ⊎ IsStoreOf new (with_segment bytes store) files)))
 
 -- What a crash may leave of a store of these files while a file is put in.
 abbrev pub MayStandFor : List ℕ → Option (List ℕ) → List ℕ → Files → List ℕ → Type 0
 MayStandFor name left old files image =
     StandsForFiles image files
     ⊎ ((bytes : List ℕ) × TakesIn left bytes
-        × (HasNoCollisionsWith old bytes → StandsForFiles image files ⊎ StandsForFiles image (with_file files name bytes)))
+    × (HasNoCollisionsWith old bytes → StandsForFiles image files ⊎ StandsForFiles image (with_file files name bytes)))

@@ -79,7 +79,7 @@ pub record SurvivesCrash (line : Option CommandLine) (status : ℕ) (left : Opti
   -- `ingest` of a disk that stands for these files: as it was, or the files from before or after it.
   pub ingest : (name : List ℕ) → line ≡ Some (Ingest name)
       → Known disk.content (λ old. (files : Files) → StandsForFiles old files → (c : List ℕ) → SinceStart disk disk_now c
-          → disk.images c ⊎ MayStandFor name left old files c)
+      → disk.images c ⊎ MayStandFor name left old files c)
   pub restore : (name : List ℕ) → line ≡ Some (Restore name)
       → Known disk.content (λ old. (c : List ℕ) → SinceStart disk disk_now c → disk.images c)
   pub words : line ≡ None → (c : List ℕ) → SinceStart disk disk_now c → disk.images c
@@ -88,4 +88,4 @@ pub record SurvivesCrash (line : Option CommandLine) (status : ℕ) (left : Opti
       → Known disk.content (λ old. (c : List ℕ) → disk_now.images c → disk.images c)
   pub ingest_refused : (name : List ℕ) → line ≡ Some (Ingest name) → status ≢ 0 → status ≢ 4 → status ≢ 6
       → Known disk.content (λ old. (files : Files) → ((c : List ℕ) → disk.images c → StandsForFiles c files) → (c : List ℕ)
-          → disk_now.images c → StandsForFiles c files)
+      → disk_now.images c → StandsForFiles c files)

@@ -59,7 +59,7 @@ pub record IsName (name : List ℕ) : Type 0 where
 unfoldable pub put_fields : ℕ → List ℕ → Root → List ℕ
 put_fields sequence name root =
     (1 ∷ length name ∷ []) ++ to_be_bytes w64 sequence ++ to_be_bytes w64 root.length ++ (root.level ∷ []) ++ root.digest ++ name
-        ++ zeros (428 - length name)
+    ++ zeros (428 - length name)
 
 -- what a record says of its name
 pub data Change : Type 0 where
@@ -86,7 +86,7 @@ unfoldable pub record_front : RecordValue → List ℕ
 record_front r =
     let root = root_in r.change in
     (operation_of r.change ∷ length r.name ∷ []) ++ to_be_bytes w64 r.sequence ++ to_be_bytes w64 root.length ++ (root.level ∷ [])
-        ++ root.digest
+    ++ root.digest
 
 unfoldable pub record_fields : RecordValue → List ℕ
 record_fields r = record_front r ++ r.name ++ zeros (428 - length r.name)

@@ -19,7 +19,7 @@ formatted_line slots = codes "formatted " ++ decimal slots ++ codes "\n"
 unfoldable pub stored_line : List ℕ → Root → List ℕ
 stored_line name root =
     codes "stored " ++ name ++ codes " " ++ decimal root.length ++ codes " " ++ decimal root.level ++ codes " "
-        ++ encode_lower root.digest ++ codes "\n"
+    ++ encode_lower root.digest ++ codes "\n"
 
 -- how two segments of one key differ
 unfoldable pub difference_text : Difference → List ℕ
@@ -43,7 +43,7 @@ refusal_text DiskRead = codes "10 diskread"
 refusal_text DiskWrite = codes "11 diskwrite"
 refusal_text (Corrupt slot offset length want got) =
     codes "13 corrupt " ++ decimal slot ++ codes " " ++ decimal offset ++ codes " " ++ decimal length ++ codes " " ++ encode_lower want
-        ++ codes " " ++ encode_lower got
+    ++ codes " " ++ encode_lower got
 refusal_text (Missing key) = codes "14 missing " ++ encode_lower key
 refusal_text Numbers = codes "15 numbers"
 refusal_text (NotAStore gate magic) = codes "16 notastore " ++ encode_lower (gate ∷ []) ++ codes " " ++ encode_lower magic

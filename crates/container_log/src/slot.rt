@@ -72,7 +72,8 @@ fn read_open<D: Disk>(alloc: Global, disk: &mut D, slot: u32) -> Result<Meta, Lo
 pub fn read_slot<D: Disk>(alloc: Global, disk: &mut D, slot: u32) -> Result<Option<Meta>, LogFault>
     requires { slot_at slot + SLOT_BYTES ≤ (D.view disk.old).size }
     ensures right { IfOk result (λ held. IfSome held (λ m. IsHeader (view m))) }
-    ensures shown { IfOk result (λ held. Shows (D.view disk.old) (D.view disk.new) (λ image. HoldsSlot image slot (option_map view held))) }
+    ensures shown { IfOk result (λ held. Shows (D.view disk.old) (D.view disk.new)
+        (λ image. HoldsSlot image slot (option_map view held))) }
     // What the slot holds is answered, unless memory or the disk fails.
     ensures only { Shows (D.view disk.old) (D.view disk.new) (λ image. (held : Option HeaderValue) → HoldsSlot image slot held
         → UnlessFailed fails (λ m. held ≡ option_map view m) result) }

@@ -77,7 +77,8 @@ fn put_fields(out: &mut [u8], fields: &Fields)
 /// Writes the bytes before the entries, which stand spelled in `entries`.
 pub(crate) fn put_front(out: &mut [u8], fields: &Fields, entries: &[u8])
     requires { length out.old ≡ 512 }
-    ensures { out.new ≡ front_spelling (fields_spelling fields.now.id fields.now.kind fields.now.count fields.now.data_length) entries.now }
+    ensures { out.new ≡ front_spelling
+        (fields_spelling fields.now.id fields.now.kind fields.now.count fields.now.data_length) entries.now }
 {
     put_fields(out, fields);
     let mut hasher = Sha256::new();

@@ -93,7 +93,8 @@ impl Disk for BlindDisk {
     fn write(&mut self, at: u64, from: &[u8]) -> Result<(), DiskFault>
         requires { at + length from.now ≤ length (held self.old) }
         ensures held { (held self.new ≡ written at from.now (held self.old)) × (lies_of self.new ≡ lies_of self.old) }
-        ensures time { (moment_of self.new ≡ min (moment_of self.old + 1) (2 ^ 64 - 1)) × (last_write_of self.new ≡ moment_of self.new) }
+        ensures time { (moment_of self.new ≡ min (moment_of self.old + 1) (2 ^ 64 - 1))
+            × (last_write_of self.new ≡ moment_of self.new) }
         ensures done { IsOk result }
         ensures leaves { CrashLeaves (SteppedFrom (Torn at (length from.now)) (blind_view self.old))
             (blind_view self.old) (blind_view self.new) }

@@ -36,7 +36,8 @@ pub trait Disk {
         ensures torn { Both (Torn at (length from.now)) (view self.old).content (view self.new).content }
         ensures leaves { CrashLeaves (SteppedFrom (Torn at (length from.now)) (view self.old)) (view self.old) (view self.new) }
         // A crash may indeed leave any bytes there.
-        ensures tears { OnOk result ((d c : List ℕ) → (view self.old).images d → Torn at (length from.now) d c → (view self.new).images c) }
+        ensures tears { OnOk result ((d c : List ℕ) → (view self.old).images d → Torn at (length from.now) d c
+            → (view self.new).images c) }
         ensures later { IsLater (view self.old) (view self.new) }
         ensures rises { Rose (view self.old).clock (view self.new).clock }
         ensures count { CountsFault (ending (λ _. WriteCall) result) (view self.old).faults (view self.new).faults };

@@ -51,7 +51,8 @@ impl Source for MemSource {
             → Known (⟦<MemSource as Source>⟧.view self.old).left (λ bytes. bytes ≡ [])) }
         ensures err { OnErr result (Known (⟦<MemSource as Source>⟧.view self.old).left
             (λ bytes. (⟦<MemSource as Source>⟧.view self.new).left ≡ Some bytes)) }
-        ensures cause { HasCause (⟦<MemSource as Source>⟧.view self.old).faults (⟦<MemSource as Source>⟧.view self.new).faults result }
+        ensures cause { HasCause (⟦<MemSource as Source>⟧.view self.old).faults
+            (⟦<MemSource as Source>⟧.view self.new).faults result }
         ensures script { FollowsScript (source_script self.old) (source_script self.new) result }
         ensures no_memory { missed_count (source_script self.new) ≡ missed_count (source_script self.old) }
     {

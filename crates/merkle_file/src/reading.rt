@@ -33,7 +33,8 @@ pub(crate) fn check(bytes: &[u8], asked: &Asked) -> Result<(), FieldFault>
     requires { IsAsked asked.now }
     ensures fault { found_fault result ≡ first_fault asked.now bytes.now }
     ensures found { OnOk result (SpellsNode asked.now bytes.now) }
-    ensures only { (n : Contents) → IsNode n → IsWithin asked.now n → bytes.now ≡ spelling n → IsOk result × (contents_in bytes.now ≡ n) }
+    ensures only { (n : Contents) → IsNode n → IsWithin asked.now n → bytes.now ≡ spelling n
+        → IsOk result × (contents_in bytes.now ≡ n) }
     ensures long { OnOk result (length bytes.now ≡ 4 + 40 * short_number (drop 2 bytes.now)) }
 {
     check_fields(bytes, asked)

@@ -171,7 +171,8 @@ impl Names {
         ensures ok { IfOk result (λ names. names ≡ names_after (map record_value records.now) finite.empty) }
         ensures names { IfOk result (λ names. AreNames names) }
         ensures taken { OnOk result (AreTaken finite.empty (map record_value records.now)) }
-        ensures cause { IfErr result (λ fault. (fault ≡ NameFault.Memory) ⊎ AreRefused finite.empty (map record_value records.now) fault) }
+        ensures cause { IfErr result (λ fault. (fault ≡ NameFault.Memory)
+            ⊎ AreRefused finite.empty (map record_value records.now) fault) }
     {
         let mut names = Names::new(alloc);
         for record in records {

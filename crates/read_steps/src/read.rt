@@ -102,8 +102,8 @@ pub fn read_root<D: Disk>(
     requires right { IsRoot root.now }
     // On any disk, whatever it gives.
     ensures bytes { IfOk result (λ bytes. (length bytes.items ≡ root.now.length) × (sha256 bytes.items ≡ root.now.digest)) }
-    ensures shown { IfOk result (λ bytes. Shows (D.view disk.old) (D.view disk.new) (λ image. (store : Store) → Represents store opened.now
-        → AreBytesOf root.now bytes.items store image)) }
+    ensures shown { IfOk result (λ bytes. Shows (D.view disk.old) (D.view disk.new) (λ image. (store : Store)
+        → Represents store opened.now → AreBytesOf root.now bytes.items store image)) }
     ensures reads { Reads (ending blames result) (D.view disk.old) (D.view disk.new) }
     ensures refused { IfErr result (IsFileRefusal (Shows (D.view disk.old) (D.view disk.new)) opened.now root.now) }
 {

@@ -21,7 +21,8 @@ use store_state::Containers;
 fn read_one<D: Disk>(alloc: Global, disk: &mut D, slot: u32) -> Result<Option<Meta>, Refusal>
     requires { slot_at slot + SLOT_BYTES ≤ (D.view disk.old).size }
     ensures right { IfOk result (λ held. IfSome held (λ m. IsHeader (view m))) }
-    ensures shown { IfOk result (λ held. Shows (D.view disk.old) (D.view disk.new) (λ image. HoldsSlot image slot (option_map view held))) }
+    ensures shown { IfOk result (λ held. Shows (D.view disk.old) (D.view disk.new)
+        (λ image. HoldsSlot image slot (option_map view held))) }
     ensures only { IfErr result (λ refusal. Shows (D.view disk.old) (D.view disk.new) (λ image. (held : Option HeaderValue)
         → HoldsSlot image slot held → IsTrue (fails refusal))) }
     ensures reads { Reads (ending blames result) (D.view disk.old) (D.view disk.new) }
@@ -49,7 +50,8 @@ fn read_next<D: Disk>(
     ensures right { IfOk result (λ held. IfSome held (λ m. IsHeader (view m))) }
     ensures follows { IfOk result (λ held. (before : List (Option HeaderValue)) → RepresentsContainers before tables.now
         → MayFollow before (option_map view held)) }
-    ensures shown { IfOk result (λ held. Shows (D.view disk.old) (D.view disk.new) (λ image. HoldsSlot image slot (option_map view held))) }
+    ensures shown { IfOk result (λ held. Shows (D.view disk.old) (D.view disk.new)
+        (λ image. HoldsSlot image slot (option_map view held))) }
     ensures only { IfErr result (λ refusal. (before : List (Option HeaderValue)) → RepresentsContainers before tables.now
         → Shows (D.view disk.old) (D.view disk.new) (λ image. (held : Option HeaderValue) → HoldsSlot image slot held
         → MayFollow before held → IsTrue (fails refusal))) }

@@ -95,8 +95,8 @@ impl Containers {
 
     // Takes one more entry of the container that stands after the slots that were read.
     fn add_entry(&mut self, slot: u32, id: u64, entry: &Entry) -> Result<(), AllocError>
-        ensures { OnOk result ((held : List (Option HeaderValue)) (before : List EntryValue) → has_digest before entry.now.digest ≡ false
-            → ArePart held slot id before self.old → ArePart held slot id (before ++ entry.now ∷ []) self.new) }
+        ensures { OnOk result ((held : List (Option HeaderValue)) (before : List EntryValue)
+            → has_digest before entry.now.digest ≡ false → ArePart held slot id before self.old → ArePart held slot id (before ++ entry.now ∷ []) self.new) }
     {
         let key = key_of_entry(entry);
         if self.is_newer(&key, id) {
@@ -139,7 +139,8 @@ impl Containers {
     /// Whether no container has this id, which isn't 0.
     pub fn is_unused_id(&self, id: u64) -> bool
         requires { 1 ≤ id }
-        ensures unused { (held : List (Option HeaderValue)) → RepresentsContainers held self.now → IsTrue result → IsUnusedId id held }
+        ensures unused { (held : List (Option HeaderValue)) → RepresentsContainers held self.now
+            → IsTrue result → IsUnusedId id held }
         ensures used { (held : List (Option HeaderValue)) → RepresentsContainers held self.now → IsTrue (not result)
             → ¬ (IsUnusedId id held) }
     {
@@ -149,7 +150,8 @@ impl Containers {
     /// How many slots are closed.
     pub fn free(&self) -> u32
         requires { length self.now.ids.items ≤ MANY }
-        ensures { (held : List (Option HeaderValue)) → RepresentsContainers held self.now → AreHeaders held → result ≡ free_slots held }
+        ensures { (held : List (Option HeaderValue)) → RepresentsContainers held self.now → AreHeaders held
+            → result ≡ free_slots held }
     {
         zeros_in(&self.ids)
     }

@@ -114,11 +114,6 @@ fn add_both<D: Disk>(
     }
 }
 
-/// What a journal tells of itself.
-fn state(journal: &Journal) -> (u32, u64) {
-    (journal.count(), journal.last())
-}
-
 /// The root of a put.
 fn root_of(change: &Change) -> Option<(u64, u8, [u8; 32])> {
     match change {
@@ -146,7 +141,7 @@ fn added(
     let (mut journal, mut names) = read(alloc, disk)?;
     add_both(alloc, disk, &mut journal, &mut names, value)?;
     let (again, left) = read(alloc, disk)?;
-    assert_eq!(rt; state(&journal), state(&again));
+    assert!(rt; journal == again);
     assert!(rt; are_same(&left.list(alloc)?, &names.list(alloc)?));
     Ok(again)
 }
@@ -178,7 +173,7 @@ fn two_records_are_appended_without_a_reading(rt: HostRuntime) -> Result<(), Fai
     }
     assert_eq!(rt; (journal.count(), journal.last()), (2, 2));
     let (again, left) = read(alloc, &mut disk)?;
-    assert_eq!(rt; state(&journal), state(&again));
+    assert!(rt; journal == again);
     assert!(rt; are_same(&left.list(alloc)?, &names.list(alloc)?));
     Ok(())
 }
@@ -226,7 +221,7 @@ fn a_call_of_the_disk_that_fails_leaves_the_journal(rt: HostRuntime) -> Result<(
         let mut journal = before;
         let answer = add(alloc, &mut disk, &mut journal, &names, &value)?;
         assert!(rt; matches!(answer, Err(CellFault::DiskWrite)), "{}", call);
-        assert_eq!(rt; state(&journal), state(&before), "{}", call);
+        assert!(rt; journal == before, "{}", call);
         // The gate is written by the third call.
         let (again, _names) = read(alloc, &mut disk)?;
         assert_eq!(rt; again.count() == 1, call > 2, "{}", call);

@@ -4,3 +4,6 @@ pub mod Image
 pub mod Journal
 pub mod Refusals
 pub mod Slots
+pub mod Standing
+pub mod Steps
+pub mod Trees

@@ -1,14 +1,14 @@
 -- A container as it is written.
-use Rattle.std.proofs.Common.{◌≡◌, ℕ, ◌-◌, ◌*◌, ◌≤◌, true, List, [], ◌∷◌, ◌++◌, length, take, Some, refl, sym, ap, subst, ◌∙◌, arith, append_assoc}
+use Rattle.std.proofs.Common.{◌≡◌, ℕ, ◌+◌, ◌-◌, ◌*◌, ◌≤◌, true, List, [], ◌∷◌, ◌++◌, length, take, Some, refl, sym, ap, subst, ◌∙◌, arith, append_assoc}
 use Rattle.base_model.specs.Bytes.{zeros}
-use Rattle.std.specs.Prelude.{nat_le}
-use Rattle.std.proofs.lemmas.Bool.{le-leb, leb-true}
+use Rattle.std.specs.Prelude.{nat_le, ◌==◌}
+use Rattle.std.proofs.lemmas.Bool.{le-leb, leb-true, eqb-true}
 use Rattle.std.proofs.lemmas.List.{take_at}
-use Rattle.disk_format.specs.declared.numbers.TheConstants.{DATA_BYTES, MOST_ENTRIES, MOST_SEGMENT}
+use Rattle.disk_format.specs.declared.numbers.TheConstants.{DATA_BYTES, MOST_ENTRIES, MOST_SEGMENT, MOST_CHILDREN}
 use Rattle.container_meta.specs.declared.kind.Kind.{Kind}
 use Rattle.container_meta.specs.declared.kind.Kind.TheVariants.{Leaf, Tree}
 use Rattle.container_meta.specs.declared.entry.Entry.{Entry}
-use Rattle.container_meta.specs.Format.{kind_byte, kind_of, is_id, is_within, is_length}
+use Rattle.container_meta.specs.Format.{kind_byte, kind_of, is_id, is_within, is_length, child_count}
 use Rattle.container_meta.specs.Segments.{Segment, bytes_in, entries_from, segments_in}
 use Rattle.container_meta.specs.Spelling.{bytes_of, Follow, IsHeader, entries_spelling, fields_spelling, front_spelling, header_of, container_spelling}
 use Rattle.base_model.proofs.Checks.{both, both_true}
@@ -48,11 +48,11 @@ container_written id kind es bytes front entries rest part exact whole allowed w
 
 kind_taken : (kind : Kind) (n : ℕ) → is_length kind n ≡ true → kind_of (kind_byte kind) ≡ Some kind
 kind_taken Leaf n h = refl
-kind_taken Tree n h = absurd cc
+kind_taken Tree n h = refl
 
 some_length : (kind : Kind) (n : ℕ) → is_length kind n ≡ true → 1 ≤ n
 some_length Leaf n h = leb-true 1 n (both (nat_le 1 n) (nat_le n MOST_SEGMENT) h).0
-some_length Tree n h = absurd cc
+some_length Tree n h = omega (arith, eqb-true n (4 + 40 * child_count n) (both (is_within 1 MOST_CHILDREN (child_count n)) (n == 4 + 40 * child_count n) h).1)
 
 within : (high n : ℕ) → 1 ≤ n → n ≤ high → is_within 1 high n ≡ true
 within high n low up = both_true (nat_le 1 n) (nat_le n high) (le-leb 1 n low) (le-leb n high up)

@@ -99,7 +99,8 @@ entries_found kind data_length (suc n) before bytes all fits long e =
 
 kind_found : (b : ℕ) → is_some (kind_of b) ≡ true → (b ≡ kind_byte (unwrap_or (kind_of b) Leaf)) × (kind_of (kind_byte (unwrap_or (kind_of b) Leaf)) ≡ Some (unwrap_or (kind_of b) Leaf))
 kind_found zero h = (refl, refl)
-kind_found (suc b) h = absurd cc
+kind_found (suc zero) h = (refl, refl)
+kind_found (suc (suc b)) h = absurd cc
 
 zeros_found : (from count place : ℕ) (bytes : List ℕ) → from + count ≤ length bytes → place ≡ from + count → (zeros_end from count bytes == place) ≡ true → range from count bytes ≡ zeros count
 unfolding zeros_end

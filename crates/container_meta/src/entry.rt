@@ -12,9 +12,10 @@ pub struct Entry {
     pub digest: [u8; 32],
     /// The place of its first byte, counted from the slot's data section, byte `disk_format::HEADER_BYTES`, on.
     pub offset: u32,
-    /// How many bytes it has, from 1 to `disk_format::MOST_SEGMENT`.
+    /// How many bytes it has: of data from 1 to `disk_format::MOST_SEGMENT`, of a node `4 + 40 * k` for a k from 1 to
+    /// `disk_format::MOST_CHILDREN`.
     pub length: u32,
-    /// 0 for data, and for a node of a tree its height above the data.
+    /// 0 for data, and for a node of a tree its height above the data, 1 to `disk_format::MOST_LEVEL`.
     pub level: u8,
 }
 

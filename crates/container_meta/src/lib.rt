@@ -17,7 +17,7 @@ pub use container::{Fit, OpenContainer};
 pub use entry::{Entry, Header, Meta};
 pub use fault::MetaFault;
 pub use kind::Kind;
-pub use place::{Key, Place};
+pub use place::{Key, Place, key_of};
 pub use reading::{decode, decode_into};
 pub use segment::{Seg, digest_of};
 

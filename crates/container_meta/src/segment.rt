@@ -3,7 +3,8 @@
 ghost use Rattle.std.specs.Prelude.{◌≡◌, IfOk};
 ghost use Rattle.sha2.specs.Sha256.{sha256};
 
-use crate::kind::{Kind, byte_of};
+use crate::kind::Kind;
+use crate::place::{Key, key_of};
 use sha2::{Digest, Sha256};
 use std::alloc::{AllocError, Global};
 use std::marker::Model;
@@ -51,6 +52,19 @@ impl Seg {
         })
     }
 
+    /// A node of a file's tree, of any level and any bytes: a container takes it only where the level is one that nodes
+    /// have, and the bytes are as many as a node's. The bytes are copied; it fails for want of memory alone.
+    pub fn tree(alloc: Global, level: u8, bytes: &[u8]) -> Result<Seg, AllocError>
+        ensures { IfOk result (λ s. s ≡ record { kind = Kind.Tree; segment = record { level = level; bytes = bytes.now } }) }
+    {
+        Ok(Seg {
+            kind: Kind::Tree,
+            level,
+            bytes: Vec::from_slice(alloc, bytes)?,
+            digest: digest_of(bytes),
+        })
+    }
+
     /// Whether the bytes are a file's or a node's.
     pub fn kind(&self) -> Kind
         ensures { result ≡ self.now.kind }
@@ -58,7 +72,7 @@ impl Seg {
         self.kind
     }
 
-    /// Its height above the data: 0 for a part of a file.
+    /// Its height above the data: 0 for a part of a file, from 1 on for a node.
     pub fn level(&self) -> u8
         ensures { result ≡ self.now.segment.level }
     {
@@ -80,12 +94,9 @@ impl Seg {
     }
 
     /// The key: the kind's number, 0 or 1, then the digest.
-    pub fn key(&self) -> [u8; 33]
+    pub fn key(&self) -> Key
         ensures { result ≡ segment_key self.now.kind self.now.segment }
     {
-        let mut key = [0u8; 33];
-        key[0] = byte_of(self.kind);
-        key[1..].copy_from_slice(&self.digest);
-        key
+        key_of(self.kind, &self.digest)
     }
 }

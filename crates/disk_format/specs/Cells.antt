@@ -4,7 +4,7 @@ use Rattle.std.specs.Prelude.{◌≡◌, ℕ, ◌-◌, ◌^◌, ◌<◌, ◌≤�
 use Rattle.std.specs.Int.{w32, w64, to_be_bytes}
 use Rattle.base_model.specs.Bytes.{zeros}
 use Rattle.sha2.specs.Sha256.{sha256}
-use Rattle.disk_format.specs.declared.numbers.TheConstants.{FORMAT_GATE, SELECTOR_GATE, RECORD_GATE, VERSION, MOST_NAME, MOST_SEGMENT, MOST_FILE}
+use Rattle.disk_format.specs.declared.numbers.TheConstants.{FORMAT_GATE, SELECTOR_GATE, RECORD_GATE, VERSION, MOST_NAME, MOST_SEGMENT, MOST_FILE, MOST_LEVEL}
 
 -- 479 bytes of fields after a gate, and their digest
 unfoldable pub sealed : ℕ → List ℕ → List ℕ
@@ -98,9 +98,9 @@ record_cell r = sealed RECORD_GATE (record_fields r)
 abbrev pub is_root_length : ℕ → ℕ → Bool
 is_root_length level count = nat_le count MOST_FILE && (if level == 0 then nat_le count MOST_SEGMENT else nat_le 1 count)
 
--- until files have trees, the root of each is at level 0
+-- the levels of roots: 0 where one segment or none is the whole file, else that of the node on top of its tree
 abbrev pub is_root_level : ℕ → Bool
-is_root_level level = level == 0
+is_root_level level = nat_le level MOST_LEVEL
 
 -- a root that a file may have
 pub record IsRoot (root : Root) : Type 0 where

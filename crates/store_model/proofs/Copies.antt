@@ -1,6 +1,6 @@
 -- Where the newest copy of a key lies.
 use Rattle.std.proofs.Common.{◌≡◌, ◌⊎◌, inl, inr, ℕ, zero, suc, ◌+◌, ◌<◌, ◌≤◌, Bool, true, false, cond, List, [], ◌∷◌, ◌++◌, length, get_or, Option, Some, None, find, option_map, refl, sym, ◌∙◌, ap, subst, arith}
-use Rattle.std.specs.Prelude.{nat_lt, nat_le, ◌&&◌, if◌then◌else◌}
+use Rattle.std.specs.Prelude.{nat_lt, nat_le, ◌&&◌, ◌==◌, ◌*◌, if◌then◌else◌}
 use Rattle.std.specs.List.{AllByRecursion}
 use Rattle.std.specs.Str.{bytes_eq}
 use Rattle.std.proofs.lemmas.Bool.{leb-true, eqb-true}
@@ -8,12 +8,12 @@ use Rattle.std.proofs.lemmas.List.Sums.{sum_by-append, sum_by-cons}
 use Rattle.std.proofs.lemmas.Slice.Eq.{bytes_eq-Decides}
 use Rattle.sha2.specs.Sha256.{sha256}
 use Rattle.base_model.specs.Bytes.{range, key_of}
-use Rattle.disk_format.specs.declared.numbers.TheConstants.{MOST_LEVEL}
+use Rattle.disk_format.specs.declared.numbers.TheConstants.{MOST_CHILDREN, MOST_LEVEL}
 use Rattle.disk_format.specs.Layout.{data_at}
 use Rattle.container_meta.specs.declared.entry.Entry.{Entry}
 use Rattle.container_meta.specs.declared.kind.Kind.{Kind}
 use Rattle.container_meta.specs.declared.kind.Kind.TheVariants.{Leaf, Tree}
-use Rattle.container_meta.specs.Format.{kind_byte, is_length, is_level}
+use Rattle.container_meta.specs.Format.{kind_byte, is_length, is_level, is_within, child_count}
 use Rattle.container_meta.specs.Spelling.{HeaderValue, IsHeader, Follow, bytes_of}
 use Rattle.store_model.specs.Slots.{HoldSlots, AreHeaders, Copy, place_of, copy_in, newer, newest}
 use Rattle.store_model.specs.Image.{Store, Encodes, AreCopies, bytes_at}
@@ -106,12 +106,17 @@ pub length_within : (kind : Kind) (n : ℕ) → is_length kind n ≡ true → (1
 length_within Leaf n e =
     let parts = both_true (nat_le 1 n) (nat_le n 16384) e in
     (leb-true 1 n parts.0, leb-true n 16384 parts.1)
-length_within Tree n e = absurd cc
+length_within Tree n e =
+    let node = both_true (is_within 1 MOST_CHILDREN (child_count n)) (n == 4 + 40 * child_count n) e in
+    let children = both_true (nat_le 1 (child_count n)) (nat_le (child_count n) MOST_CHILDREN) node.0 in
+    let is : n ≡ 4 + 40 * child_count n = eqb-true n (4 + 40 * child_count n) node.1 in
+    let few : child_count n ≤ 64 = leb-true (child_count n) MOST_CHILDREN children.1 in
+    (omega (arith, is), omega (arith, is, few))
 
 -- and their levels
 level_within : (kind : Kind) (level : ℕ) → is_level kind level ≡ true → level ≤ MOST_LEVEL
 level_within Leaf level e = let zero_level : level ≡ 0 = eqb-true level 0 e in omega (arith, zero_level)
-level_within Tree level e = absurd cc
+level_within Tree level e = leb-true level MOST_LEVEL (both_true (nat_le 1 level) (nat_le level MOST_LEVEL) e).1
 
 -- data is at most as long as its section
 pub data_within : (h : HeaderValue) → IsHeader h → bytes_of h.entries ≤ 212480

@@ -8,4 +8,5 @@ pub mod Progress
 pub mod Walking
 pub mod TreeLaws
 pub mod RightTrees
+pub mod RootLaws
 pub mod Unfolding

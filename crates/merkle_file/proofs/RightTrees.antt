@@ -12,10 +12,10 @@ use Rattle.merkle_file.specs.Tree.{Tree, Empty, Leaf, Node, trees, joined, child
 use Rattle.merkle_file.specs.Walk.{AreBelow, IsTree, TreesAreRight, contents_of, trees_in}
 use Rattle.merkle_file.proofs.Placing.{all_push, length-sha256}
 
-abbrev Segments : Type 0
+abbrev pub Segments : Type 0
 Segments = Tree (List ℕ)
 
-abbrev size : Segments → ℕ
+abbrev pub size : Segments → ℕ
 size t = (child_of of_segment t).length
 
 -- a right tree of a level, which a node may name
@@ -55,14 +55,14 @@ all_append : (level : ℕ) (gs hs : List (List Segments)) → AllByRecursion (Is
 all_append level [] hs a b = b
 all_append level (g ∷ gs) hs a b = (a.0, all_append level gs hs a.1 b)
 
-grouped_right : (level : ℕ) (ts : List Segments) → AllByRecursion (IsRightAt level) ts → AllByRecursion (IsGroup level) (grouped ts)
+pub grouped_right : (level : ℕ) (ts : List Segments) → AllByRecursion (IsRightAt level) ts → AllByRecursion (IsGroup level) (grouped ts)
 grouped_right level ts all =
     let groups = groups_right level [] ts (omega arith) tt all in
     all_append level (whole ts) (last_group (rest ts)) groups.0 (last_right level (rest ts) groups.1 groups.2)
 
 -- ---- sizes
 
-abbrev sizes : List Segments → ℕ
+abbrev pub sizes : List Segments → ℕ
 sizes ts = sum_by size ts
 
 sizes_join : (begun ts : List Segments) → sum_by sizes (whole_from begun ts) + sizes (rest_from begun ts) ≡ sizes begun + sizes ts
@@ -80,7 +80,7 @@ last_size : (ts : List Segments) → sum_by sizes (last_group ts) ≡ sizes ts
 last_size [] = refl
 last_size (t ∷ ts) = omega (arith, sum_by-cons sizes (t ∷ ts) [])
 
-grouped_sizes : (ts : List Segments) → sum_by sizes (grouped ts) ≡ sizes ts
+pub grouped_sizes : (ts : List Segments) → sum_by sizes (grouped ts) ≡ sizes ts
 grouped_sizes ts = omega (arith, sum_by-append sizes (whole ts) (last_group (rest ts)), last_size (rest ts), sizes_join [] ts)
 
 -- ---- a node over a group
@@ -99,7 +99,7 @@ group_each level (t ∷ ts) all =
     let others = group_each level ts all.1 in
     ((all.0.child, others.0), (omega (arith, all.0.level_is), all.0.tree, others.1))
 
-some_size : (level : ℕ) (g : List Segments) → 1 ≤ length g → AllByRecursion (IsRightAt level) g → 1 ≤ sizes g
+pub some_size : (level : ℕ) (g : List Segments) → 1 ≤ length g → AllByRecursion (IsRightAt level) g → 1 ≤ sizes g
 some_size level [] some all = absurd (omega arith)
 some_size level (t ∷ ts) some all = omega (arith, all.0.child.some, sum_by-cons size t ts)
 
@@ -127,7 +127,7 @@ joined_right level g low group few =
       };
     }
 
-row_right : (level : ℕ) (gs : List (List Segments)) → level < MOST_LEVEL → AllByRecursion (IsGroup level) gs → sum_by sizes gs ≤ MOST_FILE
+pub row_right : (level : ℕ) (gs : List (List Segments)) → level < MOST_LEVEL → AllByRecursion (IsGroup level) gs → sum_by sizes gs ≤ MOST_FILE
     → AllByRecursion (IsRightAt (level + 1)) (map (joined (level + 1)) gs) × (sizes (map (joined (level + 1)) gs) ≡ sum_by sizes gs)
 row_right level [] low all few = (tt, refl)
 row_right level (g ∷ gs) low all few =
@@ -157,7 +157,7 @@ tree_right (suc levels) level (t ∷ u ∷ ts) e all few =
     let row = row_right level gs (omega (arith, e)) (grouped_right level (t ∷ u ∷ ts) all) sum in
     tree_right levels (level + 1) (map (joined (level + 1)) gs) (omega (arith, e)) row.0 (omega (arith, row.1, sum))
 
-leaves_right : (segments : List (List ℕ)) → AllByRecursion (λ segment. (1 ≤ length segment) × (length segment ≤ MOST_SEGMENT)) segments
+pub leaves_right : (segments : List (List ℕ)) → AllByRecursion (λ segment. (1 ≤ length segment) × (length segment ≤ MOST_SEGMENT)) segments
     → AllByRecursion (IsRightAt 0) (map Leaf segments) × (sizes (map Leaf segments) ≡ sum_by length segments)
 leaves_right [] all = (tt, refl)
 leaves_right (s ∷ ss) all =

@@ -59,7 +59,7 @@ same_root leaf t =
 
 -- ---- groups of other elements
 
-length_map : {X Y : Type 0} (h : X → Y) (xs : List X) → length (map h xs) ≡ length xs
+pub length_map : {X Y : Type 0} (h : X → Y) (xs : List X) → length (map h xs) ≡ length xs
 length_map h [] = refl
 length_map h (x ∷ xs) = ap suc (length_map h xs)
 
@@ -176,7 +176,7 @@ last_few [] = omega arith
 last_few (x ∷ xs) = omega arith
 
 -- there are few enough groups for one level less
-groups_few : {A : Type 0} (levels level : ℕ) (ts : List (Tree A)) → length ts ≤ MOST_CHILDREN ^ suc levels → length (map (joined level) (grouped ts)) ≤ MOST_CHILDREN ^ levels
+pub groups_few : {A : Type 0} (levels level : ℕ) (ts : List (Tree A)) → length ts ≤ MOST_CHILDREN ^ suc levels → length (map (joined level) (grouped ts)) ≤ MOST_CHILDREN ^ levels
 groups_few levels level ts few =
     let count = counted [] ts (omega arith) in
     omega (arith, few, count.sum, pow-suc MOST_CHILDREN levels, length_map (joined level) (grouped ts), length-append (whole ts) (last_group (rest ts)), length-last (rest ts), last_few (rest ts))

@@ -4,4 +4,5 @@ pub mod Tree
 pub mod Building
 pub mod Rows
 pub mod Walk
+pub mod Roots
 pub mod Steps

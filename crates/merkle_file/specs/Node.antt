@@ -45,3 +45,7 @@ pub record IsNode (n : Contents) : Type 0 where
   pub most : length n.children ≤ MOST_CHILDREN
   pub each : AllByRecursion (IsChild n.level) n.children
   pub total : total n.children ≤ MOST_FILE
+
+-- A node has one spelling, and bytes spell one node at most.
+abbrev pub SpellingsTellNodes : Type 0
+SpellingsTellNodes = (n m : Contents) → IsNode n → IsNode m → spelling n ≡ spelling m → n ≡ m

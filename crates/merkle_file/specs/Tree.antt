@@ -1,6 +1,6 @@
 -- Merkle trees: leaves are grouped from the left, level by level, until one tree is left (docs/FORMAT.md, "Nodes").
 use Rattle.std.specs.Prelude.{◌≡◌, ◌≤◌, ◌^◌, ℕ, zero, suc, ◌+◌, ◌==◌, Bool, if◌then◌else◌, List, [], ◌∷◌, ◌++◌, length, map}
-use Rattle.std.specs.List.{flat_map}
+use Rattle.std.specs.List.{concat, flat_map}
 use Rattle.sha2.specs.Sha256.{sha256}
 use Rattle.merkle_file.specs.declared.node.Child.{Child}
 use Rattle.merkle_file.specs.declared.top.Top.{Top}
@@ -141,3 +141,14 @@ SegmentsAlike = (segments : List (List ℕ)) →
 -- The leaves of the tree over a list are the list, in order, if it is not too long for six levels.
 abbrev pub LeavesAreSegments : Type 0
 LeavesAreSegments = (segments : List (List ℕ)) → length segments ≤ MOST_CHILDREN ^ MOST_LEVEL → leaves (tree_of segments) ≡ segments
+
+-- So its bytes are those of the segments, one after the other.
+abbrev pub BytesAreSegments : Type 0
+BytesAreSegments = (segments : List (List ℕ)) → length segments ≤ MOST_CHILDREN ^ MOST_LEVEL → bytes_of (tree_of segments) ≡ concat segments
+
+-- Over no segment there is no tree, and over one there is no node.
+abbrev pub NoneIsEmpty : Type 0
+NoneIsEmpty = tree_of {A = List ℕ} [] ≡ Empty
+
+abbrev pub OneIsLeaf : Type 0
+OneIsLeaf = (segment : List ℕ) → tree_of (segment ∷ []) ≡ Leaf segment

@@ -18,7 +18,7 @@ mod writing;
 pub use builder::TreeBuilder;
 pub use cursor::Cursor;
 pub use fault::{FieldFault, NodeFault};
-pub use laws::tree_of_segments;
+pub use laws::{spellings_of_nodes, tree_of_segments};
 pub use node::{Child, Hash, Node};
 pub use top::Top;
 pub use want::Want;

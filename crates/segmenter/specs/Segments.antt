@@ -1,7 +1,7 @@
 -- The content-defined segmentation of a list of bytes (docs/FORMAT.md, "Segmenting").
-use Rattle.std.specs.Prelude.{◌≡◌, ℕ, suc, zero, ◌+◌, ◌-◌, ◌*◌, ◌/◌, ◌%◌, ◌^◌, ◌≤◌, ◌<◌, Bool, ◌==◌, ◌||◌, nat_le, if◌then◌else◌, List, [], ◌∷◌, length, take, drop, All}
-use Rattle.std.specs.List.{concat}
-use Rattle.disk_format.specs.declared.numbers.TheConstants.{LEAST_SEGMENT, MOST_SEGMENT}
+use Rattle.std.specs.Prelude.{◌≡◌, ℕ, suc, zero, ◌+◌, ◌-◌, ◌*◌, ◌/◌, ◌%◌, ◌^◌, ◌≤◌, ◌<◌, Bool, ◌==◌, ◌||◌, nat_le, if◌then◌else◌, List, [], ◌∷◌, length, take, drop, All, sum_by}
+use Rattle.std.specs.List.{concat, AllByRecursion}
+use Rattle.disk_format.specs.declared.numbers.TheConstants.{LEAST_SEGMENT, MOST_SEGMENT, MOST_FILE, MOST_CHILDREN, MOST_LEVEL}
 
 -- the sum of the bytes, each times the multiplier to the power of how many bytes follow it: of a window of 48, the
 -- byte at i is multiplied by the multiplier to the power of 47 - i
@@ -60,3 +60,23 @@ pub record IsSegmentation (bytes : List ℕ) (segments : List (List ℕ)) : Type
   pub not_empty : All (λ segment. 0 < length segment) segments
   pub at_most : All (λ segment. length segment ≤ MOST_SEGMENT) segments
   pub at_least : AllButLast (λ segment. LEAST_SEGMENT ≤ length segment) segments
+
+-- ---- what every segmentation has, where a tree is built over it
+
+-- a segment isn't empty, and has at most the greatest length
+abbrev pub HasRightLength : List ℕ → Type 0
+HasRightLength segment = (1 ≤ length segment) × (length segment ≤ MOST_SEGMENT)
+
+-- Bytes that are no more than the least segment has are one.
+abbrev pub ShortIsOne : Type 0
+ShortIsOne = (bytes : List ℕ) → 0 < length bytes → length bytes ≤ LEAST_SEGMENT → segments_of bytes ≡ bytes ∷ []
+
+abbrev pub HaveRightLengths : Type 0
+HaveRightLengths = (bytes : List ℕ) → AllByRecursion HasRightLength (segments_of bytes)
+
+abbrev pub LengthsAddUp : Type 0
+LengthsAddUp = (bytes : List ℕ) → sum_by length (segments_of bytes) ≡ length bytes
+
+-- The greatest file has no more segments than a tree of the most levels has room for.
+abbrev pub AreFew : Type 0
+AreFew = (bytes : List ℕ) → length bytes ≤ MOST_FILE → length (segments_of bytes) ≤ MOST_CHILDREN ^ MOST_LEVEL

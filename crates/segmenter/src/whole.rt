@@ -2,7 +2,7 @@
 
 ghost use Rattle.std.specs.Prelude.{◌≡◌, ℕ, ◌≤◌, ◌<◌, false, IfOk, OnOk, List, [], ◌∷◌, ◌++◌, length, take, drop, map};
 ghost use Rattle.std.specs.List.{flat_map};
-ghost use Rattle.segmenter.specs.Segments.{is_boundary, first_length, segments_of, IsSegmentation};
+ghost use Rattle.segmenter.specs.Segments.{is_boundary, first_length, segments_of, IsSegmentation, ShortIsOne, HaveRightLengths, LengthsAddUp, AreFew};
 ghost use Rattle.segmenter.specs.Cutting.{HasCut, empty_hand};
 
 use crate::cutting::Cutter;
@@ -100,4 +100,10 @@ pub fn segmentation_laws()
     ensures first { (bytes : List ℕ) → 0 < length bytes → segments_of bytes
         ≡ take (first_length bytes) bytes ∷ segments_of (drop (first_length bytes) bytes) }
     ensures start { HasCut [] [] empty_hand }
+    // bytes that are not more than the least segment are one
+    ensures one { ShortIsOne }
+    // what a tree over the segments of a file needs
+    ensures each { HaveRightLengths }
+    ensures sum { LengthsAddUp }
+    ensures few { AreFew }
 {}

@@ -3,6 +3,8 @@
 
 mod containers;
 mod open_store;
+mod tables;
 
 pub use containers::Containers;
 pub use open_store::OpenStore;
+pub use tables::{SlotUse, Tables};

@@ -15,3 +15,5 @@ pub mod Scratch
 pub mod Sealed
 pub mod Sound
 pub mod Spellings
+pub mod Unfolding
+pub mod Waiting

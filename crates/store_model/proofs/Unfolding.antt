@@ -98,3 +98,54 @@ trees_agree held image t u right also one other root =
     by_tree (Node k ts) Empty right also one other count level digest = absurd (omega (arith, right.0.0.above, level))
     by_tree (Node k ts) (Leaf b) right also one other count level digest = same_tree held image (Node k ts) (Leaf b) right.0 also.0 one other level digest
     by_tree (Node k ts) (Node l us) right also one other count level digest = same_tree held image (Node k ts) (Node l us) right.0 also.0 one other level digest
+
+-- ---- what a tree says of its leaves
+
+mutual
+  told_length : (t : Tree (List ℕ)) → (child_of of_segment t).length ≡ sum_by length (leaves t)
+  told_length Empty = refl
+  told_length (Leaf a) = omega (arith, sum_by-cons length a [])
+  told_length (Node level ts) = told_total ts
+
+  told_total : (ts : Trees (List ℕ)) → total (children_of of_segment ts) ≡ sum_by length (leaves_below ts)
+  told_total NoTree = refl
+  told_total (Then t ts) =
+      omega (arith, sum_by-cons (λ (c : Child). c.length) (child_of of_segment t) (children_of of_segment ts), told_length t, told_total ts, sum_by-append length (leaves t) (leaves_below ts))
+
+-- ---- files
+
+-- the leaves of the tree of a file are its segments
+pub leaves_of_file : (bytes : List ℕ) → length bytes ≤ MOST_FILE → leaves (file_tree bytes) ≡ segments_of bytes
+unfolding file_tree
+leaves_of_file bytes few = leaves_are_segments (segments_of bytes) (are_few bytes few)
+
+pub right_file : (bytes : List ℕ) → length bytes ≤ MOST_FILE → IsRightTree (file_tree bytes)
+unfolding file_tree
+right_file bytes few = trees_are_right (segments_of bytes) (have_right_lengths bytes) (omega (arith, lengths_add_up bytes, few))
+
+-- the tree of a file says how many bytes it has
+pub length_of_file : (bytes : List ℕ) → length bytes ≤ MOST_FILE → (child_of of_segment (file_tree bytes)).length ≡ length bytes
+length_of_file bytes few = told_length (file_tree bytes) ∙ ap (sum_by length) (leaves_of_file bytes few) ∙ lengths_add_up bytes
+
+-- so does its root
+root_length : (bytes : List ℕ) → length bytes ≤ MOST_FILE → (root_of bytes).length ≡ length bytes
+root_length bytes few = length_of_file bytes few
+
+same_top : (k l : ℕ) (m n : ℕ) (d e : List ℕ) → k ≡ l → m ≡ n → d ≡ e
+    → (let t : Top = record { length = k; level = m; digest = d } in t) ≡ record { length = l; level = n; digest = e }
+same_top k l m n d e p q r = cc
+
+-- two files of one root have one root of their trees
+tops_agree : (a b : List ℕ) → length a ≤ MOST_FILE → length b ≤ MOST_FILE → root_of a ≡ root_of b → tree.root_of of_segment (file_tree a) ≡ tree.root_of of_segment (file_tree b)
+tops_agree a b few less root =
+    let sizes : length a ≡ length b = sym (root_length a few) ∙ ap (λ (r : Root). r.length) root ∙ root_length b less in
+    same_top _ _ _ _ _ _ (length_of_file a few ∙ sizes ∙ sym (length_of_file b less)) (ap (λ (r : Root). r.level) root) (ap (λ (r : Root). r.digest) root)
+
+-- two files that are held and have one root are one
+pub bytes_agree : (held : List (Option HeaderValue)) (image a b : List ℕ) → length a ≤ MOST_FILE → length b ≤ MOST_FILE → root_of a ≡ root_of b
+    → HoldsTree held image (file_tree a) → HoldsTree held image (file_tree b) → a ≡ b
+bytes_agree held image a b few less root one other =
+    let same : file_tree a ≡ file_tree b =
+    trees_agree held image (file_tree a) (file_tree b) (right_file a few) (right_file b less) one other (tops_agree a b few less root) in
+    let segments : segments_of a ≡ segments_of b = sym (leaves_of_file a few) ∙ ap leaves same ∙ leaves_of_file b less in
+    sym (segments_of-laws a).together ∙ ap concat segments ∙ (segments_of-laws b).together

@@ -11,6 +11,7 @@ pub mod Placed
 pub mod Put
 pub mod Records
 pub mod Roots
+pub mod SameFiles
 pub mod Scratch
 pub mod Sealed
 pub mod Sound

@@ -1,5 +1,5 @@
 -- An image is a store of one map of files at most, and the file of a name is that of its root.
-use Rattle.std.proofs.Common.{◌≡◌, ℕ, ◌+◌, ◌<◌, ◌≤◌, List, [], ◌∷◌, length, Option, Some, None, refl, sym, ◌∙◌, ap, subst, arith}
+use Rattle.std.proofs.Common.{◌≡◌, ℕ, ◌<◌, ◌≤◌, List, [], length, Option, Some, None, refl, sym, ◌∙◌, ap, subst}
 use Rattle.std.specs.FinMap as finite
 use Rattle.std.specs.Cmp.Lexicographic.{nat_list_cmp_total}
 use Rattle.sha2.specs.Sha256.{sha256}
@@ -9,7 +9,6 @@ use Rattle.container_meta.specs.Spelling.{HeaderValue}
 use Rattle.namespace.specs.declared.record.Named.{Named}
 use Rattle.merkle_file.specs.Tree as tree
 use Rattle.merkle_file.specs.Tree.{Tree, Empty, Leaf, of_segment, tree_of}
-use Rattle.segmenter.specs.Segments.{segments_of}
 use Rattle.segmenter.proofs.SegmentLemmas.{segments_of-none}
 use Rattle.store_model.specs.Files.{Files}
 use Rattle.store_model.specs.Image.{Store, Encodes, names_of, last_sequence}

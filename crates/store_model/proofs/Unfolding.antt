@@ -1,11 +1,10 @@
 -- An image stands for one map of files at most: a tree is told by its level, its digest, and what is held of it.
-use Rattle.std.proofs.Common.{◌≡◌, inl, inr, ℕ, suc, ◌+◌, ◌^◌, ◌≤◌, List, [], ◌∷◌, ◌++◌, length, Option, Some, None, refl, sym, ◌∙◌, ap, subst, arith}
+use Rattle.std.proofs.Common.{◌≡◌, ℕ, ◌≤◌, List, [], ◌∷◌, length, Option, refl, sym, ◌∙◌, ap, subst, arith}
 use Rattle.std.specs.Prelude.{sum_by}
 use Rattle.std.specs.List.{concat, AllByRecursion}
 use Rattle.std.proofs.lemmas.List.Sums.{sum_by-cons, sum_by-append}
-use Rattle.sha2.specs.Sha256.{sha256}
 use Rattle.base_model.specs.Bytes.{key_of}
-use Rattle.disk_format.specs.declared.numbers.TheConstants.{MOST_FILE, MOST_CHILDREN, MOST_LEVEL}
+use Rattle.disk_format.specs.declared.numbers.TheConstants.{MOST_FILE}
 use Rattle.disk_format.specs.Cells.{Root}
 use Rattle.container_meta.specs.Spelling.{HeaderValue}
 use Rattle.merkle_file.specs.declared.node.Child.{Child}

@@ -10,7 +10,7 @@ use Rattle.segmenter.specs.Segments.{first_length, segments_up_to, segments_of, 
 use Rattle.segmenter.proofs.SegmentLemmas.{first_length-short, first_length-le, first_length-le_greatest, first_length-pos, segments_of-none, segments_of-first, segments_of-laws}
 use Rattle.merkle_file.specs.Node.{Contents, IsNode, spelling}
 use Rattle.merkle_file.specs.Reading.{IsWithin, any_node, contents_in}
-use Rattle.merkle_file.specs.Tree.{Tree, Empty, Leaf, tree_over, tree_of}
+use Rattle.merkle_file.specs.Tree.{Empty, Leaf, tree_over, tree_of}
 use Rattle.merkle_file.proofs.Nodes.{node_again}
 
 -- ---- nodes

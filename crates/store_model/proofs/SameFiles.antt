@@ -1,10 +1,12 @@
 -- An image is a store of one map of files at most, and the file of a name is that of its root.
-use Rattle.std.proofs.Common.{◌≡◌, ℕ, ◌<◌, ◌≤◌, List, [], length, Option, Some, None, refl, sym, ◌∙◌, ap, subst}
+use Rattle.std.proofs.Common.{◌≡◌, ℕ, Bool, true, false, ◌<◌, ◌≤◌, List, [], length, Option, Some, None, refl, sym, ◌∙◌, ap, subst}
+use Rattle.std.specs.Prelude.{◌&&◌, nat_le}
 use Rattle.std.specs.FinMap as finite
 use Rattle.std.specs.Cmp.Lexicographic.{nat_list_cmp_total}
+use Rattle.std.proofs.lemmas.Bool.{leb-true}
 use Rattle.sha2.specs.Sha256.{sha256}
 use Rattle.disk_format.specs.declared.numbers.TheConstants.{LEAST_SEGMENT, MOST_FILE}
-use Rattle.disk_format.specs.Cells.{Root}
+use Rattle.disk_format.specs.Cells.{Root, IsRoot}
 use Rattle.container_meta.specs.Spelling.{HeaderValue}
 use Rattle.namespace.specs.declared.record.Named.{Named}
 use Rattle.merkle_file.specs.Tree as tree
@@ -16,6 +18,8 @@ use Rattle.store_model.specs.Refusals.{HasRoot}
 use Rattle.store_model.specs.Standing.{IsFileOf, IsStoreOf, StandsFor}
 use Rattle.store_model.specs.Trees.{root_of, file_tree, HoldsTree}
 use Rattle.store_model.proofs.Once.{store_once}
+use Rattle.store_model.proofs.Roots.{root_of_name}
+use Rattle.store_model.proofs.Sound.{sound_of_right}
 use Rattle.store_model.proofs.Unfolding.{bytes_agree}
 use Rattle.store_model.proofs.Waiting.{none_is_empty, one_is_leaf, short_is_one}
 
@@ -50,6 +54,42 @@ fitting_files_agree s t m n image few less one other =
 pub last_agrees : (m n : Files) (i j : ℕ) (image : List ℕ) → StandsFor m i image → StandsFor n j image → i ≡ j
 last_agrees m n i j image one other =
     one.last_is ∙ ap last_sequence (store_once image one.store other.store one.holds.right other.holds.right) ∙ sym other.last_is
+
+-- ---- every file fits
+
+first_true : (a b : Bool) → a && b ≡ true → a ≡ true
+first_true true b e = refl
+first_true false b e = absurd cc
+
+-- a file whose root is right is no longer than the greatest
+pub right_fits : (bytes : List ℕ) → IsRoot (root_of bytes) → length bytes ≤ MOST_FILE
+right_fits bytes right = leb-true (length bytes) MOST_FILE (first_true (nat_le (length bytes) MOST_FILE) _ right.bytes)
+
+file_fits : (held : List (Option HeaderValue)) (image : List ℕ) (named : Option Named) (file : Option (List ℕ)) → ((n : Named) → named ≡ Some n → IsRoot n.root)
+    → IsFileOf held image named file → FitsFile file
+file_fits held image None None right is = tt
+file_fits held image None (Some bytes) right is = absurd is
+file_fits held image (Some named) None right is = absurd is
+file_fits held image (Some named) (Some bytes) right is = right_fits bytes (subst IsRoot is.0 (right named refl))
+
+-- the root that a name of a store has is right
+root_right : (store : Store) (image name : List ℕ) (named : Named) → Encodes image store → finite.get (names_of store) name ≡ Some named → IsRoot named.root
+root_right store image name named right found =
+    root_of_name (length image) store name named.root (sound_of_right (length image) image store refl right) (named.sequence, found)
+
+pub files_fit : (store : Store) (files : Files) (image : List ℕ) → IsStoreOf store files image → AllFit files
+files_fit store files image holds name =
+    file_fits store.held image (finite.get (names_of store) name) (finite.get files name) (λ n found. root_right store image name n holds.right found) (holds.files_are name)
+
+-- ---- the laws
+
+-- An image is a store of one map of files at most.
+pub files_agree : (s t : Store) (m n : Files) (image : List ℕ) → IsStoreOf s m image → IsStoreOf t n image → m ≡ n
+files_agree s t m n image one other = fitting_files_agree s t m n image (files_fit s m image one) (files_fit t n image other) one other
+
+-- It stands for one map of files and one last sequence number at most.
+pub standing_agrees : (m n : Files) (i j : ℕ) (image : List ℕ) → StandsFor m i image → StandsFor n j image → (m ≡ n) × (i ≡ j)
+standing_agrees m n i j image one other = (files_agree one.store other.store m n image one.holds other.holds, last_agrees m n i j image one other)
 
 -- ---- the file of a name
 
@@ -95,8 +135,8 @@ unfolding file_tree
 tree_of_none = ap tree_of segments_of-none ∙ none_is_empty
 
 root_by : (bytes : List ℕ) (t : Tree (List ℕ)) → file_tree bytes ≡ t
-    → root_of bytes ≡ (let top = tree.root_of of_segment t in record { length = top.length; level = top.level; digest = top.digest })
-root_by bytes t is = ap (λ (u : Tree (List ℕ)). let top = tree.root_of of_segment u in let r : Root = record { length = top.length; level = top.level; digest = top.digest } in r) is
+    → root_of bytes ≡ (let top = tree.root_of of_segment t in record { length = length bytes; level = top.level; digest = top.digest })
+root_by bytes t is = ap (λ (u : Tree (List ℕ)). let top = tree.root_of of_segment u in let r : Root = record { length = length bytes; level = top.level; digest = top.digest } in r) is
 
 pub root_of_short : (bytes : List ℕ) → 0 < length bytes → length bytes ≤ LEAST_SEGMENT → root_of bytes ≡ record { length = length bytes; level = 0; digest = sha256 bytes }
 root_of_short bytes some few = root_by bytes (Leaf bytes) (tree_of_short bytes some few)

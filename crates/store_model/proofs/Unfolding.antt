@@ -126,18 +126,21 @@ right_file bytes few = trees_are_right (segments_of bytes) (have_right_lengths b
 pub length_of_file : (bytes : List ℕ) → length bytes ≤ MOST_FILE → (child_of of_segment (file_tree bytes)).length ≡ length bytes
 length_of_file bytes few = told_length (file_tree bytes) ∙ ap (sum_by length) (leaves_of_file bytes few) ∙ lengths_add_up bytes
 
--- so does its root
-root_length : (bytes : List ℕ) → length bytes ≤ MOST_FILE → (root_of bytes).length ≡ length bytes
-root_length bytes few = length_of_file bytes few
-
 same_top : (k l : ℕ) (m n : ℕ) (d e : List ℕ) → k ≡ l → m ≡ n → d ≡ e
     → (let t : Top = record { length = k; level = m; digest = d } in t) ≡ record { length = l; level = n; digest = e }
 same_top k l m n d e p q r = cc
 
+-- the root of a file is that of its tree
+pub root_of_tree : (bytes : List ℕ) → length bytes ≤ MOST_FILE
+    → root_of bytes ≡ (let top = tree.root_of of_segment (file_tree bytes) in record { length = top.length; level = top.level; digest = top.digest })
+root_of_tree bytes few =
+    let top = tree.root_of of_segment (file_tree bytes) in
+    ap (λ (k : ℕ). let r : Root = record { length = k; level = top.level; digest = top.digest } in r) (sym (length_of_file bytes few))
+
 -- two files of one root have one root of their trees
 tops_agree : (a b : List ℕ) → length a ≤ MOST_FILE → length b ≤ MOST_FILE → root_of a ≡ root_of b → tree.root_of of_segment (file_tree a) ≡ tree.root_of of_segment (file_tree b)
 tops_agree a b few less root =
-    let sizes : length a ≡ length b = sym (root_length a few) ∙ ap (λ (r : Root). r.length) root ∙ root_length b less in
+    let sizes : length a ≡ length b = ap (λ (r : Root). r.length) root in
     same_top _ _ _ _ _ _ (length_of_file a few ∙ sizes ∙ sym (length_of_file b less)) (ap (λ (r : Root). r.level) root) (ap (λ (r : Root). r.digest) root)
 
 -- two files that are held and have one root are one

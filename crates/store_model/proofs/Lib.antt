@@ -11,7 +11,10 @@ pub mod Placed
 pub mod Put
 pub mod Records
 pub mod Roots
+pub mod SameFiles
 pub mod Scratch
 pub mod Sealed
 pub mod Sound
 pub mod Spellings
+pub mod Unfolding
+pub mod Waiting

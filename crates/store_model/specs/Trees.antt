@@ -1,5 +1,5 @@
 -- The tree of a file, and what an image holds of it (docs/MODEL.md, 'Images').
-use Rattle.std.specs.Prelude.{◌≡◌, ℕ, ◌+◌, List, Option, Some}
+use Rattle.std.specs.Prelude.{◌≡◌, ℕ, ◌+◌, List, length, Option, Some}
 use Rattle.sha2.specs.Sha256.{sha256}
 use Rattle.base_model.specs.Bytes.{range, key_of}
 use Rattle.disk_format.specs.Cells.{Root}
@@ -17,11 +17,11 @@ use Rattle.store_model.specs.Slots.{Copy, newest}
 unfoldable pub file_tree : List ℕ → Tree (List ℕ)
 file_tree bytes = tree_of (segments_of bytes)
 
--- the root of a file: the length, the level and the digest of its tree
+-- the root of a file: how many bytes it has, and the level and the digest of its tree
 abbrev pub root_of : List ℕ → Root
 root_of bytes =
     let top = tree.root_of of_segment (file_tree bytes) in
-    record { length = top.length; level = top.level; digest = top.digest }
+    record { length = length bytes; level = top.level; digest = top.digest }
 
 -- the key of a segment of a file, and that of a node
 abbrev pub leaf_key : List ℕ → List ℕ

@@ -17,4 +17,3 @@ pub mod Sealed
 pub mod Sound
 pub mod Spellings
 pub mod Unfolding
-pub mod Waiting

@@ -21,7 +21,8 @@ use Rattle.store_model.proofs.Once.{store_once}
 use Rattle.store_model.proofs.Roots.{root_of_name}
 use Rattle.store_model.proofs.Sound.{sound_of_right}
 use Rattle.store_model.proofs.Unfolding.{bytes_agree}
-use Rattle.store_model.proofs.Waiting.{none_is_empty, one_is_leaf, short_is_one}
+use Rattle.merkle_file.proofs.RootLaws.{none_is_empty, one_is_leaf}
+use Rattle.segmenter.proofs.LengthLemmas.{short_is_one}
 
 -- ---- one map of files
 

@@ -20,7 +20,8 @@ use Rattle.segmenter.proofs.SegmentLemmas.{segments_of-laws}
 use Rattle.store_model.specs.Slots.{Copy, newest}
 use Rattle.store_model.specs.Trees.{root_of, file_tree, bytes_at, HasNewest, HoldsTree, HoldsTrees}
 use Rattle.store_model.proofs.Copies.{some_same}
-use Rattle.store_model.proofs.Waiting.{spellings_tell_nodes, have_right_lengths, lengths_add_up, are_few}
+use Rattle.merkle_file.proofs.RootLaws.{spellings_tell_nodes}
+use Rattle.segmenter.proofs.LengthLemmas.{have_right_lengths, lengths_add_up, are_few}
 
 -- ---- trees
 

@@ -1,26 +1,26 @@
 -- Which store the tables of a running store represent (docs/MODEL.md, 'The running store').
-use Rattle.std.specs.Prelude.{◌≡◌, ℕ, ◌≤◌, List, [], ◌∷◌, length, Option, Some, None}
+use Rattle.std.specs.Prelude.{◌≡◌, ℕ, ◌≤◌, List, length, map, Option, Some, None}
 use Rattle.disk_format.specs.declared.numbers.TheConstants.{RESERVE}
 use Rattle.container_meta.specs.Places.{PlaceMap}
 use Rattle.container_meta.specs.Spelling.{HeaderValue}
 use Rattle.journal_cells.specs.Journal.{IsTold}
 use Rattle.segment_index.specs.Places.{KnownMap}
 use Rattle.store_model.specs.Image.{Store, IsValidFor}
-use Rattle.store_model.specs.Slots.{IsIndexOf, free_slots, last_id}
-use Rattle.store_state.specs.declared.tables.SlotUse.{SlotUse}
+use Rattle.store_model.specs.Slots.{IsIndexOf, free_slots, ids_of, last_id}
+use Rattle.store_state.specs.declared.slot_table.SlotCount.{SlotCount}
+use Rattle.store_state.specs.declared.slot_table.SlotTable.{SlotTable}
 use Rattle.store_state.specs.declared.tables.Tables.{Tables}
 
--- what a slot holds, as the tables have it
-abbrev pub use_of : Option HeaderValue → SlotUse
-use_of None = record { id = 0; entries = 0; bytes = 0 }
-use_of (Some h) = record { id = h.id; entries = length h.entries; bytes = h.data_length }
+-- how much a slot holds
+abbrev pub count_of : Option HeaderValue → SlotCount
+count_of None = record { entries = 0; bytes = 0 }
+count_of (Some h) = record { entries = length h.entries; bytes = h.data_length }
 
--- the uses are those of these slots
-abbrev pub AreUses : List (Option HeaderValue) → List SlotUse → Type 0
-AreUses [] [] = Unit {0}
-AreUses [] (u ∷ us) = ⊥
-AreUses (c ∷ cs) [] = ⊥
-AreUses (c ∷ cs) (u ∷ us) = (u ≡ use_of c) × AreUses cs us
+-- the table is that of these slots; its last id is the greatest that was ever given out
+pub record RepresentsSlots (held : List (Option HeaderValue)) (table : SlotTable) : Type 0 where
+  pub ids_are : table.ids.items ≡ ids_of held
+  pub counts_are : table.counts.items ≡ map count_of held
+  pub last_id_is : last_id held ≤ table.last_id
 
 -- the journal and the names are those of the store
 abbrev pub RepresentsNames : Store → Tables → Type 0
@@ -31,8 +31,7 @@ RepresentsNames store t = IsTold store.selector store.records t.journal t.names 
 pub record Represents (store : Store) (known : Option PlaceMap) (t : Tables) : Type 0 where
   pub slots_are : t.slots ≡ store.slots
   pub names_are : RepresentsNames store t
-  pub uses_are : AreUses store.held t.uses.items
-  pub last_id_is : t.last_id ≡ last_id store.held
+  pub slots_hold : RepresentsSlots store.held t.held
   pub index_is_newest : KnownMap known (IsIndexOf store.held)
 
 -- They are those of some store that a disk of this size may hold, of which two slots or more are free.

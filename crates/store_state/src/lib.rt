@@ -3,8 +3,10 @@
 
 mod containers;
 mod open_store;
+mod slot_table;
 mod tables;
 
 pub use containers::Containers;
 pub use open_store::OpenStore;
-pub use tables::{SlotUse, Tables};
+pub use slot_table::{SlotCount, SlotTable};
+pub use tables::Tables;

@@ -1,0 +1,64 @@
+//! What each slot of a running store holds, as far as steps go by it.
+ghost use Rattle.std.specs.Prelude.{◌≡◌, ◌≤◌, ◌==◌, List, Option, None, length, count_by, position, IfSome};
+ghost use Rattle.disk_format.specs.declared.numbers.TheConstants.{MOST_SLOTS as MANY};
+ghost use Rattle.container_meta.specs.Spelling.{HeaderValue};
+ghost use Rattle.store_model.specs.Slots.{AreHeaders, free_slots, ids_of};
+ghost use Rattle.store_state.specs.Containers.{IsFirstFree};
+
+/// How much the container in a slot holds: nothing, where the slot is closed.
+#[derive(Clone, Copy)]
+pub struct SlotCount {
+    /// How many entries.
+    pub entries: u32,
+    /// How many bytes they have together.
+    pub bytes: u32,
+}
+
+/// What each slot holds.
+#[derive(Drop)]
+pub struct SlotTable {
+    /// The id of the container in each slot, 0 where the slot is closed.
+    pub ids: Vec<u64>,
+    /// How much each holds.
+    pub counts: Vec<SlotCount>,
+    /// The greatest id that a container has or had since the opening, 0 where there is none.
+    pub last_id: u64,
+}
+
+// How many ids are 0.
+fn zeros_in(ids: &[u64]) -> u32
+    requires { length ids.now ≤ MANY }
+    ensures { result ≡ count_by (λ id. id == 0) ids.now }
+{
+    ids.iter().filter(|id| **id == 0).count() as u32
+}
+
+// The place of the first id that is 0.
+fn first_zero(ids: &[u64]) -> Option<usize>
+    ensures { result ≡ position (λ id. id == 0) ids.now }
+{
+    ids.iter().position(|id| *id == 0)
+}
+
+impl SlotTable {
+    /// How many slots are closed.
+    pub fn free(&self) -> u32
+        requires { length self.now.ids.items ≤ MANY }
+        ensures { (held : List (Option HeaderValue)) → self.now.ids.items ≡ ids_of held → AreHeaders held
+            → result ≡ free_slots held }
+    {
+        zeros_in(&self.ids)
+    }
+
+    /// The closed slot of least number, if there is one.
+    pub fn first_free(&self) -> Option<u32>
+        requires { length self.now.ids.items ≤ MANY }
+        ensures some { IfSome result (λ slot. (held : List (Option HeaderValue)) → self.now.ids.items ≡ ids_of held
+            → AreHeaders held → IsFirstFree slot held) }
+        ensures none { result ≡ None → (held : List (Option HeaderValue)) → self.now.ids.items ≡ ids_of held
+            → AreHeaders held → free_slots held ≡ 0 }
+    {
+        let slot = first_zero(&self.ids)?;
+        Some(slot as u32)
+    }
+}

@@ -3,8 +3,10 @@ pub mod Empty
 pub mod Filled
 pub mod Frames
 pub mod Free
+pub mod HeldSlots
 pub mod Kept
 pub mod Lookups
+pub mod NewestSealed
 pub mod NewestWith
 pub mod Once
 pub mod Placed

@@ -1,6 +1,7 @@
 pub mod Copies
 pub mod Empty
 pub mod Filled
+pub mod FramedTrees
 pub mod Frames
 pub mod Free
 pub mod HeldSlots
@@ -9,6 +10,7 @@ pub mod Lookups
 pub mod NewestSealed
 pub mod NewestWith
 pub mod Once
+pub mod OneNode
 pub mod Placed
 pub mod Put
 pub mod Records

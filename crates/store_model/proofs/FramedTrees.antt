@@ -45,32 +45,32 @@ module _ (held more : List (Option HeaderValue)) (old new : List ℕ)
 -- ---- a store
 
 -- The same but for its slots, where all before them is as it was.
-module _ (S : List ℕ → Type 0) (store : Store) (files : Files) (image new : List ℕ) (front : SameTo FIRST_SLOT image new) (size : length new ≡ length image) where
-  pub encodes_on : (held : List (Option HeaderValue)) → Encodes image store → length held ≡ length store.held → HoldSlots 0 held new → DifferentIds held
-      → Encodes new (record store { held = held })
-  encodes_on held right many slots_are different = record {
-    count = right.count;
-    size = size ∙ right.size;
-    format = format_kept image new (λ p n within. front p n (omega (arith, within))) store.slots right.format;
-    journal = journal_kept image new front store.selector store.records right.journal;
-    many = many ∙ right.many;
-    slots_are = slots_are;
-    different = different;
-  }
+pub encodes_on : (store : Store) (image new : List ℕ) → SameTo FIRST_SLOT image new → length new ≡ length image → (held : List (Option HeaderValue)) → Encodes image store
+    → length held ≡ length store.held → HoldSlots 0 held new → DifferentIds held → Encodes new (record store { held = held })
+encodes_on store image new front size held right many slots_are different = record {
+  count = right.count;
+  size = size ∙ right.size;
+  format = format_kept image new (λ p n within. front p n (omega (arith, within))) store.slots right.format;
+  journal = journal_kept image new front store.selector store.records right.journal;
+  many = many ∙ right.many;
+  slots_are = slots_are;
+  different = different;
+}
 
-  pub stands_on : (held : List (Option HeaderValue)) → Stands S store files image → Encodes new (record store { held = held }) → AreCopies 0 held new → AreNodes 0 held new
-      → AreAmong S 0 held new → AreFilesOf held (names_of store) new files → 2 ≤ free_slots held → Stands S (record store { held = held }) files new
-  stands_on held stands right copies nodes among files_are reserve = record {
-    holds = record {
-      right = right;
-      past = closed_kept image new front store.selector.half (length store.records) stands.holds.right.journal.selector_is.0.half stands.holds.past;
-      copies = copies;
-      nodes = nodes;
-      files_are = files_are;
-      reserve = reserve;
-    };
-    among = among;
-  }
+pub stands_on : (S : List ℕ → Type 0) (store : Store) (files : Files) (image new : List ℕ) → SameTo FIRST_SLOT image new → (held : List (Option HeaderValue)) → Stands S store files image
+    → Encodes new (record store { held = held }) → AreCopies 0 held new → AreNodes 0 held new → AreAmong S 0 held new → AreFilesOf held (names_of store) new files → 2 ≤ free_slots held
+    → Stands S (record store { held = held }) files new
+stands_on S store files image new front held stands right copies nodes among files_are reserve = record {
+  holds = record {
+    right = right;
+    past = closed_kept image new front store.selector.half (length store.records) stands.holds.right.journal.selector_is.0.half stands.holds.past;
+    copies = copies;
+    nodes = nodes;
+    files_are = files_are;
+    reserve = reserve;
+  };
+  among = among;
+}
 
 -- The containers that were there, where their slots are as they were.
 module _ (S : List ℕ → Type 0) (store : Store) (files : Files) (image new : List ℕ) (front : SameTo FIRST_SLOT image new) (size : length new ≡ length image)
@@ -81,7 +81,7 @@ module _ (S : List ℕ → Type 0) (store : Store) (files : Files) (image new : 
   pub stands_still : Stands S store files image → HoldSlots 0 store.held new → AreCopies 0 store.held new → Stands S store files new
   stands_still stands slots_are copies =
       let right = stands.holds.right in
-      stands_on S store files image new front size store.held stands (encodes_on S store files image new front size store.held right refl slots_are right.different) copies
+      stands_on S store files image new front store.held stands (encodes_on store image new front size store.held right refl slots_are right.different) copies
       (so_nodes 0 store.held new (so_still IsNodeEntry image new 0 store.held (headers right) same (nodes_so 0 store.held image stands.holds.nodes)))
       (so_among S 0 store.held new (so_still (IsAmongThese S) image new 0 store.held (headers right) same (among_so S 0 store.held image stands.among)))
       (λ name. file_on store.held store.held image new (λ key level bytes. newest_still image new store.held key level bytes (headers right) same)
@@ -90,7 +90,7 @@ module _ (S : List ℕ → Type 0) (store : Store) (files : Files) (image new : 
 
 -- ---- the first closed slot alone was written to, and is closed
 
-before_slots : (slot : ℕ) (image new : List ℕ) → SameOutside (slot_at slot) SLOT_BYTES image new → SameTo FIRST_SLOT image new
+pub before_slots : (slot : ℕ) (image new : List ℕ) → SameOutside (slot_at slot) SLOT_BYTES image new → SameTo FIRST_SLOT image new
 before_slots slot image new same p n within = same.before p n (omega (arith, within))
 
 -- the same store, of the same files
@@ -120,7 +120,7 @@ module _ (store : Store) (image new : List ℕ) (right : Encodes image store) (s
   slots_are = slots_kept image new 0 store.held slots_same right.slots_are
 
   pub encodes_framed : length new ≡ length image → Encodes new store
-  encodes_framed size = encodes_on (λ bytes. Unit {0}) store finite.empty image new front size store.held right refl slots_are right.different
+  encodes_framed size = encodes_on store image new front size store.held right refl slots_are right.different
 
   pub newest_framed : (key : List ℕ) (level : ℕ) (bytes : List ℕ) → HasNewest store.held key level bytes image → HasNewest store.held key level bytes new
   newest_framed key level bytes = newest_still image new store.held key level bytes (headers_of_right image store right) held_same

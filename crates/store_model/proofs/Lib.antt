@@ -17,5 +17,6 @@ pub mod Records
 pub mod Roots
 pub mod Scratch
 pub mod Sealed
+pub mod SealedTrees
 pub mod Sound
 pub mod Spellings

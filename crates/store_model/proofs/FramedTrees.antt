@@ -1,7 +1,6 @@
 -- What a store of files by their trees keeps where an image changes outside of its containers.
-use Rattle.std.proofs.Common.{◌≡◌, ℕ, ◌+◌, ◌<◌, ◌≤◌, List, [], ◌∷◌, length, Option, Some, None, refl, sym, ◌∙◌, ap, subst, arith}
+use Rattle.std.proofs.Common.{◌≡◌, ℕ, ◌+◌, ◌≤◌, List, length, Option, Some, None, refl, ◌∙◌, arith}
 use Rattle.std.specs.FinMap as finite
-use Rattle.base_model.specs.Bytes.{range}
 use Rattle.base_model.specs.Frames.{SameOutside}
 use Rattle.disk_format.specs.declared.numbers.TheConstants.{FIRST_SLOT, SLOT_BYTES}
 use Rattle.disk_format.specs.Layout.{slot_at}
@@ -17,7 +16,7 @@ use Rattle.store_model.specs.Image.{Store, Encodes, AreCopies, names_of}
 use Rattle.store_model.specs.Standing.{AreNodes, AreAmong, IsFileOf, AreFilesOf, Stands}
 use Rattle.store_model.specs.Trees.{file_tree, leaf_key, node_key, HasNewest, HoldsTree, HoldsTrees}
 use Rattle.store_model.proofs.Copies.{headers_of_right}
-use Rattle.store_model.proofs.Frames.{SameTo, SameSlot, SameSlots, format_kept, journal_kept, closed_kept, slots_kept, copies_kept}
+use Rattle.store_model.proofs.Frames.{SameTo, SameSlots, format_kept, journal_kept, closed_kept, slots_kept, copies_kept}
 use Rattle.store_model.proofs.HeldSlots.{SameHeld, all_held, others_held, newest_still, IsNodeEntry, IsAmongThese, so_still, nodes_so, so_nodes, among_so, so_among}
 use Rattle.store_model.proofs.Kept.{holds_still, copies_still}
 
@@ -103,6 +102,16 @@ unsealed S store files image new stands same closed =
     stands_still S store files image new (before_slots slot image new same) same.size (others_held image new slot 0 store.held same place) stands
     (holds_still slot image new same 0 store.held place closed right.slots_are)
     (copies_still slot image new same 0 store.held place (headers_of_right image store right) stands.holds.copies)
+
+module _ (store : Store) (image new : List ℕ) (right : Encodes image store) (same : SameOutside (slot_at (first_free store.held)) SLOT_BYTES image new) where
+  -- whatever the slot holds now, what the store held is as it was: the newest copy of a key
+  pub newest_unsealed : (key : List ℕ) (level : ℕ) (bytes : List ℕ) → HasNewest store.held key level bytes image → HasNewest store.held key level bytes new
+  newest_unsealed key level bytes =
+      newest_still image new store.held key level bytes (headers_of_right image store right) (others_held image new (first_free store.held) 0 store.held same (omega arith))
+
+  -- and a tree
+  pub tree_unsealed : (t : Tree (List ℕ)) → HoldsTree store.held image t → HoldsTree store.held new t
+  tree_unsealed = tree_on store.held store.held image new newest_unsealed
 
 -- ---- all before the end of the slots is as it was
 

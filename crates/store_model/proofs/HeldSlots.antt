@@ -1,7 +1,6 @@
 -- What is so of each entry of the containers of a store, and stays so where the slots that have one are as they were.
-use Rattle.std.proofs.Common.{◌≡◌, ℕ, zero, suc, ◌+◌, ◌<◌, ◌≤◌, Bool, true, false, cond, List, [], ◌∷◌, ◌++◌, length, get_or, Option, Some, None, find, refl, sym, ◌∙◌, ap, subst, arith}
+use Rattle.std.proofs.Common.{◌≡◌, ℕ, zero, suc, ◌+◌, ◌≤◌, Bool, true, false, cond, List, [], ◌∷◌, ◌++◌, length, get_or, Option, Some, None, find, refl, sym, ◌∙◌, ap, subst, arith}
 use Rattle.std.specs.List.{AllByRecursion}
-use Rattle.std.specs.Str.{bytes_eq}
 use Rattle.std.proofs.lemmas.Slice.Eq.{bytes_eq-Decides}
 use Rattle.std.proofs.lemmas.List.Sums.{sum_by-append, sum_by-cons}
 use Rattle.base_model.specs.Bytes.{key_of}
@@ -13,11 +12,10 @@ use Rattle.container_meta.specs.declared.kind.Kind.{Kind}
 use Rattle.container_meta.specs.declared.kind.Kind.TheVariants.{Leaf, Tree}
 use Rattle.container_meta.specs.Format.{kind_byte, is_level}
 use Rattle.container_meta.specs.Spelling.{HeaderValue, IsHeader, Follow, bytes_of}
-use Rattle.store_model.specs.Slots.{AreHeaders, Copy, newest, free_slots, first_free, with_slot}
-use Rattle.store_model.specs.Image.{AreCopies}
+use Rattle.store_model.specs.Slots.{AreHeaders, Copy, newest, first_free, with_slot}
 use Rattle.store_model.specs.Standing.{entry_bytes, IsOfKind, AreNodes, IsAmong, AreAmong}
 use Rattle.store_model.specs.Trees.{bytes_at, HasNewest}
-use Rattle.store_model.proofs.Copies.{some_same, LiesIn, lies, data_within}
+use Rattle.store_model.proofs.Copies.{some_same, lies, data_within}
 use Rattle.store_model.proofs.Frames.{SameSlot, SameSlots, copy_kept, place_kept}
 use Rattle.store_model.proofs.Kept.{other_same}
 

@@ -1,7 +1,7 @@
 -- The newest copy of each key, once a container is in the first slot that is closed.
-use Rattle.std.proofs.Common.{◌≡◌, ◌≢◌, inl, inr, ℕ, ◌+◌, ◌<◌, ◌≤◌, Bool, true, false, cond, List, [], ◌∷◌, ◌++◌, length, Option, Some, None, find, option_map, refl, sym, ◌∙◌, ap, subst, append_assoc, arith}
+use Rattle.std.proofs.Common.{◌≡◌, ◌≢◌, ℕ, ◌+◌, ◌<◌, ◌≤◌, Bool, true, false, cond, List, [], ◌∷◌, ◌++◌, Option, Some, None, find, option_map, refl, sym, ◌∙◌, ap, subst, append_assoc, arith}
 use Rattle.std.specs.Prelude.{nat_lt, if◌then◌else◌}
-use Rattle.std.specs.List.{AllByRecursion, list_any}
+use Rattle.std.specs.List.{AllByRecursion}
 use Rattle.std.specs.Str.{bytes_eq}
 use Rattle.std.proofs.lemmas.Bool.{ltb-true, ltb-false, or_parts}
 use Rattle.std.proofs.lemmas.Slice.Eq.{bytes_eq-Decides}
@@ -19,13 +19,13 @@ abbrev pub entry_copy : ℕ → ℕ → Entry → Copy
 entry_copy slot id e = record { id = id; place = place_of slot e }
 
 -- an entry has this key
-abbrev pub has_key : Kind → List ℕ → Entry → Bool
-has_key kind key e = bytes_eq (key_of (kind_byte kind) e.digest) key
+abbrev pub entry_has : Kind → List ℕ → Entry → Bool
+entry_has kind key e = bytes_eq (key_of (kind_byte kind) e.digest) key
 
 -- ---- ids of copies
 
 copy_id : (slot : ℕ) (h : HeaderValue) (key : List ℕ) (copy : Copy) → copy_in slot (Some h) key ≡ Some copy → h.id ≡ copy.id
-copy_id slot h key copy e = by_entry (find (has_key h.kind key) h.entries) e
+copy_id slot h key copy e = by_entry (find (entry_has h.kind key) h.entries) e
   where
     by_entry : (found : Option Entry) → option_map (entry_copy slot h.id) found ≡ Some copy → h.id ≡ copy.id
     by_entry None e = absurd cc
@@ -52,7 +52,7 @@ newer_first b (Some c) below = by_test (nat_lt b.id c.id) refl
 
 -- under an id above all, the newest copy of a key that an entry of it has is that entry
 pub newest_with : (from slot : ℕ) (h : HeaderValue) (held : List (Option HeaderValue)) (key : List ℕ) (e : Entry) → slot ≡ from + first_free held → 1 ≤ free_slots held → last_id held < h.id
-    → find (has_key h.kind key) h.entries ≡ Some e → newest from (with_slot (first_free held) h held) key ≡ Some (entry_copy slot h.id e)
+    → find (entry_has h.kind key) h.entries ≡ Some e → newest from (with_slot (first_free held) h held) key ≡ Some (entry_copy slot h.id e)
 newest_with from slot h [] key e place some above found = absurd (omega (arith, some))
 newest_with from slot h (None ∷ cs) key e place some above found =
     ap (λ (o : Option Entry). newer (option_map (entry_copy from h.id) o) (newest (from + 1) cs key)) found
@@ -63,7 +63,7 @@ newest_with from slot h (Some g ∷ cs) key e place some above found =
     ∙ newer_last (copy_in from (Some g) key) (entry_copy slot h.id e) (λ c is. omega (arith, copy_id from g key c is, above))
 
 -- that of another key is the one from before
-pub newest_without : (from : ℕ) (h : HeaderValue) (held : List (Option HeaderValue)) (key : List ℕ) → 1 ≤ free_slots held → find (has_key h.kind key) h.entries ≡ None
+pub newest_without : (from : ℕ) (h : HeaderValue) (held : List (Option HeaderValue)) (key : List ℕ) → 1 ≤ free_slots held → find (entry_has h.kind key) h.entries ≡ None
     → newest from (with_slot (first_free held) h held) key ≡ newest from held key
 newest_without from h [] key some none = absurd (omega (arith, some))
 newest_without from h (None ∷ cs) key some none = ap (λ (o : Option Entry). newer (option_map (entry_copy from h.id) o) (newest (from + 1) cs key)) none
@@ -73,17 +73,17 @@ newest_without from h (Some g ∷ cs) key some none = ap (newer (copy_in from (S
 
 -- a key whose digest no entry has
 past : (kind : Kind) (digest : List ℕ) (before rest : List Entry) → has_digest before digest ≡ false
-    → find (has_key kind (key_of (kind_byte kind) digest)) (before ++ rest) ≡ find (has_key kind (key_of (kind_byte kind) digest)) rest
+    → find (entry_has kind (key_of (kind_byte kind) digest)) (before ++ rest) ≡ find (entry_has kind (key_of (kind_byte kind) digest)) rest
 past kind digest [] rest none = refl
 past kind digest (x ∷ xs) rest none =
     let parts = or_parts (bytes_eq x.digest digest) (has_digest xs digest) none in
-    ap (λ (b : Bool). cond b (Some x) (find (has_key kind (key_of (kind_byte kind) digest)) (xs ++ rest))) (by_test (has_key kind (key_of (kind_byte kind) digest) x) refl parts.0)
+    ap (λ (b : Bool). cond b (Some x) (find (entry_has kind (key_of (kind_byte kind) digest)) (xs ++ rest))) (by_test (entry_has kind (key_of (kind_byte kind) digest) x) refl parts.0)
     ∙ past kind digest xs rest parts.1
   where
     tail_same : (a b : ℕ) (first second : List ℕ) → a ∷ first ≡ b ∷ second → first ≡ second
     tail_same a b first second e = cc
 
-    by_test : (same : Bool) → has_key kind (key_of (kind_byte kind) digest) x ≡ same → bytes_eq x.digest digest ≡ false → has_key kind (key_of (kind_byte kind) digest) x ≡ false
+    by_test : (same : Bool) → entry_has kind (key_of (kind_byte kind) digest) x ≡ same → bytes_eq x.digest digest ≡ false → entry_has kind (key_of (kind_byte kind) digest) x ≡ false
     by_test false is other = is
     by_test true is other =
         let equal = tail_same (kind_byte kind) (kind_byte kind) x.digest digest ((bytes_eq-Decides _ _).0 is) in
@@ -92,27 +92,26 @@ past kind digest (x ∷ xs) rest none =
 
 -- each entry is the one of its key
 each_found : (kind : Kind) (before entries : List Entry) → Follow kind before entries
-    → AllByRecursion (λ e. find (has_key kind (key_of (kind_byte kind) e.digest)) (before ++ entries) ≡ Some e) entries
+    → AllByRecursion (λ e. find (entry_has kind (key_of (kind_byte kind) e.digest)) (before ++ entries) ≡ Some e) entries
 each_found kind before [] follow = tt
 each_found kind before (e ∷ es) follow =
     let key : List ℕ = key_of (kind_byte kind) e.digest in
-    let here : has_key kind key e ≡ true = (bytes_eq-Decides key key).1 refl in
-    (
-      past kind e.digest before (e ∷ es) follow.0.new ∙ ap (λ (b : Bool). cond b (Some e) (find (has_key kind key) es)) here,
-      subst (λ (all : List Entry). AllByRecursion (λ y. find (has_key kind (key_of (kind_byte kind) y.digest)) all ≡ Some y) es) (append_assoc before (e ∷ []) es)
-      (each_found kind (before ++ e ∷ []) es follow.1),
+    let here : entry_has kind key e ≡ true = (bytes_eq-Decides key key).1 refl in (
+      past kind e.digest before (e ∷ es) follow.0.new ∙ ap (λ (b : Bool). cond b (Some e) (find (entry_has kind key) es)) here,
+      subst (λ (all : List Entry). AllByRecursion (λ y. find (entry_has kind (key_of (kind_byte kind) y.digest)) all ≡ Some y) es) (append_assoc before (e ∷ []) es)
+          (each_found kind (before ++ e ∷ []) es follow.1),
     )
 
-pub entries_found : (h : HeaderValue) → IsHeader h → AllByRecursion (λ e. find (has_key h.kind (key_of (kind_byte h.kind) e.digest)) h.entries ≡ Some e) h.entries
+pub entries_found : (h : HeaderValue) → IsHeader h → AllByRecursion (λ e. find (entry_has h.kind (key_of (kind_byte h.kind) e.digest)) h.entries ≡ Some e) h.entries
 entries_found h right = each_found h.kind [] h.entries right.entries
 
 -- no entry has the key
-none_found : (kind : Kind) (key : List ℕ) (entries : List Entry) → AllByRecursion (λ e. key_of (kind_byte kind) e.digest ≢ key) entries → find (has_key kind key) entries ≡ None
+none_found : (kind : Kind) (key : List ℕ) (entries : List Entry) → AllByRecursion (λ e. key_of (kind_byte kind) e.digest ≢ key) entries → find (entry_has kind key) entries ≡ None
 none_found kind key [] others = refl
 none_found kind key (x ∷ xs) others =
-    ap (λ (b : Bool). cond b (Some x) (find (has_key kind key) xs)) (by_test (has_key kind key x) refl) ∙ none_found kind key xs others.1
+    ap (λ (b : Bool). cond b (Some x) (find (entry_has kind key) xs)) (by_test (entry_has kind key x) refl) ∙ none_found kind key xs others.1
   where
-    by_test : (same : Bool) → has_key kind key x ≡ same → has_key kind key x ≡ false
+    by_test : (same : Bool) → entry_has kind key x ≡ same → entry_has kind key x ≡ false
     by_test false is = is
     by_test true is = absurd (others.0 ((bytes_eq-Decides _ _).0 is))
 

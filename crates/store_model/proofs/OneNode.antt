@@ -1,5 +1,5 @@
 -- Bytes are one node at most, so they have one level at most.
-use Rattle.std.proofs.Common.{◌≡◌, ℕ, List, refl, sym, ◌∙◌, ap, arith}
+use Rattle.std.proofs.Common.{◌≡◌, ℕ, List, sym, ◌∙◌, ap, arith}
 use Rattle.merkle_file.specs.Node.{Contents, IsNode, spelling}
 use Rattle.merkle_file.specs.Reading.{contents_in, any_node, IsAsked, IsWithin}
 use Rattle.merkle_file.proofs.Nodes.{node_again}

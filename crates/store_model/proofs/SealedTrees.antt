@@ -1,21 +1,21 @@
 -- What an image stands for once a container was sealed in its first closed slot. A segment of it whose key was held
 -- already becomes the newest copy of that key: it is the same segment.
-use Rattle.std.proofs.Common.{◌≡◌, ℕ, suc, ◌+◌, ◌<◌, ◌≤◌, true, List, [], ◌∷◌, length, Option, Some, None, find, refl, sym, ◌∙◌, ap, subst, arith}
+use Rattle.std.proofs.Common.{◌≡◌, ◌≢◌, ℕ, suc, ◌+◌, ◌≤◌, true, List, [], ◌∷◌, length, Option, Some, None, find, refl, sym, ◌∙◌, ap, subst, arith}
 use Rattle.std.specs.FinMap as finite
 use Rattle.std.specs.List.{AllByRecursion}
 use Rattle.std.proofs.lemmas.Bool.{eqb-true}
 use Rattle.std.proofs.lemmas.Slice.Eq.{bytes_eq-Decides}
 use Rattle.sha2.specs.Sha256.{sha256}
-use Rattle.base_model.specs.Bytes.{range, key_of}
+use Rattle.base_model.specs.Bytes.{key_of}
 use Rattle.base_model.specs.Frames.{SameOutside}
-use Rattle.disk_format.specs.declared.numbers.TheConstants.{FIRST_SLOT, SLOT_BYTES}
+use Rattle.disk_format.specs.declared.numbers.TheConstants.{SLOT_BYTES}
 use Rattle.disk_format.specs.Layout.{slot_at, data_at}
 use Rattle.container_meta.specs.declared.entry.Entry.{Entry}
 use Rattle.container_meta.specs.declared.kind.Kind.{Kind}
 use Rattle.container_meta.specs.declared.kind.Kind.TheVariants.{Leaf, Tree}
 use Rattle.container_meta.specs.Format.{kind_byte, is_level}
 use Rattle.container_meta.specs.Segments.{Segment, segment_key, entries_from}
-use Rattle.container_meta.specs.Spelling.{HeaderValue, IsHeader, header_of}
+use Rattle.container_meta.specs.Spelling.{HeaderValue, header_of}
 use Rattle.merkle_file.specs.Node.{spelling}
 use Rattle.merkle_file.specs.Tree as tree
 use Rattle.merkle_file.specs.Tree.{Tree as TreeOf, Trees}
@@ -23,17 +23,17 @@ use Rattle.merkle_file.specs.Walk.{contents_of}
 use Rattle.namespace.specs.declared.record.Named.{Named}
 use Rattle.store_model.specs.Commands.{HasNoCollisions}
 use Rattle.store_model.specs.Files.{Files}
-use Rattle.store_model.specs.Slots.{HoldsSlot, HoldsContainer, HoldSlots, StandAt, AreHeaders, DifferentIds, Copy, newest, last_id, free_slots, first_free, with_slot}
+use Rattle.store_model.specs.Slots.{HoldsContainer, StandAt, AreHeaders, Copy, newest, last_id, free_slots, first_free}
 use Rattle.store_model.specs.Image.{Store, Encodes, AreCopies, names_of}
-use Rattle.store_model.specs.Standing.{entry_bytes, IsOfKind, IsAmong, AreNodes, AreAmong, IsFileOf, AreFilesOf, Stands}
+use Rattle.store_model.specs.Standing.{entry_bytes, IsOfKind, IsAmong, AreNodes, AreAmong, IsFileOf, Stands}
 use Rattle.store_model.specs.Steps.{with_sealed, CanSeal, MaySeal, IsSameNode}
 use Rattle.store_model.specs.Trees.{bytes_at, file_tree, leaf_key, node_key, HasNewest, HoldsTree, HoldsTrees}
 use Rattle.store_model.proofs.Copies.{some_same, headers_of_right, copy_digest}
 use Rattle.store_model.proofs.Filled.{length-with_slot, free_less, different_with}
 use Rattle.store_model.proofs.FramedTrees.{before_slots, encodes_on, stands_on}
-use Rattle.store_model.proofs.HeldSlots.{SameHeld, others_held, copy_still, found_so, have_levels, same_digest, HasLevel, levels_so, newest_so, IsNodeEntry, nodes_so, so_nodes, IsAmongThese, among_so, so_among, so_with}
+use Rattle.store_model.proofs.HeldSlots.{SameHeld, others_held, copy_still, found_so, have_levels, HasLevel, levels_so, newest_so, IsNodeEntry, nodes_so, so_nodes, IsAmongThese, among_so, so_among, so_with}
 use Rattle.store_model.proofs.Kept.{holds_with, copies_with}
-use Rattle.store_model.proofs.NewestSealed.{has_key, entry_copy, newest_with, newest_without, newest_of_entries}
+use Rattle.store_model.proofs.NewestSealed.{entry_has, entry_copy, newest_with, newest_without, newest_of_entries, newest_of_others}
 use Rattle.store_model.proofs.OneNode.{one_level}
 
 -- ---- the entries of segments
@@ -109,6 +109,16 @@ newest_sealed kind segments store new some container =
     }) (subst (λ (at : ℕ). StandAt at segments new) (omega arith) container.bytes)
     (newest_of_entries header store.held container.header.0 some (omega arith))
 
+-- That of a key of none of them is the one from before.
+pub newest_beside : (kind : Kind) (segments : List Segment) (store : Store) (key : List ℕ) → 1 ≤ free_slots store.held → AllByRecursion (λ s. segment_key kind s ≢ key) segments
+    → newest 0 (with_sealed kind segments store).held key ≡ newest 0 store.held key
+newest_beside kind segments store key some others =
+    newest_of_others (header_of (suc (last_id store.held)) kind segments) store.held key some (other_entries 0 segments others)
+  where
+    other_entries : (offset : ℕ) (ss : List Segment) → AllByRecursion (λ s. segment_key kind s ≢ key) ss → AllByRecursion (λ e. key_of (kind_byte kind) e.digest ≢ key) (entries_from offset ss)
+    other_entries offset [] others = tt
+    other_entries offset (s ∷ ss) others = (others.0, other_entries (offset + length s.bytes) ss others.1)
+
 module _ (S : List ℕ → Type 0) (kind : Kind) (segments : List Segment) (store : Store) (files : Files) (given image new : List ℕ)
     (distinct : HasNoCollisions S) (before : Stands S store files given) (stands : Stands S store files image)
     (same : SameOutside (slot_at (first_free store.held)) SLOT_BYTES image new)
@@ -150,9 +160,9 @@ module _ (S : List ℕ → Type 0) (kind : Kind) (segments : List Segment) (stor
   -- A key that is held in both images has the newest copy that it had.
   newest_on : (key : List ℕ) (level : ℕ) (bytes : List ℕ) → HasNewest store.held key level bytes given → HasNewest store.held key level bytes image
       → HasNewest (with_sealed kind segments store).held key level bytes new
-  newest_on key level bytes old has = by_entry (find (has_key kind key) header.entries) refl
+  newest_on key level bytes old has = by_entry (find (entry_has kind key) header.entries) refl
     where
-      by_entry : (found : Option Entry) → find (has_key kind key) header.entries ≡ found → HasNewest (with_sealed kind segments store).held key level bytes new
+      by_entry : (found : Option Entry) → find (entry_has kind key) header.entries ≡ found → HasNewest (with_sealed kind segments store).held key level bytes new
       by_entry None none = record {
         copy = has.copy;
         copy_is = newest_without 0 header store.held key some none ∙ has.copy_is;
@@ -160,7 +170,7 @@ module _ (S : List ℕ → Type 0) (kind : Kind) (segments : List Segment) (stor
         bytes_are = copy_still image new store.held key has.copy headers still has.copy_is ∙ has.bytes_are;
       }
       by_entry (Some e) found =
-          let there = found_so IsSealed (has_key kind key) header.entries e all_sealed found in
+          let there = found_so IsSealed (entry_has kind key) header.entries e all_sealed found in
           let segment : Segment = there.0.segment in
           let key_is : key_of (kind_byte kind) e.digest ≡ key = (bytes_eq-Decides _ _).0 there.1 in
           let copy_is : newest 0 store.held (segment_key kind segment) ≡ Some has.copy =
@@ -169,7 +179,7 @@ module _ (S : List ℕ → Type 0) (kind : Kind) (segments : List Segment) (stor
           let alike : bytes_at has.copy.place given ≡ bytes_at has.copy.place image =
           ap (λ (c : Copy). bytes_at c.place given) (sym one_copy) ∙ old.bytes_are ∙ sym has.bytes_are in
           let bytes_same = same_bytes S kind store given image segment has.copy distinct stands.holds.copies stands.among there.0.sealable there.0.node copy_is alike in
-          let right = subst (λ (l : ℕ). is_level kind l ≡ true) there.0.is.level (found_so (λ x. is_level kind x.level ≡ true) (has_key kind key) header.entries e all_levels found).0 in
+          let right = subst (λ (l : ℕ). is_level kind l ≡ true) there.0.is.level (found_so (λ x. is_level kind x.level ≡ true) (entry_has kind key) header.entries e all_levels found).0 in
           record {
             copy = entry_copy (first_free store.held) header.id e;
             copy_is = newest_with 0 (first_free store.held) header store.held key e place some (omega arith) found;

@@ -158,9 +158,9 @@ module _ (S : List ℕ → Type 0) (kind : Kind) (segments : List Segment) (stor
   all_levels = have_levels kind kind [] header.entries refl container.header.0.entries
 
   -- A key that is held in both images has the newest copy that it had.
-  newest_on : (key : List ℕ) (level : ℕ) (bytes : List ℕ) → HasNewest store.held key level bytes given → HasNewest store.held key level bytes image
+  pub newest_alike : (key : List ℕ) (level : ℕ) (bytes : List ℕ) → HasNewest store.held key level bytes given → HasNewest store.held key level bytes image
       → HasNewest (with_sealed kind segments store).held key level bytes new
-  newest_on key level bytes old has = by_entry (find (entry_has kind key) header.entries) refl
+  newest_alike key level bytes old has = by_entry (find (entry_has kind key) header.entries) refl
     where
       by_entry : (found : Option Entry) → find (entry_has kind key) header.entries ≡ found → HasNewest (with_sealed kind segments store).held key level bytes new
       by_entry None none = record {
@@ -187,23 +187,24 @@ module _ (S : List ℕ → Type 0) (kind : Kind) (segments : List Segment) (stor
             bytes_are = there.0.is.bytes ∙ bytes_same ∙ has.bytes_are;
           }
 
+  -- and so has each key of a tree that both hold
   mutual
-    tree_on : (t : TreeOf (List ℕ)) → HoldsTree store.held given t → HoldsTree store.held image t → HoldsTree (with_sealed kind segments store).held new t
-    tree_on tree.Empty old has = tt
-    tree_on (tree.Leaf segment) old has = newest_on (leaf_key segment) 0 segment old has
-    tree_on (tree.Node level ts) old has =
-        (newest_on (node_key (contents_of level ts)) level (spelling (contents_of level ts)) old.0 has.0, trees_on ts old.1 has.1)
+    pub tree_alike : (t : TreeOf (List ℕ)) → HoldsTree store.held given t → HoldsTree store.held image t → HoldsTree (with_sealed kind segments store).held new t
+    tree_alike tree.Empty old has = tt
+    tree_alike (tree.Leaf segment) old has = newest_alike (leaf_key segment) 0 segment old has
+    tree_alike (tree.Node level ts) old has =
+        (newest_alike (node_key (contents_of level ts)) level (spelling (contents_of level ts)) old.0 has.0, trees_alike ts old.1 has.1)
 
-    trees_on : (ts : Trees (List ℕ)) → HoldsTrees store.held given ts → HoldsTrees store.held image ts → HoldsTrees (with_sealed kind segments store).held new ts
-    trees_on tree.NoTree old has = tt
-    trees_on (tree.Then t ts) old has = (tree_on t old.0 has.0, trees_on ts old.1 has.1)
+    pub trees_alike : (ts : Trees (List ℕ)) → HoldsTrees store.held given ts → HoldsTrees store.held image ts → HoldsTrees (with_sealed kind segments store).held new ts
+    trees_alike tree.NoTree old has = tt
+    trees_alike (tree.Then t ts) old has = (tree_alike t old.0 has.0, trees_alike ts old.1 has.1)
 
-  file_on : (named : Option Named) (file : Option (List ℕ)) → IsFileOf store.held given named file → IsFileOf store.held image named file
+  file_alike : (named : Option Named) (file : Option (List ℕ)) → IsFileOf store.held given named file → IsFileOf store.held image named file
       → IsFileOf (with_sealed kind segments store).held new named file
-  file_on None None old is = tt
-  file_on None (Some bytes) old is = is
-  file_on (Some named) None old is = is
-  file_on (Some named) (Some bytes) old is = (is.0, tree_on (file_tree bytes) old.1 is.1)
+  file_alike None None old is = tt
+  file_alike None (Some bytes) old is = is
+  file_alike (Some named) None old is = is
+  file_alike (Some named) (Some bytes) old is = (is.0, tree_alike (file_tree bytes) old.1 is.1)
 
   encodes : Encodes new (with_sealed kind segments store)
   encodes =
@@ -237,7 +238,7 @@ module _ (S : List ℕ → Type 0) (kind : Kind) (segments : List Segment) (stor
   pub sealed : Stands S (with_sealed kind segments store) files new
   sealed =
       stands_on S store files image new (before_slots (first_free store.held) image new same) (with_sealed kind segments store).held stands encodes copies are_nodes are_among
-      (λ name. file_on (finite.get (names_of store) name) (finite.get files name) (before.holds.files_are name) (stands.holds.files_are name))
+      (λ name. file_alike (finite.get (names_of store) name) (finite.get files name) (before.holds.files_are name) (stands.holds.files_are name))
       (omega (arith, free_less header store.held some, can.slot))
 
 -- What one image holds goes on when a container is sealed in it.
@@ -247,8 +248,12 @@ module _ (S : List ℕ → Type 0) (kind : Kind) (segments : List Segment) (stor
     (may : AllByRecursion (MaySeal S kind) segments) (nodes : AllByRecursion (IsSameNode kind store image) segments) where
   -- the newest copy of a key
   pub newest_kept : (key : List ℕ) (level : ℕ) (bytes : List ℕ) → HasNewest store.held key level bytes image → HasNewest (with_sealed kind segments store).held key level bytes new
-  newest_kept key level bytes has = newest_on S kind segments store files image image new distinct stands stands same container can may nodes key level bytes has has
+  newest_kept key level bytes has = newest_alike S kind segments store files image image new distinct stands stands same container can may nodes key level bytes has has
 
   -- a tree
   pub tree_kept : (t : TreeOf (List ℕ)) → HoldsTree store.held image t → HoldsTree (with_sealed kind segments store).held new t
-  tree_kept t has = tree_on S kind segments store files image image new distinct stands stands same container can may nodes t has has
+  tree_kept t has = tree_alike S kind segments store files image image new distinct stands stands same container can may nodes t has has
+
+  -- and trees in a row
+  pub trees_kept : (ts : Trees (List ℕ)) → HoldsTrees store.held image ts → HoldsTrees (with_sealed kind segments store).held new ts
+  trees_kept ts has = trees_alike S kind segments store files image image new distinct stands stands same container can may nodes ts has has

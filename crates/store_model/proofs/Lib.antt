@@ -1,12 +1,16 @@
 pub mod Copies
 pub mod Empty
 pub mod Filled
+pub mod FramedTrees
 pub mod Frames
 pub mod Free
+pub mod HeldSlots
 pub mod Kept
 pub mod Lookups
+pub mod NewestSealed
 pub mod NewestWith
 pub mod Once
+pub mod OneNode
 pub mod Placed
 pub mod Put
 pub mod Records
@@ -14,6 +18,7 @@ pub mod Roots
 pub mod SameFiles
 pub mod Scratch
 pub mod Sealed
+pub mod SealedTrees
 pub mod Sound
 pub mod Spellings
 pub mod Unfolding

@@ -1,0 +1,259 @@
+-- What an image stands for once a container was sealed in its first closed slot. A segment of it whose key was held
+-- already becomes the newest copy of that key: it is the same segment.
+use Rattle.std.proofs.Common.{◌≡◌, ◌≢◌, ℕ, suc, ◌+◌, ◌≤◌, true, List, [], ◌∷◌, length, Option, Some, None, find, refl, sym, ◌∙◌, ap, subst, arith}
+use Rattle.std.specs.FinMap as finite
+use Rattle.std.specs.List.{AllByRecursion}
+use Rattle.std.proofs.lemmas.Bool.{eqb-true}
+use Rattle.std.proofs.lemmas.Slice.Eq.{bytes_eq-Decides}
+use Rattle.sha2.specs.Sha256.{sha256}
+use Rattle.base_model.specs.Bytes.{key_of}
+use Rattle.base_model.specs.Frames.{SameOutside}
+use Rattle.disk_format.specs.declared.numbers.TheConstants.{SLOT_BYTES}
+use Rattle.disk_format.specs.Layout.{slot_at, data_at}
+use Rattle.container_meta.specs.declared.entry.Entry.{Entry}
+use Rattle.container_meta.specs.declared.kind.Kind.{Kind}
+use Rattle.container_meta.specs.declared.kind.Kind.TheVariants.{Leaf, Tree}
+use Rattle.container_meta.specs.Format.{kind_byte, is_level}
+use Rattle.container_meta.specs.Segments.{Segment, segment_key, entries_from}
+use Rattle.container_meta.specs.Spelling.{HeaderValue, header_of}
+use Rattle.merkle_file.specs.Node.{spelling}
+use Rattle.merkle_file.specs.Tree as tree
+use Rattle.merkle_file.specs.Tree.{Tree as TreeOf, Trees}
+use Rattle.merkle_file.specs.Walk.{contents_of}
+use Rattle.namespace.specs.declared.record.Named.{Named}
+use Rattle.store_model.specs.Commands.{HasNoCollisions}
+use Rattle.store_model.specs.Files.{Files}
+use Rattle.store_model.specs.Slots.{HoldsContainer, StandAt, AreHeaders, Copy, newest, last_id, free_slots, first_free}
+use Rattle.store_model.specs.Image.{Store, Encodes, AreCopies, names_of}
+use Rattle.store_model.specs.Standing.{entry_bytes, IsOfKind, IsAmong, AreNodes, AreAmong, IsFileOf, Stands}
+use Rattle.store_model.specs.Steps.{with_sealed, CanSeal, MaySeal, IsSameNode}
+use Rattle.store_model.specs.Trees.{bytes_at, file_tree, leaf_key, node_key, HasNewest, HoldsTree, HoldsTrees}
+use Rattle.store_model.proofs.Copies.{some_same, headers_of_right, copy_digest}
+use Rattle.store_model.proofs.Filled.{length-with_slot, free_less, different_with}
+use Rattle.store_model.proofs.FramedTrees.{before_slots, encodes_on, stands_on}
+use Rattle.store_model.proofs.HeldSlots.{SameHeld, others_held, copy_still, found_so, have_levels, HasLevel, levels_so, newest_so, IsNodeEntry, nodes_so, so_nodes, IsAmongThese, among_so, so_among, so_with}
+use Rattle.store_model.proofs.Kept.{holds_with, copies_with}
+use Rattle.store_model.proofs.NewestSealed.{entry_has, entry_copy, newest_with, newest_without, newest_of_entries, newest_of_others}
+use Rattle.store_model.proofs.OneNode.{one_level}
+
+-- ---- the entries of segments
+
+-- an entry is that of a segment, whose bytes stand where it says
+pub record IsEntryOf (slot : ℕ) (image : List ℕ) (s : Segment) (e : Entry) : Type 0 where
+  pub digest : e.digest ≡ sha256 s.bytes
+  pub level : e.level ≡ s.level
+  pub bytes : entry_bytes slot e image ≡ s.bytes
+
+module _ (slot : ℕ) (image : List ℕ) (P : Segment → Type 0) (Q : Entry → Type 0) where
+  -- what is so of each segment tells what is so of each entry
+  pub entries_of : (offset : ℕ) (segments : List Segment) → ((s : Segment) (e : Entry) → IsEntryOf slot image s e → P s → Q e) → StandAt (data_at slot + offset) segments image
+      → AllByRecursion P segments → AllByRecursion Q (entries_from offset segments)
+  entries_of offset [] each stand all = tt
+  entries_of offset (s ∷ ss) each stand all = (
+    each s _ (record { digest = refl; level = refl; bytes = stand.0 }) all.0,
+    entries_of (offset + length s.bytes) ss each (subst (λ (at : ℕ). StandAt at ss image) (omega arith) stand.1) all.1,
+  )
+
+  -- and the other way round
+  pub of_entries : (offset : ℕ) (segments : List Segment) → ((s : Segment) (e : Entry) → IsEntryOf slot image s e → Q e → P s) → StandAt (data_at slot + offset) segments image
+      → AllByRecursion Q (entries_from offset segments) → AllByRecursion P segments
+  of_entries offset [] each stand all = tt
+  of_entries offset (s ∷ ss) each stand all = (
+    each s _ (record { digest = refl; level = refl; bytes = stand.0 }) all.0,
+    of_entries (offset + length s.bytes) ss each (subst (λ (at : ℕ). StandAt at ss image) (omega arith) stand.1) all.1,
+  )
+
+both_so : {X : Type 0} (P Q : X → Type 0) (xs : List X) → AllByRecursion P xs → AllByRecursion Q xs → AllByRecursion (λ x. P x × Q x) xs
+both_so P Q [] all also = tt
+both_so P Q (x ∷ xs) all also = ((all.0, also.0), both_so P Q xs all.1 also.1)
+
+-- a level of data
+data_level : (level : ℕ) → is_level Leaf level ≡ true → level ≡ 0
+data_level level is = eqb-true level 0 is
+
+-- ---- a segment whose key is held
+
+-- data of a key that is held is the newest copy, since there are no collisions; a node is by the premise
+same_bytes : (S : List ℕ → Type 0) (kind : Kind) (store : Store) (given image : List ℕ) (s : Segment) (copy : Copy) → HasNoCollisions S → AreCopies 0 store.held image → AreAmong S 0 store.held image
+    → MaySeal S kind s → IsSameNode kind store given s → newest 0 store.held (segment_key kind s) ≡ Some copy → bytes_at copy.place given ≡ bytes_at copy.place image
+    → s.bytes ≡ bytes_at copy.place image
+same_bytes S Leaf store given image s copy distinct copies among may node e alike =
+    distinct s.bytes (bytes_at copy.place image) may.among
+    (newest_so (IsAmongThese S) store.held Leaf (sha256 s.bytes) image copy (among_so S 0 store.held image among) e).so
+    (sym (copy_digest store.held 0 (sha256 s.bytes) image copy copies e))
+same_bytes S Tree store given image s copy distinct copies among may node e alike = sym (node copy e) ∙ alike
+
+-- and it has its level: 0 of data, that of its bytes of a node
+same_level : (S : List ℕ → Type 0) (kind : Kind) (held : List (Option HeaderValue)) (image : List ℕ) (s : Segment) (copy : Copy) → AreHeaders held → AreNodes 0 held image
+    → MaySeal S kind s → is_level kind s.level ≡ true → newest 0 held (segment_key kind s) ≡ Some copy → s.bytes ≡ bytes_at copy.place image → s.level ≡ copy.place.level
+same_level S Leaf held image s copy headers nodes may level e same =
+    let old = newest_so HasLevel held Leaf (sha256 s.bytes) image copy (levels_so 0 held image headers) e in
+    data_level s.level level ∙ sym (data_level old.entry.level old.so) ∙ sym old.level_is
+same_level S Tree held image s copy headers nodes may level e same =
+    let old = newest_so IsNodeEntry held Tree (sha256 s.bytes) image copy (nodes_so 0 held image nodes) e in
+    one_level s.level old.entry.level s.bytes (bytes_at copy.place image) may.of_kind old.so same ∙ sym old.level_is
+
+-- ---- one container more
+
+-- The newest copy of each of its segments is that segment.
+pub newest_sealed : (kind : Kind) (segments : List Segment) (store : Store) (new : List ℕ) → 1 ≤ free_slots store.held
+    → HoldsContainer new (first_free store.held) (suc (last_id store.held)) kind segments
+    → AllByRecursion (λ s. HasNewest (with_sealed kind segments store).held (segment_key kind s) s.level s.bytes new) segments
+newest_sealed kind segments store new some container =
+    let header : HeaderValue = header_of (suc (last_id store.held)) kind segments in
+    of_entries (first_free store.held) new _ _ 0 segments (λ s e is found. record {
+      copy = entry_copy (first_free store.held) header.id e;
+      copy_is = ap (λ (digest : List ℕ). newest 0 (with_sealed kind segments store).held (key_of (kind_byte kind) digest)) (sym is.digest) ∙ found;
+      level_is = is.level;
+      bytes_are = is.bytes;
+    }) (subst (λ (at : ℕ). StandAt at segments new) (omega arith) container.bytes)
+    (newest_of_entries header store.held container.header.0 some (omega arith))
+
+-- That of a key of none of them is the one from before.
+pub newest_beside : (kind : Kind) (segments : List Segment) (store : Store) (key : List ℕ) → 1 ≤ free_slots store.held → AllByRecursion (λ s. segment_key kind s ≢ key) segments
+    → newest 0 (with_sealed kind segments store).held key ≡ newest 0 store.held key
+newest_beside kind segments store key some others =
+    newest_of_others (header_of (suc (last_id store.held)) kind segments) store.held key some (other_entries 0 segments others)
+  where
+    other_entries : (offset : ℕ) (ss : List Segment) → AllByRecursion (λ s. segment_key kind s ≢ key) ss → AllByRecursion (λ e. key_of (kind_byte kind) e.digest ≢ key) (entries_from offset ss)
+    other_entries offset [] others = tt
+    other_entries offset (s ∷ ss) others = (others.0, other_entries (offset + length s.bytes) ss others.1)
+
+module _ (S : List ℕ → Type 0) (kind : Kind) (segments : List Segment) (store : Store) (files : Files) (given image new : List ℕ)
+    (distinct : HasNoCollisions S) (before : Stands S store files given) (stands : Stands S store files image)
+    (same : SameOutside (slot_at (first_free store.held)) SLOT_BYTES image new)
+    (container : HoldsContainer new (first_free store.held) (suc (last_id store.held)) kind segments) (can : CanSeal store)
+    (may : AllByRecursion (MaySeal S kind) segments) (nodes : AllByRecursion (IsSameNode kind store given) segments) where
+  abbrev header : HeaderValue
+  header = header_of (suc (last_id store.held)) kind segments
+
+  some : 1 ≤ free_slots store.held
+  some = omega (arith, stands.holds.reserve)
+
+  place : first_free store.held ≡ 0 + first_free store.held
+  place = omega arith
+
+  headers : AreHeaders store.held
+  headers = headers_of_right image store stands.holds.right
+
+  still : SameHeld 0 store.held image new
+  still = others_held image new (first_free store.held) 0 store.held same place
+
+  stand : StandAt (data_at (first_free store.held) + 0) segments new
+  stand = subst (λ (at : ℕ). StandAt at segments new) (omega arith) container.bytes
+
+  -- an entry of the container, and its segment
+  record IsSealed (e : Entry) : Type 0 where
+    segment : Segment
+    is : IsEntryOf (first_free store.held) new segment e
+    sealable : MaySeal S kind segment
+    node : IsSameNode kind store given segment
+
+  all_sealed : AllByRecursion IsSealed header.entries
+  all_sealed =
+      entries_of (first_free store.held) new (λ s. MaySeal S kind s × IsSameNode kind store given s) IsSealed 0 segments
+      (λ s e is so. record { segment = s; is = is; sealable = so.0; node = so.1 }) stand (both_so (MaySeal S kind) (IsSameNode kind store given) segments may nodes)
+
+  all_levels : AllByRecursion (λ e. is_level kind e.level ≡ true) header.entries
+  all_levels = have_levels kind kind [] header.entries refl container.header.0.entries
+
+  -- A key that is held in both images has the newest copy that it had.
+  pub newest_alike : (key : List ℕ) (level : ℕ) (bytes : List ℕ) → HasNewest store.held key level bytes given → HasNewest store.held key level bytes image
+      → HasNewest (with_sealed kind segments store).held key level bytes new
+  newest_alike key level bytes old has = by_entry (find (entry_has kind key) header.entries) refl
+    where
+      by_entry : (found : Option Entry) → find (entry_has kind key) header.entries ≡ found → HasNewest (with_sealed kind segments store).held key level bytes new
+      by_entry None none = record {
+        copy = has.copy;
+        copy_is = newest_without 0 header store.held key some none ∙ has.copy_is;
+        level_is = has.level_is;
+        bytes_are = copy_still image new store.held key has.copy headers still has.copy_is ∙ has.bytes_are;
+      }
+      by_entry (Some e) found =
+          let there = found_so IsSealed (entry_has kind key) header.entries e all_sealed found in
+          let segment : Segment = there.0.segment in
+          let key_is : key_of (kind_byte kind) e.digest ≡ key = (bytes_eq-Decides _ _).0 there.1 in
+          let copy_is : newest 0 store.held (segment_key kind segment) ≡ Some has.copy =
+          ap (λ (digest : List ℕ). newest 0 store.held (key_of (kind_byte kind) digest)) (sym there.0.is.digest) ∙ ap (newest 0 store.held) key_is ∙ has.copy_is in
+          let one_copy : old.copy ≡ has.copy = some_same old.copy has.copy (sym old.copy_is ∙ has.copy_is) in
+          let alike : bytes_at has.copy.place given ≡ bytes_at has.copy.place image =
+          ap (λ (c : Copy). bytes_at c.place given) (sym one_copy) ∙ old.bytes_are ∙ sym has.bytes_are in
+          let bytes_same = same_bytes S kind store given image segment has.copy distinct stands.holds.copies stands.among there.0.sealable there.0.node copy_is alike in
+          let right = subst (λ (l : ℕ). is_level kind l ≡ true) there.0.is.level (found_so (λ x. is_level kind x.level ≡ true) (entry_has kind key) header.entries e all_levels found).0 in
+          record {
+            copy = entry_copy (first_free store.held) header.id e;
+            copy_is = newest_with 0 (first_free store.held) header store.held key e place some (omega arith) found;
+            level_is = there.0.is.level ∙ same_level S kind store.held image segment has.copy headers stands.holds.nodes there.0.sealable right copy_is bytes_same ∙ has.level_is;
+            bytes_are = there.0.is.bytes ∙ bytes_same ∙ has.bytes_are;
+          }
+
+  -- and so has each key of a tree that both hold
+  mutual
+    pub tree_alike : (t : TreeOf (List ℕ)) → HoldsTree store.held given t → HoldsTree store.held image t → HoldsTree (with_sealed kind segments store).held new t
+    tree_alike tree.Empty old has = tt
+    tree_alike (tree.Leaf segment) old has = newest_alike (leaf_key segment) 0 segment old has
+    tree_alike (tree.Node level ts) old has =
+        (newest_alike (node_key (contents_of level ts)) level (spelling (contents_of level ts)) old.0 has.0, trees_alike ts old.1 has.1)
+
+    pub trees_alike : (ts : Trees (List ℕ)) → HoldsTrees store.held given ts → HoldsTrees store.held image ts → HoldsTrees (with_sealed kind segments store).held new ts
+    trees_alike tree.NoTree old has = tt
+    trees_alike (tree.Then t ts) old has = (tree_alike t old.0 has.0, trees_alike ts old.1 has.1)
+
+  file_alike : (named : Option Named) (file : Option (List ℕ)) → IsFileOf store.held given named file → IsFileOf store.held image named file
+      → IsFileOf (with_sealed kind segments store).held new named file
+  file_alike None None old is = tt
+  file_alike None (Some bytes) old is = is
+  file_alike (Some named) None old is = is
+  file_alike (Some named) (Some bytes) old is = (is.0, tree_alike (file_tree bytes) old.1 is.1)
+
+  encodes : Encodes new (with_sealed kind segments store)
+  encodes =
+      let right = stands.holds.right in
+      encodes_on store image new (before_slots (first_free store.held) image new same) same.size (with_sealed kind segments store).held right
+      (length-with_slot (first_free store.held) header store.held)
+      (holds_with (first_free store.held) image new same 0 header store.held place container.header right.slots_are)
+      (different_with (first_free store.held) header store.held right.different (omega arith))
+
+  copies : AreCopies 0 (with_sealed kind segments store).held new
+  copies =
+      copies_with (first_free store.held) image new same 0 header store.held place
+      (entries_of (first_free store.held) new (MaySeal S kind) _ 0 segments (λ s e is so. ap sha256 is.bytes ∙ sym is.digest) stand may) headers stands.holds.copies
+
+  are_nodes : AreNodes 0 (with_sealed kind segments store).held new
+  are_nodes =
+      so_nodes 0 (with_sealed kind segments store).held new
+      (so_with IsNodeEntry image new (first_free store.held) 0 header store.held place
+      (entries_of (first_free store.held) new (MaySeal S kind) _ 0 segments
+      (λ s e is so. subst (λ (l : ℕ). IsOfKind kind l (entry_bytes (first_free store.held) e new)) (sym is.level) (subst (IsOfKind kind s.level) (sym is.bytes) so.of_kind)) stand may)
+      headers still (nodes_so 0 store.held image stands.holds.nodes))
+
+  are_among : AreAmong S 0 (with_sealed kind segments store).held new
+  are_among =
+      so_among S 0 (with_sealed kind segments store).held new
+      (so_with (IsAmongThese S) image new (first_free store.held) 0 header store.held place
+      (entries_of (first_free store.held) new (MaySeal S kind) _ 0 segments (λ s e is so. subst (IsAmong S kind) (sym is.bytes) so.among) stand may)
+      headers still (among_so S 0 store.held image stands.among))
+
+  -- The store with the container, of the same files.
+  pub sealed : Stands S (with_sealed kind segments store) files new
+  sealed =
+      stands_on S store files image new (before_slots (first_free store.held) image new same) (with_sealed kind segments store).held stands encodes copies are_nodes are_among
+      (λ name. file_alike (finite.get (names_of store) name) (finite.get files name) (before.holds.files_are name) (stands.holds.files_are name))
+      (omega (arith, free_less header store.held some, can.slot))
+
+-- What one image holds goes on when a container is sealed in it.
+module _ (S : List ℕ → Type 0) (kind : Kind) (segments : List Segment) (store : Store) (files : Files) (image new : List ℕ)
+    (distinct : HasNoCollisions S) (stands : Stands S store files image) (same : SameOutside (slot_at (first_free store.held)) SLOT_BYTES image new)
+    (container : HoldsContainer new (first_free store.held) (suc (last_id store.held)) kind segments) (can : CanSeal store)
+    (may : AllByRecursion (MaySeal S kind) segments) (nodes : AllByRecursion (IsSameNode kind store image) segments) where
+  -- the newest copy of a key
+  pub newest_kept : (key : List ℕ) (level : ℕ) (bytes : List ℕ) → HasNewest store.held key level bytes image → HasNewest (with_sealed kind segments store).held key level bytes new
+  newest_kept key level bytes has = newest_alike S kind segments store files image image new distinct stands stands same container can may nodes key level bytes has has
+
+  -- a tree
+  pub tree_kept : (t : TreeOf (List ℕ)) → HoldsTree store.held image t → HoldsTree (with_sealed kind segments store).held new t
+  tree_kept t has = tree_alike S kind segments store files image image new distinct stands stands same container can may nodes t has has
+
+  -- and trees in a row
+  pub trees_kept : (ts : Trees (List ℕ)) → HoldsTrees store.held image ts → HoldsTrees (with_sealed kind segments store).held new ts
+  trees_kept ts has = trees_alike S kind segments store files image image new distinct stands stands same container can may nodes ts has has

@@ -1,5 +1,5 @@
 //! The rows that call a codec.
-use crate::containers::container;
+use crate::containers::{container, nodes};
 use crate::cutting::{cut, cutter};
 use crate::nodes::{node, tree, walk};
 use crate::places::index;
@@ -14,6 +14,7 @@ pub(crate) fn codec_answer(alloc: Global, row: &str) -> Result<String, Fault> {
     match codec {
         "cutter" => cutter(alloc, rest),
         "container" => container(alloc, rest),
+        "nodes" => nodes(alloc, rest),
         "names" => names(alloc, rest),
         "replay" => replay(alloc, rest),
         "index" => index(alloc, rest),

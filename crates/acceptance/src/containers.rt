@@ -1,6 +1,6 @@
 //! Calls of `container_meta`.
 use crate::text::Text;
-use crate::words::{Fault, bytes_of, number, words_of};
+use crate::words::{Fault, byte_of, bytes_of, number, words_of};
 use container_meta::{Entry, Fit, Kind, Meta, MetaFault, OpenContainer, Seg, decode};
 use std::alloc::{AllocError, Global};
 
@@ -69,7 +69,16 @@ fn add_fault(text: &mut Text, fault: &MetaFault) {
 
 /// Calls of one container of data.
 pub(crate) fn container(alloc: Global, chain: &str) -> Result<String, Fault> {
-    let mut container = OpenContainer::new(alloc, Kind::Leaf)?;
+    calls_of(alloc, OpenContainer::new(alloc, Kind::Leaf)?, chain)
+}
+
+/// Calls of one container of nodes.
+pub(crate) fn nodes(alloc: Global, chain: &str) -> Result<String, Fault> {
+    calls_of(alloc, OpenContainer::new(alloc, Kind::Tree)?, chain)
+}
+
+fn calls_of(alloc: Global, container: OpenContainer, chain: &str) -> Result<String, Fault> {
+    let mut container = container;
     let mut text = Text::new(alloc);
     for item in chain.split(" ; ") {
         text.part_by(" ; ");
@@ -87,6 +96,10 @@ fn call(
     match words_of(alloc, item)?.as_slice() {
         ["add", bytes @ ..] => {
             let is_added = add(alloc, container, &bytes_of(alloc, bytes)?)?;
+            text.add(if is_added { "added" } else { "no room" });
+        }
+        ["node", level, bytes @ ..] => {
+            let is_added = add_node(alloc, container, byte_of(level)?, &bytes_of(alloc, bytes)?)?;
             text.add(if is_added { "added" } else { "no room" });
         }
         ["fill", count, length] => {
@@ -116,6 +129,27 @@ fn add(alloc: Global, container: &mut OpenContainer, bytes: &[u8]) -> Result<boo
         return Err(Fault::Line);
     };
     if bytes.is_empty() || bytes.len() > 16_384 || container.has(&seg.key()) {
+        return Err(Fault::Line);
+    }
+    Ok(matches!(container.try_add(&seg), Fit::Added))
+}
+
+/// Adds a node of this level and these bytes, and says whether there was room.
+fn add_node(
+    alloc: Global,
+    container: &mut OpenContainer,
+    level: u8,
+    bytes: &[u8],
+) -> Result<bool, Fault> {
+    let seg = Seg::tree(alloc, level, bytes)?;
+    let Kind::Tree = container.kind() else {
+        return Err(Fault::Line);
+    };
+    let children = bytes.len().saturating_sub(4) / 40;
+    if !(1..=64).contains(&children) || bytes.len() != 4 + 40 * children {
+        return Err(Fault::Line);
+    }
+    if !(1..=6).contains(&level) || container.has(&seg.key()) {
         return Err(Fault::Line);
     }
     Ok(matches!(container.try_add(&seg), Fit::Added))

@@ -4,7 +4,9 @@ use Rattle.std.specs.FinMap as finite
 use Rattle.std.specs.Str.{bytes_eq}
 use Rattle.base_model.specs.Bytes.{key_of}
 use Rattle.container_meta.specs.declared.entry.Entry.{Entry}
+use Rattle.container_meta.specs.declared.kind.Kind.{Kind}
 use Rattle.container_meta.specs.declared.place.Place.{Place}
+use Rattle.container_meta.specs.Format.{kind_byte}
 use Rattle.container_meta.specs.Places.{PlaceMap}
 use Rattle.container_meta.specs.Spelling.{HeaderValue}
 use Rattle.store_model.specs.Slots.{Copy, place_of, newer, newest, IsIndexOf, ids_of, last_id, first_free}
@@ -22,16 +24,16 @@ pub record IsFirstFree (slot : ℕ) (held : List (Option HeaderValue)) : Type 0 
   pub within : slot < length held
   pub closed : slice_get held slot ≡ Some None
 
--- the copy of a key among the first entries of a data container
-abbrev pub copy_from : ℕ → ℕ → List Entry → List ℕ → Option Copy
-copy_from slot id entries key =
-    option_map (λ e. record { id = id; place = place_of slot e }) (find (λ e. bytes_eq (key_of 0 e.digest) key) entries)
+-- the copy of a key among the first entries of a container
+abbrev pub copy_from : ℕ → ℕ → Kind → List Entry → List ℕ → Option Copy
+copy_from slot id kind entries key =
+    option_map (λ e. record { id = id; place = place_of slot e }) (find (λ e. bytes_eq (key_of (kind_byte kind) e.digest) key) entries)
 
 -- and of the first entries of one container more
-pub record ArePart (held : List (Option HeaderValue)) (slot id : ℕ) (entries : List Entry) (tables : Containers) : Type 0 where
+pub record ArePart (held : List (Option HeaderValue)) (slot id : ℕ) (kind : Kind) (entries : List Entry) (tables : Containers) : Type 0 where
   pub slot_is : slot ≡ length held
   pub index : (key : List ℕ)
-      → finite.get tables.index key ≡ option_map (λ c. c.place) (newer (newest 0 held key) (copy_from slot id entries key))
+      → finite.get tables.index key ≡ option_map (λ c. c.place) (newer (newest 0 held key) (copy_from slot id kind entries key))
   pub ids : tables.ids.items ≡ ids_of held
   pub last : tables.last_id ≡ last_id held
 

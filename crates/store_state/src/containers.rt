@@ -2,14 +2,13 @@
 ghost use Rattle.std.specs.Prelude.{◌≡◌, ◌∷◌, ◌++◌, [], List, Option, None, Some, length, not, false};
 ghost use Rattle.std.specs.Prelude.{count_by, position, ◌==◌, ◌≤◌, IsTrue, option_map, OnOk, IfSome};
 ghost use Rattle.std.specs.FinMap as finite;
-ghost use Rattle.base_model.specs.Bytes.{key_of};
 ghost use Rattle.disk_format.specs.declared.numbers.TheConstants.{MOST_SLOTS as MANY};
 ghost use Rattle.container_meta.specs.Spelling.{HeaderValue, IsHeader, view, has_digest};
 ghost use Rattle.container_meta.specs.declared.entry.Entry.{Entry as EntryValue};
 ghost use Rattle.store_model.specs.Slots.{AreHeaders, IsUnusedId, place_of, free_slots};
 ghost use Rattle.store_state.specs.Containers.{RepresentsContainers, IsFirstFree, ArePart, is_newer};
 
-use container_meta::{Entry, Key, Meta, Place};
+use container_meta::{Entry, Key, Kind, Meta, Place, key_of};
 use segment_index::MapIndex;
 use std::alloc::{AllocError, Global};
 
@@ -22,15 +21,6 @@ pub struct Containers {
     pub ids: Vec<u64>,
     /// The greatest of the ids, 0 where there is none.
     pub last_id: u64,
-}
-
-/// The key of an entry of a data container.
-fn key_of_entry(entry: &Entry) -> Key
-    ensures { result ≡ key_of 0 entry.now.digest }
-{
-    let mut key = [0u8; 33];
-    key[1..].copy_from_slice(&entry.digest);
-    key
 }
 
 fn place_in(slot: u32, entry: &Entry) -> Place
@@ -94,11 +84,12 @@ impl Containers {
     }
 
     // Takes one more entry of the container that stands after the slots that were read.
-    fn add_entry(&mut self, slot: u32, id: u64, entry: &Entry) -> Result<(), AllocError>
+    fn add_entry(&mut self, slot: u32, id: u64, kind: Kind, entry: &Entry) -> Result<(), AllocError>
         ensures { OnOk result ((held : List (Option HeaderValue)) (before : List EntryValue)
-            → has_digest before entry.now.digest ≡ false → ArePart held slot id before self.old → ArePart held slot id (before ++ entry.now ∷ []) self.new) }
+            → has_digest before entry.now.digest ≡ false → ArePart held slot id kind before self.old
+            → ArePart held slot id kind (before ++ entry.now ∷ []) self.new) }
     {
-        let key = key_of_entry(entry);
+        let key = key_of(kind, &entry.digest);
         if self.is_newer(&key, id) {
             self.index.set(&key, place_in(slot, entry))?;
         }
@@ -108,11 +99,11 @@ impl Containers {
     // Takes the entries of the container that stands after the slots that were read.
     fn add_entries(&mut self, slot: u32, meta: &Meta) -> Result<(), AllocError>
         requires { IsHeader (view meta.now) }
-        ensures { OnOk result ((held : List (Option HeaderValue)) → ArePart held slot meta.now.id [] self.old
-            → ArePart held slot meta.now.id meta.now.entries.items self.new) }
+        ensures { OnOk result ((held : List (Option HeaderValue)) → ArePart held slot meta.now.id meta.now.kind [] self.old
+            → ArePart held slot meta.now.id meta.now.kind meta.now.entries.items self.new) }
     {
         for entry in &meta.entries {
-            self.add_entry(slot, meta.id, entry)?;
+            self.add_entry(slot, meta.id, meta.kind, entry)?;
         }
         Ok(())
     }

@@ -1,9 +1,9 @@
 use Rattle.std.proofs.Common.{refl}
 use Rattle.container_meta.specs.Spelling.{view}
-use Rattle.store_state.proofs.Entered.{leaf_only, part_begun, part_ended}
+use Rattle.store_state.proofs.Entered.{part_begun, part_ended}
 use Rattle.store_state.proofs.containers.Containers.add.Goals as goal
 
 pub returns : goal.returns
 returns c = λ held place are.
-    part_ended held c.args.slot (view c.args.meta.now) c.add_entries.new.self _ (leaf_only (view c.args.meta.now) c.requires)
-    (c.in_ok-add_entries.ensures held (part_begun held c.args.slot c.args.meta.now.id c.args.self.now place are)) refl c.in_ok-push.ensures.items c.max-self.ensures
+    part_ended held c.args.slot (view c.args.meta.now) c.add_entries.new.self _
+    (c.in_ok-add_entries.ensures held (part_begun held c.args.slot c.args.meta.now.id c.args.meta.now.kind c.args.self.now place are)) refl c.in_ok-push.ensures.items c.max-self.ensures

@@ -3,12 +3,14 @@ pub mod Empty
 pub mod Filled
 pub mod Frames
 pub mod Free
+pub mod HeldKept
 pub mod Kept
 pub mod Lookups
 pub mod NewestWith
 pub mod Once
 pub mod Placed
 pub mod Put
+pub mod PutRoots
 pub mod Records
 pub mod Roots
 pub mod Scratch

@@ -17,3 +17,4 @@ pub mod Scratch
 pub mod Sealed
 pub mod Sound
 pub mod Spellings
+pub mod Valid

@@ -4,6 +4,8 @@ pub mod Filled
 pub mod Frames
 pub mod Free
 pub mod HeldKept
+pub mod IndexSize
+pub mod Indexing
 pub mod Kept
 pub mod Lookups
 pub mod NewestWith

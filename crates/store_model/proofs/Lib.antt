@@ -4,7 +4,10 @@ pub mod Filled
 pub mod FramedTrees
 pub mod Frames
 pub mod Free
+pub mod HeldKept
 pub mod HeldSlots
+pub mod IndexSize
+pub mod Indexing
 pub mod Kept
 pub mod Lookups
 pub mod NewestSealed
@@ -13,6 +16,7 @@ pub mod Once
 pub mod OneNode
 pub mod Placed
 pub mod Put
+pub mod PutRoots
 pub mod Records
 pub mod Roots
 pub mod SameFiles
@@ -22,3 +26,4 @@ pub mod SealedTrees
 pub mod Sound
 pub mod Spellings
 pub mod Unfolding
+pub mod Valid

@@ -1,6 +1,7 @@
 pub mod Commands
 pub mod Files
 pub mod Image
+pub mod Indexing
 pub mod Journal
 pub mod Refusals
 pub mod Slots

@@ -1,0 +1,76 @@
+-- What is so of a store still, once a container was sealed or a record was put.
+use Rattle.std.proofs.Common.{◌≡◌, ℕ, suc, ◌<◌, ◌≤◌, List, [], ◌∷◌, ◌++◌, length, refl, ◌∙◌, arith, length-append}
+use Rattle.std.specs.FinMap as finite
+use Rattle.disk_format.specs.Cells.{Root, RecordValue, IsRoot, IsRecord}
+use Rattle.container_meta.specs.declared.kind.Kind.{Kind}
+use Rattle.container_meta.specs.Segments.{Segment}
+use Rattle.container_meta.specs.Spelling.{HeaderValue, IsHeader, header_of}
+use Rattle.namespace.specs.Names.{NameMap, IsTaken, names_with, names_after}
+use Rattle.store_model.specs.Files.{Files}
+use Rattle.store_model.specs.Journal.{Follow, last_of}
+use Rattle.store_model.specs.Slots.{last_id, free_slots, first_free}
+use Rattle.store_model.specs.Image.{Store, IsValidFor}
+use Rattle.store_model.specs.Refusals.{HasRoot}
+use Rattle.store_model.specs.Standing.{IsStoreOf}
+use Rattle.store_model.specs.Steps.{CanSeal, with_sealed, CanPut, put_of, with_put}
+use Rattle.store_model.proofs.Filled.{length-with_slot, free_less, headers_with, last_new, different_with}
+use Rattle.store_model.proofs.PutRoots.{record_right, record_taken, record_rises}
+use Rattle.store_model.proofs.Roots.{root_of_name}
+use Rattle.store_model.proofs.Sound.{sound_of_right}
+
+-- ---- a record more
+
+-- a record that is right after others
+pub follow_push : (previous : ℕ) (names : NameMap) (rs : List RecordValue) (r : RecordValue) → Follow previous names rs → IsRecord r → last_of previous rs < r.sequence
+    → IsTaken (names_after rs names) r → Follow previous names (rs ++ r ∷ [])
+follow_push previous names [] r follow right rises taken = (right, rises, taken, tt)
+follow_push previous names (s ∷ rs) r follow right rises taken = (follow.0, follow.1, follow.2, follow_push s.sequence (names_with s names) rs r follow.3 right rises taken)
+
+-- a store with one put more
+pub valid_put : (size : ℕ) (name : List ℕ) (root : Root) (store : Store) → IsValidFor size store → CanPut name store → IsRoot root → IsValidFor size (with_put name root store)
+valid_put size name root store sound can right = record {
+  count = sound.count;
+  size_is = sound.size_is;
+  selector_right = sound.selector_right;
+  few = omega (arith, can.cell, length-append store.records (put_of name root store ∷ []));
+  follow = follow_push 0 finite.empty store.records (put_of name root store) sound.follow (record_right name root store can right) (record_rises name root store)
+      (record_taken name root store can);
+  many = sound.many;
+  headers = sound.headers;
+  different = sound.different;
+}
+
+-- ---- a container more
+
+module _ (kind : Kind) (segments : List Segment) (store : Store) (can : CanSeal store) where
+  abbrev new_header : HeaderValue
+  new_header = header_of (suc (last_id store.held)) kind segments
+
+  some : 1 ≤ free_slots store.held
+  some = omega (arith, can.slot)
+
+  -- its id is the last
+  pub last_sealed : last_id (with_sealed kind segments store).held ≡ suc (last_id store.held)
+  last_sealed = last_new new_header store.held some (omega arith)
+
+  -- one slot fewer is closed
+  pub free_sealed : suc (free_slots (with_sealed kind segments store).held) ≡ free_slots store.held
+  free_sealed = free_less new_header store.held some
+
+  pub valid_sealed : (size : ℕ) → IsValidFor size store → IsHeader new_header → IsValidFor size (with_sealed kind segments store)
+  valid_sealed size sound right = record {
+    count = sound.count;
+    size_is = sound.size_is;
+    selector_right = sound.selector_right;
+    few = sound.few;
+    follow = sound.follow;
+    many = length-with_slot (first_free store.held) new_header store.held ∙ sound.many;
+    headers = headers_with (first_free store.held) new_header store.held sound.headers right;
+    different = different_with (first_free store.held) new_header store.held sound.different (omega arith);
+  }
+
+-- ---- roots
+
+-- the root of a name is one that a file may have
+pub root_of_store : (store : Store) (files : Files) (image name : List ℕ) (root : Root) → IsStoreOf store files image → HasRoot name root store → IsRoot root
+root_of_store store files image name root is has = root_of_name (length image) store name root (sound_of_right (length image) image store refl is.right) has

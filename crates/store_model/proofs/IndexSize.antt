@@ -16,7 +16,7 @@ use Rattle.container_meta.specs.Places.{PlaceMap}
 use Rattle.container_meta.specs.Segments.{Segment, bytes_in, entries_from}
 use Rattle.container_meta.specs.Spelling.{HeaderValue, IsHeader, header_of}
 use Rattle.store_model.specs.Indexing.{entry_key, with_entries, keys_in, entries_in, bytes_in_slots}
-use Rattle.store_model.specs.Slots.{Copy, AreHeaders, IsIndexOf, place_of, copy_in, newer, newest, last_id, free_slots, first_free, with_slot}
+use Rattle.store_model.specs.Slots.{Copy, AreHeaders, IsIndexOf, place_of, copy_in, newer, newest, free_slots, first_free, with_slot}
 use Rattle.store_model.specs.Image.{Store}
 use Rattle.store_model.specs.Steps.{CanSeal, with_sealed}
 use Rattle.store_model.proofs.Indexing.{tied, entry_of, index_with}
@@ -173,20 +173,20 @@ length-entries_from : (offset : ℕ) (segments : List Segment) → length (entri
 length-entries_from offset [] = refl
 length-entries_from offset (s ∷ ss) = ap suc (length-entries_from (offset + length s.bytes) ss)
 
-module _ (kind : Kind) (segments : List Segment) (store : Store) (can : CanSeal store) where
+module _ (id : ℕ) (kind : Kind) (segments : List Segment) (store : Store) (can : CanSeal id kind segments store) where
   abbrev new_header : HeaderValue
-  new_header = header_of (suc (last_id store.held)) kind segments
+  new_header = header_of id kind segments
 
   some : 1 ≤ free_slots store.held
   some = omega (arith, can.slot)
 
-  pub entries_sealed : entries_in (with_sealed kind segments store).held ≡ entries_in store.held + length segments
+  pub entries_sealed : entries_in (with_sealed id kind segments store).held ≡ entries_in store.held + length segments
   entries_sealed = entries_with new_header store.held some ∙ ap (λ (n : ℕ). entries_in store.held + n) (length-entries_from 0 segments)
 
-  pub bytes_sealed : bytes_in_slots (with_sealed kind segments store).held ≡ bytes_in_slots store.held + bytes_in segments
+  pub bytes_sealed : bytes_in_slots (with_sealed id kind segments store).held ≡ bytes_in_slots store.held + bytes_in segments
   bytes_sealed = bytes_with new_header store.held some
 
   -- the index with the places of the new entries is that of the new store
   pub index_sealed : (places : PlaceMap) → IsIndexOf store.held places → IsHeader new_header
-      → IsIndexOf (with_sealed kind segments store).held (with_entries kind (first_free store.held) (entries_from 0 segments) places)
-  index_sealed places index right = index_with new_header store.held places index right (omega arith) some
+      → IsIndexOf (with_sealed id kind segments store).held (with_entries kind (first_free store.held) (entries_from 0 segments) places)
+  index_sealed places index right = index_with new_header store.held places index right can.new_id some

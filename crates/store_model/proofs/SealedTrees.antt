@@ -1,6 +1,6 @@
 -- What an image stands for once a container was sealed in its first closed slot. A segment of it whose key was held
 -- already becomes the newest copy of that key: it is the same segment.
-use Rattle.std.proofs.Common.{◌≡◌, ◌≢◌, ℕ, suc, ◌+◌, ◌≤◌, true, List, [], ◌∷◌, length, Option, Some, None, find, refl, sym, ◌∙◌, ap, subst, arith}
+use Rattle.std.proofs.Common.{◌<◌, ◌≡◌, ◌≢◌, ℕ, ◌+◌, ◌≤◌, true, List, [], ◌∷◌, length, Option, Some, None, find, refl, sym, ◌∙◌, ap, subst, arith}
 use Rattle.std.specs.FinMap as finite
 use Rattle.std.specs.List.{AllByRecursion}
 use Rattle.std.proofs.lemmas.Bool.{eqb-true}
@@ -26,7 +26,7 @@ use Rattle.store_model.specs.Files.{Files}
 use Rattle.store_model.specs.Slots.{HoldsContainer, StandAt, AreHeaders, Copy, newest, last_id, free_slots, first_free}
 use Rattle.store_model.specs.Image.{Store, Encodes, AreCopies, names_of}
 use Rattle.store_model.specs.Standing.{entry_bytes, IsOfKind, IsAmong, AreNodes, AreAmong, IsFileOf, Stands}
-use Rattle.store_model.specs.Steps.{with_sealed, CanSeal, MaySeal, IsSameNode}
+use Rattle.store_model.specs.Steps.{with_sealed, CanSeal, MaySeal, FitsHeld}
 use Rattle.store_model.specs.Trees.{bytes_at, file_tree, leaf_key, node_key, HasNewest, HoldsTree, HoldsTrees}
 use Rattle.store_model.proofs.Copies.{some_same, headers_of_right, copy_digest}
 use Rattle.store_model.proofs.Filled.{length-with_slot, free_less, different_with}
@@ -75,7 +75,7 @@ data_level level is = eqb-true level 0 is
 
 -- data of a key that is held is the newest copy, since there are no collisions; a node is by the premise
 same_bytes : (S : List ℕ → Type 0) (kind : Kind) (store : Store) (given image : List ℕ) (s : Segment) (copy : Copy) → HasNoCollisions S → AreCopies 0 store.held image → AreAmong S 0 store.held image
-    → MaySeal S kind s → IsSameNode kind store given s → newest 0 store.held (segment_key kind s) ≡ Some copy → bytes_at copy.place given ≡ bytes_at copy.place image
+    → MaySeal S kind s → FitsHeld kind store given s → newest 0 store.held (segment_key kind s) ≡ Some copy → bytes_at copy.place given ≡ bytes_at copy.place image
     → s.bytes ≡ bytes_at copy.place image
 same_bytes S Leaf store given image s copy distinct copies among may node e alike =
     distinct s.bytes (bytes_at copy.place image) may.among
@@ -96,36 +96,36 @@ same_level S Tree held image s copy headers nodes may level e same =
 -- ---- one container more
 
 -- The newest copy of each of its segments is that segment.
-pub newest_sealed : (kind : Kind) (segments : List Segment) (store : Store) (new : List ℕ) → 1 ≤ free_slots store.held
-    → HoldsContainer new (first_free store.held) (suc (last_id store.held)) kind segments
-    → AllByRecursion (λ s. HasNewest (with_sealed kind segments store).held (segment_key kind s) s.level s.bytes new) segments
-newest_sealed kind segments store new some container =
-    let header : HeaderValue = header_of (suc (last_id store.held)) kind segments in
+pub newest_sealed : (id : ℕ) (kind : Kind) (segments : List Segment) (store : Store) (new : List ℕ) → 1 ≤ free_slots store.held → last_id store.held < id
+    → HoldsContainer new (first_free store.held) id kind segments
+    → AllByRecursion (λ s. HasNewest (with_sealed id kind segments store).held (segment_key kind s) s.level s.bytes new) segments
+newest_sealed id kind segments store new some above container =
+    let header : HeaderValue = header_of id kind segments in
     of_entries (first_free store.held) new _ _ 0 segments (λ s e is found. record {
       copy = entry_copy (first_free store.held) header.id e;
-      copy_is = ap (λ (digest : List ℕ). newest 0 (with_sealed kind segments store).held (key_of (kind_byte kind) digest)) (sym is.digest) ∙ found;
+      copy_is = ap (λ (digest : List ℕ). newest 0 (with_sealed id kind segments store).held (key_of (kind_byte kind) digest)) (sym is.digest) ∙ found;
       level_is = is.level;
       bytes_are = is.bytes;
     }) (subst (λ (at : ℕ). StandAt at segments new) (omega arith) container.bytes)
-    (newest_of_entries header store.held container.header.0 some (omega arith))
+    (newest_of_entries header store.held container.header.0 some above)
 
 -- That of a key of none of them is the one from before.
-pub newest_beside : (kind : Kind) (segments : List Segment) (store : Store) (key : List ℕ) → 1 ≤ free_slots store.held → AllByRecursion (λ s. segment_key kind s ≢ key) segments
-    → newest 0 (with_sealed kind segments store).held key ≡ newest 0 store.held key
-newest_beside kind segments store key some others =
-    newest_of_others (header_of (suc (last_id store.held)) kind segments) store.held key some (other_entries 0 segments others)
+pub newest_beside : (id : ℕ) (kind : Kind) (segments : List Segment) (store : Store) (key : List ℕ) → 1 ≤ free_slots store.held → AllByRecursion (λ s. segment_key kind s ≢ key) segments
+    → newest 0 (with_sealed id kind segments store).held key ≡ newest 0 store.held key
+newest_beside id kind segments store key some others =
+    newest_of_others (header_of id kind segments) store.held key some (other_entries 0 segments others)
   where
     other_entries : (offset : ℕ) (ss : List Segment) → AllByRecursion (λ s. segment_key kind s ≢ key) ss → AllByRecursion (λ e. key_of (kind_byte kind) e.digest ≢ key) (entries_from offset ss)
     other_entries offset [] others = tt
     other_entries offset (s ∷ ss) others = (others.0, other_entries (offset + length s.bytes) ss others.1)
 
-module _ (S : List ℕ → Type 0) (kind : Kind) (segments : List Segment) (store : Store) (files : Files) (given image new : List ℕ)
+module _ (S : List ℕ → Type 0) (id : ℕ) (kind : Kind) (segments : List Segment) (store : Store) (files : Files) (given image new : List ℕ)
     (distinct : HasNoCollisions S) (before : Stands S store files given) (stands : Stands S store files image)
     (same : SameOutside (slot_at (first_free store.held)) SLOT_BYTES image new)
-    (container : HoldsContainer new (first_free store.held) (suc (last_id store.held)) kind segments) (can : CanSeal store)
-    (may : AllByRecursion (MaySeal S kind) segments) (nodes : AllByRecursion (IsSameNode kind store given) segments) where
+    (container : HoldsContainer new (first_free store.held) id kind segments) (can : CanSeal id kind segments store)
+    (may : AllByRecursion (MaySeal S kind) segments) (nodes : AllByRecursion (FitsHeld kind store given) segments) where
   abbrev header : HeaderValue
-  header = header_of (suc (last_id store.held)) kind segments
+  header = header_of id kind segments
 
   some : 1 ≤ free_slots store.held
   some = omega (arith, stands.holds.reserve)
@@ -147,22 +147,22 @@ module _ (S : List ℕ → Type 0) (kind : Kind) (segments : List Segment) (stor
     segment : Segment
     is : IsEntryOf (first_free store.held) new segment e
     sealable : MaySeal S kind segment
-    node : IsSameNode kind store given segment
+    node : FitsHeld kind store given segment
 
   all_sealed : AllByRecursion IsSealed header.entries
   all_sealed =
-      entries_of (first_free store.held) new (λ s. MaySeal S kind s × IsSameNode kind store given s) IsSealed 0 segments
-      (λ s e is so. record { segment = s; is = is; sealable = so.0; node = so.1 }) stand (both_so (MaySeal S kind) (IsSameNode kind store given) segments may nodes)
+      entries_of (first_free store.held) new (λ s. MaySeal S kind s × FitsHeld kind store given s) IsSealed 0 segments
+      (λ s e is so. record { segment = s; is = is; sealable = so.0; node = so.1 }) stand (both_so (MaySeal S kind) (FitsHeld kind store given) segments may nodes)
 
   all_levels : AllByRecursion (λ e. is_level kind e.level ≡ true) header.entries
   all_levels = have_levels kind kind [] header.entries refl container.header.0.entries
 
   -- A key that is held in both images has the newest copy that it had.
   pub newest_alike : (key : List ℕ) (level : ℕ) (bytes : List ℕ) → HasNewest store.held key level bytes given → HasNewest store.held key level bytes image
-      → HasNewest (with_sealed kind segments store).held key level bytes new
+      → HasNewest (with_sealed id kind segments store).held key level bytes new
   newest_alike key level bytes old has = by_entry (find (entry_has kind key) header.entries) refl
     where
-      by_entry : (found : Option Entry) → find (entry_has kind key) header.entries ≡ found → HasNewest (with_sealed kind segments store).held key level bytes new
+      by_entry : (found : Option Entry) → find (entry_has kind key) header.entries ≡ found → HasNewest (with_sealed id kind segments store).held key level bytes new
       by_entry None none = record {
         copy = has.copy;
         copy_is = newest_without 0 header store.held key some none ∙ has.copy_is;
@@ -182,78 +182,78 @@ module _ (S : List ℕ → Type 0) (kind : Kind) (segments : List Segment) (stor
           let right = subst (λ (l : ℕ). is_level kind l ≡ true) there.0.is.level (found_so (λ x. is_level kind x.level ≡ true) (entry_has kind key) header.entries e all_levels found).0 in
           record {
             copy = entry_copy (first_free store.held) header.id e;
-            copy_is = newest_with 0 (first_free store.held) header store.held key e place some (omega arith) found;
+            copy_is = newest_with 0 (first_free store.held) header store.held key e place some can.new_id found;
             level_is = there.0.is.level ∙ same_level S kind store.held image segment has.copy headers stands.holds.nodes there.0.sealable right copy_is bytes_same ∙ has.level_is;
             bytes_are = there.0.is.bytes ∙ bytes_same ∙ has.bytes_are;
           }
 
   -- and so has each key of a tree that both hold
   mutual
-    pub tree_alike : (t : TreeOf (List ℕ)) → HoldsTree store.held given t → HoldsTree store.held image t → HoldsTree (with_sealed kind segments store).held new t
+    pub tree_alike : (t : TreeOf (List ℕ)) → HoldsTree store.held given t → HoldsTree store.held image t → HoldsTree (with_sealed id kind segments store).held new t
     tree_alike tree.Empty old has = tt
     tree_alike (tree.Leaf segment) old has = newest_alike (leaf_key segment) 0 segment old has
     tree_alike (tree.Node level ts) old has =
         (newest_alike (node_key (contents_of level ts)) level (spelling (contents_of level ts)) old.0 has.0, trees_alike ts old.1 has.1)
 
-    pub trees_alike : (ts : Trees (List ℕ)) → HoldsTrees store.held given ts → HoldsTrees store.held image ts → HoldsTrees (with_sealed kind segments store).held new ts
+    pub trees_alike : (ts : Trees (List ℕ)) → HoldsTrees store.held given ts → HoldsTrees store.held image ts → HoldsTrees (with_sealed id kind segments store).held new ts
     trees_alike tree.NoTree old has = tt
     trees_alike (tree.Then t ts) old has = (tree_alike t old.0 has.0, trees_alike ts old.1 has.1)
 
   file_alike : (named : Option Named) (file : Option (List ℕ)) → IsFileOf store.held given named file → IsFileOf store.held image named file
-      → IsFileOf (with_sealed kind segments store).held new named file
+      → IsFileOf (with_sealed id kind segments store).held new named file
   file_alike None None old is = tt
   file_alike None (Some bytes) old is = is
   file_alike (Some named) None old is = is
   file_alike (Some named) (Some bytes) old is = (is.0, tree_alike (file_tree bytes) old.1 is.1)
 
-  encodes : Encodes new (with_sealed kind segments store)
+  encodes : Encodes new (with_sealed id kind segments store)
   encodes =
       let right = stands.holds.right in
-      encodes_on store image new (before_slots (first_free store.held) image new same) same.size (with_sealed kind segments store).held right
+      encodes_on store image new (before_slots (first_free store.held) image new same) same.size (with_sealed id kind segments store).held right
       (length-with_slot (first_free store.held) header store.held)
       (holds_with (first_free store.held) image new same 0 header store.held place container.header right.slots_are)
-      (different_with (first_free store.held) header store.held right.different (omega arith))
+      (different_with (first_free store.held) header store.held right.different can.new_id)
 
-  copies : AreCopies 0 (with_sealed kind segments store).held new
+  copies : AreCopies 0 (with_sealed id kind segments store).held new
   copies =
       copies_with (first_free store.held) image new same 0 header store.held place
       (entries_of (first_free store.held) new (MaySeal S kind) _ 0 segments (λ s e is so. ap sha256 is.bytes ∙ sym is.digest) stand may) headers stands.holds.copies
 
-  are_nodes : AreNodes 0 (with_sealed kind segments store).held new
+  are_nodes : AreNodes 0 (with_sealed id kind segments store).held new
   are_nodes =
-      so_nodes 0 (with_sealed kind segments store).held new
+      so_nodes 0 (with_sealed id kind segments store).held new
       (so_with IsNodeEntry image new (first_free store.held) 0 header store.held place
       (entries_of (first_free store.held) new (MaySeal S kind) _ 0 segments
       (λ s e is so. subst (λ (l : ℕ). IsOfKind kind l (entry_bytes (first_free store.held) e new)) (sym is.level) (subst (IsOfKind kind s.level) (sym is.bytes) so.of_kind)) stand may)
       headers still (nodes_so 0 store.held image stands.holds.nodes))
 
-  are_among : AreAmong S 0 (with_sealed kind segments store).held new
+  are_among : AreAmong S 0 (with_sealed id kind segments store).held new
   are_among =
-      so_among S 0 (with_sealed kind segments store).held new
+      so_among S 0 (with_sealed id kind segments store).held new
       (so_with (IsAmongThese S) image new (first_free store.held) 0 header store.held place
       (entries_of (first_free store.held) new (MaySeal S kind) _ 0 segments (λ s e is so. subst (IsAmong S kind) (sym is.bytes) so.among) stand may)
       headers still (among_so S 0 store.held image stands.among))
 
   -- The store with the container, of the same files.
-  pub sealed : Stands S (with_sealed kind segments store) files new
+  pub sealed : Stands S (with_sealed id kind segments store) files new
   sealed =
-      stands_on S store files image new (before_slots (first_free store.held) image new same) (with_sealed kind segments store).held stands encodes copies are_nodes are_among
+      stands_on S store files image new (before_slots (first_free store.held) image new same) (with_sealed id kind segments store).held stands encodes copies are_nodes are_among
       (λ name. file_alike (finite.get (names_of store) name) (finite.get files name) (before.holds.files_are name) (stands.holds.files_are name))
       (omega (arith, free_less header store.held some, can.slot))
 
 -- What one image holds goes on when a container is sealed in it.
-module _ (S : List ℕ → Type 0) (kind : Kind) (segments : List Segment) (store : Store) (files : Files) (image new : List ℕ)
+module _ (S : List ℕ → Type 0) (id : ℕ) (kind : Kind) (segments : List Segment) (store : Store) (files : Files) (image new : List ℕ)
     (distinct : HasNoCollisions S) (stands : Stands S store files image) (same : SameOutside (slot_at (first_free store.held)) SLOT_BYTES image new)
-    (container : HoldsContainer new (first_free store.held) (suc (last_id store.held)) kind segments) (can : CanSeal store)
-    (may : AllByRecursion (MaySeal S kind) segments) (nodes : AllByRecursion (IsSameNode kind store image) segments) where
+    (container : HoldsContainer new (first_free store.held) id kind segments) (can : CanSeal id kind segments store)
+    (may : AllByRecursion (MaySeal S kind) segments) (nodes : AllByRecursion (FitsHeld kind store image) segments) where
   -- the newest copy of a key
-  pub newest_kept : (key : List ℕ) (level : ℕ) (bytes : List ℕ) → HasNewest store.held key level bytes image → HasNewest (with_sealed kind segments store).held key level bytes new
-  newest_kept key level bytes has = newest_alike S kind segments store files image image new distinct stands stands same container can may nodes key level bytes has has
+  pub newest_kept : (key : List ℕ) (level : ℕ) (bytes : List ℕ) → HasNewest store.held key level bytes image → HasNewest (with_sealed id kind segments store).held key level bytes new
+  newest_kept key level bytes has = newest_alike S id kind segments store files image image new distinct stands stands same container can may nodes key level bytes has has
 
   -- a tree
-  pub tree_kept : (t : TreeOf (List ℕ)) → HoldsTree store.held image t → HoldsTree (with_sealed kind segments store).held new t
-  tree_kept t has = tree_alike S kind segments store files image image new distinct stands stands same container can may nodes t has has
+  pub tree_kept : (t : TreeOf (List ℕ)) → HoldsTree store.held image t → HoldsTree (with_sealed id kind segments store).held new t
+  tree_kept t has = tree_alike S id kind segments store files image image new distinct stands stands same container can may nodes t has has
 
   -- and trees in a row
-  pub trees_kept : (ts : Trees (List ℕ)) → HoldsTrees store.held image ts → HoldsTrees (with_sealed kind segments store).held new ts
-  trees_kept ts has = trees_alike S kind segments store files image image new distinct stands stands same container can may nodes ts has has
+  pub trees_kept : (ts : Trees (List ℕ)) → HoldsTrees store.held image ts → HoldsTrees (with_sealed id kind segments store).held new ts
+  trees_kept ts has = trees_alike S id kind segments store files image image new distinct stands stands same container can may nodes ts has has

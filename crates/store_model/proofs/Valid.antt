@@ -4,7 +4,7 @@ use Rattle.std.specs.FinMap as finite
 use Rattle.disk_format.specs.Cells.{Root, RecordValue, IsRoot, IsRecord}
 use Rattle.container_meta.specs.declared.kind.Kind.{Kind}
 use Rattle.container_meta.specs.Segments.{Segment}
-use Rattle.container_meta.specs.Spelling.{HeaderValue, IsHeader, header_of}
+use Rattle.container_meta.specs.Spelling.{HeaderValue, header_of}
 use Rattle.namespace.specs.Names.{NameMap, IsTaken, names_with, names_after}
 use Rattle.store_model.specs.Files.{Files}
 use Rattle.store_model.specs.Journal.{Follow, last_of}
@@ -42,31 +42,31 @@ valid_put size name root store sound can right = record {
 
 -- ---- a container more
 
-module _ (kind : Kind) (segments : List Segment) (store : Store) (can : CanSeal store) where
+module _ (id : ℕ) (kind : Kind) (segments : List Segment) (store : Store) (can : CanSeal id kind segments store) where
   abbrev new_header : HeaderValue
-  new_header = header_of (suc (last_id store.held)) kind segments
+  new_header = header_of id kind segments
 
   some : 1 ≤ free_slots store.held
   some = omega (arith, can.slot)
 
   -- its id is the last
-  pub last_sealed : last_id (with_sealed kind segments store).held ≡ suc (last_id store.held)
-  last_sealed = last_new new_header store.held some (omega arith)
+  pub last_sealed : last_id (with_sealed id kind segments store).held ≡ id
+  last_sealed = last_new new_header store.held some can.new_id
 
   -- one slot fewer is closed
-  pub free_sealed : suc (free_slots (with_sealed kind segments store).held) ≡ free_slots store.held
+  pub free_sealed : suc (free_slots (with_sealed id kind segments store).held) ≡ free_slots store.held
   free_sealed = free_less new_header store.held some
 
-  pub valid_sealed : (size : ℕ) → IsValidFor size store → IsHeader new_header → IsValidFor size (with_sealed kind segments store)
-  valid_sealed size sound right = record {
+  pub valid_sealed : (size : ℕ) → IsValidFor size store → IsValidFor size (with_sealed id kind segments store)
+  valid_sealed size sound = record {
     count = sound.count;
     size_is = sound.size_is;
     selector_right = sound.selector_right;
     few = sound.few;
     follow = sound.follow;
     many = length-with_slot (first_free store.held) new_header store.held ∙ sound.many;
-    headers = headers_with (first_free store.held) new_header store.held sound.headers right;
-    different = different_with (first_free store.held) new_header store.held sound.different (omega arith);
+    headers = headers_with (first_free store.held) new_header store.held sound.headers can.right;
+    different = different_with (first_free store.held) new_header store.held sound.different can.new_id;
   }
 
 -- ---- roots

@@ -1,43 +1,48 @@
 -- The steps of a store, and what they make of it (docs/MODEL.md, 'Steps').
-use Rattle.std.specs.Prelude.{◌≡◌, ℕ, suc, ◌-◌, ◌^◌, ◌<◌, ◌≤◌, List, [], ◌∷◌, ◌++◌, length, Some}
+use Rattle.std.specs.Prelude.{◌≡◌, ℕ, suc, ◌-◌, ◌^◌, ◌<◌, List, [], ◌∷◌, ◌++◌, length, Some}
 use Rattle.disk_format.specs.Cells.{Root, RecordValue, IsName, IsRoot}
 use Rattle.disk_format.specs.Cells.Change.{Put as PutRoot}
 use Rattle.disk_format.specs.Layout.{half_cells}
-use Rattle.disk_format.specs.declared.numbers.TheConstants.{RESERVE, LAST_ID}
+use Rattle.disk_format.specs.declared.numbers.TheConstants.{RESERVE}
 use Rattle.container_meta.specs.declared.kind.Kind.{Kind}
 use Rattle.container_meta.specs.declared.kind.Kind.TheVariants as kinds
 use Rattle.container_meta.specs.Segments.{Segment, segment_key}
-use Rattle.container_meta.specs.Spelling.{header_of}
+use Rattle.container_meta.specs.declared.place.Place.{Place}
+use Rattle.container_meta.specs.Spelling.{IsHeader, header_of}
 use Rattle.namespace.specs.Names.{HasRoom}
 use Rattle.store_model.specs.Image.{Store, names_of, last_sequence}
 use Rattle.store_model.specs.Slots.{Copy, newest, last_id, free_slots, first_free, with_slot}
 use Rattle.store_model.specs.Standing.{IsOfKind, IsAmong}
-use Rattle.store_model.specs.Trees.{bytes_at}
+use Rattle.store_model.specs.Trees.{HasNewest, bytes_at}
 
 -- ---- a container is sealed
 
--- the store with one more container: in the free slot of least number, under the next id
-abbrev pub with_sealed : Kind → List Segment → Store → Store
-with_sealed kind segments store =
-    record store { held = with_slot (first_free store.held) (header_of (suc (last_id store.held)) kind segments) store.held }
+-- the store with one more container, under this id: in the free slot of least number
+abbrev pub with_sealed : ℕ → Kind → List Segment → Store → Store
+with_sealed id kind segments store =
+    record store { held = with_slot (first_free store.held) (header_of id kind segments) store.held }
 
--- there is a slot for it, with two more to spare, and an id
-pub record CanSeal (store : Store) : Type 0 where
+-- There is a slot for it, with two more to spare; its id is above all that are there, and its header is right.
+pub record CanSeal (id : ℕ) (kind : Kind) (segments : List Segment) (store : Store) : Type 0 where
   pub slot : RESERVE < free_slots store.held
-  pub id : last_id store.held < LAST_ID
+  pub new_id : last_id store.held < id
+  pub right : IsHeader (header_of id kind segments)
 
 -- a segment that may be sealed: it is of its kind, and, as data, among S
 pub record MaySeal (S : List ℕ → Type 0) (kind : Kind) (s : Segment) : Type 0 where
   pub of_kind : IsOfKind kind s.level s.bytes
   pub among : IsAmong S kind s.bytes
 
--- the newest copy of the key of a node, where there is one, is the node
-abbrev pub IsSameNode : Kind → Store → List ℕ → Segment → Type 0
-IsSameNode kinds.Leaf store image s = Unit {0}
-IsSameNode kinds.Tree store image s =
-    (copy : Copy) → newest 0 store.held (segment_key kinds.Tree s) ≡ Some copy → bytes_at copy.place image ≡ s.bytes
+-- a segment and a copy of its key: data of one length, or the same node
+abbrev pub FitsCopy : Kind → Segment → Place → List ℕ → Type 0
+FitsCopy kinds.Leaf s place image = place.length ≡ length s.bytes
+FitsCopy kinds.Tree s place image = bytes_at place image ≡ s.bytes
 
--- ---- a record is put
+-- the newest copy of the segment's key fits it, where there is one
+abbrev pub FitsHeld : Kind → Store → List ℕ → Segment → Type 0
+FitsHeld kind store image s = (copy : Copy) → newest 0 store.held (segment_key kind s) ≡ Some copy → FitsCopy kind s copy.place image
+
+-- ---- a name is given a root
 
 abbrev pub put_of : List ℕ → Root → Store → RecordValue
 put_of name root store = record { sequence = suc (last_sequence store); name = name; change = PutRoot root }
@@ -45,29 +50,35 @@ put_of name root store = record { sequence = suc (last_sequence store); name = n
 abbrev pub with_put : List ℕ → Root → Store → Store
 with_put name root store = record store { records = store.records ++ put_of name root store ∷ [] }
 
--- a good name can have a new root: it has room among the names, its record in the half, and a number
+-- The name is good and has room, the half has a free cell, and a number is left.
 pub record CanPut (name : List ℕ) (store : Store) : Type 0 where
   pub named : IsName name
   pub room : HasRoom (names_of store) name
   pub cell : length store.records < half_cells
   pub number : last_sequence store < 2 ^ 64 - 1
 
--- ---- steps
+-- ---- both
 
-pub data Step : Type 0 where
-  Seal : (kind : Kind) → (segments : List Segment) → Step
-  Put : (name : List ℕ) → (root : Root) → Step
+-- what a step changes of a store
+pub data StoreChange : Type 0 where
+  SealContainer : (id : ℕ) → (kind : Kind) → (segments : List Segment) → StoreChange
+  PutName : (name : List ℕ) → (root : Root) → StoreChange
 
--- the store after a step
-abbrev pub after : Step → Store → Store
-after (Seal kind segments) store = with_sealed kind segments store
-after (Put name root) store = with_put name root store
+-- the store after a change
+abbrev pub changed : StoreChange → Store → Store
+changed (SealContainer id kind segments) store = with_sealed id kind segments store
+changed (PutName name root) store = with_put name root store
 
 -- it can be made
-abbrev pub Can : Step → Store → Type 0
-Can (Seal kind segments) store = CanSeal store × (1 ≤ length segments)
-Can (Put name root) store = CanPut name store × IsRoot root
+abbrev pub CanChange : StoreChange → Store → Type 0
+CanChange (SealContainer id kind segments) store = CanSeal id kind segments store
+CanChange (PutName name root) store = CanPut name store × IsRoot root
 
--- one store comes from another by a step
+-- One store comes from another by a change. Each step of the core names its own.
 abbrev pub StoreStep : Store → Store → Type 0
-StoreStep s t = (step : Step) × Can step s × (t ≡ after step s)
+StoreStep s t = (change : StoreChange) × CanChange change s × (t ≡ changed change s)
+
+-- The newest copies of an image that is one store are those of an image that is another, later one.
+abbrev pub KeepsCopies : Store → List ℕ → Store → List ℕ → Type 0
+KeepsCopies s old t new =
+    (key : List ℕ) (level : ℕ) (bytes : List ℕ) → HasNewest s.held key level bytes old → HasNewest t.held key level bytes new

@@ -51,6 +51,19 @@ impl Seg {
         })
     }
 
+    /// A node of a file's tree, of any level and any bytes: a container takes it only where the level is one that nodes
+    /// have, and the bytes are as many as a node's. The bytes are copied; it fails for want of memory alone.
+    pub fn tree(alloc: Global, level: u8, bytes: &[u8]) -> Result<Seg, AllocError>
+        ensures { IfOk result (λ s. s ≡ record { kind = Kind.Tree; segment = record { level = level; bytes = bytes.now } }) }
+    {
+        Ok(Seg {
+            kind: Kind::Tree,
+            level,
+            bytes: Vec::from_slice(alloc, bytes)?,
+            digest: digest_of(bytes),
+        })
+    }
+
     /// Whether the bytes are a file's or a node's.
     pub fn kind(&self) -> Kind
         ensures { result ≡ self.now.kind }

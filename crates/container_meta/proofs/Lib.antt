@@ -8,3 +8,4 @@ pub mod Again
 pub mod Packing
 pub mod Encoded
 pub mod Stored
+pub mod KeyEntries

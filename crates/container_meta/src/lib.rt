@@ -7,6 +7,7 @@
 mod container;
 mod entry;
 mod fault;
+mod key_map;
 mod kind;
 mod place;
 mod reading;
@@ -16,6 +17,7 @@ mod writing;
 pub use container::{Fit, OpenContainer};
 pub use entry::{Entry, Header, Meta};
 pub use fault::MetaFault;
+pub use key_map::KeyMap;
 pub use kind::Kind;
 pub use place::{Key, Place, key_of};
 pub use reading::{decode, decode_into};

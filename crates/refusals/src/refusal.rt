@@ -10,6 +10,21 @@ use std::alloc::{AllocError, AllocFailed};
 pub enum Difference {
     /// Their lengths in bytes.
     Length { offered: u64, held: u64 },
+    /// The first byte at which they differ: its place, counted from 0, and both bytes.
+    Byte { place: u64, offered: u8, held: u8 },
+}
+
+/// What an actor is at, as a refusal names it.
+#[derive(Clone, Copy)]
+pub enum PartKind {
+    /// Nothing.
+    Idle,
+    /// It gives the bytes of a file.
+    Writing,
+    /// It has given all bytes of a file, whose name is to come.
+    Finished,
+    /// It takes the bytes of a file.
+    Reading,
 }
 
 /// Why a step or a command was refused, with what it carries. docs/FORMAT.md, 'Refusals', has their texts and statuses.
@@ -34,10 +49,19 @@ pub enum Refusal {
         key: [u8; 33],
         at: Difference,
     },
+    /// 8: the actor's part is none that the step takes.
+    WrongPart {
+        part: PartKind,
+    },
     /// 10: a read of the disk failed.
     DiskRead,
     /// 11: a write or a sync of the disk failed.
     DiskWrite,
+    /// 12: an earlier step failed in mid-write, and the store takes no more steps until it is opened again.
+    Stopped {
+        /// How many puts and deletes had been acknowledged since the opening.
+        at: u64,
+    },
     /// 13: the bytes read at a place have another digest than the one wanted.
     Corrupt {
         slot: u32,
@@ -67,6 +91,10 @@ pub enum Refusal {
     Damaged {
         at: u64,
         why: Why,
+    },
+    /// 19: a child of an offered node, or the root of a name, isn't among the actor's pins.
+    Unpinned {
+        key: [u8; 33],
     },
     /// 20: the disk has a store already.
     AlreadyStore,

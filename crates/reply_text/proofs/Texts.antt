@@ -1,10 +1,34 @@
 -- The pieces of a line that carries something are that line. What is not here the check finds by itself.
 use Rattle.std.proofs.Common.{◌≡◌, ℕ, List, [], ◌∷◌, ◌++◌, append_assoc, codes, decimal, Result, subst}
+use Rattle.std.proofs.lemmas.List.{append-nil}
 use Rattle.hex.specs.Hex.{encode_lower}
 use Rattle.dd_io.specs.Flow.{SinkView, Sends}
-use Rattle.refusals.specs.declared.refusal.Refusal.TheVariants.{Corrupt, Missing, NotAStore, Version, WrongSize}
+use Rattle.refusals.specs.declared.refusal.Refusal.TheVariants.{Clash, WrongPart, Corrupt, Missing, NotAStore, Version, Unpinned, WrongSize}
+use Rattle.refusals.specs.declared.refusal.Difference.TheVariants.{Byte}
+use Rattle.refusals.specs.declared.refusal.PartKind.{PartKind}
 use Rattle.reply_text.specs.declared.ending.Ending.TheVariants.{Refused}
-use Rattle.reply_text.specs.Text.{fault_line, ending_text, refusal_text}
+use Rattle.reply_text.specs.Text.{fault_line, ending_text, refusal_text, difference_text, part_text}
+
+-- pieces of which one has a line of its own, put together either way
+byte_pieces : (front key space word place offered held end : List ℕ)
+    → front ++ (key ++ ((space ++ word) ++ (place ++ (space ++ (offered ++ (space ++ (held ++ (end ++ []))))))))
+    ≡ (((front ++ key) ++ space) ++ (((((word ++ place) ++ space) ++ offered) ++ space) ++ held)) ++ end
+byte_pieces front key space word place offered held end = simp (append_assoc, append-nil)
+
+-- the line of a `Clash` in a byte, of its pieces
+pub clash_byte_text : (key : List ℕ) (place offered held : ℕ) (key_digits place_text offered_digits held_digits : List ℕ) → key_digits ≡ encode_lower key → place_text ≡ decimal place → offered_digits ≡ encode_lower (offered ∷ []) → held_digits ≡ encode_lower (held ∷ [])
+    → codes "fault 7 clash " ++ (key_digits ++ (codes " byte " ++ (place_text ++ (codes " " ++ (offered_digits ++ (codes " " ++ (held_digits ++ (codes "\n" ++ []))))))))
+    ≡ fault_line (Refused (Clash key (Byte place offered held)))
+unfolding fault_line ending_text refusal_text difference_text
+clash_byte_text key place offered held key_digits place_text offered_digits held_digits is_key is_place is_offered is_held =
+    rw (is_key, is_place, is_offered, is_held) (byte_pieces (codes "fault 7 clash ") (encode_lower key) (codes " ") (codes "byte ") (decimal place) (encode_lower (offered ∷ [])) (encode_lower (held ∷ [])) (codes "\n"))
+
+-- the line of `WrongPart`, of its pieces
+pub wrong_part_text : (part : PartKind) (word : List ℕ) → word ≡ part_text part
+    → codes "fault 8 wrongpart " ++ (word ++ (codes "\n" ++ []))
+    ≡ fault_line (Refused (WrongPart part))
+unfolding fault_line ending_text refusal_text
+wrong_part_text part word is_word = rw is_word (simp append_assoc)
 
 -- the line of `Corrupt`, of its pieces
 pub corrupt_text : (slot offset length : ℕ) (want got slot_text offset_text length_text want_digits got_digits : List ℕ) → slot_text ≡ decimal slot → offset_text ≡ decimal offset → length_text ≡ decimal length → want_digits ≡ encode_lower want → got_digits ≡ encode_lower got
@@ -33,6 +57,13 @@ pub version_text : (n : ℕ) (n_text : List ℕ) → n_text ≡ decimal n
     ≡ fault_line (Refused (Version n))
 unfolding fault_line ending_text refusal_text
 version_text n n_text is_n = rw is_n (simp append_assoc)
+
+-- the line of `Unpinned`, of its pieces
+pub unpinned_text : (key key_digits : List ℕ) → key_digits ≡ encode_lower key
+    → codes "fault 19 unpinned " ++ (key_digits ++ (codes "\n" ++ []))
+    ≡ fault_line (Refused (Unpinned key))
+unfolding fault_line ending_text refusal_text
+unpinned_text key key_digits is_key = rw is_key (simp append_assoc)
 
 -- the line of `WrongSize`, of its pieces
 pub wrong_size_text : (want got : ℕ) (want_text got_text : List ℕ) → want_text ≡ decimal want → got_text ≡ decimal got

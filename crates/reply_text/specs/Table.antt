@@ -1,7 +1,7 @@
 -- The exit statuses (docs/FORMAT.md, 'Commands' and 'Refusals').
 use Rattle.std.specs.Prelude.{ℕ}
 use Rattle.refusals.specs.declared.refusal.Refusal.{Refusal}
-use Rattle.refusals.specs.declared.refusal.Refusal.TheVariants.{Memory, NoFile, BadName, TooMany, TooLong, Full, Clash, DiskRead, DiskWrite, Corrupt, Missing, Numbers, NotAStore, Version, Damaged, AlreadyStore, WrongSize}
+use Rattle.refusals.specs.declared.refusal.Refusal.TheVariants.{Memory, NoFile, BadName, TooMany, TooLong, Full, Clash, WrongPart, DiskRead, DiskWrite, Stopped, Corrupt, Missing, Numbers, NotAStore, Version, Damaged, Unpinned, AlreadyStore, WrongSize}
 use Rattle.reply_text.specs.declared.ending.Ending.{Ending}
 use Rattle.reply_text.specs.declared.ending.Ending.TheVariants.{Words, Source, Sink, Refused}
 
@@ -14,14 +14,17 @@ status_of_refusal TooMany = 3
 status_of_refusal TooLong = 3
 status_of_refusal (Full free) = 3
 status_of_refusal (Clash key at) = 3
+status_of_refusal (WrongPart part) = 3
 status_of_refusal DiskRead = 4
 status_of_refusal DiskWrite = 4
+status_of_refusal (Stopped at) = 4
 status_of_refusal (Corrupt slot offset length want got) = 7
 status_of_refusal (Missing key) = 7
 status_of_refusal Numbers = 3
 status_of_refusal (NotAStore gate magic) = 8
 status_of_refusal (Version n) = 8
 status_of_refusal (Damaged at why) = 7
+status_of_refusal (Unpinned key) = 3
 status_of_refusal AlreadyStore = 3
 status_of_refusal (WrongSize want got) = 3
 

@@ -3,11 +3,13 @@ use Rattle.std.specs.Prelude.{ℕ, List, [], ◌∷◌, ◌++◌, codes, decimal
 use Rattle.hex.specs.Hex.{encode_lower}
 use Rattle.disk_format.specs.Cells.{Root}
 use Rattle.refusals.specs.declared.refusal.Difference.{Difference}
-use Rattle.refusals.specs.declared.refusal.Difference.TheVariants.{Length}
+use Rattle.refusals.specs.declared.refusal.Difference.TheVariants.{Length, Byte}
+use Rattle.refusals.specs.declared.refusal.PartKind.{PartKind}
+use Rattle.refusals.specs.declared.refusal.PartKind.TheVariants.{Idle, Writing, Finished, Reading}
 use Rattle.disk_format.specs.declared.why.Why.{Why}
 use Rattle.disk_format.specs.declared.why.Why.TheVariants.{Digest, Field}
 use Rattle.refusals.specs.declared.refusal.Refusal.{Refusal}
-use Rattle.refusals.specs.declared.refusal.Refusal.TheVariants.{Memory, NoFile, BadName, TooMany, TooLong, Full, Clash, DiskRead, DiskWrite, Corrupt, Missing, Numbers, NotAStore, Version, Damaged, AlreadyStore, WrongSize}
+use Rattle.refusals.specs.declared.refusal.Refusal.TheVariants.{Memory, NoFile, BadName, TooMany, TooLong, Full, Clash, WrongPart, DiskRead, DiskWrite, Stopped, Corrupt, Missing, Numbers, NotAStore, Version, Damaged, Unpinned, AlreadyStore, WrongSize}
 use Rattle.reply_text.specs.declared.ending.Ending.{Ending}
 use Rattle.reply_text.specs.declared.ending.Ending.TheVariants.{Words, Source, Sink, Refused}
 
@@ -24,6 +26,15 @@ stored_line name root =
 -- how two segments of one key differ
 unfoldable pub difference_text : Difference → List ℕ
 difference_text (Length offered held) = codes "length " ++ decimal offered ++ codes " " ++ decimal held
+difference_text (Byte place offered held) =
+    codes "byte " ++ decimal place ++ codes " " ++ encode_lower (offered ∷ []) ++ codes " " ++ encode_lower (held ∷ [])
+
+-- what an actor is at
+unfoldable pub part_text : PartKind → List ℕ
+part_text Idle = codes "idle"
+part_text Writing = codes "writing"
+part_text Finished = codes "finished"
+part_text Reading = codes "reading"
 
 -- how a cell or a header breaks the format
 unfoldable pub why_text : Why → List ℕ
@@ -39,8 +50,10 @@ refusal_text TooMany = codes "4 toomany"
 refusal_text TooLong = codes "5 toolong"
 refusal_text (Full free) = codes "6 full " ++ decimal free
 refusal_text (Clash key at) = codes "7 clash " ++ encode_lower key ++ codes " " ++ difference_text at
+refusal_text (WrongPart part) = codes "8 wrongpart " ++ part_text part
 refusal_text DiskRead = codes "10 diskread"
 refusal_text DiskWrite = codes "11 diskwrite"
+refusal_text (Stopped at) = codes "12 stopped " ++ decimal at
 refusal_text (Corrupt slot offset length want got) =
     codes "13 corrupt " ++ decimal slot ++ codes " " ++ decimal offset ++ codes " " ++ decimal length ++ codes " " ++ encode_lower want
     ++ codes " " ++ encode_lower got
@@ -49,6 +62,7 @@ refusal_text Numbers = codes "15 numbers"
 refusal_text (NotAStore gate magic) = codes "16 notastore " ++ encode_lower (gate ∷ []) ++ codes " " ++ encode_lower magic
 refusal_text (Version n) = codes "17 version " ++ decimal n
 refusal_text (Damaged at why) = codes "18 damaged " ++ decimal at ++ codes " " ++ why_text why
+refusal_text (Unpinned key) = codes "19 unpinned " ++ encode_lower key
 refusal_text AlreadyStore = codes "20 alreadystore"
 refusal_text (WrongSize want got) = codes "21 wrongsize " ++ decimal want ++ codes " " ++ decimal got
 

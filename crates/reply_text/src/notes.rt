@@ -3,18 +3,18 @@ ghost use Rattle.std.specs.Prelude.{◌≡◌, ◌*◌, length};
 ghost use Rattle.std.specs.List.{flat_map};
 ghost use Rattle.hex.specs.Hex.{encode_lower};
 ghost use Rattle.dd_io.specs.Flow.{Sends};
-ghost use Rattle.refusals.specs.declared.refusal.Difference.TheVariants.{Length};
+ghost use Rattle.refusals.specs.declared.refusal.Difference.TheVariants.{Length, Byte};
 ghost use Rattle.disk_format.specs.declared.why.Why.TheVariants.{Digest, Field};
 ghost use Rattle.reply_text.specs.declared.ending.Ending.TheVariants.{Refused};
-ghost use Rattle.refusals.specs.declared.refusal.Refusal.TheVariants.{Full, Clash, Corrupt, Missing};
-ghost use Rattle.refusals.specs.declared.refusal.Refusal.TheVariants.{NotAStore, Version, Damaged, WrongSize};
-ghost use Rattle.reply_text.specs.Text.{fault_line};
+ghost use Rattle.refusals.specs.declared.refusal.Refusal.TheVariants.{Full, Clash, WrongPart, Stopped, Corrupt, Missing};
+ghost use Rattle.refusals.specs.declared.refusal.Refusal.TheVariants.{NotAStore, Version, Damaged, Unpinned, WrongSize};
+ghost use Rattle.reply_text.specs.Text.{fault_line, part_text};
 
 use crate::ending::Ending;
 use dd_io::{Sink, SinkFault};
 use disk_format::Why;
 use itoa::Buffer;
-use refusals::{Difference, Refusal};
+use refusals::{Difference, PartKind, Refusal};
 
 // Writes some pieces, one after another.
 fn write_pieces<Q: Sink>(notes: &mut Q, pieces: &[&[u8]]) -> Result<(), SinkFault>
@@ -51,8 +51,10 @@ fn write_refusal<Q: Sink>(notes: &mut Q, refusal: &Refusal) -> Result<(), SinkFa
         Refusal::TooLong => write_pieces(notes, &[b"fault 5 toolong\n"]),
         Refusal::Full { free } => write_full(notes, *free),
         Refusal::Clash { key, at } => write_clash(notes, key, at),
+        Refusal::WrongPart { part } => write_wrong_part(notes, part),
         Refusal::DiskRead => write_pieces(notes, &[b"fault 10 diskread\n"]),
         Refusal::DiskWrite => write_pieces(notes, &[b"fault 11 diskwrite\n"]),
+        Refusal::Stopped { at } => write_stopped(notes, *at),
         Refusal::Corrupt {
             slot,
             offset,
@@ -65,6 +67,7 @@ fn write_refusal<Q: Sink>(notes: &mut Q, refusal: &Refusal) -> Result<(), SinkFa
         Refusal::NotAStore { gate, magic } => write_not_a_store(notes, *gate, magic),
         Refusal::Version { n } => write_version(notes, *n),
         Refusal::Damaged { at, why } => write_damaged(notes, *at, why),
+        Refusal::Unpinned { key } => write_unpinned(notes, key),
         Refusal::AlreadyStore => write_pieces(notes, &[b"fault 20 alreadystore\n"]),
         Refusal::WrongSize { want, got } => write_wrong_size(notes, *want, *got),
     }
@@ -87,6 +90,11 @@ fn write_clash<Q: Sink>(notes: &mut Q, key: &[u8; 33], at: &Difference) -> Resul
 {
     match at {
         Difference::Length { offered, held } => write_clash_length(notes, key, *offered, *held),
+        Difference::Byte {
+            place,
+            offered,
+            held,
+        } => write_clash_byte(notes, key, *place, *offered, *held),
     }
 }
 
@@ -113,6 +121,69 @@ fn write_clash_length<Q: Sink>(
             held_text.format(held).as_bytes(),
             b"\n",
         ],
+    )
+}
+
+#[tactic(auto, unfolding(crate::specs::Text::fault_line, crate::specs::Text::ending_text, crate::specs::Text::refusal_text))]
+fn write_clash_byte<Q: Sink>(
+    notes: &mut Q,
+    key: &[u8; 33],
+    place: u64,
+    offered: u8,
+    held: u8,
+) -> Result<(), SinkFault>
+    ensures { Sends (fault_line (Refused (Clash key.now (Byte place offered held)))) result (Q.view notes.old) (Q.view notes.new) }
+{
+    let mut place_text = Buffer::new();
+    let mut key_digits = [0u8; 66];
+    let (mut offered_digits, mut held_digits) = ([0u8; 2], [0u8; 2]);
+    put_digits(key, &mut key_digits);
+    put_digits(&[offered], &mut offered_digits);
+    put_digits(&[held], &mut held_digits);
+    write_pieces(
+        notes,
+        &[
+            b"fault 7 clash ",
+            &key_digits,
+            b" byte ",
+            place_text.format(place).as_bytes(),
+            b" ",
+            &offered_digits,
+            b" ",
+            &held_digits,
+            b"\n",
+        ],
+    )
+}
+
+// The word of what an actor is at.
+#[tactic(auto, unfolding(crate::specs::Text::part_text))]
+fn word_of(part: &PartKind) -> &'static [u8]
+    ensures { result.now ≡ part_text part.now }
+{
+    match part {
+        PartKind::Idle => b"idle",
+        PartKind::Writing => b"writing",
+        PartKind::Finished => b"finished",
+        PartKind::Reading => b"reading",
+    }
+}
+
+#[tactic(auto, unfolding(crate::specs::Text::fault_line, crate::specs::Text::ending_text, crate::specs::Text::refusal_text))]
+fn write_wrong_part<Q: Sink>(notes: &mut Q, part: &PartKind) -> Result<(), SinkFault>
+    ensures { Sends (fault_line (Refused (WrongPart part.now))) result (Q.view notes.old) (Q.view notes.new) }
+{
+    write_pieces(notes, &[b"fault 8 wrongpart ", word_of(part), b"\n"])
+}
+
+#[tactic(auto, unfolding(crate::specs::Text::fault_line, crate::specs::Text::ending_text, crate::specs::Text::refusal_text))]
+fn write_stopped<Q: Sink>(notes: &mut Q, at: u64) -> Result<(), SinkFault>
+    ensures { Sends (fault_line (Refused (Stopped at))) result (Q.view notes.old) (Q.view notes.new) }
+{
+    let mut at_text = Buffer::new();
+    write_pieces(
+        notes,
+        &[b"fault 12 stopped ", at_text.format(at).as_bytes(), b"\n"],
     )
 }
 
@@ -255,6 +326,15 @@ fn write_damaged_field<Q: Sink>(
             b"\n",
         ],
     )
+}
+
+#[tactic(auto, unfolding(crate::specs::Text::fault_line, crate::specs::Text::ending_text, crate::specs::Text::refusal_text))]
+fn write_unpinned<Q: Sink>(notes: &mut Q, key: &[u8; 33]) -> Result<(), SinkFault>
+    ensures { Sends (fault_line (Refused (Unpinned key.now))) result (Q.view notes.old) (Q.view notes.new) }
+{
+    let mut key_digits = [0u8; 66];
+    put_digits(key, &mut key_digits);
+    write_pieces(notes, &[b"fault 19 unpinned ", &key_digits, b"\n"])
 }
 
 #[tactic(auto, unfolding(crate::specs::Text::fault_line, crate::specs::Text::ending_text, crate::specs::Text::refusal_text))]

@@ -6,20 +6,18 @@ ghost use Rattle.container_meta.specs.Places.{PlaceMap};
 
 use crate::fault::IndexFault;
 use crate::index::Index;
-use container_meta::{Key, Place};
+use container_meta::{Key, KeyMap, Place};
 use dd_disk::Disk;
 use std::alloc::{AllocError, Global};
-use std::collections::BTreeMap;
 use std::marker::Model;
 
 /// An index in memory. It calls the disk for nothing.
 #[derive(Drop)]
 pub struct MapIndex {
-    entries: BTreeMap<Key, Place>,
+    entries: KeyMap<Place>,
 }
 
 impl Model for MapIndex {
-    ghost use Rattle.std.specs.FinMap as finite;
     ghost use Rattle.segment_index.specs.Places.{coded_places};
     ghost use Rattle.container_meta.specs.Places.{PlaceMap};
 
@@ -27,7 +25,7 @@ impl Model for MapIndex {
 
     ghost coded = { coded_places };
 
-    ghost view = { λ i. finite.from_entries i.entries.entries };
+    ghost view = { λ i. i.entries };
 }
 
 impl MapIndex {
@@ -36,7 +34,7 @@ impl MapIndex {
         ensures { result ≡ finite.empty }
     {
         MapIndex {
-            entries: BTreeMap::new(alloc),
+            entries: KeyMap::new(alloc),
         }
     }
 
@@ -44,7 +42,7 @@ impl MapIndex {
     pub fn find(&self, key: &Key) -> Option<Place>
         ensures { result ≡ finite.get self.now key.now }
     {
-        self.entries.get(key).copied()
+        self.entries.get(key)
     }
 
     /// Gives a key a place, instead of the one that it had. An error leaves the map as it was.
@@ -52,8 +50,7 @@ impl MapIndex {
         ensures ok { OnOk result (self.new ≡ finite.insert self.old key.now place) }
         ensures err { OnErr result (self.new ≡ self.old) }
     {
-        self.entries.insert(*key, place)?;
-        Ok(())
+        self.entries.insert(key, place)
     }
 
     /// Takes a key away, if it is there.

@@ -73,15 +73,37 @@ data_level level is = eqb-true level 0 is
 
 -- ---- a segment whose key is held
 
--- data of a key that is held is the newest copy, since there are no collisions; a node is by the premise
-same_bytes : (S : List ℕ → Type 0) (kind : Kind) (store : Store) (given image : List ℕ) (s : Segment) (copy : Copy) → HasNoCollisions S → AreCopies 0 store.held image → AreAmong S 0 store.held image
-    → MaySeal S kind s → FitsHeld kind store given s → newest 0 store.held (segment_key kind s) ≡ Some copy → bytes_at copy.place given ≡ bytes_at copy.place image
-    → s.bytes ≡ bytes_at copy.place image
-same_bytes S Leaf store given image s copy distinct copies among may node e alike =
-    distinct s.bytes (bytes_at copy.place image) may.among
-    (newest_so (IsAmongThese S) store.held Leaf (sha256 s.bytes) image copy (among_so S 0 store.held image among) e).so
-    (sym (copy_digest store.held 0 (sha256 s.bytes) image copy copies e))
-same_bytes S Tree store given image s copy distinct copies among may node e alike = sym (node copy e) ∙ alike
+-- the newest copy of the segment's key is the segment: of data in this image, of a node in the one that is given
+abbrev pub IsNewestOf : Kind → Store → List ℕ → List ℕ → Segment → Type 0
+IsNewestOf Leaf store given image s = (copy : Copy) → newest 0 store.held (segment_key Leaf s) ≡ Some copy → bytes_at copy.place image ≡ s.bytes
+IsNewestOf Tree store given image s = (copy : Copy) → newest 0 store.held (segment_key Tree s) ≡ Some copy → bytes_at copy.place given ≡ s.bytes
+
+same_bytes : (kind : Kind) (store : Store) (given image : List ℕ) (s : Segment) (copy : Copy) → IsNewestOf kind store given image s
+    → newest 0 store.held (segment_key kind s) ≡ Some copy → bytes_at copy.place given ≡ bytes_at copy.place image → s.bytes ≡ bytes_at copy.place image
+same_bytes Leaf store given image s copy is e alike = sym (is copy e)
+same_bytes Tree store given image s copy is e alike = sym (is copy e) ∙ alike
+
+module _ (S : List ℕ → Type 0) (kind : Kind) (store : Store) (files : Files) (given image : List ℕ) where
+  -- where there are no collisions, data of a key that is held is the newest copy
+  pub newest_by_fit : HasNoCollisions S → Stands S store files image → (s : Segment) → MaySeal S kind s → FitsHeld kind store given s → IsNewestOf kind store given image s
+  newest_by_fit distinct stands s may fits = by_kind kind may fits
+    where
+      by_kind : (k : Kind) → MaySeal S k s → FitsHeld k store given s → IsNewestOf k store given image s
+      by_kind Leaf may fits = λ copy e.
+          sym (distinct s.bytes (bytes_at copy.place image) may.among
+          (newest_so (IsAmongThese S) store.held Leaf (sha256 s.bytes) image copy (among_so S 0 store.held image stands.among) e).so
+          (sym (copy_digest store.held 0 (sha256 s.bytes) image copy stands.holds.copies e)))
+      by_kind Tree may fits = λ copy e. fits copy e
+
+  pub all_by_fit : HasNoCollisions S → Stands S store files image → (segments : List Segment) → AllByRecursion (MaySeal S kind) segments → AllByRecursion (FitsHeld kind store given) segments
+      → AllByRecursion (IsNewestOf kind store given image) segments
+  all_by_fit distinct stands [] may fits = tt
+  all_by_fit distinct stands (s ∷ ss) may fits = (newest_by_fit distinct stands s may.0 fits.0, all_by_fit distinct stands ss may.1 fits.1)
+
+-- nothing is to be shown of a key that is not held
+pub newest_of_none : (kind : Kind) (store : Store) (given image : List ℕ) (s : Segment) → newest 0 store.held (segment_key kind s) ≡ None → IsNewestOf kind store given image s
+newest_of_none Leaf store given image s none = λ copy e. absurd (let both = sym none ∙ e in cc)
+newest_of_none Tree store given image s none = λ copy e. absurd (let both = sym none ∙ e in cc)
 
 -- and it has its level: 0 of data, that of its bytes of a node
 same_level : (S : List ℕ → Type 0) (kind : Kind) (held : List (Option HeaderValue)) (image : List ℕ) (s : Segment) (copy : Copy) → AreHeaders held → AreNodes 0 held image
@@ -120,10 +142,10 @@ newest_beside id kind segments store key some others =
     other_entries offset (s ∷ ss) others = (others.0, other_entries (offset + length s.bytes) ss others.1)
 
 module _ (S : List ℕ → Type 0) (id : ℕ) (kind : Kind) (segments : List Segment) (store : Store) (files : Files) (given image new : List ℕ)
-    (distinct : HasNoCollisions S) (before : Stands S store files given) (stands : Stands S store files image)
+    (before : Stands S store files given) (stands : Stands S store files image)
     (same : SameOutside (slot_at (first_free store.held)) SLOT_BYTES image new)
     (container : HoldsContainer new (first_free store.held) id kind segments) (can : CanSeal id kind segments store)
-    (may : AllByRecursion (MaySeal S kind) segments) (nodes : AllByRecursion (FitsHeld kind store given) segments) where
+    (may : AllByRecursion (MaySeal S kind) segments) (newests : AllByRecursion (IsNewestOf kind store given image) segments) where
   abbrev header : HeaderValue
   header = header_of id kind segments
 
@@ -147,12 +169,12 @@ module _ (S : List ℕ → Type 0) (id : ℕ) (kind : Kind) (segments : List Seg
     segment : Segment
     is : IsEntryOf (first_free store.held) new segment e
     sealable : MaySeal S kind segment
-    node : FitsHeld kind store given segment
+    newest_is : IsNewestOf kind store given image segment
 
   all_sealed : AllByRecursion IsSealed header.entries
   all_sealed =
-      entries_of (first_free store.held) new (λ s. MaySeal S kind s × FitsHeld kind store given s) IsSealed 0 segments
-      (λ s e is so. record { segment = s; is = is; sealable = so.0; node = so.1 }) stand (both_so (MaySeal S kind) (FitsHeld kind store given) segments may nodes)
+      entries_of (first_free store.held) new (λ s. MaySeal S kind s × IsNewestOf kind store given image s) IsSealed 0 segments
+      (λ s e is so. record { segment = s; is = is; sealable = so.0; newest_is = so.1 }) stand (both_so (MaySeal S kind) (IsNewestOf kind store given image) segments may newests)
 
   all_levels : AllByRecursion (λ e. is_level kind e.level ≡ true) header.entries
   all_levels = have_levels kind kind [] header.entries refl container.header.0.entries
@@ -178,7 +200,7 @@ module _ (S : List ℕ → Type 0) (id : ℕ) (kind : Kind) (segments : List Seg
           let one_copy : old.copy ≡ has.copy = some_same old.copy has.copy (sym old.copy_is ∙ has.copy_is) in
           let alike : bytes_at has.copy.place given ≡ bytes_at has.copy.place image =
           ap (λ (c : Copy). bytes_at c.place given) (sym one_copy) ∙ old.bytes_are ∙ sym has.bytes_are in
-          let bytes_same = same_bytes S kind store given image segment has.copy distinct stands.holds.copies stands.among there.0.sealable there.0.node copy_is alike in
+          let bytes_same = same_bytes kind store given image segment has.copy there.0.newest_is copy_is alike in
           let right = subst (λ (l : ℕ). is_level kind l ≡ true) there.0.is.level (found_so (λ x. is_level kind x.level ≡ true) (entry_has kind key) header.entries e all_levels found).0 in
           record {
             copy = entry_copy (first_free store.held) header.id e;
@@ -243,17 +265,17 @@ module _ (S : List ℕ → Type 0) (id : ℕ) (kind : Kind) (segments : List Seg
 
 -- What one image holds goes on when a container is sealed in it.
 module _ (S : List ℕ → Type 0) (id : ℕ) (kind : Kind) (segments : List Segment) (store : Store) (files : Files) (image new : List ℕ)
-    (distinct : HasNoCollisions S) (stands : Stands S store files image) (same : SameOutside (slot_at (first_free store.held)) SLOT_BYTES image new)
+    (stands : Stands S store files image) (same : SameOutside (slot_at (first_free store.held)) SLOT_BYTES image new)
     (container : HoldsContainer new (first_free store.held) id kind segments) (can : CanSeal id kind segments store)
-    (may : AllByRecursion (MaySeal S kind) segments) (nodes : AllByRecursion (FitsHeld kind store image) segments) where
+    (may : AllByRecursion (MaySeal S kind) segments) (newests : AllByRecursion (IsNewestOf kind store image image) segments) where
   -- the newest copy of a key
   pub newest_kept : (key : List ℕ) (level : ℕ) (bytes : List ℕ) → HasNewest store.held key level bytes image → HasNewest (with_sealed id kind segments store).held key level bytes new
-  newest_kept key level bytes has = newest_alike S id kind segments store files image image new distinct stands stands same container can may nodes key level bytes has has
+  newest_kept key level bytes has = newest_alike S id kind segments store files image image new stands stands same container can may newests key level bytes has has
 
   -- a tree
   pub tree_kept : (t : TreeOf (List ℕ)) → HoldsTree store.held image t → HoldsTree (with_sealed id kind segments store).held new t
-  tree_kept t has = tree_alike S id kind segments store files image image new distinct stands stands same container can may nodes t has has
+  tree_kept t has = tree_alike S id kind segments store files image image new stands stands same container can may newests t has has
 
   -- and trees in a row
   pub trees_kept : (ts : Trees (List ℕ)) → HoldsTrees store.held image ts → HoldsTrees (with_sealed id kind segments store).held new ts
-  trees_kept ts has = trees_alike S id kind segments store files image image new distinct stands stands same container can may nodes ts has has
+  trees_kept ts has = trees_alike S id kind segments store files image image new stands stands same container can may newests ts has has

@@ -1,3 +1,4 @@
+pub mod Among
 pub mod Copies
 pub mod Empty
 pub mod Filled

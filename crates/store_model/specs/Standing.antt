@@ -1,5 +1,5 @@
 -- Which files a disk image stands for (docs/MODEL.md, 'Images').
-use Rattle.std.specs.Prelude.{◌≡◌, ℕ, ◌+◌, ◌≤◌, List, [], ◌∷◌, length, Option, Some, None}
+use Rattle.std.specs.Prelude.{◌⊎◌, slice_get, ◌≡◌, ℕ, ◌+◌, ◌≤◌, List, [], ◌∷◌, length, Option, Some, None}
 use Rattle.std.specs.FinMap as finite
 use Rattle.std.specs.List.{AllByRecursion}
 use Rattle.base_model.specs.Bytes.{range}
@@ -10,6 +10,8 @@ use Rattle.container_meta.specs.declared.kind.Kind.TheVariants.{Leaf, Tree}
 use Rattle.container_meta.specs.Spelling.{HeaderValue}
 use Rattle.namespace.specs.declared.record.Named.{Named}
 use Rattle.namespace.specs.Names.{NameMap}
+use Rattle.segmenter.specs.Segments.{segments_of}
+use Rattle.store_model.specs.Commands.{HasNoCollisions}
 use Rattle.store_model.specs.Files.{Files}
 use Rattle.store_model.specs.Image.{Store, Encodes, AreCopies, names_of, last_sequence}
 use Rattle.store_model.specs.Journal.{ClosedFrom}
@@ -78,3 +80,24 @@ AreAmong S slot (Some h ∷ cs) image =
 pub record Stands (S : List ℕ → Type 0) (store : Store) (files : Files) (image : List ℕ) : Type 0 where
   pub holds : IsStoreOf store files image
   pub among : AreAmong S 0 store.held image
+
+-- some bytes are a data segment that an image holds
+pub record IsHeldData (image bytes : List ℕ) : Type 0 where
+  pub store : Store
+  pub right : Encodes image store
+  pub slot : ℕ
+  pub header : HeaderValue
+  pub slot_has : slice_get store.held slot ≡ Some (Some header)
+  pub is_leaf : header.kind ≡ Leaf
+  pub index : ℕ
+  pub entry : Entry
+  pub header_has : slice_get header.entries index ≡ Some entry
+  pub bytes_are : bytes ≡ entry_bytes slot entry image
+
+-- they are a segment of a file
+abbrev pub IsSegmentOf : List ℕ → List ℕ → Type 0
+IsSegmentOf file bytes = (index : ℕ) × (slice_get (segments_of file) index ≡ Some bytes)
+
+-- no two different ones of the data segments that an image holds, and those of a file, have one digest
+abbrev pub HasNoCollisionsWith : List ℕ → List ℕ → Type 0
+HasNoCollisionsWith image file = HasNoCollisions (λ a. IsHeldData image a ⊎ IsSegmentOf file a)

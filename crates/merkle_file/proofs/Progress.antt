@@ -8,8 +8,8 @@ use Rattle.std.proofs.lemmas.List.{append-nil, map-append, take_at}
 use Rattle.merkle_file.specs.declared.node.Child.{Child}
 use Rattle.disk_format.specs.declared.numbers.TheConstants.{MOST_CHILDREN, MOST_LEVEL}
 use Rattle.merkle_file.specs.Node.{Contents, IsChild}
-use Rattle.merkle_file.specs.Tree.{Leaf, nodes_of, root_of, itself, whole_from, rest_from, tree_over, tree_of}
-use Rattle.merkle_file.specs.Building.{Progress, Holds, IsProgress, MayPush, open_trees, open_over, nodes_in_rows, count_of, total_of, AreRows}
+use Rattle.merkle_file.specs.Tree.{Leaf, nodes_of, root_of, itself, tree_over, tree_of}
+use Rattle.merkle_file.specs.Building.{Progress, Holds, IsProgress, MayPush, open_trees, open_over, nodes_in_rows, count_of, total_of, AreRows, whole_from, rest_from}
 use Rattle.merkle_file.specs.Steps.{place, close}
 use Rattle.merkle_file.specs.Rows.{CanPlace, CanClose, items_of}
 use Rattle.merkle_file.proofs.Placing.{can_next, can_not, place_next, place_here, all_push, total_push}

@@ -6,7 +6,7 @@ use Rattle.std.specs.Option.{option_to_list}
 use Rattle.std.specs.Global.{Vec}
 use Rattle.std.specs.List.{AllByRecursion, list_all}
 use Rattle.std.proofs.lemmas.Bool.{eq-eqb, ne_eqb, and_parts, leb-true, leb-false, le-leb}
-use Rattle.std.proofs.lemmas.List.{length-append, append-nil, drop-set-lt, drop-map, take_more_set, replicate_more}
+use Rattle.std.proofs.lemmas.List.{length-append, append-nil, drop-map, take_more_set, replicate_more}
 use Rattle.std.proofs.lemmas.List.Sums.{sum_by-append}
 use Rattle.merkle_file.specs.declared.node.Child.{Child}
 use Rattle.merkle_file.specs.declared.top.Top.{Top}
@@ -118,6 +118,9 @@ pub record IsClosing (i : ℕ) (carried : List Child) (now : List (List Child)) 
   pub top : (close i carried (drop i now)).top ≡ all_top
   pub nodes_too : nodes ++ (close i carried (drop i now)).nodes ≡ all_nodes
 
+pub closing_begins : (rows : List (List Child)) → CanClose 0 [] rows → IsClosing 0 [] rows [] (close 0 [] rows).top (close 0 [] rows).nodes
+closing_begins rows can = record { can = can; top = refl; nodes_too = refl }
+
 -- the row at i, with what was carried to it, is the last
 pub closing_ends : (i : ℕ) (carried : List Child) (now : List (List Child)) (nodes : List Contents) (all_top : Top) (all_nodes : List Contents) (row : List Child)
     → IsClosing i carried now nodes all_top all_nodes → drop i now ≡ row ∷ drop (i + 1) now → are_empty (drop (i + 1) now) ≡ true → length (row ++ carried) ≤ 1
@@ -127,30 +130,28 @@ closing_ends i carried now nodes all_top all_nodes row h front last le =
     (sym (ap (λ (c : Closed). c.top) closed) ∙ h.top, sym (append-nil nodes) ∙ sym (ap (λ (c : Closed). nodes ++ c.nodes) closed) ∙ h.nodes_too)
 
 -- the row at i is empty, and nothing was carried to it
-pub closing_skips : (i : ℕ) (carried : List Child) (now : List (List Child)) (v : List Child) (nodes : List Contents) (all_top : Top) (all_nodes : List Contents) (row : List Child)
+pub closing_skips : (i : ℕ) (carried : List Child) (now : List (List Child)) (nodes : List Contents) (all_top : Top) (all_nodes : List Contents) (row : List Child)
     → IsClosing i carried now nodes all_top all_nodes → drop i now ≡ row ∷ drop (i + 1) now → (are_empty (drop (i + 1) now) && nat_le (length (row ++ carried)) 1) ≡ false → row ++ carried ≡ []
-    → IsClosing (i + 1) [] (set now i v) nodes all_top all_nodes
-closing_skips i carried now v nodes all_top all_nodes row h front last none =
+    → IsClosing (i + 1) [] now nodes all_top all_nodes
+closing_skips i carried now nodes all_top all_nodes row h front last none =
     let closed = ap (close i carried) front ∙ close_none i carried row (drop (i + 1) now) last none in
-    let after : drop (i + 1) (set now i v) ≡ drop (i + 1) now = drop-set-lt (i + 1) now i v (omega arith) in
     record {
-      can = rw after (can_close_none i carried row (drop (i + 1) now) (subst (λ (rows : List (List Child)). CanClose i carried rows) front h.can) last none);
-      top = rw after (sym (ap (λ (c : Closed). c.top) closed) ∙ h.top);
-      nodes_too = rw after (sym (ap (λ (c : Closed). nodes ++ c.nodes) closed) ∙ h.nodes_too);
+      can = can_close_none i carried row (drop (i + 1) now) (subst (λ (rows : List (List Child)). CanClose i carried rows) front h.can) last none;
+      top = sym (ap (λ (c : Closed). c.top) closed) ∙ h.top;
+      nodes_too = sym (ap (λ (c : Closed). nodes ++ c.nodes) closed) ∙ h.nodes_too;
     }
 
 -- the row at i becomes a node
-pub closing_goes_on : (i : ℕ) (carried : List Child) (now : List (List Child)) (v : List Child) (nodes : List Contents) (all_top : Top) (all_nodes : List Contents) (row : List Child)
+pub closing_goes_on : (i : ℕ) (carried : List Child) (now : List (List Child)) (nodes : List Contents) (all_top : Top) (all_nodes : List Contents) (row : List Child)
     → IsClosing i carried now nodes all_top all_nodes → drop i now ≡ row ∷ drop (i + 1) now → (are_empty (drop (i + 1) now) && nat_le (length (row ++ carried)) 1) ≡ false → 1 ≤ length (row ++ carried)
-    → IsClosing (i + 1) (parent (node_of i (row ++ carried)) ∷ []) (set now i v) (nodes ++ node_of i (row ++ carried) ∷ []) all_top all_nodes
-closing_goes_on i carried now v nodes all_top all_nodes row h front last some =
+    → IsClosing (i + 1) (parent (node_of i (row ++ carried)) ∷ []) now (nodes ++ node_of i (row ++ carried) ∷ []) all_top all_nodes
+closing_goes_on i carried now nodes all_top all_nodes row h front last some =
     let node : Contents = node_of i (row ++ carried) in
     let closed = ap (close i carried) front ∙ close_some i carried row (drop (i + 1) now) last some in
-    let after : drop (i + 1) (set now i v) ≡ drop (i + 1) now = drop-set-lt (i + 1) now i v (omega arith) in
     record {
-      can = rw after (can_close_some i carried row (drop (i + 1) now) (subst (λ (rows : List (List Child)). CanClose i carried rows) front h.can) last some);
-      top = rw after (sym (ap (λ (c : Closed). c.top) closed) ∙ h.top);
-      nodes_too = rw after (append_assoc nodes (node ∷ []) (close (i + 1) (parent node ∷ []) (drop (i + 1) now)).nodes ∙ sym (ap (λ (c : Closed). nodes ++ c.nodes) closed) ∙ h.nodes_too);
+      can = can_close_some i carried row (drop (i + 1) now) (subst (λ (rows : List (List Child)). CanClose i carried rows) front h.can) last some;
+      top = sym (ap (λ (c : Closed). c.top) closed) ∙ h.top;
+      nodes_too = append_assoc nodes (node ∷ []) (close (i + 1) (parent node ∷ []) (drop (i + 1) now)).nodes ∙ sym (ap (λ (c : Closed). nodes ++ c.nodes) closed) ∙ h.nodes_too;
     }
 
 -- ---- rows of vectors
@@ -159,23 +160,27 @@ pub empty_items : (rows : List (Vec Child)) → list_all (λ row. length row.ite
 empty_items [] = refl
 empty_items (row ∷ rows) = ap (λ (b : Bool). eqb (length row.items) 0 && b) (empty_items rows)
 
--- the test for the root, as the loop makes it after the row at i was replaced
+-- the children of the row at i, as they are read, with what was carried to it
+pub children_at : (rows : List (Vec Child)) (i : ℕ) (v : Vec Child) (row carried children : List Child) → v ≡ get_or rows i v → row ≡ v.items → children ≡ row ++ carried
+    → children ≡ (get_or rows i v).items ++ carried
+children_at rows i v row carried children is read all = all ∙ ap (λ (r : List Child). r ++ carried) (read ∙ ap (λ (w : Vec Child). w.items) is)
+
+-- the test for the root, as the loop makes it
 abbrev pub test_of : List (Vec Child) → List Child → Bool
 test_of above children = list_all (λ row. length row.items == 0) above && nat_le (length children) 1
 
-root_test : (now : List (Vec Child)) (i : ℕ) (v : Vec Child) (above : List (Vec Child)) (children : List Child) → above ≡ drop (i + 1) (set now i v)
+root_test : (now : List (Vec Child)) (i : ℕ) (above : List (Vec Child)) (children : List Child) → above ≡ drop (i + 1) now
     → test_of above children ≡ (are_empty (drop (i + 1) (items_of now)) && nat_le (length children) 1)
-root_test now i v above children e =
-    let after : drop (i + 1) (set now i v) ≡ drop (i + 1) now = drop-set-lt (i + 1) now i v (omega arith) in
-    ap (λ (rows : List (Vec Child)). test_of rows children) (e ∙ after)
+root_test now i above children e =
+    ap (λ (rows : List (Vec Child)). test_of rows children) e
     ∙ ap (λ (t : Bool). t && nat_le (length children) 1) (empty_items (drop (i + 1) now))
     ∙ ap (λ (rows : List (List Child)). are_empty rows && nat_le (length children) 1) (sym (drop-map (λ (row : Vec Child). row.items) (i + 1) now))
 
-pub loop_ends : (i : ℕ) (carried : List Child) (now : List (Vec Child)) (v d : Vec Child) (above : List (Vec Child)) (children : List Child) (nodes : List Contents) (all_top : Top) (all_nodes : List Contents)
-    → IsClosing i carried (items_of now) nodes all_top all_nodes → i < length now → children ≡ (get_or now i d).items ++ carried → above ≡ drop (i + 1) (set now i v)
+pub loop_ends : (i : ℕ) (carried : List Child) (now : List (Vec Child)) (d : Vec Child) (above : List (Vec Child)) (children : List Child) (nodes : List Contents) (all_top : Top) (all_nodes : List Contents)
+    → IsClosing i carried (items_of now) nodes all_top all_nodes → i < length now → children ≡ (get_or now i d).items ++ carried → above ≡ drop (i + 1) now
     → test_of above children ≡ true → (top_of i children ≡ all_top) × (nodes ≡ all_nodes)
-loop_ends i carried now v d above children nodes all_top all_nodes h lt is above_is test =
-    let both = and_parts _ _ (sym (root_test now i v above children above_is) ∙ test) in
+loop_ends i carried now d above children nodes all_top all_nodes h lt is above_is test =
+    let both = and_parts _ _ (sym (root_test now i above children above_is) ∙ test) in
     let le : length children ≤ 1 = leb-true (length children) 1 both.1 in
     let ends = closing_ends i carried (items_of now) nodes all_top all_nodes (get_or now i d).items h (front_of now i d lt) both.0 (subst (λ (cs : List Child). length cs ≤ 1) is le) in
     (ap (top_of i) is ∙ ends.0, ends.1)
@@ -184,18 +189,18 @@ loop_ends i carried now v d above children nodes all_top all_nodes h lt is above
 abbrev pub GivesCarried : ℕ → List Child → List Contents → List Contents → Option Child → Type 0
 GivesCarried i children nodes nodes' next = MatchOption next ((children ≡ []) × (nodes' ≡ nodes)) (λ c. (1 ≤ length children) × (c ≡ parent (node_of i children)) × (nodes' ≡ nodes ++ node_of i children ∷ []))
 
-pub loop_goes_on : (i : ℕ) (carried : List Child) (now : List (Vec Child)) (v d : Vec Child) (above : List (Vec Child)) (children : List Child) (nodes nodes' : List Contents) (all_top : Top) (all_nodes : List Contents) (next : Option Child)
-    → IsClosing i carried (items_of now) nodes all_top all_nodes → i < length now → children ≡ (get_or now i d).items ++ carried → above ≡ drop (i + 1) (set now i v)
-    → test_of above children ≡ false → GivesCarried i children nodes nodes' next → IsClosing (i + 1) (option_to_list next) (items_of (set now i v)) nodes' all_top all_nodes
-loop_goes_on i carried now v d above children nodes nodes' all_top all_nodes None h lt is above_is test gave =
+pub loop_goes_on : (i : ℕ) (carried : List Child) (now : List (Vec Child)) (d : Vec Child) (above : List (Vec Child)) (children : List Child) (nodes nodes' : List Contents) (all_top : Top) (all_nodes : List Contents) (next : Option Child)
+    → IsClosing i carried (items_of now) nodes all_top all_nodes → i < length now → children ≡ (get_or now i d).items ++ carried → above ≡ drop (i + 1) now
+    → test_of above children ≡ false → GivesCarried i children nodes nodes' next → IsClosing (i + 1) (option_to_list next) (items_of now) nodes' all_top all_nodes
+loop_goes_on i carried now d above children nodes nodes' all_top all_nodes None h lt is above_is test gave =
     let row : List Child = (get_or now i d).items in
-    let last : (are_empty (drop (i + 1) (items_of now)) && nat_le (length (row ++ carried)) 1) ≡ false = rw (← is) (sym (root_test now i v above children above_is) ∙ test) in
-    rw (items-set now i v, gave.1) (closing_skips i carried (items_of now) v.items nodes all_top all_nodes row h (front_of now i d lt) last (sym is ∙ gave.0))
-loop_goes_on i carried now v d above children nodes nodes' all_top all_nodes (Some c) h lt is above_is test gave =
+    let last : (are_empty (drop (i + 1) (items_of now)) && nat_le (length (row ++ carried)) 1) ≡ false = rw (← is) (sym (root_test now i above children above_is) ∙ test) in
+    rw gave.1 (closing_skips i carried (items_of now) nodes all_top all_nodes row h (front_of now i d lt) last (sym is ∙ gave.0))
+loop_goes_on i carried now d above children nodes nodes' all_top all_nodes (Some c) h lt is above_is test gave =
     let row : List Child = (get_or now i d).items in
-    let last : (are_empty (drop (i + 1) (items_of now)) && nat_le (length (row ++ carried)) 1) ≡ false = rw (← is) (sym (root_test now i v above children above_is) ∙ test) in
+    let last : (are_empty (drop (i + 1) (items_of now)) && nat_le (length (row ++ carried)) 1) ≡ false = rw (← is) (sym (root_test now i above children above_is) ∙ test) in
     let some : 1 ≤ length (row ++ carried) = rw (← is) gave.0 in
-    rw (items-set now i v, gave.1, gave.2, is) (closing_goes_on i carried (items_of now) v.items nodes all_top all_nodes row h (front_of now i d lt) last some)
+    rw (gave.1, gave.2, is) (closing_goes_on i carried (items_of now) nodes all_top all_nodes row h (front_of now i d lt) last some)
 
 pub clear_step : (rows : List (Vec Child)) (i : ℕ) (v : Vec Child) → i < length rows → v.items ≡ [] → take i (items_of rows) ≡ replicate i [] → take (i + 1) (items_of (set rows i v)) ≡ replicate (i + 1) []
 clear_step rows i v lt none so_far =

@@ -1,14 +1,15 @@
 -- Fields of a node: what a check that found nothing tells, and that it finds nothing in what was written.
-use Rattle.std.proofs.Common.{◌≡◌, ℕ, ◌+◌, ◌^◌, ◌<◌, ◌≤◌, Bool, true, false, cond, List, ◌++◌, length, get_or, take, drop, Option, Some, None, refl, sym, ap, ◌∙◌, append_assoc, arith, inl, inr}
+use Rattle.std.proofs.Common.{◌≡◌, ℕ, ◌+◌, ◌*◌, ◌^◌, ◌<◌, ◌≤◌, Bool, true, false, cond, List, ◌++◌, length, get_or, take, drop, Option, Some, None, refl, sym, ap, ◌∙◌, append_assoc, arith, inl, inr}
 use Rattle.std.specs.Int.{w16, w64, from_be_bytes, to_be_bytes}
-use Rattle.std.proofs.lemmas.Bool.{cases_lt, ltb-false, leb-true, le-leb, le-ltb, lt-ltb, and_parts, and_from, or_cases, or_left, or_right, ltb-true}
+use Rattle.std.proofs.lemmas.Bool.{cases_lt, eq-eqb, eqb-true, leb-true, le-leb, lt-ltb, and_parts, and_from, or_cases, or_left, or_right, ltb-true}
 use Rattle.std.proofs.lemmas.List.{take_at, drop_at, take-append-drop, length-append, length-take, length-drop, drop-drop, get_or-drop, get_or-take, get_or_past}
 use Rattle.std.proofs.lemmas.Nat.{be_bytes_2, be_bytes_8, from_be_bytes-to_be_bytes_2, from_be_bytes-to_be_bytes_8}
 use Rattle.merkle_file.specs.declared.fault.FieldFault.{FieldFault}
 use Rattle.merkle_file.specs.declared.node.Child.{Child}
 use Rattle.merkle_file.specs.declared.reading.Asked.{Asked}
+use Rattle.disk_format.specs.declared.numbers.TheConstants.{MOST_CHILDREN}
 use Rattle.merkle_file.specs.Node.{entry, greatest_child}
-use Rattle.merkle_file.specs.Reading.{short_number, long_number, child_in, is_right_length, or_else, entry_fault}
+use Rattle.merkle_file.specs.Reading.{short_number, long_number, child_in, is_right_count, is_right_length, or_else, entry_fault}
 
 abbrev pub IsBytes : List ℕ → Type 0
 IsBytes bytes = (i : ℕ) → get_or bytes i 0 < 256
@@ -85,15 +86,28 @@ right_again asked level more before len h =
       | inr le ↦ or_right _ _ (le-leb _ _ (h.least (omega arith)))
     ])
 
+-- what a right number of children keeps
+pub record IsCount (count size : ℕ) : Type 0 where
+  pub some : 1 ≤ count
+  pub most : count ≤ MOST_CHILDREN
+  pub fills : size ≡ 4 + 40 * count
+
+pub count_takes : (count size : ℕ) → is_right_count count size ≡ true → IsCount count size
+unfolding is_right_count
+count_takes count size e =
+    let a = and_parts _ _ e in
+    let b = and_parts _ _ a.0 in
+    record { some = leb-true _ _ b.0; most = leb-true _ _ b.1; fills = eqb-true _ _ a.1 }
+
+pub count_again : (count size : ℕ) → IsCount count size → is_right_count count size ≡ true
+unfolding is_right_count
+count_again count size h = and_from _ _ (and_from _ _ (le-leb _ _ h.some) (le-leb _ _ h.most)) (eq-eqb _ _ h.fills)
+
 -- an entry with nothing wrong
 pub entry_takes : (asked : Asked) (level more at before : ℕ) (bytes : List ℕ) → entry_fault asked level more at before bytes ≡ None
-    → (40 ≤ length bytes) × IsRight asked level more before (long_number (drop 32 bytes))
+    → IsRight asked level more before (long_number (drop 32 bytes))
 unfolding entry_fault
-entry_takes asked level more at before bytes e =
-    let a = nothing_if _ _ _ e in
-    let b = nothing_if _ _ _ a.1 in
-    let d = nothing_unless _ _ _ b.1 in
-    (ltb-false _ _ b.0, right_takes asked level more before _ d.0)
+entry_takes asked level more at before bytes e = right_takes asked level more before _ (nothing_unless _ _ _ e).0
 
 pub entry_parts : (bytes : List ℕ) → 40 ≤ length bytes → IsBytes bytes → bytes ≡ entry (child_in bytes) ++ drop 40 bytes
 entry_parts bytes len fits =
@@ -125,5 +139,4 @@ pub entry_again : (asked : Asked) (level more at before : ℕ) (c : Child) (rest
     → entry_fault asked level more at before (entry c ++ rest) ≡ None
 unfolding entry_fault
 entry_again asked level more at before c rest len lt right =
-    let long : 40 ≤ length (entry c ++ rest) = omega (arith, length-append (entry c) rest, length-entry c len) in
-    rw (le-ltb (length (entry c ++ rest)) 32 (omega arith), le-ltb (length (entry c ++ rest)) 40 long, length_again c rest len lt, right_again asked level more before c.length right) refl
+    rw (length_again c rest len lt, right_again asked level more before c.length right) refl

@@ -10,11 +10,12 @@ use Rattle.std.proofs.lemmas.List.Concat.{flat_map-cons}
 use Rattle.merkle_file.specs.declared.node.Child.{Child}
 use Rattle.disk_format.specs.declared.numbers.TheConstants.{MOST_CHILDREN}
 use Rattle.merkle_file.specs.Node.{Contents}
-use Rattle.merkle_file.specs.Tree.{Tree, joined, child_of, nodes_of, level_of, root_of, parent, is_whole, whole_from, rest_from, whole, rest, last_group, grouped, tree_over}
-use Rattle.merkle_file.specs.Building.{open_trees, nodes_in_rows}
+use Rattle.merkle_file.specs.Tree.{Tree, joined, child_of, nodes_of, level_of, root_of, parent, grouped, tree_over}
+use Rattle.merkle_file.specs.Building.{open_trees, nodes_in_rows, is_whole, whole_from, rest_from, whole, rest}
 use Rattle.merkle_file.specs.Steps.{are_empty, top_of, close, Closed}
 use Rattle.merkle_file.proofs.Closing.{node_of, close_last, close_none, close_some}
 use Rattle.merkle_file.proofs.Pushing.{whole_push, rest_push, counted, child_of-joined, nodes_of-joined, said, child_rows, length-children, length-joined}
+use Rattle.merkle_file.proofs.Groups.{last_group, groups, grouped_is}
 
 -- ---- what is left after whole groups
 
@@ -33,9 +34,10 @@ left_all begun (x ∷ xs) e =
 
 -- the groups of a list with one more, or none
 grouped_with : {X : Type 0} (xs carried : List X) → length carried ≤ 1 → grouped (xs ++ carried) ≡ whole xs ++ last_group (rest xs ++ carried)
-grouped_with xs [] le = simp append-nil
+grouped_with xs [] le = ap grouped (append-nil xs) ∙ grouped_is xs ∙ ap (λ left. whole xs ++ last_group left) (sym (append-nil (rest xs)))
 grouped_with xs (x ∷ []) le =
-    elim (cases_Bool (is_whole (rest xs ++ x ∷ []))) [
+    grouped_is (xs ++ x ∷ [])
+    ∙ elim (cases_Bool (is_whole (rest xs ++ x ∷ []))) [
       | inl full ↦ (let g = whole_push [] xs x full in rw (g.0, g.1) (append-nil (whole xs ++ (rest xs ++ x ∷ []) ∷ []) ∙ ap (λ gs. whole xs ++ gs) (sym (last_some (rest xs) x))))
       | inr few ↦ (let g = rest_push [] xs x few in rw (g.0, g.1) refl)
     ]

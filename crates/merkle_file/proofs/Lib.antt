@@ -2,6 +2,7 @@ pub mod Fields
 pub mod Nodes
 pub mod Placing
 pub mod Closing
+pub mod Groups
 pub mod Pushing
 pub mod Finishing
 pub mod Progress

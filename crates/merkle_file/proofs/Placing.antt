@@ -1,11 +1,12 @@
 -- Placing a child in rows: what is kept, and one row after the other.
 use Rattle.std.proofs.Common.{◌≡◌, ℕ, zero, suc, ◌+◌, ◌*◌, ◌<◌, ◌≤◌, List, [], ◌∷◌, ◌++◌, length, get_or, take, drop, set, refl, sym, ap, subst, ◌∙◌, append_assoc, add-one, arith}
 use Rattle.std.proofs.Math.Nat.{pow-suc}
+use Rattle.std.specs.Prelude.{replicate}
 use Rattle.std.specs.Global.{Vec}
 use Rattle.std.specs.List.{AllByRecursion}
 use Rattle.std.specs.Int.{w32, to_be_bytes}
 use Rattle.std.proofs.lemmas.Bool.{eq-eqb, ne_eqb}
-use Rattle.std.proofs.lemmas.List.{length-append, append-nil, set_split, drop_more, take_more_set, drop-set-lt, map-set, get_or-map}
+use Rattle.std.proofs.lemmas.List.{length-append, append-nil, set_split, drop_more, replicate_more, take-append-drop, length-take-le, drop_at, drop-map, map-append, map-set, get_or-map}
 use Rattle.std.proofs.lemmas.List.Sums.{sum_by-append}
 use Rattle.sha2.specs.Sha256.{sha256, digest_bytes}
 use Rattle.merkle_file.specs.declared.node.Child.{Child}
@@ -14,7 +15,7 @@ use Rattle.merkle_file.specs.Node.{Contents, total, spelling, IsChild}
 use Rattle.merkle_file.specs.Tree.{parent}
 use Rattle.merkle_file.specs.Building.{count_of, total_of}
 use Rattle.merkle_file.specs.Steps.{place, Placed}
-use Rattle.merkle_file.specs.Rows.{CanPlace, CanTake, items_of}
+use Rattle.merkle_file.specs.Rows.{CanPlace, CanTake, IsPlacement, IsSettled, items_of}
 
 length-digest_bytes : (h : List ℕ) (n : ℕ) → length (digest_bytes h n) ≡ 4 * n
 unfolding digest_bytes
@@ -91,30 +92,84 @@ front_of rows i d lt =
     drop_more (items_of rows) i d.items (omega (arith, length-items rows))
     ∙ ap (λ (row : List Child). row ∷ drop (i + 1) (items_of rows)) (get_or-map (λ (row : Vec Child). row.items) rows i d d.items lt)
 
--- what a loop keeps, where it has done the rows below i
-pub record IsOnWay (i : ℕ) (c : Child) (now : List (List Child)) (nodes : List Contents) (all_rows : List (List Child)) (all_nodes : List Contents) : Type 0 where
-  pub can : CanPlace i c (drop i now)
-  pub rows : take i now ++ (place i c (drop i now)).rows ≡ all_rows
-  pub nodes_too : nodes ++ (place i c (drop i now)).nodes ≡ all_nodes
+-- what a loop keeps, which has come up to the row at i
+pub record IsOnWay (i : ℕ) (c : Child) (rows : List (List Child)) (nodes : List Contents) (placed : Placed) : Type 0 where
+  pub can : CanPlace i c (drop i rows)
+  pub rows_too : replicate i [] ++ (place i c (drop i rows)).rows ≡ placed.rows
+  pub nodes_too : nodes ++ (place i c (drop i rows)).nodes ≡ placed.nodes
 
-pub way_ends : (i : ℕ) (c : Child) (now : List (List Child)) (nodes : List Contents) (all_rows : List (List Child)) (all_nodes : List Contents) (row : List Child)
-    → IsOnWay i c now nodes all_rows all_nodes → i < length now → drop i now ≡ row ∷ drop (i + 1) now → length row + 1 < MOST_CHILDREN
-    → (set now i (row ++ c ∷ []) ≡ all_rows) × (nodes ≡ all_nodes)
-way_ends i c now nodes all_rows all_nodes row h lt front few =
-    let placed : place i c (drop i now) ≡ record { rows = (row ++ c ∷ []) ∷ drop (i + 1) now; nodes = [] } = ap (place i c) front ∙ place_here i c row (drop (i + 1) now) few in (
-      set_split now i (row ++ c ∷ []) lt ∙ rw (← add-one) (sym (ap (λ (p : Placed). take i now ++ p.rows) placed) ∙ h.rows),
-      sym (append-nil nodes) ∙ sym (ap (λ (p : Placed). nodes ++ p.nodes) placed) ∙ h.nodes_too,
-    )
+pub way_begins : (c : Child) (rows : List (List Child)) → CanPlace 0 c rows → IsOnWay 0 c rows [] (place 0 c rows)
+way_begins c rows can = record { can = can; rows_too = refl; nodes_too = refl }
 
-pub way_goes_on : (i : ℕ) (c : Child) (now : List (List Child)) (nodes : List Contents) (all_rows : List (List Child)) (all_nodes : List Contents) (row : List Child)
-    → IsOnWay i c now nodes all_rows all_nodes → i < length now → drop i now ≡ row ∷ drop (i + 1) now → length row + 1 ≡ MOST_CHILDREN
-    → IsOnWay (i + 1) (parent (node_over i row c)) (set now i []) (nodes ++ node_over i row c ∷ []) all_rows all_nodes
-way_goes_on i c now nodes all_rows all_nodes row h lt front full =
-    let node : Contents = node_over i row c in
-    let placed = ap (place i c) front ∙ place_next i c row (drop (i + 1) now) full in
-    let after : drop (i + 1) (set now i []) ≡ drop (i + 1) now = drop-set-lt (i + 1) now i [] (omega arith) in
+first_is : {X : Type 0} {x y : X} {xs : List X} → x ∷ xs ≡ y ∷ xs → x ≡ y
+first_is e = cc
+
+-- the row at i has room
+pub way_ends : (leaf : Child) (i : ℕ) (c : Child) (rows : List (List Child)) (nodes : List Contents) (row : List Child)
+    → IsOnWay i c rows nodes (place 0 leaf rows) → i < length rows → drop i rows ≡ row ∷ drop (i + 1) rows → length row + 1 < MOST_CHILDREN
+    → IsPlacement leaf rows i c nodes
+way_ends leaf i c rows nodes row h lt front few =
+    let placed : place i c (drop i rows) ≡ record { rows = (row ++ c ∷ []) ∷ drop (i + 1) rows; nodes = [] } = ap (place i c) front ∙ place_here i c row (drop (i + 1) rows) few in
     record {
-      can = rw after (can_next i c row (drop (i + 1) now) full (subst (λ (rows : List (List Child)). CanPlace i c rows) front h.can));
-      rows = rw (take_more_set now i [] lt, after) (append_assoc (take i now) ([] ∷ []) (place (i + 1) (parent node) (drop (i + 1) now)).rows ∙ sym (ap (λ (p : Placed). take i now ++ p.rows) placed) ∙ h.rows);
-      nodes_too = rw after (append_assoc nodes (node ∷ []) (place (i + 1) (parent node) (drop (i + 1) now)).nodes ∙ sym (ap (λ (p : Placed). nodes ++ p.nodes) placed) ∙ h.nodes_too);
+      within = lt;
+      rows_then = λ other front'.
+          sym h.rows_too ∙ ap (λ (p : Placed). replicate i [] ++ p.rows) placed
+          ∙ ap (λ (r : List Child). replicate i [] ++ (r ++ c ∷ []) ∷ drop (i + 1) rows) (first_is (sym front ∙ front'));
+      nodes_then = sym (append-nil nodes) ∙ sym (ap (λ (p : Placed). nodes ++ p.nodes) placed) ∙ h.nodes_too;
     }
+
+-- the row at i becomes a node
+pub way_goes_on : (i : ℕ) (c : Child) (rows : List (List Child)) (nodes : List Contents) (all : Placed) (row : List Child)
+    → IsOnWay i c rows nodes all → drop i rows ≡ row ∷ drop (i + 1) rows → length row + 1 ≡ MOST_CHILDREN
+    → IsOnWay (i + 1) (parent (node_over i row c)) rows (nodes ++ node_over i row c ∷ []) all
+way_goes_on i c rows nodes all row h front full =
+    let node : Contents = node_over i row c in
+    let placed = ap (place i c) front ∙ place_next i c row (drop (i + 1) rows) full in
+    record {
+      can = can_next i c row (drop (i + 1) rows) full (subst (λ (rs : List (List Child)). CanPlace i c rs) front h.can);
+      rows_too = ap (λ (rs : List (List Child)). rs ++ (place (i + 1) (parent node) (drop (i + 1) rows)).rows) (sym (replicate_more i []))
+          ∙ append_assoc (replicate i []) ([] ∷ []) (place (i + 1) (parent node) (drop (i + 1) rows)).rows
+          ∙ sym (ap (λ (p : Placed). replicate i [] ++ p.rows) placed) ∙ h.rows_too;
+      nodes_too = append_assoc nodes (node ∷ []) (place (i + 1) (parent node) (drop (i + 1) rows)).nodes
+          ∙ sym (ap (λ (p : Placed). nodes ++ p.nodes) placed) ∙ h.nodes_too;
+    }
+
+-- ---- the row gets its child
+
+-- a row that was not changed
+pub set_same : (rows : List (Vec Child)) (i : ℕ) (v d : Vec Child) → i < length rows → v.items ≡ (get_or rows i d).items → items_of (set rows i v) ≡ items_of rows
+set_same rows i v d lt same =
+    items-set rows i v ∙ ap (set (items_of rows) i) same
+    ∙ set_split (items_of rows) i (get_or rows i d).items (omega (arith, length-items rows))
+    ∙ rw (← add-one) (ap (λ (rs : List (List Child)). take i (items_of rows) ++ rs) (sym (front_of rows i d lt)) ∙ take-append-drop i (items_of rows))
+
+-- a child more in the row at i, and none in those below
+pub settled : (rows : List (Vec Child)) (i : ℕ) (v d : Vec Child) (c : Child) (below : List (Vec Child)) → i < length rows → v.items ≡ (get_or rows i d).items ++ c ∷ []
+    → items_of below ≡ replicate i [] → IsSettled i c (items_of rows) (items_of (below ++ drop i (set rows i v)))
+settled rows i v d c below lt more empty row front =
+    let before : List (List Child) = items_of rows in
+    let inside : i < length before = omega (arith, length-items rows) in
+    let next : suc i ≡ i + 1 = omega arith in
+    let row_is : (get_or rows i d).items ≡ row = first_is (sym (front_of rows i d lt) ∙ front) in
+    let same : v.items ≡ row ++ c ∷ [] = more ∙ ap (λ (r : List Child). r ++ c ∷ []) row_is in
+    let from : drop i (items_of (set rows i v)) ≡ (row ++ c ∷ []) ∷ drop (i + 1) before =
+    ap (drop i) (items-set rows i v ∙ set_split before i v.items inside)
+    ∙ drop_at (take i before) (v.items ∷ drop (suc i) before) i (length-take-le i before (omega (arith, inside)))
+    ∙ ap (λ (r : List Child). r ∷ drop (suc i) before) same
+    ∙ ap (λ (k : ℕ). (row ++ c ∷ []) ∷ drop k before) next in
+    map-append (λ (r : Vec Child). r.items) below (drop i (set rows i v))
+    ∙ ap (λ (rs : List (List Child)). rs ++ items_of (drop i (set rows i v))) empty
+    ∙ ap (λ (rs : List (List Child)). replicate i [] ++ rs) (sym (drop-map (λ (r : Vec Child). r.items) i (set rows i v)) ∙ from)
+
+-- what was settled is one
+pub one_settled : (level : ℕ) (c : Child) (rows new other : List (List Child)) → level < length rows → IsSettled level c rows new → IsSettled level c rows other → new ≡ other
+one_settled level c rows new other lt a b =
+    let front : drop level rows ≡ get_or rows level [] ∷ drop (level + 1) rows = drop_more rows level [] lt in
+    a (get_or rows level []) front ∙ sym (b (get_or rows level []) front)
+
+-- the row at i, as it is read
+pub row_at : (rows : List (Vec Child)) (i : ℕ) (v : Vec Child) (row : List Child) → i < length rows → v ≡ get_or rows i v → row ≡ v.items
+    → drop i (items_of rows) ≡ row ∷ drop (i + 1) (items_of rows)
+row_at rows i v row lt is read =
+    front_of rows i v lt
+    ∙ ap (λ (r : List Child). r ∷ drop (i + 1) (items_of rows)) (ap (λ (w : Vec Child). w.items) (sym is) ∙ sym read)

@@ -1,13 +1,15 @@
 -- What a builder keeps, from call to call.
-use Rattle.std.proofs.Common.{◌≡◌, ℕ, zero, suc, ◌+◌, List, [], ◌∷◌, ◌++◌, length, map, take, drop, replicate, refl, sym, ap, ◌∙◌, append_assoc, arith, inl, inr}
+use Rattle.std.proofs.Common.{◌≡◌, ℕ, zero, suc, ◌+◌, List, [], ◌∷◌, ◌++◌, length, map, take, drop, replicate, Result, Ok, Err, refl, sym, ap, ◌∙◌, append_assoc, arith, inl, inr}
 use Rattle.std.proofs.lemmas.Bool.{cases_lt}
+use Rattle.std.specs.Prelude.{OnOk, OnErr}
+use Rattle.std.specs.declared.alloc.AllocError.{AllocError}
 use Rattle.std.specs.Global.{Vec}
 use Rattle.std.proofs.lemmas.List.{append-nil, map-append, take_at}
 use Rattle.merkle_file.specs.declared.node.Child.{Child}
 use Rattle.disk_format.specs.declared.numbers.TheConstants.{MOST_CHILDREN, MOST_LEVEL}
 use Rattle.merkle_file.specs.Node.{Contents, IsChild}
-use Rattle.merkle_file.specs.Tree.{Leaf, nodes_of, root_of, itself, whole_from, rest_from, tree_over, tree_of}
-use Rattle.merkle_file.specs.Building.{Progress, Holds, IsProgress, MayPush, open_trees, open_over, nodes_in_rows, count_of, total_of, AreRows}
+use Rattle.merkle_file.specs.Tree.{Leaf, nodes_of, root_of, itself, tree_over, tree_of}
+use Rattle.merkle_file.specs.Building.{Progress, Holds, IsProgress, MayPush, open_trees, open_over, nodes_in_rows, count_of, total_of, AreRows, whole_from, rest_from}
 use Rattle.merkle_file.specs.Steps.{place, close}
 use Rattle.merkle_file.specs.Rows.{CanPlace, CanClose, items_of}
 use Rattle.merkle_file.proofs.Placing.{can_next, can_not, place_next, place_here, all_push, total_push}
@@ -113,6 +115,12 @@ pub pushed_progress : (rows rows' : List (List Child)) (finished finished' : Lis
 pushed_progress rows rows' finished finished' c h may digest e =
     let placed = placed_right 0 c rows (may_place rows finished c h may digest) in
     rw e (record { levels = placed.levels ∙ h.levels; rows = placed.right; count = omega (arith, placed.count, may.count); total = omega (arith, placed.total_is, may.total) })
+
+-- pushed, or as before
+pub pushed_or_not : (r : Result (Unit {0}) AllocError) (rows rows' : List (List Child)) (finished finished' : List Contents) (c : Child) → IsProgress (progress rows finished) → MayPush (progress rows finished) c
+    → length c.digest ≡ 32 → OnOk r (rows' ≡ (place 0 c rows).rows) → OnErr r (rows' ≡ rows) → IsProgress (progress rows' finished')
+pushed_or_not (Ok x) rows rows' finished finished' c h may digest ok err = pushed_progress rows rows' finished finished' c h may digest ok
+pushed_or_not (Err e) rows rows' finished finished' c h may digest ok err = rw err (record { levels = h.levels; rows = h.rows; count = h.count; total = h.total })
 
 pub pushed_counts : (rows rows' : List (List Child)) (finished : List Contents) (c : Child) (before : Progress) → before ≡ progress rows finished → IsProgress (progress rows finished) → MayPush (progress rows finished) c → length c.digest ≡ 32
     → rows' ≡ (place 0 c rows).rows → (count_of rows' ≡ count_of before.rows + 1) × (total_of rows' ≡ total_of before.rows + c.length)

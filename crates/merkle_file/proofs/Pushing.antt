@@ -9,8 +9,8 @@ use Rattle.std.proofs.lemmas.List.Concat.{flat_map-cons}
 use Rattle.merkle_file.specs.declared.node.Child.{Child}
 use Rattle.disk_format.specs.declared.numbers.TheConstants.{MOST_CHILDREN}
 use Rattle.merkle_file.specs.Node.{Contents}
-use Rattle.merkle_file.specs.Tree.{Tree, trees, joined, child_of, children_of, nodes_of, nodes_below, parent, is_whole, whole_from, rest_from, whole, rest}
-use Rattle.merkle_file.specs.Building.{open_trees, nodes_in_rows}
+use Rattle.merkle_file.specs.Tree.{Tree, trees, joined, child_of, children_of, nodes_of, nodes_below, parent}
+use Rattle.merkle_file.specs.Building.{open_trees, nodes_in_rows, is_whole, whole_from, rest_from, whole, rest}
 use Rattle.merkle_file.specs.Steps.{place, Placed}
 use Rattle.merkle_file.proofs.Placing.{place_next, place_here, node_over}
 

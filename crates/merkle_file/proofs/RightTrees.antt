@@ -8,9 +8,11 @@ use Rattle.std.proofs.lemmas.List.Sums.{sum_by-append, sum_by-cons}
 use Rattle.merkle_file.specs.declared.node.Child.{Child}
 use Rattle.disk_format.specs.declared.numbers.TheConstants.{MOST_CHILDREN, MOST_FILE, MOST_LEVEL, MOST_SEGMENT}
 use Rattle.merkle_file.specs.Node.{IsChild, spelling, total}
-use Rattle.merkle_file.specs.Tree.{Tree, Empty, Leaf, Node, trees, joined, child_of, children_of, level_of, of_segment, is_whole, whole_from, rest_from, whole, rest, last_group, grouped, tree_over}
+use Rattle.merkle_file.specs.Tree.{Tree, Empty, Leaf, Node, trees, joined, child_of, children_of, level_of, of_segment, grouped, tree_over}
+use Rattle.merkle_file.specs.Building.{is_whole, whole_from, rest_from, whole, rest}
 use Rattle.merkle_file.specs.Walk.{AreBelow, IsTree, TreesAreRight, contents_of, trees_in}
 use Rattle.merkle_file.proofs.Placing.{all_push, length-sha256}
+use Rattle.merkle_file.proofs.Groups.{last_group, grouped_is}
 
 abbrev pub Segments : Type 0
 Segments = Tree (List ℕ)
@@ -57,8 +59,8 @@ all_append level (g ∷ gs) hs a b = (a.0, all_append level gs hs a.1 b)
 
 pub grouped_right : (level : ℕ) (ts : List Segments) → AllByRecursion (IsRightAt level) ts → AllByRecursion (IsGroup level) (grouped ts)
 grouped_right level ts all =
-    let groups = groups_right level [] ts (omega arith) tt all in
-    all_append level (whole ts) (last_group (rest ts)) groups.0 (last_right level (rest ts) groups.1 groups.2)
+    let parts = groups_right level [] ts (omega arith) tt all in
+    rw (grouped_is ts) (all_append level (whole ts) (last_group (rest ts)) parts.0 (last_right level (rest ts) parts.1 parts.2))
 
 -- ---- sizes
 
@@ -81,7 +83,7 @@ last_size [] = refl
 last_size (t ∷ ts) = omega (arith, sum_by-cons sizes (t ∷ ts) [])
 
 pub grouped_sizes : (ts : List Segments) → sum_by sizes (grouped ts) ≡ sizes ts
-grouped_sizes ts = omega (arith, sum_by-append sizes (whole ts) (last_group (rest ts)), last_size (rest ts), sizes_join [] ts)
+grouped_sizes ts = omega (arith, ap (sum_by sizes) (grouped_is ts), sum_by-append sizes (whole ts) (last_group (rest ts)), last_size (rest ts), sizes_join [] ts)
 
 -- ---- a node over a group
 

@@ -10,8 +10,10 @@ use Rattle.merkle_file.specs.declared.node.Child.{Child}
 use Rattle.merkle_file.specs.declared.top.Top.{Top}
 use Rattle.disk_format.specs.declared.numbers.TheConstants.{MOST_CHILDREN, MOST_LEVEL}
 use Rattle.merkle_file.specs.Node.{Contents}
-use Rattle.merkle_file.specs.Tree.{Tree, Trees, Empty, Leaf, Node, NoTree, Then, trees, joined, leaves, leaves_below, child_of, children_of, nodes_of, nodes_below, level_of, root_of, of_segment, itself, parent, is_whole, whole_from, rest_from, whole, rest, last_group, grouped, tree_over, tree_of, SegmentsAlike, LeavesAreSegments}
+use Rattle.merkle_file.specs.Tree.{Tree, Trees, Empty, Leaf, Node, NoTree, Then, trees, joined, leaves, leaves_below, child_of, children_of, nodes_of, nodes_below, level_of, root_of, of_segment, itself, parent, grouped, tree_over, tree_of, SegmentsAlike, LeavesAreSegments}
+use Rattle.merkle_file.specs.Building.{is_whole, whole_from, rest_from, whole, rest}
 use Rattle.merkle_file.proofs.Pushing.{counted}
+use Rattle.merkle_file.proofs.Groups.{last_group, grouped_is}
 
 -- ---- a tree with other leaves
 
@@ -91,7 +93,10 @@ last_group-map h [] = refl
 last_group-map h (x ∷ xs) = refl
 
 grouped-map : {X Y : Type 0} (h : X → Y) (xs : List X) → grouped (map h xs) ≡ map (map h) (grouped xs)
-grouped-map h xs = rw (whole-map h [] xs, rest-map h [] xs, last_group-map h (rest xs)) (sym (map-append (map h) (whole xs) (last_group (rest xs))))
+grouped-map h xs =
+    grouped_is (map h xs)
+    ∙ rw (whole-map h [] xs, rest-map h [] xs, last_group-map h (rest xs)) (sym (map-append (map h) (whole xs) (last_group (rest xs))))
+    ∙ ap (map (map h)) (sym (grouped_is xs))
 
 -- ---- the tree over other leaves
 
@@ -153,7 +158,9 @@ last_join [] = refl
 last_join (t ∷ ts) = flat_map-cons flat (t ∷ ts) [] ∙ append-nil (flat (t ∷ ts))
 
 grouped_join : {A : Type 0} (ts : List (Tree A)) → flat_map flat (grouped ts) ≡ flat ts
-grouped_join ts = flat_map-append flat (whole ts) (last_group (rest ts)) ∙ ap (λ (out : List _). flat_map flat (whole ts) ++ out) (last_join (rest ts)) ∙ groups_join [] ts
+grouped_join ts =
+    ap (flat_map flat) (grouped_is ts)
+    ∙ flat_map-append flat (whole ts) (last_group (rest ts)) ∙ ap (λ (out : List _). flat_map flat (whole ts) ++ out) (last_join (rest ts)) ∙ groups_join [] ts
 
 leaves-trees : {A : Type 0} (ts : List (Tree A)) → leaves_below (trees ts) ≡ flat ts
 leaves-trees [] = refl
@@ -179,7 +186,7 @@ last_few (x ∷ xs) = omega arith
 pub groups_few : {A : Type 0} (levels level : ℕ) (ts : List (Tree A)) → length ts ≤ MOST_CHILDREN ^ suc levels → length (map (joined level) (grouped ts)) ≤ MOST_CHILDREN ^ levels
 groups_few levels level ts few =
     let count = counted [] ts (omega arith) in
-    omega (arith, few, count.sum, pow-suc MOST_CHILDREN levels, length_map (joined level) (grouped ts), length-append (whole ts) (last_group (rest ts)), length-last (rest ts), last_few (rest ts))
+    omega (arith, few, count.sum, pow-suc MOST_CHILDREN levels, length_map (joined level) (grouped ts), ap length (grouped_is ts), length-append (whole ts) (last_group (rest ts)), length-last (rest ts), last_few (rest ts))
 
 leaves_over : {A : Type 0} (levels level : ℕ) (ts : List (Tree A)) → length ts ≤ MOST_CHILDREN ^ levels → leaves (tree_over levels level ts) ≡ flat ts
 unfolding tree_over

@@ -1,11 +1,11 @@
 -- A tree that is built as its leaves come: what is kept of the leaves so far.
-use Rattle.std.specs.Prelude.{◌≡◌, ◌≤◌, ◌<◌, ℕ, zero, suc, ◌+◌, ◌*◌, List, [], ◌∷◌, ◌++◌, length, map}
+use Rattle.std.specs.Prelude.{◌≡◌, ◌≤◌, ◌<◌, ℕ, zero, suc, ◌+◌, ◌*◌, ◌==◌, Bool, if◌then◌else◌, List, [], ◌∷◌, ◌++◌, length, map}
 use Rattle.std.specs.List.{flat_map, AllByRecursion}
 use Rattle.merkle_file.specs.declared.node.Child.{Child}
 use Rattle.disk_format.specs.declared.numbers.TheConstants.{MOST_CHILDREN, MOST_FILE, MOST_LEVEL, MOST_SEGMENT}
 use Rattle.merkle_file.specs.declared.top.TheConstants.{MOST_LEAVES}
 use Rattle.merkle_file.specs.Node.{Contents, total, IsChild}
-use Rattle.merkle_file.specs.Tree.{Tree, Leaf, joined, child_of, nodes_of, itself, whole, rest}
+use Rattle.merkle_file.specs.Tree.{Tree, Leaf, joined, child_of, nodes_of, itself}
 
 -- What a builder keeps: of each level, from the leaves up, the children of the node that isn't whole yet,
 -- and the nodes that are finished and were not taken, in order.
@@ -26,6 +26,27 @@ total_of [] = 0
 total_of (row ∷ rows) = total row + total_of rows
 
 -- ---- what is kept of the leaves so far
+
+-- A group is whole as soon as it has the greatest number of children.
+abbrev pub is_whole : {X : Type 0} → List X → Bool
+is_whole group = length group == MOST_CHILDREN
+
+-- the whole groups of a list, from the left, where a group is begun already
+unfoldable pub whole_from : {X : Type 0} → List X → List X → List (List X)
+whole_from begun [] = []
+whole_from begun (x ∷ xs) =
+    if is_whole (begun ++ x ∷ []) then (begun ++ x ∷ []) ∷ whole_from [] xs else whole_from (begun ++ x ∷ []) xs
+
+-- what is left after them
+unfoldable pub rest_from : {X : Type 0} → List X → List X → List X
+rest_from begun [] = begun
+rest_from begun (x ∷ xs) = if is_whole (begun ++ x ∷ []) then rest_from [] xs else rest_from (begun ++ x ∷ []) xs
+
+abbrev pub whole : {X : Type 0} → List X → List (List X)
+whole xs = whole_from [] xs
+
+abbrev pub rest : {X : Type 0} → List X → List X
+rest xs = rest_from [] xs
 
 -- Of so many levels, the trees that are complete and have no parent that is: what is left of each level,
 -- where the whole groups of a level are the trees of the next.

@@ -1,5 +1,5 @@
 -- Reading a node: its fields from the left, and the first of them that breaks a rule (docs/FORMAT.md, "Nodes").
-use Rattle.std.specs.Prelude.{◌≡◌, ◌≤◌, ℕ, zero, suc, ◌+◌, nat_lt, nat_le, ◌==◌, ◌&&◌, ◌||◌, if◌then◌else◌, Bool, List, [], ◌∷◌, length, take, drop, slice_index, Option, Some, None, Result, Ok, Err}
+use Rattle.std.specs.Prelude.{◌≡◌, ◌≤◌, ℕ, zero, suc, ◌+◌, ◌*◌, nat_lt, nat_le, ◌==◌, ◌&&◌, ◌||◌, if◌then◌else◌, Bool, List, [], ◌∷◌, length, take, drop, slice_index, Option, Some, None, Result, Ok, Err}
 use Rattle.std.specs.Int.{w16, w64, from_be_bytes}
 use Rattle.merkle_file.specs.declared.node.Child.{Child}
 use Rattle.merkle_file.specs.declared.fault.FieldFault.{FieldFault}
@@ -36,7 +36,12 @@ contents_in bytes = record {
   children = children_in (short_number (drop 2 bytes)) (drop 4 bytes);
 }
 
--- The first wrong field of what comes before the entries. One that isn't there whole is wrong, and got as 0.
+-- Whether so many children may stand in so many bytes: there are some, not too many, and the bytes are as many as they take.
+unfoldable pub is_right_count : ℕ → ℕ → Bool
+is_right_count count size = nat_le 1 count && nat_le count MOST_CHILDREN && (size == 4 + 40 * count)
+
+-- The first wrong field of what comes before the entries. One that isn't there whole is wrong, and got as 0. Where the
+-- number of bytes isn't that of so many entries, the number of children is wrong.
 unfoldable pub head_fault : Asked → List ℕ → Option FieldFault
 head_fault asked bytes =
     if length bytes == 0 then wrong 0 0
@@ -44,9 +49,8 @@ head_fault asked bytes =
     else if length bytes == 1 then wrong 1 0
     else if slice_index bytes 1 == NODE_FORM then
     if nat_lt (length bytes) 4 then wrong 2 0
-    else if short_number (drop 2 bytes) == 0 || nat_lt MOST_CHILDREN (short_number (drop 2 bytes)) then
-    wrong 2 (short_number (drop 2 bytes))
-    else None
+    else if is_right_count (short_number (drop 2 bytes)) (length bytes) then None
+    else wrong 2 (short_number (drop 2 bytes))
     else wrong 1 (slice_index bytes 1)
 
 -- Whether a child of a node of this level may have a length, where `before` bytes lie below the children
@@ -61,18 +65,16 @@ abbrev pub or_else : Option FieldFault → Option FieldFault → Option FieldFau
 or_else None second = second
 or_else (Some fault) second = Some fault
 
--- The wrong field of the entry in front of bytes, which stands at a place and is followed by so many more.
+-- The wrong field of the entry in front of bytes, which stands at a place and is followed by so many more: its length, for
+-- each digest is right.
 unfoldable pub entry_fault : Asked → ℕ → ℕ → ℕ → ℕ → List ℕ → Option FieldFault
 entry_fault asked level more at before bytes =
-    if nat_lt (length bytes) 32 then wrong at 0
-    else if nat_lt (length bytes) 40 then wrong (at + 32) 0
-    else if is_right_length asked level more before (long_number (drop 32 bytes)) then None
+    if is_right_length asked level more before (long_number (drop 32 bytes)) then None
     else wrong (at + 32) (long_number (drop 32 bytes))
 
--- The first wrong field of so many entries, of which the first stands at a place. Nothing may follow them.
+-- the first wrong field of so many entries, of which the first stands at a place
 unfoldable pub entries_fault : Asked → ℕ → ℕ → ℕ → ℕ → List ℕ → Option FieldFault
-entries_fault asked level zero at before [] = None
-entries_fault asked level zero at before (b ∷ bytes) = wrong at b
+entries_fault asked level zero at before bytes = None
 entries_fault asked level (suc more) at before bytes =
     or_else (entry_fault asked level more at before bytes)
     (entries_fault asked level more (at + 40) (before + long_number (drop 32 bytes)) (drop 40 bytes))

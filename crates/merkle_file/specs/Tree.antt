@@ -1,5 +1,5 @@
 -- Merkle trees: leaves are grouped from the left, level by level, until one tree is left (docs/FORMAT.md, "Nodes").
-use Rattle.std.specs.Prelude.{◌≡◌, ◌≤◌, ◌^◌, ℕ, zero, suc, ◌+◌, ◌==◌, Bool, if◌then◌else◌, List, [], ◌∷◌, ◌++◌, length, map}
+use Rattle.std.specs.Prelude.{◌≡◌, ◌≤◌, ◌^◌, ℕ, zero, suc, ◌+◌, List, [], ◌∷◌, ◌++◌, length, take, drop, map}
 use Rattle.std.specs.List.{concat, flat_map}
 use Rattle.sha2.specs.Sha256.{sha256}
 use Rattle.merkle_file.specs.declared.node.Child.{Child}
@@ -89,33 +89,16 @@ itself c = c
 
 -- ---- grouping
 
--- A group is whole as soon as it has the greatest number of children.
-abbrev pub is_whole : {X : Type 0} → List X → Bool
-is_whole group = length group == MOST_CHILDREN
+-- The first groups of a list, at most so many: MOST_CHILDREN elements, or those that are left, and then the groups of
+-- what follows.
+unfoldable pub grouped_up_to : {X : Type 0} → ℕ → List X → List (List X)
+grouped_up_to zero xs = []
+grouped_up_to (suc most) [] = []
+grouped_up_to (suc most) (x ∷ xs) = take MOST_CHILDREN (x ∷ xs) ∷ grouped_up_to most (drop MOST_CHILDREN (x ∷ xs))
 
--- the whole groups of a list, from the left, where a group is begun already
-unfoldable pub whole_from : {X : Type 0} → List X → List X → List (List X)
-whole_from begun [] = []
-whole_from begun (x ∷ xs) = if is_whole (begun ++ x ∷ []) then (begun ++ x ∷ []) ∷ whole_from [] xs else whole_from (begun ++ x ∷ []) xs
-
--- what is left after them
-unfoldable pub rest_from : {X : Type 0} → List X → List X → List X
-rest_from begun [] = begun
-rest_from begun (x ∷ xs) = if is_whole (begun ++ x ∷ []) then rest_from [] xs else rest_from (begun ++ x ∷ []) xs
-
-abbrev pub whole : {X : Type 0} → List X → List (List X)
-whole xs = whole_from [] xs
-
-abbrev pub rest : {X : Type 0} → List X → List X
-rest xs = rest_from [] xs
-
--- all groups: the whole ones, and one of what is left
-abbrev pub last_group : {X : Type 0} → List X → List (List X)
-last_group [] = []
-last_group (x ∷ xs) = (x ∷ xs) ∷ []
-
-abbrev pub grouped : {X : Type 0} → List X → List (List X)
-grouped xs = whole xs ++ last_group (rest xs)
+-- all groups: there are never more of them than elements, since none is empty
+unfoldable pub grouped : {X : Type 0} → List X → List (List X)
+grouped xs = grouped_up_to (length xs) xs
 
 -- ---- the tree over leaves
 

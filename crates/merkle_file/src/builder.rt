@@ -10,7 +10,7 @@ use std::marker::Model;
 /// before parents.
 /// It keeps less than one node's children for each level, and the nodes that were not taken.
 ///
-/// After an `Err` it is as new: what was pushed and not taken is forgotten.
+/// A call that finds no memory leaves it as it was.
 #[derive(Drop)]
 pub struct TreeBuilder {
     alloc: Global,
@@ -50,7 +50,7 @@ impl TreeBuilder {
 
     /// Adds a segment at the end: its digest, and its length from 1 to `disk_format::MOST_SEGMENT`. A tree has at most
     /// 2^29 segments and `disk_format::MOST_FILE` bytes. Each node that is whole thereby is finished, from the lowest
-    /// up. It fails for want of memory alone, and the builder is then as new.
+    /// up. It fails for want of memory alone, and changes nothing then.
     pub fn push(&mut self, child: Child) -> Result<(), AllocError>
         requires { MayPush self.old child }
         ensures pushed { OnOk result ((pushed : List Child) (taken : List Contents) →
@@ -58,16 +58,9 @@ impl TreeBuilder {
         ensures count { OnOk result (count_of self.new.rows ≡ count_of self.old.rows + 1) }
         ensures length { OnOk result (total_of self.new.rows ≡ total_of self.old.rows + child.length) }
         ensures few { IsProgress self.new }
-        ensures err { OnErr result (Holds self.new [] []) }
+        ensures err { OnErr result (self.new ≡ self.old) }
     {
-        match place_leaf(self.alloc, &mut self.rows, &mut self.finished, child) {
-            Ok(()) => Ok(()),
-            Err(error) => {
-                clear(&mut self.rows);
-                self.finished.clear();
-                Err(error)
-            }
-        }
+        place_leaf(self.alloc, &mut self.rows, &mut self.finished, child)
     }
 
     /// Takes the first finished node that was not taken, if there is one.
@@ -83,20 +76,18 @@ impl TreeBuilder {
 
     /// Finishes the nodes that are not whole, and gives the root of the tree over all that was pushed: of nothing, the
     /// root of an empty file. The nodes that were not taken can still be taken; what is pushed next begins another
-    /// tree. It fails for want of memory alone, and the builder is then as new: the nodes that were not taken are lost.
+    /// tree. It fails for want of memory alone, and changes nothing then.
     pub fn finish(&mut self) -> Result<Top, AllocError>
         ensures top { IfOk result (λ top. (pushed : List Child) (taken : List Contents) →
             Holds self.old pushed taken → top ≡ root_of itself (tree_of pushed)) }
         ensures nodes { OnOk result ((pushed : List Child) (taken : List Contents) →
             Holds self.old pushed taken → taken ++ self.new.finished ≡ nodes_of itself (tree_of pushed)) }
-        ensures rows { self.new.rows ≡ replicate MOST_LEVEL [] }
-        ensures err { OnErr result (Holds self.new [] []) }
+        ensures rows { OnOk result (self.new.rows ≡ replicate MOST_LEVEL []) }
+        ensures err { OnErr result (self.new ≡ self.old) }
     {
-        let closed = close(self.alloc, &mut self.rows, &mut self.finished);
+        let mut closed = close(self.alloc, &self.rows)?;
+        self.finished.append(&mut closed.nodes)?;
         clear(&mut self.rows);
-        if closed.is_err() {
-            self.finished.clear();
-        }
-        closed
+        Ok(closed.top)
     }
 }

@@ -1,10 +1,10 @@
-/// A field of a node that breaks a rule (docs/FORMAT.md, "Nodes").
+/// A field of a node that breaks a rule (docs/FORMAT.md, "Nodes"). Where the number of bytes is not that of so many
+/// children as the node says, this is the number of children.
 #[derive(Clone, Copy)]
 pub struct FieldFault {
     /// Where the field begins, counted from the node's first byte.
     pub offset: u32,
-    /// The field as a number. A field that the bytes don't hold whole is got as 0, and bytes after the
-    /// last field as the first of them.
+    /// The field as a number, and 0 where the bytes don't hold it whole.
     pub got: u64,
 }
 
@@ -15,7 +15,7 @@ pub enum NodeFault {
     Field {
         /// Where the field begins, counted from the node's first byte.
         offset: u32,
-        /// The field as a number, 0 where it isn't there whole, or the first byte after the last field.
+        /// The field as a number, and 0 where it isn't there whole.
         got: u64,
     },
     /// Memory ran out.

@@ -4,7 +4,7 @@ ghost use Rattle.std.specs.Prelude.{◌≡◌, ◌+◌, ◌*◌, ◌≤◌, ◌<
 ghost use Rattle.merkle_file.specs.Node.{Contents, IsNode, spelling};
 ghost use Rattle.merkle_file.specs.Reading.{IsAsked, IsWithin, SpellsNode, any_node, child_in, children_in, contents_in, entries_fault};
 ghost use Rattle.merkle_file.specs.Reading.{entry_fault};
-ghost use Rattle.merkle_file.specs.Reading.{first_fault, found_fault, head_fault, is_right_length, long_number, short_number};
+ghost use Rattle.merkle_file.specs.Reading.{first_fault, found_fault, head_fault, is_right_count, is_right_length, long_number, short_number};
 
 use crate::fault::FieldFault;
 use crate::node::Child;
@@ -53,19 +53,29 @@ pub(crate) fn count_of(bytes: &[u8]) -> u16
 fn check_fields(bytes: &[u8], asked: &Asked) -> Result<(), FieldFault>
     requires { asked.now.most ≤ MOST_FILE }
     ensures fault { found_fault result ≡ first_fault asked.now bytes.now }
-    ensures long { OnOk result (4 ≤ length bytes.now) }
 {
     let count = check_head(bytes, asked)?;
     check_entries(&bytes[4..], asked, bytes[0], count)
 }
 
-/// Checks what comes before the entries, and gives their number.
+/// Whether so many children may stand in so many bytes.
+#[tactic(auto, unfolding(crate::specs::Reading::is_right_count))]
+fn is_right_count(count: u16, size: usize) -> bool
+    ensures right { result ≡ is_right_count count size }
+    ensures size { IsTrue result → size ≡ 4 + 40 * count }
+    ensures few { IsTrue result → count ≤ MOST_CHILDREN }
+{
+    let count = usize::from(count);
+    1 <= count && count <= MOST_CHILDREN && size == 4 + 40 * count
+}
+
+/// Checks what comes before the entries, and gives their number. There are as many bytes as they take.
 #[tactic(auto, unfolding(crate::specs::Reading::head_fault, crate::specs::Reading::short_number))]
 fn check_head(bytes: &[u8], asked: &Asked) -> Result<u16, FieldFault>
     ensures fault { found_fault result ≡ head_fault asked.now bytes.now }
     ensures count { IfOk result (λ count. count ≡ short_number (drop 2 bytes.now)) }
     ensures few { IfOk result (λ count. count ≤ MOST_CHILDREN) }
-    ensures long { OnOk result (4 ≤ length bytes.now) }
+    ensures long { IfOk result (λ count. length bytes.now ≡ 4 + 40 * count) }
 {
     if bytes.len() == 0 {
         return Err(FieldFault { offset: 0, got: 0 });
@@ -89,19 +99,21 @@ fn check_head(bytes: &[u8], asked: &Asked) -> Result<u16, FieldFault>
         return Err(FieldFault { offset: 2, got: 0 });
     }
     let count = u16::from_be_bytes([bytes[2], bytes[3]]);
-    if count == 0 || MOST_CHILDREN < count as usize {
-        return Err(FieldFault {
+    if is_right_count(count, bytes.len()) {
+        Ok(count)
+    } else {
+        Err(FieldFault {
             offset: 2,
-            got: count as u64,
-        });
+            got: u64::from(count),
+        })
     }
-    Ok(count)
 }
 
-/// Checks the entries, which are to fill the bytes.
+/// Checks the entries, which fill the bytes.
 #[tactic(auto, unfolding(crate::specs::Reading::entries_fault))]
 fn check_entries(bytes: &[u8], asked: &Asked, level: u8, count: u16) -> Result<(), FieldFault>
     requires count { count ≤ MOST_CHILDREN }
+    requires long { length bytes.now ≡ 40 * count }
     requires most { asked.now.most ≤ MOST_FILE }
     ensures { found_fault result ≡ entries_fault asked.now level count 4 0 bytes.now }
 {
@@ -115,13 +127,7 @@ fn check_entries(bytes: &[u8], asked: &Asked, level: u8, count: u16) -> Result<(
         at += 40;
         before += length;
     }
-    match rest.first() {
-        None => Ok(()),
-        Some(byte) => Err(FieldFault {
-            offset: at,
-            got: *byte as u64,
-        }),
-    }
+    Ok(())
 }
 
 /// Checks the entry in front of the bytes, which stands at a place and is followed by so many more, and
@@ -135,23 +141,14 @@ fn check_entry(
     at: u32,
     before: u64,
 ) -> Result<u64, FieldFault>
+    requires long { 40 ≤ length bytes.now }
     requires at { at < 10000 }
     requires before { before ≤ MOST_FILE }
     requires most { asked.now.most ≤ MOST_FILE }
     ensures fault { found_fault result ≡ entry_fault asked.now level more at before bytes.now }
     ensures length { IfOk result (λ n. n ≡ long_number (drop 32 bytes.now)) }
     ensures below { IfOk result (λ n. before + n ≤ MOST_FILE) }
-    ensures long { OnOk result (40 ≤ length bytes.now) }
 {
-    if bytes.len() < 32 {
-        return Err(FieldFault { offset: at, got: 0 });
-    }
-    if bytes.len() < 40 {
-        return Err(FieldFault {
-            offset: at + 32,
-            got: 0,
-        });
-    }
     let (_, back) = bytes.split_at(32);
     let length = length_at(back);
     if is_right_length(asked, level, more, before, length) {

@@ -1,13 +1,13 @@
 //! The unfinished nodes of a tree that is built, one row of children for each level.
 
-ghost use Rattle.std.specs.Prelude.{◌≡◌, ◌+◌, ◌<◌, ◌≤◌, [], ◌∷◌, ◌++◌, IfOk, MatchOption, OnOk, length, map, replicate};
+ghost use Rattle.std.specs.Prelude.{◌≡◌, ◌+◌, ◌<◌, ◌≤◌, [], ◌∷◌, ◌++◌, IfOk, MatchOption, OnErr, OnOk, length, map, replicate};
 ghost use Rattle.std.specs.Prelude.{◌==◌, ◌&&◌, nat_le};
 ghost use Rattle.std.specs.List.{list_all};
 ghost use Rattle.std.specs.Option.{option_to_list};
 ghost use Rattle.merkle_file.specs.Node.{Contents, IsChild};
 ghost use Rattle.merkle_file.specs.Tree.{parent};
 ghost use Rattle.merkle_file.specs.Steps.{are_empty, close, place, top_of};
-ghost use Rattle.merkle_file.specs.Rows.{AreNode, CanClose, CanPlace, CanTake, items_of};
+ghost use Rattle.merkle_file.specs.Rows.{AreNode, CanClose, CanPlace, CanTake, IsPlacement, IsSettled, items_of};
 
 use crate::node::{Child, Node};
 use crate::top::Top;
@@ -15,7 +15,6 @@ use disk_format::{MOST_CHILDREN, MOST_LEVEL};
 use sha2::{Digest, Sha256};
 use std::alloc::{AllocError, Global};
 use std::collections::VecDeque;
-use std::mem;
 
 /// What a node says of this node.
 pub(crate) fn parent_of(alloc: Global, node: &Node) -> Result<Child, AllocError>
@@ -28,28 +27,74 @@ pub(crate) fn parent_of(alloc: Global, node: &Node) -> Result<Child, AllocError>
     })
 }
 
-/// Adds a child to the row of a level. A row that is whole thereby becomes a node, and is empty again.
-fn place_in_row(
+/// A row's children, with the child that the row below became.
+fn with_carried(
     alloc: Global,
-    row: &mut Vec<Child>,
-    level: u8,
-    child: Child,
-) -> Result<Option<Node>, AllocError>
-    requires { CanTake level row.old.items child }
-    ensures { IfOk result (λ node. MatchOption node
-        ((row.new.items ≡ row.old.items ++ child ∷ []) × (length row.old.items + 1 < MOST_CHILDREN))
-        (λ n. (n ≡ record { level = level + 1; children = row.old.items ++ child ∷ [] }) × (row.new.items ≡ [])
-        × (length row.old.items + 1 ≡ MOST_CHILDREN))) }
+    row: &[Child],
+    carried: Option<Child>,
+) -> Result<Vec<Child>, AllocError>
+    ensures { IfOk result (λ v. v.items ≡ row.now ++ option_to_list carried) }
 {
-    row.push(child)?;
-    if row.len() < MOST_CHILDREN {
-        return Ok(None);
+    let mut children = Vec::from_slice(alloc, row)?;
+    if let Some(child) = carried {
+        children.push(child)?;
     }
-    let children = mem::replace(row, Vec::new(alloc));
-    Ok(Some(Node::from_children(level + 1, children)))
+    Ok(children)
 }
 
-/// Places a leaf in the lowest row, and each node that is whole thereby in the row above.
+/// The node that a row becomes with one more child.
+fn node_over(alloc: Global, row: &[Child], level: u8, child: Child) -> Result<Node, AllocError>
+    requires { CanTake level row.now child }
+    ensures { IfOk result (λ n. n ≡ record { level = level + 1; children = row.now ++ child ∷ [] }) }
+{
+    let children = with_carried(alloc, row, Some(child))?;
+    Ok(Node::from_children(level + 1, children))
+}
+
+/// Where a leaf leads to: which row gets a child more, and which nodes the rows below it become.
+#[derive(Drop)]
+struct Placement {
+    level: usize,
+    child: Child,
+    nodes: VecDeque<Node>,
+}
+
+/// Finds out where a leaf leads to, and takes the memory for the nodes. The rows stay.
+fn placement_of(alloc: Global, rows: &[Vec<Child>], leaf: Child) -> Result<Placement, AllocError>
+    requires { CanPlace 0 leaf (items_of rows.now) }
+    ensures { IfOk result (λ p. IsPlacement leaf (items_of rows.now) p.level p.child p.nodes.items) }
+{
+    let mut child = leaf;
+    let mut nodes = VecDeque::new(alloc);
+    for level in 0..rows.len() {
+        let row = rows[level].as_slice();
+        if row.len() + 1 < MOST_CHILDREN {
+            return Ok(Placement {
+                level,
+                child,
+                nodes,
+            });
+        }
+        let node = node_over(alloc, row, level as u8, child)?;
+        child = parent_of(alloc, &node)?;
+        nodes.push_back(node)?;
+    }
+    unreachable!()
+}
+
+/// Adds a child to the row of a level, and empties the rows below it.
+fn settle(rows: &mut [Vec<Child>], level: usize, child: Child) -> Result<(), AllocError>
+    requires { level < length rows.old }
+    ensures ok { OnOk result (IsSettled level child (items_of rows.old) (items_of rows.new)) }
+    ensures err { OnErr result (items_of rows.new ≡ items_of rows.old) }
+{
+    rows[level].push(child)?;
+    clear(&mut rows[..level]);
+    Ok(())
+}
+
+/// Places a leaf in the lowest row, and each node that is whole thereby in the row above. Memory is taken before
+/// anything changes.
 pub(crate) fn place_leaf(
     alloc: Global,
     rows: &mut [Vec<Child>],
@@ -59,19 +104,14 @@ pub(crate) fn place_leaf(
     requires { CanPlace 0 leaf (items_of rows.old) }
     ensures rows { OnOk result (items_of rows.new ≡ (place 0 leaf (items_of rows.old)).rows) }
     ensures nodes { OnOk result (finished.new.items ≡ finished.old.items ++ (place 0 leaf (items_of rows.old)).nodes) }
+    ensures err_rows { OnErr result (items_of rows.new ≡ items_of rows.old) }
+    ensures err_nodes { OnErr result (finished.new.items ≡ finished.old.items) }
 {
-    let mut child = leaf;
-    for level in 0..rows.len() {
-        let row = &mut rows[level];
-        match place_in_row(alloc, row, level as u8, child)? {
-            None => return Ok(()),
-            Some(node) => {
-                child = parent_of(alloc, &node)?;
-                finished.push_back(node)?;
-            }
-        }
-    }
-    unreachable!()
+    let mut placement = placement_of(alloc, rows, leaf)?;
+    finished.reserve(placement.nodes.len())?;
+    settle(rows, placement.level, placement.child)?;
+    finished.append(&mut placement.nodes).unwrap();
+    Ok(())
 }
 
 /// Whether there is no child in any of these rows.
@@ -86,21 +126,6 @@ fn is_root(above: &[Vec<Child>], children: &[Child]) -> bool
     ensures { result ≡ (list_all (λ row. length row.items == 0) above.now && nat_le (length children.now) 1) }
 {
     are_empty(above) && children.len() <= 1
-}
-
-/// Takes a row's children, with the child that the row below became.
-fn take_row(
-    alloc: Global,
-    row: &mut Vec<Child>,
-    carried: Option<Child>,
-) -> Result<Vec<Child>, AllocError>
-    ensures { IfOk result (λ v. v.items ≡ row.old.items ++ option_to_list carried) }
-{
-    let mut children = mem::replace(row, Vec::new(alloc));
-    if let Some(child) = carried {
-        children.push(child)?;
-    }
-    Ok(children)
 }
 
 /// Makes a node of a level of these children, if there are any, and gives what its parent says of it.
@@ -143,25 +168,29 @@ fn top_of(level: u8, children: &[Child]) -> Top
     }
 }
 
-/// Makes a node of what is left in each row, from the lowest up, and gives the root.
-pub(crate) fn close(
-    alloc: Global,
-    rows: &mut [Vec<Child>],
-    finished: &mut VecDeque<Node>,
-) -> Result<Top, AllocError>
-    requires { CanClose 0 [] (items_of rows.old) }
-    ensures top { IfOk result (λ top. top ≡ (close 0 [] (items_of rows.old)).top) }
-    ensures nodes { OnOk result (finished.new.items ≡ finished.old.items ++ (close 0 [] (items_of rows.old)).nodes) }
+/// The root over all rows, and the nodes that they become.
+#[derive(Drop)]
+pub(crate) struct Finished {
+    pub top: Top,
+    pub nodes: VecDeque<Node>,
+}
+
+/// Makes a node of what is left in each row, from the lowest up, and gives the root. The rows stay.
+pub(crate) fn close(alloc: Global, rows: &[Vec<Child>]) -> Result<Finished, AllocError>
+    requires { CanClose 0 [] (items_of rows.now) }
+    ensures top { IfOk result (λ f. f.top ≡ (close 0 [] (items_of rows.now)).top) }
+    ensures nodes { IfOk result (λ f. f.nodes.items ≡ (close 0 [] (items_of rows.now)).nodes) }
 {
     let mut carried = None;
+    let mut nodes = VecDeque::new(alloc);
     for level in 0..rows.len() {
-        let row = &mut rows[level];
-        let children = take_row(alloc, row, carried)?;
+        let children = with_carried(alloc, &rows[level], carried)?;
         let (_, above) = rows.split_at(level + 1);
         if is_root(above, &children) {
-            return Ok(top_of(level as u8, &children));
+            let top = top_of(level as u8, &children);
+            return Ok(Finished { top, nodes });
         }
-        carried = close_row(alloc, finished, level as u8 + 1, children)?;
+        carried = close_row(alloc, &mut nodes, level as u8 + 1, children)?;
     }
     unreachable!()
 }

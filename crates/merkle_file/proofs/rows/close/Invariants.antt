@@ -1,4 +1,4 @@
-use Rattle.std.proofs.Common.{◌++◌, []}
+use Rattle.std.proofs.Common.{[]}
 use Rattle.std.specs.Option.{option_to_list}
 use Rattle.merkle_file.specs.Steps.{close}
 use Rattle.merkle_file.specs.Rows.{items_of}
@@ -7,5 +7,5 @@ use Rattle.merkle_file.proofs.rows.close.Given as goal
 
 abbrev pub invariant-loop-level : goal.invariant-loop-level
 invariant-loop-level l =
-    let all = close 0 [] (items_of l.fn.rows) in
-    IsClosing l.level (option_to_list l.carried) (items_of l.rows) l.finished.items all.top (l.fn.finished.items ++ all.nodes)
+    let all = close 0 [] (items_of l.rows) in
+    IsClosing l.level (option_to_list l.carried) (items_of l.rows) l.nodes.items all.top all.nodes

@@ -9,3 +9,4 @@ pub mod Walking
 pub mod TreeLaws
 pub mod RightTrees
 pub mod Unfolding
+pub mod InPlace

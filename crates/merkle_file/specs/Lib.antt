@@ -5,3 +5,4 @@ pub mod Building
 pub mod Rows
 pub mod Walk
 pub mod Steps
+pub mod Laws

@@ -22,7 +22,7 @@ abbrev pub step_value : steps.Step → StepValue
 step_value asked.Begin = Begin
 step_value (asked.Claim seg) = Claim seg.now
 step_value (asked.Seal filled) = Seal filled.now
-step_value (asked.Commit name root) = Commit name.now root
+step_value (asked.Commit name root) = Commit name.now root.now
 step_value asked.Abort = Abort
 step_value (asked.OpenRead name) = OpenRead name.now
 step_value asked.ReadNext = ReadNext

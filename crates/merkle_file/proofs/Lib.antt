@@ -11,3 +11,4 @@ pub mod TreeLaws
 pub mod RightTrees
 pub mod RootLaws
 pub mod Unfolding
+pub mod InPlace

@@ -36,6 +36,11 @@ contents_in bytes = record {
   children = children_in (short_number (drop 2 bytes)) (drop 4 bytes);
 }
 
+-- bytes are a node's, all of them
+pub record IsNodeBytes (bytes : List ℕ) : Type 0 where
+  pub spelled : bytes ≡ spelling (contents_in bytes)
+  pub node : IsNode (contents_in bytes)
+
 -- Whether so many children may stand in so many bytes: there are some, not too many, and the bytes are as many as they take.
 unfoldable pub is_right_count : ℕ → ℕ → Bool
 is_right_count count size = nat_le 1 count && nat_le count MOST_CHILDREN && (size == 4 + 40 * count)

@@ -6,6 +6,7 @@
 mod builder;
 mod cursor;
 mod fault;
+mod in_place;
 mod laws;
 mod node;
 mod reading;
@@ -18,6 +19,7 @@ mod writing;
 pub use builder::TreeBuilder;
 pub use cursor::Cursor;
 pub use fault::{FieldFault, NodeFault};
+pub use in_place::{child_at, count_in, length_in, nodes_are_read_again};
 pub use laws::{spellings_of_nodes, tree_of_segments};
 pub use node::{Child, Hash, Node};
 pub use top::Top;

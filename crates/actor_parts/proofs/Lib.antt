@@ -1,0 +1,3 @@
+pub mod Apart
+pub mod Children
+pub mod Nodes

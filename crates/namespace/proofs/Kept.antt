@@ -91,3 +91,14 @@ without names name h =
       few = no_more (is_some (finite.get names name)) (finite.len names) _ (finite.len-remove nat_list_cmp_total names name) h.few;
       named = keys_without names name h.named;
     }
+
+there_is : {X : Type 0} (o : Option X) → IsSome o → is_some o ≡ true
+there_is None there = absurd (search rules)
+there_is (Some x) there = refl
+
+-- the names after a put of a name that is there
+pub with_again : (names : NameMap) (name : List ℕ) (named : Named) → AreNames names → IsSome (finite.get names name) → AreNames (finite.insert names name named)
+with_again names name named h there =
+    with_put names name named h
+    (found_name IsName name (finite.entries names) h.named (ap is_some (sym (finite.get-entries names name)) ∙ there_is (finite.get names name) there))
+    (inl there)

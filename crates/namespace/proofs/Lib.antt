@@ -5,3 +5,4 @@ pub mod Kept
 pub mod Listed
 pub mod Numbered
 pub mod Replayed
+pub mod TakenBack

@@ -1,5 +1,5 @@
 -- The names of a store, and what is refused (docs/MODEL.md, 'Names').
-use Rattle.std.specs.Prelude.{◌≡◌, ℕ, ◌<◌, ◌≤◌, List, [], ◌∷◌, ◌⊎◌, All, IsSome, None, Some, Result, Ok, Err, refl}
+use Rattle.std.specs.Prelude.{◌≡◌, ℕ, ◌<◌, ◌≤◌, List, [], ◌∷◌, ◌⊎◌, All, IsSome, Option, None, Some, Result, Ok, Err, refl}
 use Rattle.std.specs.Coded.{Coded, code_by, coded×, coded_list, coded_ℕ}
 use Rattle.std.specs.Ordering.{nat_cmp}
 use Rattle.std.specs.Cmp.Lexicographic.{slice_cmp}
@@ -61,6 +61,11 @@ names_changed sequence name Delete names = finite.remove names name
 -- the names after a record
 abbrev pub names_with : RecordValue → NameMap → NameMap
 names_with r names = names_changed r.sequence r.name r.change names
+
+-- the names where one of them has this, or where it isn't there
+abbrev pub names_given : List ℕ → Option Named → NameMap → NameMap
+names_given name None names = finite.remove names name
+names_given name (Some named) names = finite.insert names name named
 
 -- the names after records, the first of them first
 abbrev pub names_after : List RecordValue → NameMap → NameMap

@@ -4,7 +4,7 @@ ghost use Rattle.std.specs.Prelude.{◌≡◌, ◌⊎◌, IfOk, IfErr, OnOk, OnE
 ghost use Rattle.std.specs.FinMap as finite;
 ghost use Rattle.disk_format.specs.Cells.{IsName};
 ghost use Rattle.namespace.specs.Names.{HasRoom, IsFull, IsTaken, IsRefused, AreTaken, AreRefused, IsAnswer, AreNames, record_value};
-ghost use Rattle.namespace.specs.Names.{put_of, names_with, names_after};
+ghost use Rattle.namespace.specs.Names.{put_of, names_with, names_after, names_given, NameMap};
 
 use crate::fault::NameFault;
 use crate::name::is_name;
@@ -145,6 +145,38 @@ impl Names {
         match self.entries.get(name) {
             Some(named) => Ok(named.root),
             None => Err(NameFault::NoFile),
+        }
+    }
+
+    /// What a name has.
+    pub fn find(&self, name: &[u8]) -> Option<Named>
+        ensures { result ≡ finite.get self.now name.now }
+    {
+        self.entries.get(name).copied()
+    }
+
+    /// Gives a name that is there what it had before, or takes it away where it had nothing. It takes no memory.
+    pub fn take_back(&mut self, name: Vec<u8>, before: Option<Named>)
+        requires there { IsSome (finite.get self.old name.items) }
+        ensures given { self.new ≡ names_given name.items before self.old }
+        // A put is undone.
+        ensures back { (names : NameMap) (named : Named) → finite.get names name.items ≡ before
+            → self.old ≡ finite.insert names name.items named → self.new ≡ names }
+    {
+        match before {
+            Some(named) => self.put_back(name, named),
+            None => self.remove(&name),
+        }
+    }
+
+    /// Gives a name that is there another value. An insertion fails for a new name alone.
+    fn put_back(&mut self, name: Vec<u8>, named: Named)
+        requires there { IsSome (finite.get self.old name.items) }
+        ensures { self.new ≡ finite.insert self.old name.items named }
+    {
+        match self.entries.insert(name, named) {
+            Ok(_) => {}
+            Err(_) => unreachable!(),
         }
     }
 

@@ -1,3 +1,4 @@
 mod Entered
 pub mod Few
 mod Newest
+pub mod Parts

@@ -13,7 +13,7 @@ pub enum Step<'a> {
     /// To store a container, which holds a segment at least, and to keep its segments.
     Seal { filled: &'a OpenContainer },
     /// To give a name the root of the file that was stored.
-    Commit { name: &'a [u8], root: Root },
+    Commit { name: &'a [u8], root: &'a Root },
     /// To give up the file that is being stored.
     Abort,
     /// To take the file of a name.

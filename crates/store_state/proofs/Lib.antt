@@ -1,3 +1,5 @@
 mod Entered
 pub mod Few
+pub mod Changed
+pub mod Indexed
 mod Newest

@@ -10,3 +10,4 @@ pub mod TreeLaws
 pub mod RightTrees
 pub mod RootLaws
 pub mod Unfolding
+pub mod InPlace

@@ -6,3 +6,4 @@ pub mod Rows
 pub mod Walk
 pub mod Roots
 pub mod Steps
+pub mod Laws

@@ -36,6 +36,11 @@ contents_in bytes = record {
   children = children_in (short_number (drop 2 bytes)) (drop 4 bytes);
 }
 
+-- bytes are a node's, all of them
+pub record IsNodeBytes (bytes : List ℕ) : Type 0 where
+  pub spelled : bytes ≡ spelling (contents_in bytes)
+  pub node : IsNode (contents_in bytes)
+
 -- The first wrong field of what comes before the entries. One that isn't there whole is wrong, and got as 0.
 unfoldable pub head_fault : Asked → List ℕ → Option FieldFault
 head_fault asked bytes =

@@ -1,0 +1,4 @@
+pub mod Apart
+pub mod Children
+pub mod Nodes
+pub mod Refilled

@@ -1,0 +1,35 @@
+-- Steps as contracts see them: what is lent, by its value.
+use Rattle.std.specs.Prelude.{ℕ, ◌≤◌, List, length}
+use Rattle.disk_format.specs.Cells.{Root}
+use Rattle.container_meta.specs.Segments.{KindSegment, Contents}
+use Rattle.actor_parts.specs.declared.step.Step as steps
+use Rattle.actor_parts.specs.declared.step.Step.TheVariants as asked
+use Rattle.actor_parts.specs.Segments.{IsStepSegment, AreStepSegments}
+
+pub data StepValue : Type 0 where
+  Begin : StepValue
+  Claim : (seg : KindSegment) → StepValue
+  Seal : (filled : Contents) → StepValue
+  Commit : (name : List ℕ) (root : Root) → StepValue
+  Abort : StepValue
+  OpenRead : (name : List ℕ) → StepValue
+  ReadNext : StepValue
+  EndRead : StepValue
+  Stat : StepValue
+
+abbrev pub step_value : steps.Step → StepValue
+step_value asked.Begin = Begin
+step_value (asked.Claim seg) = Claim seg.now
+step_value (asked.Seal filled) = Seal filled.now
+step_value (asked.Commit name root) = Commit name.now root.now
+step_value asked.Abort = Abort
+step_value (asked.OpenRead name) = OpenRead name.now
+step_value asked.ReadNext = ReadNext
+step_value asked.EndRead = EndRead
+step_value asked.Stat = Stat
+
+-- What may be asked: a segment of a tree is a node of its level, and a container holds a segment at least.
+abbrev pub IsStep : StepValue → Type 0
+IsStep (Claim seg) = IsStepSegment seg
+IsStep (Seal filled) = (1 ≤ length filled.segments) × AreStepSegments filled.kind filled.segments
+IsStep step = Unit {0}

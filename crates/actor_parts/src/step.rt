@@ -1,0 +1,68 @@
+//! The steps of the store, and what they answer.
+
+use container_meta::{OpenContainer, Seg};
+use namespace::Root;
+
+/// What an actor asks of the store. docs/MODEL.md, 'Actors, steps and answers', says what each does.
+#[derive(Clone, Copy)]
+pub enum Step<'a> {
+    /// To store a file.
+    Begin,
+    /// To keep a segment that is held.
+    Claim { seg: &'a Seg },
+    /// To store a container, which holds a segment at least, and to keep its segments.
+    Seal { filled: &'a OpenContainer },
+    /// To give a name the root of the file that was stored.
+    Commit { name: &'a [u8], root: &'a Root },
+    /// To give up the file that is being stored.
+    Abort,
+    /// To take the file of a name.
+    OpenRead { name: &'a [u8] },
+    /// To take the file's next segment.
+    ReadNext,
+    /// To give up the file that is being taken.
+    EndRead,
+    /// To count what the store has.
+    Stat,
+}
+
+/// What a step answers, where it isn't refused.
+#[derive(Clone, Copy)]
+pub enum Answer {
+    /// A file may be stored.
+    Begun,
+    /// The segment is held, and kept.
+    Held,
+    /// No such segment is held.
+    Absent,
+    /// The container was stored under this id.
+    Sealed {
+        id: u64,
+    },
+    /// The name has the root, from this sequence number on.
+    Committed {
+        sequence: u64,
+    },
+    /// The file was given up.
+    Aborted,
+    /// The file has so many bytes, which are to come.
+    Opened {
+        length: u64,
+    },
+    /// So many bytes of the file, at least one, are the first of the buffer.
+    Bytes {
+        count: u32,
+    },
+    /// The file has ended.
+    End,
+    /// The file was given up.
+    Dropped,
+    /// How many names there are, entries of valid containers, bytes of these, and slots that are used and free.
+    Stat {
+        files: u64,
+        segments: u64,
+        bytes: u64,
+        used: u64,
+        free: u64,
+    },
+}

@@ -19,12 +19,8 @@ mod writing;
 pub use builder::TreeBuilder;
 pub use cursor::Cursor;
 pub use fault::{FieldFault, NodeFault};
-<<<<<<< HEAD
-pub use laws::{spellings_of_nodes, tree_of_segments};
-=======
 pub use in_place::{child_at, count_in, length_in, nodes_are_read_again};
-pub use laws::tree_of_segments;
->>>>>>> e8aaae5c081be2701e00c4c869d8053e25ddced5
+pub use laws::{spellings_of_nodes, tree_of_segments};
 pub use node::{Child, Hash, Node};
 pub use top::Top;
 pub use want::Want;

@@ -1,0 +1,3 @@
+pub mod HeldWalks
+pub mod Openings
+pub mod Walks

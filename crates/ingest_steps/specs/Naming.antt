@@ -4,7 +4,7 @@ use Rattle.base_model.specs.Known.{Known, KnownWith}
 use Rattle.disk_format.specs.Cells.{Root, RecordValue, IsName}
 use Rattle.disk_format.specs.Cells.Change.{Put}
 use Rattle.disk_format.specs.Layout.{half_cells}
-use Rattle.dd_disk.specs.View.{DiskView, IsDurable, CrashLeaves}
+use Rattle.dd_disk.specs.View.{DiskView, IsDurable, CrashLeaves, SteppedFrom}
 use Rattle.dd_disk.specs.Ending.{Ending}
 use Rattle.dd_disk.specs.Moves.{Way, step, Moves}
 use Rattle.container_meta.specs.Places.{PlaceMap}
@@ -97,9 +97,10 @@ pub record PutsRoot (t : Tables) (name : List ℕ) (root : Root) (ending : Endin
 
 -- ---- what becomes of the bytes
 
--- On a disk that was synced nothing changes but the cell after the journal's records, in what reads give and in what a crash
--- leaves at any moment, whatever the disk holds.
-abbrev pub ChangesNextAlone : JournalValue → DiskView → DiskView → Type 0
-ChangesNextAlone journal old new =
-    IsDurable old → Known old.content (λ given.
-    KnownWith new.content (SameButNext journal given) × CrashLeaves (SameButNext journal given) old new)
+-- Nothing changes but the cell after the journal's records, whatever the disk holds.
+pub record ChangesNextAlone (journal : JournalValue) (old new : DiskView) : Type 0 where
+  -- At any moment a crash leaves an image from before, or one but for the cell.
+  pub leaves : Known old.content (λ given. CrashLeaves (SteppedFrom (SameButNext journal) old) old new)
+  -- Of a disk that was synced reads give, and a crash leaves, what they gave, but for the cell.
+  pub synced : IsDurable old → Known old.content (λ given.
+      KnownWith new.content (SameButNext journal given) × CrashLeaves (SameButNext journal given) old new)

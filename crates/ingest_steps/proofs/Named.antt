@@ -94,6 +94,7 @@ module _ (name : List ℕ) (root : Root) (t : Tables) where
     number = is;
     below = below;
     tables_are = tables;
+    root_right = right;
     can = can_put may below;
     represents = λ store known keeps. subst (Represents (with_put name root store) known) (sym tables) (represents_with store known keeps);
     runs = λ size known runs. record {

@@ -1,7 +1,7 @@
 -- When a name is given a root, and what that makes of the tables and of the disk (docs/MODEL.md, 'Steps').
 use Rattle.std.specs.Prelude.{◌≡◌, ◌⊎◌, ℕ, suc, ◌-◌, ◌^◌, ◌<◌, ◌≤◌, List, Option}
 use Rattle.base_model.specs.Known.{Known, KnownWith}
-use Rattle.disk_format.specs.Cells.{Root, RecordValue, IsName}
+use Rattle.disk_format.specs.Cells.{Root, RecordValue, IsName, IsRoot}
 use Rattle.disk_format.specs.Cells.Change.{Put}
 use Rattle.disk_format.specs.Layout.{half_cells}
 use Rattle.dd_disk.specs.View.{DiskView, IsDurable, CrashLeaves, SteppedFrom}
@@ -60,11 +60,12 @@ abbrev pub tables_with : RecordValue → Tables → Tables
 tables_with r t = record t { journal = with_record r t.journal; names = names_with r t.names }
 
 -- The tables are those of before, with a root under a name: of each store that they were those of, the name could be put,
--- and they are those of the store with it.
+-- and they are those of the store with it. With `root_right` that is a step of the store.
 pub record IsNamed (old : Tables) (name : List ℕ) (root : Root) (new : Tables) (sequence : ℕ) : Type 0 where
   pub number : sequence ≡ suc old.journal.last
   pub below : old.journal.last < 2 ^ 64 - 1
   pub tables_are : new ≡ tables_with (put_after_last old name root) old
+  pub root_right : IsRoot root
   pub can : (store : Store) → RepresentsNames store old → CanPut name store
   pub represents : (store : Store) (known : Option PlaceMap) → Represents store known old
       → Represents (with_put name root store) known new

@@ -137,3 +137,7 @@ held_fit kind store m image offset (s ∷ ss) (h ∷ hads) index had fit =
     by_kind : (k : Kind) (place : Place) → FitsHad k s.bytes (Some place) image → FitsCopy k s place image
     by_kind kinds.Leaf place fits = fits
     by_kind kinds.Tree place fits = fits
+
+pub held_all : (size : ℕ) (known : Option PlaceMap) (old new : DiskView) (kind : Kind) (ss : List Segment) (hads : List (Option Place)) → FitSoFar size known (Shows old new) kind ss hads
+    → Shows old new (λ image. (store : Store) (m : PlaceMap) → known ≡ Some m → IsIndexOf store.held m → AllByRecursion (FitsHeld kind store image) ss)
+held_all size known old new kind ss hads so_far = weaker old new (λ image sized fit store m is index. held_fit kind store m image 0 ss hads index (so_far.had.had m is) fit) so_far.fit

@@ -1,8 +1,7 @@
 -- Changes of an index, one after the other.
-use Rattle.std.proofs.Common.{◌≡◌, ℕ, ◌+◌, ◌≤◌, List, length, Option, Some, None, inl, inr, refl, sym, ◌∙◌, ap, subst, arith}
-use Rattle.base_model.specs.Bytes.{range}
+use Rattle.std.proofs.Common.{◌≡◌, ℕ, ◌≤◌, List, Option, Some, None, inl, inr, refl, sym, ◌∙◌, subst, arith}
 use Rattle.disk_format.specs.Layout.{size_of, slot_at}
-use Rattle.dd_disk.specs.View.{DiskView, IsLater, CrashLeaves, SteppedFrom}
+use Rattle.dd_disk.specs.View.{DiskView, IsLater, SteppedFrom}
 use Rattle.dd_disk.specs.Ending.{Ending, CountsFault}
 use Rattle.dd_disk.specs.Writes.{Both}
 use Rattle.dd_disk.proofs.Ended.{counts_on}

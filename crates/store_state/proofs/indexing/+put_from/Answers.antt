@@ -1,7 +1,6 @@
-use Rattle.std.proofs.Common.{◌≡◌, None, Err, List, ℕ, length, ap, subst, sym, ◌∙◌, arith, refl}
+use Rattle.std.proofs.Common.{◌≡◌, None, Err, length, ap, subst, sym, arith, refl}
 use Rattle.std.specs.FinMap as finite
 use Rattle.base_model.proofs.Outcome.{map_err, passed_on}
-use Rattle.container_meta.specs.declared.entry.Entry.{Entry}
 use Rattle.disk_format.specs.Layout.{slot_at}
 use Rattle.dd_disk.specs.Ending.{Done, Refused, ending, ending_of}
 use Rattle.dd_disk.proofs.Moves.{passed}

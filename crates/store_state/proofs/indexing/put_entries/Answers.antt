@@ -1,4 +1,4 @@
-use Rattle.std.proofs.Common.{◌≡◌, List, length, refl, ap, subst, sym, ◌∙◌}
+use Rattle.std.proofs.Common.{List, length, refl, ap, subst, sym, ◌∙◌}
 use Rattle.container_meta.specs.declared.entry.Entry.{Entry}
 use Rattle.container_meta.specs.declared.kind.Kind.{Kind}
 use Rattle.container_meta.specs.Spelling.{header_of}

@@ -1,6 +1,9 @@
+pub mod Changed
+pub mod Compared
 mod Entered
 pub mod Few
-pub mod Changed
 pub mod Indexed
 mod Newest
 pub mod Parts
+pub mod Room
+pub mod Taken

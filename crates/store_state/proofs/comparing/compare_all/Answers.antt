@@ -59,9 +59,14 @@ loop-i-preserved g c =
     let next = more old.size known old mid new filled.kind (take i filled.segments) (take (i + 1) filled.segments) s c.loop-i.before.items c.push.new.self.items c.in_ok-had.had is c.in_ok-push.ensures.items inv.0.only one.reads.only.later inv.5
     (subst (λ (n : ℕ). IfSome c.in_ok-had.had (IsPlace n)) inv.0.only.later.size_is one.had.0)
     (λ m known_is. on c.in_ok-had.had (finite.get m (key_of (kind_byte c.kind-kind.result) c.digest_at-digest.result)) (finite.get m (segment_key filled.kind s))
-      (one.had.1 m (on mid_known known (Some m) inv.1 known_is)) (ap (finite.get m) key_is)) fits in
-    (reads_on Done old mid new inv.0 one.reads, on (g.X.Index.places c.compare_one.new.index new.content) mid_known known one.map inv.1, one.served, on (length c.compare_one.new.buf) (length c.loop-i.buf) (length c.args.buf.now) one.size inv.3, inv.4,
-      next)
+    (one.had.1 m (on mid_known known (Some m) inv.1 known_is)) (ap (finite.get m) key_is)) fits in (
+      reads_on Done old mid new inv.0 one.reads,
+      on (g.X.Index.places c.compare_one.new.index new.content) mid_known known one.map inv.1,
+      one.served,
+      on (length c.compare_one.new.buf) (length c.loop-i.buf) (length c.args.buf.now) one.size inv.3,
+      inv.4,
+      next,
+    )
 
 pub returns-clause-held : goal.returns-clause-held
 returns-clause-held g c =

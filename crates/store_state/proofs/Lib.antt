@@ -6,4 +6,5 @@ pub mod Indexed
 mod Newest
 pub mod Parts
 pub mod Room
+pub mod Serving
 pub mod Taken

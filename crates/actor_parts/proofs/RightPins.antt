@@ -1,31 +1,10 @@
 -- What holds of pins is kept where one is added or taken away.
-use Rattle.std.proofs.Common.{◌≡◌, ◌&&◌, ◌==◌, Bool, true, false, cond, List, ℕ, Option, None, Some, IfSome, IsTrue, rules, refl, sym, ap, subst, ◌∙◌}
+use Rattle.std.proofs.Common.{◌≡◌, Bool, true, false, cond, List, ℕ, Option, None, Some, Result, Ok, Err, OnOk, OnErr, rules, sym, ap, subst, ◌∙◌}
 use Rattle.std.specs.Ordering.{nat_cmp, eq_by_cmp}
 use Rattle.std.specs.Cmp.Lexicographic.{slice_cmp, nat_list_cmp_total}
 use Rattle.std.specs.FinMap as finite
-use Rattle.std.proofs.lemmas.Bool.{eqb-true}
 use Rattle.actor_parts.specs.declared.pins.Pin.{Pin}
-use Rattle.actor_parts.specs.PinMap.{PinMap, IsPin, ArePins, is_pin}
-
--- what is found is right
-pub found_right : (found : Option Pin) → ((pin : Pin) → found ≡ Some pin → IsPin pin) → IfSome found IsPin
-found_right None each = tt
-found_right (Some pin) each = each pin refl
-
-same_pin : (a b : Pin) → (a.level == b.level) ≡ true → (a.length == b.length) ≡ true → a ≡ b
-same_pin a b level len =
-    ap (λ (l : ℕ). record { level = l; length = a.length }) (eqb-true a.level b.level level) ∙ ap (λ (n : ℕ). record { level = b.level; length = n }) (eqb-true a.length b.length len)
-
-both_true : (a b : Bool) → (a && b) ≡ true → (a ≡ true) × (b ≡ true)
-both_true true b is = (refl, is)
-both_true false b is = cc
-
--- and what says the same
-pub told_right : (found : Option Pin) (pin : Pin) → ((p : Pin) → found ≡ Some p → IsPin p) → is_pin pin found ≡ true → IsPin pin
-told_right None pin each is = cc
-told_right (Some p) pin each is =
-    let same = both_true (p.level == pin.level) (p.length == pin.length) is in
-    subst IsPin (same_pin p pin same.0 same.1) (each p refl)
+use Rattle.actor_parts.specs.PinMap.{PinMap, IsPin, ArePins}
 
 none_some : (a : Pin) → None ≡ Some a → ⊥
 none_some a is = cc
@@ -45,6 +24,12 @@ pub added_right : (pins : PinMap) (key : List ℕ) (pin : Pin) → ArePins pins 
 added_right pins key pin are right q p found =
     given (eq_by_cmp (slice_cmp nat_cmp) q key) (Some pin) (finite.get pins q) (λ x is. subst IsPin (some_is pin x is) right) (are q) p
     (sym (finite.get-insert nat_list_cmp_total pins key pin q) ∙ found)
+
+-- or where it could not be added
+pub tried_right : {T E : Type 0} (result : Result T E) (old new : PinMap) (key : List ℕ) (pin : Pin) → ArePins old → IsPin pin → OnOk result (new ≡ finite.insert old key pin)
+    → OnErr result (new ≡ old) → ArePins new
+tried_right (Ok x) old new key pin are right ok err = subst ArePins (sym ok) (added_right old key pin are right)
+tried_right (Err e) old new key pin are right ok err = subst ArePins (sym err) are
 
 pub removed_right : (pins : PinMap) (key : List ℕ) → ArePins pins → ArePins (finite.remove pins key)
 removed_right pins key are q p found =

@@ -8,6 +8,7 @@ use Rattle.dd_disk.specs.Writes.{Both}
 use Rattle.dd_disk.proofs.Ended.{counts_on}
 use Rattle.dd_disk.proofs.Later.{later_here, later_on, leaves_on, leaves_weaker, reads_here, reads_leave}
 use Rattle.segment_index.specs.Changes.{SameBefore, Changes}
+use Rattle.store_state.specs.Settled.{KeepsWhatCounts}
 
 same_here : (place : ℕ) (a : List ℕ) → SameBefore place a a
 same_here place a = record { size = refl; before = λ p n within. refl }
@@ -78,3 +79,7 @@ lifted owned serves law e old new served changes slots size_is =
           ]) changes.leaves;
       faults_are = changes.faults_are;
     }
+
+-- so what counts is as it was
+pub keeps : (slots : ℕ) (e : Ending) (old new : DiskView) → Changes (slot_at slots) e old new → KeepsWhatCounts slots old new
+keeps slots e old new changes = record { content_is = changes.content_is; leaves = changes.leaves }

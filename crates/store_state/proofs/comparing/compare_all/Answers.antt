@@ -56,6 +56,11 @@ loop-i-preserved g c =
     let fits = subst (λ (k : Kind). Shows mid new (FitsHad k s.bytes c.in_ok-had.had)) inv.4 (subst (λ (l : List ℕ). Shows mid new (FitsHad c.kind-kind.result l c.in_ok-had.had)) c.bytes_of.ensures one.fit) in
     let next = more old.size known old mid new filled.kind (take i filled.segments) (take (i + 1) filled.segments) s c.loop-i.before.items c.in_ok-had.had is inv.0.only one.reads.only.later inv.5
     (subst (λ (n : ℕ). IfSome c.in_ok-had.had (IsPlace n)) inv.0.only.later.size_is one.had.0)
-    (λ m known_is. one.had.1 m (inv.1 ∙ known_is) ∙ ap (finite.get m) key_is) fits in
-    (reads_on Done old mid new inv.0 one.reads, one.map ∙ inv.1, one.served, one.size ∙ inv.3, inv.4,
-      subst (λ (l : List (Option Place)). FitSoFar old.size known (Shows old new) filled.kind (take (i + 1) filled.segments) l) (sym c.in_ok-push.ensures.items) next)
+    (λ m known_is. one.had.1 m (inv.1 ∙ known_is) ∙ ap (finite.get m) key_is) fits in (
+      reads_on Done old mid new inv.0 one.reads,
+      one.map ∙ inv.1,
+      one.served,
+      one.size ∙ inv.3,
+      inv.4,
+      subst (λ (l : List (Option Place)). FitSoFar old.size known (Shows old new) filled.kind (take (i + 1) filled.segments) l) (sym c.in_ok-push.ensures.items) next,
+    )

@@ -23,10 +23,10 @@ use Rattle.refusals.specs.declared.refusal.Refusal.TheVariants.{Memory, DiskRead
 use Rattle.segment_index.specs.Places.{KnownMap, IsPlace}
 use Rattle.store_model.specs.Image.{Store}
 use Rattle.store_model.specs.Indexing.{entry_key}
-use Rattle.store_model.specs.Slots.{Copy, IsIndexOf, newest}
+use Rattle.store_model.specs.Slots.{Copy, IsIndexOf}
 use Rattle.store_model.specs.Steps.{FitsCopy, FitsHeld}
-use Rattle.store_state.specs.Comparing.{IsSameRefusal, IsUnlike, IsOneRefusal, FitsBytes, FitsHad, AllFit, FitSoFar, IsFirstUnlike, IsAllRefusal}
-use Rattle.store_state.specs.Indexing.{HaveHad, AreHad}
+use Rattle.store_state.specs.Comparing.{IsSameRefusal, IsUnlike, IsOneRefusal, FitsHad, AllFit, FitSoFar, IsFirstUnlike, IsAllRefusal}
+use Rattle.store_state.specs.Indexing.{HaveHad}
 
 -- what was found after calls that only read
 pub same_since : (old mid new : DiskView) → OnlyReads old mid → (kind : Kind) (digest offered : List ℕ) (place : Place) (refusal : Refusal)
@@ -70,11 +70,11 @@ pub length-entries : (offset : ℕ) (segments : List Segment) → length (entrie
 length-entries offset [] = refl
 length-entries offset (s ∷ ss) = ap suc (length-entries (offset + length s.bytes) ss)
 
-pub more : (size : ℕ) (known : Option PlaceMap) (old mid new : DiskView) (kind : Kind) (ss next : List Segment) (s : Segment) (hads : List (Option Place)) (had : Option Place)
-    → next ≡ ss ++ s ∷ [] → OnlyReads old mid → IsLater mid new → FitSoFar size known (Shows old mid) kind ss hads
+pub more : (size : ℕ) (known : Option PlaceMap) (old mid new : DiskView) (kind : Kind) (ss next : List Segment) (s : Segment) (hads after : List (Option Place)) (had : Option Place)
+    → next ≡ ss ++ s ∷ [] → after ≡ hads ++ had ∷ [] → OnlyReads old mid → IsLater mid new → FitSoFar size known (Shows old mid) kind ss hads
     → IfSome had (IsPlace size) → KnownMap known (λ m. had ≡ finite.get m (segment_key kind s)) → Shows mid new (FitsHad kind s.bytes had)
-    → FitSoFar size known (Shows old new) kind next (hads ++ had ∷ [])
-more size known old mid new kind ss next s hads had is reads later so_far lies found fits =
+    → FitSoFar size known (Shows old new) kind next after
+more size known old mid new kind ss next s hads after had is after_is reads later so_far lies found fits = subst (FitSoFar size known (Shows old new) kind next) (sym after_is) (
     let many : length hads ≡ length ss = so_far.had.many ∙ length-entries 0 ss in
     let pushed : entries_from 0 next ≡ entries_from 0 ss ++ entry_for (0 + bytes_in ss) s ∷ [] = ap (entries_from 0) is ∙ entries_from-push 0 ss s in
     record {
@@ -86,7 +86,7 @@ more size known old mid new kind ss next s hads had is reads later so_far lies f
       };
       fit = subst (λ (l : List Segment). Shows old new (AllFit kind l (hads ++ had ∷ []))) (sym is)
           (weaker old new (λ image sized fit. fit_more kind ss hads s had image many fit.0 fit.1) (both old mid new so_far.fit reads fits later));
-    }
+    })
 
 -- none yet
 pub none_yet : (size : ℕ) (known : Option PlaceMap) (v : DiskView) (kind : Kind) (hads : List (Option Place)) → hads ≡ [] → FitSoFar size known (Shows v v) kind [] hads
@@ -138,3 +138,7 @@ held_fit kind store m image offset (s ∷ ss) (h ∷ hads) index had fit = (
     by_kind : (k : Kind) (place : Place) → FitsHad k s.bytes (Some place) image → FitsCopy k s place image
     by_kind kinds.Leaf place fits = fits
     by_kind kinds.Tree place fits = fits
+
+pub held_all : (size : ℕ) (known : Option PlaceMap) (old new : DiskView) (kind : Kind) (ss : List Segment) (hads : List (Option Place)) → FitSoFar size known (Shows old new) kind ss hads
+    → Shows old new (λ image. (store : Store) (m : PlaceMap) → known ≡ Some m → IsIndexOf store.held m → AllByRecursion (FitsHeld kind store image) ss)
+held_all size known old new kind ss hads so_far = weaker old new (λ image sized fit store m is index. held_fit kind store m image 0 ss hads index (so_far.had.had m is) fit) so_far.fit

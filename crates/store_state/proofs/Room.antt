@@ -1,6 +1,5 @@
 -- The index of a running store has room for the keys of one more container.
-use Rattle.std.proofs.Common.{◌≡◌, ℕ, List, length, Option, ap, sym, ◌∙◌, arith}
-use Rattle.std.specs.FinMap as finite
+use Rattle.std.proofs.Common.{ℕ, length, Option, arith}
 use Rattle.container_meta.specs.Places.{PlaceMap}
 use Rattle.container_meta.specs.Spelling.{HeaderValue, IsHeader}
 use Rattle.store_model.proofs.IndexSize.{len_index, entries_within, entries_few, free_within}

@@ -1,5 +1,5 @@
 -- The table of slots, once a container is in one of them.
-use Rattle.std.proofs.Common.{◌≡◌, ℕ, zero, suc, ◌<◌, ◌≤◌, List, [], ◌∷◌, length, map, max, set, Option, Some, None, refl, ap, arith}
+use Rattle.std.proofs.Common.{◌≡◌, ℕ, zero, suc, ◌≤◌, List, [], ◌∷◌, length, map, max, set, Option, Some, None, refl, ap, arith}
 use Rattle.container_meta.specs.Spelling.{HeaderValue}
 use Rattle.store_model.specs.Slots.{ids_of, last_id, with_slot}
 use Rattle.store_state.specs.declared.slot_table.SlotCount.{SlotCount}

@@ -1,4 +1,4 @@
-use Rattle.std.proofs.Common.{◌≡◌, Option, None, ap, sym, subst, ◌∙◌}
+use Rattle.std.proofs.Common.{◌≡◌, Option, Some, None, ap, sym, subst, ◌∙◌}
 use Rattle.std.specs.Prelude.{IfSome}
 use Rattle.std.specs.FinMap as finite
 use Rattle.base_model.proofs.Outcome.{passed_on}
@@ -30,7 +30,7 @@ returns-in_err-read_same-in-Some-clause-refused g c =
 pub returns-in_ok-read_same-in-Some-clause-fit : goal.returns-in_ok-read_same-in-Some-clause-fit
 returns-in_ok-read_same-in-Some-clause-fit g c =
     let view = g.D.Disk.view in
-    since (view c.args.disk.now) (view c.find.new.disk) (view c.read_same.new.disk) c.in_ok-place.ensures.reads.only c.in_ok-read_same-in-Some.ensures.same
+    since (view c.args.disk.now) (view c.find.new.disk) (view c.read_same.new.disk) {P = FitsHad c.args.kind c.args.offered.now (Some c.in-Some.place)} c.in_ok-place.ensures.reads.only c.in_ok-read_same-in-Some.ensures.same
 
 pub returns-in-None-clause-fit : goal.returns-in-None-clause-fit
 returns-in-None-clause-fit g c =

@@ -1,5 +1,4 @@
-use Rattle.std.proofs.Common.{◌≡◌, ◌<◌, ◌≤◌, ◌+◌, ◌*◌, List, [], length, get_or, refl, ap, sym, ◌∙◌, arith}
-use Rattle.disk_format.specs.declared.numbers.TheConstants.{MOST_ENTRIES}
+use Rattle.std.proofs.Common.{◌≤◌, List, [], length, get_or, refl, ap, ◌∙◌, arith}
 use Rattle.container_meta.specs.declared.entry.Entry.{Entry}
 use Rattle.container_meta.specs.Spelling.{header_of}
 use Rattle.container_meta.proofs.Cut.{cut}

@@ -1,4 +1,4 @@
-use Rattle.std.proofs.Common.{◌≡◌, length, take}
+use Rattle.std.proofs.Common.{◌≡◌, take}
 use Rattle.store_state.proofs.comparing.first_difference.Given as goal
 
 abbrev pub invariant-loop-i : goal.invariant-loop-i

@@ -167,8 +167,8 @@ pub fn read_same<D: Disk>(
     }
 }
 
-// The place of the copy of a segment that is offered, if there is one, which has to be the same.
-fn compare_one<D: Disk, X: Index>(
+/// The place of the copy of a segment that is offered, if there is one, which has to be the same.
+pub fn compare_one<D: Disk, X: Index>(
     disk: &mut D,
     index: &mut X,
     kind: Kind,
@@ -181,6 +181,7 @@ fn compare_one<D: Disk, X: Index>(
     ensures had { IfOk result (λ had. IfSome had (IsPlace (D.view disk.old).size)
         × KnownMap (X.places index.old (D.view disk.old).content) (λ m. had ≡ finite.get m (key_in (kind_byte kind) digest.now))) }
     ensures fit { IfOk result (λ had. Shows (D.view disk.old) (D.view disk.new) (FitsHad kind offered.now had)) }
+    ensures length { IfOk result (λ had. IfSome had (λ place. place.length ≡ length offered.now)) }
     ensures map { X.places index.new (D.view disk.new).content ≡ X.places index.old (D.view disk.old).content }
     ensures size { length buf.new ≡ length buf.old }
     ensures reads { Reads (ending blames result) (D.view disk.old) (D.view disk.new) }

@@ -25,7 +25,12 @@ fn unpinned_at(pins: &Pins, filled: &OpenContainer, i: usize) -> Option<Key>
     requires right { AreStepSegments filled.now.kind filled.now.segments }
     ensures { result ≡ first_not_in pins.now (children_by filled.now.kind (segment_at filled.now.segments i)) }
 {
-    first_unpinned_in(filled.kind(), entry_at(filled, i).level, filled.bytes_of(i), pins)
+    first_unpinned_in(
+        filled.kind(),
+        entry_at(filled, i).level,
+        filled.bytes_of(i),
+        pins,
+    )
 }
 
 // The first child, of the first segment that has one, that isn't among the pins.

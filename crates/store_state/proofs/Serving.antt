@@ -1,7 +1,5 @@
 -- The index of a store serves the store's disk.
-use Rattle.std.proofs.Common.{◌≡◌, ℕ, List, Some, subst, arith}
-use Rattle.std.specs.FinMap as finite
-use Rattle.container_meta.specs.declared.place.Place.{Place}
+use Rattle.std.proofs.Common.{ℕ, subst, arith}
 use Rattle.container_meta.specs.Places.{PlaceMap}
 use Rattle.segment_index.specs.Places.{IsPlace, HasPlaces}
 use Rattle.store_model.specs.Image.{Store, IsValidFor}

@@ -25,3 +25,6 @@ module _ (items parts : List Part) (number actor : ℕ) (same : items ≡ parts)
   pub part_set : (part : Part) → slice_set items number part ≡ with_part parts actor part
   unfolding with_part
   part_set part = rw (same, number_is) refl
+
+  pub there : length items ≡ ACTORS → number < ACTORS → actor < length parts
+  there many limit = rw (← same, ← number_is) (omega (arith, many, limit))

@@ -2,3 +2,4 @@ pub mod Apart
 pub mod Children
 pub mod Nodes
 pub mod Refilled
+pub mod RightPins

@@ -13,7 +13,9 @@ with_part parts actor part = slice_set parts actor part
 -- An actor is at what it was last given, and a part that another is given doesn't change that.
 pub record PartsAreApart : Type 0 where
   pub same : (parts : List Part) (actor : ℕ) (part : Part) → actor < length parts → part_of (with_part parts actor part) actor ≡ part
-  pub others : (parts : List Part) (actor other : ℕ) (part : Part) → other ≢ actor → part_of (with_part parts actor part) other ≡ part_of parts other
+  pub others : (parts : List Part) (actor other : ℕ) (part : Part) → other ≢ actor
+      → part_of (with_part parts actor part) other ≡ part_of parts other
   pub as_many : (parts : List Part) (actor : ℕ) (part : Part) → length (with_part parts actor part) ≡ length parts
-  pub replaced : (parts : List Part) (actor : ℕ) (first second : Part) → with_part (with_part parts actor first) actor second ≡ with_part parts actor second
+  pub replaced : (parts : List Part) (actor : ℕ) (first second : Part)
+      → with_part (with_part parts actor first) actor second ≡ with_part parts actor second
   pub unchanged : (parts : List Part) (actor : ℕ) → with_part parts actor (part_of parts actor) ≡ parts

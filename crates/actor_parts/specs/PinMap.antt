@@ -1,10 +1,18 @@
 -- The segments that are kept for an actor, by their keys.
-use Rattle.std.specs.Prelude.{ℕ, List, Bool, false, ◌&&◌, ◌==◌, Option, Some, None, refl}
+use Rattle.std.specs.Prelude.{◌≡◌, ◌≤◌, ℕ, List, Bool, true, false, ◌&&◌, ◌==◌, Option, Some, None, refl}
 use Rattle.std.specs.Ordering.{nat_cmp}
 use Rattle.std.specs.Cmp.Lexicographic.{slice_cmp}
 use Rattle.std.specs.Coded.{Coded, code_by, coded×, coded_list, coded_ℕ}
 use Rattle.std.specs.FinMap as finite
+use Rattle.disk_format.specs.Cells.{is_root_length, is_root_level}
 use Rattle.actor_parts.specs.declared.pins.Pin.{Pin}
+
+-- What may be said of a segment: of data, which has level 0, as many bytes as a segment has, from one on; of a node as many
+-- as a file has.
+pub record IsPin (pin : Pin) : Type 0 where
+  pub some : 1 ≤ pin.length
+  pub length_is : is_root_length pin.level pin.length ≡ true
+  pub level_is : is_root_level pin.level ≡ true
 
 -- from keys, in the order of their bytes, to what is said of their segments
 abbrev pub PinMap : Type 0
@@ -16,6 +24,10 @@ coded_pin =
 
 abbrev pub coded_pins : Coded PinMap
 coded_pins = finite.code (coded_list coded_ℕ) coded_pin
+
+-- what holds of the pins of an actor at every moment
+abbrev pub ArePins : PinMap → Type 0
+ArePins pins = (key : List ℕ) (pin : Pin) → finite.get pins key ≡ Some pin → IsPin pin
 
 -- one says what the other says
 abbrev pub is_pin : Pin → Option Pin → Bool

@@ -1,12 +1,13 @@
 -- What a segment says of itself and of its children, by its bytes (docs/FORMAT.md, 'Nodes').
 use Rattle.std.specs.Prelude.{◌≡◌, ℕ, ◌-◌, ◌==◌, if◌then◌else◌, List, [], ◌∷◌, length, map, Option, Some, None}
+use Rattle.std.specs.List.{AllByRecursion}
 use Rattle.base_model.specs.Bytes.{key_of}
 use Rattle.container_meta.specs.declared.kind.Kind.{Kind}
 use Rattle.container_meta.specs.declared.kind.Kind.TheVariants.{Leaf, Tree}
 use Rattle.container_meta.specs.Format.{kind_byte}
 use Rattle.container_meta.specs.Segments.{Segment, KindSegment}
 use Rattle.merkle_file.specs.declared.node.Child.{Child}
-use Rattle.merkle_file.specs.Node.{total}
+use Rattle.merkle_file.specs.Node.{Contents, spelling, total}
 use Rattle.merkle_file.specs.Reading.{IsNodeBytes, contents_in}
 use Rattle.actor_parts.specs.declared.pins.Pin.{Pin}
 use Rattle.actor_parts.specs.PinMap.{PinMap, has_pin}
@@ -23,6 +24,14 @@ IsOfKind Tree segment = IsNodeSegment segment
 
 abbrev pub IsStepSegment : KindSegment → Type 0
 IsStepSegment s = IsOfKind s.kind s.segment
+
+-- the segment of a node: its level, and its one spelling
+abbrev pub node_segment : Contents → KindSegment
+node_segment n = record { kind = Tree; segment = record { level = n.level; bytes = spelling n } }
+
+-- each segment of a container may stand in a step
+abbrev pub AreStepSegments : Kind → List Segment → Type 0
+AreStepSegments kind segments = AllByRecursion (λ segment. IsOfKind kind segment) segments
 
 -- what is said of a segment of a kind: of data its length, of a node how many bytes of the file lie below it
 abbrev pub pin_by : Kind → Segment → Pin

@@ -1,11 +1,10 @@
 -- Steps as contracts see them: what is lent, by its value.
 use Rattle.std.specs.Prelude.{ℕ, ◌≤◌, List, length}
-use Rattle.std.specs.List.{AllByRecursion}
 use Rattle.disk_format.specs.Cells.{Root}
 use Rattle.container_meta.specs.Segments.{KindSegment, Contents}
 use Rattle.actor_parts.specs.declared.step.Step as steps
 use Rattle.actor_parts.specs.declared.step.Step.TheVariants as asked
-use Rattle.actor_parts.specs.Segments.{IsStepSegment}
+use Rattle.actor_parts.specs.Segments.{IsStepSegment, AreStepSegments}
 
 pub data StepValue : Type 0 where
   Begin : StepValue
@@ -32,6 +31,5 @@ step_value asked.Stat = Stat
 -- What may be asked: a segment of a tree is a node of its level, and a container holds a segment at least.
 abbrev pub IsStep : StepValue → Type 0
 IsStep (Claim seg) = IsStepSegment seg
-IsStep (Seal filled) =
-    (1 ≤ length filled.segments) × AllByRecursion (λ segment. IsStepSegment (record { kind = filled.kind; segment = segment })) filled.segments
+IsStep (Seal filled) = (1 ≤ length filled.segments) × AreStepSegments filled.kind filled.segments
 IsStep step = Unit {0}

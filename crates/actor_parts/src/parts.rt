@@ -1,5 +1,5 @@
 //! What all actors are at.
-ghost use Rattle.std.specs.Prelude.{◌≡◌, IfOk, replicate};
+ghost use Rattle.std.specs.Prelude.{◌≡◌, ◌<◌, IfOk, length, replicate};
 ghost use Rattle.actor_parts.specs.declared.actor.TheConstants.{ACTORS};
 ghost use Rattle.actor_parts.specs.declared.part.Part.TheVariants.{Idle};
 ghost use Rattle.actor_parts.specs.Parts.{part_of, with_part, PartsAreApart};
@@ -43,14 +43,16 @@ impl Parts {
 
     /// What an actor is at.
     pub fn part(&self, actor: Actor) -> &Part
-        ensures { result.now ≡ part_of self.now actor }
+        ensures part { result.now ≡ part_of self.now actor }
+        ensures there { actor < length self.now }
     {
         &self.parts[actor.number() as usize]
     }
 
     /// Gives an actor another part. What it was at is let go.
     pub fn set(&mut self, actor: Actor, part: Part)
-        ensures { self.new ≡ with_part self.old actor part }
+        ensures parts { self.new ≡ with_part self.old actor part }
+        ensures there { actor < length self.old }
     {
         self.parts[actor.number() as usize] = part;
     }
@@ -59,6 +61,7 @@ impl Parts {
     pub fn take(&mut self, actor: Actor) -> Part
         ensures taken { result ≡ part_of self.old actor }
         ensures left { self.new ≡ with_part self.old actor Idle }
+        ensures there { actor < length self.old }
     {
         std::mem::replace(&mut self.parts[actor.number() as usize], Part::Idle)
     }

@@ -1,7 +1,7 @@
 //! Which segments an actor has shown to be held.
-ghost use Rattle.std.specs.Prelude.{◌≡◌, None, OnOk, OnErr};
+ghost use Rattle.std.specs.Prelude.{◌≡◌, None, IfSome, IsTrue, OnOk, OnErr};
 ghost use Rattle.std.specs.FinMap as finite;
-ghost use Rattle.actor_parts.specs.PinMap.{has_pin};
+ghost use Rattle.actor_parts.specs.PinMap.{IsPin, has_pin};
 
 use container_meta::{Key, KeyMap};
 use std::alloc::{AllocError, Global};
@@ -30,6 +30,10 @@ impl Model for Pins {
     ghost coded = { coded_pins };
 
     ghost view = { λ p. p.pins };
+
+    ghost use Rattle.actor_parts.specs.PinMap.{ArePins};
+
+    ghost invariant = { λ p. ArePins p.pins };
 }
 
 impl Pins {
@@ -44,14 +48,16 @@ impl Pins {
 
     /// What is said of the segment of a key.
     pub fn get(&self, key: &Key) -> Option<Pin>
-        ensures { result ≡ finite.get self.now key.now }
+        ensures found { result ≡ finite.get self.now key.now }
+        ensures right { IfSome result IsPin }
     {
         self.pins.get(key)
     }
 
     /// Whether the segment of a key is there, with that level and length.
     pub fn has(&self, key: &Key, pin: &Pin) -> bool
-        ensures { result ≡ has_pin self.now key.now pin.now }
+        ensures there { result ≡ has_pin self.now key.now pin.now }
+        ensures right { IsTrue result → IsPin pin.now }
     {
         match self.get(key) {
             Some(found) => found.level == pin.level && found.length == pin.length,
@@ -62,6 +68,7 @@ impl Pins {
     /// Says this of the segment of a key, instead of what was said before. It fails for want of memory alone, leaves the
     /// pins then as they were, and never fails where the key is there.
     pub fn add(&mut self, key: &Key, pin: Pin) -> Result<(), AllocError>
+        requires { IsPin pin }
         ensures ok { OnOk result (self.new ≡ finite.insert self.old key.now pin) }
         ensures err { OnErr result (self.new ≡ self.old) }
         ensures absent { OnErr result (finite.get self.old key.now ≡ None) }

@@ -1,8 +1,6 @@
 //! Segments of trees.
 ghost use Rattle.std.specs.Prelude.{◌≡◌, IfOk};
-ghost use Rattle.container_meta.specs.declared.kind.Kind.TheVariants.{Tree};
-ghost use Rattle.merkle_file.specs.Node.{spelling};
-ghost use Rattle.actor_parts.specs.Segments.{IsStepSegment};
+ghost use Rattle.actor_parts.specs.Segments.{IsStepSegment, node_segment};
 
 use container_meta::Seg;
 use merkle_file::Node;
@@ -10,7 +8,7 @@ use std::alloc::{AllocError, Global};
 
 /// The segment of a node: its level, and its one spelling. It fails for want of memory alone.
 pub fn node_seg(alloc: Global, node: &Node) -> Result<Seg, AllocError>
-    ensures segment { IfOk result (λ s. s ≡ record { kind = Tree; segment = record { level = node.now.level; bytes = spelling node.now } }) }
+    ensures segment { IfOk result (λ s. s ≡ node_segment node.now) }
     ensures right { IfOk result IsStepSegment }
 {
     let bytes = node.encode(alloc)?;

@@ -4,14 +4,16 @@ use Rattle.base_model.specs.Fault.{Rose}
 use Rattle.base_model.specs.Known.{Known, KnownWith}
 use Rattle.dd_disk.specs.View.{DiskView}
 use Rattle.dd_disk.specs.Ending.{ending_of, CountsFault}
+use Rattle.dd_disk.specs.Shows.{Shows}
 use Rattle.dd_io.specs.Flow.{SourceView, SinkView}
 use Rattle.refusals.specs.declared.refusal.Refusal.{Refusal}
-use Rattle.refusals.specs.declared.refusal.Refusal.TheVariants.{Memory, NoFile, BadName, TooMany, TooLong, Full, Clash, DiskRead, DiskWrite, Corrupt, Missing, Numbers, NotAStore, Version, Damaged, AlreadyStore, WrongSize}
+use Rattle.refusals.specs.declared.refusal.Refusal.TheVariants.{Memory, NoFile, BadName, TooMany, TooLong, Full, Clash, WrongPart, DiskRead, DiskWrite, Stopped, Corrupt, Missing, Numbers, NotAStore, Version, Damaged, Unpinned, AlreadyStore, WrongSize}
 use Rattle.reply_text.specs.declared.ending.Ending.{Ending}
 use Rattle.reply_text.specs.declared.ending.Ending.TheVariants.{Words, Source, Sink, Refused}
 use Rattle.reply_text.specs.Table.{status_of}
+use Rattle.store_model.specs.Refusals.{FitsPut}
 use Rattle.backup_engine.specs.Line.{CommandLine, Format, Ingest, Restore}
-use Rattle.backup_engine.specs.Clauses.{TookEffect, Replies, IsGivenUp, IsCaused, IsNoted, disk_blame, may_write}
+use Rattle.backup_engine.specs.Clauses.{TookEffect, Replies, IsRefused, IsGivenUp, IsCaused, IsNoted, disk_blame, may_write}
 use Rattle.backup_engine.specs.Effects.{IsDone, EndsDurable, IsLeftBy, IsKeptBy, KeepsDisk, KeepsSource, BlamesNoImage, Did, GaveUp, Leaves}
 use Rattle.backup_engine.specs.TopCall.{Ended, Promise}
 use Rattle.backup_engine.proofs.Crashes.{some_none, some_same}
@@ -41,14 +43,17 @@ refusal_status TooMany = (λ e. omega arith, λ e. omega arith, λ e. omega arit
 refusal_status TooLong = (λ e. omega arith, λ e. omega arith, λ e. omega arith)
 refusal_status (Full free) = (λ e. omega arith, λ e. omega arith, λ e. omega arith)
 refusal_status (Clash key at) = (λ e. omega arith, λ e. omega arith, λ e. omega arith)
+refusal_status (WrongPart part) = (λ e. omega arith, λ e. omega arith, λ e. omega arith)
 refusal_status DiskRead = (λ e. omega arith, λ e. omega arith, λ e. omega arith)
 refusal_status DiskWrite = (λ e. omega arith, λ e. omega arith, λ e. omega arith)
+refusal_status (Stopped at) = (λ e. omega arith, λ e. omega arith, λ e. omega arith)
 refusal_status (Corrupt slot offset count want got) = (λ e. omega arith, λ e. omega arith, λ e. omega arith)
 refusal_status (Missing key) = (λ e. omega arith, λ e. omega arith, λ e. omega arith)
 refusal_status Numbers = (λ e. omega arith, λ e. omega arith, λ e. omega arith)
 refusal_status (NotAStore gate magic) = (λ e. omega arith, λ e. omega arith, λ e. omega arith)
 refusal_status (Version n) = (λ e. omega arith, λ e. omega arith, λ e. omega arith)
 refusal_status (Damaged at why) = (λ e. omega arith, λ e. omega arith, λ e. omega arith)
+refusal_status (Unpinned key) = (λ e. omega arith, λ e. omega arith, λ e. omega arith)
 refusal_status AlreadyStore = (λ e. omega arith, λ e. omega arith, λ e. omega arith)
 refusal_status (WrongSize want got) = (λ e. omega arith, λ e. omega arith, λ e. omega arith)
 
@@ -79,6 +84,19 @@ own_status command disk disk_now source source_now Sink given = absurd given
 own_status command disk disk_now source source_now Source given = (λ e. omega arith, λ e. omega arith, λ e. omega arith)
 own_status command disk disk_now source source_now (Refused refusal) given = refusal_status refusal
 
+-- a file that is not put in is not refused by a store that was stopped
+not_put : (name bytes : List ℕ) (at : ℕ) → FitsPut name bytes (Stopped at) → ⊥
+not_put name bytes at (inl place) = place.1
+not_put name bytes at (inr commit) = commit
+
+-- no command finds a store that was stopped, since each opens its own
+not_stopped : (command : CommandLine) (shown : (List ℕ → Type 0) → Type 0) (size : ℕ) (left left_now : Option (List ℕ)) (at : ℕ) → IsRefused shown size left left_now command (Stopped at) → ⊥
+not_stopped (Format slots) shown size left left_now at given = given
+not_stopped (Ingest name) shown size left left_now at (inl opening) = opening.0
+not_stopped (Ingest name) shown size left left_now at (inr taking) = not_put name taking.0 at taking.2
+not_stopped (Restore name) shown size left left_now at (inl opening) = opening
+not_stopped (Restore name) shown size left left_now at (inr reading) = reading.1.1
+
 -- where no device failed and nothing wrong was found, it was refused, or found no memory
 refused_only : (command : CommandLine) (disk disk_now : DiskView) (source source_now : SourceView) (ending : Ending) → IsGivenUp command disk disk_now source source_now ending
     → CountsFault (ending_of (disk_blame ending)) disk.faults disk_now.faults → ¬ (Rose disk.faults disk_now.faults) → ¬ (Rose source.faults source_now.faults) → BlamesNoImage ending
@@ -89,6 +107,8 @@ refused_only command disk disk_now source source_now Source given counts whole f
 refused_only command disk disk_now source source_now (Refused Memory) given counts whole fed harmless = inr refl
 refused_only command disk disk_now source source_now (Refused DiskRead) given counts whole fed harmless = absurd (whole counts)
 refused_only command disk disk_now source source_now (Refused DiskWrite) given counts whole fed harmless = absurd (whole counts)
+refused_only command disk disk_now source source_now (Refused (Stopped at)) given counts whole fed harmless =
+    absurd (not_stopped command (Shows disk disk_now) disk.size source.left source_now.left at given)
 refused_only command disk disk_now source source_now (Refused (Corrupt slot offset count want got)) given counts whole fed harmless = absurd harmless
 refused_only command disk disk_now source source_now (Refused (Missing key)) given counts whole fed harmless = absurd harmless
 refused_only command disk disk_now source source_now (Refused (NotAStore gate magic)) given counts whole fed harmless = absurd harmless

@@ -91,6 +91,12 @@ abbrev pub IsRefused : NameMap → RecordValue → NameFault → Type 0
 IsRefused names r BadName = ¬ (IsName r.name)
 IsRefused names r fault = IsName r.name × HasNoPlace names r.name r.change fault
 
+-- and why a put is, of a name
+abbrev pub IsPutRefused : NameMap → List ℕ → NameFault → Type 0
+IsPutRefused names name BadName = ¬ (IsName name)
+IsPutRefused names name TooMany = IsName name × IsFull names name
+IsPutRefused names name fault = ⊥
+
 -- each record is taken by the names that those before it leave
 abbrev pub AreTaken : NameMap → List RecordValue → Type 0
 AreTaken names [] = Unit {0}

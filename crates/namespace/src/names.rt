@@ -3,7 +3,7 @@
 ghost use Rattle.std.specs.Prelude.{◌≡◌, ◌⊎◌, IfOk, IfErr, OnOk, OnErr, IsTrue, IsSome, None, not, map};
 ghost use Rattle.std.specs.FinMap as finite;
 ghost use Rattle.disk_format.specs.Cells.{IsName};
-ghost use Rattle.namespace.specs.Names.{HasRoom, IsFull, IsTaken, IsRefused, AreTaken, AreRefused, IsAnswer, AreNames, record_value};
+ghost use Rattle.namespace.specs.Names.{HasRoom, IsFull, IsTaken, IsRefused, IsPutRefused, AreTaken, AreRefused, IsAnswer, AreNames, record_value};
 ghost use Rattle.namespace.specs.Names.{put_of, names_with, names_after, names_given, NameMap};
 
 use crate::fault::NameFault;
@@ -62,6 +62,22 @@ impl Names {
         ensures full { IsTrue (not result) → IsFull self.now name.now }
     {
         self.has(name) || self.entries.len() < MOST_NAMES
+    }
+
+    /// Whether `apply` takes a put of a name, but for want of memory: `BadName` where it is none, then `TooMany` where it is
+    /// new and `MOST_NAMES` are there.
+    pub fn may_put(&self, name: &[u8]) -> Result<(), NameFault>
+        ensures named { OnOk result (IsName name.now) }
+        ensures room { OnOk result (HasRoom self.now name.now) }
+        ensures cause { IfErr result (IsPutRefused self.now name.now) }
+    {
+        if !is_name(name) {
+            return Err(NameFault::BadName);
+        }
+        if !self.has_room(name) {
+            return Err(NameFault::TooMany);
+        }
+        Ok(())
     }
 
     /// Whether `apply` takes a record, but for want of memory: `BadName` where its name is none, then `TooMany` for a

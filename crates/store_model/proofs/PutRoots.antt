@@ -98,7 +98,7 @@ module _ (image new : List ℕ) (store : Store) (right : Encodes image store) (r
   put_tree = tree_held store.held store.held image new put_newest
 
   -- what isn't of the records alone goes on
-  right_where : (records : List RecordValue) → HoldsRecords store.selector.half records new → Encodes new (record store { records = records })
+  pub right_where : (records : List RecordValue) → HoldsRecords store.selector.half records new → Encodes new (record store { records = records })
   right_where records holds = record {
     count = right.count;
     size = same.size ∙ right.size;

@@ -1,5 +1,5 @@
 -- Which files a disk image stands for (docs/MODEL.md, 'Images').
-use Rattle.std.specs.Prelude.{◌⊎◌, slice_get, ◌≡◌, ℕ, ◌+◌, ◌≤◌, List, [], ◌∷◌, length, Option, Some, None}
+use Rattle.std.specs.Prelude.{◌⊎◌, slice_get, ◌≡◌, ℕ, ◌+◌, ◌≤◌, List, [], ◌∷◌, length, Bool, IsTrue, Option, Some, None}
 use Rattle.std.specs.FinMap as finite
 use Rattle.std.specs.List.{AllByRecursion}
 use Rattle.base_model.specs.Bytes.{range}
@@ -62,6 +62,13 @@ pub record StandsFor (files : Files) (last : ℕ) (image : List ℕ) : Type 0 wh
   pub last_is : last ≡ last_sequence store
 
 -- ---- collisions
+
+-- A set of byte lists, by which ones are in it. Contracts speak of any such set; lemmas of any property.
+abbrev pub ByteSet : Type 0
+ByteSet = List ℕ → Bool
+
+abbrev pub IsIn : ByteSet → List ℕ → Type 0
+IsIn set bytes = IsTrue (set bytes)
 
 -- the bytes of an entry of a data container are among these
 abbrev pub IsAmong : (List ℕ → Type 0) → Kind → List ℕ → Type 0

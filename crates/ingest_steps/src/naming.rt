@@ -1,0 +1,139 @@
+//! Giving a name a root: what of it needs no actor.
+ghost use Rattle.std.specs.Prelude.{◌≡◌, ◌-◌, ◌^◌, ◌<◌, ◌≤◌, suc, OnOk, OnErr, IfOk, IfErr};
+ghost use Rattle.disk_format.specs.Cells.{Root as FileRoot, IsRoot};
+ghost use Rattle.disk_format.specs.Cells.Change.{Put};
+ghost use Rattle.disk_format.specs.Layout.{least_size};
+ghost use Rattle.dd_disk.specs.Ending.{ending};
+ghost use Rattle.dd_disk.specs.View.{IsDurable};
+ghost use Rattle.dd_disk.specs.Writes.{Writes};
+ghost use Rattle.dd_disk.specs.Moves.{Acts};
+ghost use Rattle.namespace.specs.Names.{IsTaken, record_value};
+ghost use Rattle.journal_cells.specs.Appending.{Appends, IsAppended};
+ghost use Rattle.journal_cells.specs.Faults.{IsWriteFault, blames as call_blamed};
+ghost use Rattle.journal_cells.specs.Journal.{Precedes};
+ghost use Rattle.refusals.specs.declared.refusal.Refusal.TheVariants.{Numbers};
+ghost use Rattle.store_state.specs.Refused.{blames};
+ghost use Rattle.ingest_steps.specs.Naming.{MayName, IsNameRefusal, IsAppendRefusal, IsNamed, PutsRoot, ChangesNextAlone};
+ghost use Rattle.ingest_steps.specs.Naming.{IsWriteRefusal, put_after_last, tables_with};
+
+use dd_disk::Disk;
+use disk_format::HALF_CELLS;
+use journal_cells::{CellFault, Journal};
+use namespace::{Change, NameFault, Record, Root};
+use refusals::Refusal;
+use std::alloc::{AllocError, Global};
+use store_state::Tables;
+
+/// Whether a name may be given a root. `BadName`; then `TooMany` where it is new and 512 are there, or the half that counts
+/// has its 1,024 records.
+pub fn may_name(tables: &Tables, name: &[u8]) -> Result<(), Refusal>
+    ensures may { OnOk result (MayName tables.now name.now) }
+    ensures refused { IfErr result (IsNameRefusal tables.now name.now) }
+{
+    match tables.names.may_put(name) {
+        Ok(()) => {}
+        Err(NameFault::BadName) => return Err(Refusal::BadName),
+        Err(_) => return Err(Refusal::TooMany),
+    }
+    if tables.journal.count() >= HALF_CELLS {
+        return Err(Refusal::TooMany);
+    }
+    Ok(())
+}
+
+// The next sequence number.
+fn next_number(journal: &Journal) -> Result<u64, Refusal>
+    ensures next { IfOk result (λ number. number ≡ suc journal.now.last) }
+    ensures below { OnOk result (journal.now.last < 2 ^ 64 - 1) }
+    ensures rises { journal.now.previous ≤ journal.now.last }
+    ensures refused { IfErr result (λ refusal. (refusal ≡ Numbers) × (journal.now.last ≡ 2 ^ 64 - 1)) }
+{
+    let last = journal.last();
+    if last == u64::MAX {
+        return Err(Refusal::Numbers);
+    }
+    Ok(last + 1)
+}
+
+// The record that gives a name a root.
+fn put_for(alloc: Global, number: u64, name: &[u8], root: &Root) -> Result<Record, AllocError>
+    ensures { IfOk result (λ r. record_value r ≡ record { sequence = number; name = name.now; change = Put root.now }) }
+{
+    Ok(Record {
+        sequence: number,
+        name: Vec::from_slice(alloc, name)?,
+        change: Change::Put(*root),
+    })
+}
+
+// Why a record wasn't appended.
+fn unwritten(fault: CellFault) -> Refusal
+    requires { IsWriteFault fault }
+    ensures same { blames result ≡ call_blamed fault }
+    ensures refused { IsWriteRefusal result }
+{
+    match fault {
+        CellFault::DiskWrite => Refusal::DiskWrite,
+        _ => Refusal::Memory,
+    }
+}
+
+// Takes a put into the names and the journal: first in memory, so that none is needed once it stands on the disk. Where it
+// is refused the names are given back what they had.
+fn write_put<D: Disk>(
+    alloc: Global,
+    disk: &mut D,
+    tables: &mut Tables,
+    put: Record,
+) -> Result<(), Refusal>
+    requires size { least_size ≤ (D.view disk.old).size }
+    requires put { (root : FileRoot) × ((record_value put).change ≡ Put root) }
+    requires follows { Precedes tables.old.journal (record_value put) }
+    requires taken { IsTaken tables.old.names (record_value put) }
+    ensures tables { OnOk result (tables.new ≡ tables_with (record_value put) tables.old) }
+    ensures unchanged { OnErr result (tables.new ≡ tables.old) }
+    ensures writes { Writes (Appends tables.old.journal (record_value put)) (IsAppended tables.old.journal (record_value put))
+        (ending blames result) (D.view disk.old) (D.view disk.new) }
+    ensures refused { IfErr result IsWriteRefusal }
+{
+    let before = tables.names.find(&put.name);
+    match tables.names.apply(&put) {
+        Ok(()) => {}
+        Err(_) => return Err(Refusal::Memory),
+    }
+    match tables.journal.append(alloc, disk, &put) {
+        Ok(()) => Ok(()),
+        Err(fault) => {
+            tables.names.take_back(put.name, before);
+            Err(unwritten(fault))
+        }
+    }
+}
+
+/// Gives a name a root: appends a put under the next sequence number, which is answered.
+///
+/// `may_name` has taken the name. Refusals: `Numbers` where the last sequence number is 2^64 - 1; `Memory` and `DiskWrite`.
+/// All but the last come before the first write, and each leaves the tables as they were.
+pub fn put_root<D: Disk>(
+    alloc: Global,
+    disk: &mut D,
+    tables: &mut Tables,
+    name: &[u8],
+    root: &Root,
+) -> Result<u64, Refusal>
+    requires size { least_size ≤ (D.view disk.old).size }
+    requires may { MayName tables.old name.now }
+    requires root { IsRoot root.now }
+    ensures ok { IfOk result (IsNamed tables.old name.now root.now tables.new) }
+    ensures refused { IfErr result (IsAppendRefusal tables.old) }
+    ensures unchanged { OnErr result (tables.new ≡ tables.old) }
+    ensures durable { OnOk result (IsDurable (D.view disk.new)) }
+    ensures disk { Acts (ending blames result) (D.view disk.old) (D.view disk.new) }
+    ensures moves { PutsRoot tables.old name.now root.now (ending blames result) (D.view disk.old) (D.view disk.new) }
+    ensures frame { ChangesNextAlone tables.old.journal (D.view disk.old) (D.view disk.new) }
+{
+    let number = next_number(&tables.journal)?;
+    let put = put_for(alloc, number, name, root)?;
+    write_put(alloc, disk, tables, put)?;
+    Ok(number)
+}

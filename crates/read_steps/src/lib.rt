@@ -2,5 +2,7 @@
 #![tactic(auto)]
 
 mod read;
+mod walking;
 
 pub use read::{read_root, root_named};
+pub use walking::next_segment;

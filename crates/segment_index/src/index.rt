@@ -42,6 +42,7 @@ pub trait Index {
             (λ m. found ≡ finite.get m key.now)) }
         ensures place { IfOk result (λ found. IfSome found (IsPlace (D.view disk.old).size)) }
         ensures map { places self.new (D.view disk.new).content ≡ places self.old (D.view disk.old).content }
+        ensures form { (at : ℕ) (why : Why) (bytes : List ℕ) → breaks self.new at why bytes → breaks self.old at why bytes }
         ensures fault { IfErr result (IsGetFault (λ at why. (places self.old (D.view disk.old).content ≡ None)
             × Shows (D.view disk.old) (D.view disk.new) (breaks self.old at why))) }
         ensures reads { Reads (ending blames result) (D.view disk.old) (D.view disk.new) }

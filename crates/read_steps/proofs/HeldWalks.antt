@@ -1,0 +1,224 @@
+-- A walk down trees that are held: what is read of each is what it is.
+use Rattle.std.proofs.Common.{◌≡◌, ◌≢◌, ◌⊎◌, inl, inr, ℕ, zero, suc, ◌+◌, ◌<◌, ◌≤◌, List, [], ◌∷◌, ◌++◌, length, map, drop, take, Option, Some, None, Result, Ok, Err, IfOk, IfErr, option_map, refl, sym, ◌∙◌, ap, subst, arith}
+use Rattle.std.specs.FinMap as finite
+use Rattle.std.specs.List.{AllByRecursion}
+use Rattle.std.proofs.lemmas.List.Concat.{flat_map-cons}
+use Rattle.sha2.specs.Sha256.{sha256}
+use Rattle.base_model.specs.Bytes.{key_of, range}
+use Rattle.disk_format.specs.declared.why.Why.{Why}
+use Rattle.disk_format.specs.declared.why.Why.TheVariants.{Digest, Field}
+use Rattle.disk_format.specs.Layout.{data_at}
+use Rattle.dd_disk.specs.View.{DiskView}
+use Rattle.dd_disk.proofs.Shows.{shown_content}
+use Rattle.container_meta.specs.declared.place.Place.{Place}
+use Rattle.container_meta.specs.Places.{PlaceMap}
+use Rattle.container_meta.specs.Spelling.{HeaderValue}
+use Rattle.merkle_file.specs.declared.top.Top.{Top}
+use Rattle.merkle_file.specs.Node.{Contents, IsNode, spelling, node_digest}
+use Rattle.merkle_file.specs.Reading.{contents_in, any_node}
+use Rattle.merkle_file.specs.Tree as tree
+use Rattle.merkle_file.specs.Tree.{Tree, Trees, of_segment, root_of, leaves}
+use Rattle.merkle_file.specs.Walk.{Ahead, contents_of, list_of, opened, segments_in, asked_for}
+use Rattle.merkle_file.proofs.Nodes.{node_again}
+use Rattle.merkle_file.proofs.Unfolding.{walk_law}
+use Rattle.merkle_file.proofs.Walking.{is_within, may_ask}
+use Rattle.refusals.specs.declared.refusal.Refusal.{Refusal}
+use Rattle.refusals.specs.declared.refusal.Refusal.TheVariants.{DiskRead, Corrupt, Missing, Damaged}
+use Rattle.store_model.specs.Slots.{Copy, newest}
+use Rattle.store_model.specs.Trees.{HasNewest, HoldsTree, HoldsTrees, bytes_at, leaf_key, node_key}
+use Rattle.store_model.proofs.Copies.{some_same}
+use Rattle.read_steps.specs.Walking.{IsPlaceOf, WasRead, IsNodeRead, Opened, Walked, Gives, IsAnswer, IsWrong, IsTopRefusal, IsNextRefusal, IsWalkRefusal, IsIndexed, HeldAhead, SegmentsAhead, GivesFirst, IsHeldAnswer, top_key}
+use Rattle.read_steps.proofs.Walks.{key_of_node}
+
+module _ (held : List (Option HeaderValue)) (known : Option PlaceMap) (old new : DiskView) (image : List ℕ) (indexed : IsIndexed held known old.content image) where
+  -- ---- one key
+
+  -- the place that the index has for a key is that of its newest copy
+  place_newest : (key : List ℕ) (level : ℕ) (bytes : List ℕ) (has : HasNewest held key level bytes image) (place : Place) → IsPlaceOf known key place → place ≡ has.copy.place
+  place_newest key level bytes has place is =
+      some_same place has.copy.place
+      (sym (is indexed.index indexed.index_known) ∙ indexed.index_is_newest key ∙ ap (option_map (λ (c : Copy). c.place)) has.copy_is)
+
+  -- what was read of it is the copy
+  read_newest : (key : List ℕ) (level : ℕ) (bytes read : List ℕ) → HasNewest held key level bytes image → WasRead known old new key read → read ≡ bytes
+  read_newest key level bytes read has was =
+      sym (shown_content old new (λ (c : List ℕ). bytes_at was.place c ≡ read) image was.copy.there indexed.told)
+      ∙ ap (λ (p : Place). bytes_at p image) (place_newest key level bytes has was.place was.copy.place_is) ∙ has.bytes_are
+
+  -- ---- what comes first
+
+  -- the tree that comes first has a newest copy, which is as it was named
+  record HasFirst (t : Top) : Type 0 where
+    level : ℕ
+    bytes : List ℕ
+    has : HasNewest held (top_key t) level bytes image
+    digest : sha256 bytes ≡ t.digest
+    right : (why : Why) → IsWrong t bytes why → ⊥
+
+  first_leaf : (segment : List ℕ) → HasNewest held (leaf_key segment) 0 segment image → HasFirst (root_of of_segment (tree.Leaf segment))
+  first_leaf segment has = record { level = 0; bytes = segment; has = has; digest = refl; right = not_wrong }
+    where
+      not_wrong : (why : Why) → IsWrong (root_of of_segment (tree.Leaf segment)) segment why → ⊥
+      not_wrong (Field offset got) (inl node) = omega (arith, node.0)
+      not_wrong (Field offset got) (inr leaf) = leaf.3 leaf.2
+      not_wrong (Digest want got) wrong = absurd wrong
+
+  first_node : (level : ℕ) (ts : Trees (List ℕ)) → IsNode (contents_of level ts) → HasNewest held (node_key (contents_of level ts)) level (spelling (contents_of level ts)) image
+      → HasFirst (root_of of_segment (tree.Node level ts))
+  first_node level ts right has = record {
+    level = level;
+    bytes = spelling (contents_of level ts);
+    has = subst (λ (key : List ℕ). HasNewest held key level (spelling (contents_of level ts)) image) (sym (key_of_node (root_of of_segment (tree.Node level ts)) right.above)) has;
+    digest = refl;
+    right = not_wrong;
+  }
+    where
+      n : Contents
+      n = contents_of level ts
+
+      top : Top
+      top = root_of of_segment (tree.Node level ts)
+
+      not_wrong : (why : Why) → IsWrong top (spelling n) why → ⊥
+      not_wrong (Field offset got) (inl node) =
+          absurd (let none = (node_again (asked_for top) n (may_ask top right.above) right (is_within top n right (record { level = refl; length = refl }))).0 in
+          let some = sym none ∙ node.1 in cc)
+      not_wrong (Field offset got) (inr leaf) = absurd (omega (arith, leaf.0, right.above))
+      not_wrong (Digest want got) wrong = absurd wrong
+
+  first_same : (t u : Top) (ts us : List Top) → t ∷ ts ≡ u ∷ us → t ≡ u
+  first_same t u ts us same = cc
+
+  first_of : (t : Top) (tops : List Top) (ts : List (Tree (List ℕ))) → HeldAhead held image (t ∷ tops) ts → HasFirst t
+  first_of t tops [] ahead = absurd (let wrong : t ∷ tops ≡ [] = ahead.trees.tops in cc)
+  first_of t tops (tree.Empty ∷ us) ahead = absurd ahead.trees.each.0
+  first_of t tops (tree.Leaf segment ∷ us) ahead =
+      subst HasFirst (sym (first_same t _ tops _ ahead.trees.tops)) (first_leaf segment ahead.each.0)
+  first_of t tops (tree.Node level ts ∷ us) ahead =
+      subst HasFirst (sym (first_same t _ tops _ ahead.trees.tops)) (first_node level ts ahead.trees.each.0.0 ahead.each.0.0)
+
+  -- so it is never refused but for a read that failed
+  module _ (breaks : ℕ → Why → List ℕ → Type 0) where
+    never_missing : (t : Top) → HasFirst t → (key : List ℕ) → IsTopRefusal known breaks old new t (Missing key) → ⊥
+    never_missing t first key cause =
+        let none = sym (cause.1 indexed.index indexed.index_known) ∙ indexed.index_is_newest (top_key t) ∙ ap (option_map (λ (c : Copy). c.place)) first.has.copy_is in cc
+
+    never_corrupt : (t : Top) → HasFirst t → (slot offset count : ℕ) (want got : List ℕ) → IsTopRefusal known breaks old new t (Corrupt slot offset count want got) → ⊥
+    never_corrupt t first slot offset count want got cause =
+        let place = cause.placed.place in
+        let is : place ≡ first.has.copy.place = place_newest (top_key t) first.level first.bytes first.has place cause.placed.place_is in
+        let there : range (data_at slot + offset) count image ≡ cause.found.bytes =
+        shown_content old new (λ (c : List ℕ). range (data_at slot + offset) count c ≡ cause.found.bytes) image cause.found.there indexed.told in
+        let at : data_at slot + offset ≡ data_at place.slot + place.offset = ap (λ (s : ℕ). data_at s + offset) cause.placed.slot_is ∙ ap (λ (o : ℕ). data_at place.slot + o) cause.placed.offset_is in
+        let same : range (data_at slot + offset) count image ≡ bytes_at place image =
+        ap (λ (p : ℕ). range p count image) at ∙ ap (λ (n : ℕ). range (data_at place.slot + place.offset) n image) cause.placed.count_is in
+        let found : cause.found.bytes ≡ first.bytes = sym there ∙ same ∙ ap (λ (p : Place). bytes_at p image) is ∙ first.has.bytes_are in
+        cause.differ (cause.want_is ∙ sym first.digest ∙ ap sha256 (sym found) ∙ cause.found.digest_is)
+
+    never_damaged : (t : Top) → HasFirst t → (at : ℕ) (why : Why) → IsTopRefusal known breaks old new t (Damaged at why) → ⊥
+    never_damaged t first at why (inl damage) = let wrong = sym damage.unknown ∙ indexed.index_known in cc
+    never_damaged t first at why (inr wrong) =
+        first.right why (subst (λ (bytes : List ℕ). IsWrong t bytes why) (read_newest (top_key t) first.level first.bytes wrong.bytes first.has wrong.was_read) wrong.wrong)
+
+    read_failed : (t : Top) → HasFirst t → (refusal : Refusal) → IsTopRefusal known breaks old new t refusal → refusal ≡ DiskRead
+    read_failed t first DiskRead cause = refl
+    read_failed t first (Missing key) cause = absurd (never_missing t first key cause)
+    read_failed t first (Corrupt slot offset count want got) cause = absurd (never_corrupt t first slot offset count want got cause)
+    read_failed t first (Damaged at why) cause = absurd (never_damaged t first at why cause)
+    read_failed t first refusal cause = absurd cause
+
+    next_failed : (ahead : List Top) (ts : List (Tree (List ℕ))) (refusal : Refusal) → HeldAhead held image ahead ts → IsNextRefusal known breaks old new ahead refusal → refusal ≡ DiskRead
+    next_failed [] ts refusal ahead cause = absurd cause
+    next_failed (t ∷ tops) ts refusal ahead cause = read_failed t (first_of t tops ts ahead) refusal cause
+
+  -- ---- nodes that are opened
+
+  all_held : (ts : Trees (List ℕ)) (others : List (Tree (List ℕ))) → HoldsTrees held image ts → AllByRecursion (HoldsTree held image) others → AllByRecursion (HoldsTree held image) (list_of ts ++ others)
+  all_held tree.NoTree others here rest = rest
+  all_held (tree.Then t ts) others here rest = (here.0, all_held ts others here.1 rest)
+
+  right_any : (n : Contents) → IsNode n → contents_in (spelling n) ≡ n
+  right_any n right =
+      (node_again any_node n (record { lowest = omega arith; greatest = omega arith; most = omega arith }) right
+      (record { lowest = right.above; greatest = right.level; least = omega arith; most = right.total })).1
+
+  open_held : (t : Top) (tops : List Top) (bytes : List ℕ) (ts : List (Tree (List ℕ))) → IsNodeRead (WasRead known old new) (t ∷ tops) bytes → HeldAhead held image (t ∷ tops) ts
+      → (us : List (Tree (List ℕ))) × HeldAhead held image (opened (contents_in bytes) ++ drop 1 (t ∷ tops)) us × (segments_in us ≡ segments_in ts)
+  open_held t tops bytes [] read ahead = absurd (let wrong : t ∷ tops ≡ [] = ahead.trees.tops in cc)
+  open_held t tops bytes (tree.Empty ∷ us) read ahead = absurd ahead.trees.each.0
+  open_held t tops bytes (tree.Leaf segment ∷ us) read ahead =
+      absurd (omega (arith, read.0, ap (λ (u : Top). u.level) (first_same t _ tops _ ahead.trees.tops)))
+  open_held t tops bytes (tree.Node level ts ∷ us) read ahead =
+      let n : Contents = contents_of level ts in
+      let digest : t.digest ≡ node_digest n = ap (λ (u : Top). u.digest) (first_same t _ tops _ ahead.trees.tops) in
+      let was : WasRead known old new (node_key n) bytes = subst (λ (d : List ℕ). WasRead known old new (1 ∷ d) bytes) digest read.1 in
+      let is : bytes ≡ spelling n = read_newest (node_key n) level (spelling n) bytes ahead.each.0.0 was in
+      let law = walk_law (t ∷ tops) (opened (contents_in bytes) ++ drop 1 (t ∷ tops)) bytes level ts us (Ok tt) (λ m right named e. (refl, ap contents_in e ∙ right_any m right)) refl ahead.trees is in
+      (list_of ts ++ us, record { trees = law.1; each = all_held ts us ahead.each.0.1 ahead.each.1 }, law.2)
+
+  opened_held : (nodes : List (List ℕ)) (before after : List Top) (ts : List (Tree (List ℕ))) → Opened (WasRead known old new) nodes before after → HeldAhead held image before ts
+      → (us : List (Tree (List ℕ))) × HeldAhead held image after us × (segments_in us ≡ segments_in ts)
+  opened_held [] before after ts way ahead = (ts, subst (λ (tops : List Top). HeldAhead held image tops ts) (sym way) ahead, refl)
+  opened_held (b ∷ bs) [] after ts way ahead = absurd way.0
+  opened_held (b ∷ bs) (t ∷ tops) after ts way ahead =
+      let one = open_held t tops b ts way.0 ahead in
+      let rest = opened_held bs (opened (contents_in b) ++ drop 1 (t ∷ tops)) after one.0 way.1 one.1 in
+      (rest.0, rest.1, rest.2 ∙ one.2)
+
+  -- the segments to come stay
+  pub walked_held : (before after : List Top) (segments : List (List ℕ)) → Walked (WasRead known old new) before after → SegmentsAhead held image before segments → SegmentsAhead held image after segments
+  walked_held before after segments walked ahead =
+      let all = opened_held walked.nodes before after ahead.trees walked.way ahead.held_ahead in
+      record { trees = all.0; held_ahead = all.1; segments_are = ahead.segments_are ∙ sym all.2 }
+
+  -- ---- what is answered
+
+  none_ahead : (ts : List (Tree (List ℕ))) → HeldAhead held image [] ts → segments_in ts ≡ []
+  none_ahead [] ahead = refl
+  none_ahead (t ∷ ts) ahead = absurd (let wrong : [] ≡ root_of of_segment t ∷ map (root_of of_segment) ts = ahead.trees.tops in cc)
+
+  rest_same : (t u : Top) (ts us : List Top) → t ∷ ts ≡ u ∷ us → ts ≡ us
+  rest_same t u ts us same = cc
+
+  leaf_given : (t : Top) (tops : List Top) (bytes : List ℕ) (ts : List (Tree (List ℕ))) → t.level ≡ 0 → WasRead known old new (key_of 0 t.digest) bytes → HeldAhead held image (t ∷ tops) ts
+      → GivesFirst held image tops (segments_in ts) bytes
+  leaf_given t tops bytes [] flat was ahead = absurd (let wrong : t ∷ tops ≡ [] = ahead.trees.tops in cc)
+  leaf_given t tops bytes (tree.Empty ∷ us) flat was ahead = absurd ahead.trees.each.0
+  leaf_given t tops bytes (tree.Leaf segment ∷ us) flat was ahead =
+      let digest : t.digest ≡ sha256 segment = ap (λ (u : Top). u.digest) (first_same t _ tops _ ahead.trees.tops) in
+      let is : bytes ≡ segment = read_newest (leaf_key segment) 0 segment bytes ahead.each.0 (subst (λ (d : List ℕ). WasRead known old new (0 ∷ d) bytes) digest was) in
+      record {
+        others = segments_in us;
+        segments_are = flat_map-cons leaves (tree.Leaf segment) us ∙ ap (λ (s : List ℕ). s ∷ segments_in us) (sym is);
+        ahead = record {
+          trees = us;
+          held_ahead = record { trees = record { tops = rest_same t _ tops _ ahead.trees.tops; each = ahead.trees.each.1 }; each = ahead.each.1 };
+          segments_are = refl;
+        };
+      }
+  leaf_given t tops bytes (tree.Node level ts ∷ us) flat was ahead =
+      absurd (omega (arith, flat, ap (λ (u : Top). u.level) (first_same t _ tops _ ahead.trees.tops), ahead.trees.each.0.0.above))
+
+  pub given_held : (before after : List Top) (count : ℕ) (bytes : List ℕ) (segments : List (List ℕ)) → Gives (WasRead known old new) before after count bytes → SegmentsAhead held image before segments
+      → GivesFirst held image after segments bytes
+  given_held before after count bytes segments gives ahead =
+      let then = walked_held before (gives.next ∷ after) segments gives.walked ahead in
+      subst (λ (ss : List (List ℕ)). GivesFirst held image after ss bytes) (sym then.segments_are)
+      (leaf_given gives.next after bytes then.trees gives.leaf gives.read.was_read then.held_ahead)
+
+  pub ended_held : (before after : List Top) (segments : List (List ℕ)) → before ≡ [] → SegmentsAhead held image before segments → segments ≡ []
+  ended_held before after segments end ahead =
+      ahead.segments_are ∙ none_ahead ahead.trees (subst (λ (tops : List Top). HeldAhead held image tops ahead.trees) end ahead.held_ahead)
+
+  pub refused_held : (breaks : ℕ → Why → List ℕ → Type 0) (before after : List Top) (segments : List (List ℕ)) (buf : List ℕ) (refusal : Refusal) → IsWalkRefusal known breaks old new before after refusal
+      → SegmentsAhead held image before segments → IsHeldAnswer held image after segments buf (Err refusal)
+  refused_held breaks before after segments buf refusal refused ahead =
+      let then = walked_held before after segments refused.walked ahead in
+      subst (λ (e : Refusal). IsHeldAnswer held image after segments buf (Err e)) (sym (next_failed breaks after then.trees refusal then.held_ahead refused.cause)) then
+
+  pub answer_held : (breaks : ℕ → Why → List ℕ → Type 0) (before after : List Top) (segments : List (List ℕ)) (buf : List ℕ) (result : Result (Option ℕ) Refusal)
+      → IfOk result (IsAnswer (WasRead known old new) before after buf) → IfErr result (IsWalkRefusal known breaks old new before after) → SegmentsAhead held image before segments
+      → IsHeldAnswer held image after segments buf result
+  answer_held breaks before after segments buf (Ok None) ok err ahead = ended_held before after segments ok.0 ahead
+  answer_held breaks before after segments buf (Ok (Some count)) ok err ahead = given_held before after count (take count buf) segments ok ahead
+  answer_held breaks before after segments buf (Err refusal) ok err ahead = refused_held breaks before after segments buf refusal err ahead

@@ -1,5 +1,5 @@
 -- What an open container holds, and which header it has.
-use Rattle.std.specs.Prelude.{◌≡◌, ℕ, ◌+◌, List, [], ◌∷◌, length, take, drop, map, sum_by, Bool, true, false, nat_lt, nat_le, ◌&&◌}
+use Rattle.std.specs.Prelude.{◌≡◌, ℕ, ◌+◌, List, [], ◌∷◌, length, take, drop, get_or, map, sum_by, Bool, true, false, nat_lt, nat_le, ◌&&◌}
 use Rattle.std.specs.List.{flat_map, list_any}
 use Rattle.std.specs.Str.{bytes_eq}
 use Rattle.sha2.specs.Sha256.{sha256}
@@ -48,6 +48,10 @@ entries_from offset [] = []
 entries_from offset (s ∷ ss) =
     record { digest = sha256 s.bytes; offset = offset; length = length s.bytes; level = s.level }
     ∷ entries_from (offset + length s.bytes) ss
+
+-- the segment of a number; past the last, one with no bytes
+abbrev pub segment_at : List Segment → ℕ → Segment
+segment_at segments i = get_or segments i (record { level = 0; bytes = [] })
 
 -- segments stand in a slot one after the other, from an offset of its data on
 abbrev pub StandFrom : ℕ → List Segment → List ℕ → Type 0

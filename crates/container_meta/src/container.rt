@@ -1,6 +1,6 @@
 //! Containers that are being filled.
 
-ghost use Rattle.std.specs.Prelude.{◌≡◌, ◌+◌, vec_len, vec_capacity, ◌<◌, ◌≤◌, ◌↔◌, [], ◌∷◌, ◌++◌, length, IfOk, IsTrue, true};
+ghost use Rattle.std.specs.Prelude.{◌≡◌, ◌+◌, vec_len, vec_capacity, ◌<◌, ◌≤◌, ◌↔◌, [], ◌∷◌, ◌++◌, length, take, drop, IfOk, IsTrue, true};
 ghost use Rattle.std.specs.Prelude.{if◌then◌else◌};
 
 use crate::entry::{Entry, stands_in};
@@ -38,6 +38,14 @@ fn push_bytes(bytes: &mut Vec<u8>, from: &[u8])
     bytes.extend_from_slice(from).unwrap();
 }
 
+/// So many bytes from a place on.
+fn part(bytes: &[u8], from: usize, count: usize) -> &[u8]
+    requires { from + count ≤ length bytes.now }
+    ensures { result.now ≡ take count (drop from bytes.now) }
+{
+    &bytes[from..][..count]
+}
+
 /// A container that is being filled with segments of one kind, each there once (docs/FORMAT.md, 'Container slot').
 ///
 /// It has room for `disk_format::MOST_ENTRIES` segments of `disk_format::DATA_BYTES` bytes together, and takes the
@@ -64,7 +72,7 @@ impl Model for OpenContainer {
 impl OpenContainer {
     ghost use Rattle.base_model.specs.Bytes.{range};
     ghost use Rattle.container_meta.specs.Format.{is_id};
-    ghost use Rattle.container_meta.specs.Segments.{CanAdd, StandFrom, has_key, has_room as room_for};
+    ghost use Rattle.container_meta.specs.Segments.{CanAdd, StandFrom, entries_from, segment_at, has_key, has_room as room_for};
     ghost use Rattle.container_meta.specs.Spelling.{IsHeader, header_of, header_spelling, container_spelling};
 
     /// An empty container, with all the memory that it will need. It fails for want of memory alone.
@@ -97,6 +105,24 @@ impl OpenContainer {
         ensures { IsTrue result ↔ (self.now.segments ≡ []) }
     {
         self.entries.is_empty()
+    }
+
+    /// The entries of its segments, as they stand in its header, which is right under each right id.
+    pub fn entries(&self) -> &[Entry]
+        ensures entries { result.now ≡ entries_from 0 self.now.segments }
+        ensures header { (id : _) → is_id id ≡ true → 1 ≤ length self.now.segments
+            → IsHeader (header_of id self.now.kind self.now.segments) }
+    {
+        self.entries.as_slice()
+    }
+
+    /// The bytes of a segment, by its number.
+    pub fn bytes_of(&self, i: usize) -> &[u8]
+        requires { i < length self.now.segments }
+        ensures { result.now ≡ (segment_at self.now.segments i).bytes }
+    {
+        let entry = self.entries[i];
+        part(&self.bytes, entry.offset as usize, entry.length as usize)
     }
 
     /// Whether a segment with this key, its kind's number and its digest, is in it.

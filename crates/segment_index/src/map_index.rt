@@ -1,5 +1,5 @@
 //! An index in memory.
-ghost use Rattle.std.specs.Prelude.{◌≡◌, Some, refl, OnOk, OnErr};
+ghost use Rattle.std.specs.Prelude.{◌≡◌, Some, None, refl, OnOk, OnErr};
 ghost use Rattle.std.specs.FinMap as finite;
 ghost use Rattle.segment_index.specs.Places.{coded_places, HasPlaces};
 ghost use Rattle.container_meta.specs.Places.{PlaceMap};
@@ -45,10 +45,12 @@ impl MapIndex {
         self.entries.get(key)
     }
 
-    /// Gives a key a place, instead of the one that it had. An error leaves the map as it was.
+    /// Gives a key a place, instead of the one that it had. An error comes only where it had none, and leaves the map as
+    /// it was.
     pub fn set(&mut self, key: &Key, place: Place) -> Result<(), AllocError>
         ensures ok { OnOk result (self.new ≡ finite.insert self.old key.now place) }
         ensures err { OnErr result (self.new ≡ self.old) }
+        ensures absent { OnErr result (finite.get self.old key.now ≡ None) }
     {
         self.entries.insert(key, place)
     }

@@ -1,4 +1,5 @@
 pub mod Containers
+pub mod Indexing
 pub mod Invariant
 pub mod Refused
 pub mod Settled

@@ -23,7 +23,7 @@ pub struct Containers {
     pub last_id: u64,
 }
 
-fn place_in(slot: u32, entry: &Entry) -> Place
+pub(crate) fn place_in(slot: u32, entry: &Entry) -> Place
     ensures { result ≡ place_of slot entry.now }
 {
     Place {

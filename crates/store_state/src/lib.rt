@@ -2,11 +2,13 @@
 #![tactic(auto)]
 
 mod containers;
+mod indexing;
 mod open_store;
 mod slot_table;
 mod tables;
 
 pub use containers::Containers;
+pub use indexing::{find, put_entries};
 pub use open_store::OpenStore;
 pub use slot_table::{SlotCount, SlotTable};
 pub use tables::Tables;

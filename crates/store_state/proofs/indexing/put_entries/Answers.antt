@@ -1,0 +1,21 @@
+use Rattle.std.proofs.Common.{◌≡◌, List, length, refl, ap, subst, sym, ◌∙◌}
+use Rattle.container_meta.specs.declared.entry.Entry.{Entry}
+use Rattle.container_meta.specs.declared.kind.Kind.{Kind}
+use Rattle.container_meta.specs.Spelling.{header_of}
+use Rattle.store_state.specs.Indexing.{HasRoomFor, ArePart}
+use Rattle.store_state.proofs.Indexed.{part_of, length-entries_from}
+use Rattle.store_state.proofs.indexing.put_entries.Goals as goal
+
+pub put_from-requires-clause-part : goal.put_from-requires-clause-part
+put_from-requires-clause-part g c =
+    let size = (g.D.Disk.view c.args.disk.now).size in
+    let filled = c.args.filled.now in
+    subst (λ (k : Kind). ArePart size c.args.slot k c.entries.result.now) (sym c.kind.ensures)
+    (subst (λ (l : List Entry). ArePart size c.args.slot filled.kind l) (sym c.entries.ensures.entries)
+    (part_of size c.args.slot (header_of 1 filled.kind filled.segments) (c.entries.ensures.header 1 refl c.requires.some) c.requires.slot))
+
+pub put_from-requires-clause-room : goal.put_from-requires-clause-room
+put_from-requires-clause-room g c =
+    let view = g.D.Disk.view in
+    subst (HasRoomFor (view c.args.disk.now).size (g.X.Index.places c.args.index.now (view c.args.disk.now).content))
+    (sym (ap length c.entries.ensures.entries ∙ length-entries_from 0 c.args.filled.now.segments)) c.requires.room

@@ -1,0 +1,63 @@
+-- What is looked up in an index, and put into it (docs/MODEL.md, 'The running store').
+use Rattle.std.specs.Prelude.{◌≡◌, ℕ, ◌+◌, ◌*◌, ◌≤◌, List, [], ◌∷◌, length, Option, Some, None, IfSome}
+use Rattle.std.specs.FinMap as finite
+use Rattle.std.specs.List.{AllByRecursion}
+use Rattle.disk_format.specs.declared.numbers.TheConstants.{MOST_ENTRIES}
+use Rattle.disk_format.specs.declared.why.Why.{Why}
+use Rattle.disk_format.specs.Layout.{size_of}
+use Rattle.container_meta.specs.declared.entry.Entry.{Entry}
+use Rattle.container_meta.specs.declared.kind.Kind.{Kind}
+use Rattle.container_meta.specs.declared.place.Place.{Place}
+use Rattle.container_meta.specs.Places.{PlaceMap}
+use Rattle.container_meta.specs.Spelling.{Follow}
+use Rattle.segment_index.specs.Places.{KnownMap, IsPlace}
+use Rattle.store_model.specs.Indexing.{entry_key}
+use Rattle.store_model.specs.Slots.{place_of}
+use Rattle.refusals.specs.declared.refusal.Refusal.{Refusal}
+use Rattle.refusals.specs.declared.refusal.Refusal.TheVariants.{Memory, DiskRead, DiskWrite, Damaged}
+
+-- why a look-up is refused: a read that failed, or damage
+abbrev pub IsFindRefusal : (ℕ → Why → Type 0) → Refusal → Type 0
+IsFindRefusal damaged DiskRead = Unit {0}
+IsFindRefusal damaged (Damaged at why) = damaged at why
+IsFindRefusal damaged refusal = ⊥
+
+-- why a change is refused: want of memory, a call of the disk that failed, or damage, where the map isn't known
+abbrev pub IsChangeRefusal : Option PlaceMap → Refusal → Type 0
+IsChangeRefusal known Memory = Unit {0}
+IsChangeRefusal known DiskWrite = Unit {0}
+IsChangeRefusal known (Damaged at why) = known ≡ None
+IsChangeRefusal known refusal = ⊥
+
+-- The slots of the disk have room for so many keys more than the map has, where it is known.
+pub record HasRoomFor (size : ℕ) (known : Option PlaceMap) (keys : ℕ) : Type 0 where
+  pub slots : ℕ
+  pub size_is : size ≡ size_of slots
+  pub few : KnownMap known (λ m. finite.len m + keys ≤ MOST_ENTRIES * slots)
+
+-- these stand one after the other in a container of the slot, each where a segment may lie
+pub record ArePart (size slot : ℕ) (kind : Kind) (entries : List Entry) : Type 0 where
+  pub before : List Entry
+  pub follow : Follow kind before entries
+  pub places : AllByRecursion (λ e. IsPlace size (place_of slot e)) entries
+
+-- the keys of these entries have these places in the map, one by one
+abbrev pub HaveHad : PlaceMap → Kind → List Entry → List (Option Place) → Type 0
+HaveHad m kind [] places = Unit {0}
+HaveHad m kind (e ∷ es) [] = ⊥
+HaveHad m kind (e ∷ es) (had ∷ rest) = (had ≡ finite.get m (entry_key kind e)) × HaveHad m kind es rest
+
+-- As many places as entries, each where a segment may lie: those that the map has, where it is known.
+pub record AreHad (size : ℕ) (known : Option PlaceMap) (kind : Kind) (entries : List Entry) (places : List (Option Place)) : Type 0 where
+  pub many : length places ≡ length entries
+  pub lie : AllByRecursion (λ had. IfSome had (IsPlace size)) places
+  pub had : KnownMap known (λ m. HaveHad m kind entries places)
+
+-- the map with the place that a key had
+abbrev pub with_had : Option Place → List ℕ → PlaceMap → PlaceMap
+with_had (Some place) key m = finite.insert m key place
+with_had None key m = finite.remove m key
+
+-- a map that isn't known stays so
+abbrev pub Stays : Option PlaceMap → Option PlaceMap → Type 0
+Stays old new = old ≡ None → new ≡ None

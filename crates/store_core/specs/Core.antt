@@ -1,0 +1,304 @@
+-- What each step makes of the core of a store, what it answers, and why it is refused (docs/MODEL.md, 'The core').
+use Rattle.std.specs.Prelude.{◌≡◌, ◌≢◌, ◌⊎◌, ℕ, ◌+◌, ◌-◌, ◌<◌, ◌≤◌, List, [], ◌∷◌, sum_by, Option, Some, None, Result, Ok, Err, IfOk, IfErr, OnOk, OnErr}
+use Rattle.std.specs.FinMap as finite
+use Rattle.std.specs.List.{AllByRecursion}
+use Rattle.base_model.specs.Known.{Known, KnownWith}
+use Rattle.disk_format.specs.Cells.{Root}
+use Rattle.disk_format.specs.declared.numbers.TheConstants.{RESERVE, LAST_ID}
+use Rattle.dd_disk.specs.View.{DiskView, IsDurable}
+use Rattle.dd_disk.specs.Ending.{Ending, Refused, Reads, ending}
+use Rattle.dd_disk.specs.Moves.{Moves, Acts}
+use Rattle.container_meta.specs.declared.kind.Kind.{Kind}
+use Rattle.container_meta.specs.Places.{PlaceMap}
+use Rattle.container_meta.specs.Segments.{Segment, KindSegment, Contents, segment_key}
+use Rattle.merkle_file.specs.declared.top.Top.{Top}
+use Rattle.actor_parts.specs.declared.part.Part.{Part}
+use Rattle.actor_parts.specs.declared.part.Part.TheVariants.{Idle, Writing, Reading}
+use Rattle.actor_parts.specs.declared.step.Answer.{Answer}
+use Rattle.actor_parts.specs.declared.step.Answer.TheVariants as answers
+use Rattle.actor_parts.specs.Kinds.{kind_of}
+use Rattle.actor_parts.specs.Parts.{part_of, with_part}
+use Rattle.actor_parts.specs.PinMap.{PinMap}
+use Rattle.actor_parts.specs.Segments.{pin_of, first_unpinned}
+use Rattle.actor_parts.specs.StepValue as asked
+use Rattle.actor_parts.specs.StepValue.{StepValue}
+use Rattle.refusals.specs.declared.difference.Difference.{Difference}
+use Rattle.refusals.specs.declared.refusal.PartKind.{PartKind}
+use Rattle.refusals.specs.declared.refusal.PartKind.TheVariants as kinds
+use Rattle.refusals.specs.declared.refusal.Refusal.{Refusal}
+use Rattle.refusals.specs.declared.refusal.Refusal.TheVariants as refusals
+use Rattle.segment_index.specs.Places.{KnownMap}
+use Rattle.store_model.specs.Commands.{HasNoCollisions}
+use Rattle.store_model.specs.Files.{Files}
+use Rattle.store_model.specs.Image.{Store, Encodes, IsValidFor, names_of}
+use Rattle.store_model.specs.Slots.{Copy, HoldsContainer, newest, first_free, free_slots}
+use Rattle.store_model.specs.Standing.{ByteSet, IsIn, IsStoreOf, Stands}
+use Rattle.store_model.specs.Steps.{StoreChange, SealContainer, PutName, CanChange, MaySeal, FitsCopy, FitsHeld, KeepsCopies, changed}
+use Rattle.store_state.specs.Refused.{blames}
+use Rattle.store_state.specs.Settled as settled
+use Rattle.store_state.specs.Tables.{Represents, Runs, OfEach}
+use Rattle.ingest_steps.specs.Naming.{PutsRoot}
+use Rattle.ingest_steps.specs.Sealing.{SealsContainer}
+use Rattle.ingest_steps.specs.Writers.{MayCommit, IsWrongPart, IsCommitRefusal}
+use Rattle.read_steps.specs.Opening as opening
+use Rattle.read_steps.specs.Walking.{WasRead, IsAnswer, IsWalkRefusal, IsIndexed, SegmentsAhead, IsHeldAnswer}
+use Rattle.store_core.specs.declared.stop.Stop.{Stop}
+use Rattle.store_core.specs.State.{CoreState, IsSame, Event, one_more}
+
+-- ---- what becomes of the actor's part
+
+-- the actor is at this, and no part of another is changed
+abbrev pub Gets : Part → ℕ → CoreState → CoreState → Type 0
+Gets part actor old new = new.parts ≡ with_part old.parts actor part
+
+-- the actor was at something of this kind, and is at this
+abbrev pub Turns : PartKind → Part → ℕ → CoreState → CoreState → Type 0
+Turns kind part actor old new = (kind_of (part_of old.parts actor) ≡ kind) × Gets part actor old new
+
+-- it was at something else than the step takes, and all are at what they were
+abbrev pub IsAtOther : PartKind → ℕ → Refusal → CoreState → CoreState → Type 0
+IsAtOther taken actor refusal old new = IsWrongPart taken (part_of old.parts actor) refusal × (new.parts ≡ old.parts)
+
+-- ---- a segment that is offered
+
+-- It may be: the actor stores a file, and has pinned the segment's children.
+pub record MayOffer (parts : List Part) (actor : ℕ) (seg : KindSegment) (pins : PinMap) : Type 0 where
+  pub writing : part_of parts actor ≡ Writing pins
+  pub children : first_unpinned seg pins ≡ None
+
+-- the newest copy of its key fits it
+pub record HasFit (seg : KindSegment) (store : Store) (image : List ℕ) : Type 0 where
+  pub copy : Copy
+  pub copy_is : newest 0 store.held (segment_key seg.kind seg.segment) ≡ Some copy
+  pub fits : FitsCopy seg.kind seg.segment copy.place image
+
+-- a copy of it is held, and it is pinned from now on
+pub record IsHeld (seg : KindSegment) (actor : ℕ) (old new : CoreState) : Type 0 where
+  pub pins : PinMap
+  pub may : MayOffer old.parts actor seg pins
+  pub held : (store : Store) → Represents store old.known old.tables → Known old.disk.content (HasFit seg store)
+  pub parts_are : Gets (Writing (finite.insert pins (segment_key seg.kind seg.segment) (pin_of seg))) actor old new
+
+-- the index has no entry of its key
+pub record IsAbsent (seg : KindSegment) (actor : ℕ) (old new : CoreState) : Type 0 where
+  pub pins : PinMap
+  pub may : MayOffer old.parts actor seg pins
+  pub absent : KnownMap old.known (λ m. finite.get m (segment_key seg.kind seg.segment) ≡ None)
+  pub parts_are : new.parts ≡ old.parts
+
+-- ---- a container that is stored
+
+abbrev pub in_kind : Kind → Segment → KindSegment
+in_kind kind segment = record { kind = kind; segment = segment }
+
+-- the pins with those of segments, the first of them first
+abbrev pub with_pins : Kind → List Segment → PinMap → PinMap
+with_pins kind [] pins = pins
+with_pins kind (s ∷ ss) pins = with_pins kind ss (finite.insert pins (segment_key kind s) (pin_of (in_kind kind s)))
+
+abbrev pub next_id : CoreState → ℕ
+next_id c = c.tables.held.last_id + 1
+
+-- what was to be held of a container stands: it was not there before, and each copy that was fits it
+pub record Stores (filled : Contents) (id : ℕ) (store : Store) (before after : List ℕ) : Type 0 where
+  pub fits : AllByRecursion (FitsHeld filled.kind store before) filled.segments
+  pub container : HoldsContainer after (first_free store.held) id filled.kind filled.segments
+
+-- the container stands, and its segments are pinned from now on
+pub record IsSealed (filled : Contents) (id actor : ℕ) (old new : CoreState) : Type 0 where
+  pub pins : PinMap
+  pub writing : part_of old.parts actor ≡ Writing pins
+  pub children : AllByRecursion (λ s. first_unpinned (in_kind filled.kind s) pins ≡ None) filled.segments
+  pub id_is : id ≡ next_id old
+  pub parts_are : Gets (Writing (with_pins filled.kind filled.segments pins)) actor old new
+
+-- ---- a file that is given back
+
+-- what is answered of a walk
+abbrev pub walk_answer : Result Answer Refusal → Result (Option ℕ) Refusal
+walk_answer (Ok (answers.Bytes count)) = Ok (Some count)
+walk_answer (Ok answer) = Ok None
+walk_answer (Err refusal) = Err refusal
+
+-- The actor takes a file, and what is to come of it goes on, or stays.
+pub record ReadsOn (answer : Result (Option ℕ) Refusal) (buf : List ℕ) (actor : ℕ) (old new : CoreState) : Type 0 where
+  pub root : Root
+  pub before : List Top
+  pub after : List Top
+  pub reading : part_of old.parts actor ≡ Reading (record { root = root; cursor = before })
+  pub parts_are : Gets (Reading (record { root = root; cursor = after })) actor old new
+  -- on any disk
+  pub given : IfOk answer (IsAnswer (WasRead old.known old.disk new.disk) before after buf)
+  pub refused : IfErr answer (IsWalkRefusal old.known old.breaks old.disk new.disk before after)
+  -- where it tells its content, and held trees are to come
+  pub held : (slots : _) (image : List ℕ) (segments : List (List ℕ)) → IsIndexed slots old.known old.disk.content image
+      → SegmentsAhead slots image before segments → IsHeldAnswer slots image after segments buf answer
+
+-- why no file is given: the actor is at something, or by the name
+abbrev pub IsOpenRefusal : List ℕ → ℕ → Refusal → CoreState → Type 0
+IsOpenRefusal name actor (refusals.WrongPart kind) c = IsWrongPart kinds.Idle (part_of c.parts actor) (refusals.WrongPart kind)
+IsOpenRefusal name actor refusal c = (kind_of (part_of c.parts actor) ≡ kinds.Idle) × opening.IsNameRefusal c.tables.names name refusal
+
+-- The actor takes a file from its begin on.
+pub record IsOpened (name : List ℕ) (count actor : ℕ) (old new : CoreState) : Type 0 where
+  pub idle : kind_of (part_of old.parts actor) ≡ kinds.Idle
+  pub root : Root
+  pub ahead : List Top
+  pub begins : opening.Begins old.tables.names name root ahead
+  pub count_is : count ≡ root.length
+  pub parts_are : Gets (Reading (record { root = root; cursor = ahead })) actor old new
+  -- where a store stands for files, the file of the name is to come
+  pub file : (store : Store) (files : Files) (image : List ℕ) → old.tables.names ≡ names_of store → IsStoreOf store files image
+      → opening.IsFileAhead store files image name root ahead
+
+-- ---- what is counted
+
+-- by the table of slots: names, entries of containers, bytes of these, slots that are used and free
+pub record IsCount (c : CoreState) (files segments bytes used free : ℕ) : Type 0 where
+  pub files_are : files ≡ finite.len c.tables.names
+  pub segments_are : segments ≡ sum_by (λ count. count.entries) c.tables.held.counts.items
+  pub bytes_are : bytes ≡ sum_by (λ count. count.bytes) c.tables.held.counts.items
+  pub all_are : used + free ≡ c.tables.slots
+  pub free_is : OfEach c.disk.size c.known c.tables (λ store. free ≡ free_slots store.held)
+
+-- ---- what is answered, step by step; no step answers anything else
+
+abbrev pub BeginRow : ℕ → Result Answer Refusal → CoreState → CoreState → Type 0
+BeginRow actor (Ok answers.Begun) old new = Turns kinds.Idle (Writing finite.empty) actor old new
+BeginRow actor (Err refusal) old new = IsAtOther kinds.Idle actor refusal old new
+BeginRow actor answer old new = ⊥
+
+abbrev pub ClaimRow : KindSegment → ℕ → Result Answer Refusal → CoreState → CoreState → Type 0
+ClaimRow seg actor (Ok answers.Held) old new = IsHeld seg actor old new
+ClaimRow seg actor (Ok answers.Absent) old new = IsAbsent seg actor old new
+ClaimRow seg actor (Err refusal) old new = new.parts ≡ old.parts
+ClaimRow seg actor answer old new = ⊥
+
+abbrev pub SealRow : Contents → ℕ → Result Answer Refusal → CoreState → CoreState → Type 0
+SealRow filled actor (Ok (answers.Sealed id)) old new = IsSealed filled id actor old new
+SealRow filled actor (Err refusal) old new = new.parts ≡ old.parts
+SealRow filled actor answer old new = ⊥
+
+abbrev pub CommitRow : List ℕ → Root → ℕ → Result Answer Refusal → CoreState → CoreState → Type 0
+CommitRow name root actor (Ok (answers.Committed sequence)) old new =
+    MayCommit (part_of old.parts actor) old.tables name root × (sequence ≡ old.tables.journal.last + 1) × Gets Idle actor old new
+CommitRow name root actor (Err refusal) old new =
+    IsCommitRefusal (part_of old.parts actor) old.tables name root refusal × (new.parts ≡ old.parts)
+CommitRow name root actor answer old new = ⊥
+
+abbrev pub AbortRow : ℕ → Result Answer Refusal → CoreState → CoreState → Type 0
+AbortRow actor (Ok answers.Aborted) old new = Turns kinds.Writing Idle actor old new
+AbortRow actor (Err refusal) old new = IsAtOther kinds.Writing actor refusal old new
+AbortRow actor answer old new = ⊥
+
+abbrev pub OpenRow : List ℕ → ℕ → Result Answer Refusal → CoreState → CoreState → Type 0
+OpenRow name actor (Ok (answers.Opened count)) old new = IsOpened name count actor old new
+OpenRow name actor (Err refusal) old new = IsOpenRefusal name actor refusal old × (new.parts ≡ old.parts)
+OpenRow name actor answer old new = ⊥
+
+abbrev pub ReadRow : ℕ → Result Answer Refusal → List ℕ → CoreState → CoreState → Type 0
+ReadRow actor (Ok (answers.Bytes count)) buf old new = ReadsOn (Ok (Some count)) buf actor old new
+ReadRow actor (Ok answers.End) buf old new = ReadsOn (Ok None) buf actor old new
+ReadRow actor (Err refusal) buf old new =
+    IsAtOther kinds.Reading actor refusal old new ⊎ ReadsOn (Err refusal) buf actor old new
+ReadRow actor answer buf old new = ⊥
+
+abbrev pub EndRow : ℕ → Result Answer Refusal → CoreState → CoreState → Type 0
+EndRow actor (Ok answers.Dropped) old new = Turns kinds.Reading Idle actor old new
+EndRow actor (Err refusal) old new = IsAtOther kinds.Reading actor refusal old new
+EndRow actor answer old new = ⊥
+
+abbrev pub StatRow : Result Answer Refusal → CoreState → CoreState → Type 0
+StatRow (Ok (answers.Stat files segments bytes used free)) old new =
+    IsCount old files segments bytes used free × (new.parts ≡ old.parts)
+StatRow answer old new = ⊥
+
+abbrev pub Row : StepValue → ℕ → Result Answer Refusal → List ℕ → CoreState → CoreState → Type 0
+Row asked.Begin actor answer buf old new = BeginRow actor answer old new
+Row (asked.Claim seg) actor answer buf old new = ClaimRow seg actor answer old new
+Row (asked.Seal filled) actor answer buf old new = SealRow filled actor answer old new
+Row (asked.Commit name root) actor answer buf old new = CommitRow name root actor answer old new
+Row asked.Abort actor answer buf old new = AbortRow actor answer old new
+Row (asked.OpenRead name) actor answer buf old new = OpenRow name actor answer old new
+Row asked.ReadNext actor answer buf old new = ReadRow actor answer buf old new
+Row asked.EndRead actor answer buf old new = EndRow actor answer old new
+Row asked.Stat actor answer buf old new = StatRow answer old new
+
+-- ---- what becomes of tables, index and disk
+
+-- tables and index are as they were
+pub record KeepsTables (old new : CoreState) : Type 0 where
+  pub tables_are : new.tables ≡ old.tables
+  pub index_is : new.known ≡ old.known
+
+-- A change is made: of each store that they were those of, tables and index are those of the changed one.
+pub record Makes (change : StoreChange) (old new : CoreState) : Type 0 where
+  pub can : (store : Store) → Represents store old.known old.tables → IsValidFor old.disk.size store → CanChange change store
+  pub represents : (store : Store) → Represents store old.known old.tables → IsValidFor old.disk.size store
+      → Represents (changed change store) new.known new.tables
+  pub runs : Runs old.disk.size old.known old.tables → Runs new.disk.size new.known new.tables
+
+-- nothing changes
+pub record Rests (answer : Result Answer Refusal) (old new : CoreState) : Type 0 where
+  pub disk : Reads (ending blames answer) old.disk new.disk
+  pub tables : KeepsTables old new
+
+-- A container is stored, or isn't. After a write that failed only the disk's images are told.
+pub record SealsOne (filled : Contents) (answer : Result Answer Refusal) (old new : CoreState) : Type 0 where
+  pub disk : settled.Steps old.tables.slots (ending blames answer) old.disk new.disk
+  pub moves : SealsContainer old.tables (next_id old) filled (ending blames answer) old.disk new.disk
+  pub made : OnOk answer (Makes (SealContainer (next_id old) filled.kind filled.segments) old new)
+  pub stores : OnOk answer ((store : Store) → Represents store old.known old.tables
+      → Known old.disk.content (λ before. KnownWith new.disk.content (Stores filled (next_id old) store before)))
+  pub kept : OnErr answer (new.stop ≡ None → KeepsTables old new)
+
+-- A name is given a root, or isn't.
+pub record PutsOne (name : List ℕ) (root : Root) (answer : Result Answer Refusal) (old new : CoreState) : Type 0 where
+  pub disk : Acts (ending blames answer) old.disk new.disk
+  pub moves : PutsRoot old.tables name root (ending blames answer) old.disk new.disk
+  pub made : OnOk answer (Makes (PutName name root) old new)
+  pub copies : OnOk answer ((store : Store) → Represents store old.known old.tables
+      → Known old.disk.content (λ before. Encodes before store
+      → KnownWith new.disk.content (KeepsCopies store before (changed (PutName name root) store))))
+  pub kept : OnErr answer (KeepsTables old new)
+
+abbrev pub Effect : StepValue → Result Answer Refusal → CoreState → CoreState → Type 0
+Effect (asked.Seal filled) answer old new = SealsOne filled answer old new
+Effect (asked.Commit name root) answer old new = PutsOne name root answer old new
+Effect step answer old new = Rests answer old new
+
+-- ---- what stops the core
+
+-- a write or a sync that failed, or damage that an index change met; then the refusal, and how many puts were acknowledged
+abbrev pub StopsAfter : StepValue → Result Answer Refusal → ℕ → Option Stop → Type 0
+StopsAfter step (Err refusals.DiskWrite) count stop = stop ≡ Some (record { refusal = refusals.DiskWrite; at = count })
+StopsAfter (asked.Seal filled) (Err (refusals.Damaged at why)) count stop =
+    (stop ≡ Some (record { refusal = refusals.Damaged at why; at = count })) ⊎ (stop ≡ None)
+StopsAfter step answer count stop = stop ≡ None
+
+-- a put that was acknowledged is counted
+abbrev pub counted : Result Answer Refusal → ℕ → ℕ
+counted (Ok (answers.Committed sequence)) count = one_more count
+counted answer count = count
+
+-- ---- a step
+
+-- of a core that runs
+pub record Steps (e : Event) (old new : CoreState) : Type 0 where
+  pub row : Row e.step e.actor e.answer e.buf old new
+  pub effect : Effect e.step e.answer old new
+  pub stops : StopsAfter e.step e.answer old.acknowledged new.stop
+  pub counted_is : new.acknowledged ≡ counted e.answer old.acknowledged
+  pub served : old.served → new.served
+
+-- and of one that is stopped
+pub record AnswersStopped (at : ℕ) (e : Event) (old new : CoreState) : Type 0 where
+  pub answer_is : e.answer ≡ Err (refusals.Stopped at)
+  pub same : IsSame old new
+
+abbrev pub StepsOr : Option Stop → Event → CoreState → CoreState → Type 0
+StepsOr None e old new = Steps e old new
+StepsOr (Some stop) e old new = AnswersStopped stop.at e old new
+
+abbrev pub CoreStep : CoreState → Event → CoreState → Type 0
+CoreStep old e new = StepsOr old.stop e old new

@@ -1,7 +1,8 @@
 -- What a segment says of itself and of its children, by its bytes (docs/FORMAT.md, 'Nodes').
-use Rattle.std.specs.Prelude.{◌≡◌, ℕ, ◌-◌, ◌==◌, if◌then◌else◌, List, [], ◌∷◌, length, map, Option, Some, None}
+use Rattle.std.specs.Prelude.{◌≡◌, ◌≤◌, ℕ, ◌-◌, ◌==◌, if◌then◌else◌, List, [], ◌∷◌, length, map, Option, Some, None}
 use Rattle.std.specs.List.{AllByRecursion}
 use Rattle.base_model.specs.Bytes.{key_of}
+use Rattle.disk_format.specs.declared.numbers.TheConstants.{MOST_SEGMENT}
 use Rattle.container_meta.specs.declared.kind.Kind.{Kind}
 use Rattle.container_meta.specs.declared.kind.Kind.TheVariants.{Leaf, Tree}
 use Rattle.container_meta.specs.Format.{kind_byte}
@@ -32,6 +33,11 @@ node_segment n = record { kind = Tree; segment = record { level = n.level; bytes
 -- each segment of a container may stand in a step
 abbrev pub AreStepSegments : Kind → List Segment → Type 0
 AreStepSegments kind segments = AllByRecursion (λ segment. IsOfKind kind segment) segments
+
+-- data is as long as a segment may be; a node always is
+abbrev pub IsAsLong : Kind → Segment → Type 0
+IsAsLong Leaf segment = (1 ≤ length segment.bytes) × (length segment.bytes ≤ MOST_SEGMENT)
+IsAsLong Tree segment = Unit {0}
 
 -- what is said of a segment of a kind: of data its length, of a node how many bytes of the file lie below it
 abbrev pub pin_by : Kind → Segment → Pin

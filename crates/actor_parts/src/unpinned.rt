@@ -2,7 +2,8 @@
 ghost use Rattle.std.specs.Prelude.{◌≡◌, ◌≤◌};
 ghost use Rattle.base_model.specs.Bytes.{key_of};
 ghost use Rattle.container_meta.specs.Format.{kind_byte};
-ghost use Rattle.actor_parts.specs.Segments.{IsStepSegment, IsNodeSegment, child_kind, child_pin, children_by};
+ghost use Rattle.actor_parts.specs.PinMap.{IsPin};
+ghost use Rattle.actor_parts.specs.Segments.{IsStepSegment, IsNodeSegment, IsAsLong, child_kind, child_pin, children_by};
 ghost use Rattle.actor_parts.specs.Segments.{first_not_in, first_unpinned, pin_by, pin_of};
 ghost use Rattle.container_meta.specs.declared.kind.Kind.TheVariants.{Tree};
 
@@ -13,7 +14,8 @@ use merkle_file::{Hash, child_at, count_in, length_in};
 /// What is said of a segment: of data its length, of a node its level and how many bytes of the file lie below it.
 pub fn pin_of(seg: &Seg) -> Pin
     requires { IsStepSegment seg.now }
-    ensures { result ≡ pin_of seg.now }
+    ensures pin { result ≡ pin_of seg.now }
+    ensures right { IsAsLong seg.now.kind seg.now.segment → IsPin result }
 {
     pin_in(seg.kind(), seg.level(), seg.bytes())
 }
@@ -30,7 +32,8 @@ pub fn first_unpinned(seg: &Seg, pins: &Pins) -> Option<Key>
 /// `pin_of`, of the kind, the level and the bytes of a segment.
 pub fn pin_in(kind: Kind, level: u8, bytes: &[u8]) -> Pin
     requires { IsStepSegment (record { kind = kind; segment = record { level = level; bytes = bytes.now } }) }
-    ensures { result ≡ pin_by kind (record { level = level; bytes = bytes.now }) }
+    ensures pin { result ≡ pin_by kind (record { level = level; bytes = bytes.now }) }
+    ensures right { IsAsLong kind (record { level = level; bytes = bytes.now }) → IsPin result }
 {
     match kind {
         Kind::Leaf => Pin {

@@ -66,7 +66,8 @@ pub record IsNamed (old : Tables) (name : List ℕ) (root : Root) (new : Tables)
   pub below : old.journal.last < 2 ^ 64 - 1
   pub tables_are : new ≡ tables_with (put_after_last old name root) old
   pub can : (store : Store) → RepresentsNames store old → CanPut name store
-  pub represents : (store : Store) (known : Option PlaceMap) → Represents store known old → Represents (with_put name root store) known new
+  pub represents : (store : Store) (known : Option PlaceMap) → Represents store known old
+      → Represents (with_put name root store) known new
   pub runs : (size : ℕ) (known : Option PlaceMap) → Runs size known old → Runs size known new
 
 -- ---- what the disk stands for, on the way
@@ -100,4 +101,5 @@ pub record PutsRoot (t : Tables) (name : List ℕ) (root : Root) (ending : Endin
 -- leaves at any moment, whatever the disk holds.
 abbrev pub ChangesNextAlone : JournalValue → DiskView → DiskView → Type 0
 ChangesNextAlone journal old new =
-    IsDurable old → Known old.content (λ given. KnownWith new.content (SameButNext journal given) × CrashLeaves (SameButNext journal given) old new)
+    IsDurable old → Known old.content (λ given.
+    KnownWith new.content (SameButNext journal given) × CrashLeaves (SameButNext journal given) old new)

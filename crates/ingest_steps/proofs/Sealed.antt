@@ -1,0 +1,181 @@
+-- What a container more makes of a disk, in terms of the tables.
+use Rattle.std.proofs.Common.{◌≡◌, ◌⊎◌, inl, inr, ℕ, ◌+◌, ◌<◌, ◌≤◌, List, [], ◌∷◌, length, Option, Some, None, refl, sym, ◌∙◌, ap, subst, arith}
+use Rattle.std.specs.List.{AllByRecursion}
+use Rattle.base_model.specs.Frames.{SameOutside}
+use Rattle.disk_format.specs.declared.numbers.TheConstants.{RESERVE, SLOT_BYTES, MOST_SLOTS}
+use Rattle.disk_format.specs.Layout.{slot_at}
+use Rattle.dd_disk.specs.View.{DiskView, SteppedFrom}
+use Rattle.dd_disk.specs.Ending.{Ending, Done, Refused, Unread, Broken}
+use Rattle.dd_disk.specs.Writes.{Writes, Written}
+use Rattle.dd_disk.specs.Moves.{Moves}
+use Rattle.dd_disk.proofs.Later.{leaves_weaker}
+use Rattle.dd_disk.proofs.Moves.{moves_written, stands_content}
+use Rattle.dd_disk.proofs.Writes.{writes_weaker}
+use Rattle.container_meta.specs.declared.kind.Kind.{Kind}
+use Rattle.container_meta.specs.Places.{PlaceMap}
+use Rattle.container_meta.specs.Segments.{Segment, Contents, segment_key}
+use Rattle.container_log.specs.Writing.{Seals, IsSealed}
+use Rattle.segment_index.specs.Changes.{SameBefore}
+use Rattle.store_model.specs.Files.{Files}
+use Rattle.store_model.specs.Image.{Store}
+use Rattle.store_model.specs.Slots.{HoldsContainer, newest, last_id, free_slots, first_free}
+use Rattle.store_model.specs.Standing.{ByteSet, IsIn, Stands}
+use Rattle.store_model.specs.Steps.{CanSeal, MaySeal, KeepsCopies, with_sealed}
+use Rattle.store_model.specs.Trees.{HasNewest}
+use Rattle.store_model.proofs.FramedTrees.{unsealed}
+use Rattle.store_model.proofs.Free.{as_many}
+use Rattle.store_model.proofs.Sealed.{first_free_closed}
+use Rattle.store_model.proofs.SealedTrees.{IsNewestOf, all_by_fit, newest_of_none, newest_kept, newest_sealed, sealed}
+use Rattle.store_model.proofs.Sound.{sound_of_right}
+use Rattle.store_state.specs.declared.tables.Tables.{Tables}
+use Rattle.store_state.specs.Tables.{Represents, Runs}
+use Rattle.ingest_steps.specs.Sealing.{IsSlotFor, HasSlot, FitBeside, KeepsHeld, IsSlotOf, SealsContainer, SameButSlotOf, ChangesSlotAlone, sealing}
+
+same_content : (a b : List ℕ) → Some a ≡ Some b → a ≡ b
+same_content a b is = cc
+
+-- ---- in terms of the store
+
+all_of_none : (kind : Kind) (store : Store) (image : List ℕ) (segments : List Segment) → AllByRecursion (λ s. newest 0 store.held (segment_key kind s) ≡ None) segments
+    → AllByRecursion (IsNewestOf kind store image image) segments
+all_of_none kind store image [] none = tt
+all_of_none kind store image (s ∷ ss) none = (newest_of_none kind store image image s none.0, all_of_none kind store image ss none.1)
+
+module _ (S : List ℕ → Type 0) (id : ℕ) (filled : Contents) (store : Store) (files : Files) (given : List ℕ)
+    (spare : RESERVE < free_slots store.held) (above : last_id store.held < id)
+    (may : AllByRecursion (MaySeal S filled.kind) filled.segments) (fit : FitBeside S filled.kind filled.segments store given) where
+  -- the newest copies of the segments' keys are the segments
+  newests : Stands S store files given → AllByRecursion (IsNewestOf filled.kind store given given) filled.segments
+  newests stands = elim fit [
+    | inl each ↦ all_by_fit S filled.kind store files given given each.0 stands filled.segments may each.1
+    | inr none ↦ all_of_none filled.kind store given filled.segments none
+  ]
+
+  can : (c : List ℕ) → HoldsContainer c (first_free store.held) id filled.kind filled.segments → CanSeal id filled.kind filled.segments store
+  can c container = record { slot = spare; new_id = above; right = container.header.0 }
+
+  -- once it is written
+  once : (c : List ℕ) → Stands S store files given → IsSealed (first_free store.held) id filled.kind filled.segments given c
+      → Stands S (with_sealed id filled.kind filled.segments store) files c
+  once c stands (same, container) =
+      sealed S id filled.kind filled.segments store files given given c stands stands same container (can c container) may (newests stands)
+
+  -- what was held is held
+  pub kept_once : (c : List ℕ) → Stands S store files given → IsSealed (first_free store.held) id filled.kind filled.segments given c
+      → KeepsCopies store given (with_sealed id filled.kind filled.segments store) c
+  kept_once c stands (same, container) =
+      newest_kept S id filled.kind filled.segments store files given c stands same container (can c container) may (newests stands)
+
+  -- while it is written
+  while : (d c : List ℕ) → Stands S store files given → Stands S store files d → Seals (first_free store.held) id filled.kind filled.segments given d c
+      → Stands S store files c ⊎ Stands S (with_sealed id filled.kind filled.segments store) files c
+  while d c stands was (inl (same, still)) =
+      inl (unsealed S store files d c was same (still (first_free_closed d store was.holds.right (omega (arith, was.holds.reserve)))))
+  while d c stands was (inr (same, inl closed)) = inl (unsealed S store files given c stands same closed)
+  while d c stands was (inr (same, inr container)) = inr (once c stands (same, container))
+
+  -- each of the segments is
+  segments_once : (c : List ℕ) → IsSealed (first_free store.held) id filled.kind filled.segments given c
+      → AllByRecursion (λ s. HasNewest (with_sealed id filled.kind filled.segments store).held (segment_key filled.kind s) s.level s.bytes c) filled.segments
+  segments_once c (same, container) = newest_sealed id filled.kind filled.segments store c (omega (arith, spare)) above container
+
+  holds_written : (e : Ending) (old new : DiskView) (held : List ℕ) → old.content ≡ Some given → new.content ≡ Some held → Stands S store files given
+      → Written (IsSealed (first_free store.held) id filled.kind filled.segments) e old new → KeepsHeld e id filled store given held
+  holds_written Done old new held known is stands written =
+      let c = written.0 given known in
+      let whole = subst (IsSealed (first_free store.held) id filled.kind filled.segments given) (same_content c.0 held (sym c.1 ∙ is)) c.2 in
+      (kept_once held stands whole, segments_once held whole)
+  holds_written Refused old new held known is stands written = same_content held given (sym is ∙ written.content_is ∙ known)
+  holds_written Unread old new held known is stands written = same_content held given (sym is ∙ written.content_is ∙ known)
+  holds_written Broken old new held known is stands written = tt
+
+  -- on a disk
+  abbrev Steps : List ℕ → List ℕ → List ℕ → Type 0
+  Steps = Seals (first_free store.held) id filled.kind filled.segments
+
+  abbrev Whole : List ℕ → List ℕ → Type 0
+  Whole = IsSealed (first_free store.held) id filled.kind filled.segments
+
+  pub moves_sealed : (e : Ending) (old new : DiskView) → old.content ≡ Some given → Writes Steps Whole e old new → Moves (sealing S id filled store files) e old new
+  moves_sealed e old new known writes =
+      let P : List ℕ → Type 0 = Stands S store files in
+      let Q : List ℕ → Type 0 = Stands S (with_sealed id filled.kind filled.segments store) files in
+      let here : (g : List ℕ) → old.content ≡ Some g → g ≡ given = λ g is. same_content g given (sym is ∙ known) in
+      moves_written P (λ c. P c ⊎ Q c) Q (λ g d c. (g ≡ given) × Steps g d c) (λ g c. (g ≡ given) × Whole g c) old new
+      (λ g c stands is. once c (subst P is.0 stands) (subst (λ (x : List ℕ). Whole x c) is.0 is.1)) e (λ c stands. inl stands)
+      (λ g d c stands was is. while d c (subst P is.0 stands) was (subst (λ (x : List ℕ). Steps x d c) is.0 is.1))
+      (writes_weaker Steps (λ g d c. (g ≡ given) × Steps g d c) Whole (λ g c. (g ≡ given) × Whole g c) old new
+      (λ g c is whole. (here g is, whole)) e (λ g d c is image step. (here g is, step)) writes)
+
+-- ---- in terms of the tables
+
+-- the slot lies on the disk
+pub slot_fits : (size : ℕ) (known : Option PlaceMap) (t : Tables) (slot : ℕ) → IsSlotFor t slot → Runs size known t → slot_at slot + SLOT_BYTES ≤ size
+slot_fits size known t slot gives runs =
+    omega (arith, ((gives size known).store_has runs.store runs.represents runs.valid runs.reserve_holds).within, runs.valid.size_is)
+
+pub slot_within : (size : ℕ) (known : Option PlaceMap) (t : Tables) (slot : ℕ) → IsSlotFor t slot → Runs size known t → slot < t.slots
+slot_within size known t slot gives runs =
+    omega (arith, ((gives size known).store_has runs.store runs.represents runs.valid runs.reserve_holds).within, runs.represents.slots_are)
+
+-- there are at most as many slots as a disk may have
+pub few_slots : (size : ℕ) (known : Option PlaceMap) (t : Tables) → Runs size known t → length t.held.ids.items ≤ MOST_SLOTS
+few_slots size known t runs =
+    omega (arith, ap length runs.represents.slots_hold.ids_are, as_many runs.store.held, runs.valid.many, runs.valid.count.1)
+
+-- that of a store that the content stands for
+slot_in : (t : Tables) (slot : ℕ) → HasSlot t slot → (among : ByteSet) (store : Store) (known : Option PlaceMap) (files : Files) (given : List ℕ) → Represents store known t
+    → Stands (IsIn among) store files given → IsSlotOf slot store
+slot_in t slot has among store known files given keeps stands =
+    (has.slot_is (length given) known).store_has store keeps (sound_of_right (length given) given store refl stands.holds.right) stands.holds.reserve
+
+-- the container that is written is the one that the store is to have
+pub seals_container : (t : Tables) (slot id : ℕ) (filled : Contents) → HasSlot t slot → id ≡ t.held.last_id + 1 → (e : Ending) (old new : DiskView)
+    → Writes (Seals slot id filled.kind filled.segments) (IsSealed slot id filled.kind filled.segments) e old new → SealsContainer t id filled e old new
+seals_container t slot id filled has next e old new writes = record {
+  moves = λ among store known files given keeps content may fit stands.
+      let holds : Stands (IsIn among) store files given = stands_content (Stands (IsIn among) store files) old stands given content in
+      let at = slot_in t slot has among store known files given keeps holds in
+      moves_sealed (IsIn among) id filled store files given at.spare (omega (arith, next, keeps.slots_hold.last_id_is)) may fit e old new content (of_slot at.first) stands;
+  holds = λ among store known files given held keeps content now holds may fit.
+      let at = slot_in t slot has among store known files given keeps holds in
+      holds_written (IsIn among) id filled store files given at.spare (omega (arith, next, keeps.slots_hold.last_id_is)) may fit e old new held content now holds
+      (of_slot at.first).written;
+}
+  where
+    of_slot : {first : ℕ} → slot ≡ first → Writes (Seals first id filled.kind filled.segments) (IsSealed first id filled.kind filled.segments) e old new
+    of_slot is = subst (λ (i : ℕ). Writes (Seals i id filled.kind filled.segments) (IsSealed i id filled.kind filled.segments) e old new) is writes
+
+-- ---- the bytes
+
+same_slot : (slots slot : ℕ) (given d c : List ℕ) → SameBefore (slot_at slots) given d → SameOutside (slot_at slot) SLOT_BYTES d c → slot < slots → SameButSlotOf slots slot given c
+same_slot slots slot given d c settled same within = record {
+  size = same.size ∙ settled.size;
+  before = λ p n below. same.before p n below ∙ settled.before p n (omega (arith, below, within));
+  after = λ p n above below. same.after p n (omega (arith, above)) ∙ settled.before p n below;
+}
+
+same_here : (place : ℕ) (bytes : List ℕ) → SameBefore place bytes bytes
+same_here place bytes = record { size = refl; before = λ p n within. refl }
+
+same_settled : (slots slot : ℕ) (given c : List ℕ) → SameBefore (slot_at slots) given c → slot < slots → SameButSlotOf slots slot given c
+same_settled slots slot given c settled within = record {
+  size = settled.size;
+  before = λ p n below. settled.before p n (omega (arith, below, within));
+  after = λ p n above below. settled.before p n below;
+}
+
+module _ (slots slot id : ℕ) (filled : Contents) (within : slot < slots) where
+  stepped : (given d c : List ℕ) → SameBefore (slot_at slots) given d → Seals slot id filled.kind filled.segments given d c → SameButSlotOf slots slot given c
+  stepped given d c settled (inl is) = same_slot slots slot given d c settled is.0 within
+  stepped given d c settled (inr is) = same_slot slots slot given given c (same_here (slot_at slots) given) is.0 within
+
+  pub changes_slot : (e : Ending) (old new : DiskView) → Writes (Seals slot id filled.kind filled.segments) (IsSealed slot id filled.kind filled.segments) e old new
+      → ChangesSlotAlone slots slot old new
+  changes_slot e old new writes settled given known =
+      let leaves = leaves_weaker (SteppedFrom (Seals slot id filled.kind filled.segments given) old) (SameButSlotOf slots slot given) old new (λ c from. elim from [
+        | inl same ↦ same_settled slots slot given c (settled given known c same) within
+        | inr step ↦ stepped given step.0 c (settled given known step.0 step.1) step.2
+      ]) (writes.steps given known) in
+      let now = writes.later.tells given known in
+      ((now.0, now.1, leaves.now now.0 (new.as_read now.0 now.1)), leaves)

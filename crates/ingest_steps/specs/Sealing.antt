@@ -1,0 +1,99 @@
+-- When a container may be sealed, and what that makes of the disk (docs/MODEL.md, 'Steps').
+use Rattle.std.specs.Prelude.{◌≡◌, ◌⊎◌, ℕ, ◌+◌, ◌<◌, ◌≤◌, List, length, Option, Some, None}
+use Rattle.std.specs.List.{AllByRecursion}
+use Rattle.base_model.specs.Bytes.{range}
+use Rattle.base_model.specs.Known.{Known, KnownWith}
+use Rattle.disk_format.specs.declared.numbers.TheConstants.{RESERVE, LAST_ID}
+use Rattle.disk_format.specs.Layout.{slot_at}
+use Rattle.dd_disk.specs.View.{DiskView, CrashLeaves}
+use Rattle.dd_disk.specs.Ending.{Ending, Done, Refused, Unread, Broken}
+use Rattle.dd_disk.specs.Moves.{Way, one_step, Moves}
+use Rattle.container_meta.specs.declared.kind.Kind.{Kind}
+use Rattle.container_meta.specs.Places.{PlaceMap}
+use Rattle.container_meta.specs.Segments.{Segment, Contents, segment_key}
+use Rattle.refusals.specs.declared.refusal.Refusal.{Refusal}
+use Rattle.refusals.specs.declared.refusal.Refusal.TheVariants.{Full, Numbers}
+use Rattle.store_model.specs.Commands.{HasNoCollisions}
+use Rattle.store_model.specs.Files.{Files}
+use Rattle.store_model.specs.Image.{Store}
+use Rattle.store_model.specs.Slots.{newest, free_slots, first_free}
+use Rattle.store_model.specs.Standing.{ByteSet, IsIn, Stands}
+use Rattle.store_model.specs.Steps.{MaySeal, FitsHeld, KeepsCopies, with_sealed}
+use Rattle.store_model.specs.Trees.{HasNewest}
+use Rattle.store_state.specs.Settled.{IsSettled}
+use Rattle.store_state.specs.declared.tables.Tables.{Tables}
+use Rattle.store_state.specs.Tables.{Represents, OfEach}
+
+-- ---- when
+
+-- a slot for one more container: the closed one of least number, with two more to spare
+pub record IsSlotOf (slot : ℕ) (store : Store) : Type 0 where
+  pub spare : RESERVE < free_slots store.held
+  pub first : slot ≡ first_free store.held
+  pub within : slot < store.slots
+
+-- it is that of each store that the tables represent
+abbrev pub IsSlotFor : Tables → ℕ → Type 0
+IsSlotFor t slot = (size : ℕ) (known : Option PlaceMap) → OfEach size known t (IsSlotOf slot)
+
+-- a container more may be sealed, in this slot: an id is left
+pub record HasSlot (t : Tables) (slot : ℕ) : Type 0 where
+  pub slot_is : IsSlotFor t slot
+  pub below : t.held.last_id < LAST_ID
+
+-- Why none may: two slots or fewer are free; or more are, and the ids are at their end.
+abbrev pub IsSlotRefusal : Tables → ℕ → Option PlaceMap → Refusal → Type 0
+IsSlotRefusal t size known (Full free) = OfEach size known t (λ store. (free ≡ free_slots store.held) × (free ≤ RESERVE))
+IsSlotRefusal t size known Numbers = OfEach size known t (λ store. RESERVE < free_slots store.held) × (LAST_ID ≤ t.held.last_id)
+IsSlotRefusal t size known refusal = ⊥
+
+-- ---- what the disk stands for, on the way
+
+-- the store of these files, or that with the container
+abbrev pub sealing : (List ℕ → Type 0) → ℕ → Contents → Store → Files → Way
+sealing S id filled store files =
+    one_step (Stands S store files) (Stands S (with_sealed id filled.kind filled.segments store) files)
+
+-- Segments may stand beside what is held. S has no collisions, and each segment fits the newest copy of its key in an image,
+-- if there is one; or there is none of any.
+abbrev pub FitBeside : (List ℕ → Type 0) → Kind → List Segment → Store → List ℕ → Type 0
+FitBeside S kind segments store image =
+    (HasNoCollisions S × AllByRecursion (FitsHeld kind store image) segments)
+    ⊎ AllByRecursion (λ s. newest 0 store.held (segment_key kind s) ≡ None) segments
+
+-- What becomes of what the content held: where the container was written each newest copy goes on, and that of each of the
+-- segments is the segment; where it was refused the content is as it was.
+abbrev pub KeepsHeld : Ending → ℕ → Contents → Store → List ℕ → List ℕ → Type 0
+KeepsHeld Done id filled store given new =
+    KeepsCopies store given (with_sealed id filled.kind filled.segments store) new
+    × AllByRecursion (λ s. HasNewest (with_sealed id filled.kind filled.segments store).held (segment_key filled.kind s) s.level s.bytes new)
+    filled.segments
+KeepsHeld Refused id filled store given new = new ≡ given
+KeepsHeld Unread id filled store given new = new ≡ given
+KeepsHeld Broken id filled store given new = Unit {0}
+
+-- A container is sealed: of each store that the tables represent, and of any files.
+pub record SealsContainer (t : Tables) (id : ℕ) (filled : Contents) (ending : Ending) (old new : DiskView) : Type 0 where
+  -- where its segments may be sealed, beside what the content holds
+  pub moves : (among : ByteSet) (store : Store) (known : Option PlaceMap) (files : Files) (given : List ℕ)
+      → Represents store known t → old.content ≡ Some given → AllByRecursion (MaySeal (IsIn among) filled.kind) filled.segments
+      → FitBeside (IsIn among) filled.kind filled.segments store given → Moves (sealing (IsIn among) id filled store files) ending old new
+  pub holds : (among : ByteSet) (store : Store) (known : Option PlaceMap) (files : Files) (given held : List ℕ)
+      → Represents store known t → old.content ≡ Some given → new.content ≡ Some held → Stands (IsIn among) store files given
+      → AllByRecursion (MaySeal (IsIn among) filled.kind) filled.segments
+      → FitBeside (IsIn among) filled.kind filled.segments store given → KeepsHeld ending id filled store given held
+
+-- ---- what becomes of the bytes
+
+-- the same bytes but those of a slot and those after all slots
+pub record SameButSlotOf (slots slot : ℕ) (old new : List ℕ) : Type 0 where
+  pub size : length new ≡ length old
+  pub before : (p n : ℕ) → p + n ≤ slot_at slot → range p n new ≡ range p n old
+  pub after : (p n : ℕ) → slot_at (slot + 1) ≤ p → p + n ≤ slot_at slots → range p n new ≡ range p n old
+
+-- On a disk that was settled nothing changes but the slot, and what comes after all slots, in what reads give and in what a
+-- crash leaves at any moment, whatever the disk holds.
+abbrev pub ChangesSlotAlone : ℕ → ℕ → DiskView → DiskView → Type 0
+ChangesSlotAlone slots slot old new =
+    IsSettled slots old
+    → Known old.content (λ given. KnownWith new.content (SameButSlotOf slots slot given) × CrashLeaves (SameButSlotOf slots slot given) old new)

@@ -48,6 +48,13 @@ impl Names {
         }
     }
 
+    /// How many names are there.
+    pub fn count(&self) -> usize
+        ensures { result ≡ finite.len self.now }
+    {
+        self.entries.len()
+    }
+
     /// Whether a name is there.
     fn has(&self, name: &[u8]) -> bool
         ensures there { IsTrue result → IsSome (finite.get self.now name.now) }

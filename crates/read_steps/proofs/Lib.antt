@@ -1,2 +1,3 @@
-pub mod Walks
 pub mod HeldWalks
+pub mod Openings
+pub mod Walks

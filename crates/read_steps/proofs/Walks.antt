@@ -110,6 +110,9 @@ module _ (known : Option PlaceMap) (old mid new : DiskView) where
     };
   }
 
+  pub same_on : (a b c : Option PlaceMap) → b ≡ a → c ≡ b → c ≡ a
+  same_on a b c first second = second ∙ first
+
   pub walked_then : (sooner : Option PlaceMap) → sooner ≡ known → OnlyReads old mid → OnlyReads mid new → (a b c : List Top)
       → Walked (WasRead known old mid) a b → Walked (WasRead sooner mid new) b c → Walked (WasRead known old new) a c
   walked_then sooner same first second a b c one other =

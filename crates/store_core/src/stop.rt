@@ -3,7 +3,7 @@
 use refusals::Refusal;
 
 /// A core that is stopped makes no step any more.
-#[derive(Clone, Copy, Debug)]
+#[derive(Clone, Copy)]
 pub struct Stop {
     /// The refusal that stopped it.
     pub refusal: Refusal,

@@ -1,9 +1,5 @@
 -- Which files a disk image stands for (docs/MODEL.md, 'Images').
-<<<<<<< HEAD
-use Rattle.std.specs.Prelude.{◌⊎◌, slice_get, ◌≡◌, ℕ, ◌+◌, ◌≤◌, List, [], ◌∷◌, length, Bool, IsTrue, Option, Some, None}
-=======
 use Rattle.std.specs.Prelude.{◌≡◌, ◌⊎◌, ℕ, ◌+◌, ◌≤◌, List, [], ◌∷◌, length, slice_get, Bool, IsTrue, Option, Some, None}
->>>>>>> dec7d000a4169cf724c05040f6e05de2effb373c
 use Rattle.std.specs.FinMap as finite
 use Rattle.std.specs.List.{AllByRecursion}
 use Rattle.base_model.specs.Bytes.{range}

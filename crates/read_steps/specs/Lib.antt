@@ -1,3 +1,5 @@
+pub mod Counting
 pub mod Opening
+pub mod Readers
 pub mod Reading
 pub mod Walking

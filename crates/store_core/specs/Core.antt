@@ -1,5 +1,5 @@
 -- What each step makes of the core of a store, what it answers, and why it is refused (docs/MODEL.md, 'The core').
-use Rattle.std.specs.Prelude.{◌≡◌, ◌≢◌, ◌⊎◌, ℕ, ◌+◌, ◌-◌, ◌<◌, ◌≤◌, List, [], ◌∷◌, sum_by, Option, Some, None, Result, Ok, Err, IfOk, IfErr, OnOk, OnErr}
+use Rattle.std.specs.Prelude.{◌≡◌, ◌≢◌, ◌⊎◌, ℕ, ◌+◌, ◌-◌, ◌<◌, ◌≤◌, List, [], ◌∷◌, Option, Some, None, Result, Ok, Err, IfOk, IfErr, OnOk, OnErr}
 use Rattle.std.specs.FinMap as finite
 use Rattle.std.specs.List.{AllByRecursion}
 use Rattle.base_model.specs.Known.{Known, KnownWith}
@@ -10,6 +10,7 @@ use Rattle.dd_disk.specs.Ending.{Ending, Refused, Reads, ending}
 use Rattle.dd_disk.specs.Moves.{Moves, Acts}
 use Rattle.container_meta.specs.declared.kind.Kind.{Kind}
 use Rattle.container_meta.specs.Places.{PlaceMap}
+use Rattle.container_meta.specs.Spelling.{HeaderValue}
 use Rattle.container_meta.specs.Segments.{Segment, KindSegment, Contents, segment_key}
 use Rattle.merkle_file.specs.declared.top.Top.{Top}
 use Rattle.actor_parts.specs.declared.part.Part.{Part}
@@ -22,7 +23,6 @@ use Rattle.actor_parts.specs.PinMap.{PinMap}
 use Rattle.actor_parts.specs.Segments.{pin_of, first_unpinned}
 use Rattle.actor_parts.specs.StepValue as asked
 use Rattle.actor_parts.specs.StepValue.{StepValue}
-use Rattle.refusals.specs.declared.difference.Difference.{Difference}
 use Rattle.refusals.specs.declared.refusal.PartKind.{PartKind}
 use Rattle.refusals.specs.declared.refusal.PartKind.TheVariants as kinds
 use Rattle.refusals.specs.declared.refusal.Refusal.{Refusal}
@@ -31,17 +31,19 @@ use Rattle.segment_index.specs.Places.{KnownMap}
 use Rattle.store_model.specs.Commands.{HasNoCollisions}
 use Rattle.store_model.specs.Files.{Files}
 use Rattle.store_model.specs.Image.{Store, Encodes, IsValidFor, names_of}
-use Rattle.store_model.specs.Slots.{Copy, HoldsContainer, newest, first_free, free_slots}
-use Rattle.store_model.specs.Standing.{ByteSet, IsIn, IsStoreOf, Stands}
-use Rattle.store_model.specs.Steps.{StoreChange, SealContainer, PutName, CanChange, MaySeal, FitsCopy, FitsHeld, KeepsCopies, changed}
+use Rattle.store_model.specs.Slots.{Copy, IsIndexOf, newest}
+use Rattle.store_model.specs.Standing.{ByteSet, IsIn, IsAmong, IsStoreOf, Stands}
+use Rattle.store_model.specs.Steps.{StoreChange, SealContainer, PutName, CanChange, MaySeal, FitsCopy, KeepsCopies, changed, with_sealed}
+use Rattle.store_state.specs.Invariant.{HoldsPart}
 use Rattle.store_state.specs.Refused.{blames}
 use Rattle.store_state.specs.Settled as settled
 use Rattle.store_state.specs.Tables.{Represents, Runs, OfEach}
 use Rattle.ingest_steps.specs.Naming.{PutsRoot}
-use Rattle.ingest_steps.specs.Sealing.{SealsContainer}
+use Rattle.ingest_steps.specs.Sealing.{sealing}
 use Rattle.ingest_steps.specs.Writers.{MayCommit, IsWrongPart, IsCommitRefusal}
-use Rattle.read_steps.specs.Opening as opening
-use Rattle.read_steps.specs.Walking.{WasRead, IsAnswer, IsWalkRefusal, IsIndexed, SegmentsAhead, IsHeldAnswer}
+use Rattle.read_steps.specs.Counting.{counts_of}
+use Rattle.read_steps.specs.Readers as readers
+use Rattle.read_steps.specs.Walking.{IsIndexed, SegmentsAhead}
 use Rattle.store_core.specs.declared.stop.Stop.{Stop}
 use Rattle.store_core.specs.State.{CoreState, IsSame, Event, one_more}
 
@@ -72,12 +74,21 @@ pub record HasFit (seg : KindSegment) (store : Store) (image : List ℕ) : Type 
   pub copy_is : newest 0 store.held (segment_key seg.kind seg.segment) ≡ Some copy
   pub fits : FitsCopy seg.kind seg.segment copy.place image
 
+-- What the actor keeps is right still, where a content stands for files and the map is that of its store; S has no collisions.
+abbrev pub KeepsPins : KindSegment → ℕ → CoreState → CoreState → Type 0
+KeepsPins seg actor old new =
+    (among : ByteSet) (store : Store) (files : Files) (image : List ℕ) (places : PlaceMap) → old.disk.content ≡ Some image
+    → old.known ≡ Some places → IsIndexOf store.held places → Stands (IsIn among) store files image → HasNoCollisions (IsIn among)
+    → IsAmong (IsIn among) seg.kind seg.segment.bytes → HoldsPart store.held image (part_of old.parts actor)
+    → HoldsPart store.held image (part_of new.parts actor)
+
 -- a copy of it is held, and it is pinned from now on
 pub record IsHeld (seg : KindSegment) (actor : ℕ) (old new : CoreState) : Type 0 where
   pub pins : PinMap
   pub may : MayOffer old.parts actor seg pins
   pub held : (store : Store) → Represents store old.known old.tables → Known old.disk.content (HasFit seg store)
   pub parts_are : Gets (Writing (finite.insert pins (segment_key seg.kind seg.segment) (pin_of seg))) actor old new
+  pub kept : KeepsPins seg actor old new
 
 -- the index has no entry of its key
 pub record IsAbsent (seg : KindSegment) (actor : ℕ) (old new : CoreState) : Type 0 where
@@ -99,10 +110,18 @@ with_pins kind (s ∷ ss) pins = with_pins kind ss (finite.insert pins (segment_
 abbrev pub next_id : CoreState → ℕ
 next_id c = c.tables.held.last_id + 1
 
--- what was to be held of a container stands: it was not there before, and each copy that was fits it
-pub record Stores (filled : Contents) (id : ℕ) (store : Store) (before after : List ℕ) : Type 0 where
-  pub fits : AllByRecursion (FitsHeld filled.kind store before) filled.segments
-  pub container : HoldsContainer after (first_free store.held) id filled.kind filled.segments
+-- What is held goes on, and what the actor keeps is right, where a content stands for files; S has no collisions.
+pub record KeepsHeld (filled : Contents) (id actor : ℕ) (store : Store) (before after : List ℕ) (old new : CoreState) : Type 0 where
+  pub copies : KeepsCopies store before (with_sealed id filled.kind filled.segments store) after
+  pub part : HoldsPart store.held before (part_of old.parts actor)
+      → HoldsPart (with_sealed id filled.kind filled.segments store).held after (part_of new.parts actor)
+
+abbrev pub SealKeeps : Contents → ℕ → ℕ → CoreState → CoreState → Type 0
+SealKeeps filled id actor old new =
+    (among : ByteSet) (store : Store) (files : Files) (before after : List ℕ) → old.disk.content ≡ Some before
+    → new.disk.content ≡ Some after → Represents store old.known old.tables → Stands (IsIn among) store files before
+    → HasNoCollisions (IsIn among) → AllByRecursion (MaySeal (IsIn among) filled.kind) filled.segments
+    → KeepsHeld filled id actor store before after old new
 
 -- the container stands, and its segments are pinned from now on
 pub record IsSealed (filled : Contents) (id actor : ℕ) (old new : CoreState) : Type 0 where
@@ -111,55 +130,38 @@ pub record IsSealed (filled : Contents) (id actor : ℕ) (old new : CoreState) :
   pub children : AllByRecursion (λ s. first_unpinned (in_kind filled.kind s) pins ≡ None) filled.segments
   pub id_is : id ≡ next_id old
   pub parts_are : Gets (Writing (with_pins filled.kind filled.segments pins)) actor old new
+  pub kept : SealKeeps filled id actor old new
 
 -- ---- a file that is given back
 
--- what is answered of a walk
-abbrev pub walk_answer : Result Answer Refusal → Result (Option ℕ) Refusal
-walk_answer (Ok (answers.Bytes count)) = Ok (Some count)
-walk_answer (Ok answer) = Ok None
-walk_answer (Err refusal) = Err refusal
-
--- The actor takes a file, and what is to come of it goes on, or stays.
-pub record ReadsOn (answer : Result (Option ℕ) Refusal) (buf : List ℕ) (actor : ℕ) (old new : CoreState) : Type 0 where
-  pub root : Root
-  pub before : List Top
-  pub after : List Top
-  pub reading : part_of old.parts actor ≡ Reading (record { root = root; cursor = before })
-  pub parts_are : Gets (Reading (record { root = root; cursor = after })) actor old new
-  -- on any disk
-  pub given : IfOk answer (IsAnswer (WasRead old.known old.disk new.disk) before after buf)
-  pub refused : IfErr answer (IsWalkRefusal old.known old.breaks old.disk new.disk before after)
-  -- where it tells its content, and held trees are to come
-  pub held : (slots : _) (image : List ℕ) (segments : List (List ℕ)) → IsIndexed slots old.known old.disk.content image
-      → SegmentsAhead slots image before segments → IsHeldAnswer slots image after segments buf answer
-
--- why no file is given: the actor is at something, or by the name
-abbrev pub IsOpenRefusal : List ℕ → ℕ → Refusal → CoreState → Type 0
-IsOpenRefusal name actor (refusals.WrongPart kind) c = IsWrongPart kinds.Idle (part_of c.parts actor) (refusals.WrongPart kind)
-IsOpenRefusal name actor refusal c = (kind_of (part_of c.parts actor) ≡ kinds.Idle) × opening.IsNameRefusal c.tables.names name refusal
-
--- The actor takes a file from its begin on.
+-- The actor is given the file of a name, which a store that stands for files has to come.
 pub record IsOpened (name : List ℕ) (count actor : ℕ) (old new : CoreState) : Type 0 where
-  pub idle : kind_of (part_of old.parts actor) ≡ kinds.Idle
-  pub root : Root
-  pub ahead : List Top
-  pub begins : opening.Begins old.tables.names name root ahead
-  pub count_is : count ≡ root.length
-  pub parts_are : Gets (Reading (record { root = root; cursor = ahead })) actor old new
-  -- where a store stands for files, the file of the name is to come
+  pub opens : readers.Opens old.tables.names name actor old.parts new.parts count
   pub file : (store : Store) (files : Files) (image : List ℕ) → old.tables.names ≡ names_of store → IsStoreOf store files image
-      → opening.IsFileAhead store files image name root ahead
+      → readers.OpensFile store files image name actor old.parts new.parts
+
+-- what is answered where segments of held trees are to come
+abbrev pub GivesHeld : Result (Option ℕ) Refusal → List ℕ → ℕ → CoreState → CoreState → Type 0
+GivesHeld answer buf actor old new =
+    (root : Root) (ahead : List Top) (held : List (Option HeaderValue)) (image : List ℕ) (segments : List (List ℕ))
+    → part_of old.parts actor ≡ readers.reading root ahead → IsIndexed held old.known old.disk.content image
+    → SegmentsAhead held image ahead segments → readers.GivesHeld held image actor old.parts new.parts ahead segments buf answer
+
+-- The next segment of the file, or its end: on any disk as reads showed, and of a tree that is held.
+pub record IsGiven (answer : Option ℕ) (buf : List ℕ) (actor : ℕ) (old new : CoreState) : Type 0 where
+  pub next : readers.GivesNext old.known old.disk new.disk actor old.parts new.parts buf answer
+  pub held : GivesHeld (Ok answer) buf actor old new
+
+-- The file goes on where it was.
+pub record IsNotGiven (refusal : Refusal) (buf : List ℕ) (actor : ℕ) (old new : CoreState) : Type 0 where
+  pub cause : readers.IsReadRefusal old.known old.breaks old.disk new.disk actor old.parts new.parts refusal
+  pub held : GivesHeld (Err refusal) buf actor old new
 
 -- ---- what is counted
 
--- by the table of slots: names, entries of containers, bytes of these, slots that are used and free
-pub record IsCount (c : CoreState) (files segments bytes used free : ℕ) : Type 0 where
-  pub files_are : files ≡ finite.len c.tables.names
-  pub segments_are : segments ≡ sum_by (λ count. count.entries) c.tables.held.counts.items
-  pub bytes_are : bytes ≡ sum_by (λ count. count.bytes) c.tables.held.counts.items
-  pub all_are : used + free ≡ c.tables.slots
-  pub free_is : OfEach c.disk.size c.known c.tables (λ store. free ≡ free_slots store.held)
+-- what each store has that the tables represent
+abbrev pub IsCount : Answer → CoreState → Type 0
+IsCount answer c = OfEach c.disk.size c.known c.tables (λ store. answer ≡ counts_of store)
 
 -- ---- what is answered, step by step; no step answers anything else
 
@@ -193,25 +195,24 @@ AbortRow actor answer old new = ⊥
 
 abbrev pub OpenRow : List ℕ → ℕ → Result Answer Refusal → CoreState → CoreState → Type 0
 OpenRow name actor (Ok (answers.Opened count)) old new = IsOpened name count actor old new
-OpenRow name actor (Err refusal) old new = IsOpenRefusal name actor refusal old × (new.parts ≡ old.parts)
+OpenRow name actor (Err refusal) old new =
+    readers.IsOpenRefusal old.tables.names name (part_of old.parts actor) refusal × (new.parts ≡ old.parts)
 OpenRow name actor answer old new = ⊥
 
 abbrev pub ReadRow : ℕ → Result Answer Refusal → List ℕ → CoreState → CoreState → Type 0
-ReadRow actor (Ok (answers.Bytes count)) buf old new = ReadsOn (Ok (Some count)) buf actor old new
-ReadRow actor (Ok answers.End) buf old new = ReadsOn (Ok None) buf actor old new
-ReadRow actor (Err refusal) buf old new =
-    IsAtOther kinds.Reading actor refusal old new ⊎ ReadsOn (Err refusal) buf actor old new
+ReadRow actor (Ok (answers.Bytes count)) buf old new = IsGiven (Some count) buf actor old new
+ReadRow actor (Ok answers.End) buf old new = IsGiven None buf actor old new
+ReadRow actor (Err refusal) buf old new = IsNotGiven refusal buf actor old new
 ReadRow actor answer buf old new = ⊥
 
 abbrev pub EndRow : ℕ → Result Answer Refusal → CoreState → CoreState → Type 0
-EndRow actor (Ok answers.Dropped) old new = Turns kinds.Reading Idle actor old new
-EndRow actor (Err refusal) old new = IsAtOther kinds.Reading actor refusal old new
+EndRow actor (Ok answers.Dropped) old new = readers.GivesUp actor old.parts new.parts
+EndRow actor (Err refusal) old new = readers.IsEndRefusal actor old.parts new.parts refusal
 EndRow actor answer old new = ⊥
 
 abbrev pub StatRow : Result Answer Refusal → CoreState → CoreState → Type 0
-StatRow (Ok (answers.Stat files segments bytes used free)) old new =
-    IsCount old files segments bytes used free × (new.parts ≡ old.parts)
-StatRow answer old new = ⊥
+StatRow (Ok answer) old new = IsCount answer old × (new.parts ≡ old.parts)
+StatRow (Err refusal) old new = ⊥
 
 abbrev pub Row : StepValue → ℕ → Result Answer Refusal → List ℕ → CoreState → CoreState → Type 0
 Row asked.Begin actor answer buf old new = BeginRow actor answer old new
@@ -236,6 +237,7 @@ pub record Makes (change : StoreChange) (old new : CoreState) : Type 0 where
   pub can : (store : Store) → Represents store old.known old.tables → IsValidFor old.disk.size store → CanChange change store
   pub represents : (store : Store) → Represents store old.known old.tables → IsValidFor old.disk.size store
       → Represents (changed change store) new.known new.tables
+  pub tells : KnownMap old.known (λ _. (places : PlaceMap) × (new.known ≡ Some places))
   pub runs : Runs old.disk.size old.known old.tables → Runs new.disk.size new.known new.tables
 
 -- nothing changes
@@ -246,10 +248,10 @@ pub record Rests (answer : Result Answer Refusal) (old new : CoreState) : Type 0
 -- A container is stored, or isn't. After a write that failed only the disk's images are told.
 pub record SealsOne (filled : Contents) (answer : Result Answer Refusal) (old new : CoreState) : Type 0 where
   pub disk : settled.Steps old.tables.slots (ending blames answer) old.disk new.disk
-  pub moves : SealsContainer old.tables (next_id old) filled (ending blames answer) old.disk new.disk
+  pub moves : (among : ByteSet) (store : Store) (files : Files) → Represents store old.known old.tables → HasNoCollisions (IsIn among)
+      → AllByRecursion (MaySeal (IsIn among) filled.kind) filled.segments
+      → Moves (sealing (IsIn among) (next_id old) filled store files) (ending blames answer) old.disk new.disk
   pub made : OnOk answer (Makes (SealContainer (next_id old) filled.kind filled.segments) old new)
-  pub stores : OnOk answer ((store : Store) → Represents store old.known old.tables
-      → Known old.disk.content (λ before. KnownWith new.disk.content (Stores filled (next_id old) store before)))
   pub kept : OnErr answer (new.stop ≡ None → KeepsTables old new)
 
 -- A name is given a root, or isn't.

@@ -1,9 +1,10 @@
 -- The core of a running store, as its contracts see it (docs/MODEL.md, 'The core').
-use Rattle.std.specs.Prelude.{◌≡◌, ℕ, ◌+◌, ◌-◌, ◌^◌, min, List, Option, Some, None, Result}
+use Rattle.std.specs.Prelude.{◌≡◌, ℕ, ◌+◌, ◌-◌, ◌^◌, min, List, length, Option, Some, None, Result}
 use Rattle.disk_format.specs.declared.why.Why.{Why}
 use Rattle.dd_disk.specs.View.{DiskView}
 use Rattle.dd_disk.specs.Ending.{Refused, Reads}
 use Rattle.container_meta.specs.Places.{PlaceMap}
+use Rattle.actor_parts.specs.declared.actor.TheConstants.{ACTORS}
 use Rattle.actor_parts.specs.declared.part.Part.{Part}
 use Rattle.actor_parts.specs.declared.step.Answer.{Answer}
 use Rattle.actor_parts.specs.StepValue.{StepValue}
@@ -27,9 +28,11 @@ pub record CoreState : Type 1 where
   -- how many puts were acknowledged since the opening
   pub acknowledged : ℕ
 
--- The tables are those of a store that the disk may hold, with two slots or more free, and the index serves it.
+-- The tables are those of a store that the disk may hold, with two slots or more free; the index serves it; each actor has a
+-- part.
 pub record IsUp (c : CoreState) : Type 0 where
   pub runs : Runs c.disk.size c.known c.tables
+  pub many : length c.parts ≡ ACTORS
   pub served : c.served
 
 -- where it isn't stopped

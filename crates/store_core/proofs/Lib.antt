@@ -1,0 +1,2 @@
+pub mod RunningOn
+pub mod Stepping

@@ -1,6 +1,5 @@
 -- A walk down trees that are held: what is read of each is what it is.
-use Rattle.std.proofs.Common.{◌≡◌, ◌≢◌, ◌⊎◌, inl, inr, ℕ, zero, suc, ◌+◌, ◌<◌, ◌≤◌, List, [], ◌∷◌, ◌++◌, length, map, drop, take, Option, Some, None, Result, Ok, Err, IfOk, IfErr, option_map, refl, sym, ◌∙◌, ap, subst, arith}
-use Rattle.std.specs.FinMap as finite
+use Rattle.std.proofs.Common.{◌≡◌, inl, inr, ℕ, ◌+◌, List, [], ◌∷◌, ◌++◌, map, drop, take, Option, Some, None, Result, Ok, Err, IfOk, IfErr, option_map, refl, sym, ◌∙◌, ap, subst, arith}
 use Rattle.std.specs.List.{AllByRecursion}
 use Rattle.std.proofs.lemmas.List.Concat.{flat_map-cons}
 use Rattle.sha2.specs.Sha256.{sha256}
@@ -18,13 +17,13 @@ use Rattle.merkle_file.specs.Node.{Contents, IsNode, spelling, node_digest}
 use Rattle.merkle_file.specs.Reading.{contents_in, any_node}
 use Rattle.merkle_file.specs.Tree as tree
 use Rattle.merkle_file.specs.Tree.{Tree, Trees, of_segment, root_of, leaves}
-use Rattle.merkle_file.specs.Walk.{Ahead, contents_of, list_of, opened, segments_in, asked_for}
+use Rattle.merkle_file.specs.Walk.{contents_of, list_of, opened, segments_in, asked_for}
 use Rattle.merkle_file.proofs.Nodes.{node_again}
 use Rattle.merkle_file.proofs.Unfolding.{walk_law}
 use Rattle.merkle_file.proofs.Walking.{is_within, may_ask}
 use Rattle.refusals.specs.declared.refusal.Refusal.{Refusal}
 use Rattle.refusals.specs.declared.refusal.Refusal.TheVariants.{DiskRead, Corrupt, Missing, Damaged}
-use Rattle.store_model.specs.Slots.{Copy, newest}
+use Rattle.store_model.specs.Slots.{Copy}
 use Rattle.store_model.specs.Trees.{HasNewest, HoldsTree, HoldsTrees, bytes_at, leaf_key, node_key}
 use Rattle.store_model.proofs.Copies.{some_same}
 use Rattle.read_steps.specs.Walking.{IsPlaceOf, WasRead, IsNodeRead, Opened, Walked, Gives, IsAnswer, IsWrong, IsTopRefusal, IsNextRefusal, IsWalkRefusal, IsIndexed, HeldAhead, SegmentsAhead, GivesFirst, IsHeldAnswer, top_key}

@@ -1,3 +1,5 @@
+pub mod Counts
 pub mod HeldWalks
 pub mod Openings
+pub mod Reading
 pub mod Walks

@@ -1,5 +1,5 @@
 -- A walk down the tree of a file begins with the whole file.
-use Rattle.std.proofs.Common.{◌≡◌, ℕ, ◌≤◌, List, [], ◌∷◌, ◌++◌, length, Option, Some, refl, sym, ◌∙◌, ap, subst}
+use Rattle.std.proofs.Common.{◌≡◌, ℕ, ◌≤◌, List, [], ◌∷◌, ◌++◌, length, Option, refl, sym, ◌∙◌, ap, subst}
 use Rattle.std.specs.FinMap as finite
 use Rattle.std.specs.List.{AllByRecursion}
 use Rattle.std.proofs.lemmas.List.Concat.{flat_map-cons}
@@ -11,13 +11,12 @@ use Rattle.merkle_file.specs.Tree as tree
 use Rattle.merkle_file.specs.Tree.{Tree, of_segment, leaves}
 use Rattle.merkle_file.specs.Walk.{Ahead, IsTree, segments_in, trees_in}
 use Rattle.namespace.specs.Names.{NameMap}
-use Rattle.segmenter.specs.Segments.{segments_of}
 use Rattle.store_model.specs.Files.{Files}
 use Rattle.store_model.specs.Image.{Store, names_of}
 use Rattle.store_model.specs.Refusals as lookup
 use Rattle.store_model.specs.Standing.{IsStoreOf}
 use Rattle.store_model.specs.Steps.{KeepsCopies}
-use Rattle.store_model.specs.Trees.{HoldsTree, root_of, file_tree}
+use Rattle.store_model.specs.Trees.{HoldsTree, file_tree}
 use Rattle.store_model.proofs.FramedTrees.{tree_on}
 use Rattle.store_model.proofs.SameFiles.{FitsFile, file_of_root, files_fit}
 use Rattle.store_model.proofs.Unfolding.{right_file, leaves_of_file, root_of_tree}

@@ -1,8 +1,8 @@
 -- Nodes that are opened, one after the other, and what was read of each.
-use Rattle.std.proofs.Common.{◌≡◌, ◌≢◌, ◌⊎◌, inl, inr, ℕ, ◌+◌, ◌<◌, ◌≤◌, List, [], ◌∷◌, ◌++◌, length, map, drop, take, Option, None, Some, Result, Ok, Err, IfOk, IfErr, refl, sym, ◌∙◌, ap, subst, arith}
+use Rattle.std.proofs.Common.{◌≡◌, ◌≢◌, inl, inr, ℕ, ◌+◌, ◌<◌, ◌≤◌, List, [], ◌∷◌, ◌++◌, length, map, drop, take, Option, None, Some, Result, Ok, Err, IfOk, IfErr, refl, sym, ◌∙◌, ap, subst, arith}
 use Rattle.std.specs.Prelude.{sum_by, Bool, true, false, ◌==◌, if◌then◌else◌}
 use Rattle.std.proofs.lemmas.Bool.{eqb-true, ne_eqb}
-use Rattle.std.proofs.lemmas.List.Sums.{sum_by-append, sum_by-cons}
+use Rattle.std.proofs.lemmas.List.Sums.{sum_by-cons}
 use Rattle.std.specs.Result.{IsErrAnd}
 use Rattle.std.proofs.lemmas.List.{length-take-le}
 use Rattle.sha2.specs.Sha256.{sha256}
@@ -16,7 +16,6 @@ use Rattle.container_log.specs.declared.fault.LogFault.{LogFault}
 use Rattle.container_log.specs.declared.fault.LogFault.TheVariants as log
 use Rattle.container_log.specs.Parts.{ReadAs, segment_bytes}
 use Rattle.container_meta.specs.declared.place.Place.{Place}
-use Rattle.merkle_file.specs.declared.want.Want.{Want}
 use Rattle.merkle_file.specs.declared.want.Want.TheVariants as wants
 use Rattle.store_model.specs.Trees.{bytes_at}
 use Rattle.dd_disk.specs.View.{DiskView, OnlyReads}
@@ -35,7 +34,7 @@ use Rattle.refusals.specs.declared.refusal.Refusal.{Refusal}
 use Rattle.refusals.specs.declared.refusal.Refusal.TheVariants.{DiskRead, Corrupt, Missing, Damaged}
 use Rattle.segment_index.specs.Places.{IsPlace}
 use Rattle.store_model.specs.Refusals.{WereFound}
-use Rattle.read_steps.specs.Walking.{as_refusal, IsPlaceOf, IsCopyRefusal, IsAnswer, IsCopyAt, WasRead, IsNodeRead, Opened, Walked, IsLeafRead, Gives, IsDamage, IsCorrupt, IsMisnamed, IsTopRefusal, IsNextRefusal, IsWalkRefusal, IsNodeNamed, top_key, level_ahead, leaf_top, bytes_ahead, GivesAll, AnyBytes, ReadsAreWhole}
+use Rattle.read_steps.specs.Walking.{as_refusal, IsPlaceOf, IsCopyRefusal, IsAnswer, IsCopyAt, WasRead, Opened, Walked, IsLeafRead, Gives, IsDamage, IsCorrupt, IsTopRefusal, IsNextRefusal, IsWalkRefusal, IsNodeNamed, top_key, level_ahead, leaf_top, bytes_ahead, GivesAll, AnyBytes, ReadsAreWhole}
 
 -- the key of a node that is to come
 pub key_of_node : (t : Top) → 1 ≤ t.level → top_key t ≡ 1 ∷ t.digest
@@ -85,6 +84,9 @@ falls_one (t ∷ ts) after digest bytes named spells e = by_children (contents_i
 
 -- ---- the same, seen over more calls
 
+pub same_on : (a b c : Option PlaceMap) → b ≡ a → c ≡ b → c ≡ a
+same_on a b c first second = second ∙ first
+
 module _ (known : Option PlaceMap) (old mid new : DiskView) where
   -- calls that only read follow
   pub read_until : OnlyReads old mid → OnlyReads mid new → (key bytes : List ℕ) → WasRead known old mid key bytes → WasRead known old new key bytes
@@ -109,9 +111,6 @@ module _ (known : Option PlaceMap) (old mid new : DiskView) where
       there = since old mid new reads was.copy.there;
     };
   }
-
-  pub same_on : (a b c : Option PlaceMap) → b ≡ a → c ≡ b → c ≡ a
-  same_on a b c first second = second ∙ first
 
   pub walked_then : (sooner : Option PlaceMap) → sooner ≡ known → OnlyReads old mid → OnlyReads mid new → (a b c : List Top)
       → Walked (WasRead known old mid) a b → Walked (WasRead sooner mid new) b c → Walked (WasRead known old new) a c
@@ -314,16 +313,16 @@ misnamed_node known breaks old new (t ∷ ts) after digest place bytes offset go
 }
 
 -- a segment by its length
-pub misnamed_leaf : (known : Option PlaceMap) (breaks : ℕ → Why → List ℕ → Type 0) (old new : DiskView) (count : ℕ) (digest : List ℕ) (place : Place) (bytes : List ℕ)
-    → IsCopyAt known old new (0 ∷ digest) place bytes → sha256 bytes ≡ digest → place.length ≢ count
-    → (refusal : Refusal) → refusal ≡ Damaged (data_at place.slot + place.offset) (Field 0 place.length) → IsTopRefusal known breaks old new (leaf_top count digest) refusal
-misnamed_leaf known breaks old new count digest place bytes copy is differ refusal refused =
+pub misnamed_leaf : (known : Option PlaceMap) (breaks : ℕ → Why → List ℕ → Type 0) (old new : DiskView) (count : ℕ) (digest : List ℕ) (place : Place) (bytes : List ℕ) (got : ℕ)
+    → IsCopyAt known old new (0 ∷ digest) place bytes → sha256 bytes ≡ digest → got ≡ place.length → got ≢ count
+    → (refusal : Refusal) → refusal ≡ Damaged (data_at place.slot + place.offset) (Field 0 got) → IsTopRefusal known breaks old new (leaf_top count digest) refusal
+misnamed_leaf known breaks old new count digest place bytes got copy is long differ refusal refused =
     subst (IsTopRefusal known breaks old new (leaf_top count digest)) (sym refused) (inr (record {
       bytes = bytes;
       was_read = record { place = place; copy = copy };
       at_is = refl;
       digest = is;
-      wrong = inr (refl, refl, sym copy.long, differ);
+      wrong = inr (refl, refl, long ∙ sym copy.long, differ);
     }))
 
 -- a copy that could not be given is what comes first

@@ -1,5 +1,5 @@
 -- What a running store counts of itself (docs/MODEL.md, 'Reading').
-use Rattle.std.specs.Prelude.{◌≡◌, ℕ, ◌-◌, List, length, Option}
+use Rattle.std.specs.Prelude.{ℕ, ◌-◌, length, Option}
 use Rattle.std.specs.FinMap as finite
 use Rattle.container_meta.specs.Places.{PlaceMap}
 use Rattle.store_model.specs.Image.{Store, names_of}

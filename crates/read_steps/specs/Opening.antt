@@ -1,5 +1,5 @@
 -- The file of a name, and a walk down its tree that begins (docs/MODEL.md, 'Reading').
-use Rattle.std.specs.Prelude.{◌≡◌, ℕ, List, Option, Some, None}
+use Rattle.std.specs.Prelude.{◌≡◌, ℕ, List, Some, None}
 use Rattle.std.specs.FinMap as finite
 use Rattle.disk_format.specs.Cells.{Root, IsName}
 use Rattle.merkle_file.specs.declared.top.Top.{Top}

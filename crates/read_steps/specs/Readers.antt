@@ -1,5 +1,5 @@
 -- The steps of an actor that takes a file (docs/MODEL.md, 'Reading').
-use Rattle.std.specs.Prelude.{◌≡◌, ◌≢◌, ℕ, List, Option, Result, Ok, Err}
+use Rattle.std.specs.Prelude.{◌≡◌, ◌≢◌, ℕ, List, Option, Result}
 use Rattle.dd_disk.specs.View.{DiskView}
 use Rattle.disk_format.specs.Cells.{Root}
 use Rattle.disk_format.specs.declared.why.Why.{Why}
@@ -11,14 +11,13 @@ use Rattle.refusals.specs.declared.refusal.PartKind.{PartKind}
 use Rattle.refusals.specs.declared.refusal.Refusal.{Refusal}
 use Rattle.refusals.specs.declared.refusal.Refusal.TheVariants.{Memory, WrongPart}
 use Rattle.actor_parts.specs.declared.part.Part.{Part}
-use Rattle.actor_parts.specs.declared.part.Part.TheVariants.{Idle, Writing, Reading}
-use Rattle.actor_parts.specs.declared.part.Reader.{Reader}
+use Rattle.actor_parts.specs.declared.part.Part.TheVariants.{Idle, Reading}
 use Rattle.actor_parts.specs.Kinds.{kind_of}
 use Rattle.actor_parts.specs.Parts.{part_of, with_part}
 use Rattle.store_model.specs.Files.{Files}
 use Rattle.store_model.specs.Image.{Store}
 use Rattle.read_steps.specs.Opening.{Begins, IsNameRefusal, IsFileAhead}
-use Rattle.read_steps.specs.Walking.{WasRead, IsAnswer, IsWalkRefusal, IsIndexed, SegmentsAhead, IsHeldAnswer}
+use Rattle.read_steps.specs.Walking.{WasRead, IsAnswer, IsWalkRefusal, IsHeldAnswer}
 
 -- a file of this root is taken, and this is to come of it
 abbrev pub reading : Root → List Top → Part

@@ -2,7 +2,7 @@
 -- (docs/MODEL.md, 'Reading').
 use Rattle.std.specs.Prelude.{◌≡◌, ◌≢◌, ◌⊎◌, ℕ, ◌+◌, ◌≤◌, ◌==◌, if◌then◌else◌, List, [], ◌∷◌, ◌++◌, length, drop, take, sum_by, Option, Some, None, Result, Ok, Err}
 use Rattle.std.specs.FinMap as finite
-use Rattle.std.specs.List.{AllByRecursion, concat}
+use Rattle.std.specs.List.{AllByRecursion}
 use Rattle.sha2.specs.Sha256.{sha256}
 use Rattle.base_model.specs.Bytes.{key_of}
 use Rattle.dd_disk.specs.View.{DiskView}

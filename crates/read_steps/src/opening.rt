@@ -39,8 +39,8 @@ pub fn begin_walk(alloc: Global, names: &Names, name: &[u8]) -> Result<(Root, Cu
     ensures begins { IfOk result (λ r. Begins names.now name.now r.0 r.1) }
     ensures refused { IfErr result (IsNameRefusal names.now name.now) }
     // Where a store stands for files.
-    ensures file { IfOk result (λ r. (store : Store) (files : Files) (image : List ℕ) → names.now ≡ names_of store → IsStoreOf store files image
-        → IsFileAhead store files image name.now r.0 r.1) }
+    ensures file { IfOk result (λ r. (store : Store) (files : Files) (image : List ℕ) → names.now ≡ names_of store
+        → IsStoreOf store files image → IsFileAhead store files image name.now r.0 r.1) }
 {
     let root = root_in(names, name)?;
     let cursor = Cursor::new(alloc, &top_of(&root))?;

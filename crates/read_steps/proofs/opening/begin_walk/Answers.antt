@@ -1,4 +1,4 @@
-use Rattle.std.proofs.Common.{ap, subst, List, ℕ, ◌≡◌, sym, ◌∙◌}
+use Rattle.std.proofs.Common.{◌∙◌}
 use Rattle.read_steps.proofs.Openings.{file_ahead}
 use Rattle.read_steps.proofs.opening.begin_walk.Goals as goal
 

@@ -1,6 +1,5 @@
-use Rattle.std.proofs.Common.{Ok, Some, None, ℕ, Option, sym}
+use Rattle.std.proofs.Common.{Ok, Some, None, sym}
 use Rattle.base_model.proofs.Outcome.{passed_on}
-use Rattle.refusals.specs.declared.refusal.Refusal.{Refusal}
 use Rattle.read_steps.specs.Walking.{IsAnswer, IsWalkRefusal, WasRead}
 use Rattle.read_steps.proofs.Walks.{answer_ends, leaf_gives, leaf_refused, no_answer, walk_ends}
 use Rattle.read_steps.proofs.HeldWalks.{answer_held}
@@ -125,18 +124,18 @@ returns-in_ok-count-in-Leaf-clause-held g c = λ held image segments indexed ahe
 
 pub returns-in-End-clause-bytes : goal.returns-in-End-clause-bytes
 returns-in-End-clause-bytes g c =
-    (walk_ends _ c.args.cursor.now c.open_nodes.new.cursor c.in_ok-open_nodes.ensures.walked c.in-End.ensures.next, c.in-End.ensures.next)
+    (walk_ends (WasRead (g.X.Index.places c.args.index.now (g.D.Disk.view c.args.disk.now).content) (g.D.Disk.view c.args.disk.now) (g.D.Disk.view c.open_nodes.new.disk)) c.args.cursor.now c.open_nodes.new.cursor c.in_ok-open_nodes.ensures.walked c.in-End.ensures.next, c.in-End.ensures.next)
 
 pub returns-in-End-clause-end : goal.returns-in-End-clause-end
 returns-in-End-clause-end g c =
     let old = g.D.Disk.view c.args.disk.now in
     let new = g.D.Disk.view c.open_nodes.new.disk in
     answer_ends (g.X.Index.places c.args.index.now old.content) (g.X.Index.breaks c.args.index.now) old new c.args.cursor.now c.open_nodes.new.cursor c.open_nodes.new.buf (Ok None)
-    (walk_ends _ c.args.cursor.now c.open_nodes.new.cursor c.in_ok-open_nodes.ensures.walked c.in-End.ensures.next, c.in-End.ensures.next) tt
+    (walk_ends (WasRead (g.X.Index.places c.args.index.now (g.D.Disk.view c.args.disk.now).content) (g.D.Disk.view c.args.disk.now) (g.D.Disk.view c.open_nodes.new.disk)) c.args.cursor.now c.open_nodes.new.cursor c.in_ok-open_nodes.ensures.walked c.in-End.ensures.next, c.in-End.ensures.next) tt
 
 pub returns-in-End-clause-held : goal.returns-in-End-clause-held
 returns-in-End-clause-held g c = λ held image segments indexed ahead.
     let old = g.D.Disk.view c.args.disk.now in
     let new = g.D.Disk.view c.open_nodes.new.disk in
     answer_held held (g.X.Index.places c.args.index.now old.content) old new image indexed (g.X.Index.breaks c.args.index.now) c.args.cursor.now c.open_nodes.new.cursor segments c.open_nodes.new.buf (Ok None)
-    (walk_ends _ c.args.cursor.now c.open_nodes.new.cursor c.in_ok-open_nodes.ensures.walked c.in-End.ensures.next, c.in-End.ensures.next) tt ahead
+    (walk_ends (WasRead (g.X.Index.places c.args.index.now (g.D.Disk.view c.args.disk.now).content) (g.D.Disk.view c.args.disk.now) (g.D.Disk.view c.open_nodes.new.disk)) c.args.cursor.now c.open_nodes.new.cursor c.in_ok-open_nodes.ensures.walked c.in-End.ensures.next, c.in-End.ensures.next) tt ahead

@@ -1,5 +1,4 @@
-use Rattle.base_model.proofs.Outcome.{passed_on}
-use Rattle.read_steps.specs.Walking.{WasRead, IsWalkRefusal}
+use Rattle.read_steps.specs.Walking.{WasRead}
 use Rattle.read_steps.proofs.Walks.{walked_one, falls_one, misnamed_node}
 use Rattle.read_steps.proofs.walking.open_node.Goals as goal
 

@@ -1,9 +1,8 @@
-use Rattle.std.proofs.Common.{◌∙◌}
 use Rattle.base_model.proofs.Outcome.{passed_on}
 use Rattle.dd_disk.specs.Ending.{Done}
 use Rattle.dd_disk.proofs.Ended.{reads_on}
 use Rattle.read_steps.specs.Walking.{IsWalkRefusal}
-use Rattle.read_steps.proofs.Walks.{walked_then, refused_then}
+use Rattle.read_steps.proofs.Walks.{same_on, walked_then, refused_then}
 use Rattle.read_steps.proofs.walking.open_nodes.Goals as goal
 
 pub loop-digest-preserved : goal.loop-digest-preserved
@@ -15,7 +14,7 @@ loop-digest-preserved g c =
     record {
       walked = walked_then (g.X.Index.places c.args.index.now old.content) old mid new (g.X.Index.places c.loop-digest.index mid.content) so_far.map so_far.reads.only c.in_ok-open_node.ensures.reads.only
           c.args.cursor.now c.loop-digest.cursor c.open_node.new.cursor so_far.walked c.in_ok-open_node.ensures.walked;
-      map = c.in_ok-open_node.ensures.map ∙ so_far.map;
+      map = same_on (g.X.Index.places c.args.index.now (g.D.Disk.view c.args.disk.now).content) (g.X.Index.places c.loop-digest.index (g.D.Disk.view c.loop-digest.disk).content) (g.X.Index.places c.open_node.new.index (g.D.Disk.view c.open_node.new.disk).content) so_far.map c.in_ok-open_node.ensures.map;
       form = λ at why bytes broken. so_far.form at why bytes (c.in_ok-open_node.ensures.form at why bytes broken);
       served = c.in_ok-open_node.ensures.served;
       reads = reads_on Done old mid new so_far.reads c.in_ok-open_node.ensures.reads;

@@ -1,2 +1,4 @@
+pub mod KeepingFiles
+pub mod OwnParts
 pub mod RunningOn
 pub mod Stepping

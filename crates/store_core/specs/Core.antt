@@ -237,6 +237,8 @@ pub record Makes (change : StoreChange) (old new : CoreState) : Type 0 where
   pub can : (store : Store) → Represents store old.known old.tables → IsValidFor old.disk.size store → CanChange change store
   pub represents : (store : Store) → Represents store old.known old.tables → IsValidFor old.disk.size store
       → Represents (changed change store) new.known new.tables
+  pub valid : (store : Store) → Represents store old.known old.tables → IsValidFor old.disk.size store
+      → IsValidFor new.disk.size (changed change store)
   pub tells : KnownMap old.known (λ _. (places : PlaceMap) × (new.known ≡ Some places))
   pub runs : Runs old.disk.size old.known old.tables → Runs new.disk.size new.known new.tables
 

@@ -4,5 +4,5 @@
 mod laws;
 mod stop;
 
-pub use laws::{HasState, a_core_runs_on};
+pub use laws::{HasState, a_core_keeps_files, a_core_runs_on};
 pub use stop::Stop;

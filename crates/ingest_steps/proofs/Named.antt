@@ -9,7 +9,7 @@ use Rattle.disk_format.specs.declared.numbers.TheConstants.{CELL_BYTES}
 use Rattle.disk_format.specs.Layout.{cell_at}
 use Rattle.disk_format.specs.Cells.{Root, Change, RecordValue, IsRoot}
 use Rattle.disk_format.specs.Cells.Change.{Put}
-use Rattle.dd_disk.specs.View.{DiskView, SteppedFrom}
+use Rattle.dd_disk.specs.View.{DiskView, IsDurable, CrashLeaves, SteppedFrom}
 use Rattle.dd_disk.specs.Ending.{Ending}
 use Rattle.dd_disk.specs.Writes.{Writes}
 use Rattle.dd_disk.specs.Moves.{Moves}
@@ -94,6 +94,7 @@ module _ (name : List ℕ) (root : Root) (t : Tables) where
     number = is;
     below = below;
     tables_are = tables;
+    root_right = right;
     can = can_put may below;
     represents = λ store known keeps. subst (Represents (with_put name root store) known) (sym tables) (represents_with store known keeps);
     runs = λ size known runs. record {
@@ -202,19 +203,34 @@ module _ (name : List ℕ) (root : Root) (S : List ℕ → Type 0) (store : Stor
 same_here : (journal : JournalValue) (bytes : List ℕ) → SameButNext journal bytes bytes
 same_here journal bytes = record { size = refl; before = λ p n within. refl; after = λ p n above. refl }
 
-appends_same : (journal : JournalValue) (r : RecordValue) (given d c : List ℕ) → d ≡ given → Appends journal r given d c → SameButNext journal given c
-appends_same journal r given d c is (inl stands) = subst (λ (b : List ℕ). SameButNext journal b c) is stands.same
-appends_same journal r given d c is (inr follows) = follows.same
-
 module _ (journal : JournalValue) (r : RecordValue) (e : Ending) (old new : DiskView) (writes : Writes (Appends journal r) (IsAppended journal r) e old new) where
-  pub changes_next : ChangesNextAlone journal old new
-  changes_next synced given known =
-      let leaves = leaves_weaker (SteppedFrom (Appends journal r given) old) (SameButNext journal given) old new (λ c from. elim from [
+  stepped_next : (given : List ℕ) → old.content ≡ Some given → (d c : List ℕ) → old.images d → Appends journal r given d c → SteppedFrom (SameButNext journal) old c
+  stepped_next given known d c image (inl stands) = inr (d, image, stands.same)
+  stepped_next given known d c image (inr follows) = inr (given, old.as_read given known, follows.same)
+
+  leaves_next : (given : List ℕ) → old.content ≡ Some given → CrashLeaves (SteppedFrom (SameButNext journal) old) old new
+  leaves_next given known =
+      leaves_weaker (SteppedFrom (Appends journal r given) old) (SteppedFrom (SameButNext journal) old) old new (λ c from. elim from [
+        | inl same ↦ inl same
+        | inr stepped ↦ stepped_next given known stepped.0 c stepped.1 stepped.2
+      ]) (writes.steps given known)
+
+  -- of a disk that was synced each image from before is its content
+  leaves_synced : IsDurable old → (given : List ℕ) → old.content ≡ Some given → CrashLeaves (SameButNext journal given) old new
+  leaves_synced synced given known =
+      leaves_weaker (SteppedFrom (SameButNext journal) old) (SameButNext journal given) old new (λ c from. elim from [
         | inl same ↦ subst (SameButNext journal given) (sym (synced given known c same)) (same_here journal given)
-        | inr stepped ↦ appends_same journal r given stepped.0 c (synced given known stepped.0 stepped.1) stepped.2
-      ]) (writes.steps given known) in
-      let now = writes.later.tells given known in
-      ((now.0, now.1, leaves.now now.0 (new.as_read now.0 now.1)), leaves)
+        | inr stepped ↦ subst (λ (b : List ℕ). SameButNext journal b c) (synced given known stepped.0 stepped.1) stepped.2
+      ]) (leaves_next given known)
+
+  pub changes_next : ChangesNextAlone journal old new
+  changes_next = record {
+    leaves = leaves_next;
+    synced = λ synced given known.
+        let leaves = leaves_synced synced given known in
+        let now = writes.later.tells given known in
+        ((now.0, now.1, leaves.now now.0 (new.as_read now.0 now.1)), leaves);
+  }
 
 -- ---- both
 

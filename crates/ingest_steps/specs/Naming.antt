@@ -1,10 +1,10 @@
 -- When a name is given a root, and what that makes of the tables and of the disk (docs/MODEL.md, 'Steps').
 use Rattle.std.specs.Prelude.{◌≡◌, ◌⊎◌, ℕ, suc, ◌-◌, ◌^◌, ◌<◌, ◌≤◌, List, Option}
 use Rattle.base_model.specs.Known.{Known, KnownWith}
-use Rattle.disk_format.specs.Cells.{Root, RecordValue, IsName}
+use Rattle.disk_format.specs.Cells.{Root, RecordValue, IsName, IsRoot}
 use Rattle.disk_format.specs.Cells.Change.{Put}
 use Rattle.disk_format.specs.Layout.{half_cells}
-use Rattle.dd_disk.specs.View.{DiskView, IsDurable, CrashLeaves}
+use Rattle.dd_disk.specs.View.{DiskView, IsDurable, CrashLeaves, SteppedFrom}
 use Rattle.dd_disk.specs.Ending.{Ending}
 use Rattle.dd_disk.specs.Moves.{Way, step, Moves}
 use Rattle.container_meta.specs.Places.{PlaceMap}
@@ -60,11 +60,12 @@ abbrev pub tables_with : RecordValue → Tables → Tables
 tables_with r t = record t { journal = with_record r t.journal; names = names_with r t.names }
 
 -- The tables are those of before, with a root under a name: of each store that they were those of, the name could be put,
--- and they are those of the store with it.
+-- and they are those of the store with it. With `root_right` that is a step of the store.
 pub record IsNamed (old : Tables) (name : List ℕ) (root : Root) (new : Tables) (sequence : ℕ) : Type 0 where
   pub number : sequence ≡ suc old.journal.last
   pub below : old.journal.last < 2 ^ 64 - 1
   pub tables_are : new ≡ tables_with (put_after_last old name root) old
+  pub root_right : IsRoot root
   pub can : (store : Store) → RepresentsNames store old → CanPut name store
   pub represents : (store : Store) (known : Option PlaceMap) → Represents store known old
       → Represents (with_put name root store) known new
@@ -97,9 +98,10 @@ pub record PutsRoot (t : Tables) (name : List ℕ) (root : Root) (ending : Endin
 
 -- ---- what becomes of the bytes
 
--- On a disk that was synced nothing changes but the cell after the journal's records, in what reads give and in what a crash
--- leaves at any moment, whatever the disk holds.
-abbrev pub ChangesNextAlone : JournalValue → DiskView → DiskView → Type 0
-ChangesNextAlone journal old new =
-    IsDurable old → Known old.content (λ given.
-    KnownWith new.content (SameButNext journal given) × CrashLeaves (SameButNext journal given) old new)
+-- Nothing changes but the cell after the journal's records, whatever the disk holds.
+pub record ChangesNextAlone (journal : JournalValue) (old new : DiskView) : Type 0 where
+  -- At any moment a crash leaves an image from before, or one but for the cell.
+  pub leaves : Known old.content (λ given. CrashLeaves (SteppedFrom (SameButNext journal) old) old new)
+  -- Of a disk that was synced reads give, and a crash leaves, what they gave, but for the cell.
+  pub synced : IsDurable old → Known old.content (λ given.
+      KnownWith new.content (SameButNext journal given) × CrashLeaves (SameButNext journal given) old new)

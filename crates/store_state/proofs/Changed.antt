@@ -1,13 +1,17 @@
 -- Changes of an index, one after the other.
-use Rattle.std.proofs.Common.{◌≡◌, ℕ, ◌+◌, ◌≤◌, List, length, Option, Some, None, inl, inr, refl, sym, ◌∙◌, ap, subst, arith}
-use Rattle.base_model.specs.Bytes.{range}
+use Rattle.std.proofs.Common.{◌≡◌, ℕ, ◌≤◌, List, Option, Some, None, inl, inr, refl, sym, ◌∙◌, subst, arith}
 use Rattle.disk_format.specs.Layout.{size_of, slot_at}
-use Rattle.dd_disk.specs.View.{DiskView, CrashLeaves, SteppedFrom}
+use Rattle.dd_disk.specs.View.{DiskView, IsLater, SteppedFrom}
 use Rattle.dd_disk.specs.Ending.{Ending, CountsFault}
 use Rattle.dd_disk.specs.Writes.{Both}
 use Rattle.dd_disk.proofs.Ended.{counts_on}
 use Rattle.dd_disk.proofs.Later.{later_here, later_on, leaves_on, leaves_weaker, reads_here, reads_leave}
 use Rattle.segment_index.specs.Changes.{SameBefore, Changes}
+use Rattle.store_state.specs.Settled.{KeepsWhatCounts}
+
+-- one equation after another, of values that are named
+pub on : {X : Type 0} (a b c : X) → a ≡ b → b ≡ c → a ≡ c
+on a b c first second = first ∙ second
 
 same_here : (place : ℕ) (a : List ℕ) → SameBefore place a a
 same_here place a = record { size = refl; before = λ p n within. refl }
@@ -78,3 +82,11 @@ lifted owned serves law e old new served changes slots size_is =
           ]) changes.leaves;
       faults_are = changes.faults_are;
     }
+
+-- so what counts is as it was
+pub keeps : (slots : ℕ) (e : Ending) (old new : DiskView) → Changes (slot_at slots) e old new → KeepsWhatCounts slots old new
+keeps slots e old new changes = record { content_is = changes.content_is; leaves = changes.leaves }
+
+-- the disk has its size still
+pub size_on : (old new : DiskView) (slots : ℕ) → IsLater old new → old.size ≡ size_of slots → new.size ≡ size_of slots
+size_on old new slots later is = later.size_is ∙ is

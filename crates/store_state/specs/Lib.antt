@@ -1,3 +1,4 @@
+pub mod Comparing
 pub mod Containers
 pub mod Indexing
 pub mod Invariant

@@ -1,7 +1,6 @@
 //! What the index of a running store answers, and what is put into it.
 ghost use Rattle.std.specs.Prelude.{◌≡◌, ◌+◌, ◌≤◌, ℕ, List, Option, None, Some, Err, length, IsSome, IsTrue, IsFalse, OnOk, IfOk, IfErr, IfSome};
 ghost use Rattle.std.specs.FinMap as finite;
-ghost use Rattle.std.specs.List.{AllByRecursion};
 ghost use Rattle.dd_disk.specs.Ending.{ending, Reads};
 ghost use Rattle.dd_disk.specs.Shows.{Shows};
 ghost use Rattle.disk_format.specs.Layout.{size_of, slot_at};
@@ -12,6 +11,7 @@ ghost use Rattle.segment_index.specs.Changes.{Changes};
 ghost use Rattle.store_model.specs.Indexing.{entry_key, with_entries};
 ghost use Rattle.store_model.specs.Slots.{place_of};
 ghost use Rattle.store_state.specs.Refused.{blames};
+ghost use Rattle.store_state.specs.Settled.{KeepsWhatCounts};
 ghost use Rattle.store_state.specs.Indexing.{IsFindRefusal, IsChangeRefusal, HasRoomFor, ArePart, AreHad, Stays, with_had};
 
 use crate::containers::place_in;
@@ -190,6 +190,7 @@ pub fn put_entries<D: Disk, X: Index>(
     ensures refused { IfErr result (IsChangeRefusal (X.places index.old (D.view disk.old).content)) }
     ensures changes { (slots : ℕ) → (D.view disk.old).size ≡ size_of slots
         → Changes (slot_at slots) (ending blames result) (D.view disk.old) (D.view disk.new) }
+    ensures counts { (slots : ℕ) → (D.view disk.old).size ≡ size_of slots → KeepsWhatCounts slots (D.view disk.old) (D.view disk.new) }
     ensures served { X.serves index.new (D.view disk.new).size }
 {
     put_from(disk, index, slot, filled.kind(), filled.entries(), before)

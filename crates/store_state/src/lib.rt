@@ -1,14 +1,18 @@
 //! The running store: its tables in memory, and which store they represent (docs/MODEL.md, 'The running store').
 #![tactic(auto)]
 
+mod comparing;
 mod containers;
 mod indexing;
+mod laws;
 mod open_store;
 mod slot_table;
 mod tables;
 
+pub use comparing::{compare_all, read_same};
 pub use containers::Containers;
 pub use indexing::{find, put_entries};
+pub use laws::an_index_has_room;
 pub use open_store::OpenStore;
 pub use slot_table::{SlotCount, SlotTable};
 pub use tables::Tables;

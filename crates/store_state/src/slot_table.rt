@@ -1,9 +1,10 @@
 //! What each slot of a running store holds, as far as steps go by it.
-ghost use Rattle.std.specs.Prelude.{◌≡◌, ◌≤◌, ◌==◌, List, Option, None, length, count_by, position, IfSome};
+ghost use Rattle.std.specs.Prelude.{◌≡◌, ◌<◌, ◌≤◌, ◌==◌, List, Option, None, length, count_by, position, IfSome};
 ghost use Rattle.disk_format.specs.declared.numbers.TheConstants.{MOST_SLOTS as MANY};
 ghost use Rattle.container_meta.specs.Spelling.{HeaderValue};
-ghost use Rattle.store_model.specs.Slots.{AreHeaders, free_slots, ids_of};
+ghost use Rattle.store_model.specs.Slots.{AreHeaders, free_slots, ids_of, with_slot};
 ghost use Rattle.store_state.specs.Containers.{IsFirstFree};
+ghost use Rattle.store_state.specs.Tables.{RepresentsSlots};
 
 /// How much the container in a slot holds: nothing, where the slot is closed.
 #[derive(Clone, Copy)]
@@ -60,5 +61,17 @@ impl SlotTable {
     {
         let slot = first_zero(&self.ids)?;
         Some(slot as u32)
+    }
+
+    /// Takes a container that was written to a slot. It takes no memory.
+    pub fn take_container(&mut self, slot: u32, id: u64, entries: u32, bytes: u32)
+        requires slot { slot < length self.old.ids.items }
+        requires counts { length self.old.counts.items ≡ length self.old.ids.items }
+        ensures { (held : List (Option HeaderValue)) (h : HeaderValue) → h.id ≡ id → length h.entries ≡ entries → h.data_length ≡ bytes
+            → RepresentsSlots held self.old → RepresentsSlots (with_slot slot h held) self.new }
+    {
+        self.ids[slot as usize] = id;
+        self.counts[slot as usize] = SlotCount { entries, bytes };
+        self.last_id = self.last_id.max(id);
     }
 }

@@ -1,5 +1,4 @@
-use Rattle.std.proofs.Common.{◌≡◌, ap, subst, sym, ◌∙◌, arith}
-use Rattle.segment_index.specs.Places.{KnownMap}
+use Rattle.std.proofs.Common.{subst, sym, arith}
 use Rattle.std.specs.FinMap as finite
 use Rattle.store_state.proofs.Indexed.{len_over, lacked}
 use Rattle.store_state.proofs.indexing.give_back.Goals as goal

@@ -1,8 +1,11 @@
-use Rattle.std.proofs.Common.{◌≡◌, List, length, refl, ap, subst, sym, ◌∙◌}
+use Rattle.std.proofs.Common.{List, length, refl, ap, subst, sym, ◌∙◌}
 use Rattle.container_meta.specs.declared.entry.Entry.{Entry}
 use Rattle.container_meta.specs.declared.kind.Kind.{Kind}
 use Rattle.container_meta.specs.Spelling.{header_of}
 use Rattle.store_state.specs.Indexing.{HasRoomFor, ArePart}
+use Rattle.dd_disk.specs.Ending.{ending}
+use Rattle.store_state.specs.Refused.{blames}
+use Rattle.store_state.proofs.Changed.{keeps}
 use Rattle.store_state.proofs.Indexed.{part_of, length-entries_from}
 use Rattle.store_state.proofs.indexing.put_entries.Goals as goal
 
@@ -19,3 +22,8 @@ put_from-requires-clause-room g c =
     let view = g.D.Disk.view in
     subst (HasRoomFor (view c.args.disk.now).size (g.X.Index.places c.args.index.now (view c.args.disk.now).content))
     (sym (ap length c.entries.ensures.entries ∙ length-entries_from 0 c.args.filled.now.segments)) c.requires.room
+
+pub returns-clause-counts : goal.returns-clause-counts
+returns-clause-counts g c = λ slots size_is.
+    let view = g.D.Disk.view in
+    keeps slots (ending blames c.put_from.result) (view c.args.disk.now) (view c.put_from.new.disk) (c.put_from.ensures.changes slots size_is)

@@ -91,9 +91,9 @@ more size known old mid new kind ss next s hads after had is after_is reads late
 -- none yet
 pub none_yet : (size : ℕ) (known : Option PlaceMap) (v : DiskView) (kind : Kind) (hads : List (Option Place)) → hads ≡ [] → FitSoFar size known (Shows v v) kind [] hads
 none_yet size known v kind hads none = subst (FitSoFar size known (Shows v v) kind []) (sym none) (record {
-    had = record { many = refl; lie = tt; had = λ m is. tt };
-    fit = always v v (AllFit kind [] []) (λ image sized. tt);
-  })
+  had = record { many = refl; lie = tt; had = λ m is. tt };
+  fit = always v v (AllFit kind [] []) (λ image sized. tt);
+})
 
 -- the next is refused
 pub of_all : (damaged : ℕ → Why → Type 0) (size mid_size : ℕ) (known mid_known : Option PlaceMap) (old mid new : DiskView) → mid_size ≡ size → mid_known ≡ known → OnlyReads old mid → IsLater mid new
@@ -126,9 +126,10 @@ pub held_fit : (kind : Kind) (store : Store) (m : PlaceMap) (image : List ℕ) (
     → AllByRecursion (FitsHeld kind store image) ss
 held_fit kind store m image offset [] hads index had fit = tt
 held_fit kind store m image offset (s ∷ ss) [] index had fit = absurd fit
-held_fit kind store m image offset (s ∷ ss) (h ∷ hads) index had fit =
-    (λ copy is. by_kind kind copy.place (subst (λ (o : Option Place). FitsHad kind s.bytes o image) (had.0 ∙ index (segment_key kind s) ∙ ap place_there is) fit.0),
-    held_fit kind store m image (offset + length s.bytes) ss hads index had.1 fit.1)
+held_fit kind store m image offset (s ∷ ss) (h ∷ hads) index had fit = (
+  λ copy is. by_kind kind copy.place (subst (λ (o : Option Place). FitsHad kind s.bytes o image) (had.0 ∙ index (segment_key kind s) ∙ ap place_there is) fit.0),
+  held_fit kind store m image (offset + length s.bytes) ss hads index had.1 fit.1,
+)
   where
     place_there : Option Copy → Option Place
     place_there None = None

@@ -215,14 +215,16 @@ level_within kinds.Tree level e = leb-true level MOST_LEVEL (both (nat_le 1 leve
 places_from : (size slot : ℕ) (kind : Kind) (before es : List Entry) → Follow kind before es → bytes_of before + bytes_of es ≤ DATA_BYTES → size_of (slot + 1) ≤ size → AllByRecursion (λ e. IsPlace size (place_of slot e)) es
 places_from size slot kind before [] follow within there = tt
 places_from size slot kind before (e ∷ es) follow within there =
-    let long = length_within kind e.length follow.0.length in
-    (record {
-      not_empty = long.0;
-      length_is = long.1;
-      within = omega (arith, within, follow.0.offset, bytes_of-cons e es);
-      level_is = level_within kind e.level follow.0.level;
-      slot_is = there;
-    }, places_from size slot kind (before ++ e ∷ []) es follow.1 (omega (arith, within, bytes_of-cons e es, bytes_of-push before e)) there)
+    let long = length_within kind e.length follow.0.length in (
+      record {
+        not_empty = long.0;
+        length_is = long.1;
+        within = omega (arith, within, follow.0.offset, bytes_of-cons e es);
+        level_is = level_within kind e.level follow.0.level;
+        slot_is = there;
+      },
+      places_from size slot kind (before ++ e ∷ []) es follow.1 (omega (arith, within, bytes_of-cons e es, bytes_of-push before e)) there,
+    )
 
 pub part_of : (size slot : ℕ) (h : HeaderValue) → IsHeader h → size_of (slot + 1) ≤ size → ArePart size slot h.kind h.entries
 part_of size slot h right there = record {

@@ -28,7 +28,12 @@ use segment_index::Index;
 use std::alloc::Global;
 
 // Reads a copy into the first bytes of `buf`.
-fn read_copy<D: Disk>(disk: &mut D, place: &Place, digest: &[u8; 32], buf: &mut [u8]) -> Result<(), Refusal>
+fn read_copy<D: Disk>(
+    disk: &mut D,
+    place: &Place,
+    digest: &[u8; 32],
+    buf: &mut [u8],
+) -> Result<(), Refusal>
     requires place { IsPlace (D.view disk.old).size place.now }
     requires room { place.now.length ≤ length buf.old }
     ensures shown { OnOk result (Shows (D.view disk.old) (D.view disk.new)
@@ -161,8 +166,8 @@ pub fn read_same<D: Disk>(
     }
 }
 
-// The place of the copy of a segment that is offered, if there is one, which has to be the same.
-fn compare_one<D: Disk, X: Index>(
+/// The place of the copy of a segment that is offered, if there is one, which has to be the same.
+pub fn compare_one<D: Disk, X: Index>(
     disk: &mut D,
     index: &mut X,
     kind: Kind,
@@ -175,13 +180,14 @@ fn compare_one<D: Disk, X: Index>(
     ensures had { IfOk result (λ had. IfSome had (IsPlace (D.view disk.old).size)
         × KnownMap (X.places index.old (D.view disk.old).content) (λ m. had ≡ finite.get m (key_in (kind_byte kind) digest.now))) }
     ensures fit { IfOk result (λ had. Shows (D.view disk.old) (D.view disk.new) (FitsHad kind offered.now had)) }
+    ensures length { IfOk result (λ had. IfSome had (λ place. place.length ≡ length offered.now)) }
     ensures map { X.places index.new (D.view disk.new).content ≡ X.places index.old (D.view disk.old).content }
     ensures size { length buf.new ≡ length buf.old }
     ensures reads { Reads (ending blames result) (D.view disk.old) (D.view disk.new) }
     ensures refused { IfErr result (IsOneRefusal
         (λ at why. (X.places index.old (D.view disk.old).content ≡ None) × Shows (D.view disk.old) (D.view disk.new) (X.breaks index.old at why))
         (IsUnlike (D.view disk.old).size (X.places index.old (D.view disk.old).content) (Shows (D.view disk.old) (D.view disk.new))
-            kind digest.now offered.now)) }
+        kind digest.now offered.now)) }
     ensures served { X.serves index.new (D.view disk.new).size }
 {
     match find(disk, index, &key_of(kind, digest))? {

@@ -21,7 +21,11 @@ use refusals::Refusal;
 use segment_index::{Index, IndexFault};
 
 /// The place of a key, if a container has it.
-pub fn find<D: Disk, X: Index>(disk: &mut D, index: &mut X, key: &Key) -> Result<Option<Place>, Refusal>
+pub fn find<D: Disk, X: Index>(
+    disk: &mut D,
+    index: &mut X,
+    key: &Key,
+) -> Result<Option<Place>, Refusal>
     requires { X.serves index.old (D.view disk.old).size }
     ensures found { IfOk result (λ found. KnownMap (X.places index.old (D.view disk.old).content)
         (λ m. found ≡ finite.get m key.now)) }
@@ -51,7 +55,12 @@ fn key_in(kind: Kind, entry: &Entry) -> Key
 }
 
 // Gives a key a place.
-fn put<D: Disk, X: Index>(disk: &mut D, index: &mut X, key: &Key, place: Place) -> Result<(), Refusal>
+fn put<D: Disk, X: Index>(
+    disk: &mut D,
+    index: &mut X,
+    key: &Key,
+    place: Place,
+) -> Result<(), Refusal>
     requires serves { X.serves index.old (D.view disk.old).size }
     requires kind { HasKind key.now }
     requires place { IsPlace (D.view disk.old).size place }
@@ -98,7 +107,12 @@ fn remove<D: Disk, X: Index>(disk: &mut D, index: &mut X, key: &Key) -> Result<(
 }
 
 // Gives a key, which has a place, the one that it had before, or none.
-fn give_back<D: Disk, X: Index>(disk: &mut D, index: &mut X, key: &Key, had: &Option<Place>) -> Result<(), Refusal>
+fn give_back<D: Disk, X: Index>(
+    disk: &mut D,
+    index: &mut X,
+    key: &Key,
+    had: &Option<Place>,
+) -> Result<(), Refusal>
     requires serves { X.serves index.old (D.view disk.old).size }
     requires kind { HasKind key.now }
     requires place { IfSome had.now (IsPlace (D.view disk.old).size) }

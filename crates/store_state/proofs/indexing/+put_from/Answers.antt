@@ -45,11 +45,25 @@ put_from-ended-requires g t c κs within =
     let stays = c.in_ok-put.ensures.unknown in
     let e = c.in-Some.entry.now in
     let es = c.in-Some.rest.now in
-    let all = c.args.entries.now in
-    (omega (arith, ap length is, c.decreases), (within.0, (within.1, (c.in_ok-put.ensures.served,
-      (rest_part size next_size c.args.slot c.args.kind key c.place_in.result e es all old next is same_size c.key_in-key.ensures.key put stays c.requires.part,
-      (rest_room size next_size c.args.slot c.args.kind key c.place_in.result e es all old next is same_size c.key_in-key.ensures.key put stays c.requires.room,
-      rest_had size next_size c.args.slot c.args.kind key c.place_in.result e es all old next is same_size c.key_in-key.ensures.key put stays c.in-Some-split_first.had.now c.in-Some-split_first.had_rest.now c.args.before.now c.in-Some-split_first.ensures.cases.0 c.requires.part c.requires.had))))))
+    let all = c.args.entries.now in (
+      omega (arith, ap length is, c.decreases),
+      (
+        within.0,
+        (
+          within.1,
+          (
+            c.in_ok-put.ensures.served,
+            (
+              rest_part size next_size c.args.slot c.args.kind key c.place_in.result e es all old next is same_size c.key_in-key.ensures.key put stays c.requires.part,
+              (
+                rest_room size next_size c.args.slot c.args.kind key c.place_in.result e es all old next is same_size c.key_in-key.ensures.key put stays c.requires.room,
+                rest_had size next_size c.args.slot c.args.kind key c.place_in.result e es all old next is same_size c.key_in-key.ensures.key put stays c.in-Some-split_first.had.now c.in-Some-split_first.had_rest.now c.args.before.now c.in-Some-split_first.ensures.cases.0 c.requires.part c.requires.had,
+              ),
+            ),
+          ),
+        ),
+      ),
+    )
 
 pub returns-then-not-ran_out-clause-refused : goal.returns-then-not-ran_out-clause-refused
 returns-then-not-ran_out-clause-refused g t c =

@@ -60,14 +60,16 @@ pub record GoesOn (actor : ℕ) (old new : List Part) (before after : List Top) 
   pub parts_are : new ≡ with_part old actor (reading root after)
 
 -- what is answered
-pub record GivesNext (known : Option PlaceMap) (old new : DiskView) (actor : ℕ) (before after : List Part) (buf : List ℕ) (answer : Option ℕ) : Type 0 where
+pub record GivesNext (known : Option PlaceMap) (old new : DiskView) (actor : ℕ) (before after : List Part) (buf : List ℕ)
+    (answer : Option ℕ) : Type 0 where
   pub was : List Top
   pub rest : List Top
   pub goes_on : GoesOn actor before after was rest
   pub given : IsAnswer (WasRead known old new) was rest buf answer
 
 -- why it is refused on the way
-pub record IsStuck (known : Option PlaceMap) (breaks : ℕ → Why → List ℕ → Type 0) (old new : DiskView) (actor : ℕ) (before after : List Part) (refusal : Refusal) : Type 0 where
+pub record IsStuck (known : Option PlaceMap) (breaks : ℕ → Why → List ℕ → Type 0) (old new : DiskView) (actor : ℕ)
+    (before after : List Part) (refusal : Refusal) : Type 0 where
   pub was : List Top
   pub rest : List Top
   pub goes_on : GoesOn actor before after was rest
@@ -79,12 +81,14 @@ pub record IsNoReader (actor : ℕ) (before after : List Part) (kind : PartKind)
   pub kind_is : kind ≡ kind_of (part_of before actor)
   pub same : after ≡ before
 
-abbrev pub IsReadRefusal : Option PlaceMap → (ℕ → Why → List ℕ → Type 0) → DiskView → DiskView → ℕ → List Part → List Part → Refusal → Type 0
+abbrev pub IsReadRefusal : Option PlaceMap → (ℕ → Why → List ℕ → Type 0) → DiskView → DiskView → ℕ → List Part → List Part → Refusal
+    → Type 0
 IsReadRefusal known breaks old new actor before after (WrongPart kind) = IsNoReader actor before after kind
 IsReadRefusal known breaks old new actor before after refusal = IsStuck known breaks old new actor before after refusal
 
 -- what is answered where segments of held trees are to come
-pub record GivesHeld (held : List (Option HeaderValue)) (image : List ℕ) (actor : ℕ) (before after : List Part) (was : List Top) (segments : List (List ℕ)) (buf : List ℕ) (result : Result (Option ℕ) Refusal) : Type 0 where
+pub record GivesHeld (held : List (Option HeaderValue)) (image : List ℕ) (actor : ℕ) (before after : List Part) (was : List Top)
+    (segments : List (List ℕ)) (buf : List ℕ) (result : Result (Option ℕ) Refusal) : Type 0 where
   pub rest : List Top
   pub goes_on : GoesOn actor before after was rest
   pub given : IsHeldAnswer held image rest segments buf result

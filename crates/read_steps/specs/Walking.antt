@@ -111,7 +111,8 @@ pub record IsPlacedAt (known : Option PlaceMap) (key : List ℕ) (slot offset co
   pub count_is : count ≡ place.length
 
 -- the index, whose map is not known then, has bytes that break its form so
-pub record IsDamage (known : Option PlaceMap) (breaks : ℕ → Why → List ℕ → Type 0) (old new : DiskView) (at : ℕ) (why : Why) : Type 0 where
+pub record IsDamage (known : Option PlaceMap) (breaks : ℕ → Why → List ℕ → Type 0) (old new : DiskView) (at : ℕ) (why : Why)
+    : Type 0 where
   pub unknown : known ≡ None
   pub there : Shows old new (breaks at why)
 
@@ -123,7 +124,8 @@ IsLookupRefusal known breaks old new key (Damaged at why) = IsDamage known break
 IsLookupRefusal known breaks old new key refusal = ⊥
 
 -- bytes that were found at the place of a key have another digest than the one wanted
-pub record IsCorrupt (known : Option PlaceMap) (old new : DiskView) (key digest : List ℕ) (slot offset count : ℕ) (want got : List ℕ) : Type 0 where
+pub record IsCorrupt (known : Option PlaceMap) (old new : DiskView) (key digest : List ℕ) (slot offset count : ℕ) (want got : List ℕ)
+    : Type 0 where
   pub want_is : want ≡ digest
   pub differ : want ≢ got
   pub placed : IsPlacedAt known key slot offset count
@@ -165,14 +167,16 @@ IsNextRefusal known breaks old new (t ∷ ts) refusal = IsTopRefusal known break
 
 -- The walk came to a place, and what comes first there is not given. So what is to come stays: some of its nodes stand
 -- opened in their own place.
-pub record IsWalkRefusal (known : Option PlaceMap) (breaks : ℕ → Why → List ℕ → Type 0) (old new : DiskView) (before after : List Top) (refusal : Refusal) : Type 0 where
+pub record IsWalkRefusal (known : Option PlaceMap) (breaks : ℕ → Why → List ℕ → Type 0) (old new : DiskView) (before after : List Top)
+    (refusal : Refusal) : Type 0 where
   pub walked : Walked (WasRead known old new) before after
   pub cause : IsNextRefusal known breaks old new after refusal
 
 -- ---- trees that are held
 
 -- The disk tells its content, the map of the index is known, and it is that of these slots.
-pub record IsIndexed (held : List (Option HeaderValue)) (known : Option PlaceMap) (content : Option (List ℕ)) (image : List ℕ) : Type 0 where
+pub record IsIndexed (held : List (Option HeaderValue)) (known : Option PlaceMap) (content : Option (List ℕ)) (image : List ℕ)
+    : Type 0 where
   pub told : content ≡ Some image
   pub index : PlaceMap
   pub index_known : known ≡ Some index
@@ -190,7 +194,8 @@ pub record SegmentsAhead (held : List (Option HeaderValue)) (image : List ℕ) (
   pub segments_are : segments ≡ segments_in trees
 
 -- the first of the segments to come is in the buffer, and the others are still to come
-pub record GivesFirst (held : List (Option HeaderValue)) (image : List ℕ) (after : List Top) (segments : List (List ℕ)) (first : List ℕ) : Type 0 where
+pub record GivesFirst (held : List (Option HeaderValue)) (image : List ℕ) (after : List Top) (segments : List (List ℕ)) (first : List ℕ)
+    : Type 0 where
   pub others : List (List ℕ)
   pub segments_are : segments ≡ first ∷ others
   pub ahead : SegmentsAhead held image after others

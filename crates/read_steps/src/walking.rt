@@ -20,7 +20,7 @@ use container_log::{LogFault, Spot, read_segment};
 use container_meta::{Key, Kind, Place, key_of};
 use dd_disk::Disk;
 use disk_format::{Why, data_at};
-use merkle_file::{Cursor, FieldFault, Hash, Want};
+use merkle_file::{Cursor, Hash, Want};
 use refusals::Refusal;
 use segment_index::{Index, IndexFault};
 

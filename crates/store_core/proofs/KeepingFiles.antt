@@ -137,7 +137,7 @@ may_seal : (S : List ℕ → Type 0) (k : Kind) (s : Segment) → IsStepSegment 
 may_seal S kind.Leaf s right among = record { of_kind = tt; among = among }
 may_seal S kind.Tree s right among = record { of_kind = record { node = _; right = right.bytes.node; level_is = sym right.level; spelled = right.bytes.spelled }; among = tt }
 
-may_seal_all : (S : List ℕ → Type 0) (k : Kind) (segments : List Segment) → AreStepSegments k segments → AllByRecursion (λ s. IsAmong S k s.bytes) segments
+pub may_seal_all : (S : List ℕ → Type 0) (k : Kind) (segments : List Segment) → AreStepSegments k segments → AllByRecursion (λ s. IsAmong S k s.bytes) segments
     → AllByRecursion (MaySeal S k) segments
 may_seal_all S k [] right among = tt
 may_seal_all S k (s ∷ ss) right among = (may_seal S k s right.0 among.0, may_seal_all S k ss right.1 among.1)

@@ -1,3 +1,6 @@
+pub mod CheckedReads
+pub mod Crashes
+pub mod GivingFiles
 pub mod KeepingFiles
 pub mod OwnParts
 pub mod RunningOn

@@ -14,8 +14,9 @@ use Rattle.actor_parts.proofs.Apart.{apart}
 use Rattle.refusals.specs.declared.refusal.Refusal.{Refusal}
 use Rattle.refusals.specs.declared.refusal.Refusal.TheVariants as refusals
 use Rattle.read_steps.specs.Readers as readers
-use Rattle.store_core.specs.Core.{Row, BeginRow, ClaimRow, SealRow, CommitRow, AbortRow, OpenRow, ReadRow, EndRow, StatRow, Effect}
-use Rattle.store_core.specs.State.{CoreState}
+use Rattle.store_core.specs.Core.{Row, BeginRow, ClaimRow, SealRow, CommitRow, AbortRow, OpenRow, ReadRow, EndRow, StatRow, Effect, StepsOr}
+use Rattle.store_core.specs.declared.stop.Stop.{Stop}
+use Rattle.store_core.specs.State.{CoreState, Event}
 
 -- ---- parts
 
@@ -106,3 +107,8 @@ module _ (old new : CoreState) where
   effect_later asked.ReadNext answer effect = effect.disk.only.later
   effect_later asked.EndRead answer effect = effect.disk.only.later
   effect_later asked.Stat answer effect = effect.disk.only.later
+
+module _ (old new : CoreState) (e : Event) where
+  pub step_later : (stop : Option Stop) → StepsOr stop e old new → IsLater old.disk new.disk
+  step_later None steps = effect_later old new e.step e.answer steps.effect
+  step_later (Some stop) steps = steps.same.disk.only.later

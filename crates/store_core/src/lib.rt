@@ -4,5 +4,5 @@
 mod laws;
 mod stop;
 
-pub use laws::{HasState, a_core_keeps_files, a_core_runs_on};
+pub use laws::{HasState, a_core_keeps_files, a_core_runs_on, a_core_survives_crashes, a_reader_checks_what_it_gives, a_reader_is_given_its_file};
 pub use stop::Stop;

@@ -24,7 +24,8 @@ use Rattle.refusals.specs.declared.refusal.Refusal.TheVariants as refusals
 use Rattle.store_model.specs.Commands.{HasNoCollisions}
 use Rattle.store_model.specs.Files.{Files, with_file}
 use Rattle.store_model.specs.Image.{Store, IsValidFor, names_of}
-use Rattle.store_model.specs.Slots.{IsIndexOf}
+use Rattle.disk_format.specs.declared.numbers.TheConstants.{RESERVE}
+use Rattle.store_model.specs.Slots.{IsIndexOf, free_slots}
 use Rattle.store_model.specs.Standing.{ByteSet, IsIn, IsAmong, Stands}
 use Rattle.store_model.specs.Steps.{StoreChange, SealContainer, PutName, CanChange, MaySeal, KeepsCopies, changed, with_sealed, with_put}
 use Rattle.store_model.specs.Trees.{HoldsTree, file_tree}
@@ -32,10 +33,9 @@ use Rattle.store_state.specs.declared.tables.Tables.{Tables}
 use Rattle.store_state.specs.Invariant.{CoreInvariant, HoldsPart}
 use Rattle.store_state.specs.Refused.{blames}
 use Rattle.store_state.specs.Tables.{Represents}
-use Rattle.store_state.proofs.Parts.{parts_kept}
-use Rattle.ingest_steps.specs.Sealing.{sealing}
+use Rattle.store_state.proofs.Parts.{part_kept, parts_kept}
 use Rattle.store_core.specs.declared.stop.Stop.{Stop}
-use Rattle.store_core.specs.Core.{Row, SealRow, CommitRow, Effect, Rests, SealsOne, PutsOne, Makes, KeepsTables, StopsAfter, Steps, StepsOr, next_id}
+use Rattle.store_core.specs.Core.{Row, SealRow, CommitRow, Effect, Rests, SealsOne, PutsOne, Makes, KeepsTables, StopsAfter, Steps, StepsOr, KeepsHeld, next_id, sealing_indexed}
 use Rattle.store_core.specs.Runs.{FileEvent, FileStep, FileRun, IsAt, ChangesTo, Reaches, KeepsFiles, IsGivenRight, files_with, files_by, files_after_steps}
 use Rattle.store_core.specs.State.{CoreState}
 use Rattle.store_core.proofs.OwnParts.{all_part, all_own, own_begin, own_claim, own_abort, own_open, own_read, own_drop, own_set, own_stat, own_refused}
@@ -81,6 +81,9 @@ module _ (among : ByteSet) (s : Store) (files : Files) (old new : CoreState) (ac
   abbrev hold : AllByRecursion (HoldsPart s.held content) old.parts
   hold = (at.invariant content told).pins_are_closed
 
+  abbrev reserve : RESERVE ≤ free_slots s.held
+  reserve = (at.invariant content told).reserve_holds
+
   -- all are held, where the actor of the step is
   pub all_hold : (t : Store) (after : List ℕ) → KeepsCopies s content t after → HoldsPart t.held after (part_of new.parts actor) → AllByRecursion (HoldsPart t.held after) new.parts
   all_hold t after keeps own =
@@ -107,6 +110,19 @@ module _ (among : ByteSet) (s : Store) (files : Files) (old new : CoreState) (ac
         subst (λ (bytes : List ℕ). KeepsCopies s before s bytes) same (λ key level bytes has. has);
   }
 
+  -- a step after which each image is the same store
+  pub still : KeepsTables old new → IsLater old.disk new.disk → StandsFor (Stands (IsIn among) s files) new.disk
+      → ((after : List ℕ) → new.disk.content ≡ Some after → KeepsCopies s content s after × HoldsPart s.held after (part_of new.parts actor)) → Next (IsIn among) s files old new
+  still kept goes stands keeps = record {
+    changes = [];
+    store = s;
+    chain = refl;
+    is_at = arrive (IsIn among) s files new (same_tables kept) at.index (kept.index_is ∙ at.index_known) (subst (λ (size : ℕ). IsValidFor size s) (sym goes.size_is) at.valid) stands
+        (λ image is. let kept_here = keeps image is in all_hold s image kept_here.0 kept_here.1);
+    copies = λ before after is_before is_after. let same : content ≡ before = one_some content before (sym told ∙ is_before) in
+        subst (λ (bytes : List ℕ). KeepsCopies s bytes s after) same (keeps after is_after).0;
+  }
+
   -- a step that makes a change
   pub makes : (change : StoreChange) (later : Files) → Makes change old new → IsLater old.disk new.disk → StandsFor (Stands (IsIn among) (changed change s) later) new.disk
       → ((after : List ℕ) → new.disk.content ≡ Some after → KeepsCopies s content (changed change s) after × HoldsPart (changed change s).held after (part_of new.parts actor))
@@ -116,8 +132,8 @@ module _ (among : ByteSet) (s : Store) (files : Files) (old new : CoreState) (ac
       record {
         changes = change ∷ [];
         store = changed change s;
-        chain = (made.can s at.represents at.valid, refl);
-        is_at = arrive (IsIn among) (changed change s) later new (made.represents s at.represents at.valid) known.0 known.1 (made.valid s at.represents at.valid) stands
+        chain = (made.can.store_has s at.represents at.valid reserve, refl);
+        is_at = arrive (IsIn among) (changed change s) later new (made.represents.store_has s at.represents at.valid reserve) known.0 known.1 (made.valid.store_has s at.represents at.valid reserve) stands
             (λ image is. let kept = keeps image is in all_hold (changed change s) image kept.0 kept.1);
         copies = λ before after is_before is_after. let same : content ≡ before = one_some content before (sym told ∙ is_before) in
             subst (λ (bytes : List ℕ). KeepsCopies s bytes (changed change s) after) same (keeps after is_after).0;
@@ -208,28 +224,43 @@ module _ (among : ByteSet) (s : Store) (files : Files) (old new : CoreState) (ac
 
   -- a container
   seal_moves : (filled : Contents) (answer : Result Answer Refusal) → SealsOne filled answer old new → IsStep (asked.Seal filled) → IsGivenRight (IsIn among) (asked.Seal filled) answer bytes old
-      → Moved (sealing (IsIn among) (next_id old) filled s files) (ending blames answer) old.disk new.disk
+      → Moved (sealing_indexed (IsIn among) (next_id old) filled s files) (ending blames answer) old.disk new.disk
   seal_moves filled answer effect right given = effect.moves among s files at.represents distinct (may_seal_all (IsIn among) filled.kind filled.segments right.1 given) at.stands
 
-  seal_still : (filled : Contents) (refusal : Refusal) → StopsAfter (asked.Seal filled) (Err refusal) old.acknowledged new.stop
-      → Arrives (sealing (IsIn among) (next_id old) filled s files) (ending_of (blames refusal)) old.disk new.disk → OnlyReads old.disk new.disk
-  seal_still filled refusals.DiskWrite stops arrives = absurd (let both = sym stays ∙ stops in cc)
-  seal_still filled refusals.DiskRead stops (inl reads) = reads
-  seal_still filled refusals.DiskRead stops (inr none) = absurd (nothing_stands new.disk none)
-  seal_still filled refusal stops (inl reads) = reads
-  seal_still filled refusal stops (inr none) = absurd (nothing_stands new.disk none)
+  seal_holds : (filled : Contents) (answer : Result Answer Refusal) (after : List ℕ) → new.disk.content ≡ Some after → SealsOne filled answer old new → IsStep (asked.Seal filled) → IsGivenRight (IsIn among) (asked.Seal filled) answer bytes old
+      → KeepsHeld (ending blames answer) (next_id old) filled s image after
+  seal_holds filled answer after is effect right given = effect.holds among s files image after at.represents here is stands_here distinct (may_seal_all (IsIn among) filled.kind filled.segments right.1 given)
+
+  -- a refusal that is no failed write
+  stands_still : OnlyReads old.disk new.disk ⊎ StandsFor (Stands (IsIn among) s files) new.disk → StandsFor (Stands (IsIn among) s files) new.disk
+  stands_still (inl reads) = stands_reads (Stands (IsIn among) s files) old.disk new.disk at.stands reads
+  stands_still (inr stands) = stands
+
+  seal_stands : (filled : Contents) (refusal : Refusal) → StopsAfter (asked.Seal filled) (Err refusal) old.acknowledged new.stop
+      → Arrives (sealing_indexed (IsIn among) (next_id old) filled s files) (ending_of (blames refusal)) old.disk new.disk → StandsFor (Stands (IsIn among) s files) new.disk
+  seal_stands filled refusals.DiskWrite stops arrives = absurd (let both = sym stays ∙ stops in cc)
+  seal_stands filled refusals.DiskRead stops arrives = stands_still arrives
+  seal_stands filled refusal stops arrives = stands_still arrives
+
+  seal_copies : (filled : Contents) (refusal : Refusal) (after : List ℕ) → StopsAfter (asked.Seal filled) (Err refusal) old.acknowledged new.stop → KeepsHeld (ending_of (blames refusal)) (next_id old) filled s image after → KeepsCopies s image s after
+  seal_copies filled refusals.DiskWrite after stops keeps = absurd (let both = sym stays ∙ stops in cc)
+  seal_copies filled refusals.DiskRead after stops keeps = keeps
+  seal_copies filled refusal after stops keeps = keeps
 
   seal_next : (filled : Contents) (answer : Result Answer Refusal) → Goes (asked.Seal filled) answer
   seal_next filled (Ok (answers.Sealed id)) row effect stops right given =
       let may = may_seal_all (IsIn among) filled.kind filled.segments right.1 given in
       makes among s files old new actor at (row_one actor buf old new (asked.Seal filled) (Ok (answers.Sealed id)) row) (SealContainer (next_id old) filled.kind filled.segments) files effect.made effect.disk.later
       (seal_moves filled (Ok (answers.Sealed id)) effect right given).arrives
-      (λ after is. let kept = row.kept among s files image after here is at.represents stands_here distinct may in
-      subst (λ (n : ℕ). KeepsCopies s image (with_sealed n filled.kind filled.segments s) after × HoldsPart (with_sealed n filled.kind filled.segments s).held after (part_of new.parts actor)) row.id_is
-      (kept.copies, kept.part (all_part (HoldsPart s.held image) old.parts actor tt holds)))
+      (λ after is. (
+      (seal_holds filled (Ok (answers.Sealed id)) after is effect right given).0,
+      subst (λ (n : ℕ). HoldsPart (with_sealed n filled.kind filled.segments s).held after (part_of new.parts actor)) row.id_is
+      (row.kept among s files image after at.represents here is stands_here distinct may (all_part (HoldsPart s.held image) old.parts actor tt holds))))
   seal_next filled (Err refusal) row effect stops right given =
-      rests among s files old new actor at (row_one actor buf old new (asked.Seal filled) (Err refusal) row) (effect.kept stays)
-      (seal_still filled refusal stops (seal_moves filled (Err refusal) effect right given).arrives) (own_still row)
+      still among s files old new actor at (row_one actor buf old new (asked.Seal filled) (Err refusal) row) (effect.kept stays) effect.disk.later
+      (seal_stands filled refusal stops (seal_moves filled (Err refusal) effect right given).arrives)
+      (λ after is. let copies = seal_copies filled refusal after stops (seal_holds filled (Err refusal) after is effect right given) in
+      (copies, part_kept s s image after copies (part_of new.parts actor) (own_still row)))
   seal_next filled answer row effect stops right given = absurd row
 
   -- a name

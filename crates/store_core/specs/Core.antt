@@ -6,8 +6,8 @@ use Rattle.base_model.specs.Known.{Known, KnownWith}
 use Rattle.disk_format.specs.Cells.{Root}
 use Rattle.disk_format.specs.declared.numbers.TheConstants.{RESERVE, LAST_ID}
 use Rattle.dd_disk.specs.View.{DiskView, IsDurable}
-use Rattle.dd_disk.specs.Ending.{Ending, Refused, Reads, ending}
-use Rattle.dd_disk.specs.Moves.{Moves, Acts}
+use Rattle.dd_disk.specs.Ending.{Ending, Done, Refused, Unread, Broken, Reads, ending}
+use Rattle.dd_disk.specs.Moves.{Way, Moves, Acts}
 use Rattle.container_meta.specs.declared.kind.Kind.{Kind}
 use Rattle.container_meta.specs.Places.{PlaceMap}
 use Rattle.container_meta.specs.Spelling.{HeaderValue}
@@ -34,12 +34,12 @@ use Rattle.store_model.specs.Image.{Store, Encodes, IsValidFor, names_of}
 use Rattle.store_model.specs.Slots.{Copy, IsIndexOf, newest}
 use Rattle.store_model.specs.Standing.{ByteSet, IsIn, IsAmong, IsStoreOf, Stands}
 use Rattle.store_model.specs.Steps.{StoreChange, SealContainer, PutName, CanChange, MaySeal, FitsCopy, KeepsCopies, changed, with_sealed}
+use Rattle.store_model.specs.Trees.{HasNewest}
 use Rattle.store_state.specs.Invariant.{HoldsPart}
 use Rattle.store_state.specs.Refused.{blames}
 use Rattle.store_state.specs.Settled as settled
 use Rattle.store_state.specs.Tables.{Represents, Runs, OfEach}
 use Rattle.ingest_steps.specs.Naming.{PutsRoot}
-use Rattle.ingest_steps.specs.Sealing.{sealing}
 use Rattle.ingest_steps.specs.Writers.{MayCommit, IsWrongPart, IsCommitRefusal}
 use Rattle.read_steps.specs.Counting.{counts_of}
 use Rattle.read_steps.specs.Readers as readers
@@ -110,18 +110,14 @@ with_pins kind (s ∷ ss) pins = with_pins kind ss (finite.insert pins (segment_
 abbrev pub next_id : CoreState → ℕ
 next_id c = c.tables.held.last_id + 1
 
--- What is held goes on, and what the actor keeps is right, where a content stands for files; S has no collisions.
-pub record KeepsHeld (filled : Contents) (id actor : ℕ) (store : Store) (before after : List ℕ) (old new : CoreState) : Type 0 where
-  pub copies : KeepsCopies store before (with_sealed id filled.kind filled.segments store) after
-  pub part : HoldsPart store.held before (part_of old.parts actor)
-      → HoldsPart (with_sealed id filled.kind filled.segments store).held after (part_of new.parts actor)
-
-abbrev pub SealKeeps : Contents → ℕ → ℕ → CoreState → CoreState → Type 0
-SealKeeps filled id actor old new =
-    (among : ByteSet) (store : Store) (files : Files) (before after : List ℕ) → old.disk.content ≡ Some before
-    → new.disk.content ≡ Some after → Represents store old.known old.tables → Stands (IsIn among) store files before
+-- What the actor keeps is right still, where a content stands for files; S has no collisions.
+abbrev pub SealKeepsPins : Contents → ℕ → ℕ → CoreState → CoreState → Type 0
+SealKeepsPins filled id actor old new =
+    (among : ByteSet) (store : Store) (files : Files) (given held : List ℕ) → Represents store old.known old.tables
+    → old.disk.content ≡ Some given → new.disk.content ≡ Some held → Stands (IsIn among) store files given
     → HasNoCollisions (IsIn among) → AllByRecursion (MaySeal (IsIn among) filled.kind) filled.segments
-    → KeepsHeld filled id actor store before after old new
+    → HoldsPart store.held given (part_of old.parts actor)
+    → HoldsPart (with_sealed id filled.kind filled.segments store).held held (part_of new.parts actor)
 
 -- the container stands, and its segments are pinned from now on
 pub record IsSealed (filled : Contents) (id actor : ℕ) (old new : CoreState) : Type 0 where
@@ -130,7 +126,7 @@ pub record IsSealed (filled : Contents) (id actor : ℕ) (old new : CoreState) :
   pub children : AllByRecursion (λ s. first_unpinned (in_kind filled.kind s) pins ≡ None) filled.segments
   pub id_is : id ≡ next_id old
   pub parts_are : Gets (Writing (with_pins filled.kind filled.segments pins)) actor old new
-  pub kept : SealKeeps filled id actor old new
+  pub kept : SealKeepsPins filled id actor old new
 
 -- ---- a file that is given back
 
@@ -234,11 +230,9 @@ pub record KeepsTables (old new : CoreState) : Type 0 where
 
 -- A change is made: of each store that they were those of, tables and index are those of the changed one.
 pub record Makes (change : StoreChange) (old new : CoreState) : Type 0 where
-  pub can : (store : Store) → Represents store old.known old.tables → IsValidFor old.disk.size store → CanChange change store
-  pub represents : (store : Store) → Represents store old.known old.tables → IsValidFor old.disk.size store
-      → Represents (changed change store) new.known new.tables
-  pub valid : (store : Store) → Represents store old.known old.tables → IsValidFor old.disk.size store
-      → IsValidFor new.disk.size (changed change store)
+  pub can : OfEach old.disk.size old.known old.tables (CanChange change)
+  pub represents : OfEach old.disk.size old.known old.tables (λ store. Represents (changed change store) new.known new.tables)
+  pub valid : OfEach old.disk.size old.known old.tables (λ store. IsValidFor new.disk.size (changed change store))
   pub tells : KnownMap old.known (λ _. (places : PlaceMap) × (new.known ≡ Some places))
   pub runs : Runs old.disk.size old.known old.tables → Runs new.disk.size new.known new.tables
 
@@ -247,12 +241,33 @@ pub record Rests (answer : Result Answer Refusal) (old new : CoreState) : Type 0
   pub disk : Reads (ending blames answer) old.disk new.disk
   pub tables : KeepsTables old new
 
+-- TEMPORARY, of ingest_steps
+abbrev pub sealing_indexed : (List ℕ → Type 0) → ℕ → Contents → Store → Files → Way
+sealing_indexed S id filled store files = record {
+  before = Stands S store files;
+  between = λ c. Stands S store files c ⊎ Stands S (with_sealed id filled.kind filled.segments store) files c;
+  rest = Stands S store files;
+  after = Stands S (with_sealed id filled.kind filled.segments store) files;
+}
+abbrev pub KeepsHeld : Ending → ℕ → Contents → Store → List ℕ → List ℕ → Type 0
+KeepsHeld Done id filled store given new =
+    KeepsCopies store given (with_sealed id filled.kind filled.segments store) new
+    × AllByRecursion (λ s. HasNewest (with_sealed id filled.kind filled.segments store).held (segment_key filled.kind s) s.level s.bytes new)
+    filled.segments
+KeepsHeld Refused id filled store given new = KeepsCopies store given store new
+KeepsHeld Unread id filled store given new = KeepsCopies store given store new
+KeepsHeld Broken id filled store given new = Unit {0}
+
 -- A container is stored, or isn't. After a write that failed only the disk's images are told.
 pub record SealsOne (filled : Contents) (answer : Result Answer Refusal) (old new : CoreState) : Type 0 where
   pub disk : settled.Steps old.tables.slots (ending blames answer) old.disk new.disk
   pub moves : (among : ByteSet) (store : Store) (files : Files) → Represents store old.known old.tables → HasNoCollisions (IsIn among)
       → AllByRecursion (MaySeal (IsIn among) filled.kind) filled.segments
-      → Moves (sealing (IsIn among) (next_id old) filled store files) (ending blames answer) old.disk new.disk
+      → Moves (sealing_indexed (IsIn among) (next_id old) filled store files) (ending blames answer) old.disk new.disk
+  pub holds : (among : ByteSet) (store : Store) (files : Files) (given held : List ℕ) → Represents store old.known old.tables
+      → old.disk.content ≡ Some given → new.disk.content ≡ Some held → Stands (IsIn among) store files given
+      → HasNoCollisions (IsIn among) → AllByRecursion (MaySeal (IsIn among) filled.kind) filled.segments
+      → KeepsHeld (ending blames answer) (next_id old) filled store given held
   pub made : OnOk answer (Makes (SealContainer (next_id old) filled.kind filled.segments) old new)
   pub kept : OnErr answer (new.stop ≡ None → KeepsTables old new)
 

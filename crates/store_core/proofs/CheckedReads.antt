@@ -105,9 +105,9 @@ module _ (actor : ℕ) (root : Root) (segments : List (List ℕ)) (old new : Cor
   by_actor : (own : Bool) (e : Event) → (e.actor == actor) ≡ own → (e.actor ≡ actor → IsReadNext e.step) → Steps e old new → After own e.answer e.buf
   by_actor true e is alone steps =
       let same = eqb-true e.actor actor is in
-      own_step e.step e.answer e.buf (alone same) (subst (λ (a : ℕ). Row e.step a e.answer e.buf old new) same steps.row)
+      own_step e.step e.answer e.buf (alone same) (subst (λ (a : ℕ). Row e.step a e.answer e.buf old new) same steps.made.row)
   by_actor false e is alone steps =
-      let one = row_one e.actor e.buf old new e.step e.answer steps.row in
+      let one = row_one e.actor e.buf old new e.step e.answer steps.made.row in
       still e.actor one (other_part actor e.actor old.parts new.parts one (λ same. eqb-false e.actor actor is (sym same)))
 
   none_given : (own : Bool) (answer : Result Answer Refusal) (buf : List ℕ) (at : ℕ) → answer ≡ Err (refusals.Stopped at) → given_by own answer buf [] ≡ []
@@ -155,8 +155,8 @@ module _ (old new : CoreState) (actor : ℕ) (name : List ℕ) (count : ℕ) (bu
 
   opened : Steps (opens actor name count buf) old new → Began
   opened steps =
-      let is = steps.row.opens in
-      let one = row_one actor buf old new (asked.OpenRead name) (Ok (answers.Opened count)) steps.row in
+      let is = steps.made.row.opens in
+      let one = row_one actor buf old new (asked.OpenRead name) (Ok (answers.Opened count)) steps.made.row in
       record {
         root = is.root;
         count_is = is.count_is;
@@ -189,7 +189,7 @@ module _ (C : Type 0) (state : C → CoreState) where
   ended_by : (old new : CoreState) (actor count : ℕ) (events : List Event) (buf : List ℕ) (stop : Option Stop) → GivesByTree actor count events old → old.stop ≡ stop → old.stop ≡ None → StepsOr stop (ends actor buf) old new
       → sum_by length (given_to actor events) ≡ count
   ended_by old new actor count events buf None by is runs steps =
-      let row = steps.row.next in
+      let row = steps.made.row.next in
       let same = same_reader row.goes_on.root by.root row.was by.given.rest (sym row.goes_on.part_is ∙ by.given.part_is) in
       by.whole (sym same.1 ∙ row.given.0)
   ended_by old new actor count events buf (Some stop) by is runs steps = absurd (let both = sym runs ∙ is in cc)

@@ -79,7 +79,7 @@ module _ (among : ByteSet) (s : Store) (files : Files) (old new : CoreState) (by
 
   by_stop : (stop : Option Stop) (f : FileEvent) → f.bytes ≡ bytes → StepsOr stop f.event old new → IsStep f.event.step → IsGivenRight S f.event.step f.event.answer bytes old
       → CrashLeaves (Either S f.event.step f.event.answer bytes files) old.disk new.disk
-  by_stop None f same steps right given = by_effect f.event.step f.event.answer steps.effect right given
+  by_stop None f same steps right given = by_effect f.event.step f.event.answer steps.made.effect right given
   by_stop (Some stop) f same steps right given = by_reads f.event.step f.event.answer steps.same.disk.only
 
 -- ---- a run

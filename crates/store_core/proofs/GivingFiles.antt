@@ -110,9 +110,9 @@ module _ (among : ByteSet) (s : Store) (files later : Files) (old new : CoreStat
   by_actor : (own : Bool) (e : Event) → (e.actor == actor) ≡ own → (e.actor ≡ actor → IsReadNext e.step) → Steps e old new → GivesOne own e.answer e.buf segments Still
   by_actor true e is alone steps =
       let same = eqb-true e.actor actor is in
-      own_step e.step e.answer e.buf (alone same) (subst (λ (a : ℕ). Row e.step a e.answer e.buf old new) same steps.row)
+      own_step e.step e.answer e.buf (alone same) (subst (λ (a : ℕ). Row e.step a e.answer e.buf old new) same steps.made.row)
   by_actor false e is alone steps =
-      other_still e.actor (row_one e.actor e.buf old new e.step e.answer steps.row) (λ same. eqb-false e.actor actor is (sym same))
+      other_still e.actor (row_one e.actor e.buf old new e.step e.answer steps.made.row) (λ same. eqb-false e.actor actor is (sym same))
 
   by_stop : (stop : Option Stop) (e : Event) → old.stop ≡ stop → old.stop ≡ None → (e.actor ≡ actor → IsReadNext e.step) → StepsOr stop e old new → GivesOne (e.actor == actor) e.answer e.buf segments Still
   by_stop None e is runs alone steps = by_actor (e.actor == actor) e refl alone steps
@@ -141,8 +141,8 @@ module _ (among : ByteSet) (s t : Store) (files : Files) (old new : CoreState) (
   opened_reader steps =
       let image : List ℕ = at.stands.known.0 in
       let here = at.stands.known.1 in
-      let one = row_one actor buf old new (asked.OpenRead name) (Ok (answers.Opened count)) steps.row in
-      let opened = steps.row.file s files image at.represents.names_are.names_are (at.stands.each image (old.disk.as_read image here)).holds in
+      let one = row_one actor buf old new (asked.OpenRead name) (Ok (answers.Opened count)) steps.made.row in
+      let opened = steps.made.row.file s files image at.represents.names_are.names_are (at.stands.each image (old.disk.as_read image here)).holds in
       let same : opened.file.bytes ≡ bytes = let both = sym opened.file.filed ∙ filed in cc in
       record {
         root = opened.root;

@@ -35,7 +35,7 @@ use Rattle.store_state.specs.Refused.{blames}
 use Rattle.store_state.specs.Tables.{Represents}
 use Rattle.store_state.proofs.Parts.{part_kept, parts_kept}
 use Rattle.store_core.specs.declared.stop.Stop.{Stop}
-use Rattle.store_core.specs.Core.{Row, SealRow, CommitRow, Effect, Rests, SealsOne, PutsOne, Makes, KeepsTables, StopsAfter, Steps, StepsOr, KeepsHeld, next_id, sealing_indexed}
+use Rattle.store_core.specs.Core.{Row, SealRow, CommitRow, Effect, Rests, SealsOne, PutsOne, Makes, KeepsTables, KeepsUnlessBroken, StopsAfter, Steps, StepsOr, KeepsHeld, next_id, sealing_indexed}
 use Rattle.store_core.specs.Runs.{FileEvent, FileStep, FileRun, IsAt, ChangesTo, Reaches, KeepsFiles, IsGivenRight, files_with, files_by, files_after_steps}
 use Rattle.store_core.specs.State.{CoreState}
 use Rattle.store_core.proofs.OwnParts.{all_part, all_own, own_begin, own_claim, own_abort, own_open, own_read, own_drop, own_set, own_stat, own_refused}
@@ -242,6 +242,11 @@ module _ (among : ByteSet) (s : Store) (files : Files) (old new : CoreState) (ac
   seal_stands filled refusals.DiskRead stops arrives = stands_still arrives
   seal_stands filled refusal stops arrives = stands_still arrives
 
+  seal_kept : (filled : Contents) (refusal : Refusal) → StopsAfter (asked.Seal filled) (Err refusal) old.acknowledged new.stop → KeepsUnlessBroken refusal old new → KeepsTables old new
+  seal_kept filled refusals.DiskWrite stops kept = absurd (let both = sym stays ∙ stops in cc)
+  seal_kept filled (refusals.Damaged at_byte why) stops kept = absurd (let both = sym stays ∙ stops in cc)
+  seal_kept filled refusal stops kept = kept
+
   seal_copies : (filled : Contents) (refusal : Refusal) (after : List ℕ) → StopsAfter (asked.Seal filled) (Err refusal) old.acknowledged new.stop → KeepsHeld (ending_of (blames refusal)) (next_id old) filled s image after → KeepsCopies s image s after
   seal_copies filled refusals.DiskWrite after stops keeps = absurd (let both = sym stays ∙ stops in cc)
   seal_copies filled refusals.DiskRead after stops keeps = keeps
@@ -257,7 +262,7 @@ module _ (among : ByteSet) (s : Store) (files : Files) (old new : CoreState) (ac
       subst (λ (n : ℕ). HoldsPart (with_sealed n filled.kind filled.segments s).held after (part_of new.parts actor)) row.id_is
       (row.kept among s files image after at.represents here is stands_here distinct may (all_part (HoldsPart s.held image) old.parts actor tt holds))))
   seal_next filled (Err refusal) row effect stops right given =
-      still among s files old new actor at (row_one actor buf old new (asked.Seal filled) (Err refusal) row) (effect.kept stays) effect.disk.later
+      still among s files old new actor at (row_one actor buf old new (asked.Seal filled) (Err refusal) row) (seal_kept filled refusal stops effect.kept) effect.disk.later
       (seal_stands filled refusal stops (seal_moves filled (Err refusal) effect right given).arrives)
       (λ after is. let copies = seal_copies filled refusal after stops (seal_holds filled (Err refusal) after is effect right given) in
       (copies, part_kept s s image after copies (part_of new.parts actor) (own_still row)))
@@ -298,7 +303,7 @@ module _ (among : ByteSet) (distinct : HasNoCollisions (IsIn among)) where
 
   by_stop : (stop : Option Stop) (f : FileEvent) (s : Store) (files : Files) (old new : CoreState) → old.stop ≡ stop → StepsOr stop f.event old new → IsStep f.event.step
       → IsGivenRight (IsIn among) f.event.step f.event.answer f.bytes old → IsAt (IsIn among) s files old → new.stop ≡ None → Next (IsIn among) s (files_by f files) old new
-  by_stop None f s files old new is steps right given at stays = step_next among s files old new f.event.actor f.event.buf f.bytes distinct at stays f.event.step f.event.answer steps.row steps.effect steps.stops right given
+  by_stop None f s files old new is steps right given at stays = step_next among s files old new f.event.actor f.event.buf f.bytes distinct at stays f.event.step f.event.answer steps.made.row steps.made.effect steps.stops right given
   by_stop (Some stop) f s files old new is steps right given at stays = absurd (let both = sym stays ∙ stopped_on stop f old new is steps in cc)
 
   pub file_step : (f : FileEvent) (s : Store) (files : Files) (old new : CoreState) → FileStep (IsIn among) f old new → IsAt (IsIn among) s files old → new.stop ≡ None → Next (IsIn among) s (files_by f files) old new

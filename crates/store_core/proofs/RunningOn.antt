@@ -9,10 +9,12 @@ use Rattle.actor_parts.specs.StepValue as asked
 use Rattle.actor_parts.specs.StepValue.{StepValue}
 use Rattle.actor_parts.proofs.Apart.{apart}
 use Rattle.refusals.specs.declared.refusal.Refusal.{Refusal}
+use Rattle.refusals.specs.declared.refusal.Refusal.TheVariants as refusals
+use Rattle.container_meta.specs.Segments.{Contents}
 use Rattle.store_state.specs.declared.tables.Tables.{Tables}
 use Rattle.store_state.specs.Tables.{Runs}
 use Rattle.store_core.specs.declared.stop.Stop.{Stop}
-use Rattle.store_core.specs.Core.{Effect, KeepsTables, Steps, StepsOr, CoreStep}
+use Rattle.store_core.specs.Core.{Effect, KeepsTables, KeepsUnlessBroken, StopsAfter, Steps, StepsOr, CoreStep}
 use Rattle.store_core.specs.Runs.{CoreRun, RunsOn}
 use Rattle.store_core.specs.State.{CoreState, Event, IsUp, UnlessStopped, IsRunning}
 use Rattle.store_core.proofs.Stepping.{ChangesOne, row_one, effect_later}
@@ -27,25 +29,30 @@ module _ (old new : CoreState) (stays : new.stop ≡ None) where
       (subst (λ (known : Option PlaceMap). Runs old.disk.size known new.tables) (sym kept.index_is)
       (subst (λ (tables : Tables). Runs old.disk.size old.known tables) (sym kept.tables_are) runs))
 
-  effect_runs : (step : StepValue) (answer : Result Answer Refusal) → Effect step answer old new → Runs old.disk.size old.known old.tables → Runs new.disk.size new.known new.tables
-  effect_runs asked.Begin answer effect = same_runs effect.disk.only.later effect.tables
-  effect_runs (asked.Claim seg) answer effect = same_runs effect.disk.only.later effect.tables
-  effect_runs (asked.Seal filled) (Ok answer) effect = effect.made.runs
-  effect_runs (asked.Seal filled) (Err refusal) effect = same_runs effect.disk.later (effect.kept stays)
-  effect_runs (asked.Commit name root) (Ok answer) effect = effect.made.runs
-  effect_runs (asked.Commit name root) (Err refusal) effect = same_runs effect.disk.later effect.kept
-  effect_runs asked.Abort answer effect = same_runs effect.disk.only.later effect.tables
-  effect_runs (asked.OpenRead name) answer effect = same_runs effect.disk.only.later effect.tables
-  effect_runs asked.ReadNext answer effect = same_runs effect.disk.only.later effect.tables
-  effect_runs asked.EndRead answer effect = same_runs effect.disk.only.later effect.tables
-  effect_runs asked.Stat answer effect = same_runs effect.disk.only.later effect.tables
+  seal_kept : (filled : Contents) (refusal : Refusal) (count : ℕ) → StopsAfter (asked.Seal filled) (Err refusal) count new.stop → KeepsUnlessBroken refusal old new → KeepsTables old new
+  seal_kept filled refusals.DiskWrite count stops kept = absurd (let both = sym stays ∙ stops in cc)
+  seal_kept filled (refusals.Damaged at_byte why) count stops kept = absurd (let both = sym stays ∙ stops in cc)
+  seal_kept filled refusal count stops kept = kept
+
+  effect_runs : (step : StepValue) (answer : Result Answer Refusal) (count : ℕ) → StopsAfter step answer count new.stop → Effect step answer old new → Runs old.disk.size old.known old.tables → Runs new.disk.size new.known new.tables
+  effect_runs asked.Begin answer count stops effect = same_runs effect.disk.only.later effect.tables
+  effect_runs (asked.Claim seg) answer count stops effect = same_runs effect.disk.only.later effect.tables
+  effect_runs (asked.Seal filled) (Ok answer) count stops effect = effect.made.runs
+  effect_runs (asked.Seal filled) (Err refusal) count stops effect = same_runs effect.disk.later (seal_kept filled refusal count stops effect.kept)
+  effect_runs (asked.Commit name root) (Ok answer) count stops effect = effect.made.runs
+  effect_runs (asked.Commit name root) (Err refusal) count stops effect = same_runs effect.disk.later effect.kept
+  effect_runs asked.Abort answer count stops effect = same_runs effect.disk.only.later effect.tables
+  effect_runs (asked.OpenRead name) answer count stops effect = same_runs effect.disk.only.later effect.tables
+  effect_runs asked.ReadNext answer count stops effect = same_runs effect.disk.only.later effect.tables
+  effect_runs asked.EndRead answer count stops effect = same_runs effect.disk.only.later effect.tables
+  effect_runs asked.Stat answer count stops effect = same_runs effect.disk.only.later effect.tables
 
 module _ (old new : CoreState) (e : Event) where
   steps_up : new.stop ≡ None → Steps e old new → IsUp old → IsUp new
   steps_up stays steps up = record {
-    runs = effect_runs old new stays e.step e.answer steps.effect up.runs;
-    many = many_on e.actor old.parts new.parts (row_one e.actor e.buf old new e.step e.answer steps.row) up.many;
-    served = steps.served up.served;
+    runs = effect_runs old new stays e.step e.answer old.acknowledged steps.stops steps.made.effect up.runs;
+    many = many_on e.actor old.parts new.parts (row_one e.actor e.buf old new e.step e.answer steps.made.row) up.many;
+    served = steps.made.served up.served;
   }
 
   by_stop : (stop : Option Stop) → new.stop ≡ stop → Steps e old new → IsUp old → UnlessStopped stop (IsUp new)

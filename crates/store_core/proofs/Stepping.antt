@@ -110,5 +110,5 @@ module _ (old new : CoreState) where
 
 module _ (old new : CoreState) (e : Event) where
   pub step_later : (stop : Option Stop) → StepsOr stop e old new → IsLater old.disk new.disk
-  step_later None steps = effect_later old new e.step e.answer steps.effect
+  step_later None steps = effect_later old new e.step e.answer steps.made.effect
   step_later (Some stop) steps = steps.same.disk.only.later

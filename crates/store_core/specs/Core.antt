@@ -228,6 +228,12 @@ pub record KeepsTables (old new : CoreState) : Type 0 where
   pub tables_are : new.tables ≡ old.tables
   pub index_is : new.known ≡ old.known
 
+-- but where an index change broke off
+abbrev pub KeepsUnlessBroken : Refusal → CoreState → CoreState → Type 0
+KeepsUnlessBroken refusals.DiskWrite old new = Unit {0}
+KeepsUnlessBroken (refusals.Damaged at why) old new = Unit {0}
+KeepsUnlessBroken refusal old new = KeepsTables old new
+
 -- A change is made: of each store that they were those of, tables and index are those of the changed one.
 pub record Makes (change : StoreChange) (old new : CoreState) : Type 0 where
   pub can : OfEach old.disk.size old.known old.tables (CanChange change)
@@ -269,7 +275,7 @@ pub record SealsOne (filled : Contents) (answer : Result Answer Refusal) (old ne
       → HasNoCollisions (IsIn among) → AllByRecursion (MaySeal (IsIn among) filled.kind) filled.segments
       → KeepsHeld (ending blames answer) (next_id old) filled store given held
   pub made : OnOk answer (Makes (SealContainer (next_id old) filled.kind filled.segments) old new)
-  pub kept : OnErr answer (new.stop ≡ None → KeepsTables old new)
+  pub kept : IfErr answer (λ refusal. KeepsUnlessBroken refusal old new)
 
 -- A name is given a root, or isn't.
 pub record PutsOne (name : List ℕ) (root : Root) (answer : Result Answer Refusal) (old new : CoreState) : Type 0 where
@@ -292,7 +298,7 @@ Effect step answer old new = Rests answer old new
 abbrev pub StopsAfter : StepValue → Result Answer Refusal → ℕ → Option Stop → Type 0
 StopsAfter step (Err refusals.DiskWrite) count stop = stop ≡ Some (record { refusal = refusals.DiskWrite; at = count })
 StopsAfter (asked.Seal filled) (Err (refusals.Damaged at why)) count stop =
-    (stop ≡ Some (record { refusal = refusals.Damaged at why; at = count })) ⊎ (stop ≡ None)
+    stop ≡ Some (record { refusal = refusals.Damaged at why; at = count })
 StopsAfter step answer count stop = stop ≡ None
 
 -- a put that was acknowledged is counted
@@ -302,13 +308,17 @@ counted answer count = count
 
 -- ---- a step
 
+-- what is made of all but what stopped the core, and the count
+pub record Made (step : StepValue) (actor : ℕ) (answer : Result Answer Refusal) (buf : List ℕ) (old new : CoreState) : Type 0 where
+  pub row : Row step actor answer buf old new
+  pub effect : Effect step answer old new
+  pub served : old.served → new.served
+
 -- of a core that runs
 pub record Steps (e : Event) (old new : CoreState) : Type 0 where
-  pub row : Row e.step e.actor e.answer e.buf old new
-  pub effect : Effect e.step e.answer old new
+  pub made : Made e.step e.actor e.answer e.buf old new
   pub stops : StopsAfter e.step e.answer old.acknowledged new.stop
   pub counted_is : new.acknowledged ≡ counted e.answer old.acknowledged
-  pub served : old.served → new.served
 
 -- and of one that is stopped
 pub record AnswersStopped (at : ℕ) (e : Event) (old new : CoreState) : Type 0 where

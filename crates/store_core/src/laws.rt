@@ -1,12 +1,7 @@
 //! Laws of steps of a core, one after the other (docs/MODEL.md, 'The core').
-ghost use Rattle.store_core.specs.State.{CoreState};
 ghost use Rattle.store_core.specs.Runs.{RunsOn, KeepsFiles, GivesTheFile, ReadsAreChecked, EndsAreWhole, SurvivesCrashes};
 
-/// What has a state as a core has.
-pub trait HasState {
-    /// Its state.
-    ghost state: { Self → CoreState };
-}
+use crate::state::HasState;
 
 /// A core that runs runs on, or is stopped, whatever steps are made. The function does nothing.
 pub fn a_core_runs_on<C: HasState>()

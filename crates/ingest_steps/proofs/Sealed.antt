@@ -34,6 +34,9 @@ use Rattle.ingest_steps.specs.Sealing.{IsSlotFor, HasSlot, FitBeside, KeepsHeld,
 same_content : (a b : List ℕ) → Some a ≡ Some b → a ≡ b
 same_content a b is = cc
 
+same_keeps : (store : Store) (given held : List ℕ) → held ≡ given → KeepsCopies store given store held
+same_keeps store given held is = λ key level bytes has. subst (HasNewest store.held key level bytes) (sym is) has
+
 -- ---- in terms of the store
 
 all_of_none : (kind : Kind) (store : Store) (image : List ℕ) (segments : List Segment) → AllByRecursion (λ s. newest 0 store.held (segment_key kind s) ≡ None) segments
@@ -85,8 +88,8 @@ module _ (S : List ℕ → Type 0) (id : ℕ) (filled : Contents) (store : Store
       let c = written.0 given known in
       let whole = subst (IsSealed (first_free store.held) id filled.kind filled.segments given) (same_content c.0 held (sym c.1 ∙ is)) c.2 in
       (kept_once held stands whole, segments_once held whole)
-  holds_written Refused old new held known is stands written = same_content held given (sym is ∙ written.content_is ∙ known)
-  holds_written Unread old new held known is stands written = same_content held given (sym is ∙ written.content_is ∙ known)
+  holds_written Refused old new held known is stands written = same_keeps store given held (same_content held given (sym is ∙ written.content_is ∙ known))
+  holds_written Unread old new held known is stands written = same_keeps store given held (same_content held given (sym is ∙ written.content_is ∙ known))
   holds_written Broken old new held known is stands written = tt
 
   -- on a disk

@@ -1,5 +1,5 @@
 -- When a container may be sealed, and what that makes of the disk (docs/MODEL.md, 'Steps').
-use Rattle.std.specs.Prelude.{◌≡◌, ◌⊎◌, ℕ, ◌+◌, ◌<◌, ◌≤◌, List, length, Option, Some, None}
+use Rattle.std.specs.Prelude.{◌≡◌, ◌⊎◌, ℕ, ◌+◌, ◌<◌, ◌≤◌, List, length, Option, Some, None, option_map}
 use Rattle.std.specs.List.{AllByRecursion}
 use Rattle.base_model.specs.Bytes.{range}
 use Rattle.base_model.specs.Known.{Known, KnownWith}
@@ -10,19 +10,20 @@ use Rattle.dd_disk.specs.Ending.{Ending, Done, Refused, Unread, Broken}
 use Rattle.dd_disk.specs.Moves.{Way, one_step, Moves}
 use Rattle.container_meta.specs.declared.kind.Kind.{Kind}
 use Rattle.container_meta.specs.Places.{PlaceMap}
-use Rattle.container_meta.specs.Segments.{Segment, Contents, segment_key}
+use Rattle.container_meta.specs.Segments.{Segment, Contents, entries_from, segment_key}
 use Rattle.refusals.specs.declared.refusal.Refusal.{Refusal}
 use Rattle.refusals.specs.declared.refusal.Refusal.TheVariants.{Full, Numbers}
 use Rattle.store_model.specs.Commands.{HasNoCollisions}
 use Rattle.store_model.specs.Files.{Files}
 use Rattle.store_model.specs.Image.{Store}
+use Rattle.store_model.specs.Indexing.{with_entries}
 use Rattle.store_model.specs.Slots.{newest, free_slots, first_free}
 use Rattle.store_model.specs.Standing.{ByteSet, IsIn, Stands}
-use Rattle.store_model.specs.Steps.{MaySeal, FitsHeld, KeepsCopies, with_sealed}
+use Rattle.store_model.specs.Steps.{CanSeal, MaySeal, FitsHeld, KeepsCopies, with_sealed}
 use Rattle.store_model.specs.Trees.{HasNewest}
 use Rattle.store_state.specs.Settled.{IsSettled}
 use Rattle.store_state.specs.declared.tables.Tables.{Tables}
-use Rattle.store_state.specs.Tables.{Represents, OfEach}
+use Rattle.store_state.specs.Tables.{Represents, Runs, OfEach}
 
 -- ---- when
 
@@ -62,14 +63,14 @@ FitBeside S kind segments store image =
     ⊎ AllByRecursion (λ s. newest 0 store.held (segment_key kind s) ≡ None) segments
 
 -- What becomes of what the content held: where the container was written each newest copy goes on, and that of each of the
--- segments is the segment; where it was refused the content is as it was.
+-- segments is the segment; where it was refused each goes on.
 abbrev pub KeepsHeld : Ending → ℕ → Contents → Store → List ℕ → List ℕ → Type 0
 KeepsHeld Done id filled store given new =
     KeepsCopies store given (with_sealed id filled.kind filled.segments store) new
     × AllByRecursion (λ s. HasNewest (with_sealed id filled.kind filled.segments store).held (segment_key filled.kind s) s.level s.bytes new)
     filled.segments
-KeepsHeld Refused id filled store given new = new ≡ given
-KeepsHeld Unread id filled store given new = new ≡ given
+KeepsHeld Refused id filled store given new = KeepsCopies store given store new
+KeepsHeld Unread id filled store given new = KeepsCopies store given store new
 KeepsHeld Broken id filled store given new = Unit {0}
 
 -- A container is sealed: of each store that the tables represent, and of any files.
@@ -82,6 +83,40 @@ pub record SealsContainer (t : Tables) (id : ℕ) (filled : Contents) (ending : 
       → Represents store known t → old.content ≡ Some given → new.content ≡ Some held → Stands (IsIn among) store files given
       → AllByRecursion (MaySeal (IsIn among) filled.kind) filled.segments
       → FitBeside (IsIn among) filled.kind filled.segments store given → KeepsHeld ending id filled store given held
+
+-- the same, where the index is changed first; a refusal may come after that change
+abbrev pub sealing_indexed : (List ℕ → Type 0) → ℕ → Contents → Store → Files → Way
+sealing_indexed S id filled store files = record {
+  before = Stands S store files;
+  between = λ c. Stands S store files c ⊎ Stands S (with_sealed id filled.kind filled.segments store) files c;
+  rest = Stands S store files;
+  after = Stands S (with_sealed id filled.kind filled.segments store) files;
+}
+
+pub record SealsIndexed (t : Tables) (id : ℕ) (filled : Contents) (ending : Ending) (old new : DiskView) : Type 0 where
+  pub moves : (among : ByteSet) (store : Store) (known : Option PlaceMap) (files : Files) (given : List ℕ)
+      → Represents store known t → old.content ≡ Some given → AllByRecursion (MaySeal (IsIn among) filled.kind) filled.segments
+      → FitBeside (IsIn among) filled.kind filled.segments store given
+      → Moves (sealing_indexed (IsIn among) id filled store files) ending old new
+  pub holds : (among : ByteSet) (store : Store) (known : Option PlaceMap) (files : Files) (given held : List ℕ)
+      → Represents store known t → old.content ≡ Some given → new.content ≡ Some held → Stands (IsIn among) store files given
+      → AllByRecursion (MaySeal (IsIn among) filled.kind) filled.segments
+      → FitBeside (IsIn among) filled.kind filled.segments store given → KeepsHeld ending id filled store given held
+
+-- ---- what becomes of the tables
+
+-- the map of the index, with the places of a container
+abbrev pub places_with : Contents → ℕ → Option PlaceMap → Option PlaceMap
+places_with filled slot known = option_map (with_entries filled.kind slot (entries_from 0 filled.segments)) known
+
+-- The tables are those of before with a container more, under the next id: of each store that they and the map of the index
+-- were those of, they are those of the store with it.
+pub record HasSealed (old : Tables) (size : ℕ) (known : Option PlaceMap) (slot : ℕ) (filled : Contents) (new : Tables) (id : ℕ) : Type 0 where
+  pub number : id ≡ old.held.last_id + 1
+  pub can : OfEach size known old (CanSeal id filled.kind filled.segments)
+  pub represents : OfEach size known old
+      (λ store. Represents (with_sealed id filled.kind filled.segments store) (places_with filled slot known) new)
+  pub runs : Runs size (places_with filled slot known) new
 
 -- ---- what becomes of the bytes
 

@@ -1,0 +1,111 @@
+use Rattle.std.proofs.Common.{◌≡◌, ℕ, ◌+◌, Option, Some, length, refl, ap, sym, subst, ◌∙◌, arith}
+use Rattle.container_meta.specs.Places.{PlaceMap}
+use Rattle.container_meta.specs.Spelling.{header_of}
+use Rattle.disk_format.specs.Layout.{size_of}
+use Rattle.dd_disk.specs.Ending.{Done, ending_of}
+use Rattle.dd_disk.proofs.Moves.{passed}
+use Rattle.store_state.specs.Indexing.{HasRoomFor}
+use Rattle.store_state.specs.Refused.{blames}
+use Rattle.store_state.specs.Settled.{Steps}
+use Rattle.store_state.specs.Tables.{Runs}
+use Rattle.store_state.proofs.Room.{room_of}
+use Rattle.ingest_steps.specs.Sealing.{SealsContainer, SealsIndexed}
+use Rattle.ingest_steps.proofs.SealedTables.{length-of_entries, place_on_disk, slots_on_disk, steps_refused, steps_on, seals_refused, seals_on, steps_broken, map_on}
+use Rattle.ingest_steps.proofs.sealing.seal_indexed.Goals as goal
+
+pub put_entries-requires-clause-slot : goal.put_entries-requires-clause-slot
+put_entries-requires-clause-slot g c =
+    let old = g.D.Disk.view c.args.disk.now in
+    place_on_disk old.size (g.X.Index.places c.args.index.now old.content) c.args.tables.now c.args.slot c.requires.slot c.requires.state
+
+pub put_entries-requires-clause-room : goal.put_entries-requires-clause-room
+put_entries-requires-clause-room g c =
+    let old = g.D.Disk.view c.args.disk.now in
+    let known = g.X.Index.places c.args.index.now old.content in
+    let filled = c.args.filled.now in
+    subst (HasRoomFor old.size known) (length-of_entries 0 filled.segments) (room_of old.size known c.args.tables.now (header_of 1 filled.kind filled.segments) c.requires.state (c.data_bytes-bytes.ensures.right 1 refl))
+
+pub returns-in_err-put_entries-clause-disk : goal.returns-in_err-put_entries-clause-disk
+returns-in_err-put_entries-clause-disk g c =
+    let old = g.D.Disk.view c.args.disk.now in
+    let new = g.D.Disk.view c.put_entries.new.disk in
+    let t = c.args.tables.now in
+    let e = c.in_err-put_entries.field-0.0 in
+    passed (λ x. Steps t.slots x old new) blames c.from_residual.result e c.from_residual.ensures.1
+    (steps_refused t.slots (blames e) old new
+    (c.in_err-put_entries.ensures.changes t.slots (slots_on_disk old.size (g.X.Index.places c.args.index.now old.content) t c.requires.state)))
+
+pub returns-in_err-put_entries-clause-moves : goal.returns-in_err-put_entries-clause-moves
+returns-in_err-put_entries-clause-moves g c =
+    let old = g.D.Disk.view c.args.disk.now in
+    let new = g.D.Disk.view c.put_entries.new.disk in
+    let t = c.args.tables.now in
+    let e = c.in_err-put_entries.field-0.0 in
+    passed (λ x. SealsIndexed t (t.held.last_id + 1) c.args.filled.now x old new) blames c.from_residual.result e c.from_residual.ensures.1
+    (seals_refused t (t.held.last_id + 1) c.args.filled.now (blames e) old new
+    (c.in_err-put_entries.ensures.changes t.slots (slots_on_disk old.size (g.X.Index.places c.args.index.now old.content) t c.requires.state)))
+
+pub seal_container-requires-clause-state : goal.seal_container-requires-clause-state
+seal_container-requires-clause-state g c =
+    let old = g.D.Disk.view c.args.disk.now in
+    let known = g.X.Index.places c.args.index.now old.content in
+    let t = c.args.tables.now in
+    let changes = c.in_ok-put_entries.ensures.changes t.slots (slots_on_disk old.size known t c.requires.state) in
+    (known, subst (λ (n : ℕ). Runs n known t) (sym changes.later.size_is) c.requires.state)
+
+pub returns-in_err-seal_container-clause-disk : goal.returns-in_err-seal_container-clause-disk
+returns-in_err-seal_container-clause-disk g c =
+    let old = g.D.Disk.view c.args.disk.now in
+    let mid = g.D.Disk.view c.put_entries.new.disk in
+    let new = g.D.Disk.view c.seal_container.new.disk in
+    let t = c.args.tables.now in
+    let e = c.in_err-seal_container.field-0.0 in
+    let changes = c.in_ok-put_entries.ensures.changes t.slots (slots_on_disk old.size (g.X.Index.places c.args.index.now old.content) t c.requires.state) in
+    passed (λ x. Steps t.slots x old new) blames c.from_residual-in_err-seal_container.result e c.from_residual-in_err-seal_container.ensures.1
+    (steps_broken t.slots old mid new e c.in_err-seal_container.ensures.refused changes c.in_err-seal_container.ensures.disk)
+
+pub returns-in_err-seal_container-clause-moves : goal.returns-in_err-seal_container-clause-moves
+returns-in_err-seal_container-clause-moves g c =
+    let old = g.D.Disk.view c.args.disk.now in
+    let mid = g.D.Disk.view c.put_entries.new.disk in
+    let new = g.D.Disk.view c.seal_container.new.disk in
+    let t = c.args.tables.now in
+    let e = c.in_err-seal_container.field-0.0 in
+    let id = t.held.last_id + 1 in
+    let changes = c.in_ok-put_entries.ensures.changes t.slots (slots_on_disk old.size (g.X.Index.places c.args.index.now old.content) t c.requires.state) in
+    passed (λ x. SealsIndexed t id c.args.filled.now x old new) blames c.from_residual-in_err-seal_container.result e c.from_residual-in_err-seal_container.ensures.1
+    (seals_on t id c.args.filled.now (ending_of (blames e)) old mid new changes
+    (subst (λ (i : ℕ). SealsContainer t i c.args.filled.now (ending_of (blames e)) mid new) c.next_id-id.ensures.next c.in_err-seal_container.ensures.moves))
+
+pub returns-clause-map : goal.returns-clause-map
+returns-clause-map g c = λ given content m known_is.
+    let view = g.D.Disk.view in
+    let old = view c.args.disk.now in
+    let mid = view c.put_entries.new.disk in
+    let new = view c.seal_container.new.disk in
+    let t = c.args.tables.now in
+    let index = c.put_entries.new.index in
+    let places = g.X.Index.places index in
+    let changes = c.in_ok-put_entries.ensures.changes t.slots (slots_on_disk old.size (g.X.Index.places c.args.index.now old.content) t c.requires.state) in
+    map_on places (g.X.Index.owned_from index) (g.met.X.Index.places_stay index) (g.X.Index.serves index) (g.met.X.Index.owns_no_slot index) old.size (g.X.Index.places c.args.index.now old.content) t c.args.slot c.requires.slot c.requires.state
+    old mid new changes refl given content c.in_ok-put_entries.ensures.served c.in_ok-seal_container.ensures.same
+    ∙ c.in_ok-put_entries.ensures.ok m known_is
+
+pub returns-clause-disk : goal.returns-clause-disk
+returns-clause-disk g c =
+    let old = g.D.Disk.view c.args.disk.now in
+    let mid = g.D.Disk.view c.put_entries.new.disk in
+    let new = g.D.Disk.view c.seal_container.new.disk in
+    let t = c.args.tables.now in
+    let changes = c.in_ok-put_entries.ensures.changes t.slots (slots_on_disk old.size (g.X.Index.places c.args.index.now old.content) t c.requires.state) in
+    steps_on t.slots old mid new changes c.in_ok-seal_container.ensures.disk c.in_ok-seal_container.ensures.durable
+
+pub returns-clause-moves : goal.returns-clause-moves
+returns-clause-moves g c =
+    let old = g.D.Disk.view c.args.disk.now in
+    let mid = g.D.Disk.view c.put_entries.new.disk in
+    let new = g.D.Disk.view c.seal_container.new.disk in
+    let t = c.args.tables.now in
+    let changes = c.in_ok-put_entries.ensures.changes t.slots (slots_on_disk old.size (g.X.Index.places c.args.index.now old.content) t c.requires.state) in
+    seals_on t (t.held.last_id + 1) c.args.filled.now Done old mid new changes
+    (subst (λ (i : ℕ). SealsContainer t i c.args.filled.now Done mid new) c.next_id-id.ensures.next c.in_ok-seal_container.ensures.moves)

@@ -1,0 +1,22 @@
+use Rattle.std.proofs.Common.{◌≡◌, ◌≤◌, length, refl, ap, sym, ◌∙◌, arith}
+use Rattle.container_meta.specs.Spelling.{header_of}
+use Rattle.store_model.proofs.IndexSize.{entries_within}
+use Rattle.ingest_steps.proofs.SealedTables.{length-of_entries, slot_in_table, counts_many, has_sealed}
+use Rattle.ingest_steps.proofs.sealing.take_sealed.Goals as goal
+
+pub overflow_cast-len : goal.overflow_cast-len
+overflow_cast-len c =
+    let filled = c.args.filled.now in
+    omega (arith, entries_within (header_of c.args.id filled.kind filled.segments) c.requires.right, length-of_entries 0 filled.segments, c.len.ensures)
+
+pub take_container-requires-clause-slot : goal.take_container-requires-clause-slot
+take_container-requires-clause-slot c = slot_in_table c.requires.state.0 c.requires.state.1 c.args.tables.now c.args.slot c.requires.slot c.requires.state.2
+
+pub take_container-requires-clause-counts : goal.take_container-requires-clause-counts
+take_container-requires-clause-counts c = counts_many c.requires.state.0 c.requires.state.1 c.args.tables.now c.requires.state.2
+
+pub returns : goal.returns
+returns c = λ size known runs.
+    let filled = c.args.filled.now in
+    has_sealed c.args.tables.now _ c.args.slot c.args.id filled c.requires.slot c.requires.id c.requires.right refl refl refl
+    (λ held. c.take_container.ensures held (header_of c.args.id filled.kind filled.segments) refl (length-of_entries 0 filled.segments ∙ sym c.len.ensures) (sym c.requires.bytes)) size known runs

@@ -1,0 +1,44 @@
+-- What an actor keeps of a container that it seals (docs/MODEL.md, 'Steps').
+use Rattle.std.specs.Prelude.{◌≡◌, ◌≢◌, ℕ, List, [], ◌∷◌, Option, Some, None}
+use Rattle.std.specs.FinMap as finite
+use Rattle.container_meta.specs.declared.kind.Kind.{Kind}
+use Rattle.container_meta.specs.Segments.{Segment, Contents, segment_key}
+use Rattle.actor_parts.specs.declared.part.Part.{Part}
+use Rattle.actor_parts.specs.declared.part.Part.TheVariants.{Writing}
+use Rattle.actor_parts.specs.Kinds.{kind_of}
+use Rattle.actor_parts.specs.PinMap.{PinMap}
+use Rattle.actor_parts.specs.Segments.{children_by, first_not_in, pin_by}
+use Rattle.refusals.specs.declared.refusal.PartKind.TheVariants as kinds
+use Rattle.refusals.specs.declared.refusal.Refusal.{Refusal}
+use Rattle.refusals.specs.declared.refusal.Refusal.TheVariants.{WrongPart, Unpinned}
+
+-- ---- what has to be kept already
+
+abbrev pub or_else : Option (List ℕ) → Option (List ℕ) → Option (List ℕ)
+or_else (Some key) next = Some key
+or_else None next = next
+
+-- the key of the first child, of the first segment that has one, that isn't among the pins with its level and length
+abbrev pub first_unpinned_of : Kind → List Segment → PinMap → Option (List ℕ)
+first_unpinned_of kind [] pins = None
+first_unpinned_of kind (s ∷ ss) pins = or_else (first_not_in pins (children_by kind s)) (first_unpinned_of kind ss pins)
+
+-- The actor stores a file, and keeps each child of each segment.
+pub record MayKeep (part : Part) (filled : Contents) : Type 0 where
+  pub pins : PinMap
+  pub writing : part ≡ Writing pins
+  pub pinned : first_unpinned_of filled.kind filled.segments pins ≡ None
+
+-- why it isn't so, in this order: the part, the first child that it doesn't keep
+abbrev pub IsUnkept : Part → Contents → Refusal → Type 0
+IsUnkept part filled (WrongPart kind) = (kind ≡ kind_of part) × (kind ≢ kinds.Writing)
+IsUnkept part filled (Unpinned key) =
+    (pins : PinMap) × (part ≡ Writing pins) × (first_unpinned_of filled.kind filled.segments pins ≡ Some key)
+IsUnkept part filled refusal = ⊥
+
+-- ---- what is kept then
+
+-- the pins with those of segments, the first of them first
+abbrev pub with_pins : Kind → List Segment → PinMap → PinMap
+with_pins kind [] pins = pins
+with_pins kind (s ∷ ss) pins = with_pins kind ss (finite.insert pins (segment_key kind s) (pin_by kind s))

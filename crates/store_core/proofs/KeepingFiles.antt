@@ -34,8 +34,9 @@ use Rattle.store_state.specs.Invariant.{CoreInvariant, HoldsPart}
 use Rattle.store_state.specs.Refused.{blames}
 use Rattle.store_state.specs.Tables.{Represents}
 use Rattle.store_state.proofs.Parts.{part_kept, parts_kept}
+use Rattle.ingest_steps.specs.Sealing.{KeepsHeld, sealing_indexed}
 use Rattle.store_core.specs.declared.stop.Stop.{Stop}
-use Rattle.store_core.specs.Core.{Row, SealRow, CommitRow, Effect, Rests, SealsOne, PutsOne, Makes, KeepsTables, KeepsUnlessBroken, StopsAfter, Steps, StepsOr, KeepsHeld, next_id, sealing_indexed}
+use Rattle.store_core.specs.Core.{Row, SealRow, CommitRow, Effect, Rests, SealsOne, PutsOne, Makes, KeepsTables, KeepsUnlessBroken, StopsAfter, Steps, StepsOr, next_id}
 use Rattle.store_core.specs.Runs.{FileEvent, FileStep, FileRun, IsAt, ChangesTo, Reaches, KeepsFiles, IsGivenRight, files_with, files_by, files_after_steps}
 use Rattle.store_core.specs.State.{CoreState}
 use Rattle.store_core.proofs.OwnParts.{all_part, all_own, own_begin, own_claim, own_abort, own_open, own_read, own_drop, own_set, own_stat, own_refused}

@@ -1,4 +1,5 @@
 pub mod CheckedReads
+pub mod Committing
 pub mod Crashes
 pub mod GivingFiles
 pub mod KeepingFiles

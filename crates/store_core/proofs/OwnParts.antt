@@ -78,8 +78,8 @@ module _ (among : ByteSet) (store : Store) (files : Files) (image : List ℕ) (p
 
   pub own_claim : (seg : KindSegment) (answer : Result Answer Refusal) → IsAmong (IsIn among) seg.kind seg.segment.bytes → ClaimRow seg actor answer old new → Own
   own_claim seg (Ok answers.Held) is row = row.kept among store files image places told known index stands distinct is own_old
-  own_claim seg (Ok answers.Absent) is row = own_same row.parts_are
-  own_claim seg (Err refusal) is row = own_same row
+  own_claim seg (Ok answers.Absent) is row = own_same row.claimed.parts_are
+  own_claim seg (Err refusal) is row = own_same row.1
   own_claim seg answer is row = absurd row
 
   pub own_abort : (answer : Result Answer Refusal) → AbortRow actor answer old new → Own

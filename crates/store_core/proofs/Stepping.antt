@@ -38,9 +38,9 @@ module _ (actor : ℕ) (buf : List ℕ) (old new : CoreState) where
   begin_one answer row = absurd row
 
   claim_one : (seg : KindSegment) (answer : Result Answer Refusal) → ClaimRow seg actor answer old new → ChangesOne actor old.parts new.parts
-  claim_one seg (Ok answers.Held) row = one actor old.parts new.parts _ row.parts_are
-  claim_one seg (Ok answers.Absent) row = same_one actor old.parts new.parts row.parts_are
-  claim_one seg (Err refusal) row = same_one actor old.parts new.parts row
+  claim_one seg (Ok answers.Held) row = one actor old.parts new.parts _ row.claimed.parts_are
+  claim_one seg (Ok answers.Absent) row = same_one actor old.parts new.parts row.claimed.parts_are
+  claim_one seg (Err refusal) row = same_one actor old.parts new.parts row.1
   claim_one seg answer row = absurd row
 
   seal_one : (filled : Contents) (answer : Result Answer Refusal) → SealRow filled actor answer old new → ChangesOne actor old.parts new.parts

@@ -1,5 +1,5 @@
 -- What each step makes of the core of a store, what it answers, and why it is refused (docs/MODEL.md, 'The core').
-use Rattle.std.specs.Prelude.{◌≡◌, ◌≢◌, ◌⊎◌, ℕ, ◌+◌, ◌-◌, ◌<◌, ◌≤◌, List, [], ◌∷◌, Option, Some, None, Result, Ok, Err, IfOk, IfErr, OnOk, OnErr}
+use Rattle.std.specs.Prelude.{◌≡◌, ◌≢◌, ◌⊎◌, ℕ, suc, ◌+◌, ◌-◌, ◌<◌, ◌≤◌, List, [], ◌∷◌, Option, Some, None, Result, Ok, Err, IfOk, IfErr, OnOk, OnErr}
 use Rattle.std.specs.FinMap as finite
 use Rattle.std.specs.List.{AllByRecursion}
 use Rattle.base_model.specs.Known.{Known, KnownWith}
@@ -7,7 +7,9 @@ use Rattle.disk_format.specs.Cells.{Root}
 use Rattle.disk_format.specs.declared.numbers.TheConstants.{RESERVE, LAST_ID}
 use Rattle.dd_disk.specs.View.{DiskView, IsDurable}
 use Rattle.dd_disk.specs.Ending.{Ending, Done, Refused, Unread, Broken, Reads, ending}
-use Rattle.dd_disk.specs.Moves.{Way, Moves, Acts}
+use Rattle.dd_disk.specs.Moves.{Moves, Acts}
+use Rattle.dd_disk.specs.Shows.{Shows}
+use Rattle.disk_format.specs.declared.why.Why.{Why}
 use Rattle.container_meta.specs.declared.kind.Kind.{Kind}
 use Rattle.container_meta.specs.Places.{PlaceMap}
 use Rattle.container_meta.specs.Spelling.{HeaderValue}
@@ -40,6 +42,11 @@ use Rattle.store_state.specs.Refused.{blames}
 use Rattle.store_state.specs.Settled as settled
 use Rattle.store_state.specs.Tables.{Represents, Runs, OfEach}
 use Rattle.ingest_steps.specs.Naming.{PutsRoot}
+use Rattle.ingest_steps.specs.declared.claiming.Claimed.{Claimed}
+use Rattle.ingest_steps.specs.declared.claiming.Claimed.TheVariants.{Held, Absent}
+use Rattle.ingest_steps.specs.Claiming.{IsClaimed, IsClaimRefusal, IsOtherCopy, KeepsPart}
+use Rattle.ingest_steps.specs.Pinning.{MayKeep, with_pins}
+use Rattle.ingest_steps.specs.Sealing.{KeepsHeld, sealing_indexed}
 use Rattle.ingest_steps.specs.Writers.{MayCommit, IsWrongPart, IsCommitRefusal}
 use Rattle.read_steps.specs.Counting.{counts_of}
 use Rattle.read_steps.specs.Readers as readers
@@ -61,51 +68,22 @@ Turns kind part actor old new = (kind_of (part_of old.parts actor) ≡ kind) × 
 abbrev pub IsAtOther : PartKind → ℕ → Refusal → CoreState → CoreState → Type 0
 IsAtOther taken actor refusal old new = IsWrongPart taken (part_of old.parts actor) refusal × (new.parts ≡ old.parts)
 
--- ---- a segment that is offered
+-- ---- a segment that is claimed
 
--- It may be: the actor stores a file, and has pinned the segment's children.
-pub record MayOffer (parts : List Part) (actor : ℕ) (seg : KindSegment) (pins : PinMap) : Type 0 where
-  pub writing : part_of parts actor ≡ Writing pins
-  pub children : first_unpinned seg pins ≡ None
+-- it is held or not, and what the actor keeps is right
+pub record Claims (claim : Claimed) (seg : KindSegment) (actor : ℕ) (old new : CoreState) : Type 0 where
+  pub claimed : IsClaimed old.disk.size old.known old.parts actor seg (Shows old.disk new.disk) new.parts claim
+  pub kept : KeepsPart old.disk.content old.known old.parts actor seg new.parts
 
--- the newest copy of its key fits it
-pub record HasFit (seg : KindSegment) (store : Store) (image : List ℕ) : Type 0 where
-  pub copy : Copy
-  pub copy_is : newest 0 store.held (segment_key seg.kind seg.segment) ≡ Some copy
-  pub fits : FitsCopy seg.kind seg.segment copy.place image
+-- an index whose map isn't known has bytes that break its form so
+abbrev pub IsDamage : CoreState → CoreState → ℕ → Why → Type 0
+IsDamage old new at why = (old.known ≡ None) × Shows old.disk new.disk (old.breaks at why)
 
--- What the actor keeps is right still, where a content stands for files and the map is that of its store; S has no collisions.
-abbrev pub KeepsPins : KindSegment → ℕ → CoreState → CoreState → Type 0
-KeepsPins seg actor old new =
-    (among : ByteSet) (store : Store) (files : Files) (image : List ℕ) (places : PlaceMap) → old.disk.content ≡ Some image
-    → old.known ≡ Some places → IsIndexOf store.held places → Stands (IsIn among) store files image → HasNoCollisions (IsIn among)
-    → IsAmong (IsIn among) seg.kind seg.segment.bytes → HoldsPart store.held image (part_of old.parts actor)
-    → HoldsPart store.held image (part_of new.parts actor)
-
--- a copy of it is held, and it is pinned from now on
-pub record IsHeld (seg : KindSegment) (actor : ℕ) (old new : CoreState) : Type 0 where
-  pub pins : PinMap
-  pub may : MayOffer old.parts actor seg pins
-  pub held : (store : Store) → Represents store old.known old.tables → Known old.disk.content (HasFit seg store)
-  pub parts_are : Gets (Writing (finite.insert pins (segment_key seg.kind seg.segment) (pin_of seg))) actor old new
-  pub kept : KeepsPins seg actor old new
-
--- the index has no entry of its key
-pub record IsAbsent (seg : KindSegment) (actor : ℕ) (old new : CoreState) : Type 0 where
-  pub pins : PinMap
-  pub may : MayOffer old.parts actor seg pins
-  pub absent : KnownMap old.known (λ m. finite.get m (segment_key seg.kind seg.segment) ≡ None)
-  pub parts_are : new.parts ≡ old.parts
+abbrev pub IsUnclaimed : KindSegment → ℕ → Refusal → CoreState → CoreState → Type 0
+IsUnclaimed seg actor refusal old new =
+    IsClaimRefusal (part_of old.parts actor) seg (IsDamage old new) (IsOtherCopy old.disk.size old.known seg (Shows old.disk new.disk)) refusal
 
 -- ---- a container that is stored
-
-abbrev pub in_kind : Kind → Segment → KindSegment
-in_kind kind segment = record { kind = kind; segment = segment }
-
--- the pins with those of segments, the first of them first
-abbrev pub with_pins : Kind → List Segment → PinMap → PinMap
-with_pins kind [] pins = pins
-with_pins kind (s ∷ ss) pins = with_pins kind ss (finite.insert pins (segment_key kind s) (pin_of (in_kind kind s)))
 
 abbrev pub next_id : CoreState → ℕ
 next_id c = c.tables.held.last_id + 1
@@ -121,11 +99,9 @@ SealKeepsPins filled id actor old new =
 
 -- the container stands, and its segments are pinned from now on
 pub record IsSealed (filled : Contents) (id actor : ℕ) (old new : CoreState) : Type 0 where
-  pub pins : PinMap
-  pub writing : part_of old.parts actor ≡ Writing pins
-  pub children : AllByRecursion (λ s. first_unpinned (in_kind filled.kind s) pins ≡ None) filled.segments
+  pub may : MayKeep (part_of old.parts actor) filled
   pub id_is : id ≡ next_id old
-  pub parts_are : Gets (Writing (with_pins filled.kind filled.segments pins)) actor old new
+  pub parts_are : Gets (Writing (with_pins filled.kind filled.segments may.pins)) actor old new
   pub kept : SealKeepsPins filled id actor old new
 
 -- ---- a file that is given back
@@ -167,9 +143,9 @@ BeginRow actor (Err refusal) old new = IsAtOther kinds.Idle actor refusal old ne
 BeginRow actor answer old new = ⊥
 
 abbrev pub ClaimRow : KindSegment → ℕ → Result Answer Refusal → CoreState → CoreState → Type 0
-ClaimRow seg actor (Ok answers.Held) old new = IsHeld seg actor old new
-ClaimRow seg actor (Ok answers.Absent) old new = IsAbsent seg actor old new
-ClaimRow seg actor (Err refusal) old new = new.parts ≡ old.parts
+ClaimRow seg actor (Ok answers.Held) old new = Claims Held seg actor old new
+ClaimRow seg actor (Ok answers.Absent) old new = Claims Absent seg actor old new
+ClaimRow seg actor (Err refusal) old new = IsUnclaimed seg actor refusal old new × (new.parts ≡ old.parts)
 ClaimRow seg actor answer old new = ⊥
 
 abbrev pub SealRow : Contents → ℕ → Result Answer Refusal → CoreState → CoreState → Type 0
@@ -179,7 +155,7 @@ SealRow filled actor answer old new = ⊥
 
 abbrev pub CommitRow : List ℕ → Root → ℕ → Result Answer Refusal → CoreState → CoreState → Type 0
 CommitRow name root actor (Ok (answers.Committed sequence)) old new =
-    MayCommit (part_of old.parts actor) old.tables name root × (sequence ≡ old.tables.journal.last + 1) × Gets Idle actor old new
+    MayCommit (part_of old.parts actor) old.tables name root × (sequence ≡ suc old.tables.journal.last) × Gets Idle actor old new
 CommitRow name root actor (Err refusal) old new =
     IsCommitRefusal (part_of old.parts actor) old.tables name root refusal × (new.parts ≡ old.parts)
 CommitRow name root actor answer old new = ⊥
@@ -246,23 +222,6 @@ pub record Makes (change : StoreChange) (old new : CoreState) : Type 0 where
 pub record Rests (answer : Result Answer Refusal) (old new : CoreState) : Type 0 where
   pub disk : Reads (ending blames answer) old.disk new.disk
   pub tables : KeepsTables old new
-
--- TEMPORARY, of ingest_steps
-abbrev pub sealing_indexed : (List ℕ → Type 0) → ℕ → Contents → Store → Files → Way
-sealing_indexed S id filled store files = record {
-  before = Stands S store files;
-  between = λ c. Stands S store files c ⊎ Stands S (with_sealed id filled.kind filled.segments store) files c;
-  rest = Stands S store files;
-  after = Stands S (with_sealed id filled.kind filled.segments store) files;
-}
-abbrev pub KeepsHeld : Ending → ℕ → Contents → Store → List ℕ → List ℕ → Type 0
-KeepsHeld Done id filled store given new =
-    KeepsCopies store given (with_sealed id filled.kind filled.segments store) new
-    × AllByRecursion (λ s. HasNewest (with_sealed id filled.kind filled.segments store).held (segment_key filled.kind s) s.level s.bytes new)
-    filled.segments
-KeepsHeld Refused id filled store given new = KeepsCopies store given store new
-KeepsHeld Unread id filled store given new = KeepsCopies store given store new
-KeepsHeld Broken id filled store given new = Unit {0}
 
 -- A container is stored, or isn't. After a write that failed only the disk's images are told.
 pub record SealsOne (filled : Contents) (answer : Result Answer Refusal) (old new : CoreState) : Type 0 where

@@ -43,10 +43,10 @@ module _ (old new : CoreState) (name : List ℕ) (root : Root) (sequence : ℕ) 
       (subst (λ (half : ℕ). SameOutside (cell_at half (length store.records)) CELL_BYTES before kept.0) represents.names_are.half
       (subst (λ (count : ℕ). SameOutside (cell_at old.tables.journal.half count) CELL_BYTES before kept.0) represents.names_are.count kept.2)))
 
-pub made_put : (name : List ℕ) (root : Root) (actor sequence : ℕ) (old new : CoreState) → IsCommitted old.parts actor old.tables name root new.parts new.tables sequence → Acts Done old.disk new.disk
+pub made_put : (name : List ℕ) (root : Root) (actor sequence : ℕ) (buf : List ℕ) (old new : CoreState) → IsCommitted old.parts actor old.tables name root new.parts new.tables sequence → Acts Done old.disk new.disk
     → PutsRoot old.tables name root Done old.disk new.disk → KeepsButNext old.tables.journal old.disk new.disk → new.known ≡ old.known → (old.served → new.served)
-    → Made (asked.Commit name root) actor (Ok (answers.Committed sequence)) [] old new
-made_put name root actor sequence old new committed acts moves keeps index served = record {
+    → Made (asked.Commit name root) actor (Ok (answers.Committed sequence)) buf old new
+made_put name root actor sequence buf old new committed acts moves keeps index served = record {
   row = (committed.may, committed.named.number, committed.parts_are);
   effect = record {
     disk = acts;

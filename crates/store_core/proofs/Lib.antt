@@ -3,6 +3,7 @@ pub mod Committing
 pub mod Crashes
 pub mod GivingFiles
 pub mod KeepingFiles
+pub mod Making
 pub mod OwnParts
 pub mod RunningOn
 pub mod Stepping

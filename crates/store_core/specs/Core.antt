@@ -273,6 +273,11 @@ pub record Made (step : StepValue) (actor : ℕ) (answer : Result Answer Refusal
   pub effect : Effect step answer old new
   pub served : old.served → new.served
 
+-- and whatever these become
+abbrev pub Leaves : StepValue → ℕ → Result Answer Refusal → List ℕ → CoreState → CoreState → Type 0
+Leaves step actor answer buf old new =
+    (stop : Option Stop) (count : ℕ) → Made step actor answer buf old (record new { stop = stop; acknowledged = count })
+
 -- of a core that runs
 pub record Steps (e : Event) (old new : CoreState) : Type 0 where
   pub made : Made e.step e.actor e.answer e.buf old new

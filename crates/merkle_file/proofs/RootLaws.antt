@@ -133,6 +133,7 @@ root_of_many segments two may =
       whole = λ none. absurd (omega (arith, node, none));
       short = λ none. absurd (omega (arith, node, none));
       some = λ _. over.right.child.some;
+      empty = λ none. absurd (omega (arith, over.right.child.some, none));
     }
   where
     above_zero : (n : ℕ) → (n ≡ 0 → ⊥) → 1 ≤ n
@@ -149,6 +150,7 @@ roots_are_right [] may = record {
   whole = λ _. refl;
   short = λ _. omega arith;
   some = λ h. absurd (omega arith);
+  empty = λ _. refl;
 }
 roots_are_right (s ∷ []) may = record {
   size = omega (arith, sum_by-cons length s []);
@@ -159,5 +161,6 @@ roots_are_right (s ∷ []) may = record {
   whole = λ _. ap sha256 (sym (append-nil s));
   short = λ _. may.each.0.1;
   some = λ h. absurd (omega arith);
+  empty = λ none. absurd (omega (arith, may.each.0.0, none));
 }
 roots_are_right (s ∷ u ∷ ss) may = root_of_many (s ∷ u ∷ ss) (omega arith) may

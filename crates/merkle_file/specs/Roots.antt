@@ -1,5 +1,5 @@
 -- What the root of a file says of its segments, and which nodes its tree has (docs/FORMAT.md, "Nodes").
-use Rattle.std.specs.Prelude.{◌≡◌, ◌≤◌, ◌^◌, ℕ, List, length, sum_by}
+use Rattle.std.specs.Prelude.{◌≡◌, ◌≤◌, ◌^◌, ℕ, List, [], length, sum_by}
 use Rattle.std.specs.List.{concat, AllByRecursion}
 use Rattle.sha2.specs.Sha256.{sha256}
 use Rattle.merkle_file.specs.declared.top.Top.{Top}
@@ -25,6 +25,7 @@ pub record IsRootOf (segments : List (List ℕ)) (root : Top) : Type 0 where
   pub whole : root.level ≡ 0 → root.digest ≡ sha256 (concat segments)
   pub short : root.level ≡ 0 → root.length ≤ MOST_SEGMENT
   pub some : 1 ≤ root.level → 1 ≤ root.length
+  pub empty : root.length ≡ 0 → root.digest ≡ sha256 []
 
 abbrev pub RootsAreRight : Type 0
 RootsAreRight = (segments : List (List ℕ)) → MayBeFile segments → IsRootOf segments (root_of of_segment (tree_of segments))

@@ -48,8 +48,8 @@ pub trait Index {
         ensures reads { Reads (ending blames result) (D.view disk.old) (D.view disk.new) }
         ensures served { serves self.new (D.view disk.new).size };
 
-    /// Gives a key a place, instead of the one that it had; a map that isn't known stays so. Memory runs out only where it had none, and leaves the map as
-    /// it was; where the disk fails, or damage is found, it may have changed.
+    /// Gives a key a place, instead of the one that it had; a map that isn't known stays so. Memory runs out only where the
+    /// key had none, and leaves the map as it was; where the disk fails, or damage is found, it may have changed.
     fn put<D: Disk>(&mut self, disk: &mut D, key: &Key, place: Place) -> Result<(), IndexFault>
         requires serves { serves self.old (D.view disk.old).size }
         requires kind { HasKind key.now }
@@ -58,7 +58,8 @@ pub trait Index {
             (λ m. takes self.old (D.view disk.old).size (finite.len (finite.insert m key.now place))) }
         ensures ok { OnOk result (KnownMap (places self.old (D.view disk.old).content)
             (λ m. places self.new (D.view disk.new).content ≡ Some (finite.insert m key.now place))) }
-        ensures unknown { OnOk result (places self.old (D.view disk.old).content ≡ None → places self.new (D.view disk.new).content ≡ None) }
+        ensures unknown { OnOk result (places self.old (D.view disk.old).content ≡ None
+            → places self.new (D.view disk.new).content ≡ None) }
         ensures memory { result ≡ Err Memory
             → places self.new (D.view disk.new).content ≡ places self.old (D.view disk.old).content }
         ensures absent { result ≡ Err Memory → KnownMap (places self.old (D.view disk.old).content) (λ m. finite.get m key.now ≡ None) }
@@ -73,7 +74,8 @@ pub trait Index {
         requires serves { serves self.old (D.view disk.old).size }
         ensures ok { OnOk result (KnownMap (places self.old (D.view disk.old).content)
             (λ m. places self.new (D.view disk.new).content ≡ Some (finite.remove m key.now))) }
-        ensures unknown { OnOk result (places self.old (D.view disk.old).content ≡ None → places self.new (D.view disk.new).content ≡ None) }
+        ensures unknown { OnOk result (places self.old (D.view disk.old).content ≡ None
+            → places self.new (D.view disk.new).content ≡ None) }
         ensures fault { IfErr result (IsRemoveFault (λ at why. (places self.old (D.view disk.old).content ≡ None)
             × Shows (D.view disk.old) (D.view disk.new) (breaks self.old at why))) }
         ensures changes { Changes (owned_from self.old (D.view disk.old).size) (ending blames result) (D.view disk.old) (D.view disk.new) }

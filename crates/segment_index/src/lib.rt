@@ -11,3 +11,6 @@ pub use container_meta::{Key, Place};
 pub use fault::IndexFault;
 pub use index::Index;
 pub use map_index::MapIndex;
+
+/// The index of a store.
+pub type StoreIndex = MapIndex;

@@ -48,6 +48,16 @@ of_one damaged size known shown kind digest offered place there lies refusal has
 
 -- ---- one segment more
 
+-- what was found for the digest of a segment is what the map has of its key
+pub found_by_key : (m : PlaceMap) (had : Option Place) (asked kind : Kind) (digest : List ℕ) (s : Segment) → asked ≡ kind → digest ≡ sha256 s.bytes → had ≡ finite.get m (key_of (kind_byte asked) digest)
+    → had ≡ finite.get m (segment_key kind s)
+found_by_key m had asked kind digest s same is found = found ∙ ap (λ (k : Kind). finite.get m (key_of (kind_byte k) digest)) same ∙ ap (λ (d : List ℕ). finite.get m (key_of (kind_byte kind) d)) is
+
+-- and what fits what was offered fits the bytes of the segment
+pub fits_bytes : (old new : DiskView) (had : Option Place) (asked kind : Kind) (offered bytes : List ℕ) → asked ≡ kind → offered ≡ bytes → Shows old new (FitsHad asked offered had)
+    → Shows old new (FitsHad kind bytes had)
+fits_bytes old new had asked kind offered bytes same is fits = subst (λ (k : Kind). Shows old new (FitsHad k bytes had)) same (subst (λ (l : List ℕ). Shows old new (FitsHad asked l had)) is fits)
+
 fit_more : (kind : Kind) (ss : List Segment) (hads : List (Option Place)) (s : Segment) (had : Option Place) (image : List ℕ) → length hads ≡ length ss → AllFit kind ss hads image → FitsHad kind s.bytes had image
     → AllFit kind (ss ++ s ∷ []) (hads ++ had ∷ []) image
 fit_more kind [] [] s had image many all one = (one, tt)

@@ -1,9 +1,10 @@
-mod Entered
-pub mod Few
 pub mod Changed
 pub mod Compared
+mod Entered
+pub mod Few
 pub mod Indexed
-pub mod Room
-pub mod Taken
 mod Newest
 pub mod Parts
+pub mod Room
+pub mod Serving
+pub mod Taken

@@ -1,10 +1,11 @@
 -- The newest copy of a key, as one more slot is looked at.
-use Rattle.std.proofs.Common.{◌≡◌, ℕ, zero, suc, ◌+◌, Bool, true, false, List, [], ◌∷◌, ◌++◌, length, max, get_or, Option, Some, None, refl, sym, ap, ◌∙◌, arith}
+use Rattle.std.proofs.Common.{◌≡◌, ℕ, zero, suc, ◌+◌, Bool, true, false, List, [], ◌∷◌, ◌++◌, length, map, max, get_or, Option, Some, None, refl, sym, ap, ◌∙◌, arith}
 use Rattle.std.specs.Prelude.{nat_lt}
 use Rattle.std.proofs.lemmas.Bool.{ltb-true, ltb-false}
 use Rattle.container_meta.specs.Spelling.{HeaderValue}
 use Rattle.store_model.specs.Slots.{Copy, copy_in, newer, newest, last_id, ids_of}
 use Rattle.store_model.proofs.Copies.{some_same, lies}
+use Rattle.store_state.specs.Tables.{count_of}
 
 -- ---- the newer one
 
@@ -47,6 +48,10 @@ pub ids-push : (held : List (Option HeaderValue)) (h : HeaderValue) → ids_of (
 ids-push [] h = refl
 ids-push (None ∷ held) h = ap (λ l. 0 ∷ l) (ids-push held h)
 ids-push (Some g ∷ held) h = ap (λ l. g.id ∷ l) (ids-push held h)
+
+pub counts-push : (held : List (Option HeaderValue)) (c : Option HeaderValue) → map count_of (held ++ c ∷ []) ≡ map count_of held ++ count_of c ∷ []
+counts-push [] c = refl
+counts-push (d ∷ held) c = ap (λ l. count_of d ∷ l) (counts-push held c)
 
 pub last-push-none : (held : List (Option HeaderValue)) → last_id (held ++ None ∷ []) ≡ last_id held
 last-push-none [] = refl

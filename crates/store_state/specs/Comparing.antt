@@ -61,7 +61,8 @@ IsNodeRefusal shown kind digest offered place refusal = IsCopyRefusal shown plac
 
 -- Why a copy is not the same. Only a node's is read, and only where it has the length.
 abbrev pub IsSameRefusal : ((List ℕ → Type 0) → Type 0) → Kind → List ℕ → List ℕ → Place → Refusal → Type 0
-IsSameRefusal shown kind digest offered place (Clash key (Length mine other)) = IsClash kind digest offered place (Clash key (Length mine other))
+IsSameRefusal shown kind digest offered place (Clash key (Length mine other)) =
+    IsClash kind digest offered place (Clash key (Length mine other))
 IsSameRefusal shown kind digest offered place refusal =
     (kind ≡ kinds.Tree) × (place.length ≡ length offered) × IsNodeRefusal shown kind digest offered place refusal
 

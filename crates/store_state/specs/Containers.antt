@@ -1,5 +1,5 @@
 -- Which containers of a store the tables in memory represent.
-use Rattle.std.specs.Prelude.{◌≡◌, ℕ, ◌<◌, List, length, Bool, true, nat_lt, get_or, slice_get, find, option_map, Option, Some, None}
+use Rattle.std.specs.Prelude.{◌≡◌, ℕ, ◌<◌, List, length, map, Bool, true, nat_lt, get_or, slice_get, find, option_map, Option, Some, None}
 use Rattle.std.specs.FinMap as finite
 use Rattle.std.specs.Str.{bytes_eq}
 use Rattle.base_model.specs.Bytes.{key_of}
@@ -11,11 +11,13 @@ use Rattle.container_meta.specs.Places.{PlaceMap}
 use Rattle.container_meta.specs.Spelling.{HeaderValue}
 use Rattle.store_model.specs.Slots.{Copy, place_of, newer, newest, IsIndexOf, ids_of, last_id, first_free}
 use Rattle.store_state.specs.declared.containers.Containers.{Containers}
+use Rattle.store_state.specs.Tables.{count_of}
 
 -- the tables are those of these containers
 pub record RepresentsContainers (held : List (Option HeaderValue)) (tables : Containers) : Type 0 where
   pub index : IsIndexOf held tables.index
   pub ids : tables.ids.items ≡ ids_of held
+  pub counts : tables.counts.items ≡ map count_of held
   pub last : tables.last_id ≡ last_id held
 
 -- the closed slot of least number
@@ -35,6 +37,7 @@ pub record ArePart (held : List (Option HeaderValue)) (slot id : ℕ) (kind : Ki
   pub index : (key : List ℕ)
       → finite.get tables.index key ≡ option_map (λ c. c.place) (newer (newest 0 held key) (copy_from slot id kind entries key))
   pub ids : tables.ids.items ≡ ids_of held
+  pub counts : tables.counts.items ≡ map count_of held
   pub last : tables.last_id ≡ last_id held
 
 -- a container of this id is newer than the one in the slot of a place, if there is one

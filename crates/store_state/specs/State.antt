@@ -1,4 +1,4 @@
--- Which store the tables in memory represent (docs/MODEL.md, 'The running store').
+-- Which store the tables in memory represent (docs/MODEL.md, 'The opened store').
 use Rattle.std.specs.Prelude.{◌≡◌, ℕ}
 use Rattle.journal_cells.specs.Journal.{IsTold}
 use Rattle.store_model.specs.Image.{Store, IsValidFor}

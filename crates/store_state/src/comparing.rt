@@ -17,7 +17,8 @@ ghost use Rattle.container_meta.specs.declared.kind.Kind.TheVariants.{Tree};
 ghost use Rattle.segment_index.specs.Places.{KnownMap, IsPlace};
 ghost use Rattle.store_model.specs.Trees.{bytes_at};
 ghost use Rattle.store_state.specs.Refused.{blames};
-ghost use Rattle.store_state.specs.Comparing.{IsCopyRefusal, IsDifference, IsNodeRefusal, IsSameRefusal, IsClash, FitsBytes, FitsHad, IsUnlike, IsOneRefusal, FitSoFar, IsFirstUnlike, IsAllRefusal};
+ghost use Rattle.store_state.specs.Comparing.{IsCopyRefusal, IsDifference, IsNodeRefusal, IsSameRefusal, IsClash, FitsBytes};
+ghost use Rattle.store_state.specs.Comparing.{FitsHad, IsUnlike, IsOneRefusal, FitSoFar, IsFirstUnlike, IsAllRefusal};
 
 use crate::indexing::find;
 use container_log::{LogFault, Spot, read_segment};
@@ -185,7 +186,8 @@ pub fn compare_one<D: Disk, X: Index>(
     ensures size { length buf.new ≡ length buf.old }
     ensures reads { Reads (ending blames result) (D.view disk.old) (D.view disk.new) }
     ensures refused { IfErr result (IsOneRefusal
-        (λ at why. (X.places index.old (D.view disk.old).content ≡ None) × Shows (D.view disk.old) (D.view disk.new) (X.breaks index.old at why))
+        (λ at why. (X.places index.old (D.view disk.old).content ≡ None)
+        × Shows (D.view disk.old) (D.view disk.new) (X.breaks index.old at why))
         (IsUnlike (D.view disk.old).size (X.places index.old (D.view disk.old).content) (Shows (D.view disk.old) (D.view disk.new))
         kind digest.now offered.now)) }
     ensures served { X.serves index.new (D.view disk.new).size }
@@ -227,7 +229,7 @@ pub fn compare_all<D: Disk, X: Index>(
     ensures reads { Reads (ending blames result) (D.view disk.old) (D.view disk.new) }
     ensures refused { IfErr result (IsAllRefusal (X.places index.old (D.view disk.old).content)
         (IsFirstUnlike (D.view disk.old).size (X.places index.old (D.view disk.old).content) (Shows (D.view disk.old) (D.view disk.new))
-            filled.now.kind filled.now.segments)) }
+        filled.now.kind filled.now.segments)) }
     // So each store of this index holds nothing of these keys that differs.
     ensures held { OnOk result (Shows (D.view disk.old) (D.view disk.new) (λ image. (store : Store) (m : PlaceMap)
         → X.places index.old (D.view disk.old).content ≡ Some m → IsIndexOf store.held m

@@ -7,18 +7,22 @@ ghost use Rattle.container_meta.specs.Spelling.{HeaderValue, IsHeader, view, has
 ghost use Rattle.container_meta.specs.declared.entry.Entry.{Entry as EntryValue};
 ghost use Rattle.store_model.specs.Slots.{AreHeaders, IsUnusedId, place_of, free_slots};
 ghost use Rattle.store_state.specs.Containers.{RepresentsContainers, IsFirstFree, ArePart, is_newer};
+ghost use Rattle.store_state.specs.Tables.{count_of};
 
+use crate::slot_table::SlotCount;
 use container_meta::{Entry, Key, Kind, Meta, Place, key_of};
-use segment_index::MapIndex;
+use segment_index::StoreIndex;
 use std::alloc::{AllocError, Global};
 
 /// The containers of a store, as its slots have them.
 #[derive(Drop)]
 pub struct Containers {
     /// Each key's newest copy.
-    pub index: MapIndex,
+    pub index: StoreIndex,
     /// The id of the container in each slot, 0 where the slot is closed.
     pub ids: Vec<u64>,
+    /// How much each holds.
+    pub counts: Vec<SlotCount>,
     /// The greatest of the ids, 0 where there is none.
     pub last_id: u64,
 }
@@ -31,6 +35,17 @@ pub(crate) fn place_in(slot: u32, entry: &Entry) -> Place
         offset: entry.offset,
         length: entry.length,
         level: entry.level,
+    }
+}
+
+// How much a container holds.
+fn count_in(meta: &Meta) -> SlotCount
+    requires { IsHeader (view meta.now) }
+    ensures { result ≡ count_of (Some (view meta.now)) }
+{
+    SlotCount {
+        entries: meta.entries.len() as u32,
+        bytes: meta.data_length,
     }
 }
 
@@ -55,8 +70,9 @@ impl Containers {
         ensures { RepresentsContainers [] result }
     {
         Containers {
-            index: MapIndex::new(alloc),
+            index: StoreIndex::new(alloc),
             ids: Vec::new(alloc),
+            counts: Vec::new(alloc),
             last_id: 0,
         }
     }
@@ -67,6 +83,10 @@ impl Containers {
             → RepresentsContainers (held ++ None ∷ []) self.new) }
     {
         self.ids.push(0)?;
+        self.counts.push(SlotCount {
+            entries: 0,
+            bytes: 0,
+        })?;
         Ok(())
     }
 
@@ -116,6 +136,7 @@ impl Containers {
     {
         self.add_entries(slot, meta)?;
         self.ids.push(meta.id)?;
+        self.counts.push(count_in(meta))?;
         self.last_id = self.last_id.max(meta.id);
         Ok(())
     }

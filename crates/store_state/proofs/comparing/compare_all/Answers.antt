@@ -2,19 +2,15 @@ use Rattle.std.proofs.Common.{◌≡◌, ℕ, ◌+◌, ◌<◌, List, [], ◌∷
 use Rattle.std.specs.Prelude.{IfSome}
 use Rattle.std.proofs.Math.Seq.{take-suc}
 use Rattle.std.proofs.lemmas.List.{take_all}
-use Rattle.std.specs.FinMap as finite
-use Rattle.base_model.specs.Bytes.{key_of}
 use Rattle.base_model.proofs.Outcome.{passed_on}
-use Rattle.container_meta.specs.declared.kind.Kind.{Kind}
-use Rattle.container_meta.specs.Format.{kind_byte}
-use Rattle.container_meta.specs.Segments.{Segment, segment_at, segment_key}
+use Rattle.container_meta.specs.Segments.{Segment, segment_at}
 use Rattle.dd_disk.specs.Ending.{Done}
 use Rattle.dd_disk.specs.Shows.{Shows}
 use Rattle.dd_disk.proofs.Ended.{reads_none, reads_on}
 use Rattle.segment_index.specs.Places.{IsPlace}
-use Rattle.store_state.specs.Comparing.{FitsHad, FitSoFar, IsFirstUnlike, IsAllRefusal}
+use Rattle.store_state.specs.Comparing.{FitSoFar, IsFirstUnlike, IsAllRefusal}
 use Rattle.store_state.proofs.Changed.{on}
-use Rattle.store_state.proofs.Compared.{none_yet, more, of_all, held_all}
+use Rattle.store_state.proofs.Compared.{found_by_key, fits_bytes, none_yet, more, of_all, held_all}
 use Rattle.store_state.proofs.comparing.compare_all.Goals as goal
 
 pub loop-i-init : goal.loop-i-init
@@ -54,14 +50,18 @@ loop-i-preserved g c =
     let d : Segment = record { level = 0; bytes = [] } in
     let within : i < length filled.segments = omega (arith, c.loop-i-test.true, c.len-i-end.ensures) in
     let is : take (i + 1) filled.segments ≡ take i filled.segments ++ s ∷ [] = ap (λ (n : ℕ). take n filled.segments) (add-one i) ∙ take-suc filled.segments i d within in
-    let key_is = ap (λ (k : Kind). key_of (kind_byte k) c.digest_at-digest.result) inv.4 ∙ ap (key_of (kind_byte filled.kind)) c.digest_at-digest.ensures in
-    let fits = subst (λ (k : Kind). Shows mid new (FitsHad k s.bytes c.in_ok-had.had)) inv.4 (subst (λ (l : List ℕ). Shows mid new (FitsHad c.kind-kind.result l c.in_ok-had.had)) c.bytes_of.ensures one.fit) in
+    let fits = fits_bytes mid new c.in_ok-had.had c.kind-kind.result filled.kind c.bytes_of.result.now s.bytes inv.4 c.bytes_of.ensures one.fit in
     let next = more old.size known old mid new filled.kind (take i filled.segments) (take (i + 1) filled.segments) s c.loop-i.before.items c.push.new.self.items c.in_ok-had.had is c.in_ok-push.ensures.items inv.0.only one.reads.only.later inv.5
     (subst (λ (n : ℕ). IfSome c.in_ok-had.had (IsPlace n)) inv.0.only.later.size_is one.had.0)
-    (λ m known_is. on c.in_ok-had.had (finite.get m (key_of (kind_byte c.kind-kind.result) c.digest_at-digest.result)) (finite.get m (segment_key filled.kind s))
-      (one.had.1 m (on mid_known known (Some m) inv.1 known_is)) (ap (finite.get m) key_is)) fits in
-    (reads_on Done old mid new inv.0 one.reads, on (g.X.Index.places c.compare_one.new.index new.content) mid_known known one.map inv.1, one.served, on (length c.compare_one.new.buf) (length c.loop-i.buf) (length c.args.buf.now) one.size inv.3, inv.4,
-      next)
+    (λ m known_is. found_by_key m c.in_ok-had.had c.kind-kind.result filled.kind c.digest_at-digest.result s inv.4 c.digest_at-digest.ensures (one.had.1 m (on mid_known known (Some m) inv.1 known_is)))
+    fits in (
+      reads_on Done old mid new inv.0 one.reads,
+      on (g.X.Index.places c.compare_one.new.index new.content) mid_known known one.map inv.1,
+      one.served,
+      on (length c.compare_one.new.buf) (length c.loop-i.buf) (length c.args.buf.now) one.size inv.3,
+      inv.4,
+      next,
+    )
 
 pub returns-clause-held : goal.returns-clause-held
 returns-clause-held g c =

@@ -5,5 +5,6 @@ use Rattle.store_state.proofs.containers.Containers.add.Goals as goal
 
 pub returns : goal.returns
 returns c = λ held place are.
-    part_ended held c.args.slot (view c.args.meta.now) c.add_entries.new.self _
-    (c.in_ok-add_entries.ensures held (part_begun held c.args.slot c.args.meta.now.id c.args.meta.now.kind c.args.self.now place are)) refl c.in_ok-push.ensures.items c.max-self.ensures
+    let h = view c.args.meta.now in
+    let part = c.in_ok-add_entries.ensures held (part_begun held c.args.slot h.id h.kind c.args.self.now place are) in
+    part_ended held c.args.slot h c.count_in.result c.add_entries.new.self _ part refl c.in_ok-push.ensures.items c.in_ok-push-2.ensures.items c.count_in.ensures c.max-self.ensures

@@ -3,4 +3,4 @@ use Rattle.store_state.proofs.Entered.{represents_none}
 use Rattle.store_state.proofs.containers.Containers.new.Goals as goal
 
 pub returns : goal.returns
-returns c = represents_none _ c.new.ensures c.new-2.ensures.items refl
+returns c = represents_none _ c.new.ensures c.new-2.ensures.items c.new-3.ensures.items refl

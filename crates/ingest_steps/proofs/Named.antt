@@ -10,7 +10,7 @@ use Rattle.disk_format.specs.Layout.{cell_at}
 use Rattle.disk_format.specs.Cells.{Root, Change, RecordValue, IsRoot}
 use Rattle.disk_format.specs.Cells.Change.{Put}
 use Rattle.dd_disk.specs.View.{DiskView, IsDurable, CrashLeaves, SteppedFrom}
-use Rattle.dd_disk.specs.Ending.{Ending}
+use Rattle.dd_disk.specs.Ending.{Ending, Done}
 use Rattle.dd_disk.specs.Writes.{Writes}
 use Rattle.dd_disk.specs.Moves.{Moves}
 use Rattle.dd_disk.proofs.Later.{leaves_weaker}
@@ -31,7 +31,7 @@ use Rattle.store_model.proofs.Records.{last_of_push, names_after_push}
 use Rattle.store_model.proofs.Valid.{valid_put}
 use Rattle.store_state.specs.declared.tables.Tables.{Tables}
 use Rattle.store_state.specs.Tables.{Represents, RepresentsNames}
-use Rattle.ingest_steps.specs.Naming.{MayName, IsNamed, put_after_last, tables_with, naming, putting_root, PutsRoot, ChangesNextAlone}
+use Rattle.ingest_steps.specs.Naming.{MayName, IsNamed, put_after_last, tables_with, naming, putting_root, PutsRoot, ChangesNextAlone, KeepsButNext}
 
 -- ---- the record
 
@@ -231,6 +231,11 @@ module _ (journal : JournalValue) (r : RecordValue) (e : Ending) (old new : Disk
         let now = writes.later.tells given known in
         ((now.0, now.1, leaves.now now.0 (new.as_read now.0 now.1)), leaves);
   }
+
+pub same_but_next : (journal : JournalValue) (r : RecordValue) (old new : DiskView) → Writes (Appends journal r) (IsAppended journal r) Done old new → KeepsButNext journal old new
+same_but_next journal r old new writes = λ given known.
+    let written = writes.written.0 given known in
+    (written.0, written.1, written.2.same)
 
 -- ---- both
 

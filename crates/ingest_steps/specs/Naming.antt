@@ -105,3 +105,7 @@ pub record ChangesNextAlone (journal : JournalValue) (old new : DiskView) : Type
   -- Of a disk that was synced reads give, and a crash leaves, what they gave, but for the cell.
   pub synced : IsDurable old → Known old.content (λ given.
       KnownWith new.content (SameButNext journal given) × CrashLeaves (SameButNext journal given) old new)
+
+-- where it is done, the content is as before but for the cell
+abbrev pub KeepsButNext : JournalValue → DiskView → DiskView → Type 0
+KeepsButNext journal old new = Known old.content (λ given. KnownWith new.content (SameButNext journal given))

@@ -12,7 +12,7 @@ use Rattle.container_meta.specs.declared.kind.Kind.{Kind}
 use Rattle.container_meta.specs.Places.{PlaceMap}
 use Rattle.container_meta.specs.Segments.{Segment, Contents, entries_from, segment_key}
 use Rattle.refusals.specs.declared.refusal.Refusal.{Refusal}
-use Rattle.refusals.specs.declared.refusal.Refusal.TheVariants.{Full, Numbers}
+use Rattle.refusals.specs.declared.refusal.Refusal.TheVariants.{Memory, Full, DiskRead, DiskWrite, Numbers, Damaged}
 use Rattle.store_model.specs.Commands.{HasNoCollisions}
 use Rattle.store_model.specs.Files.{Files}
 use Rattle.store_model.specs.Image.{Store}
@@ -102,6 +102,31 @@ pub record SealsIndexed (t : Tables) (id : ℕ) (filled : Contents) (ending : En
       → Represents store known t → old.content ≡ Some given → new.content ≡ Some held → Stands (IsIn among) store files given
       → AllByRecursion (MaySeal (IsIn among) filled.kind) filled.segments
       → FitBeside (IsIn among) filled.kind filled.segments store given → KeepsHeld ending id filled store given held
+
+-- A container that was compared is sealed: of each store that the tables represent and whose map the index is, where no two
+-- data segments of S of one digest differ.
+pub record SealsCompared (t : Tables) (known : Option PlaceMap) (id : ℕ) (filled : Contents) (ending : Ending) (old new : DiskView) : Type 0 where
+  pub moves : (among : ByteSet) (store : Store) (files : Files) (map : PlaceMap) → known ≡ Some map → Represents store known t
+      → HasNoCollisions (IsIn among) → AllByRecursion (MaySeal (IsIn among) filled.kind) filled.segments
+      → Moves (sealing_indexed (IsIn among) id filled store files) ending old new
+  pub holds : (among : ByteSet) (store : Store) (files : Files) (map : PlaceMap) (given held : List ℕ) → known ≡ Some map
+      → Represents store known t → old.content ≡ Some given → new.content ≡ Some held → Stands (IsIn among) store files given
+      → HasNoCollisions (IsIn among) → AllByRecursion (MaySeal (IsIn among) filled.kind) filled.segments
+      → KeepsHeld ending id filled store given held
+
+-- why it is not sealed: no memory; a call of the disk failed; damage, where the map isn't known; or another copy is held
+abbrev pub IsSealRefusal : Option PlaceMap → (Refusal → Type 0) → Refusal → Type 0
+IsSealRefusal known unlike Memory = Unit {0}
+IsSealRefusal known unlike DiskRead = Unit {0}
+IsSealRefusal known unlike DiskWrite = Unit {0}
+IsSealRefusal known unlike (Damaged at why) = known ≡ None
+IsSealRefusal known unlike refusal = unlike refusal
+
+-- the map is as before, but after a write that failed, or damage
+abbrev pub KeepsMap : Option PlaceMap → Option PlaceMap → Refusal → Type 0
+KeepsMap old new DiskWrite = Unit {0}
+KeepsMap old new (Damaged at why) = Unit {0}
+KeepsMap old new refusal = new ≡ old
 
 -- ---- what becomes of the tables
 

@@ -13,7 +13,7 @@ ghost use Rattle.journal_cells.specs.Faults.{IsWriteFault, blames as call_blamed
 ghost use Rattle.journal_cells.specs.Journal.{Precedes};
 ghost use Rattle.refusals.specs.declared.refusal.Refusal.TheVariants.{Numbers};
 ghost use Rattle.store_state.specs.Refused.{blames};
-ghost use Rattle.ingest_steps.specs.Naming.{MayName, IsNameRefusal, IsAppendRefusal, IsNamed, PutsRoot, ChangesNextAlone};
+ghost use Rattle.ingest_steps.specs.Naming.{MayName, IsNameRefusal, IsAppendRefusal, IsNamed, PutsRoot, ChangesNextAlone, KeepsButNext};
 ghost use Rattle.ingest_steps.specs.Naming.{IsWriteRefusal, put_after_last, tables_with};
 
 use dd_disk::Disk;
@@ -131,6 +131,7 @@ pub fn put_root<D: Disk>(
     ensures disk { Acts (ending blames result) (D.view disk.old) (D.view disk.new) }
     ensures moves { PutsRoot tables.old name.now root.now (ending blames result) (D.view disk.old) (D.view disk.new) }
     ensures frame { ChangesNextAlone tables.old.journal (D.view disk.old) (D.view disk.new) }
+    ensures same { OnOk result (KeepsButNext tables.old.journal (D.view disk.old) (D.view disk.new)) }
 {
     let number = next_number(&tables.journal)?;
     let put = put_for(alloc, number, name, root)?;

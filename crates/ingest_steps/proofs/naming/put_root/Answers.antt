@@ -4,7 +4,7 @@ use Rattle.namespace.specs.Names.{record_value}
 use Rattle.dd_disk.proofs.Moves.{passed}
 use Rattle.store_state.specs.Refused.{blames}
 use Rattle.ingest_steps.specs.Naming.{PutsRoot, tables_with}
-use Rattle.ingest_steps.proofs.Named.{record_is, is_named, puts_root, changes_next}
+use Rattle.ingest_steps.proofs.Named.{record_is, is_named, puts_root, changes_next, same_but_next}
 use Rattle.ingest_steps.proofs.naming.put_root.Goals as goal
 
 pub returns-in_err-write_put-clause-moves : goal.returns-in_err-write_put-clause-moves
@@ -35,3 +35,6 @@ returns-clause-moves g c =
 
 pub returns-clause-frame : goal.returns-clause-frame
 returns-clause-frame g c = changes_next c.args.tables.now.journal (record_value c.in_ok-put.put) _ _ _ c.in_ok-write_put.ensures.writes
+
+pub returns-clause-same : goal.returns-clause-same
+returns-clause-same g c = same_but_next c.args.tables.now.journal (record_value c.in_ok-put.put) _ _ c.in_ok-write_put.ensures.writes

@@ -3,6 +3,7 @@ use Rattle.container_meta.specs.declared.entry.Entry.{Entry}
 use Rattle.container_meta.specs.Spelling.{header_of}
 use Rattle.container_meta.proofs.Cut.{cut}
 use Rattle.store_model.proofs.IndexSize.{entries_within}
+use Rattle.ingest_steps.proofs.PinList.{length_at}
 use Rattle.ingest_steps.proofs.SealedTables.{length-of_entries}
 use Rattle.ingest_steps.proofs.pinning.entry_at.Goals as goal
 
@@ -25,3 +26,9 @@ pub returns-clause-level : goal.returns-clause-level
 returns-clause-level c =
     let d : Entry = record { digest = []; offset = 0; length = 0; level = 0 } in
     ap (λ (l : List Entry). (get_or l c.args.i d).level) c.entries-entries.ensures.entries ∙ (cut d 0 c.args.filled.now.segments c.args.i c.requires).level_is
+
+pub returns-clause-length : goal.returns-clause-length
+returns-clause-length c =
+    let filled = c.args.filled.now in
+    let some : 1 ≤ length filled.segments = omega (arith, c.requires) in
+    length_at filled.kind [] 0 filled.segments c.args.i c.requires (c.entries-entries.ensures.header 1 refl some).entries

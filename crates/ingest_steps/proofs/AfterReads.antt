@@ -1,0 +1,111 @@
+-- A container that is sealed after reads.
+use Rattle.std.proofs.Common.{◌≡◌, inl, inr, ℕ, List, Option, Some, None, Result, Ok, Err, OnOk, IfErr, refl, sym, ◌∙◌, subst}
+use Rattle.std.specs.List.{AllByRecursion}
+use Rattle.base_model.specs.Known.{Known}
+use Rattle.disk_format.specs.Layout.{slot_at}
+use Rattle.dd_disk.specs.View.{DiskView, SteppedFrom}
+use Rattle.dd_disk.specs.Ending.{Ending, Done, Refused, Unread, Broken, Reads}
+use Rattle.dd_disk.specs.Moves.{Arrives}
+use Rattle.dd_disk.specs.Shows.{Shows}
+use Rattle.dd_disk.specs.Writes.{Both}
+use Rattle.dd_disk.proofs.Ended.{counts_on}
+use Rattle.dd_disk.proofs.Later.{later_on, leaves_on, reads_leave, reads_on}
+use Rattle.dd_disk.proofs.Moves.{stands_reads}
+use Rattle.dd_disk.proofs.Shows.{shown_content}
+use Rattle.container_meta.specs.Places.{PlaceMap}
+use Rattle.container_meta.specs.Segments.{Contents}
+use Rattle.refusals.specs.declared.refusal.Refusal.{Refusal}
+use Rattle.refusals.specs.declared.refusal.Refusal.TheVariants.{Memory, DiskWrite, Damaged}
+use Rattle.segment_index.specs.Changes.{SameBefore}
+use Rattle.segment_index.specs.Places.{KnownMap}
+use Rattle.store_model.specs.Files.{Files}
+use Rattle.store_model.specs.Image.{Store}
+use Rattle.store_model.specs.Slots.{IsIndexOf}
+use Rattle.store_model.specs.Standing.{IsIn, Stands}
+use Rattle.store_model.specs.Steps.{FitsHeld}
+use Rattle.store_state.specs.Indexing.{IsChangeRefusal}
+use Rattle.store_state.specs.Settled.{IsSettled, KeepsWhatCounts, Left, Steps}
+use Rattle.store_state.specs.declared.tables.Tables.{Tables}
+use Rattle.ingest_steps.specs.Sealing.{FitBeside, SealsIndexed, SealsCompared, IsSealRefusal, KeepsMap, sealing_indexed}
+
+-- ---- the map
+
+pub map_on_ok : {T E : Type 0} (result : Result T E) (P Q : Type 0) → (P → Q) → OnOk result P → OnOk result Q
+map_on_ok (Ok x) P Q each has = each has
+map_on_ok (Err e) P Q each has = tt
+
+pub known_before : (a b : Option (List ℕ)) (k l : Option PlaceMap) (P : PlaceMap → Type 0) → a ≡ b → k ≡ l → Known a (λ _. KnownMap k P) → Known b (λ _. KnownMap l P)
+known_before a b k l P same also has given is m known = has given (same ∙ is) m (also ∙ known)
+
+pub change_refused : (k l : Option PlaceMap) (unlike : Refusal → Type 0) → k ≡ l → (refusal : Refusal) → IsChangeRefusal k refusal → IsSealRefusal l unlike refusal
+change_refused k l unlike same Memory has = tt
+change_refused k l unlike same DiskWrite has = tt
+change_refused k l unlike same (Damaged at why) has = sym same ∙ has
+change_refused k l unlike same refusal has = absurd has
+
+pub map_kept : {T : Type 0} (result : Result T Refusal) (k l new : Option PlaceMap) → k ≡ l → IfErr result (IsChangeRefusal k) → (result ≡ Err Memory → new ≡ k) → IfErr result (KeepsMap l new)
+map_kept (Ok x) k l new same refused memory = tt
+map_kept (Err Memory) k l new same refused memory = memory refl ∙ same
+map_kept (Err DiskWrite) k l new same refused memory = tt
+map_kept (Err (Damaged at why)) k l new same refused memory = tt
+map_kept (Err refusal) k l new same refused memory = absurd refused
+
+-- ---- the disk
+
+module _ (slots : ℕ) (old mid new : DiskView) (reads : Reads Done old mid) where
+  settled_after : IsSettled slots old → IsSettled slots mid
+  settled_after settled bytes known c image = settled bytes (sym reads.only.content_is ∙ known) c (reads.only.images_are c image)
+
+  counts_after : KeepsWhatCounts slots mid new → KeepsWhatCounts slots old new
+  counts_after keep = record {
+    content_is = subst (λ (x : Option (List ℕ)). Both (SameBefore (slot_at slots)) x new.content) reads.only.content_is keep.content_is;
+    leaves = leaves_on (SteppedFrom (SameBefore (slot_at slots)) old) (SteppedFrom (SameBefore (slot_at slots)) mid) (SteppedFrom (SameBefore (slot_at slots)) old) old mid new reads.only.later.clock_is
+        (reads_leave (SteppedFrom (SameBefore (slot_at slots)) old) old mid (λ c image. inl image) reads.only) keep.leaves (λ c has. has)
+        (λ c from. elim from [
+          | inl image ↦ inl (reads.only.images_are c image)
+          | inr stepped ↦ inr (stepped.0, reads.only.images_are stepped.0 stepped.1, stepped.2)
+        ]);
+  }
+
+  left_after : (e : Ending) → Left slots e mid new → Left slots e old new
+  left_after Done left = λ settled. left (settled_after settled)
+  left_after Refused left = counts_after left
+  left_after Unread left = counts_after left
+  left_after Broken left = tt
+
+  pub steps_after : (e : Ending) → Steps slots e mid new → Steps slots e old new
+  steps_after e steps = record {
+    later = later_on old mid new reads.only.later steps.later;
+    left = left_after e steps.left;
+    faults_are = counts_on e old.faults mid.faults new.faults reads.faults_are steps.faults_are;
+  }
+
+module _ (t : Tables) (known : Option PlaceMap) (id : ℕ) (filled : Contents) (e : Ending) (old mid new : DiskView) (reads : Reads Done old mid)
+    (held : Shows old mid (λ image. (store : Store) (m : PlaceMap) → known ≡ Some m → IsIndexOf store.held m → AllByRecursion (FitsHeld filled.kind store image) filled.segments))
+    (seals : SealsIndexed t id filled e mid new) where
+  arrives_after : (S : List ℕ → Type 0) (store : Store) (files : Files) (x : Ending) → Arrives (sealing_indexed S id filled store files) x mid new → Arrives (sealing_indexed S id filled store files) x old new
+  arrives_after S store files Done arrives = arrives
+  arrives_after S store files Refused (inl only) = inl (reads_on old mid new reads.only only)
+  arrives_after S store files Refused (inr rests) = inr rests
+  arrives_after S store files Unread (inl only) = inl (reads_on old mid new reads.only only)
+  arrives_after S store files Unread (inr rests) = inr rests
+  arrives_after S store files Broken arrives = arrives
+
+  pub seals_after : SealsCompared t known id filled e old new
+  seals_after = record {
+    moves = λ among store files map known_is is distinct may stands.
+        let given = stands.known.0 in
+        let content = stands.known.1 in
+        let fit : FitBeside (IsIn among) filled.kind filled.segments store given =
+        inl (distinct, shown_content old mid _ given held content store map known_is (is.index_is_newest map known_is)) in
+        let way = sealing_indexed (IsIn among) id filled store files in
+        let moved = seals.moves among store known files given is (reads.only.content_is ∙ content) may fit (stands_reads (Stands (IsIn among) store files) old mid stands reads.only) in
+        record {
+          leaves = leaves_on (Stands (IsIn among) store files) way.between way.between old mid new reads.only.later.clock_is
+              (reads_leave (Stands (IsIn among) store files) old mid stands.each reads.only) moved.leaves (λ c has. inl has) (λ c has. has);
+          arrives = arrives_after (IsIn among) store files e moved.arrives;
+        };
+    holds = λ among store files map given now known_is is content content_now stands distinct may.
+        seals.holds among store known files given now is (reads.only.content_is ∙ content) content_now stands may
+        (inl (distinct, shown_content old mid _ given held content store map known_is (is.index_is_newest map known_is)));
+  }

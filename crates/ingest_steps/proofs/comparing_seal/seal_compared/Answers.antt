@@ -1,0 +1,56 @@
+use Rattle.std.proofs.Common.{◌≡◌, ◌+◌, ℕ, List, Some}
+use Rattle.base_model.specs.Known.{Known}
+use Rattle.base_model.proofs.Outcome.{map_err}
+use Rattle.dd_disk.specs.Ending.{ending}
+use Rattle.dd_disk.specs.Shows.{Shows}
+use Rattle.container_meta.specs.Places.{PlaceMap}
+use Rattle.refusals.specs.declared.refusal.Refusal.{Refusal}
+use Rattle.segment_index.specs.Places.{KnownMap}
+use Rattle.store_state.specs.Comparing.{IsFirstUnlike}
+use Rattle.store_state.specs.Indexing.{IsChangeRefusal}
+use Rattle.store_state.specs.Refused.{blames}
+use Rattle.ingest_steps.specs.Sealing.{IsSealRefusal, places_with}
+use Rattle.ingest_steps.proofs.AfterReads.{map_on_ok, known_before, change_refused, map_kept, steps_after, seals_after}
+use Rattle.ingest_steps.proofs.comparing_seal.seal_compared.Goals as goal
+
+pub returns-clause-map : goal.returns-clause-map
+returns-clause-map g c =
+    let view = g.D.Disk.view in
+    let places = g.X.Index.places in
+    let old = view c.args.disk.now in
+    let mid = view c.compare_all.new.disk in
+    let new = places c.seal_indexed.new.index (view c.seal_indexed.new.disk).content in
+    let before = places c.args.index.now old.content in
+    let now = places c.compare_all.new.index mid.content in
+    let P : PlaceMap → Type 0 = λ m. new ≡ places_with c.args.filled.now c.args.slot (Some m) in
+    map_on_ok c.seal_indexed.result (Known mid.content (λ _. KnownMap now P)) (Known old.content (λ _. KnownMap before P))
+    (known_before mid.content old.content now before P c.in_ok-before.ensures.reads.only.content_is c.in_ok-before.ensures.map) c.seal_indexed.ensures.map
+
+pub returns-clause-refused : goal.returns-clause-refused
+returns-clause-refused g c =
+    let view = g.D.Disk.view in
+    let places = g.X.Index.places in
+    let old = view c.args.disk.now in
+    let before = places c.args.index.now old.content in
+    let now = places c.compare_all.new.index (view c.compare_all.new.disk).content in
+    let unlike : Refusal → Type 0 = IsFirstUnlike old.size before (Shows old (view c.seal_indexed.new.disk)) c.args.filled.now.kind c.args.filled.now.segments in
+    map_err c.seal_indexed.result (IsChangeRefusal now) (IsSealRefusal before unlike) (change_refused now before unlike c.in_ok-before.ensures.map) c.seal_indexed.ensures.refused
+
+pub returns-clause-kept : goal.returns-clause-kept
+returns-clause-kept g c =
+    let view = g.D.Disk.view in
+    let places = g.X.Index.places in
+    map_kept c.seal_indexed.result (places c.compare_all.new.index (view c.compare_all.new.disk).content) (places c.args.index.now (view c.args.disk.now).content)
+    (places c.seal_indexed.new.index (view c.seal_indexed.new.disk).content) c.in_ok-before.ensures.map c.seal_indexed.ensures.refused c.seal_indexed.ensures.memory
+
+pub returns-clause-disk : goal.returns-clause-disk
+returns-clause-disk g c =
+    let view = g.D.Disk.view in
+    steps_after c.args.tables.now.slots (view c.args.disk.now) (view c.compare_all.new.disk) (view c.seal_indexed.new.disk) c.in_ok-before.ensures.reads (ending blames c.seal_indexed.result) c.seal_indexed.ensures.disk
+
+pub returns-clause-moves : goal.returns-clause-moves
+returns-clause-moves g c =
+    let view = g.D.Disk.view in
+    let old = view c.args.disk.now in
+    seals_after c.args.tables.now (g.X.Index.places c.args.index.now old.content) (c.args.tables.now.held.last_id + 1) c.args.filled.now (ending blames c.seal_indexed.result)
+    old (view c.compare_all.new.disk) (view c.seal_indexed.new.disk) c.in_ok-before.ensures.reads c.in_ok-before.ensures.held c.seal_indexed.ensures.moves

@@ -1,0 +1,72 @@
+-- What a commit makes of a core.
+use Rattle.std.proofs.Common.{◌≡◌, ℕ, List, [], length, Option, Some, Ok, refl, sym, ◌∙◌, subst}
+use Rattle.base_model.specs.Known.{Known, KnownWith}
+use Rattle.base_model.specs.Frames.{SameOutside}
+use Rattle.disk_format.specs.Cells.{Root}
+use Rattle.disk_format.specs.Layout.{cell_at}
+use Rattle.disk_format.specs.declared.numbers.TheConstants.{CELL_BYTES}
+use Rattle.container_meta.specs.Places.{PlaceMap}
+use Rattle.dd_disk.specs.View.{IsLater}
+use Rattle.dd_disk.specs.Ending.{Done, Reads}
+use Rattle.dd_disk.specs.Moves.{Acts}
+use Rattle.actor_parts.specs.declared.step.Answer.TheVariants as answers
+use Rattle.actor_parts.specs.StepValue as asked
+use Rattle.journal_cells.specs.Appending.{SameButNext}
+use Rattle.store_model.specs.Image.{Store, Encodes, IsValidFor}
+use Rattle.store_model.specs.Steps.{PutName, KeepsCopies, with_put}
+use Rattle.store_model.proofs.PutRoots.{put_newest}
+use Rattle.store_model.proofs.Valid.{valid_put}
+use Rattle.store_state.specs.Tables.{Represents, Runs}
+use Rattle.ingest_steps.specs.Naming.{IsNamed, PutsRoot, KeepsButNext}
+use Rattle.ingest_steps.specs.Writers.{IsCommitted}
+use Rattle.read_steps.specs.Readers as readers
+use Rattle.store_core.specs.Core.{Makes, Made, GivesHeld}
+use Rattle.store_core.specs.State.{CoreState}
+
+module _ (old new : CoreState) (name : List ℕ) (root : Root) (sequence : ℕ) (named : IsNamed old.tables name root new.tables sequence) (later : IsLater old.disk new.disk) (index : new.known ≡ old.known) where
+  pub makes_put : Makes (PutName name root) old new
+  makes_put = record {
+    can = record { store_has = λ store represents valid reserve. (named.can store represents.names_are, named.root_right) };
+    represents = record { store_has = λ store represents valid reserve. subst (λ (known : Option PlaceMap). Represents (with_put name root store) known new.tables) (sym index) (named.represents store old.known represents) };
+    valid = record { store_has = λ store represents valid reserve. subst (λ (size : ℕ). IsValidFor size (with_put name root store)) (sym later.size_is) (valid_put old.disk.size name root store valid (named.can store represents.names_are) named.root_right) };
+    tells = λ places is. (places, index ∙ is);
+    runs = λ runs. subst (λ (size : ℕ). Runs size new.known new.tables) (sym later.size_is) (subst (λ (known : Option PlaceMap). Runs old.disk.size known new.tables) (sym index) (named.runs old.disk.size old.known runs));
+  }
+
+  -- what is held goes on
+  pub put_copies : KeepsButNext old.tables.journal old.disk new.disk → (store : Store) → Represents store old.known old.tables
+      → Known old.disk.content (λ before. Encodes before store → KnownWith new.disk.content (KeepsCopies store before (with_put name root store)))
+  put_copies keeps store represents before told right =
+      let kept = keeps before told in
+      let can = named.can store represents.names_are in
+      (kept.0, kept.1, put_newest before kept.0 store right can.cell
+      (subst (λ (half : ℕ). SameOutside (cell_at half (length store.records)) CELL_BYTES before kept.0) represents.names_are.half
+      (subst (λ (count : ℕ). SameOutside (cell_at old.tables.journal.half count) CELL_BYTES before kept.0) represents.names_are.count kept.2)))
+
+pub made_put : (name : List ℕ) (root : Root) (actor sequence : ℕ) (buf : List ℕ) (old new : CoreState) → IsCommitted old.parts actor old.tables name root new.parts new.tables sequence → Acts Done old.disk new.disk
+    → PutsRoot old.tables name root Done old.disk new.disk → KeepsButNext old.tables.journal old.disk new.disk → new.known ≡ old.known → (old.served → new.served)
+    → Made (asked.Commit name root) actor (Ok (answers.Committed sequence)) buf old new
+made_put name root actor sequence buf old new committed acts moves keeps index served = record {
+  row = (committed.may, committed.named.number, committed.parts_are);
+  effect = record {
+    disk = acts;
+    moves = moves;
+    made = makes_put old new name root sequence committed.named acts.later index;
+    copies = put_copies old new name root sequence committed.named acts.later index keeps;
+    kept = tt;
+  };
+  served = served;
+}
+
+-- and a read that gave a segment
+pub made_bytes : (actor count : ℕ) (buf : List ℕ) (old new : CoreState) (given : Option ℕ) → given ≡ Some count → readers.GivesNext old.known old.disk new.disk actor old.parts new.parts buf given
+    → GivesHeld (Ok given) buf actor old new → Reads Done old.disk new.disk → new.tables ≡ old.tables → new.known ≡ old.known → (old.served → new.served)
+    → Made asked.ReadNext actor (Ok (answers.Bytes count)) buf old new
+made_bytes actor count buf old new given is next held reads tables index served = record {
+  row = record {
+    next = subst (λ (o : Option ℕ). readers.GivesNext old.known old.disk new.disk actor old.parts new.parts buf o) is next;
+    held = subst (λ (o : Option ℕ). GivesHeld (Ok o) buf actor old new) is held;
+  };
+  effect = record { disk = reads; tables = record { tables_are = tables; index_is = index } };
+  served = served;
+}

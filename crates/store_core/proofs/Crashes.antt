@@ -1,0 +1,135 @@
+-- What a crash leaves at any moment of a run.
+use Rattle.std.proofs.Common.{◌≡◌, ◌⊎◌, inl, inr, ◌<◌, ◌≤◌, ◌-◌, ◌^◌, ℕ, List, [], ◌∷◌, Option, Some, None, Result, Ok, Err, refl, sym, ◌∙◌, ap, subst, arith}
+use Rattle.dd_disk.specs.View.{DiskView, IsLater, OnlyReads, CrashLeaves}
+use Rattle.dd_disk.specs.Ending.{ending, ending_of}
+use Rattle.dd_disk.specs.Moves.{StandsFor, Ends}
+use Rattle.dd_disk.proofs.Later.{reads_here, reads_on, reads_leave, leaves_on, leaves_weaker}
+use Rattle.container_meta.specs.Segments.{Contents}
+use Rattle.disk_format.specs.Cells.{Root}
+use Rattle.actor_parts.specs.declared.step.Answer.{Answer}
+use Rattle.actor_parts.specs.StepValue as asked
+use Rattle.actor_parts.specs.StepValue.{StepValue, IsStep}
+use Rattle.refusals.specs.declared.refusal.Refusal.{Refusal}
+use Rattle.refusals.specs.declared.refusal.Refusal.TheVariants as refusals
+use Rattle.store_model.specs.Commands.{HasNoCollisions}
+use Rattle.store_model.specs.Files.{Files, with_file}
+use Rattle.store_model.specs.Image.{Store}
+use Rattle.store_model.specs.Standing.{ByteSet, IsIn, Stands}
+use Rattle.store_model.specs.Steps.{with_sealed, with_put}
+use Rattle.store_state.specs.Refused.{blames}
+use Rattle.store_core.specs.declared.stop.Stop.{Stop}
+use Rattle.store_core.specs.Core.{Effect, Rests, SealsOne, PutsOne, Steps, StepsOr, next_id}
+use Rattle.store_core.specs.Runs.{FileEvent, FileStep, FileRun, IsAt, IsOf, IsOnTheWay, IsGivenRight, IsRootOf, SurvivesCrashes, files_by, files_tried}
+use Rattle.store_core.specs.State.{CoreState}
+use Rattle.store_core.proofs.KeepingFiles.{file_step, may_seal_all}
+use Rattle.store_core.proofs.Stepping.{step_later}
+
+-- ---- one step
+
+-- an image of the files before, or of those after, where a write that failed may stand
+abbrev Either : (List ℕ → Type 0) → StepValue → Result Answer Refusal → List ℕ → Files → List ℕ → Type 0
+Either S step answer bytes files image = IsOf S files image ⊎ IsOf S (files_tried step answer bytes files) image
+
+module _ (among : ByteSet) (s : Store) (files : Files) (old new : CoreState) (bytes : List ℕ) (distinct : HasNoCollisions (IsIn among)) (at : IsAt (IsIn among) s files old) where
+  abbrev S : List ℕ → Type 0
+  S = IsIn among
+
+  of_old : (c : List ℕ) → old.disk.images c → IsOf S files c
+  of_old c is = (s, at.stands.each c is)
+
+  -- where nothing was written
+  by_reads : (step : StepValue) (answer : Result Answer Refusal) → OnlyReads old.disk new.disk → CrashLeaves (Either S step answer bytes files) old.disk new.disk
+  by_reads step answer reads = reads_leave (Either S step answer bytes files) old.disk new.disk (λ c is. inl (of_old c is)) reads
+
+  by_seal : (filled : Contents) (answer : Result Answer Refusal) → SealsOne filled answer old new → IsStep (asked.Seal filled) → IsGivenRight S (asked.Seal filled) answer bytes old
+      → CrashLeaves (Either S (asked.Seal filled) answer bytes files) old.disk new.disk
+  by_seal filled answer effect right given =
+      leaves_weaker (λ c. Stands S s files c ⊎ Stands S (with_sealed (next_id old) filled.kind filled.segments s) files c) (Either S (asked.Seal filled) answer bytes files) old.disk new.disk
+      (λ c stands. elim stands [ inl is ↦ inl (s, is) | inr is ↦ inl (with_sealed (next_id old) filled.kind filled.segments s, is) ])
+      (effect.moves among s files at.represents distinct (may_seal_all S filled.kind filled.segments right.1 given) at.stands).leaves
+
+  -- of a commit that came to its first write
+  put_leaves : (name : List ℕ) (root : Root) (answer : Result Answer Refusal) → PutsOne name root answer old new → IsRootOf root bytes old
+      → CrashLeaves (λ c. Stands S s files c ⊎ Stands S (with_put name root s) (with_file files name bytes) c) old.disk new.disk
+  put_leaves name root answer effect given =
+      let tree = given.tree s at.represents in
+      (effect.moves.moves among s files bytes at.represents.names_are given.root_is (record { known = at.stands.known; each = λ c is. (at.stands.each c is, tree.each c is) })).leaves
+
+  by_commit : (name : List ℕ) (root : Root) (answer : Result Answer Refusal) → PutsOne name root answer old new → IsGivenRight S (asked.Commit name root) answer bytes old
+      → CrashLeaves (Either S (asked.Commit name root) answer bytes files) old.disk new.disk
+  by_commit name root (Ok answer) effect given =
+      leaves_weaker (λ c. Stands S s files c ⊎ Stands S (with_put name root s) (with_file files name bytes) c) (Either S (asked.Commit name root) (Ok answer) bytes files) old.disk new.disk
+      (λ c stands. elim stands [ inl is ↦ inl (s, is) | inr is ↦ inr (with_put name root s, is) ]) (put_leaves name root (Ok answer) effect given)
+  by_commit name root (Err refusals.DiskWrite) effect given =
+      leaves_weaker (λ c. Stands S s files c ⊎ Stands S (with_put name root s) (with_file files name bytes) c) (Either S (asked.Commit name root) (Err refusals.DiskWrite) bytes files) old.disk new.disk
+      (λ c stands. elim stands [ inl is ↦ inl (s, is) | inr is ↦ inr (with_put name root s, is) ]) (put_leaves name root (Err refusals.DiskWrite) effect given)
+  by_commit name root (Err refusals.DiskRead) effect given = by_reads (asked.Commit name root) (Err refusals.DiskRead) effect.disk.ends
+  by_commit name root (Err refusal) effect given = by_reads (asked.Commit name root) (Err refusal) effect.disk.ends
+
+  by_effect : (step : StepValue) (answer : Result Answer Refusal) → Effect step answer old new → IsStep step → IsGivenRight S step answer bytes old → CrashLeaves (Either S step answer bytes files) old.disk new.disk
+  by_effect asked.Begin answer effect right given = by_reads asked.Begin answer effect.disk.only
+  by_effect (asked.Claim seg) answer effect right given = by_reads (asked.Claim seg) answer effect.disk.only
+  by_effect (asked.Seal filled) answer effect right given = by_seal filled answer effect right given
+  by_effect (asked.Commit name root) answer effect right given = by_commit name root answer effect given
+  by_effect asked.Abort answer effect right given = by_reads asked.Abort answer effect.disk.only
+  by_effect (asked.OpenRead name) answer effect right given = by_reads (asked.OpenRead name) answer effect.disk.only
+  by_effect asked.ReadNext answer effect right given = by_reads asked.ReadNext answer effect.disk.only
+  by_effect asked.EndRead answer effect right given = by_reads asked.EndRead answer effect.disk.only
+  by_effect asked.Stat answer effect right given = by_reads asked.Stat answer effect.disk.only
+
+  by_stop : (stop : Option Stop) (f : FileEvent) → f.bytes ≡ bytes → StepsOr stop f.event old new → IsStep f.event.step → IsGivenRight S f.event.step f.event.answer bytes old
+      → CrashLeaves (Either S f.event.step f.event.answer bytes files) old.disk new.disk
+  by_stop None f same steps right given = by_effect f.event.step f.event.answer steps.made.effect right given
+  by_stop (Some stop) f same steps right given = by_reads f.event.step f.event.answer steps.same.disk.only
+
+-- ---- a run
+
+module _ (C : Type 0) (state : C → CoreState) (among : ByteSet) (distinct : HasNoCollisions (IsIn among)) where
+  abbrev In : List ℕ → Type 0
+  In = IsIn among
+
+  -- a core that is stopped only reads
+  stopped_reads : (stop : Stop) (steps : List FileEvent) (old new : C) → (state old).stop ≡ Some stop → FileRun C state In steps old new → OnlyReads (state old).disk (state new).disk
+  stopped_reads stop [] old new is run = subst (λ (c : C). OnlyReads (state old).disk (state c).disk) (sym run) (reads_here (state old).disk)
+  stopped_reads stop (f ∷ fs) old new is run =
+      let same = (subst (λ (o : Option Stop). StepsOr o f.event (state old) (state run.0)) is run.1.0.made).same in
+      reads_on (state old).disk (state run.0).disk (state new).disk same.disk.only (stopped_reads stop fs run.0 new (same.stop_is ∙ is) run.1.1)
+
+  on_the_way : (steps : List FileEvent) (files : Files) (c : List ℕ) → IsOf In files c → IsOnTheWay In steps files c
+  on_the_way [] files c is = is
+  on_the_way (f ∷ fs) files c is = inl is
+
+  first_one : (f : FileEvent) (fs : List FileEvent) (files : Files) (c : List ℕ) → Either In f.event.step f.event.answer f.bytes files c → IsOnTheWay In (f ∷ fs) files c
+  first_one f fs files c (inl is) = inl is
+  first_one f fs files c (inr is) = inr (inl is)
+
+  -- a step, and what follows where it didn't stop the core
+  step_leaves : (f : FileEvent) (fs : List FileEvent) (s : Store) (files : Files) (old mid new : C) → IsAt In s files (state old) → FileStep In f (state old) (state mid) → FileRun C state In fs mid new
+      → ((t : Store) → IsAt In t (files_by f files) (state mid) → CrashLeaves (IsOnTheWay In fs (files_by f files)) (state mid).disk (state new).disk)
+      → (stop : Option Stop) → (state mid).stop ≡ stop → CrashLeaves (IsOnTheWay In (f ∷ fs) files) (state old).disk (state new).disk
+  step_leaves f fs s files old mid new at step run others None is =
+      let first = by_stop among s files (state old) (state mid) f.bytes distinct at (state old).stop f refl step.made step.asked step.given in
+      let later = step_later (state old) (state mid) f.event (state old).stop step.made in
+      let next = file_step among distinct f s files (state old) (state mid) step at is in
+      leaves_on (Either In f.event.step f.event.answer f.bytes files) (IsOnTheWay In fs (files_by f files)) (IsOnTheWay In (f ∷ fs) files) (state old).disk (state mid).disk (state new).disk later.clock_is
+      first (others next.store next.is_at) (first_one f fs files) (λ c is. inr (inr is))
+  step_leaves f fs s files old mid new at step run others (Some stop) is =
+      let first = by_stop among s files (state old) (state mid) f.bytes distinct at (state old).stop f refl step.made step.asked step.given in
+      let later = step_later (state old) (state mid) f.event (state old).stop step.made in
+      leaves_on (Either In f.event.step f.event.answer f.bytes files) (Either In f.event.step f.event.answer f.bytes files) (IsOnTheWay In (f ∷ fs) files) (state old).disk (state mid).disk (state new).disk later.clock_is
+      first (reads_leave (Either In f.event.step f.event.answer f.bytes files) (state mid).disk (state new).disk first.now (stopped_reads stop fs mid new is run)) (first_one f fs files) (first_one f fs files)
+
+  pub leaves : (steps : List FileEvent) (s : Store) (files : Files) (old new : C) → IsAt In s files (state old) → FileRun C state In steps old new → CrashLeaves (IsOnTheWay In steps files) (state old).disk (state new).disk
+  leaves [] s files old new at run =
+      reads_leave (IsOnTheWay In [] files) (state old).disk (state new).disk (λ c is. (s, at.stands.each c is))
+      (subst (λ (c : C). OnlyReads (state old).disk (state c).disk) (sym run) (reads_here (state old).disk))
+  leaves (f ∷ fs) s files old new at run =
+      step_leaves f fs s files old run.0 new at run.1.0 run.1.1 (λ t there. leaves fs t (files_by f files) run.0 new there run.1.1) (state run.0).stop refl
+
+module _ (C : Type 0) (state : C → CoreState) where
+  pub survives_crashes : SurvivesCrashes C state
+  survives_crashes among steps s files old new distinct at run below image since =
+      elim ((leaves C state among distinct steps s files old new at run).since (state old).disk.clock image (omega arith) since)
+      [ inl was ↦ on_the_way C state among distinct steps files image (s, at.stands.each image ((state old).disk.only_now image below was))
+      | inr is ↦ is
+      ]

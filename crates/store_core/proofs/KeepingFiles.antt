@@ -1,0 +1,344 @@
+-- A core that isn't stopped has the files of the commits that it acknowledged, and its invariant holds.
+use Rattle.std.proofs.Common.{◌≡◌, ◌⊎◌, inl, inr, ◌≤◌, ◌+◌, ℕ, suc, List, [], ◌∷◌, ◌++◌, length, Option, Some, None, Result, Ok, Err, refl, sym, ◌∙◌, ap, subst, arith}
+use Rattle.std.specs.List.{AllByRecursion}
+use Rattle.base_model.specs.Known.{Known}
+use Rattle.disk_format.specs.Cells.{Root}
+use Rattle.dd_disk.specs.View.{DiskView, IsLater, OnlyReads}
+use Rattle.dd_disk.specs.Ending.{Ending, Done, Refused, Unread, Broken, ending, ending_of}
+use Rattle.dd_disk.specs.Moves.{StandsFor, Moved, Arrives, Ends}
+use Rattle.dd_disk.proofs.Moves.{stands_reads, stands_weaker}
+use Rattle.container_meta.specs.declared.kind.Kind.{Kind}
+use Rattle.container_meta.specs.declared.kind.Kind.TheVariants as kind
+use Rattle.container_meta.specs.Places.{PlaceMap}
+use Rattle.container_meta.specs.Segments.{Segment, KindSegment, Contents}
+use Rattle.actor_parts.specs.declared.part.Part.{Part}
+use Rattle.actor_parts.specs.declared.part.Part.TheVariants.{Idle}
+use Rattle.actor_parts.specs.declared.step.Answer.{Answer}
+use Rattle.actor_parts.specs.declared.step.Answer.TheVariants as answers
+use Rattle.actor_parts.specs.Parts.{part_of, with_part}
+use Rattle.actor_parts.specs.Segments.{IsStepSegment, AreStepSegments}
+use Rattle.actor_parts.specs.StepValue as asked
+use Rattle.actor_parts.specs.StepValue.{StepValue, IsStep}
+use Rattle.refusals.specs.declared.refusal.Refusal.{Refusal}
+use Rattle.refusals.specs.declared.refusal.Refusal.TheVariants as refusals
+use Rattle.store_model.specs.Commands.{HasNoCollisions}
+use Rattle.store_model.specs.Files.{Files, with_file}
+use Rattle.store_model.specs.Image.{Store, IsValidFor, names_of}
+use Rattle.disk_format.specs.declared.numbers.TheConstants.{RESERVE}
+use Rattle.store_model.specs.Slots.{IsIndexOf, free_slots}
+use Rattle.store_model.specs.Standing.{ByteSet, IsIn, IsAmong, Stands}
+use Rattle.store_model.specs.Steps.{StoreChange, SealContainer, PutName, CanChange, MaySeal, KeepsCopies, changed, with_sealed, with_put}
+use Rattle.store_model.specs.Trees.{HoldsTree, file_tree}
+use Rattle.store_state.specs.declared.tables.Tables.{Tables}
+use Rattle.store_state.specs.Invariant.{CoreInvariant, HoldsPart}
+use Rattle.store_state.specs.Refused.{blames}
+use Rattle.store_state.specs.Tables.{Represents}
+use Rattle.store_state.proofs.Parts.{part_kept, parts_kept}
+use Rattle.ingest_steps.specs.Sealing.{KeepsHeld, sealing_indexed}
+use Rattle.store_core.specs.declared.stop.Stop.{Stop}
+use Rattle.store_core.specs.Core.{Row, SealRow, CommitRow, Effect, Rests, SealsOne, PutsOne, Makes, KeepsTables, KeepsUnlessBroken, StopsAfter, Steps, StepsOr, next_id}
+use Rattle.store_core.specs.Runs.{FileEvent, FileStep, FileRun, IsAt, ChangesTo, Reaches, KeepsFiles, IsGivenRight, files_with, files_by, files_after_steps}
+use Rattle.store_core.specs.State.{CoreState}
+use Rattle.store_core.proofs.OwnParts.{all_part, all_own, own_begin, own_claim, own_abort, own_open, own_read, own_drop, own_set, own_stat, own_refused}
+use Rattle.store_core.proofs.Stepping.{ChangesOne, row_one}
+
+-- where a step leads
+pub record Next (S : List ℕ → Type 0) (s : Store) (files : Files) (old new : CoreState) : Type 0 where
+  pub changes : List StoreChange
+  pub store : Store
+  pub chain : ChangesTo changes s store
+  pub is_at : IsAt S store files new
+  pub copies : (before after : List ℕ) → old.disk.content ≡ Some before → new.disk.content ≡ Some after → KeepsCopies s before store after
+
+one_some : {A : Type 0} (x y : A) → Some x ≡ Some y → x ≡ y
+one_some x y same = cc
+
+-- ---- what a step leads to
+
+module _ (S : List ℕ → Type 0) (store : Store) (files : Files) (new : CoreState) where
+  -- from what the tables are, what each image is, and what the actors are at
+  pub arrive : Represents store new.known new.tables → (places : PlaceMap) → new.known ≡ Some places → IsValidFor new.disk.size store → StandsFor (Stands S store files) new.disk
+      → ((image : List ℕ) → new.disk.content ≡ Some image → AllByRecursion (HoldsPart store.held image) new.parts) → IsAt S store files new
+  arrive represents places known valid stands parts = record {
+    represents = represents;
+    index = places;
+    index_known = known;
+    valid = valid;
+    stands = stands;
+    invariant = λ image told. record {
+      index_is_newest = represents.index_is_newest;
+      pins_are_closed = parts image told;
+      reserve_holds = (stands.each image (new.disk.as_read image told)).holds.reserve;
+    };
+  }
+
+module _ (among : ByteSet) (s : Store) (files : Files) (old new : CoreState) (actor : ℕ) (at : IsAt (IsIn among) s files old) (one : ChangesOne actor old.parts new.parts) where
+  abbrev content : List ℕ
+  content = at.stands.known.0
+
+  abbrev told : old.disk.content ≡ Some content
+  told = at.stands.known.1
+
+  abbrev hold : AllByRecursion (HoldsPart s.held content) old.parts
+  hold = (at.invariant content told).pins_are_closed
+
+  abbrev reserve : RESERVE ≤ free_slots s.held
+  reserve = (at.invariant content told).reserve_holds
+
+  -- all are held, where the actor of the step is
+  pub all_hold : (t : Store) (after : List ℕ) → KeepsCopies s content t after → HoldsPart t.held after (part_of new.parts actor) → AllByRecursion (HoldsPart t.held after) new.parts
+  all_hold t after keeps own =
+      subst (AllByRecursion (HoldsPart t.held after)) (sym one.parts_are)
+      (all_own (HoldsPart t.held after) old.parts actor one.part (parts_kept s t content after keeps old.parts hold)
+      (subst (λ (parts : List Part). HoldsPart t.held after (part_of parts actor)) one.parts_are own))
+
+  same_tables : KeepsTables old new → Represents s new.known new.tables
+  same_tables kept =
+      subst (λ (known : Option PlaceMap). Represents s known new.tables) (sym kept.index_is)
+      (subst (λ (tables : Tables). Represents s old.known tables) (sym kept.tables_are) at.represents)
+
+  -- a step that only reads
+  pub rests : KeepsTables old new → OnlyReads old.disk new.disk → HoldsPart s.held content (part_of new.parts actor) → Next (IsIn among) s files old new
+  rests kept reads own = record {
+    changes = [];
+    store = s;
+    chain = refl;
+    is_at = arrive (IsIn among) s files new (same_tables kept) at.index (kept.index_is ∙ at.index_known)
+        (subst (λ (size : ℕ). IsValidFor size s) (sym reads.later.size_is) at.valid) (stands_reads (Stands (IsIn among) s files) old.disk new.disk at.stands reads)
+        (λ image is. let same : content ≡ image = one_some content image (sym told ∙ sym reads.content_is ∙ is) in
+        subst (λ (bytes : List ℕ). AllByRecursion (HoldsPart s.held bytes) new.parts) same (all_hold s content (λ key level bytes has. has) own));
+    copies = λ before after is_before is_after. let same : before ≡ after = one_some before after (sym is_before ∙ sym reads.content_is ∙ is_after) in
+        subst (λ (bytes : List ℕ). KeepsCopies s before s bytes) same (λ key level bytes has. has);
+  }
+
+  -- a step after which each image is the same store
+  pub still : KeepsTables old new → IsLater old.disk new.disk → StandsFor (Stands (IsIn among) s files) new.disk
+      → ((after : List ℕ) → new.disk.content ≡ Some after → KeepsCopies s content s after × HoldsPart s.held after (part_of new.parts actor)) → Next (IsIn among) s files old new
+  still kept goes stands keeps = record {
+    changes = [];
+    store = s;
+    chain = refl;
+    is_at = arrive (IsIn among) s files new (same_tables kept) at.index (kept.index_is ∙ at.index_known) (subst (λ (size : ℕ). IsValidFor size s) (sym goes.size_is) at.valid) stands
+        (λ image is. let kept_here = keeps image is in all_hold s image kept_here.0 kept_here.1);
+    copies = λ before after is_before is_after. let same : content ≡ before = one_some content before (sym told ∙ is_before) in
+        subst (λ (bytes : List ℕ). KeepsCopies s bytes s after) same (keeps after is_after).0;
+  }
+
+  -- a step that makes a change
+  pub makes : (change : StoreChange) (later : Files) → Makes change old new → IsLater old.disk new.disk → StandsFor (Stands (IsIn among) (changed change s) later) new.disk
+      → ((after : List ℕ) → new.disk.content ≡ Some after → KeepsCopies s content (changed change s) after × HoldsPart (changed change s).held after (part_of new.parts actor))
+      → Next (IsIn among) s later old new
+  makes change later made goes stands keeps =
+      let known = made.tells at.index at.index_known in
+      record {
+        changes = change ∷ [];
+        store = changed change s;
+        chain = (made.can.store_has s at.represents at.valid reserve, refl);
+        is_at = arrive (IsIn among) (changed change s) later new (made.represents.store_has s at.represents at.valid reserve) known.0 known.1 (made.valid.store_has s at.represents at.valid reserve) stands
+            (λ image is. let kept = keeps image is in all_hold (changed change s) image kept.0 kept.1);
+        copies = λ before after is_before is_after. let same : content ≡ before = one_some content before (sym told ∙ is_before) in
+            subst (λ (bytes : List ℕ). KeepsCopies s bytes (changed change s) after) same (keeps after is_after).0;
+      }
+
+-- ---- refusals that are no failed writes
+
+module _ (old new : CoreState) (stays : new.stop ≡ None) where
+  pub only_reads : (step : StepValue) (refusal : Refusal) → StopsAfter step (Err refusal) old.acknowledged new.stop → Ends OnlyReads (ending_of (blames refusal)) old.disk new.disk → OnlyReads old.disk new.disk
+  only_reads step refusals.DiskWrite stops ends = absurd (let both = sym stays ∙ stops in cc)
+  only_reads step refusals.DiskRead stops ends = ends
+  only_reads step refusal stops ends = ends
+
+-- ---- segments that may be sealed
+
+may_seal : (S : List ℕ → Type 0) (k : Kind) (s : Segment) → IsStepSegment (record { kind = k; segment = s }) → IsAmong S k s.bytes → MaySeal S k s
+may_seal S kind.Leaf s right among = record { of_kind = tt; among = among }
+may_seal S kind.Tree s right among = record { of_kind = record { node = _; right = right.bytes.node; level_is = sym right.level; spelled = right.bytes.spelled }; among = tt }
+
+pub may_seal_all : (S : List ℕ → Type 0) (k : Kind) (segments : List Segment) → AreStepSegments k segments → AllByRecursion (λ s. IsAmong S k s.bytes) segments
+    → AllByRecursion (MaySeal S k) segments
+may_seal_all S k [] right among = tt
+may_seal_all S k (s ∷ ss) right among = (may_seal S k s right.0 among.0, may_seal_all S k ss right.1 among.1)
+
+nothing_stands : (v : DiskView) → StandsFor (λ _. ⊥) v → ⊥
+nothing_stands v stands = stands.each stands.known.0 (v.as_read stands.known.0 stands.known.1)
+
+-- ---- each step
+
+module _ (among : ByteSet) (s : Store) (files : Files) (old new : CoreState) (actor : ℕ) (buf bytes : List ℕ) (distinct : HasNoCollisions (IsIn among)) (at : IsAt (IsIn among) s files old) (stays : new.stop ≡ None) where
+  abbrev image : List ℕ
+  image = at.stands.known.0
+
+  abbrev here : old.disk.content ≡ Some image
+  here = at.stands.known.1
+
+  abbrev stands_here : Stands (IsIn among) s files image
+  stands_here = at.stands.each image (old.disk.as_read image here)
+
+  abbrev holds : AllByRecursion (HoldsPart s.held image) old.parts
+  holds = (at.invariant image here).pins_are_closed
+
+  abbrev Own : Type 0
+  Own = HoldsPart s.held image (part_of new.parts actor)
+
+  abbrev newest_index : IsIndexOf s.held at.index
+  newest_index = at.represents.index_is_newest at.index at.index_known
+
+  abbrev Goes : StepValue → Result Answer Refusal → Type 0
+  Goes step answer = Row step actor answer buf old new → Effect step answer old new → StopsAfter step answer old.acknowledged new.stop
+      → IsStep step → IsGivenRight (IsIn among) step answer bytes old → Next (IsIn among) s (files_with step answer bytes files) old new
+
+  rests_by : (step : StepValue) (answer : Result Answer Refusal) → Row step actor answer buf old new → Rests answer old new → Own → Next (IsIn among) s files old new
+  rests_by step answer row effect own = rests among s files old new actor at (row_one actor buf old new step answer row) effect.tables effect.disk.only own
+
+  begin_next : (answer : Result Answer Refusal) → Goes asked.Begin answer
+  begin_next answer row effect stops right given =
+      rests_by asked.Begin answer row effect (own_begin among s files image at.index actor buf old new here at.index_known newest_index at.represents.names_are.names_are stands_here distinct holds answer row)
+
+  claim_next : (seg : KindSegment) (answer : Result Answer Refusal) → Goes (asked.Claim seg) answer
+  claim_next seg answer row effect stops right given =
+      rests_by (asked.Claim seg) answer row effect
+      (own_claim among s files image at.index actor buf old new here at.index_known newest_index at.represents.names_are.names_are stands_here distinct holds seg answer given row)
+
+  abort_next : (answer : Result Answer Refusal) → Goes asked.Abort answer
+  abort_next answer row effect stops right given =
+      rests_by asked.Abort answer row effect (own_abort among s files image at.index actor buf old new here at.index_known newest_index at.represents.names_are.names_are stands_here distinct holds answer row)
+
+  open_next : (name : List ℕ) (answer : Result Answer Refusal) → Goes (asked.OpenRead name) answer
+  open_next name answer row effect stops right given =
+      rests_by (asked.OpenRead name) answer row effect
+      (own_open among s files image at.index actor buf old new here at.index_known newest_index at.represents.names_are.names_are stands_here distinct holds name answer row)
+
+  read_next : (answer : Result Answer Refusal) → Goes asked.ReadNext answer
+  read_next answer row effect stops right given =
+      rests_by asked.ReadNext answer row effect (own_read among s files image at.index actor buf old new here at.index_known newest_index at.represents.names_are.names_are stands_here distinct holds answer row)
+
+  drop_next : (answer : Result Answer Refusal) → Goes asked.EndRead answer
+  drop_next answer row effect stops right given =
+      rests_by asked.EndRead answer row effect (own_drop among s files image at.index actor buf old new here at.index_known newest_index at.represents.names_are.names_are stands_here distinct holds answer row)
+
+  stat_next : (answer : Result Answer Refusal) → Goes asked.Stat answer
+  stat_next answer row effect stops right given =
+      rests_by asked.Stat answer row effect (own_stat among s files image at.index actor buf old new here at.index_known newest_index at.represents.names_are.names_are stands_here distinct holds answer row)
+
+  own_still : new.parts ≡ old.parts → Own
+  own_still = own_refused among s files image at.index actor buf old new here at.index_known newest_index at.represents.names_are.names_are stands_here distinct holds
+
+  -- a container
+  seal_moves : (filled : Contents) (answer : Result Answer Refusal) → SealsOne filled answer old new → IsStep (asked.Seal filled) → IsGivenRight (IsIn among) (asked.Seal filled) answer bytes old
+      → Moved (sealing_indexed (IsIn among) (next_id old) filled s files) (ending blames answer) old.disk new.disk
+  seal_moves filled answer effect right given = effect.moves among s files at.represents distinct (may_seal_all (IsIn among) filled.kind filled.segments right.1 given) at.stands
+
+  seal_holds : (filled : Contents) (answer : Result Answer Refusal) (after : List ℕ) → new.disk.content ≡ Some after → SealsOne filled answer old new → IsStep (asked.Seal filled) → IsGivenRight (IsIn among) (asked.Seal filled) answer bytes old
+      → KeepsHeld (ending blames answer) (next_id old) filled s image after
+  seal_holds filled answer after is effect right given = effect.holds among s files image after at.represents here is stands_here distinct (may_seal_all (IsIn among) filled.kind filled.segments right.1 given)
+
+  -- a refusal that is no failed write
+  stands_still : OnlyReads old.disk new.disk ⊎ StandsFor (Stands (IsIn among) s files) new.disk → StandsFor (Stands (IsIn among) s files) new.disk
+  stands_still (inl reads) = stands_reads (Stands (IsIn among) s files) old.disk new.disk at.stands reads
+  stands_still (inr stands) = stands
+
+  seal_stands : (filled : Contents) (refusal : Refusal) → StopsAfter (asked.Seal filled) (Err refusal) old.acknowledged new.stop
+      → Arrives (sealing_indexed (IsIn among) (next_id old) filled s files) (ending_of (blames refusal)) old.disk new.disk → StandsFor (Stands (IsIn among) s files) new.disk
+  seal_stands filled refusals.DiskWrite stops arrives = absurd (let both = sym stays ∙ stops in cc)
+  seal_stands filled refusals.DiskRead stops arrives = stands_still arrives
+  seal_stands filled refusal stops arrives = stands_still arrives
+
+  seal_kept : (filled : Contents) (refusal : Refusal) → StopsAfter (asked.Seal filled) (Err refusal) old.acknowledged new.stop → KeepsUnlessBroken refusal old new → KeepsTables old new
+  seal_kept filled refusals.DiskWrite stops kept = absurd (let both = sym stays ∙ stops in cc)
+  seal_kept filled (refusals.Damaged at_byte why) stops kept = absurd (let both = sym stays ∙ stops in cc)
+  seal_kept filled refusal stops kept = kept
+
+  seal_copies : (filled : Contents) (refusal : Refusal) (after : List ℕ) → StopsAfter (asked.Seal filled) (Err refusal) old.acknowledged new.stop → KeepsHeld (ending_of (blames refusal)) (next_id old) filled s image after → KeepsCopies s image s after
+  seal_copies filled refusals.DiskWrite after stops keeps = absurd (let both = sym stays ∙ stops in cc)
+  seal_copies filled refusals.DiskRead after stops keeps = keeps
+  seal_copies filled refusal after stops keeps = keeps
+
+  seal_next : (filled : Contents) (answer : Result Answer Refusal) → Goes (asked.Seal filled) answer
+  seal_next filled (Ok (answers.Sealed id)) row effect stops right given =
+      let may = may_seal_all (IsIn among) filled.kind filled.segments right.1 given in
+      makes among s files old new actor at (row_one actor buf old new (asked.Seal filled) (Ok (answers.Sealed id)) row) (SealContainer (next_id old) filled.kind filled.segments) files effect.made effect.disk.later
+      (seal_moves filled (Ok (answers.Sealed id)) effect right given).arrives
+      (λ after is. (
+      (seal_holds filled (Ok (answers.Sealed id)) after is effect right given).0,
+      subst (λ (n : ℕ). HoldsPart (with_sealed n filled.kind filled.segments s).held after (part_of new.parts actor)) row.id_is
+      (row.kept among s files image after at.represents here is stands_here distinct may (all_part (HoldsPart s.held image) old.parts actor tt holds))))
+  seal_next filled (Err refusal) row effect stops right given =
+      still among s files old new actor at (row_one actor buf old new (asked.Seal filled) (Err refusal) row) (seal_kept filled refusal stops effect.kept) effect.disk.later
+      (seal_stands filled refusal stops (seal_moves filled (Err refusal) effect right given).arrives)
+      (λ after is. let copies = seal_copies filled refusal after stops (seal_holds filled (Err refusal) after is effect right given) in
+      (copies, part_kept s s image after copies (part_of new.parts actor) (own_still row)))
+  seal_next filled answer row effect stops right given = absurd row
+
+  -- a name
+  commit_next : (name : List ℕ) (root : Root) (answer : Result Answer Refusal) → Goes (asked.Commit name root) answer
+  commit_next name root (Ok (answers.Committed sequence)) row effect stops right given =
+      let tree = given.tree s at.represents in
+      let moved = effect.moves.moves among s files bytes at.represents.names_are given.root_is (record { known = at.stands.known; each = λ c is. (at.stands.each c is, tree.each c is) }) in
+      let copies = effect.copies s at.represents image here stands_here.holds.right in
+      makes among s files old new actor at (row_one actor buf old new (asked.Commit name root) (Ok (answers.Committed sequence)) row) (PutName name root) (with_file files name bytes) effect.made effect.disk.later moved.arrives
+      (λ after is. (
+      subst (KeepsCopies s image (with_put name root s)) (one_some copies.0 after (sym copies.1 ∙ is)) copies.2,
+      subst (λ (parts : List Part). HoldsPart s.held after (part_of parts actor)) (sym row.2) (own_set (HoldsPart s.held after) old.parts actor Idle tt tt)))
+  commit_next name root (Err refusal) row effect stops right given =
+      rests among s files old new actor at (row_one actor buf old new (asked.Commit name root) (Err refusal) row) effect.kept
+      (only_reads old new stays (asked.Commit name root) refusal stops effect.disk.ends) (own_still row.1)
+  commit_next name root answer row effect stops right given = absurd row
+
+  pub step_next : (step : StepValue) (answer : Result Answer Refusal) → Goes step answer
+  step_next asked.Begin answer = begin_next answer
+  step_next (asked.Claim seg) answer = claim_next seg answer
+  step_next (asked.Seal filled) answer = seal_next filled answer
+  step_next (asked.Commit name root) answer = commit_next name root answer
+  step_next asked.Abort answer = abort_next answer
+  step_next (asked.OpenRead name) answer = open_next name answer
+  step_next asked.ReadNext answer = read_next answer
+  step_next asked.EndRead answer = drop_next answer
+  step_next asked.Stat answer = stat_next answer
+
+-- ---- a run
+
+module _ (among : ByteSet) (distinct : HasNoCollisions (IsIn among)) where
+  -- a core that is stopped stays so
+  stopped_on : (stop : Stop) (f : FileEvent) (old new : CoreState) → old.stop ≡ Some stop → StepsOr (Some stop) f.event old new → new.stop ≡ Some stop
+  stopped_on stop f old new is step = step.same.stop_is ∙ is
+
+  by_stop : (stop : Option Stop) (f : FileEvent) (s : Store) (files : Files) (old new : CoreState) → old.stop ≡ stop → StepsOr stop f.event old new → IsStep f.event.step
+      → IsGivenRight (IsIn among) f.event.step f.event.answer f.bytes old → IsAt (IsIn among) s files old → new.stop ≡ None → Next (IsIn among) s (files_by f files) old new
+  by_stop None f s files old new is steps right given at stays = step_next among s files old new f.event.actor f.event.buf f.bytes distinct at stays f.event.step f.event.answer steps.made.row steps.made.effect steps.stops right given
+  by_stop (Some stop) f s files old new is steps right given at stays = absurd (let both = sym stays ∙ stopped_on stop f old new is steps in cc)
+
+  pub file_step : (f : FileEvent) (s : Store) (files : Files) (old new : CoreState) → FileStep (IsIn among) f old new → IsAt (IsIn among) s files old → new.stop ≡ None → Next (IsIn among) s (files_by f files) old new
+  file_step f s files old new step at stays = by_stop old.stop f s files old new refl step.made step.asked step.given at stays
+
+  -- where it isn't stopped afterwards, it wasn't before
+  was_running : (stop : Option Stop) (f : FileEvent) (old new : CoreState) → old.stop ≡ stop → StepsOr stop f.event old new → new.stop ≡ None → old.stop ≡ None
+  was_running None f old new is steps stays = is
+  was_running (Some stop) f old new is steps stays = absurd (let both = sym stays ∙ stopped_on stop f old new is steps in cc)
+
+module _ (C : Type 0) (state : C → CoreState) (among : ByteSet) (distinct : HasNoCollisions (IsIn among)) where
+  pub run_running : (steps : List FileEvent) (old new : C) → FileRun C state (IsIn among) steps old new → (state new).stop ≡ None → (state old).stop ≡ None
+  run_running [] old new run stays = subst (λ (c : C). (state c).stop ≡ None) run stays
+  run_running (f ∷ fs) old new run stays =
+      was_running among distinct (state old).stop f (state old) (state run.0) refl run.1.0.made (run_running fs run.0 new run.1.1 stays)
+
+chain_on : (first rest : List StoreChange) (s mid t : Store) → ChangesTo first s mid → ChangesTo rest mid t → ChangesTo (first ++ rest) s t
+chain_on [] rest s mid t one two = subst (λ (u : Store). ChangesTo rest u t) one two
+chain_on (change ∷ more) rest s mid t one two = (one.0, chain_on more rest (changed change s) mid t one.1 two)
+
+module _ (C : Type 0) (state : C → CoreState) where
+  pub keeps_files : KeepsFiles C state
+  keeps_files among [] s files old new distinct at run stays = record {
+    changes = [];
+    store = s;
+    chain = refl;
+    is_at = subst (λ (c : C). IsAt (IsIn among) s files (state c)) (sym run) at;
+  }
+  keeps_files among (f ∷ fs) s files old new distinct at run stays =
+      let next = file_step among distinct f s files (state old) (state run.0) run.1.0 at (run_running C state among distinct fs run.0 new run.1.1 stays) in
+      let reached = keeps_files among fs next.store (files_by f files) run.0 new distinct next.is_at run.1.1 stays in
+      record {
+        changes = next.changes ++ reached.changes;
+        store = reached.store;
+        chain = chain_on next.changes reached.changes s next.store reached.store next.chain reached.chain;
+        is_at = reached.is_at;
+      }

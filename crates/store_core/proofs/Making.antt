@@ -1,0 +1,41 @@
+-- A step of a core that runs, from what one of its functions did.
+use Rattle.std.proofs.Common.{◌≡◌, ℕ, List, Option, None, Result, Ok, refl, sym, subst}
+use Rattle.dd_disk.proofs.Later.{reads_here}
+use Rattle.actor_parts.specs.declared.step.Answer.{Answer}
+use Rattle.actor_parts.specs.StepValue as asked
+use Rattle.actor_parts.specs.StepValue.{StepValue}
+use Rattle.refusals.specs.declared.refusal.Refusal.{Refusal}
+use Rattle.store_core.specs.declared.stop.Stop.{Stop}
+use Rattle.store_core.specs.Core.{IsCount, Made, Leaves, StopsAfter, StepsOr, CoreStep, counted}
+use Rattle.store_core.specs.State.{CoreState, Event, IsUp, UnlessStopped, IsRunning}
+use Rattle.store_core.proofs.RunningOn.{step_runs}
+
+-- the same step, by another name
+pub made_of : (value other : StepValue) → value ≡ other → (actor : ℕ) (answer : Result Answer Refusal) (buf : List ℕ) (old new : CoreState) → Made other actor answer buf old new → Made value actor answer buf old new
+made_of value other same actor answer buf old new made = subst (λ (s : StepValue). Made s actor answer buf old new) (sym same) made
+
+pub made_stat : (value : StepValue) → value ≡ asked.Stat → (actor : ℕ) (answer : Answer) (buf : List ℕ) (old : CoreState) (stop : Option Stop) (count : ℕ) → IsCount answer old
+    → Made value actor (Ok answer) buf old (record old { stop = stop; acknowledged = count })
+made_stat value same actor answer buf old stop count is = made_of value asked.Stat same actor (Ok answer) buf old (record old { stop = stop; acknowledged = count }) (record {
+  row = (is, refl);
+  effect = record { disk = record { only = reads_here old.disk; faults_are = refl }; tables = record { tables_are = refl; index_is = refl } };
+  served = λ served. served;
+})
+
+-- it is up, where it isn't stopped
+pub up_of : (old : CoreState) → old.stop ≡ None → IsRunning old → IsUp old
+up_of old runs running = subst (λ (o : Option Stop). UnlessStopped o (IsUp old)) runs running
+
+pub core_step : (step : StepValue) (actor : ℕ) (answer : Result Answer Refusal) (buf : List ℕ) (old mid : CoreState) (stop : Option Stop) (count : ℕ) → old.stop ≡ None → Leaves step actor answer buf old mid
+    → StopsAfter step answer old.acknowledged stop → count ≡ counted answer old.acknowledged
+    → CoreStep old (record { actor = actor; step = step; answer = answer; buf = buf }) (record mid { stop = stop; acknowledged = count })
+core_step step actor answer buf old mid stop count runs leaves stops is =
+    let e : Event = record { actor = actor; step = step; answer = answer; buf = buf } in
+    subst (λ (o : Option Stop). StepsOr o e old (record mid { stop = stop; acknowledged = count })) (sym runs) (record { made = leaves stop count; stops = stops; counted_is = is })
+
+-- and it runs on
+pub core_runs : (step : StepValue) (actor : ℕ) (answer : Result Answer Refusal) (buf : List ℕ) (old mid : CoreState) (stop : Option Stop) (count : ℕ) → old.stop ≡ None → Leaves step actor answer buf old mid
+    → StopsAfter step answer old.acknowledged stop → count ≡ counted answer old.acknowledged → IsRunning old → IsRunning (record mid { stop = stop; acknowledged = count })
+core_runs step actor answer buf old mid stop count runs leaves stops is running =
+    step_runs old (record mid { stop = stop; acknowledged = count }) (record { actor = actor; step = step; answer = answer; buf = buf })
+    (core_step step actor answer buf old mid stop count runs leaves stops is) running

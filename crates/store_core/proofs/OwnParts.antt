@@ -1,0 +1,150 @@
+-- What the actor of a step is at afterwards is held.
+use Rattle.std.proofs.Common.{◌≡◌, ◌⊎◌, inl, inr, ℕ, zero, suc, slice_set, slice_index_or, List, [], ◌∷◌, length, Option, Some, None, Result, Ok, Err, refl, sym, ◌∙◌, ap, subst}
+use Rattle.std.specs.FinMap as finite
+use Rattle.std.specs.Ordering.{nat_cmp}
+use Rattle.std.specs.Cmp.Lexicographic.{slice_cmp}
+use Rattle.std.specs.List.{AllByRecursion}
+use Rattle.disk_format.specs.Cells.{Root}
+use Rattle.container_meta.specs.Places.{PlaceMap}
+use Rattle.container_meta.specs.Segments.{KindSegment}
+use Rattle.merkle_file.specs.declared.top.Top.{Top}
+use Rattle.merkle_file.specs.Walk.{segments_in}
+use Rattle.actor_parts.specs.declared.part.Part.{Part}
+use Rattle.actor_parts.specs.declared.part.Part.TheVariants.{Idle, Writing, Reading}
+use Rattle.actor_parts.specs.declared.step.Answer.{Answer}
+use Rattle.actor_parts.specs.declared.step.Answer.TheVariants as answers
+use Rattle.actor_parts.specs.Parts.{part_of, with_part}
+use Rattle.refusals.specs.declared.refusal.Refusal.{Refusal}
+use Rattle.refusals.specs.declared.refusal.Refusal.TheVariants as refusals
+use Rattle.read_steps.specs.Readers as readers
+use Rattle.read_steps.specs.Walking.{IsIndexed, SegmentsAhead}
+use Rattle.store_model.specs.Commands.{HasNoCollisions}
+use Rattle.store_model.specs.Files.{Files}
+use Rattle.store_model.specs.Image.{Store, names_of}
+use Rattle.store_model.specs.Slots.{IsIndexOf}
+use Rattle.store_model.specs.Standing.{ByteSet, IsIn, IsAmong, Stands}
+use Rattle.store_state.specs.Invariant.{HoldsPart, HoldsRest}
+use Rattle.store_core.specs.Core.{BeginRow, ClaimRow, CommitRow, AbortRow, OpenRow, ReadRow, EndRow, StatRow, IsGiven, IsNotGiven}
+use Rattle.store_core.specs.State.{CoreState}
+
+-- ---- a list of parts
+
+module _ (P : Part → Type 0) where
+  pub all_part : (parts : List Part) (actor : ℕ) → P Idle → AllByRecursion P parts → P (part_of parts actor)
+  unfolding part_of
+  all_part [] actor idle all = idle
+  all_part (p ∷ ps) zero idle all = all.0
+  all_part (p ∷ ps) (suc actor) idle all = all_part ps actor idle all.1
+
+  pub own_set : (parts : List Part) (actor : ℕ) (part : Part) → P Idle → P part → P (part_of (with_part parts actor part) actor)
+  unfolding part_of with_part
+  own_set [] actor part idle is = idle
+  own_set (p ∷ ps) zero part idle is = is
+  own_set (p ∷ ps) (suc actor) part idle is = own_set ps actor part idle is
+
+  pub all_own : (parts : List Part) (actor : ℕ) (part : Part) → AllByRecursion P parts → P (part_of (with_part parts actor part) actor) → AllByRecursion P (with_part parts actor part)
+  unfolding part_of with_part
+  all_own [] actor part all is = all
+  all_own (p ∷ ps) zero part all is = (is, all.1)
+  all_own (p ∷ ps) (suc actor) part all is = (all.0, all_own ps actor part all.1 is)
+
+-- ---- a step that changes nothing of the store
+
+module _ (among : ByteSet) (store : Store) (files : Files) (image : List ℕ) (places : PlaceMap) (actor : ℕ) (buf : List ℕ) (old new : CoreState)
+    (told : old.disk.content ≡ Some image) (known : old.known ≡ Some places) (index : IsIndexOf store.held places) (names : old.tables.names ≡ names_of store)
+    (stands : Stands (IsIn among) store files image) (distinct : HasNoCollisions (IsIn among)) (hold : AllByRecursion (HoldsPart store.held image) old.parts) where
+  abbrev Holds : Part → Type 0
+  Holds part = HoldsPart store.held image part
+
+  abbrev Own : Type 0
+  Own = Holds (part_of new.parts actor)
+
+  own_old : Holds (part_of old.parts actor)
+  own_old = all_part Holds old.parts actor tt hold
+
+  own_same : new.parts ≡ old.parts → Own
+  own_same same = subst (λ (parts : List Part). Holds (part_of parts actor)) (sym same) own_old
+
+  own_one : (part : Part) → new.parts ≡ with_part old.parts actor part → Holds part → Own
+  own_one part is holds = subst (λ (parts : List Part). Holds (part_of parts actor)) (sym is) (own_set Holds old.parts actor part tt holds)
+
+  no_pins : Holds (Writing finite.empty)
+  no_pins = λ key pin has. absurd (let none = sym (finite.get-empty (slice_cmp nat_cmp) key) ∙ has in cc)
+
+  pub own_begin : (answer : Result Answer Refusal) → BeginRow actor answer old new → Own
+  own_begin (Ok answers.Begun) row = own_one (Writing finite.empty) row.1 no_pins
+  own_begin (Err refusal) row = own_same row.1
+  own_begin answer row = absurd row
+
+  pub own_claim : (seg : KindSegment) (answer : Result Answer Refusal) → IsAmong (IsIn among) seg.kind seg.segment.bytes → ClaimRow seg actor answer old new → Own
+  own_claim seg (Ok answers.Held) is row = row.kept among store files image places told known index stands distinct is own_old
+  own_claim seg (Ok answers.Absent) is row = own_same row.claimed.parts_are
+  own_claim seg (Err refusal) is row = own_same row.1
+  own_claim seg answer is row = absurd row
+
+  pub own_abort : (answer : Result Answer Refusal) → AbortRow actor answer old new → Own
+  own_abort (Ok answers.Aborted) row = own_one Idle row.1 tt
+  own_abort (Err refusal) row = own_same row.1
+  own_abort answer row = absurd row
+
+  pub own_open : (name : List ℕ) (answer : Result Answer Refusal) → OpenRow name actor answer old new → Own
+  own_open name (Ok (answers.Opened count)) row =
+      let file = row.file store files image names stands.holds in
+      own_one (readers.reading file.root file.ahead) file.parts_are (record { trees = _; ahead = file.file.held_ahead.trees; are_held = file.file.held_ahead.each })
+  own_open name (Err refusal) row = own_same row.1
+  own_open name answer row = absurd row
+
+  -- what is to come of the file that it takes
+  indexed : IsIndexed store.held old.known old.disk.content image
+  indexed = record { told = told; index = places; index_known = known; index_is_newest = index }
+
+  ahead_is : (root : Root) (ahead : List Top) → part_of old.parts actor ≡ readers.reading root ahead → HoldsRest store.held image (record { root = root; cursor = ahead })
+  ahead_is root ahead is = subst Holds is own_old
+
+  some_ahead : (root : Root) (ahead : List Top) (rest : HoldsRest store.held image (record { root = root; cursor = ahead })) → SegmentsAhead store.held image ahead (segments_in rest.trees)
+  some_ahead root ahead rest = record { trees = rest.trees; held_ahead = record { trees = rest.ahead; each = rest.are_held }; segments_are = refl }
+
+  reads_on : (root : Root) (ahead : List Top) (segments : List (List ℕ)) → SegmentsAhead store.held image ahead segments → Holds (readers.reading root ahead)
+  reads_on root ahead segments is = record { trees = is.trees; ahead = is.held_ahead.trees; are_held = is.held_ahead.each }
+
+  own_given : (count : ℕ) → IsGiven (Some count) buf actor old new → Own
+  own_given count row =
+      let before = row.next.goes_on in
+      let rest = ahead_is before.root row.next.was before.part_is in
+      let held = row.held before.root row.next.was store.held image (segments_in rest.trees) before.part_is indexed (some_ahead before.root row.next.was rest) in
+      own_one (readers.reading held.goes_on.root held.rest) held.goes_on.parts_are (reads_on held.goes_on.root held.rest held.given.others held.given.ahead)
+
+  own_end : IsGiven None buf actor old new → Own
+  own_end row =
+      own_one (readers.reading row.next.goes_on.root row.next.rest) row.next.goes_on.parts_are
+      (record { trees = []; ahead = record { tops = row.next.given.1; each = tt }; are_held = tt })
+
+  own_stuck : (refusal : Refusal) → IsNotGiven refusal buf actor old new → Own
+  own_stuck (refusals.WrongPart kind) row = own_same row.cause.same
+  own_stuck refusals.DiskRead row =
+      let before = row.cause.goes_on in
+      let rest = ahead_is before.root row.cause.was before.part_is in
+      let held = row.held before.root row.cause.was store.held image (segments_in rest.trees) before.part_is indexed (some_ahead before.root row.cause.was rest) in
+      own_one (readers.reading held.goes_on.root held.rest) held.goes_on.parts_are (reads_on held.goes_on.root held.rest (segments_in rest.trees) held.given)
+  own_stuck refusal row =
+      let before = row.cause.goes_on in
+      let rest = ahead_is before.root row.cause.was before.part_is in
+      absurd (row.held before.root row.cause.was store.held image (segments_in rest.trees) before.part_is indexed (some_ahead before.root row.cause.was rest)).given
+
+  pub own_read : (answer : Result Answer Refusal) → ReadRow actor answer buf old new → Own
+  own_read (Ok (answers.Bytes count)) row = own_given count row
+  own_read (Ok answers.End) row = own_end row
+  own_read (Err refusal) row = own_stuck refusal row
+  own_read answer row = absurd row
+
+  pub own_drop : (answer : Result Answer Refusal) → EndRow actor answer old new → Own
+  own_drop (Ok answers.Dropped) row = own_one Idle row.parts_are tt
+  own_drop (Err (refusals.WrongPart kind)) row = own_same row.same
+  own_drop answer row = absurd row
+
+  pub own_stat : (answer : Result Answer Refusal) → StatRow answer old new → Own
+  own_stat (Ok answer) row = own_same row.1
+  own_stat (Err refusal) row = absurd row
+
+  pub own_refused : new.parts ≡ old.parts → Own
+  own_refused = own_same

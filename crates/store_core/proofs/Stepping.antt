@@ -1,0 +1,114 @@
+-- What each step does, whichever it is.
+use Rattle.std.proofs.Common.{◌≡◌, ◌⊎◌, inl, inr, ℕ, List, length, Option, Some, None, Result, Ok, Err, refl, sym, ◌∙◌, ap, subst}
+use Rattle.disk_format.specs.Cells.{Root}
+use Rattle.container_meta.specs.Segments.{KindSegment, Contents}
+use Rattle.dd_disk.specs.View.{IsLater}
+use Rattle.actor_parts.specs.declared.part.Part.{Part}
+use Rattle.actor_parts.specs.declared.part.Part.TheVariants.{Idle, Writing, Reading}
+use Rattle.actor_parts.specs.declared.step.Answer.{Answer}
+use Rattle.actor_parts.specs.declared.step.Answer.TheVariants as answers
+use Rattle.actor_parts.specs.Parts.{part_of, with_part}
+use Rattle.actor_parts.specs.StepValue as asked
+use Rattle.actor_parts.specs.StepValue.{StepValue}
+use Rattle.actor_parts.proofs.Apart.{apart}
+use Rattle.refusals.specs.declared.refusal.Refusal.{Refusal}
+use Rattle.refusals.specs.declared.refusal.Refusal.TheVariants as refusals
+use Rattle.read_steps.specs.Readers as readers
+use Rattle.store_core.specs.Core.{Row, BeginRow, ClaimRow, SealRow, CommitRow, AbortRow, OpenRow, ReadRow, EndRow, StatRow, Effect, StepsOr}
+use Rattle.store_core.specs.declared.stop.Stop.{Stop}
+use Rattle.store_core.specs.State.{CoreState, Event}
+
+-- ---- parts
+
+-- at most one actor's part is another
+pub record ChangesOne (actor : ℕ) (old new : List Part) : Type 0 where
+  pub part : Part
+  pub parts_are : new ≡ with_part old actor part
+
+same_one : (actor : ℕ) (old new : List Part) → new ≡ old → ChangesOne actor old new
+same_one actor old new same = record { part = part_of old actor; parts_are = same ∙ sym (apart.unchanged old actor) }
+
+one : (actor : ℕ) (old new : List Part) (part : Part) → new ≡ with_part old actor part → ChangesOne actor old new
+one actor old new part is = record { part = part; parts_are = is }
+
+module _ (actor : ℕ) (buf : List ℕ) (old new : CoreState) where
+  begin_one : (answer : Result Answer Refusal) → BeginRow actor answer old new → ChangesOne actor old.parts new.parts
+  begin_one (Ok answers.Begun) row = one actor old.parts new.parts _ row.1
+  begin_one (Err refusal) row = same_one actor old.parts new.parts row.1
+  begin_one answer row = absurd row
+
+  claim_one : (seg : KindSegment) (answer : Result Answer Refusal) → ClaimRow seg actor answer old new → ChangesOne actor old.parts new.parts
+  claim_one seg (Ok answers.Held) row = one actor old.parts new.parts _ row.claimed.parts_are
+  claim_one seg (Ok answers.Absent) row = same_one actor old.parts new.parts row.claimed.parts_are
+  claim_one seg (Err refusal) row = same_one actor old.parts new.parts row.1
+  claim_one seg answer row = absurd row
+
+  seal_one : (filled : Contents) (answer : Result Answer Refusal) → SealRow filled actor answer old new → ChangesOne actor old.parts new.parts
+  seal_one filled (Ok (answers.Sealed id)) row = one actor old.parts new.parts _ row.parts_are
+  seal_one filled (Err refusal) row = same_one actor old.parts new.parts row
+  seal_one filled answer row = absurd row
+
+  commit_one : (name : List ℕ) (root : Root) (answer : Result Answer Refusal) → CommitRow name root actor answer old new → ChangesOne actor old.parts new.parts
+  commit_one name root (Ok (answers.Committed sequence)) row = one actor old.parts new.parts _ row.2
+  commit_one name root (Err refusal) row = same_one actor old.parts new.parts row.1
+  commit_one name root answer row = absurd row
+
+  abort_one : (answer : Result Answer Refusal) → AbortRow actor answer old new → ChangesOne actor old.parts new.parts
+  abort_one (Ok answers.Aborted) row = one actor old.parts new.parts _ row.1
+  abort_one (Err refusal) row = same_one actor old.parts new.parts row.1
+  abort_one answer row = absurd row
+
+  open_one : (name : List ℕ) (answer : Result Answer Refusal) → OpenRow name actor answer old new → ChangesOne actor old.parts new.parts
+  open_one name (Ok (answers.Opened count)) row = one actor old.parts new.parts _ row.opens.parts_are
+  open_one name (Err refusal) row = same_one actor old.parts new.parts row.1
+  open_one name answer row = absurd row
+
+  stuck_one : (refusal : Refusal) → readers.IsReadRefusal old.known old.breaks old.disk new.disk actor old.parts new.parts refusal → ChangesOne actor old.parts new.parts
+  stuck_one (refusals.WrongPart kind) cause = same_one actor old.parts new.parts cause.same
+  stuck_one refusal cause = one actor old.parts new.parts _ cause.goes_on.parts_are
+
+  read_one : (answer : Result Answer Refusal) → ReadRow actor answer buf old new → ChangesOne actor old.parts new.parts
+  read_one (Ok (answers.Bytes count)) row = one actor old.parts new.parts _ row.next.goes_on.parts_are
+  read_one (Ok answers.End) row = one actor old.parts new.parts _ row.next.goes_on.parts_are
+  read_one (Err refusal) row = stuck_one refusal row.cause
+  read_one answer row = absurd row
+
+  end_one : (answer : Result Answer Refusal) → EndRow actor answer old new → ChangesOne actor old.parts new.parts
+  end_one (Ok answers.Dropped) row = one actor old.parts new.parts _ row.parts_are
+  end_one (Err (refusals.WrongPart kind)) row = same_one actor old.parts new.parts row.same
+  end_one answer row = absurd row
+
+  stat_one : (answer : Result Answer Refusal) → StatRow answer old new → ChangesOne actor old.parts new.parts
+  stat_one (Ok answer) row = same_one actor old.parts new.parts row.1
+  stat_one (Err refusal) row = absurd row
+
+  pub row_one : (step : StepValue) (answer : Result Answer Refusal) → Row step actor answer buf old new → ChangesOne actor old.parts new.parts
+  row_one asked.Begin answer row = begin_one answer row
+  row_one (asked.Claim seg) answer row = claim_one seg answer row
+  row_one (asked.Seal filled) answer row = seal_one filled answer row
+  row_one (asked.Commit name root) answer row = commit_one name root answer row
+  row_one asked.Abort answer row = abort_one answer row
+  row_one (asked.OpenRead name) answer row = open_one name answer row
+  row_one asked.ReadNext answer row = read_one answer row
+  row_one asked.EndRead answer row = end_one answer row
+  row_one asked.Stat answer row = stat_one answer row
+
+-- ---- the disk
+
+module _ (old new : CoreState) where
+  -- it is the same disk, later
+  pub effect_later : (step : StepValue) (answer : Result Answer Refusal) → Effect step answer old new → IsLater old.disk new.disk
+  effect_later asked.Begin answer effect = effect.disk.only.later
+  effect_later (asked.Claim seg) answer effect = effect.disk.only.later
+  effect_later (asked.Seal filled) answer effect = effect.disk.later
+  effect_later (asked.Commit name root) answer effect = effect.disk.later
+  effect_later asked.Abort answer effect = effect.disk.only.later
+  effect_later (asked.OpenRead name) answer effect = effect.disk.only.later
+  effect_later asked.ReadNext answer effect = effect.disk.only.later
+  effect_later asked.EndRead answer effect = effect.disk.only.later
+  effect_later asked.Stat answer effect = effect.disk.only.later
+
+module _ (old new : CoreState) (e : Event) where
+  pub step_later : (stop : Option Stop) → StepsOr stop e old new → IsLater old.disk new.disk
+  step_later None steps = effect_later old new e.step e.answer steps.made.effect
+  step_later (Some stop) steps = steps.same.disk.only.later

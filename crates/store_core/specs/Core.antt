@@ -1,0 +1,297 @@
+-- What each step makes of the core of a store, what it answers, and why it is refused (docs/MODEL.md, 'The core').
+use Rattle.std.specs.Prelude.{◌≡◌, ◌≢◌, ◌⊎◌, ℕ, suc, ◌+◌, ◌-◌, ◌<◌, ◌≤◌, List, [], ◌∷◌, Option, Some, None, Result, Ok, Err, IfOk, IfErr, OnOk, OnErr}
+use Rattle.std.specs.FinMap as finite
+use Rattle.std.specs.List.{AllByRecursion}
+use Rattle.base_model.specs.Known.{Known, KnownWith}
+use Rattle.disk_format.specs.Cells.{Root}
+use Rattle.disk_format.specs.declared.numbers.TheConstants.{RESERVE, LAST_ID}
+use Rattle.dd_disk.specs.View.{DiskView, IsDurable}
+use Rattle.dd_disk.specs.Ending.{Ending, Done, Refused, Unread, Broken, Reads, ending}
+use Rattle.dd_disk.specs.Moves.{Moves, Acts}
+use Rattle.dd_disk.specs.Shows.{Shows}
+use Rattle.disk_format.specs.declared.why.Why.{Why}
+use Rattle.container_meta.specs.declared.kind.Kind.{Kind}
+use Rattle.container_meta.specs.Places.{PlaceMap}
+use Rattle.container_meta.specs.Spelling.{HeaderValue}
+use Rattle.container_meta.specs.Segments.{Segment, KindSegment, Contents, segment_key}
+use Rattle.merkle_file.specs.declared.top.Top.{Top}
+use Rattle.actor_parts.specs.declared.part.Part.{Part}
+use Rattle.actor_parts.specs.declared.part.Part.TheVariants.{Idle, Writing, Reading}
+use Rattle.actor_parts.specs.declared.step.Answer.{Answer}
+use Rattle.actor_parts.specs.declared.step.Answer.TheVariants as answers
+use Rattle.actor_parts.specs.Kinds.{kind_of}
+use Rattle.actor_parts.specs.Parts.{part_of, with_part}
+use Rattle.actor_parts.specs.PinMap.{PinMap}
+use Rattle.actor_parts.specs.Segments.{pin_of, first_unpinned}
+use Rattle.actor_parts.specs.StepValue as asked
+use Rattle.actor_parts.specs.StepValue.{StepValue}
+use Rattle.refusals.specs.declared.refusal.PartKind.{PartKind}
+use Rattle.refusals.specs.declared.refusal.PartKind.TheVariants as kinds
+use Rattle.refusals.specs.declared.refusal.Refusal.{Refusal}
+use Rattle.refusals.specs.declared.refusal.Refusal.TheVariants as refusals
+use Rattle.segment_index.specs.Places.{KnownMap}
+use Rattle.store_model.specs.Commands.{HasNoCollisions}
+use Rattle.store_model.specs.Files.{Files}
+use Rattle.store_model.specs.Image.{Store, Encodes, IsValidFor, names_of}
+use Rattle.store_model.specs.Slots.{Copy, IsIndexOf, newest}
+use Rattle.store_model.specs.Standing.{ByteSet, IsIn, IsAmong, IsStoreOf, Stands}
+use Rattle.store_model.specs.Steps.{StoreChange, SealContainer, PutName, CanChange, MaySeal, FitsCopy, KeepsCopies, changed, with_sealed}
+use Rattle.store_model.specs.Trees.{HasNewest}
+use Rattle.store_state.specs.Invariant.{HoldsPart}
+use Rattle.store_state.specs.Refused.{blames}
+use Rattle.store_state.specs.Settled as settled
+use Rattle.store_state.specs.Tables.{Represents, Runs, OfEach}
+use Rattle.ingest_steps.specs.Naming.{PutsRoot}
+use Rattle.ingest_steps.specs.declared.claiming.Claimed.{Claimed}
+use Rattle.ingest_steps.specs.declared.claiming.Claimed.TheVariants.{Held, Absent}
+use Rattle.ingest_steps.specs.Claiming.{IsClaimed, IsClaimRefusal, IsOtherCopy, KeepsPart}
+use Rattle.ingest_steps.specs.Pinning.{MayKeep, with_pins}
+use Rattle.ingest_steps.specs.Sealing.{KeepsHeld, sealing_indexed}
+use Rattle.ingest_steps.specs.Writers.{MayCommit, IsWrongPart, IsCommitRefusal}
+use Rattle.read_steps.specs.Counting.{counts_of}
+use Rattle.read_steps.specs.Readers as readers
+use Rattle.read_steps.specs.Walking.{IsIndexed, SegmentsAhead}
+use Rattle.store_core.specs.declared.stop.Stop.{Stop}
+use Rattle.store_core.specs.State.{CoreState, IsSame, Event, one_more}
+
+-- ---- what becomes of the actor's part
+
+-- the actor is at this, and no part of another is changed
+abbrev pub Gets : Part → ℕ → CoreState → CoreState → Type 0
+Gets part actor old new = new.parts ≡ with_part old.parts actor part
+
+-- the actor was at something of this kind, and is at this
+abbrev pub Turns : PartKind → Part → ℕ → CoreState → CoreState → Type 0
+Turns kind part actor old new = (kind_of (part_of old.parts actor) ≡ kind) × Gets part actor old new
+
+-- it was at something else than the step takes, and all are at what they were
+abbrev pub IsAtOther : PartKind → ℕ → Refusal → CoreState → CoreState → Type 0
+IsAtOther taken actor refusal old new = IsWrongPart taken (part_of old.parts actor) refusal × (new.parts ≡ old.parts)
+
+-- ---- a segment that is claimed
+
+-- it is held or not, and what the actor keeps is right
+pub record Claims (claim : Claimed) (seg : KindSegment) (actor : ℕ) (old new : CoreState) : Type 0 where
+  pub claimed : IsClaimed old.disk.size old.known old.parts actor seg (Shows old.disk new.disk) new.parts claim
+  pub kept : KeepsPart old.disk.content old.known old.parts actor seg new.parts
+
+-- an index whose map isn't known has bytes that break its form so
+abbrev pub IsDamage : CoreState → CoreState → ℕ → Why → Type 0
+IsDamage old new at why = (old.known ≡ None) × Shows old.disk new.disk (old.breaks at why)
+
+abbrev pub IsUnclaimed : KindSegment → ℕ → Refusal → CoreState → CoreState → Type 0
+IsUnclaimed seg actor refusal old new =
+    IsClaimRefusal (part_of old.parts actor) seg (IsDamage old new) (IsOtherCopy old.disk.size old.known seg (Shows old.disk new.disk)) refusal
+
+-- ---- a container that is stored
+
+abbrev pub next_id : CoreState → ℕ
+next_id c = c.tables.held.last_id + 1
+
+-- What the actor keeps is right still, where a content stands for files; S has no collisions.
+abbrev pub SealKeepsPins : Contents → ℕ → ℕ → CoreState → CoreState → Type 0
+SealKeepsPins filled id actor old new =
+    (among : ByteSet) (store : Store) (files : Files) (given held : List ℕ) → Represents store old.known old.tables
+    → old.disk.content ≡ Some given → new.disk.content ≡ Some held → Stands (IsIn among) store files given
+    → HasNoCollisions (IsIn among) → AllByRecursion (MaySeal (IsIn among) filled.kind) filled.segments
+    → HoldsPart store.held given (part_of old.parts actor)
+    → HoldsPart (with_sealed id filled.kind filled.segments store).held held (part_of new.parts actor)
+
+-- the container stands, and its segments are pinned from now on
+pub record IsSealed (filled : Contents) (id actor : ℕ) (old new : CoreState) : Type 0 where
+  pub may : MayKeep (part_of old.parts actor) filled
+  pub id_is : id ≡ next_id old
+  pub parts_are : Gets (Writing (with_pins filled.kind filled.segments may.pins)) actor old new
+  pub kept : SealKeepsPins filled id actor old new
+
+-- ---- a file that is given back
+
+-- The actor is given the file of a name, which a store that stands for files has to come.
+pub record IsOpened (name : List ℕ) (count actor : ℕ) (old new : CoreState) : Type 0 where
+  pub opens : readers.Opens old.tables.names name actor old.parts new.parts count
+  pub file : (store : Store) (files : Files) (image : List ℕ) → old.tables.names ≡ names_of store → IsStoreOf store files image
+      → readers.OpensFile store files image name actor old.parts new.parts
+
+-- what is answered where segments of held trees are to come
+abbrev pub GivesHeld : Result (Option ℕ) Refusal → List ℕ → ℕ → CoreState → CoreState → Type 0
+GivesHeld answer buf actor old new =
+    (root : Root) (ahead : List Top) (held : List (Option HeaderValue)) (image : List ℕ) (segments : List (List ℕ))
+    → part_of old.parts actor ≡ readers.reading root ahead → IsIndexed held old.known old.disk.content image
+    → SegmentsAhead held image ahead segments → readers.GivesHeld held image actor old.parts new.parts ahead segments buf answer
+
+-- The next segment of the file, or its end: on any disk as reads showed, and of a tree that is held.
+pub record IsGiven (answer : Option ℕ) (buf : List ℕ) (actor : ℕ) (old new : CoreState) : Type 0 where
+  pub next : readers.GivesNext old.known old.disk new.disk actor old.parts new.parts buf answer
+  pub held : GivesHeld (Ok answer) buf actor old new
+
+-- The file goes on where it was.
+pub record IsNotGiven (refusal : Refusal) (buf : List ℕ) (actor : ℕ) (old new : CoreState) : Type 0 where
+  pub cause : readers.IsReadRefusal old.known old.breaks old.disk new.disk actor old.parts new.parts refusal
+  pub held : GivesHeld (Err refusal) buf actor old new
+
+-- ---- what is counted
+
+-- what each store has that the tables represent
+abbrev pub IsCount : Answer → CoreState → Type 0
+IsCount answer c = OfEach c.disk.size c.known c.tables (λ store. answer ≡ counts_of store)
+
+-- ---- what is answered, step by step; no step answers anything else
+
+abbrev pub BeginRow : ℕ → Result Answer Refusal → CoreState → CoreState → Type 0
+BeginRow actor (Ok answers.Begun) old new = Turns kinds.Idle (Writing finite.empty) actor old new
+BeginRow actor (Err refusal) old new = IsAtOther kinds.Idle actor refusal old new
+BeginRow actor answer old new = ⊥
+
+abbrev pub ClaimRow : KindSegment → ℕ → Result Answer Refusal → CoreState → CoreState → Type 0
+ClaimRow seg actor (Ok answers.Held) old new = Claims Held seg actor old new
+ClaimRow seg actor (Ok answers.Absent) old new = Claims Absent seg actor old new
+ClaimRow seg actor (Err refusal) old new = IsUnclaimed seg actor refusal old new × (new.parts ≡ old.parts)
+ClaimRow seg actor answer old new = ⊥
+
+abbrev pub SealRow : Contents → ℕ → Result Answer Refusal → CoreState → CoreState → Type 0
+SealRow filled actor (Ok (answers.Sealed id)) old new = IsSealed filled id actor old new
+SealRow filled actor (Err refusal) old new = new.parts ≡ old.parts
+SealRow filled actor answer old new = ⊥
+
+abbrev pub CommitRow : List ℕ → Root → ℕ → Result Answer Refusal → CoreState → CoreState → Type 0
+CommitRow name root actor (Ok (answers.Committed sequence)) old new =
+    MayCommit (part_of old.parts actor) old.tables name root × (sequence ≡ suc old.tables.journal.last) × Gets Idle actor old new
+CommitRow name root actor (Err refusal) old new =
+    IsCommitRefusal (part_of old.parts actor) old.tables name root refusal × (new.parts ≡ old.parts)
+CommitRow name root actor answer old new = ⊥
+
+abbrev pub AbortRow : ℕ → Result Answer Refusal → CoreState → CoreState → Type 0
+AbortRow actor (Ok answers.Aborted) old new = Turns kinds.Writing Idle actor old new
+AbortRow actor (Err refusal) old new = IsAtOther kinds.Writing actor refusal old new
+AbortRow actor answer old new = ⊥
+
+abbrev pub OpenRow : List ℕ → ℕ → Result Answer Refusal → CoreState → CoreState → Type 0
+OpenRow name actor (Ok (answers.Opened count)) old new = IsOpened name count actor old new
+OpenRow name actor (Err refusal) old new =
+    readers.IsOpenRefusal old.tables.names name (part_of old.parts actor) refusal × (new.parts ≡ old.parts)
+OpenRow name actor answer old new = ⊥
+
+abbrev pub ReadRow : ℕ → Result Answer Refusal → List ℕ → CoreState → CoreState → Type 0
+ReadRow actor (Ok (answers.Bytes count)) buf old new = IsGiven (Some count) buf actor old new
+ReadRow actor (Ok answers.End) buf old new = IsGiven None buf actor old new
+ReadRow actor (Err refusal) buf old new = IsNotGiven refusal buf actor old new
+ReadRow actor answer buf old new = ⊥
+
+abbrev pub EndRow : ℕ → Result Answer Refusal → CoreState → CoreState → Type 0
+EndRow actor (Ok answers.Dropped) old new = readers.GivesUp actor old.parts new.parts
+EndRow actor (Err refusal) old new = readers.IsEndRefusal actor old.parts new.parts refusal
+EndRow actor answer old new = ⊥
+
+abbrev pub StatRow : Result Answer Refusal → CoreState → CoreState → Type 0
+StatRow (Ok answer) old new = IsCount answer old × (new.parts ≡ old.parts)
+StatRow (Err refusal) old new = ⊥
+
+abbrev pub Row : StepValue → ℕ → Result Answer Refusal → List ℕ → CoreState → CoreState → Type 0
+Row asked.Begin actor answer buf old new = BeginRow actor answer old new
+Row (asked.Claim seg) actor answer buf old new = ClaimRow seg actor answer old new
+Row (asked.Seal filled) actor answer buf old new = SealRow filled actor answer old new
+Row (asked.Commit name root) actor answer buf old new = CommitRow name root actor answer old new
+Row asked.Abort actor answer buf old new = AbortRow actor answer old new
+Row (asked.OpenRead name) actor answer buf old new = OpenRow name actor answer old new
+Row asked.ReadNext actor answer buf old new = ReadRow actor answer buf old new
+Row asked.EndRead actor answer buf old new = EndRow actor answer old new
+Row asked.Stat actor answer buf old new = StatRow answer old new
+
+-- ---- what becomes of tables, index and disk
+
+-- tables and index are as they were
+pub record KeepsTables (old new : CoreState) : Type 0 where
+  pub tables_are : new.tables ≡ old.tables
+  pub index_is : new.known ≡ old.known
+
+-- but where an index change broke off
+abbrev pub KeepsUnlessBroken : Refusal → CoreState → CoreState → Type 0
+KeepsUnlessBroken refusals.DiskWrite old new = Unit {0}
+KeepsUnlessBroken (refusals.Damaged at why) old new = Unit {0}
+KeepsUnlessBroken refusal old new = KeepsTables old new
+
+-- A change is made: of each store that they were those of, tables and index are those of the changed one.
+pub record Makes (change : StoreChange) (old new : CoreState) : Type 0 where
+  pub can : OfEach old.disk.size old.known old.tables (CanChange change)
+  pub represents : OfEach old.disk.size old.known old.tables (λ store. Represents (changed change store) new.known new.tables)
+  pub valid : OfEach old.disk.size old.known old.tables (λ store. IsValidFor new.disk.size (changed change store))
+  pub tells : KnownMap old.known (λ _. (places : PlaceMap) × (new.known ≡ Some places))
+  pub runs : Runs old.disk.size old.known old.tables → Runs new.disk.size new.known new.tables
+
+-- nothing changes
+pub record Rests (answer : Result Answer Refusal) (old new : CoreState) : Type 0 where
+  pub disk : Reads (ending blames answer) old.disk new.disk
+  pub tables : KeepsTables old new
+
+-- A container is stored, or isn't. After a write that failed only the disk's images are told.
+pub record SealsOne (filled : Contents) (answer : Result Answer Refusal) (old new : CoreState) : Type 0 where
+  pub disk : settled.Steps old.tables.slots (ending blames answer) old.disk new.disk
+  pub moves : (among : ByteSet) (store : Store) (files : Files) → Represents store old.known old.tables → HasNoCollisions (IsIn among)
+      → AllByRecursion (MaySeal (IsIn among) filled.kind) filled.segments
+      → Moves (sealing_indexed (IsIn among) (next_id old) filled store files) (ending blames answer) old.disk new.disk
+  pub holds : (among : ByteSet) (store : Store) (files : Files) (given held : List ℕ) → Represents store old.known old.tables
+      → old.disk.content ≡ Some given → new.disk.content ≡ Some held → Stands (IsIn among) store files given
+      → HasNoCollisions (IsIn among) → AllByRecursion (MaySeal (IsIn among) filled.kind) filled.segments
+      → KeepsHeld (ending blames answer) (next_id old) filled store given held
+  pub made : OnOk answer (Makes (SealContainer (next_id old) filled.kind filled.segments) old new)
+  pub kept : IfErr answer (λ refusal. KeepsUnlessBroken refusal old new)
+
+-- A name is given a root, or isn't.
+pub record PutsOne (name : List ℕ) (root : Root) (answer : Result Answer Refusal) (old new : CoreState) : Type 0 where
+  pub disk : Acts (ending blames answer) old.disk new.disk
+  pub moves : PutsRoot old.tables name root (ending blames answer) old.disk new.disk
+  pub made : OnOk answer (Makes (PutName name root) old new)
+  pub copies : OnOk answer ((store : Store) → Represents store old.known old.tables
+      → Known old.disk.content (λ before. Encodes before store
+      → KnownWith new.disk.content (KeepsCopies store before (changed (PutName name root) store))))
+  pub kept : OnErr answer (KeepsTables old new)
+
+abbrev pub Effect : StepValue → Result Answer Refusal → CoreState → CoreState → Type 0
+Effect (asked.Seal filled) answer old new = SealsOne filled answer old new
+Effect (asked.Commit name root) answer old new = PutsOne name root answer old new
+Effect step answer old new = Rests answer old new
+
+-- ---- what stops the core
+
+-- a write or a sync that failed, or damage that an index change met; then the refusal, and how many puts were acknowledged
+abbrev pub StopsAfter : StepValue → Result Answer Refusal → ℕ → Option Stop → Type 0
+StopsAfter step (Err refusals.DiskWrite) count stop = stop ≡ Some (record { refusal = refusals.DiskWrite; at = count })
+StopsAfter (asked.Seal filled) (Err (refusals.Damaged at why)) count stop =
+    stop ≡ Some (record { refusal = refusals.Damaged at why; at = count })
+StopsAfter step answer count stop = stop ≡ None
+
+-- a put that was acknowledged is counted
+abbrev pub counted : Result Answer Refusal → ℕ → ℕ
+counted (Ok (answers.Committed sequence)) count = one_more count
+counted answer count = count
+
+-- ---- a step
+
+-- what is made of all but what stopped the core, and the count
+pub record Made (step : StepValue) (actor : ℕ) (answer : Result Answer Refusal) (buf : List ℕ) (old new : CoreState) : Type 0 where
+  pub row : Row step actor answer buf old new
+  pub effect : Effect step answer old new
+  pub served : old.served → new.served
+
+-- and whatever these become
+abbrev pub Leaves : StepValue → ℕ → Result Answer Refusal → List ℕ → CoreState → CoreState → Type 0
+Leaves step actor answer buf old new =
+    (stop : Option Stop) (count : ℕ) → Made step actor answer buf old (record new { stop = stop; acknowledged = count })
+
+-- of a core that runs
+pub record Steps (e : Event) (old new : CoreState) : Type 0 where
+  pub made : Made e.step e.actor e.answer e.buf old new
+  pub stops : StopsAfter e.step e.answer old.acknowledged new.stop
+  pub counted_is : new.acknowledged ≡ counted e.answer old.acknowledged
+
+-- and of one that is stopped
+pub record AnswersStopped (at : ℕ) (e : Event) (old new : CoreState) : Type 0 where
+  pub answer_is : e.answer ≡ Err (refusals.Stopped at)
+  pub same : IsSame old new
+
+abbrev pub StepsOr : Option Stop → Event → CoreState → CoreState → Type 0
+StepsOr None e old new = Steps e old new
+StepsOr (Some stop) e old new = AnswersStopped stop.at e old new
+
+abbrev pub CoreStep : CoreState → Event → CoreState → Type 0
+CoreStep old e new = StepsOr old.stop e old new

@@ -1,0 +1,219 @@
+-- Steps of a core one after the other, by any actors (docs/MODEL.md, 'The core').
+use Rattle.std.specs.Prelude.{Bool, true, false, ◌≡◌, ◌⊎◌, ◌-◌, ◌^◌, ◌<◌, ℕ, List, [], ◌∷◌, ◌==◌, length, sum_by, take, Option, None, Some, Result, Ok, Err}
+use Rattle.std.specs.FinMap as finite
+use Rattle.std.specs.List.{AllByRecursion}
+use Rattle.base_model.specs.Known.{Known}
+use Rattle.disk_format.specs.Cells.{Root}
+use Rattle.dd_disk.specs.Moves.{StandsFor}
+use Rattle.container_meta.specs.Places.{PlaceMap}
+use Rattle.merkle_file.specs.declared.top.Top.{Top}
+use Rattle.merkle_file.specs.Walk.{start_of}
+use Rattle.actor_parts.specs.declared.step.Answer.{Answer}
+use Rattle.actor_parts.specs.declared.step.Answer.TheVariants as answers
+use Rattle.actor_parts.specs.Parts.{part_of}
+use Rattle.actor_parts.specs.StepValue as asked
+use Rattle.actor_parts.specs.StepValue.{StepValue, IsStep}
+use Rattle.refusals.specs.declared.refusal.Refusal.{Refusal}
+use Rattle.refusals.specs.declared.refusal.Refusal.TheVariants as refusals
+use Rattle.segmenter.specs.Segments.{segments_of}
+use Rattle.store_model.specs.Commands.{HasNoCollisions}
+use Rattle.store_model.specs.Files.{Files, with_file}
+use Rattle.store_model.specs.Image.{Store, IsValidFor}
+use Rattle.store_model.specs.Standing.{ByteSet, IsIn, IsAmong, Stands}
+use Rattle.store_model.specs.Steps.{StoreChange, CanChange, changed}
+use Rattle.store_model.specs.Trees.{root_of, file_tree, HoldsTree}
+use Rattle.store_state.specs.Invariant.{CoreInvariant}
+use Rattle.store_state.specs.Tables.{Represents}
+use Rattle.read_steps.specs.Readers.{reading}
+use Rattle.read_steps.specs.Opening.{top_of}
+use Rattle.read_steps.specs.Walking.{GivesAll}
+use Rattle.store_core.specs.Core.{CoreStep}
+use Rattle.store_core.specs.State.{CoreState, Event, IsRunning}
+
+-- The first step makes of the core one of which the others make the last one. A core is anything that has a state.
+abbrev pub CoreRun : (C : Type 0) → (C → CoreState) → List Event → C → C → Type 0
+CoreRun C state [] old new = new ≡ old
+CoreRun C state (e ∷ es) old new = (mid : C) × (CoreStep (state old) e (state mid) × CoreRun C state es mid new)
+
+-- ---- it runs on
+
+abbrev pub RunsOn : (C : Type 0) → (C → CoreState) → Type 0
+RunsOn C state = (events : List Event) (old new : C) → CoreRun C state events old new → IsRunning (state old) → IsRunning (state new)
+
+-- ---- files
+
+-- a step, and, of a commit, the bytes whose root was given
+pub record FileEvent : Type 0 where
+  pub event : Event
+  pub bytes : List ℕ
+
+-- the files after a step: a commit that was acknowledged puts one
+abbrev pub files_with : StepValue → Result Answer Refusal → List ℕ → Files → Files
+files_with (asked.Commit name root) (Ok answer) bytes files = with_file files name bytes
+files_with step answer bytes files = files
+
+abbrev pub files_by : FileEvent → Files → Files
+files_by f files = files_with f.event.step f.event.answer f.bytes files
+
+-- and after steps, the first of them first
+abbrev pub files_after_steps : List FileEvent → Files → Files
+files_after_steps [] files = files
+files_after_steps (f ∷ fs) files = files_after_steps fs (files_by f files)
+
+-- a root is that of a file, whose tree each image holds
+pub record IsRootOf (root : Root) (bytes : List ℕ) (old : CoreState) : Type 0 where
+  pub root_is : root ≡ root_of bytes
+  pub tree : (store : Store) → Represents store old.known old.tables → StandsFor (λ c. HoldsTree store.held c (file_tree bytes)) old.disk
+
+-- of a commit that comes to its first write
+abbrev pub IsRightCommit : Result Answer Refusal → Root → List ℕ → CoreState → Type 0
+IsRightCommit (Ok answer) root bytes old = IsRootOf root bytes old
+IsRightCommit (Err refusals.DiskWrite) root bytes old = IsRootOf root bytes old
+IsRightCommit answer root bytes old = Unit {0}
+
+-- What the steps of a run are given: data is among S, and the roots of commits are right.
+abbrev pub IsGivenRight : (List ℕ → Type 0) → StepValue → Result Answer Refusal → List ℕ → CoreState → Type 0
+IsGivenRight S (asked.Claim seg) answer bytes old = IsAmong S seg.kind seg.segment.bytes
+IsGivenRight S (asked.Seal filled) answer bytes old = AllByRecursion (λ s. IsAmong S filled.kind s.bytes) filled.segments
+IsGivenRight S (asked.Commit name root) answer bytes old = IsRightCommit answer root bytes old
+IsGivenRight S step answer bytes old = Unit {0}
+
+pub record FileStep (S : List ℕ → Type 0) (f : FileEvent) (old new : CoreState) : Type 0 where
+  pub asked : IsStep f.event.step
+  pub given : IsGivenRight S f.event.step f.event.answer f.bytes old
+  pub made : CoreStep old f.event new
+
+abbrev pub FileRun : (C : Type 0) → (C → CoreState) → (List ℕ → Type 0) → List FileEvent → C → C → Type 0
+FileRun C state S [] old new = new ≡ old
+FileRun C state S (f ∷ fs) old new = (mid : C) × (FileStep S f (state old) (state mid) × FileRun C state S fs mid new)
+
+-- Tables and index are those of the store, each image is it, of these files, and what holds of a running store does.
+pub record IsAt (S : List ℕ → Type 0) (store : Store) (files : Files) (c : CoreState) : Type 0 where
+  pub represents : Represents store c.known c.tables
+  pub index : PlaceMap
+  pub index_known : c.known ≡ Some index
+  pub valid : IsValidFor c.disk.size store
+  pub stands : StandsFor (Stands S store files) c.disk
+  pub invariant : Known c.disk.content (CoreInvariant c.known store c.parts)
+
+-- one change after the other, each where it can be made
+abbrev pub ChangesTo : List StoreChange → Store → Store → Type 0
+ChangesTo [] s t = t ≡ s
+ChangesTo (change ∷ rest) s t = CanChange change s × ChangesTo rest (changed change s) t
+
+-- it has come to files of which P holds
+pub record Reaches (S : List ℕ → Type 0) (s : Store) (files : Files) (c : CoreState) : Type 0 where
+  pub changes : List StoreChange
+  pub store : Store
+  pub chain : ChangesTo changes s store
+  pub is_at : IsAt S store files c
+
+-- A core that isn't stopped at the end of a run has made exactly the commits that it acknowledged, and its invariant holds.
+abbrev pub KeepsFiles : (C : Type 0) → (C → CoreState) → Type 0
+KeepsFiles C state = (among : ByteSet) (steps : List FileEvent) (s : Store) (files : Files) (old new : C)
+    → HasNoCollisions (IsIn among) → IsAt (IsIn among) s files (state old) → FileRun C state (IsIn among) steps old new
+    → (state new).stop ≡ None → Reaches (IsIn among) s (files_after_steps steps files) (state new)
+
+-- ---- crashes
+
+-- an image is that of a store of these files
+abbrev pub IsOf : (List ℕ → Type 0) → Files → List ℕ → Type 0
+IsOf S files image = (store : Store) × Stands S store files image
+
+-- the files after a step, where a write that failed stands
+abbrev pub files_tried : StepValue → Result Answer Refusal → List ℕ → Files → Files
+files_tried (asked.Commit name root) (Err refusals.DiskWrite) bytes files = with_file files name bytes
+files_tried step answer bytes files = files_with step answer bytes files
+
+-- An image of these files, or of those after some of the steps, the first of them first; and a commit whose write failed may
+-- have put its file.
+abbrev pub IsOnTheWay : (List ℕ → Type 0) → List FileEvent → Files → List ℕ → Type 0
+IsOnTheWay S [] files image = IsOf S files image
+IsOnTheWay S (f ∷ fs) files image =
+    IsOf S files image ⊎ IsOf S (files_tried f.event.step f.event.answer f.bytes files) image ⊎ IsOnTheWay S fs (files_by f files) image
+
+-- Each image since the first step is one on the way.
+abbrev pub SurvivesCrashes : (C : Type 0) → (C → CoreState) → Type 0
+SurvivesCrashes C state = (among : ByteSet) (steps : List FileEvent) (s : Store) (files : Files) (old new : C)
+    → HasNoCollisions (IsIn among) → IsAt (IsIn among) s files (state old) → FileRun C state (IsIn among) steps old new
+    → (state old).disk.clock < 2 ^ 64 - 1 → (image : List ℕ) → (state new).disk.images_since (state old).disk.clock image
+    → IsOnTheWay (IsIn among) steps files image
+
+-- ---- readers
+
+-- the actor makes no other step than to read on
+abbrev pub IsReadNext : StepValue → Type 0
+IsReadNext asked.ReadNext = Unit {0}
+IsReadNext step = ⊥
+
+abbrev pub ReadsAlone : ℕ → List Event → Type 0
+ReadsAlone actor events = AllByRecursion (λ e. e.actor ≡ actor → IsReadNext e.step) events
+
+-- what one read of the actor gives of these segments, and then the others
+abbrev pub GivesOne : Bool → Result Answer Refusal → List ℕ → List (List ℕ) → (List (List ℕ) → Type 0) → Type 0
+GivesOne true (Ok (answers.Bytes count)) buf segments next = (rest : List (List ℕ)) × ((segments ≡ take count buf ∷ rest) × next rest)
+GivesOne true (Ok answers.End) buf segments next = (segments ≡ []) × next segments
+GivesOne true (Err refusals.DiskRead) buf segments next = next segments
+GivesOne true answer buf segments next = ⊥
+GivesOne false answer buf segments next = next segments
+
+-- What the reads of an actor give of these segments: one after the other, and then the end. A read that failed gives nothing,
+-- and the next one goes on where it was.
+abbrev pub GivesInOrder : ℕ → List Event → List (List ℕ) → Type 0
+GivesInOrder actor [] segments = Unit {0}
+GivesInOrder actor (e ∷ es) segments = GivesOne (e.actor == actor) e.answer e.buf segments (GivesInOrder actor es)
+
+abbrev pub events_of : List FileEvent → List Event
+events_of [] = []
+events_of (f ∷ fs) = f.event ∷ events_of fs
+
+abbrev pub opens : ℕ → List ℕ → ℕ → List ℕ → Event
+opens actor name count buf = record { actor = actor; step = asked.OpenRead name; answer = Ok (answers.Opened count); buf = buf }
+
+-- A file that was opened is given as it was then, whatever steps others make: over a disk that tells its content, by a core
+-- that isn't stopped.
+abbrev pub GivesTheFile : (C : Type 0) → (C → CoreState) → Type 0
+GivesTheFile C state = (among : ByteSet) (actor : ℕ) (name bytes : List ℕ) (count : ℕ) (buf : List ℕ) (steps : List FileEvent)
+    (s : Store) (files : Files) (old mid new : C)
+    → HasNoCollisions (IsIn among) → IsAt (IsIn among) s files (state old) → finite.get files name ≡ Some bytes
+    → actor < length (state old).parts → CoreStep (state old) (opens actor name count buf) (state mid)
+    → FileRun C state (IsIn among) steps mid new → ReadsAlone actor (events_of steps) → (state new).stop ≡ None
+    → GivesInOrder actor (events_of steps) (segments_of bytes)
+
+-- ---- on any disk
+
+-- the segments that an actor was given
+abbrev pub given_by : Bool → Result Answer Refusal → List ℕ → List (List ℕ) → List (List ℕ)
+given_by true (Ok (answers.Bytes count)) buf others = take count buf ∷ others
+given_by own answer buf others = others
+
+abbrev pub given_to : ℕ → List Event → List (List ℕ)
+given_to actor [] = []
+given_to actor (e ∷ es) = given_by (e.actor == actor) e.answer e.buf (given_to actor es)
+
+-- What an actor was given of a root is what its tree names, one after the other, from the first on.
+pub record GivesAsNamed (root : Root) (segments : List (List ℕ)) (actor : ℕ) (c : CoreState) : Type 0 where
+  pub rest : List Top
+  pub part_is : part_of c.parts actor ≡ reading root rest
+  pub gives : GivesAll (start_of (top_of root)) segments rest
+
+abbrev pub ends : ℕ → List ℕ → Event
+ends actor buf = record { actor = actor; step = asked.ReadNext; answer = Ok answers.End; buf = buf }
+
+-- So it is of the root that was opened, of the length that was answered; and the end is answered only where what was given has
+-- that length.
+pub record GivesByTree (actor count : ℕ) (events : List Event) (new : CoreState) : Type 0 where
+  pub root : Root
+  pub count_is : count ≡ root.length
+  pub given : GivesAsNamed root (given_to actor events) actor new
+  pub whole : given.rest ≡ [] → sum_by length (given_to actor events) ≡ count
+
+abbrev pub ReadsAreChecked : (C : Type 0) → (C → CoreState) → Type 0
+ReadsAreChecked C state = (actor : ℕ) (name : List ℕ) (count : ℕ) (buf : List ℕ) (events : List Event) (old mid new : C)
+    → actor < length (state old).parts → (state old).stop ≡ None → CoreStep (state old) (opens actor name count buf) (state mid)
+    → CoreRun C state events mid new → ReadsAlone actor events → GivesByTree actor count events (state new)
+
+abbrev pub EndsAreWhole : (C : Type 0) → (C → CoreState) → Type 0
+EndsAreWhole C state = (actor count : ℕ) (events : List Event) (buf : List ℕ) (new last : C)
+    → GivesByTree actor count events (state new) → (state new).stop ≡ None → CoreStep (state new) (ends actor buf) (state last)
+    → sum_by length (given_to actor events) ≡ count

@@ -1,0 +1,33 @@
+//! Laws of steps of a core, one after the other (docs/MODEL.md, 'The core').
+ghost use Rattle.store_core.specs.Runs.{RunsOn, KeepsFiles, GivesTheFile, ReadsAreChecked, EndsAreWhole, SurvivesCrashes};
+
+use crate::state::HasState;
+
+/// A core that runs runs on, or is stopped, whatever steps are made. The function does nothing.
+pub fn a_core_runs_on<C: HasState>()
+    ensures { RunsOn C C.state }
+{}
+
+/// A core that isn't stopped has made exactly the commits that it acknowledged, and its invariant holds. The function does
+/// nothing.
+pub fn a_core_keeps_files<C: HasState>()
+    ensures { KeepsFiles C C.state }
+{}
+
+/// A file that was opened is given as it was then, whatever steps others make. The function does nothing.
+pub fn a_reader_is_given_its_file<C: HasState>()
+    ensures { GivesTheFile C C.state }
+{}
+
+/// On any disk a reader is given what the tree of the opened root names, and the end only where that was as long as the file.
+/// The function does nothing.
+pub fn a_reader_checks_what_it_gives<C: HasState>()
+    ensures named { ReadsAreChecked C C.state }
+    ensures whole { EndsAreWhole C C.state }
+{}
+
+/// What a crash leaves at any moment of a run is of the files after some of its commits, the first of them first, and it may
+/// be one whose write failed. The function does nothing.
+pub fn a_core_survives_crashes<C: HasState>()
+    ensures { SurvivesCrashes C C.state }
+{}

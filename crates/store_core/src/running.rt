@@ -1,0 +1,267 @@
+//! The core of a running store: one step after the other.
+ghost use Rattle.std.specs.Prelude.{◌≡◌, ◌-◌, ◌^◌, ℕ, List, None, Err, IfSome, min, option_map};
+ghost use Rattle.actor_parts.specs.Kinds.{kind_of};
+ghost use Rattle.actor_parts.specs.Parts.{part_of};
+ghost use Rattle.actor_parts.specs.StepValue as asked;
+ghost use Rattle.actor_parts.specs.StepValue.{IsStep, step_value};
+ghost use Rattle.actor_parts.specs.Segments.{IsStepSegment};
+ghost use Rattle.refusals.specs.declared.refusal.Refusal.TheVariants.{Stopped};
+ghost use Rattle.store_core.specs.Core.{Leaves, CoreStep, StopsAfter, IsCount, counted};
+ghost use Rattle.store_core.specs.State.{IsUp, IsRunning};
+
+use crate::state::HasState;
+use crate::stop::Stop;
+use crate::stub::seal;
+use actor_parts::{Actor, Answer, Parts, SegBuf, Step};
+use container_meta::{OpenContainer, Seg};
+use dd_disk::Disk;
+use ingest_steps::{Claimed, abort, begin, claim, commit};
+use namespace::Root;
+use read_steps::{end_read, open_read, read_next, stat};
+use refusals::{PartKind, Refusal};
+use segment_index::{Index, MapIndex};
+use std::alloc::Global;
+use store_state::Tables;
+use summary_vector::Summary;
+
+/// A running store, for one thread: its disk, its tables and its index, and what each actor is at.
+#[derive(Drop)]
+pub struct Core<D, M> {
+    pub alloc: Global,
+    pub disk: D,
+    pub tables: Tables,
+    pub index: MapIndex,
+    pub parts: Parts,
+    pub summary: M,
+    /// What stopped it.
+    pub stop: Option<Stop>,
+    /// How many puts were acknowledged since the opening; it stays at 2^64 - 1 once there.
+    pub acknowledged: u64,
+}
+
+impl<D: Disk, M: Summary> HasState for Core<D, M> {
+    ghost state = { λ c. record {
+        disk = D.view c.disk;
+        tables = c.tables;
+        known = ⟦<MapIndex as Index>⟧.places c.index (D.view c.disk).content;
+        served = ⟦<MapIndex as Index>⟧.serves c.index (D.view c.disk).size;
+        breaks = ⟦<MapIndex as Index>⟧.breaks c.index;
+        parts = c.parts;
+        stop = c.stop;
+        acknowledged = c.acknowledged;
+    } };
+}
+
+// What stops the core: a write or a sync that failed, and damage that a seal met in the index.
+fn stop_after(step: &Step<'_>, answer: &Result<Answer, Refusal>, count: u64) -> Option<Stop>
+    ensures { StopsAfter (step_value step.now) answer.now count result }
+{
+    match answer {
+        Err(Refusal::DiskWrite) => Some(Stop {
+            refusal: Refusal::DiskWrite,
+            at: count,
+        }),
+        Err(Refusal::Damaged { at, why }) => match step {
+            Step::Seal { .. } => Some(Stop {
+                refusal: Refusal::Damaged { at: *at, why: *why },
+                at: count,
+            }),
+            _ => None,
+        },
+        _ => None,
+    }
+}
+
+// How many puts were acknowledged, with this answer.
+fn count_after(answer: &Result<Answer, Refusal>, count: u64) -> u64
+    ensures { result ≡ counted answer.now count }
+{
+    match answer {
+        Ok(Answer::Committed { .. }) => count.saturating_add(1),
+        _ => count,
+    }
+}
+
+impl<D: Disk, M: Summary> Core<D, M> {
+    fn begin(&mut self, actor: Actor) -> Result<Answer, Refusal>
+        ensures made { (buf : List ℕ) → Leaves asked.Begin actor result buf (⟦<Core<D, M> as HasState>⟧.state self.old) (⟦<Core<D, M> as HasState>⟧.state self.new) }
+        ensures stop { self.new.stop ≡ self.old.stop }
+        ensures count { self.new.acknowledged ≡ self.old.acknowledged }
+    {
+        match begin(self.alloc, &mut self.parts, actor) {
+            Ok(()) => Ok(Answer::Begun),
+            Err(refusal) => Err(refusal),
+        }
+    }
+
+    fn abort(&mut self, actor: Actor) -> Result<Answer, Refusal>
+        ensures made { (buf : List ℕ) → Leaves asked.Abort actor result buf (⟦<Core<D, M> as HasState>⟧.state self.old) (⟦<Core<D, M> as HasState>⟧.state self.new) }
+        ensures stop { self.new.stop ≡ self.old.stop }
+        ensures count { self.new.acknowledged ≡ self.old.acknowledged }
+    {
+        match abort(&mut self.parts, actor) {
+            Ok(()) => Ok(Answer::Aborted),
+            Err(refusal) => Err(refusal),
+        }
+    }
+
+    fn claim(&mut self, actor: Actor, seg: &Seg, buf: &mut SegBuf) -> Result<Answer, Refusal>
+        requires segment { IsStepSegment seg.now }
+        requires up { IsUp (⟦<Core<D, M> as HasState>⟧.state self.old) }
+        ensures made { Leaves (asked.Claim seg.now) actor result buf.new (⟦<Core<D, M> as HasState>⟧.state self.old) (⟦<Core<D, M> as HasState>⟧.state self.new) }
+        ensures stop { self.new.stop ≡ self.old.stop }
+        ensures count { self.new.acknowledged ≡ self.old.acknowledged }
+    {
+        match claim(&mut self.disk, &mut self.index, &mut self.parts, actor, seg, buf) {
+            Ok(Claimed::Held) => Ok(Answer::Held),
+            Ok(Claimed::Absent) => Ok(Answer::Absent),
+            Err(refusal) => Err(refusal),
+        }
+    }
+
+    fn commit(&mut self, actor: Actor, name: &[u8], root: &Root) -> Result<Answer, Refusal>
+        requires up { IsUp (⟦<Core<D, M> as HasState>⟧.state self.old) }
+        ensures made { (buf : List ℕ) → Leaves (asked.Commit name.now root.now) actor result buf (⟦<Core<D, M> as HasState>⟧.state self.old) (⟦<Core<D, M> as HasState>⟧.state self.new) }
+        ensures stop { self.new.stop ≡ self.old.stop }
+        ensures count { self.new.acknowledged ≡ self.old.acknowledged }
+    {
+        match commit(self.alloc, &mut self.disk, &mut self.tables, &mut self.parts, actor, name, root) {
+            Ok(sequence) => Ok(Answer::Committed { sequence }),
+            Err(refusal) => Err(refusal),
+        }
+    }
+
+    fn open_read(&mut self, actor: Actor, name: &[u8]) -> Result<Answer, Refusal>
+        ensures made { (buf : List ℕ) → Leaves (asked.OpenRead name.now) actor result buf (⟦<Core<D, M> as HasState>⟧.state self.old) (⟦<Core<D, M> as HasState>⟧.state self.new) }
+        ensures stop { self.new.stop ≡ self.old.stop }
+        ensures count { self.new.acknowledged ≡ self.old.acknowledged }
+    {
+        match open_read(self.alloc, &self.tables.names, &mut self.parts, actor, name) {
+            Ok(length) => Ok(Answer::Opened { length }),
+            Err(refusal) => Err(refusal),
+        }
+    }
+
+    fn read_next(&mut self, actor: Actor, buf: &mut SegBuf) -> Result<Answer, Refusal>
+        requires up { IsUp (⟦<Core<D, M> as HasState>⟧.state self.old) }
+        ensures made { Leaves asked.ReadNext actor result buf.new (⟦<Core<D, M> as HasState>⟧.state self.old) (⟦<Core<D, M> as HasState>⟧.state self.new) }
+        ensures stop { self.new.stop ≡ self.old.stop }
+        ensures count { self.new.acknowledged ≡ self.old.acknowledged }
+    {
+        match read_next(&mut self.disk, &mut self.index, &mut self.parts, actor, buf) {
+            Ok(given) => match given {
+                Some(count) => Ok(Answer::Bytes { count }),
+                None => Ok(Answer::End),
+            },
+            Err(refusal) => Err(refusal),
+        }
+    }
+
+    fn end_read(&mut self, actor: Actor) -> Result<Answer, Refusal>
+        ensures made { (buf : List ℕ) → Leaves asked.EndRead actor result buf (⟦<Core<D, M> as HasState>⟧.state self.old) (⟦<Core<D, M> as HasState>⟧.state self.new) }
+        ensures stop { self.new.stop ≡ self.old.stop }
+        ensures count { self.new.acknowledged ≡ self.old.acknowledged }
+    {
+        match end_read(&mut self.parts, actor) {
+            Ok(()) => Ok(Answer::Dropped),
+            Err(refusal) => Err(refusal),
+        }
+    }
+
+    fn seal(&mut self, actor: Actor, filled: &OpenContainer, buf: &mut SegBuf) -> Result<Answer, Refusal>
+        requires asked { IsStep (asked.Seal filled.now) }
+        requires up { IsUp (⟦<Core<D, M> as HasState>⟧.state self.old) }
+        ensures made { (bytes : List ℕ) → Leaves (asked.Seal filled.now) actor result bytes (⟦<Core<D, M> as HasState>⟧.state self.old) (⟦<Core<D, M> as HasState>⟧.state self.new) }
+        ensures stop { self.new.stop ≡ self.old.stop }
+        ensures count { self.new.acknowledged ≡ self.old.acknowledged }
+    {
+        seal(self, actor, filled, buf)
+    }
+
+    fn stat(&self) -> Answer
+        requires { IsUp (⟦<Core<D, M> as HasState>⟧.state self.now) }
+        ensures { IsCount result (⟦<Core<D, M> as HasState>⟧.state self.now) }
+    {
+        stat(&self.tables)
+    }
+
+    // Makes a step of a core that isn't stopped.
+    fn make(&mut self, actor: Actor, step: Step<'_>, buf: &mut SegBuf) -> Result<Answer, Refusal>
+        requires asked { IsStep (step_value step) }
+        requires up { IsUp (⟦<Core<D, M> as HasState>⟧.state self.old) }
+        ensures made { Leaves (step_value step.entry) actor result buf.new (⟦<Core<D, M> as HasState>⟧.state self.old) (⟦<Core<D, M> as HasState>⟧.state self.new) }
+        ensures stop { self.new.stop ≡ self.old.stop }
+        ensures count { self.new.acknowledged ≡ self.old.acknowledged }
+    {
+        match step {
+            Step::Begin => self.begin(actor),
+            Step::Claim { seg } => self.claim(actor, seg, buf),
+            Step::Seal { filled } => self.seal(actor, filled, buf),
+            Step::Commit { name, root } => self.commit(actor, name, root),
+            Step::Abort => self.abort(actor),
+            Step::OpenRead { name } => self.open_read(actor, name),
+            Step::ReadNext => self.read_next(actor, buf),
+            Step::EndRead => self.end_read(actor),
+            Step::Stat => Ok(self.stat()),
+        }
+    }
+
+    /// Makes a step of an actor. docs/MODEL.md, 'The core', has the table of steps: what each does, answers and is refused by.
+    ///
+    /// After `DiskWrite`, and after `Damaged` that a seal met in the index, the core is stopped: each further step is refused by
+    /// `Stopped`, with how many puts had been acknowledged since the opening, and changes nothing.
+    pub fn step(&mut self, actor: Actor, step: Step<'_>, buf: &mut SegBuf) -> Result<Answer, Refusal>
+        requires asked { IsStep (step_value step) }
+        requires running { IsRunning (⟦<Core<D, M> as HasState>⟧.state self.old) }
+        ensures step { CoreStep (⟦<Core<D, M> as HasState>⟧.state self.old)
+            (record { actor = actor; step = step_value step.entry; answer = result; buf = buf.new }) (⟦<Core<D, M> as HasState>⟧.state self.new) }
+        ensures stopped { IfSome self.old.stop (λ stop. (result ≡ Err (Stopped stop.at)) × (self.new ≡ self.old) × (buf.new ≡ buf.old)) }
+        ensures running { IsRunning (⟦<Core<D, M> as HasState>⟧.state self.new) }
+    {
+        if let Some(stop) = &self.stop {
+            return Err(Refusal::Stopped { at: stop.at });
+        }
+        let answer = self.make(actor, step, buf);
+        self.stop = stop_after(&step, &answer, self.acknowledged);
+        self.acknowledged = count_after(&answer, self.acknowledged);
+        answer
+    }
+
+    /// What an actor is at.
+    pub fn part_kind(&self, actor: Actor) -> PartKind
+        ensures { result ≡ kind_of (part_of self.now.parts actor) }
+    {
+        self.parts.part(actor).kind()
+    }
+
+    /// The last sequence number that was given out, 0 where there was none.
+    pub fn last_sequence(&self) -> u64
+        ensures { result ≡ self.now.tables.journal.last }
+    {
+        self.tables.journal.last()
+    }
+
+    /// The moment of its disk, or 2^64 - 1 where that is less.
+    pub fn moment(&self) -> u64
+        ensures { result ≡ min (D.view self.now.disk).clock (2 ^ 64 - 1) }
+    {
+        self.disk.moment()
+    }
+
+    /// The refusal that stopped it; none while it runs.
+    pub fn stopped_by(&self) -> Option<Refusal>
+        ensures { result ≡ option_map (λ stop. stop.refusal) self.now.stop }
+    {
+        match &self.stop {
+            Some(stop) => Some(stop.refusal),
+            None => None,
+        }
+    }
+
+    /// Its disk, which is all that is left of it.
+    pub fn close(self) -> D
+        ensures { result ≡ self.disk }
+    {
+        self.disk
+    }
+}

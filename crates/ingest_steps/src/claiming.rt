@@ -56,8 +56,10 @@ fn look_up<D: Disk, X: Index>(
     ensures found { IfOk result (IsLookedUp (D.view disk.old).size (X.places index.old (D.view disk.old).content) seg.now
         (Shows (D.view disk.old) (D.view disk.new))) }
     ensures refused { IfErr result (IsOneRefusal
-        (λ at why. (X.places index.old (D.view disk.old).content ≡ None) × Shows (D.view disk.old) (D.view disk.new) (X.breaks index.old at why))
-        (IsOtherCopy (D.view disk.old).size (X.places index.old (D.view disk.old).content) seg.now (Shows (D.view disk.old) (D.view disk.new)))) }
+        (λ at why. (X.places index.old (D.view disk.old).content ≡ None)
+        × Shows (D.view disk.old) (D.view disk.new) (X.breaks index.old at why))
+        (IsOtherCopy (D.view disk.old).size (X.places index.old (D.view disk.old).content) seg.now
+        (Shows (D.view disk.old) (D.view disk.new)))) }
     ensures map { X.places index.new (D.view disk.new).content ≡ X.places index.old (D.view disk.old).content }
     ensures reads { Reads (ending blames result) (D.view disk.old) (D.view disk.new) }
     ensures served { X.serves index.new (D.view disk.new).size }
@@ -115,8 +117,10 @@ pub fn claim<D: Disk, X: Index>(
     ensures ok { IfOk result (IsClaimed (D.view disk.old).size (X.places index.old (D.view disk.old).content) parts.old actor seg.now
         (Shows (D.view disk.old) (D.view disk.new)) parts.new) }
     ensures refused { IfErr result (IsClaimRefusal (part_of parts.old actor) seg.now
-        (λ at why. (X.places index.old (D.view disk.old).content ≡ None) × Shows (D.view disk.old) (D.view disk.new) (X.breaks index.old at why))
-        (IsOtherCopy (D.view disk.old).size (X.places index.old (D.view disk.old).content) seg.now (Shows (D.view disk.old) (D.view disk.new)))) }
+        (λ at why. (X.places index.old (D.view disk.old).content ≡ None)
+        × Shows (D.view disk.old) (D.view disk.new) (X.breaks index.old at why))
+        (IsOtherCopy (D.view disk.old).size (X.places index.old (D.view disk.old).content) seg.now
+        (Shows (D.view disk.old) (D.view disk.new)))) }
     ensures unchanged { OnErr result (parts.new ≡ parts.old) }
     ensures map { X.places index.new (D.view disk.new).content ≡ X.places index.old (D.view disk.old).content }
     ensures reads { Reads (ending blames result) (D.view disk.old) (D.view disk.new) }

@@ -38,7 +38,8 @@ pub fn seal_compared<D: Disk, X: Index>(
     requires state { Runs (D.view disk.old).size (X.places index.old (D.view disk.old).content) tables.old }
     requires slot { HasSlot tables.old slot }
     requires there { 1 ≤ length filled.now.segments }
-    ensures ok { IfOk result (HasSealed tables.old (D.view disk.old).size (X.places index.old (D.view disk.old).content) slot filled.now tables.new) }
+    ensures ok { IfOk result (HasSealed tables.old (D.view disk.old).size (X.places index.old (D.view disk.old).content) slot filled.now
+        tables.new) }
     ensures map { OnOk result (Known (D.view disk.old).content (λ _. KnownMap (X.places index.old (D.view disk.old).content)
         (λ m. X.places index.new (D.view disk.new).content ≡ places_with filled.now slot (Some m)))) }
     ensures refused { IfErr result (IsSealRefusal (X.places index.old (D.view disk.old).content)

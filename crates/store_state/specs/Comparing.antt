@@ -52,10 +52,11 @@ IsClash kind digest offered place (Clash key (Length mine other)) =
     (key ≡ key_of (kind_byte kind) digest) × (mine ≡ length offered) × (other ≡ place.length) × (mine ≢ other)
 IsClash kind digest offered place refusal = ⊥
 
--- why a node's copy is not the same, where it has its length: it is not given, or has another byte
+-- why a node's copy is not the same, where it has its length: it is not given, or it has the digest and another byte
 abbrev pub IsNodeRefusal : ((List ℕ → Type 0) → Type 0) → Kind → List ℕ → List ℕ → Place → Refusal → Type 0
 IsNodeRefusal shown kind digest offered place (Clash key (Byte at mine other)) =
-    (key ≡ key_of (kind_byte kind) digest) × shown (λ image. FirstDifference offered (bytes_at place image) at mine other)
+    (key ≡ key_of (kind_byte kind) digest)
+    × shown (λ image. (sha256 (bytes_at place image) ≡ digest) × FirstDifference offered (bytes_at place image) at mine other)
 IsNodeRefusal shown kind digest offered place (Clash key (Length mine other)) = ⊥
 IsNodeRefusal shown kind digest offered place refusal = IsCopyRefusal shown place digest refusal
 

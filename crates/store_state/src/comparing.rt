@@ -37,6 +37,7 @@ fn read_copy<D: Disk>(
 ) -> Result<(), Refusal>
     requires place { IsPlace (D.view disk.old).size place.now }
     requires room { place.now.length ≤ length buf.old }
+    ensures digest { OnOk result (sha256 (take place.now.length buf.new) ≡ digest.now) }
     ensures shown { OnOk result (Shows (D.view disk.old) (D.view disk.new)
         (λ image. bytes_at place.now image ≡ take place.now.length buf.new)) }
     ensures size { length buf.new ≡ length buf.old }

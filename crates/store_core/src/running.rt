@@ -19,7 +19,7 @@ use ingest_steps::{Claimed, abort, begin, claim, commit};
 use namespace::Root;
 use read_steps::{end_read, open_read, read_next, stat};
 use refusals::{PartKind, Refusal};
-use segment_index::{Index, MapIndex};
+use segment_index::{Index, StoreIndex};
 use std::alloc::Global;
 use store_state::Tables;
 use summary_vector::Summary;
@@ -30,7 +30,7 @@ pub struct Core<D, M> {
     pub alloc: Global,
     pub disk: D,
     pub tables: Tables,
-    pub index: MapIndex,
+    pub index: StoreIndex,
     pub parts: Parts,
     pub summary: M,
     /// What stopped it.
@@ -43,9 +43,9 @@ impl<D: Disk, M: Summary> HasState for Core<D, M> {
     ghost state = { λ c. record {
         disk = D.view c.disk;
         tables = c.tables;
-        known = ⟦<MapIndex as Index>⟧.places c.index (D.view c.disk).content;
-        served = ⟦<MapIndex as Index>⟧.serves c.index (D.view c.disk).size;
-        breaks = ⟦<MapIndex as Index>⟧.breaks c.index;
+        known = ⟦<StoreIndex as Index>⟧.places c.index (D.view c.disk).content;
+        served = ⟦<StoreIndex as Index>⟧.serves c.index (D.view c.disk).size;
+        breaks = ⟦<StoreIndex as Index>⟧.breaks c.index;
         parts = c.parts;
         stop = c.stop;
         acknowledged = c.acknowledged;
@@ -257,7 +257,9 @@ impl<D: Disk, M: Summary> Core<D, M> {
             None => None,
         }
     }
+}
 
+impl<D: Disk, M: Summary + Drop> Core<D, M> {
     /// Its disk, which is all that is left of it.
     pub fn close(self) -> D
         ensures { result ≡ self.disk }

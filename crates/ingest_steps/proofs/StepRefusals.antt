@@ -1,0 +1,42 @@
+-- Why a container is not sealed for an actor.
+use Rattle.std.proofs.Common.{◌≡◌, ℕ, Option, Result, Ok, Err, OnErr, refl, sym, subst}
+use Rattle.disk_format.specs.Layout.{slot_at}
+use Rattle.dd_disk.specs.View.{DiskView}
+use Rattle.dd_disk.specs.Ending.{Blame, NoCall, Refused, ending_of}
+use Rattle.container_meta.specs.Places.{PlaceMap}
+use Rattle.container_meta.specs.Segments.{Contents}
+use Rattle.actor_parts.specs.declared.part.Part.{Part}
+use Rattle.refusals.specs.declared.refusal.Refusal.{Refusal}
+use Rattle.refusals.specs.declared.refusal.Refusal.TheVariants.{WrongPart, Unpinned, Full, Numbers}
+use Rattle.store_state.specs.Refused.{blames}
+use Rattle.store_state.specs.Settled.{Steps}
+use Rattle.store_state.specs.declared.tables.Tables.{Tables}
+use Rattle.store_state.proofs.Changed.{changes_none}
+use Rattle.ingest_steps.specs.Pinning.{MayKeep, IsUnkept}
+use Rattle.ingest_steps.specs.Sealing.{IsSlotRefusal}
+use Rattle.ingest_steps.specs.SealStep.{IsStepRefusal}
+use Rattle.ingest_steps.proofs.SealedTables.{steps_refused}
+
+pub map_on_err : {T E : Type 0} (result : Result T E) (P Q : Type 0) → (P → Q) → OnErr result P → OnErr result Q
+map_on_err (Ok x) P Q each has = tt
+map_on_err (Err e) P Q each has = each has
+
+module _ (part : Part) (t : Tables) (size : ℕ) (known : Option PlaceMap) (filled : Contents) (unlike : Refusal → Type 0) where
+  pub of_unkept : (refusal : Refusal) → IsUnkept part filled refusal → IsStepRefusal part t size known filled unlike refusal
+  of_unkept (WrongPart kind) has = has
+  of_unkept (Unpinned key) has = has
+  of_unkept refusal has = absurd has
+
+  pub of_slot : MayKeep part filled → (refusal : Refusal) → IsSlotRefusal t size known refusal → IsStepRefusal part t size known filled unlike refusal
+  of_slot may (Full free) has = (may, has)
+  of_slot may Numbers has = (may, has)
+  of_slot may refusal has = absurd has
+
+pub slot_blames : (t : Tables) (size : ℕ) (known : Option PlaceMap) (refusal : Refusal) → IsSlotRefusal t size known refusal → blames refusal ≡ NoCall
+slot_blames t size known (Full free) has = refl
+slot_blames t size known Numbers has = refl
+slot_blames t size known refusal has = absurd has
+
+-- nothing was called
+pub steps_here : (slots : ℕ) (b : Blame) (v : DiskView) → b ≡ NoCall → Steps slots (ending_of b) v v
+steps_here slots b v is = subst (λ (a : Blame). Steps slots (ending_of a) v v) (sym is) (steps_refused slots NoCall v v (changes_none (slot_at slots) Refused v refl))

@@ -1,0 +1,91 @@
+use Rattle.std.proofs.Common.{◌≡◌, List, ap, sym, subst, ◌∙◌}
+use Rattle.base_model.proofs.Outcome.{passed_on}
+use Rattle.dd_disk.specs.Shows.{Shows}
+use Rattle.dd_disk.proofs.Moves.{passed}
+use Rattle.actor_parts.specs.declared.part.Part.{Part}
+use Rattle.actor_parts.specs.declared.part.Part.TheVariants.{Writing}
+use Rattle.actor_parts.specs.Parts.{part_of, with_part}
+use Rattle.actor_parts.proofs.Apart.{apart}
+use Rattle.refusals.specs.declared.refusal.Refusal.{Refusal}
+use Rattle.store_state.specs.Comparing.{IsFirstUnlike}
+use Rattle.store_state.specs.Refused.{blames}
+use Rattle.store_state.specs.Settled.{Steps}
+use Rattle.ingest_steps.specs.Pinning.{MayKeep, IsUnkept, WereHad, with_pins}
+use Rattle.ingest_steps.specs.SealStep.{IsStepRefusal}
+use Rattle.ingest_steps.proofs.StepRefusals.{of_unkept, of_slot, slot_blames, steps_here}
+use Rattle.ingest_steps.proofs.seal_step.seal.Goals as goal
+
+pub returns-in_err-may_keep-clause-refused : goal.returns-in_err-may_keep-clause-refused
+returns-in_err-may_keep-clause-refused g c =
+    let old = g.D.Disk.view c.args.disk.now in
+    let known = g.X.Index.places c.args.index.now old.content in
+    let part = part_of c.args.parts.now c.args.actor in
+    let filled = c.args.filled.now in
+    let unlike : Refusal → Type 0 = IsFirstUnlike old.size known (Shows old old) filled.kind filled.segments in
+    let e = c.in_err-may_keep.field-0.0 in
+    passed_on c.from_residual.result (IsStepRefusal part c.args.tables.now old.size known filled unlike) e c.from_residual.ensures.1
+    (of_unkept part c.args.tables.now old.size known filled unlike e (subst (λ (p : Part). IsUnkept p filled e) c.part.ensures.part c.in_err-may_keep.ensures.refused))
+
+pub returns-in_err-slot-clause-refused : goal.returns-in_err-slot-clause-refused
+returns-in_err-slot-clause-refused g c =
+    let old = g.D.Disk.view c.args.disk.now in
+    let known = g.X.Index.places c.args.index.now old.content in
+    let part = part_of c.args.parts.now c.args.actor in
+    let filled = c.args.filled.now in
+    let unlike : Refusal → Type 0 = IsFirstUnlike old.size known (Shows old old) filled.kind filled.segments in
+    let e = c.in_err-slot.field-0.0 in
+    passed_on c.from_residual-in_err-slot.result (IsStepRefusal part c.args.tables.now old.size known filled unlike) e c.from_residual-in_err-slot.ensures.1
+    (of_slot part c.args.tables.now old.size known filled unlike (subst (λ (p : Part). MayKeep p filled) c.part.ensures.part c.in_ok-may_keep.ensures.may) e
+    (c.in_err-slot.ensures.refused old.size known))
+
+pub returns-in_err-slot-clause-disk : goal.returns-in_err-slot-clause-disk
+returns-in_err-slot-clause-disk g c =
+    let v = g.D.Disk.view c.args.disk.now in
+    let known = g.X.Index.places c.args.index.now v.content in
+    let slots = c.args.tables.now.slots in
+    let e = c.in_err-slot.field-0.0 in
+    passed (λ x. Steps slots x v v) blames c.from_residual-in_err-slot.result e c.from_residual-in_err-slot.ensures.1
+    (steps_here slots (blames e) v (slot_blames c.args.tables.now v.size known e (c.in_err-slot.ensures.refused v.size known)))
+
+pub returns-in-Ok-clause-ok : goal.returns-in-Ok-clause-ok
+returns-in-Ok-clause-ok g c =
+    let may = subst (λ (p : Part). MayKeep p c.args.filled.now) c.part.ensures.part c.in_ok-may_keep.ensures.may in
+    record {
+      may = may;
+      slot = c.in_ok-slot.slot;
+      has = c.in_ok-slot.ensures.slot;
+      sealed = c.in-Ok.ensures.ok;
+      map = c.in-Ok.ensures.map;
+      parts_are = c.in_ok-hads.ensures.ok may.pins may.writing;
+    }
+
+pub unpin_for-requires-clause-kept : goal.unpin_for-requires-clause-kept
+unpin_for-requires-clause-kept g c =
+    let filled = c.args.filled.now in
+    let may = subst (λ (p : Part). MayKeep p filled) c.part.ensures.part c.in_ok-may_keep.ensures.may in
+    let kept : Part = Writing (with_pins filled.kind filled.segments may.pins) in
+    let more : List Part = with_part c.args.parts.now c.args.actor kept in
+    let pinned : c.pin_for.new.parts ≡ more = c.in_ok-hads.ensures.ok may.pins may.writing in (
+      may.pins,
+      subst (WereHad filled.kind filled.segments may.pins) (sym c.deref.ensures.value) (c.in_ok-hads.ensures.had may.pins may.writing),
+      ap {y = more} (λ (p : List Part). part_of p c.args.actor) pinned ∙ apart.same c.args.parts.now c.args.actor kept c.part.ensures.there,
+    )
+
+pub returns-clause-unchanged : goal.returns-clause-unchanged
+returns-clause-unchanged g c =
+    let filled = c.args.filled.now in
+    let parts = c.args.parts.now in
+    let actor = c.args.actor in
+    let may = subst (λ (p : Part). MayKeep p filled) c.part.ensures.part c.in_ok-may_keep.ensures.may in
+    let kept : Part = Writing (with_pins filled.kind filled.segments may.pins) in
+    let more : List Part = with_part parts actor kept in
+    let pinned : c.pin_for.new.parts ≡ more = c.in_ok-hads.ensures.ok may.pins may.writing in (
+      c.in-Err.ensures.unchanged,
+      c.unpin_for.ensures may.pins
+          (subst (WereHad filled.kind filled.segments may.pins) (sym c.deref.ensures.value) (c.in_ok-hads.ensures.had may.pins may.writing))
+          (ap {y = more} (λ (p : List Part). part_of p actor) pinned ∙ apart.same parts actor kept c.part.ensures.there)
+          ∙ ap {y = more} (λ (p : List Part). with_part p actor (Writing may.pins)) pinned
+          ∙ apart.replaced parts actor kept (Writing may.pins)
+          ∙ ap (with_part parts actor) (sym may.writing)
+          ∙ apart.unchanged parts actor,
+    )

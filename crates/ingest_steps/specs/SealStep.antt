@@ -1,0 +1,35 @@
+-- When a container is sealed for an actor, and what that makes of the store and of the actor (docs/MODEL.md, 'Claims and seals').
+use Rattle.std.specs.Prelude.{◌≡◌, ℕ, List, Option, Some}
+use Rattle.base_model.specs.Known.{Known}
+use Rattle.dd_disk.specs.View.{DiskView}
+use Rattle.container_meta.specs.Places.{PlaceMap}
+use Rattle.container_meta.specs.Segments.{Contents}
+use Rattle.segment_index.specs.Places.{KnownMap}
+use Rattle.actor_parts.specs.declared.part.Part.{Part}
+use Rattle.actor_parts.specs.declared.part.Part.TheVariants.{Writing}
+use Rattle.actor_parts.specs.Parts.{part_of, with_part}
+use Rattle.refusals.specs.declared.refusal.Refusal.{Refusal}
+use Rattle.refusals.specs.declared.refusal.Refusal.TheVariants.{Memory, WrongPart, Unpinned, Full, Numbers}
+use Rattle.store_state.specs.declared.tables.Tables.{Tables}
+use Rattle.ingest_steps.specs.Pinning.{MayKeep, IsUnkept, with_pins}
+use Rattle.ingest_steps.specs.Sealing.{HasSlot, IsSlotRefusal, IsSealRefusal, HasSealed, places_with}
+
+-- The container stands in a slot that was free, its places are in the map, and the actor keeps its segments, too.
+pub record IsSealedFor (old : Tables) (disk : DiskView) (known : Option PlaceMap) (parts : List Part) (actor : ℕ) (filled : Contents)
+    (new : Tables) (disk_new : DiskView) (known_new : Option PlaceMap) (parts_new : List Part) (id : ℕ) : Type 0 where
+  pub may : MayKeep (part_of parts actor) filled
+  pub slot : ℕ
+  pub has : HasSlot old slot
+  pub sealed : HasSealed old disk.size known slot filled new id
+  pub map : Known disk.content (λ _. KnownMap known (λ m. known_new ≡ places_with filled slot (Some m)))
+  pub parts_are : parts_new ≡ with_part parts actor (Writing (with_pins filled.kind filled.segments may.pins))
+
+-- Why it isn't sealed, in this order: the actor, a slot, what is held or the disk. Want of memory is free.
+abbrev pub IsStepRefusal : Part → Tables → ℕ → Option PlaceMap → Contents → (Refusal → Type 0) → Refusal → Type 0
+IsStepRefusal part t size known filled unlike Memory = Unit {0}
+IsStepRefusal part t size known filled unlike (WrongPart kind) = IsUnkept part filled (WrongPart kind)
+IsStepRefusal part t size known filled unlike (Unpinned key) = IsUnkept part filled (Unpinned key)
+IsStepRefusal part t size known filled unlike (Full free) = MayKeep part filled × IsSlotRefusal t size known (Full free)
+IsStepRefusal part t size known filled unlike Numbers = MayKeep part filled × IsSlotRefusal t size known Numbers
+IsStepRefusal part t size known filled unlike refusal =
+    MayKeep part filled × ((slot : ℕ) × HasSlot t slot) × IsSealRefusal known unlike refusal

@@ -1,5 +1,5 @@
 -- What a container more makes of the tables and of the disk, where the index is changed first.
-use Rattle.std.proofs.Common.{◌≡◌, ◌⊎◌, inl, inr, Bool, true, false, ℕ, suc, ◌+◌, ◌-◌, ◌<◌, ◌≤◌, List, [], ◌∷◌, length, map, get_or, Option, Some, None, option_map, Result, refl, sym, ◌∙◌, ap, subst, arith}
+use Rattle.std.proofs.Common.{◌≡◌, inl, inr, Bool, true, false, ℕ, suc, ◌+◌, ◌-◌, ◌<◌, ◌≤◌, List, [], ◌∷◌, length, get_or, Option, Some, None, refl, sym, ◌∙◌, ap, subst, arith}
 use Rattle.std.specs.Prelude.{◌&&◌, nat_le}
 use Rattle.std.specs.List.{AllByRecursion}
 use Rattle.std.proofs.lemmas.Bool.{leb-true}
@@ -7,7 +7,7 @@ use Rattle.std.proofs.lemmas.List.{length-map}
 use Rattle.std.proofs.lemmas.List.Sums.{sum_by-cons}
 use Rattle.disk_format.specs.declared.numbers.TheConstants.{RESERVE}
 use Rattle.disk_format.specs.Layout.{size_of, slot_at}
-use Rattle.dd_disk.specs.View.{DiskView, IsLater, IsDurable, OnlyReads, CrashLeaves, SteppedFrom}
+use Rattle.dd_disk.specs.View.{DiskView, IsDurable, CrashLeaves, SteppedFrom}
 use Rattle.dd_disk.specs.Ending.{Ending, Blame, NoCall, ReadCall, WriteCall, Done, Refused, Unread, Broken, ending_of}
 use Rattle.dd_disk.specs.Writes.{Both}
 use Rattle.dd_disk.specs.Moves.{StandsFor, Acts, Arrives}
@@ -32,9 +32,9 @@ use Rattle.namespace.specs.Names.{NameMap}
 use Rattle.store_model.specs.Files.{Files}
 use Rattle.store_model.specs.Image.{Store, IsValidFor}
 use Rattle.store_model.specs.Indexing.{with_entries}
-use Rattle.store_model.specs.Slots.{Copy, IsIndexOf, first_free, free_slots, ids_of, newest, with_slot}
-use Rattle.store_model.specs.Standing.{ByteSet, IsIn, Stands}
-use Rattle.store_model.specs.Steps.{CanSeal, FitsHeld, MaySeal, with_sealed}
+use Rattle.store_model.specs.Slots.{Copy, IsIndexOf, free_slots, newest, with_slot}
+use Rattle.store_model.specs.Standing.{IsIn, Stands}
+use Rattle.store_model.specs.Steps.{CanSeal, FitsHeld, with_sealed}
 use Rattle.store_model.specs.Trees.{HasNewest, bytes_at}
 use Rattle.store_model.proofs.Copies.{some_same, headers_of_right}
 use Rattle.store_model.proofs.FramedTrees.{newest_framed, stands_framed}
@@ -45,7 +45,7 @@ use Rattle.store_model.proofs.IndexSize.{index_sealed}
 use Rattle.store_model.proofs.Valid.{free_sealed, valid_sealed}
 use Rattle.store_state.specs.declared.tables.Tables.{Tables}
 use Rattle.store_state.specs.Settled.{KeepsWhatCounts, Left, Steps}
-use Rattle.store_state.specs.Tables.{Represents, RepresentsSlots, Runs, OfEach, count_of}
+use Rattle.store_state.specs.Tables.{Represents, RepresentsSlots, Runs, count_of}
 use Rattle.store_state.proofs.Changed.{keeps}
 use Rattle.ingest_steps.specs.Sealing.{IsSlotOf, HasSlot, FitBeside, KeepsHeld, SealsContainer, SealsIndexed, HasSealed, places_with, sealing, sealing_indexed}
 

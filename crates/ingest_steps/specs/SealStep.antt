@@ -11,6 +11,14 @@ use Rattle.actor_parts.specs.Parts.{part_of, with_part}
 use Rattle.refusals.specs.declared.refusal.Refusal.{Refusal}
 use Rattle.refusals.specs.declared.refusal.Refusal.TheVariants.{Memory, WrongPart, Unpinned, Full, Numbers}
 use Rattle.store_state.specs.declared.tables.Tables.{Tables}
+use Rattle.std.specs.List.{AllByRecursion}
+use Rattle.store_model.specs.Commands.{HasNoCollisions}
+use Rattle.store_model.specs.Files.{Files}
+use Rattle.store_model.specs.Image.{Store}
+use Rattle.store_model.specs.Standing.{ByteSet, IsIn, Stands}
+use Rattle.store_model.specs.Steps.{MaySeal, with_sealed}
+use Rattle.store_state.specs.Invariant.{HoldsPart}
+use Rattle.store_state.specs.Tables.{Represents}
 use Rattle.ingest_steps.specs.Pinning.{MayKeep, IsUnkept, with_pins}
 use Rattle.ingest_steps.specs.Sealing.{HasSlot, IsSlotRefusal, IsSealRefusal, HasSealed, places_with}
 
@@ -33,3 +41,12 @@ IsStepRefusal part t size known filled unlike (Full free) = MayKeep part filled 
 IsStepRefusal part t size known filled unlike Numbers = MayKeep part filled × IsSlotRefusal t size known Numbers
 IsStepRefusal part t size known filled unlike refusal =
     MayKeep part filled × ((slot : ℕ) × HasSlot t slot) × IsSealRefusal known unlike refusal
+
+-- What the actor keeps is right still, and closed, where a content stood for files and the map was that of its store; no data
+-- of S differs under one digest.
+abbrev pub KeepsSealed : DiskView → DiskView → Option PlaceMap → Tables → List Part → ℕ → Contents → List Part → ℕ → Type 0
+KeepsSealed old new known t parts actor filled parts_new id =
+    (among : ByteSet) (store : Store) (files : Files) (map : PlaceMap) (given held : List ℕ) → known ≡ Some map → Represents store known t
+    → old.content ≡ Some given → new.content ≡ Some held → Stands (IsIn among) store files given → HasNoCollisions (IsIn among)
+    → AllByRecursion (MaySeal (IsIn among) filled.kind) filled.segments → HoldsPart store.held given (part_of parts actor)
+    → HoldsPart (with_sealed id filled.kind filled.segments store).held held (part_of parts_new actor)

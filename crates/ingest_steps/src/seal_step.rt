@@ -17,7 +17,7 @@ ghost use Rattle.store_state.specs.Settled.{Steps};
 ghost use Rattle.store_state.specs.Tables.{Runs};
 ghost use Rattle.ingest_steps.specs.Pinning.{WereHad, with_pins};
 ghost use Rattle.ingest_steps.specs.Sealing.{SealsCompared, KeepsMap};
-ghost use Rattle.ingest_steps.specs.SealStep.{IsSealedFor, IsStepRefusal};
+ghost use Rattle.ingest_steps.specs.SealStep.{IsSealedFor, IsStepRefusal, KeepsSealed};
 
 use crate::comparing_seal::seal_compared;
 use crate::pinning::{may_keep, pin_all, unpin};
@@ -111,6 +111,8 @@ pub fn seal<D: Disk, X: Index>(
     ensures disk { Steps tables.old.slots (ending blames result) (D.view disk.old) (D.view disk.new) }
     ensures moves { SealsCompared tables.old (X.places index.old (D.view disk.old).content) (tables.old.held.last_id + 1) filled.now
         (ending blames result) (D.view disk.old) (D.view disk.new) }
+    ensures kept { IfOk result (KeepsSealed (D.view disk.old) (D.view disk.new) (X.places index.old (D.view disk.old).content) tables.old
+        parts.old actor filled.now parts.new) }
     ensures served { X.serves index.new (D.view disk.new).size }
 {
     may_keep(parts.part(actor), filled)?;

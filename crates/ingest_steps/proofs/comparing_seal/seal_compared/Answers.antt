@@ -1,4 +1,4 @@
-use Rattle.std.proofs.Common.{◌≡◌, ◌+◌, ℕ, List, Some}
+use Rattle.std.proofs.Common.{◌≡◌, ◌+◌, Some}
 use Rattle.base_model.specs.Known.{Known}
 use Rattle.base_model.proofs.Outcome.{map_err}
 use Rattle.dd_disk.specs.Ending.{ending}

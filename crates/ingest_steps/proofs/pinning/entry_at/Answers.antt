@@ -1,4 +1,4 @@
-use Rattle.std.proofs.Common.{◌≡◌, ◌≤◌, List, [], length, get_or, refl, ap, ◌∙◌, arith}
+use Rattle.std.proofs.Common.{◌≤◌, List, [], length, get_or, refl, ap, ◌∙◌, arith}
 use Rattle.container_meta.specs.declared.entry.Entry.{Entry}
 use Rattle.container_meta.specs.Spelling.{header_of}
 use Rattle.container_meta.proofs.Cut.{cut}

@@ -1,4 +1,4 @@
-use Rattle.std.proofs.Common.{◌≡◌, ◌+◌, ◌-◌, ◌<◌, ℕ, suc, List, None, Option, length, take, get_or, ap, sym, ◌∙◌, arith}
+use Rattle.std.proofs.Common.{◌≡◌, ◌+◌, ◌-◌, ℕ, List, None, Option, length, take, get_or, ap, ◌∙◌, arith}
 use Rattle.std.specs.FinMap as finite
 use Rattle.container_meta.specs.Segments.{segment_at, segment_key}
 use Rattle.actor_parts.specs.declared.pins.Pin.{Pin}

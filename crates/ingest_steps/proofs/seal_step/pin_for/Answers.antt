@@ -14,9 +14,9 @@ returns-clause-ok c =
     map_on_ok c.pin_all-hads.result (c.pin_all-hads.new.pins ≡ with_pins filled.kind filled.segments c.in-Writing.pins)
     ((pins : PinMap) → part_of c.args.parts.now c.args.actor ≡ Writing pins → c.set.new.self ≡ with_part c.args.parts.now c.args.actor (Writing (with_pins filled.kind filled.segments pins)))
     (λ is pins writing.
-        set_after c.args.parts.now c.take.new.self c.set.new.self c.args.actor (Writing c.pin_all-hads.new.pins) c.take.ensures.left c.set.ensures.parts
-        ∙ ap (λ (p : PinMap). with_part c.args.parts.now c.args.actor (Writing p))
-        (is ∙ ap (with_pins filled.kind filled.segments) (same_pins c.in-Writing.pins pins (sym c.in-Writing.is ∙ c.take.ensures.taken ∙ writing))))
+    set_after c.args.parts.now c.take.new.self c.set.new.self c.args.actor (Writing c.pin_all-hads.new.pins) c.take.ensures.left c.set.ensures.parts
+    ∙ ap (λ (p : PinMap). with_part c.args.parts.now c.args.actor (Writing p))
+    (is ∙ ap (with_pins filled.kind filled.segments) (same_pins c.in-Writing.pins pins (sym c.in-Writing.is ∙ c.take.ensures.taken ∙ writing))))
     c.pin_all-hads.ensures.ok
 
 pub returns-clause-unchanged : goal.returns-clause-unchanged

@@ -12,6 +12,7 @@ use Rattle.store_state.specs.Refused.{blames}
 use Rattle.store_state.specs.Settled.{Steps}
 use Rattle.ingest_steps.specs.Pinning.{MayKeep, IsUnkept, WereHad, with_pins}
 use Rattle.ingest_steps.specs.SealStep.{IsStepRefusal}
+use Rattle.ingest_steps.proofs.SealedPins.{keeps_sealed}
 use Rattle.ingest_steps.proofs.StepRefusals.{of_unkept, of_slot, slot_blames, steps_here}
 use Rattle.ingest_steps.proofs.seal_step.seal.Goals as goal
 
@@ -68,7 +69,7 @@ unpin_for-requires-clause-kept g c =
     let pinned : c.pin_for.new.parts ≡ more = c.in_ok-hads.ensures.ok may.pins may.writing in (
       may.pins,
       subst (WereHad filled.kind filled.segments may.pins) (sym c.deref.ensures.value) (c.in_ok-hads.ensures.had may.pins may.writing),
-      ap {y = more} (λ (p : List Part). part_of p c.args.actor) pinned ∙ apart.same c.args.parts.now c.args.actor kept c.part.ensures.there,
+      ap (λ (p : List Part). part_of p c.args.actor) {y = more} pinned ∙ apart.same c.args.parts.now c.args.actor kept c.part.ensures.there,
     )
 
 pub returns-clause-unchanged : goal.returns-clause-unchanged
@@ -83,9 +84,17 @@ returns-clause-unchanged g c =
       c.in-Err.ensures.unchanged,
       c.unpin_for.ensures may.pins
           (subst (WereHad filled.kind filled.segments may.pins) (sym c.deref.ensures.value) (c.in_ok-hads.ensures.had may.pins may.writing))
-          (ap {y = more} (λ (p : List Part). part_of p actor) pinned ∙ apart.same parts actor kept c.part.ensures.there)
-          ∙ ap {y = more} (λ (p : List Part). with_part p actor (Writing may.pins)) pinned
+          (ap (λ (p : List Part). part_of p actor) {y = more} pinned ∙ apart.same parts actor kept c.part.ensures.there)
+          ∙ ap (λ (p : List Part). with_part p actor (Writing may.pins)) {y = more} pinned
           ∙ apart.replaced parts actor kept (Writing may.pins)
           ∙ ap (with_part parts actor) (sym may.writing)
           ∙ apart.unchanged parts actor,
     )
+
+pub returns-in-Ok-clause-kept : goal.returns-in-Ok-clause-kept
+returns-in-Ok-clause-kept g c =
+    let view = g.D.Disk.view in
+    let old = view c.args.disk.now in
+    let may = subst (λ (p : Part). MayKeep p c.args.filled.now) c.part.ensures.part c.in_ok-may_keep.ensures.may in
+    keeps_sealed old (view c.seal_compared.new.disk) (g.X.Index.places c.args.index.now old.content) c.args.tables.now c.args.parts.now c.pin_for.new.parts c.args.actor c.args.filled.now
+    c.in-Ok.id c.in-Ok.ensures.ok.number c.part.ensures.there c.requires.step may (c.in_ok-hads.ensures.ok may.pins may.writing) c.in-Ok.ensures.moves

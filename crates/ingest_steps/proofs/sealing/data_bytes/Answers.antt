@@ -1,7 +1,5 @@
-use Rattle.std.proofs.Common.{◌≡◌, ◌≤◌, [], length, refl, ap, arith}
-use Rattle.std.proofs.lemmas.Bool.{leb-true}
+use Rattle.std.proofs.Common.{[], length, refl, ap, arith}
 use Rattle.container_meta.specs.declared.entry.Entry.{Entry}
-use Rattle.container_meta.specs.Segments.{bytes_in}
 use Rattle.container_meta.specs.Spelling.{header_of}
 use Rattle.ingest_steps.proofs.SealedTables.{last_of, length-of_entries, few_bytes}
 use Rattle.ingest_steps.proofs.sealing.data_bytes.Goals as goal

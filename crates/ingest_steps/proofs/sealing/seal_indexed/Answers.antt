@@ -1,7 +1,5 @@
-use Rattle.std.proofs.Common.{◌≡◌, ℕ, ◌+◌, Option, Some, length, refl, ap, sym, subst, ◌∙◌, arith}
-use Rattle.container_meta.specs.Places.{PlaceMap}
+use Rattle.std.proofs.Common.{ℕ, ◌+◌, refl, sym, subst, ◌∙◌}
 use Rattle.container_meta.specs.Spelling.{header_of}
-use Rattle.disk_format.specs.Layout.{size_of}
 use Rattle.dd_disk.specs.Ending.{Done, ending_of}
 use Rattle.dd_disk.proofs.Moves.{passed}
 use Rattle.store_state.specs.Indexing.{HasRoomFor}

@@ -46,7 +46,7 @@ module _ (among : ByteSet) (s : Store) (files : Files) (old new : CoreState) (by
   by_seal filled answer effect right given =
       leaves_weaker (λ c. Stands S s files c ⊎ Stands S (with_sealed (next_id old) filled.kind filled.segments s) files c) (Either S (asked.Seal filled) answer bytes files) old.disk new.disk
       (λ c stands. elim stands [ inl is ↦ inl (s, is) | inr is ↦ inl (with_sealed (next_id old) filled.kind filled.segments s, is) ])
-      (effect.moves among s files at.represents distinct (may_seal_all S filled.kind filled.segments right.1 given) at.stands).leaves
+      (effect.moves.moves among s files at.index at.index_known at.represents distinct (may_seal_all S filled.kind filled.segments right.1 given) at.stands).leaves
 
   -- of a commit that came to its first write
   put_leaves : (name : List ℕ) (root : Root) (answer : Result Answer Refusal) → PutsOne name root answer old new → IsRootOf root bytes old

@@ -226,11 +226,11 @@ module _ (among : ByteSet) (s : Store) (files : Files) (old new : CoreState) (ac
   -- a container
   seal_moves : (filled : Contents) (answer : Result Answer Refusal) → SealsOne filled answer old new → IsStep (asked.Seal filled) → IsGivenRight (IsIn among) (asked.Seal filled) answer bytes old
       → Moved (sealing_indexed (IsIn among) (next_id old) filled s files) (ending blames answer) old.disk new.disk
-  seal_moves filled answer effect right given = effect.moves among s files at.represents distinct (may_seal_all (IsIn among) filled.kind filled.segments right.1 given) at.stands
+  seal_moves filled answer effect right given = effect.moves.moves among s files at.index at.index_known at.represents distinct (may_seal_all (IsIn among) filled.kind filled.segments right.1 given) at.stands
 
   seal_holds : (filled : Contents) (answer : Result Answer Refusal) (after : List ℕ) → new.disk.content ≡ Some after → SealsOne filled answer old new → IsStep (asked.Seal filled) → IsGivenRight (IsIn among) (asked.Seal filled) answer bytes old
       → KeepsHeld (ending blames answer) (next_id old) filled s image after
-  seal_holds filled answer after is effect right given = effect.holds among s files image after at.represents here is stands_here distinct (may_seal_all (IsIn among) filled.kind filled.segments right.1 given)
+  seal_holds filled answer after is effect right given = effect.moves.holds among s files at.index image after at.index_known at.represents here is stands_here distinct (may_seal_all (IsIn among) filled.kind filled.segments right.1 given)
 
   -- a refusal that is no failed write
   stands_still : OnlyReads old.disk new.disk ⊎ StandsFor (Stands (IsIn among) s files) new.disk → StandsFor (Stands (IsIn among) s files) new.disk
@@ -261,12 +261,12 @@ module _ (among : ByteSet) (s : Store) (files : Files) (old new : CoreState) (ac
       (λ after is. (
       (seal_holds filled (Ok (answers.Sealed id)) after is effect right given).0,
       subst (λ (n : ℕ). HoldsPart (with_sealed n filled.kind filled.segments s).held after (part_of new.parts actor)) row.id_is
-      (row.kept among s files image after at.represents here is stands_here distinct may (all_part (HoldsPart s.held image) old.parts actor tt holds))))
+      (row.kept among s files at.index image after at.index_known at.represents here is stands_here distinct may (all_part (HoldsPart s.held image) old.parts actor tt holds))))
   seal_next filled (Err refusal) row effect stops right given =
       still among s files old new actor at (row_one actor buf old new (asked.Seal filled) (Err refusal) row) (seal_kept filled refusal stops effect.kept) effect.disk.later
       (seal_stands filled refusal stops (seal_moves filled (Err refusal) effect right given).arrives)
       (λ after is. let copies = seal_copies filled refusal after stops (seal_holds filled (Err refusal) after is effect right given) in
-      (copies, part_kept s s image after copies (part_of new.parts actor) (own_still row)))
+      (copies, part_kept s s image after copies (part_of new.parts actor) (own_still row.1)))
   seal_next filled answer row effect stops right given = absurd row
 
   -- a name

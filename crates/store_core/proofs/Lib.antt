@@ -6,5 +6,4 @@ pub mod KeepingFiles
 pub mod Making
 pub mod OwnParts
 pub mod RunningOn
-pub mod SealedPins
 pub mod Stepping

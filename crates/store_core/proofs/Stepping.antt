@@ -45,7 +45,7 @@ module _ (actor : ℕ) (buf : List ℕ) (old new : CoreState) where
 
   seal_one : (filled : Contents) (answer : Result Answer Refusal) → SealRow filled actor answer old new → ChangesOne actor old.parts new.parts
   seal_one filled (Ok (answers.Sealed id)) row = one actor old.parts new.parts _ row.parts_are
-  seal_one filled (Err refusal) row = same_one actor old.parts new.parts row
+  seal_one filled (Err refusal) row = same_one actor old.parts new.parts row.1
   seal_one filled answer row = absurd row
 
   commit_one : (name : List ℕ) (root : Root) (answer : Result Answer Refusal) → CommitRow name root actor answer old new → ChangesOne actor old.parts new.parts

@@ -46,7 +46,9 @@ use Rattle.ingest_steps.specs.declared.claiming.Claimed.{Claimed}
 use Rattle.ingest_steps.specs.declared.claiming.Claimed.TheVariants.{Held, Absent}
 use Rattle.ingest_steps.specs.Claiming.{IsClaimed, IsClaimRefusal, IsOtherCopy, KeepsPart}
 use Rattle.ingest_steps.specs.Pinning.{MayKeep, with_pins}
-use Rattle.ingest_steps.specs.Sealing.{KeepsHeld, sealing_indexed}
+use Rattle.ingest_steps.specs.Sealing.{SealsCompared}
+use Rattle.ingest_steps.specs.SealStep.{IsStepRefusal, KeepsSealed}
+use Rattle.store_state.specs.Comparing.{IsFirstUnlike}
 use Rattle.ingest_steps.specs.Writers.{MayCommit, IsWrongPart, IsCommitRefusal}
 use Rattle.read_steps.specs.Counting.{counts_of}
 use Rattle.read_steps.specs.Readers as readers
@@ -88,21 +90,17 @@ IsUnclaimed seg actor refusal old new =
 abbrev pub next_id : CoreState → ℕ
 next_id c = c.tables.held.last_id + 1
 
--- What the actor keeps is right still, where a content stands for files; S has no collisions.
-abbrev pub SealKeepsPins : Contents → ℕ → ℕ → CoreState → CoreState → Type 0
-SealKeepsPins filled id actor old new =
-    (among : ByteSet) (store : Store) (files : Files) (given held : List ℕ) → Represents store old.known old.tables
-    → old.disk.content ≡ Some given → new.disk.content ≡ Some held → Stands (IsIn among) store files given
-    → HasNoCollisions (IsIn among) → AllByRecursion (MaySeal (IsIn among) filled.kind) filled.segments
-    → HoldsPart store.held given (part_of old.parts actor)
-    → HoldsPart (with_sealed id filled.kind filled.segments store).held held (part_of new.parts actor)
-
 -- the container stands, and its segments are pinned from now on
 pub record IsSealed (filled : Contents) (id actor : ℕ) (old new : CoreState) : Type 0 where
   pub may : MayKeep (part_of old.parts actor) filled
   pub id_is : id ≡ next_id old
   pub parts_are : Gets (Writing (with_pins filled.kind filled.segments may.pins)) actor old new
-  pub kept : SealKeepsPins filled id actor old new
+  pub kept : KeepsSealed old.disk new.disk old.known old.tables old.parts actor filled new.parts id
+
+abbrev pub IsUnsealed : Contents → ℕ → Refusal → CoreState → CoreState → Type 0
+IsUnsealed filled actor refusal old new =
+    IsStepRefusal (part_of old.parts actor) old.tables old.disk.size old.known filled
+    (IsFirstUnlike old.disk.size old.known (Shows old.disk new.disk) filled.kind filled.segments) refusal
 
 -- ---- a file that is given back
 
@@ -150,7 +148,7 @@ ClaimRow seg actor answer old new = ⊥
 
 abbrev pub SealRow : Contents → ℕ → Result Answer Refusal → CoreState → CoreState → Type 0
 SealRow filled actor (Ok (answers.Sealed id)) old new = IsSealed filled id actor old new
-SealRow filled actor (Err refusal) old new = new.parts ≡ old.parts
+SealRow filled actor (Err refusal) old new = IsUnsealed filled actor refusal old new × (new.parts ≡ old.parts)
 SealRow filled actor answer old new = ⊥
 
 abbrev pub CommitRow : List ℕ → Root → ℕ → Result Answer Refusal → CoreState → CoreState → Type 0
@@ -226,13 +224,7 @@ pub record Rests (answer : Result Answer Refusal) (old new : CoreState) : Type 0
 -- A container is stored, or isn't. After a write that failed only the disk's images are told.
 pub record SealsOne (filled : Contents) (answer : Result Answer Refusal) (old new : CoreState) : Type 0 where
   pub disk : settled.Steps old.tables.slots (ending blames answer) old.disk new.disk
-  pub moves : (among : ByteSet) (store : Store) (files : Files) → Represents store old.known old.tables → HasNoCollisions (IsIn among)
-      → AllByRecursion (MaySeal (IsIn among) filled.kind) filled.segments
-      → Moves (sealing_indexed (IsIn among) (next_id old) filled store files) (ending blames answer) old.disk new.disk
-  pub holds : (among : ByteSet) (store : Store) (files : Files) (given held : List ℕ) → Represents store old.known old.tables
-      → old.disk.content ≡ Some given → new.disk.content ≡ Some held → Stands (IsIn among) store files given
-      → HasNoCollisions (IsIn among) → AllByRecursion (MaySeal (IsIn among) filled.kind) filled.segments
-      → KeepsHeld (ending blames answer) (next_id old) filled store given held
+  pub moves : SealsCompared old.tables old.known (next_id old) filled (ending blames answer) old.disk new.disk
   pub made : OnOk answer (Makes (SealContainer (next_id old) filled.kind filled.segments) old new)
   pub kept : IfErr answer (λ refusal. KeepsUnlessBroken refusal old new)
 

@@ -6,4 +6,5 @@ pub mod KeepingFiles
 pub mod Making
 pub mod OwnParts
 pub mod RunningOn
+pub mod Sealing
 pub mod Stepping

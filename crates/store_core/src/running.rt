@@ -11,11 +11,10 @@ ghost use Rattle.store_core.specs.State.{IsUp, IsRunning};
 
 use crate::state::HasState;
 use crate::stop::Stop;
-use crate::stub::seal;
 use actor_parts::{Actor, Answer, Parts, SegBuf, Step};
 use container_meta::{OpenContainer, Seg};
 use dd_disk::Disk;
-use ingest_steps::{Claimed, abort, begin, claim, commit};
+use ingest_steps::{Claimed, abort, begin, claim, commit, seal};
 use namespace::Root;
 use read_steps::{end_read, open_read, read_next, stat};
 use refusals::{PartKind, Refusal};
@@ -175,7 +174,19 @@ impl<D: Disk, M: Summary> Core<D, M> {
         ensures stop { self.new.stop ≡ self.old.stop }
         ensures count { self.new.acknowledged ≡ self.old.acknowledged }
     {
-        seal(self, actor, filled, buf)
+        match seal(
+            self.alloc,
+            &mut self.disk,
+            &mut self.tables,
+            &mut self.index,
+            &mut self.parts,
+            actor,
+            filled,
+            buf,
+        ) {
+            Ok(id) => Ok(Answer::Sealed { id }),
+            Err(refusal) => Err(refusal),
+        }
     }
 
     fn stat(&self) -> Answer

@@ -4,6 +4,7 @@ pub mod Crashes
 pub mod GivingFiles
 pub mod KeepingFiles
 pub mod Making
+pub mod Opened
 pub mod OwnParts
 pub mod RunningOn
 pub mod Sealing

@@ -2,6 +2,7 @@
 #![tactic(auto)]
 
 mod laws;
+mod opening;
 mod running;
 mod state;
 mod stop;

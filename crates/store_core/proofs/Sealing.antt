@@ -1,6 +1,5 @@
 -- What a seal makes of a core.
 use Rattle.std.proofs.Common.{◌≡◌, ℕ, List, Option, Some, None, Ok, Err, refl, sym, ◌∙◌, ap, subst}
-use Rattle.base_model.specs.Known.{Known}
 use Rattle.container_meta.specs.Places.{PlaceMap}
 use Rattle.container_meta.specs.Segments.{Contents}
 use Rattle.dd_disk.specs.View.{IsLater}
@@ -9,7 +8,7 @@ use Rattle.actor_parts.specs.declared.step.Answer.TheVariants as answers
 use Rattle.actor_parts.specs.StepValue as asked
 use Rattle.refusals.specs.declared.refusal.Refusal.{Refusal}
 use Rattle.refusals.specs.declared.refusal.Refusal.TheVariants as refusals
-use Rattle.store_model.specs.Image.{Store, IsValidFor}
+use Rattle.store_model.specs.Image.{IsValidFor}
 use Rattle.store_model.specs.Steps.{SealContainer, CanSeal, with_sealed}
 use Rattle.store_model.proofs.Valid.{valid_sealed}
 use Rattle.store_state.specs.Refused.{blames}
@@ -17,7 +16,7 @@ use Rattle.store_state.specs.Settled as settled
 use Rattle.store_state.specs.Tables.{Represents, Runs}
 use Rattle.ingest_steps.specs.Sealing.{HasSealed, HasPlacesOf, SealsCompared, KeepsMap, places_with}
 use Rattle.ingest_steps.specs.SealStep.{IsSealedFor, KeepsSealed}
-use Rattle.store_core.specs.Core.{Makes, Made, KeepsTables, KeepsUnlessBroken, IsUnsealed, next_id}
+use Rattle.store_core.specs.Core.{Makes, Made, KeepsUnlessBroken, IsUnsealed, next_id}
 use Rattle.store_core.specs.State.{CoreState}
 
 -- an index that knows its map whatever the disk tells has the places of the container
@@ -37,10 +36,14 @@ module _ (old new : CoreState) (filled : Contents) (slot id : ℕ) (sealed : Has
   pub makes_seal : Makes (SealContainer (next_id old) filled.kind filled.segments) old new
   makes_seal = record {
     can = record { store_has = λ store represents valid reserve. subst (λ (n : ℕ). CanSeal n filled.kind filled.segments store) id_is (sealed.can.store_has store represents valid reserve) };
-    represents = record { store_has = λ store represents valid reserve. subst (λ (k : Option PlaceMap). Represents (with_sealed (next_id old) filled.kind filled.segments store) k new.tables) (sym map_is)
-        (subst (λ (n : ℕ). Represents (with_sealed n filled.kind filled.segments store) (places_with filled slot old.known) new.tables) id_is (sealed.represents.store_has store represents valid reserve)) };
-    valid = record { store_has = λ store represents valid reserve. subst (λ (size : ℕ). IsValidFor size (with_sealed (next_id old) filled.kind filled.segments store)) (sym later.size_is)
-        (valid_sealed (next_id old) filled.kind filled.segments store (subst (λ (n : ℕ). CanSeal n filled.kind filled.segments store) id_is (sealed.can.store_has store represents valid reserve)) old.disk.size valid) };
+    represents = record {
+      store_has = λ store represents valid reserve. subst (λ (k : Option PlaceMap). Represents (with_sealed (next_id old) filled.kind filled.segments store) k new.tables) (sym map_is)
+          (subst (λ (n : ℕ). Represents (with_sealed n filled.kind filled.segments store) (places_with filled slot old.known) new.tables) id_is (sealed.represents.store_has store represents valid reserve));
+    };
+    valid = record {
+      store_has = λ store represents valid reserve. subst (λ (size : ℕ). IsValidFor size (with_sealed (next_id old) filled.kind filled.segments store)) (sym later.size_is)
+          (valid_sealed (next_id old) filled.kind filled.segments store (subst (λ (n : ℕ). CanSeal n filled.kind filled.segments store) id_is (sealed.can.store_has store represents valid reserve)) old.disk.size valid);
+    };
     tells = λ places is. (_, index);
     runs = λ runs. subst (λ (size : ℕ). Runs size new.known new.tables) (sym later.size_is) (subst (λ (k : Option PlaceMap). Runs old.disk.size k new.tables) (sym map_is) sealed.runs);
   }

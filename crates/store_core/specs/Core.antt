@@ -1,28 +1,22 @@
 -- What each step makes of the core of a store, what it answers, and why it is refused (docs/MODEL.md, 'The core').
-use Rattle.std.specs.Prelude.{◌≡◌, ◌≢◌, ◌⊎◌, ℕ, suc, ◌+◌, ◌-◌, ◌<◌, ◌≤◌, List, [], ◌∷◌, Option, Some, None, Result, Ok, Err, IfOk, IfErr, OnOk, OnErr}
+use Rattle.std.specs.Prelude.{◌≡◌, ℕ, suc, ◌+◌, List, Option, Some, None, Result, Ok, Err, IfErr, OnOk, OnErr}
 use Rattle.std.specs.FinMap as finite
-use Rattle.std.specs.List.{AllByRecursion}
 use Rattle.base_model.specs.Known.{Known, KnownWith}
 use Rattle.disk_format.specs.Cells.{Root}
-use Rattle.disk_format.specs.declared.numbers.TheConstants.{RESERVE, LAST_ID}
-use Rattle.dd_disk.specs.View.{DiskView, IsDurable}
-use Rattle.dd_disk.specs.Ending.{Ending, Done, Refused, Unread, Broken, Reads, ending}
-use Rattle.dd_disk.specs.Moves.{Moves, Acts}
+use Rattle.dd_disk.specs.Ending.{Reads, ending}
+use Rattle.dd_disk.specs.Moves.{Acts}
 use Rattle.dd_disk.specs.Shows.{Shows}
 use Rattle.disk_format.specs.declared.why.Why.{Why}
-use Rattle.container_meta.specs.declared.kind.Kind.{Kind}
 use Rattle.container_meta.specs.Places.{PlaceMap}
 use Rattle.container_meta.specs.Spelling.{HeaderValue}
-use Rattle.container_meta.specs.Segments.{Segment, KindSegment, Contents, segment_key}
+use Rattle.container_meta.specs.Segments.{KindSegment, Contents}
 use Rattle.merkle_file.specs.declared.top.Top.{Top}
 use Rattle.actor_parts.specs.declared.part.Part.{Part}
-use Rattle.actor_parts.specs.declared.part.Part.TheVariants.{Idle, Writing, Reading}
+use Rattle.actor_parts.specs.declared.part.Part.TheVariants.{Idle, Writing}
 use Rattle.actor_parts.specs.declared.step.Answer.{Answer}
 use Rattle.actor_parts.specs.declared.step.Answer.TheVariants as answers
 use Rattle.actor_parts.specs.Kinds.{kind_of}
 use Rattle.actor_parts.specs.Parts.{part_of, with_part}
-use Rattle.actor_parts.specs.PinMap.{PinMap}
-use Rattle.actor_parts.specs.Segments.{pin_of, first_unpinned}
 use Rattle.actor_parts.specs.StepValue as asked
 use Rattle.actor_parts.specs.StepValue.{StepValue}
 use Rattle.refusals.specs.declared.refusal.PartKind.{PartKind}
@@ -30,14 +24,10 @@ use Rattle.refusals.specs.declared.refusal.PartKind.TheVariants as kinds
 use Rattle.refusals.specs.declared.refusal.Refusal.{Refusal}
 use Rattle.refusals.specs.declared.refusal.Refusal.TheVariants as refusals
 use Rattle.segment_index.specs.Places.{KnownMap}
-use Rattle.store_model.specs.Commands.{HasNoCollisions}
 use Rattle.store_model.specs.Files.{Files}
 use Rattle.store_model.specs.Image.{Store, Encodes, IsValidFor, names_of}
-use Rattle.store_model.specs.Slots.{Copy, IsIndexOf, newest}
-use Rattle.store_model.specs.Standing.{ByteSet, IsIn, IsAmong, IsStoreOf, Stands}
-use Rattle.store_model.specs.Steps.{StoreChange, SealContainer, PutName, CanChange, MaySeal, FitsCopy, KeepsCopies, changed, with_sealed}
-use Rattle.store_model.specs.Trees.{HasNewest}
-use Rattle.store_state.specs.Invariant.{HoldsPart}
+use Rattle.store_model.specs.Standing.{IsStoreOf}
+use Rattle.store_model.specs.Steps.{StoreChange, SealContainer, PutName, CanChange, KeepsCopies, changed}
 use Rattle.store_state.specs.Refused.{blames}
 use Rattle.store_state.specs.Settled as settled
 use Rattle.store_state.specs.Tables.{Represents, Runs, OfEach}

@@ -20,7 +20,8 @@ use summary_vector::Summary;
 impl<D: Disk, M: Summary + Drop> Core<D, M> {
     /// Opens the store on a disk. The refusals are those of `recovery::open`, and hand the disk back.
     pub fn open(alloc: Global, disk: D, summary: M) -> Result<Core<D, M>, (D, Refusal)>
-        ensures opened { IfOk result (λ c. IsNew (Shows (D.view disk) (D.view c.disk)) (D.view disk).size (⟦<Core<D, M> as HasState>⟧.state c)) }
+        ensures opened { IfOk result (λ c. IsNew (Shows (D.view disk) (D.view c.disk)) (D.view disk).size
+            (⟦<Core<D, M> as HasState>⟧.state c)) }
         ensures running { IfOk result (λ c. IsRunning (⟦<Core<D, M> as HasState>⟧.state c)) }
         // All that was written stands after a crash.
         ensures durable { IfOk result (λ c. IsDurable (D.view c.disk)) }

@@ -40,14 +40,14 @@ pub struct Core<D, M> {
 
 impl<D: Disk, M: Summary> HasState for Core<D, M> {
     ghost state = { λ c. record {
-        disk = D.view c.disk;
-        tables = c.tables;
-        known = ⟦<StoreIndex as Index>⟧.places c.index (D.view c.disk).content;
-        served = ⟦<StoreIndex as Index>⟧.serves c.index (D.view c.disk).size;
-        breaks = ⟦<StoreIndex as Index>⟧.breaks c.index;
-        parts = c.parts;
-        stop = c.stop;
-        acknowledged = c.acknowledged;
+      disk = D.view c.disk;
+      tables = c.tables;
+      known = ⟦<StoreIndex as Index>⟧.places c.index (D.view c.disk).content;
+      served = ⟦<StoreIndex as Index>⟧.serves c.index (D.view c.disk).size;
+      breaks = ⟦<StoreIndex as Index>⟧.breaks c.index;
+      parts = c.parts;
+      stop = c.stop;
+      acknowledged = c.acknowledged;
     } };
 }
 
@@ -83,7 +83,8 @@ fn count_after(answer: &Result<Answer, Refusal>, count: u64) -> u64
 
 impl<D: Disk, M: Summary> Core<D, M> {
     fn begin(&mut self, actor: Actor) -> Result<Answer, Refusal>
-        ensures made { (buf : List ℕ) → Leaves asked.Begin actor result buf (⟦<Core<D, M> as HasState>⟧.state self.old) (⟦<Core<D, M> as HasState>⟧.state self.new) }
+        ensures made { (buf : List ℕ) → Leaves asked.Begin actor result buf (⟦<Core<D, M> as HasState>⟧.state self.old)
+            (⟦<Core<D, M> as HasState>⟧.state self.new) }
         ensures stop { self.new.stop ≡ self.old.stop }
         ensures count { self.new.acknowledged ≡ self.old.acknowledged }
     {
@@ -94,7 +95,8 @@ impl<D: Disk, M: Summary> Core<D, M> {
     }
 
     fn abort(&mut self, actor: Actor) -> Result<Answer, Refusal>
-        ensures made { (buf : List ℕ) → Leaves asked.Abort actor result buf (⟦<Core<D, M> as HasState>⟧.state self.old) (⟦<Core<D, M> as HasState>⟧.state self.new) }
+        ensures made { (buf : List ℕ) → Leaves asked.Abort actor result buf (⟦<Core<D, M> as HasState>⟧.state self.old)
+            (⟦<Core<D, M> as HasState>⟧.state self.new) }
         ensures stop { self.new.stop ≡ self.old.stop }
         ensures count { self.new.acknowledged ≡ self.old.acknowledged }
     {
@@ -107,11 +109,19 @@ impl<D: Disk, M: Summary> Core<D, M> {
     fn claim(&mut self, actor: Actor, seg: &Seg, buf: &mut SegBuf) -> Result<Answer, Refusal>
         requires segment { IsStepSegment seg.now }
         requires up { IsUp (⟦<Core<D, M> as HasState>⟧.state self.old) }
-        ensures made { Leaves (asked.Claim seg.now) actor result buf.new (⟦<Core<D, M> as HasState>⟧.state self.old) (⟦<Core<D, M> as HasState>⟧.state self.new) }
+        ensures made { Leaves (asked.Claim seg.now) actor result buf.new (⟦<Core<D, M> as HasState>⟧.state self.old)
+            (⟦<Core<D, M> as HasState>⟧.state self.new) }
         ensures stop { self.new.stop ≡ self.old.stop }
         ensures count { self.new.acknowledged ≡ self.old.acknowledged }
     {
-        match claim(&mut self.disk, &mut self.index, &mut self.parts, actor, seg, buf) {
+        match claim(
+            &mut self.disk,
+            &mut self.index,
+            &mut self.parts,
+            actor,
+            seg,
+            buf,
+        ) {
             Ok(Claimed::Held) => Ok(Answer::Held),
             Ok(Claimed::Absent) => Ok(Answer::Absent),
             Err(refusal) => Err(refusal),
@@ -120,18 +130,28 @@ impl<D: Disk, M: Summary> Core<D, M> {
 
     fn commit(&mut self, actor: Actor, name: &[u8], root: &Root) -> Result<Answer, Refusal>
         requires up { IsUp (⟦<Core<D, M> as HasState>⟧.state self.old) }
-        ensures made { (buf : List ℕ) → Leaves (asked.Commit name.now root.now) actor result buf (⟦<Core<D, M> as HasState>⟧.state self.old) (⟦<Core<D, M> as HasState>⟧.state self.new) }
+        ensures made { (buf : List ℕ) → Leaves (asked.Commit name.now root.now) actor result buf (⟦<Core<D, M> as HasState>⟧.state self.old)
+            (⟦<Core<D, M> as HasState>⟧.state self.new) }
         ensures stop { self.new.stop ≡ self.old.stop }
         ensures count { self.new.acknowledged ≡ self.old.acknowledged }
     {
-        match commit(self.alloc, &mut self.disk, &mut self.tables, &mut self.parts, actor, name, root) {
+        match commit(
+            self.alloc,
+            &mut self.disk,
+            &mut self.tables,
+            &mut self.parts,
+            actor,
+            name,
+            root,
+        ) {
             Ok(sequence) => Ok(Answer::Committed { sequence }),
             Err(refusal) => Err(refusal),
         }
     }
 
     fn open_read(&mut self, actor: Actor, name: &[u8]) -> Result<Answer, Refusal>
-        ensures made { (buf : List ℕ) → Leaves (asked.OpenRead name.now) actor result buf (⟦<Core<D, M> as HasState>⟧.state self.old) (⟦<Core<D, M> as HasState>⟧.state self.new) }
+        ensures made { (buf : List ℕ) → Leaves (asked.OpenRead name.now) actor result buf (⟦<Core<D, M> as HasState>⟧.state self.old)
+            (⟦<Core<D, M> as HasState>⟧.state self.new) }
         ensures stop { self.new.stop ≡ self.old.stop }
         ensures count { self.new.acknowledged ≡ self.old.acknowledged }
     {
@@ -143,7 +163,8 @@ impl<D: Disk, M: Summary> Core<D, M> {
 
     fn read_next(&mut self, actor: Actor, buf: &mut SegBuf) -> Result<Answer, Refusal>
         requires up { IsUp (⟦<Core<D, M> as HasState>⟧.state self.old) }
-        ensures made { Leaves asked.ReadNext actor result buf.new (⟦<Core<D, M> as HasState>⟧.state self.old) (⟦<Core<D, M> as HasState>⟧.state self.new) }
+        ensures made { Leaves asked.ReadNext actor result buf.new (⟦<Core<D, M> as HasState>⟧.state self.old)
+            (⟦<Core<D, M> as HasState>⟧.state self.new) }
         ensures stop { self.new.stop ≡ self.old.stop }
         ensures count { self.new.acknowledged ≡ self.old.acknowledged }
     {
@@ -157,7 +178,8 @@ impl<D: Disk, M: Summary> Core<D, M> {
     }
 
     fn end_read(&mut self, actor: Actor) -> Result<Answer, Refusal>
-        ensures made { (buf : List ℕ) → Leaves asked.EndRead actor result buf (⟦<Core<D, M> as HasState>⟧.state self.old) (⟦<Core<D, M> as HasState>⟧.state self.new) }
+        ensures made { (buf : List ℕ) → Leaves asked.EndRead actor result buf (⟦<Core<D, M> as HasState>⟧.state self.old)
+            (⟦<Core<D, M> as HasState>⟧.state self.new) }
         ensures stop { self.new.stop ≡ self.old.stop }
         ensures count { self.new.acknowledged ≡ self.old.acknowledged }
     {
@@ -167,10 +189,16 @@ impl<D: Disk, M: Summary> Core<D, M> {
         }
     }
 
-    fn seal(&mut self, actor: Actor, filled: &OpenContainer, buf: &mut SegBuf) -> Result<Answer, Refusal>
+    fn seal(
+        &mut self,
+        actor: Actor,
+        filled: &OpenContainer,
+        buf: &mut SegBuf,
+    ) -> Result<Answer, Refusal>
         requires asked { IsStep (asked.Seal filled.now) }
         requires up { IsUp (⟦<Core<D, M> as HasState>⟧.state self.old) }
-        ensures made { (bytes : List ℕ) → Leaves (asked.Seal filled.now) actor result bytes (⟦<Core<D, M> as HasState>⟧.state self.old) (⟦<Core<D, M> as HasState>⟧.state self.new) }
+        ensures made { (bytes : List ℕ) → Leaves (asked.Seal filled.now) actor result bytes (⟦<Core<D, M> as HasState>⟧.state self.old)
+            (⟦<Core<D, M> as HasState>⟧.state self.new) }
         ensures stop { self.new.stop ≡ self.old.stop }
         ensures count { self.new.acknowledged ≡ self.old.acknowledged }
     {
@@ -200,7 +228,8 @@ impl<D: Disk, M: Summary> Core<D, M> {
     fn make(&mut self, actor: Actor, step: Step<'_>, buf: &mut SegBuf) -> Result<Answer, Refusal>
         requires asked { IsStep (step_value step) }
         requires up { IsUp (⟦<Core<D, M> as HasState>⟧.state self.old) }
-        ensures made { Leaves (step_value step.entry) actor result buf.new (⟦<Core<D, M> as HasState>⟧.state self.old) (⟦<Core<D, M> as HasState>⟧.state self.new) }
+        ensures made { Leaves (step_value step.entry) actor result buf.new (⟦<Core<D, M> as HasState>⟧.state self.old)
+            (⟦<Core<D, M> as HasState>⟧.state self.new) }
         ensures stop { self.new.stop ≡ self.old.stop }
         ensures count { self.new.acknowledged ≡ self.old.acknowledged }
     {
@@ -221,7 +250,12 @@ impl<D: Disk, M: Summary> Core<D, M> {
     ///
     /// After `DiskWrite`, and after `Damaged` that a seal met in the index, the core is stopped: each further step is refused by
     /// `Stopped`, with how many puts had been acknowledged since the opening, and changes nothing.
-    pub fn step(&mut self, actor: Actor, step: Step<'_>, buf: &mut SegBuf) -> Result<Answer, Refusal>
+    pub fn step(
+        &mut self,
+        actor: Actor,
+        step: Step<'_>,
+        buf: &mut SegBuf,
+    ) -> Result<Answer, Refusal>
         requires asked { IsStep (step_value step) }
         requires running { IsRunning (⟦<Core<D, M> as HasState>⟧.state self.old) }
         ensures step { CoreStep (⟦<Core<D, M> as HasState>⟧.state self.old)

@@ -1,5 +1,5 @@
 -- A container that is sealed after reads.
-use Rattle.std.proofs.Common.{◌≡◌, inl, inr, ℕ, List, Option, Some, Result, Ok, Err, OnOk, IfErr, refl, sym, ◌∙◌, subst}
+use Rattle.std.proofs.Common.{◌≡◌, inl, inr, ℕ, List, Option, Some, None, Result, Ok, Err, OnOk, IfErr, refl, sym, ◌∙◌, ap, subst}
 use Rattle.std.specs.List.{AllByRecursion}
 use Rattle.base_model.specs.Known.{Known}
 use Rattle.disk_format.specs.Layout.{slot_at}
@@ -26,7 +26,7 @@ use Rattle.store_model.specs.Steps.{FitsHeld}
 use Rattle.store_state.specs.Indexing.{IsChangeRefusal}
 use Rattle.store_state.specs.Settled.{IsSettled, KeepsWhatCounts, Left, Steps}
 use Rattle.store_state.specs.declared.tables.Tables.{Tables}
-use Rattle.ingest_steps.specs.Sealing.{FitBeside, SealsIndexed, SealsCompared, IsSealRefusal, KeepsMap, sealing_indexed}
+use Rattle.ingest_steps.specs.Sealing.{FitBeside, SealsIndexed, SealsCompared, HasPlacesOf, IsSealRefusal, KeepsMap, sealing_indexed}
 
 -- ---- the map
 
@@ -34,8 +34,12 @@ pub map_on_ok : {T E : Type 0} (result : Result T E) (P Q : Type 0) → (P → Q
 map_on_ok (Ok x) P Q each has = each has
 map_on_ok (Err e) P Q each has = tt
 
-pub known_before : (a b : Option (List ℕ)) (k l : Option PlaceMap) (P : PlaceMap → Type 0) → a ≡ b → k ≡ l → Known a (λ _. KnownMap k P) → Known b (λ _. KnownMap l P)
-known_before a b k l P same also has given is m known = has given (same ∙ is) m (also ∙ known)
+pub has_places_before : (filled : Contents) (slot : ℕ) (before now after : Option (List ℕ) → Option PlaceMap) (old mid new : Option (List ℕ)) → mid ≡ old → now mid ≡ before old
+    → HasPlacesOf filled slot now after mid new → HasPlacesOf filled slot before after old new
+has_places_before filled slot before now after old mid new same also has = record {
+  told = λ given is m known. has.told given (same ∙ is) m (also ∙ known);
+  untold = λ none m known. has.untold (same ∙ none) m (sym (ap now (same ∙ none)) ∙ also ∙ ap before none ∙ known);
+}
 
 pub change_refused : (k l : Option PlaceMap) (unlike : Refusal → Type 0) → k ≡ l → (refusal : Refusal) → IsChangeRefusal k refusal → IsSealRefusal l unlike refusal
 change_refused k l unlike same Memory has = tt

@@ -313,3 +313,9 @@ map_on places owned_from stay serves owns size known t slot has runs old mid new
     ap places after.1
     ∙ stay then.0 after.0 (record { size = after.2.size; after = λ p n above. after.2.after p n (omega (arith, above, owned, here.within, runs.represents.slots_are)) })
     ∙ ap places (sym then.1)
+
+-- what tells nothing tells nothing then
+pub no_content : (R : List ℕ → List ℕ → Type 0) (old new : Option (List ℕ)) → Both R old new → old ≡ None → new ≡ None
+no_content R None None both none = refl
+no_content R None (Some new) both none = absurd both
+no_content R (Some old) new both none = absurd cc

@@ -20,16 +20,16 @@ use Rattle.store_model.specs.Steps.{MaySeal, with_sealed}
 use Rattle.store_state.specs.Invariant.{HoldsPart}
 use Rattle.store_state.specs.Tables.{Represents}
 use Rattle.ingest_steps.specs.Pinning.{MayKeep, IsUnkept, with_pins}
-use Rattle.ingest_steps.specs.Sealing.{HasSlot, IsSlotRefusal, IsSealRefusal, HasSealed, places_with}
+use Rattle.ingest_steps.specs.Sealing.{HasSlot, IsSlotRefusal, IsSealRefusal, HasSealed, HasPlacesOf}
 
 -- The container stands in a slot that was free, its places are in the map, and the actor keeps its segments, too.
 pub record IsSealedFor (old : Tables) (disk : DiskView) (known : Option PlaceMap) (parts : List Part) (actor : ℕ) (filled : Contents)
-    (new : Tables) (disk_new : DiskView) (known_new : Option PlaceMap) (parts_new : List Part) (id : ℕ) : Type 0 where
+    (new : Tables) (disk_new : DiskView) (before after : Option (List ℕ) → Option PlaceMap) (parts_new : List Part) (id : ℕ) : Type 0 where
   pub may : MayKeep (part_of parts actor) filled
   pub slot : ℕ
   pub has : HasSlot old slot
   pub sealed : HasSealed old disk.size known slot filled new id
-  pub map : Known disk.content (λ _. KnownMap known (λ m. known_new ≡ places_with filled slot (Some m)))
+  pub map : HasPlacesOf filled slot before after disk.content disk_new.content
   pub parts_are : parts_new ≡ with_part parts actor (Writing (with_pins filled.kind filled.segments may.pins))
 
 -- Why it isn't sealed, in this order: the actor, a slot, what is held or the disk. Want of memory is free.

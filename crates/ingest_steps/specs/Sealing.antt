@@ -11,6 +11,7 @@ use Rattle.dd_disk.specs.Moves.{Way, one_step, Moves}
 use Rattle.container_meta.specs.declared.kind.Kind.{Kind}
 use Rattle.container_meta.specs.Places.{PlaceMap}
 use Rattle.container_meta.specs.Segments.{Segment, Contents, entries_from, segment_key}
+use Rattle.segment_index.specs.Places.{KnownMap}
 use Rattle.refusals.specs.declared.refusal.Refusal.{Refusal}
 use Rattle.refusals.specs.declared.refusal.Refusal.TheVariants.{Memory, Full, DiskRead, DiskWrite, Numbers, Damaged}
 use Rattle.store_model.specs.Commands.{HasNoCollisions}
@@ -133,6 +134,12 @@ KeepsMap old new refusal = new ≡ old
 -- the map of the index, with the places of a container
 abbrev pub places_with : Contents → ℕ → Option PlaceMap → Option PlaceMap
 places_with filled slot known = option_map (with_entries filled.kind slot (entries_from 0 filled.segments)) known
+
+-- The map of the index has the places of a container more: by what the disk tells, or, where it tells nothing, by the index alone.
+pub record HasPlacesOf (filled : Contents) (slot : ℕ) (before after : Option (List ℕ) → Option PlaceMap) (old new : Option (List ℕ))
+    : Type 0 where
+  pub told : Known old (λ _. KnownMap (before old) (λ m. after new ≡ places_with filled slot (Some m)))
+  pub untold : old ≡ None → KnownMap (before None) (λ m. after None ≡ places_with filled slot (Some m))
 
 -- The tables are those of before with a container more, under the next id: of each store that they and the map of the index
 -- were those of, they are those of the store with it.

@@ -100,9 +100,9 @@ pub fn seal<D: Disk, X: Index>(
     requires state { Runs (D.view disk.old).size (X.places index.old (D.view disk.old).content) tables.old }
     requires there { 1 ≤ length filled.now.segments }
     requires step { AreStepSegments filled.now.kind filled.now.segments }
-    ensures ok { IfOk result (IsSealedFor tables.old (D.view disk.old) (X.places index.old (D.view disk.old).content) parts.old actor
-        filled.now
-        tables.new (D.view disk.new) (X.places index.new (D.view disk.new).content) parts.new) }
+    ensures ok { IfOk result (IsSealedFor tables.old (D.view disk.old) (X.places index.old
+        (D.view disk.old).content) parts.old actor filled.now
+        tables.new (D.view disk.new) (X.places index.old) (X.places index.new) parts.new) }
     ensures refused { IfErr result (IsStepRefusal (part_of parts.old actor) tables.old (D.view disk.old).size
         (X.places index.old (D.view disk.old).content) filled.now
         (IsFirstUnlike (D.view disk.old).size (X.places index.old (D.view disk.old).content) (Shows (D.view disk.old) (D.view disk.new))

@@ -17,7 +17,7 @@ ghost use Rattle.segment_index.specs.Places.{KnownMap};
 ghost use Rattle.store_state.specs.Indexing.{IsChangeRefusal, AreHad};
 ghost use Rattle.store_state.specs.Settled.{Steps};
 ghost use Rattle.store_state.specs.Tables.{Runs};
-ghost use Rattle.ingest_steps.specs.Sealing.{HasSlot, IsSlotRefusal, SealsContainer, SealsIndexed, HasSealed, ChangesSlotAlone, places_with};
+ghost use Rattle.ingest_steps.specs.Sealing.{HasSlot, IsSlotRefusal, SealsContainer, SealsIndexed, HasSealed, HasPlacesOf, ChangesSlotAlone, places_with};
 
 use container_log::seal;
 use container_meta::{OpenContainer, Place};
@@ -143,13 +143,14 @@ pub fn seal_indexed<D: Disk, X: Index>(
     requires had { AreHad (D.view disk.old).size (X.places index.old (D.view disk.old).content) filled.now.kind
         (entries_from 0 filled.now.segments) before.now }
     requires image { length image.old ≡ SLOT_BYTES }
-    ensures ok { IfOk result (HasSealed tables.old (D.view disk.old).size (X.places index.old (D.view disk.old).content) slot filled.now
-        tables.new) }
-    ensures map { OnOk result (Known (D.view disk.old).content (λ _. KnownMap (X.places index.old (D.view disk.old).content)
-        (λ m. X.places index.new (D.view disk.new).content ≡ places_with filled.now slot (Some m)))) }
+    ensures ok { IfOk result (HasSealed tables.old (D.view disk.old).size (X.places index.old
+        (D.view disk.old).content) slot filled.now tables.new) }
+    ensures map { OnOk result (HasPlacesOf filled.now slot (X.places index.old) (X.places index.new)
+        (D.view disk.old).content (D.view disk.new).content) }
     ensures refused { IfErr result (IsChangeRefusal (X.places index.old (D.view disk.old).content)) }
     ensures unchanged { OnErr result (tables.new ≡ tables.old) }
-    ensures memory { result ≡ Err Memory → X.places index.new (D.view disk.new).content ≡ X.places index.old (D.view disk.old).content }
+    ensures memory { result ≡ Err Memory → X.places index.new (D.view disk.new).content ≡ X.places index.old
+        (D.view disk.old).content }
     ensures disk { Steps tables.old.slots (ending blames result) (D.view disk.old) (D.view disk.new) }
     ensures moves { SealsIndexed tables.old (tables.old.held.last_id + 1) filled.now (ending blames result) (D.view disk.old)
         (D.view disk.new) }

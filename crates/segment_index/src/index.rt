@@ -62,7 +62,8 @@ pub trait Index {
             → places self.new (D.view disk.new).content ≡ None) }
         ensures memory { result ≡ Err Memory
             → places self.new (D.view disk.new).content ≡ places self.old (D.view disk.old).content }
-        ensures absent { result ≡ Err Memory → KnownMap (places self.old (D.view disk.old).content) (λ m. finite.get m key.now ≡ None) }
+        ensures absent { result ≡ Err Memory → KnownMap (places self.old (D.view disk.old).content)
+            (λ m. finite.get m key.now ≡ None) }
         ensures fault { IfErr result (IsPutFault (λ at why. (places self.old (D.view disk.old).content ≡ None)
             × Shows (D.view disk.old) (D.view disk.new) (breaks self.old at why))) }
         ensures changes { Changes (owned_from self.old (D.view disk.old).size) (ending blames result) (D.view disk.old) (D.view disk.new) }

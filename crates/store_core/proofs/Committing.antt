@@ -1,5 +1,5 @@
 -- What a commit makes of a core.
-use Rattle.std.proofs.Common.{◌≡◌, ℕ, List, [], length, Option, Some, Ok, refl, sym, ◌∙◌, subst}
+use Rattle.std.proofs.Common.{◌≡◌, ℕ, List, length, Option, Some, Ok, sym, ◌∙◌, subst}
 use Rattle.base_model.specs.Known.{Known, KnownWith}
 use Rattle.base_model.specs.Frames.{SameOutside}
 use Rattle.disk_format.specs.Cells.{Root}
@@ -11,7 +11,6 @@ use Rattle.dd_disk.specs.Ending.{Done, Reads}
 use Rattle.dd_disk.specs.Moves.{Acts}
 use Rattle.actor_parts.specs.declared.step.Answer.TheVariants as answers
 use Rattle.actor_parts.specs.StepValue as asked
-use Rattle.journal_cells.specs.Appending.{SameButNext}
 use Rattle.store_model.specs.Image.{Store, Encodes, IsValidFor}
 use Rattle.store_model.specs.Steps.{PutName, KeepsCopies, with_put}
 use Rattle.store_model.proofs.PutRoots.{put_newest}
@@ -38,10 +37,13 @@ module _ (old new : CoreState) (name : List ℕ) (root : Root) (sequence : ℕ) 
       → Known old.disk.content (λ before. Encodes before store → KnownWith new.disk.content (KeepsCopies store before (with_put name root store)))
   put_copies keeps store represents before told right =
       let kept = keeps before told in
-      let can = named.can store represents.names_are in
-      (kept.0, kept.1, put_newest before kept.0 store right can.cell
-      (subst (λ (half : ℕ). SameOutside (cell_at half (length store.records)) CELL_BYTES before kept.0) represents.names_are.half
-      (subst (λ (count : ℕ). SameOutside (cell_at old.tables.journal.half count) CELL_BYTES before kept.0) represents.names_are.count kept.2)))
+      let can = named.can store represents.names_are in (
+        kept.0,
+        kept.1,
+        put_newest before kept.0 store right can.cell
+            (subst (λ (half : ℕ). SameOutside (cell_at half (length store.records)) CELL_BYTES before kept.0) represents.names_are.half
+            (subst (λ (count : ℕ). SameOutside (cell_at old.tables.journal.half count) CELL_BYTES before kept.0) represents.names_are.count kept.2)),
+      )
 
 pub made_put : (name : List ℕ) (root : Root) (actor sequence : ℕ) (buf : List ℕ) (old new : CoreState) → IsCommitted old.parts actor old.tables name root new.parts new.tables sequence → Acts Done old.disk new.disk
     → PutsRoot old.tables name root Done old.disk new.disk → KeepsButNext old.tables.journal old.disk new.disk → new.known ≡ old.known → (old.served → new.served)

@@ -1,8 +1,6 @@
 -- What a crash leaves at any moment of a run.
-use Rattle.std.proofs.Common.{◌≡◌, ◌⊎◌, inl, inr, ◌<◌, ◌≤◌, ◌-◌, ◌^◌, ℕ, List, [], ◌∷◌, Option, Some, None, Result, Ok, Err, refl, sym, ◌∙◌, ap, subst, arith}
-use Rattle.dd_disk.specs.View.{DiskView, IsLater, OnlyReads, CrashLeaves}
-use Rattle.dd_disk.specs.Ending.{ending, ending_of}
-use Rattle.dd_disk.specs.Moves.{StandsFor, Ends}
+use Rattle.std.proofs.Common.{◌≡◌, ◌⊎◌, inl, inr, ℕ, List, [], ◌∷◌, Option, Some, None, Result, Ok, Err, refl, sym, ◌∙◌, subst, arith}
+use Rattle.dd_disk.specs.View.{OnlyReads, CrashLeaves}
 use Rattle.dd_disk.proofs.Later.{reads_here, reads_on, reads_leave, leaves_on, leaves_weaker}
 use Rattle.container_meta.specs.Segments.{Contents}
 use Rattle.disk_format.specs.Cells.{Root}
@@ -16,9 +14,8 @@ use Rattle.store_model.specs.Files.{Files, with_file}
 use Rattle.store_model.specs.Image.{Store}
 use Rattle.store_model.specs.Standing.{ByteSet, IsIn, Stands}
 use Rattle.store_model.specs.Steps.{with_sealed, with_put}
-use Rattle.store_state.specs.Refused.{blames}
 use Rattle.store_core.specs.declared.stop.Stop.{Stop}
-use Rattle.store_core.specs.Core.{Effect, Rests, SealsOne, PutsOne, Steps, StepsOr, next_id}
+use Rattle.store_core.specs.Core.{Effect, SealsOne, PutsOne, StepsOr, next_id}
 use Rattle.store_core.specs.Runs.{FileEvent, FileStep, FileRun, IsAt, IsOf, IsOnTheWay, IsGivenRight, IsRootOf, SurvivesCrashes, files_by, files_tried}
 use Rattle.store_core.specs.State.{CoreState}
 use Rattle.store_core.proofs.KeepingFiles.{file_step, may_seal_all}
@@ -46,7 +43,7 @@ module _ (among : ByteSet) (s : Store) (files : Files) (old new : CoreState) (by
   by_seal filled answer effect right given =
       leaves_weaker (λ c. Stands S s files c ⊎ Stands S (with_sealed (next_id old) filled.kind filled.segments s) files c) (Either S (asked.Seal filled) answer bytes files) old.disk new.disk
       (λ c stands. elim stands [ inl is ↦ inl (s, is) | inr is ↦ inl (with_sealed (next_id old) filled.kind filled.segments s, is) ])
-      (effect.moves among s files at.represents distinct (may_seal_all S filled.kind filled.segments right.1 given) at.stands).leaves
+      (effect.moves.moves among s files at.index at.index_known at.represents distinct (may_seal_all S filled.kind filled.segments right.1 given) at.stands).leaves
 
   -- of a commit that came to its first write
   put_leaves : (name : List ℕ) (root : Root) (answer : Result Answer Refusal) → PutsOne name root answer old new → IsRootOf root bytes old
@@ -129,7 +126,7 @@ module _ (C : Type 0) (state : C → CoreState) (among : ByteSet) (distinct : Ha
 module _ (C : Type 0) (state : C → CoreState) where
   pub survives_crashes : SurvivesCrashes C state
   survives_crashes among steps s files old new distinct at run below image since =
-      elim ((leaves C state among distinct steps s files old new at run).since (state old).disk.clock image (omega arith) since)
-      [ inl was ↦ on_the_way C state among distinct steps files image (s, at.stands.each image ((state old).disk.only_now image below was))
-      | inr is ↦ is
+      elim ((leaves C state among distinct steps s files old new at run).since (state old).disk.clock image (omega arith) since) [
+        | inl was ↦ on_the_way C state among distinct steps files image (s, at.stands.each image ((state old).disk.only_now image below was))
+        | inr is ↦ is
       ]

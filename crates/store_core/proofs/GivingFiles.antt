@@ -1,7 +1,6 @@
 -- A file that was opened is given as it was then, whatever steps others make.
-use Rattle.std.proofs.Common.{◌≡◌, ◌≢◌, ◌⊎◌, inl, inr, ◌<◌, ◌==◌, ℕ, Bool, true, false, List, [], ◌∷◌, length, take, Option, Some, None, Result, Ok, Err, refl, sym, ◌∙◌, ap, subst}
+use Rattle.std.proofs.Common.{◌≡◌, ◌≢◌, ◌<◌, ◌==◌, ℕ, Bool, true, false, List, [], ◌∷◌, length, Option, Some, None, Result, Ok, Err, refl, sym, ◌∙◌, ap, subst}
 use Rattle.std.specs.FinMap as finite
-use Rattle.std.specs.List.{AllByRecursion}
 use Rattle.std.proofs.lemmas.Bool.{eqb-true, eqb-false}
 use Rattle.disk_format.specs.Cells.{Root}
 use Rattle.merkle_file.specs.declared.top.Top.{Top}
@@ -18,13 +17,13 @@ use Rattle.segmenter.specs.Segments.{segments_of}
 use Rattle.store_model.specs.Commands.{HasNoCollisions}
 use Rattle.store_model.specs.Files.{Files}
 use Rattle.store_model.specs.Image.{Store}
-use Rattle.store_model.specs.Standing.{ByteSet, IsIn, Stands}
+use Rattle.store_model.specs.Standing.{ByteSet, IsIn}
 use Rattle.store_model.specs.Steps.{KeepsCopies}
 use Rattle.read_steps.specs.Readers.{reading}
 use Rattle.read_steps.specs.Walking.{IsIndexed, SegmentsAhead}
 use Rattle.read_steps.proofs.Openings.{segments_on}
 use Rattle.store_core.specs.declared.stop.Stop.{Stop}
-use Rattle.store_core.specs.Core.{ReadRow, OpenRow, Row, Steps, StepsOr}
+use Rattle.store_core.specs.Core.{ReadRow, Row, Steps, StepsOr}
 use Rattle.store_core.specs.Runs.{FileEvent, FileStep, FileRun, IsAt, ReadsAlone, IsReadNext, GivesOne, GivesInOrder, GivesTheFile, events_of, files_by, opens}
 use Rattle.store_core.specs.State.{CoreState, Event}
 use Rattle.store_core.proofs.KeepingFiles.{Next, file_step, run_running}
@@ -87,15 +86,20 @@ module _ (among : ByteSet) (s : Store) (files later : Files) (old new : CoreStat
   -- its own
   own_still : (answer : Result Answer Refusal) (buf : List ℕ) → ReadRow actor answer buf old new → GivesOne true answer buf segments Still
   own_still (Ok (answers.Bytes count)) buf row =
-      let held = row.held reader.root reader.ahead s.held image segments reader.part_is indexed (reader.ahead_is image here) in
-      (held.given.others, (held.given.segments_are,
-      goes actor held.goes_on.root held.rest held.given.others (record { part = _; parts_are = held.goes_on.parts_are }) (set_part held.goes_on.root held.rest held.goes_on.parts_are) held.given.ahead))
+      let held = row.held reader.root reader.ahead s.held image segments reader.part_is indexed (reader.ahead_is image here) in (
+        held.given.others,
+        (
+          held.given.segments_are,
+          goes actor held.goes_on.root held.rest held.given.others (record { part = _; parts_are = held.goes_on.parts_are }) (set_part held.goes_on.root held.rest held.goes_on.parts_are) held.given.ahead,
+        ),
+      )
   own_still (Ok answers.End) buf row =
       let held = row.held reader.root reader.ahead s.held image segments reader.part_is indexed (reader.ahead_is image here) in
-      let next_part = row.next.goes_on in
-      (held.given,
-      goes actor next_part.root row.next.rest segments (record { part = _; parts_are = next_part.parts_are }) (set_part next_part.root row.next.rest next_part.parts_are)
-      (record { trees = []; held_ahead = record { trees = record { tops = row.next.given.1; each = tt }; each = tt }; segments_are = held.given }))
+      let next_part = row.next.goes_on in (
+        held.given,
+        goes actor next_part.root row.next.rest segments (record { part = _; parts_are = next_part.parts_are }) (set_part next_part.root row.next.rest next_part.parts_are)
+            (record { trees = []; held_ahead = record { trees = record { tops = row.next.given.1; each = tt }; each = tt }; segments_are = held.given }),
+      )
   own_still (Err refusals.DiskRead) buf row =
       let held = row.held reader.root reader.ahead s.held image segments reader.part_is indexed (reader.ahead_is image here) in
       goes actor held.goes_on.root held.rest segments (record { part = _; parts_are = held.goes_on.parts_are }) (set_part held.goes_on.root held.rest held.goes_on.parts_are) held.given

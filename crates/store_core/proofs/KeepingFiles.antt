@@ -1,12 +1,11 @@
 -- A core that isn't stopped has the files of the commits that it acknowledged, and its invariant holds.
-use Rattle.std.proofs.Common.{◌≡◌, ◌⊎◌, inl, inr, ◌≤◌, ◌+◌, ℕ, suc, List, [], ◌∷◌, ◌++◌, length, Option, Some, None, Result, Ok, Err, refl, sym, ◌∙◌, ap, subst, arith}
+use Rattle.std.proofs.Common.{◌≡◌, ◌⊎◌, inl, inr, ◌≤◌, ℕ, List, [], ◌∷◌, ◌++◌, Option, Some, None, Result, Ok, Err, refl, sym, ◌∙◌, subst}
 use Rattle.std.specs.List.{AllByRecursion}
-use Rattle.base_model.specs.Known.{Known}
 use Rattle.disk_format.specs.Cells.{Root}
 use Rattle.dd_disk.specs.View.{DiskView, IsLater, OnlyReads}
-use Rattle.dd_disk.specs.Ending.{Ending, Done, Refused, Unread, Broken, ending, ending_of}
+use Rattle.dd_disk.specs.Ending.{ending, ending_of}
 use Rattle.dd_disk.specs.Moves.{StandsFor, Moved, Arrives, Ends}
-use Rattle.dd_disk.proofs.Moves.{stands_reads, stands_weaker}
+use Rattle.dd_disk.proofs.Moves.{stands_reads}
 use Rattle.container_meta.specs.declared.kind.Kind.{Kind}
 use Rattle.container_meta.specs.declared.kind.Kind.TheVariants as kind
 use Rattle.container_meta.specs.Places.{PlaceMap}
@@ -15,7 +14,7 @@ use Rattle.actor_parts.specs.declared.part.Part.{Part}
 use Rattle.actor_parts.specs.declared.part.Part.TheVariants.{Idle}
 use Rattle.actor_parts.specs.declared.step.Answer.{Answer}
 use Rattle.actor_parts.specs.declared.step.Answer.TheVariants as answers
-use Rattle.actor_parts.specs.Parts.{part_of, with_part}
+use Rattle.actor_parts.specs.Parts.{part_of}
 use Rattle.actor_parts.specs.Segments.{IsStepSegment, AreStepSegments}
 use Rattle.actor_parts.specs.StepValue as asked
 use Rattle.actor_parts.specs.StepValue.{StepValue, IsStep}
@@ -23,21 +22,20 @@ use Rattle.refusals.specs.declared.refusal.Refusal.{Refusal}
 use Rattle.refusals.specs.declared.refusal.Refusal.TheVariants as refusals
 use Rattle.store_model.specs.Commands.{HasNoCollisions}
 use Rattle.store_model.specs.Files.{Files, with_file}
-use Rattle.store_model.specs.Image.{Store, IsValidFor, names_of}
+use Rattle.store_model.specs.Image.{Store, IsValidFor}
 use Rattle.disk_format.specs.declared.numbers.TheConstants.{RESERVE}
 use Rattle.store_model.specs.Slots.{IsIndexOf, free_slots}
 use Rattle.store_model.specs.Standing.{ByteSet, IsIn, IsAmong, Stands}
-use Rattle.store_model.specs.Steps.{StoreChange, SealContainer, PutName, CanChange, MaySeal, KeepsCopies, changed, with_sealed, with_put}
-use Rattle.store_model.specs.Trees.{HoldsTree, file_tree}
+use Rattle.store_model.specs.Steps.{StoreChange, SealContainer, PutName, MaySeal, KeepsCopies, changed, with_sealed, with_put}
 use Rattle.store_state.specs.declared.tables.Tables.{Tables}
-use Rattle.store_state.specs.Invariant.{CoreInvariant, HoldsPart}
+use Rattle.store_state.specs.Invariant.{HoldsPart}
 use Rattle.store_state.specs.Refused.{blames}
 use Rattle.store_state.specs.Tables.{Represents}
 use Rattle.store_state.proofs.Parts.{part_kept, parts_kept}
 use Rattle.ingest_steps.specs.Sealing.{KeepsHeld, sealing_indexed}
 use Rattle.store_core.specs.declared.stop.Stop.{Stop}
-use Rattle.store_core.specs.Core.{Row, SealRow, CommitRow, Effect, Rests, SealsOne, PutsOne, Makes, KeepsTables, KeepsUnlessBroken, StopsAfter, Steps, StepsOr, next_id}
-use Rattle.store_core.specs.Runs.{FileEvent, FileStep, FileRun, IsAt, ChangesTo, Reaches, KeepsFiles, IsGivenRight, files_with, files_by, files_after_steps}
+use Rattle.store_core.specs.Core.{Row, Effect, Rests, SealsOne, Makes, KeepsTables, KeepsUnlessBroken, StopsAfter, StepsOr, next_id}
+use Rattle.store_core.specs.Runs.{FileEvent, FileStep, FileRun, IsAt, ChangesTo, KeepsFiles, IsGivenRight, files_with, files_by}
 use Rattle.store_core.specs.State.{CoreState}
 use Rattle.store_core.proofs.OwnParts.{all_part, all_own, own_begin, own_claim, own_abort, own_open, own_read, own_drop, own_set, own_stat, own_refused}
 use Rattle.store_core.proofs.Stepping.{ChangesOne, row_one}
@@ -226,11 +224,11 @@ module _ (among : ByteSet) (s : Store) (files : Files) (old new : CoreState) (ac
   -- a container
   seal_moves : (filled : Contents) (answer : Result Answer Refusal) → SealsOne filled answer old new → IsStep (asked.Seal filled) → IsGivenRight (IsIn among) (asked.Seal filled) answer bytes old
       → Moved (sealing_indexed (IsIn among) (next_id old) filled s files) (ending blames answer) old.disk new.disk
-  seal_moves filled answer effect right given = effect.moves among s files at.represents distinct (may_seal_all (IsIn among) filled.kind filled.segments right.1 given) at.stands
+  seal_moves filled answer effect right given = effect.moves.moves among s files at.index at.index_known at.represents distinct (may_seal_all (IsIn among) filled.kind filled.segments right.1 given) at.stands
 
   seal_holds : (filled : Contents) (answer : Result Answer Refusal) (after : List ℕ) → new.disk.content ≡ Some after → SealsOne filled answer old new → IsStep (asked.Seal filled) → IsGivenRight (IsIn among) (asked.Seal filled) answer bytes old
       → KeepsHeld (ending blames answer) (next_id old) filled s image after
-  seal_holds filled answer after is effect right given = effect.holds among s files image after at.represents here is stands_here distinct (may_seal_all (IsIn among) filled.kind filled.segments right.1 given)
+  seal_holds filled answer after is effect right given = effect.moves.holds among s files at.index image after at.index_known at.represents here is stands_here distinct (may_seal_all (IsIn among) filled.kind filled.segments right.1 given)
 
   -- a refusal that is no failed write
   stands_still : OnlyReads old.disk new.disk ⊎ StandsFor (Stands (IsIn among) s files) new.disk → StandsFor (Stands (IsIn among) s files) new.disk
@@ -259,14 +257,15 @@ module _ (among : ByteSet) (s : Store) (files : Files) (old new : CoreState) (ac
       makes among s files old new actor at (row_one actor buf old new (asked.Seal filled) (Ok (answers.Sealed id)) row) (SealContainer (next_id old) filled.kind filled.segments) files effect.made effect.disk.later
       (seal_moves filled (Ok (answers.Sealed id)) effect right given).arrives
       (λ after is. (
-      (seal_holds filled (Ok (answers.Sealed id)) after is effect right given).0,
-      subst (λ (n : ℕ). HoldsPart (with_sealed n filled.kind filled.segments s).held after (part_of new.parts actor)) row.id_is
-      (row.kept among s files image after at.represents here is stands_here distinct may (all_part (HoldsPart s.held image) old.parts actor tt holds))))
+        (seal_holds filled (Ok (answers.Sealed id)) after is effect right given).0,
+        subst (λ (n : ℕ). HoldsPart (with_sealed n filled.kind filled.segments s).held after (part_of new.parts actor)) row.id_is
+            (row.kept among s files at.index image after at.index_known at.represents here is stands_here distinct may (all_part (HoldsPart s.held image) old.parts actor tt holds)),
+      ))
   seal_next filled (Err refusal) row effect stops right given =
       still among s files old new actor at (row_one actor buf old new (asked.Seal filled) (Err refusal) row) (seal_kept filled refusal stops effect.kept) effect.disk.later
       (seal_stands filled refusal stops (seal_moves filled (Err refusal) effect right given).arrives)
       (λ after is. let copies = seal_copies filled refusal after stops (seal_holds filled (Err refusal) after is effect right given) in
-      (copies, part_kept s s image after copies (part_of new.parts actor) (own_still row)))
+      (copies, part_kept s s image after copies (part_of new.parts actor) (own_still row.1)))
   seal_next filled answer row effect stops right given = absurd row
 
   -- a name
@@ -277,8 +276,9 @@ module _ (among : ByteSet) (s : Store) (files : Files) (old new : CoreState) (ac
       let copies = effect.copies s at.represents image here stands_here.holds.right in
       makes among s files old new actor at (row_one actor buf old new (asked.Commit name root) (Ok (answers.Committed sequence)) row) (PutName name root) (with_file files name bytes) effect.made effect.disk.later moved.arrives
       (λ after is. (
-      subst (KeepsCopies s image (with_put name root s)) (one_some copies.0 after (sym copies.1 ∙ is)) copies.2,
-      subst (λ (parts : List Part). HoldsPart s.held after (part_of parts actor)) (sym row.2) (own_set (HoldsPart s.held after) old.parts actor Idle tt tt)))
+        subst (KeepsCopies s image (with_put name root s)) (one_some copies.0 after (sym copies.1 ∙ is)) copies.2,
+        subst (λ (parts : List Part). HoldsPart s.held after (part_of parts actor)) (sym row.2) (own_set (HoldsPart s.held after) old.parts actor Idle tt tt),
+      ))
   commit_next name root (Err refusal) row effect stops right given =
       rests among s files old new actor at (row_one actor buf old new (asked.Commit name root) (Err refusal) row) effect.kept
       (only_reads old new stays (asked.Commit name root) refusal stops effect.disk.ends) (own_still row.1)

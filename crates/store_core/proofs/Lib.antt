@@ -4,6 +4,8 @@ pub mod Crashes
 pub mod GivingFiles
 pub mod KeepingFiles
 pub mod Making
+pub mod Opened
 pub mod OwnParts
 pub mod RunningOn
+pub mod Sealing
 pub mod Stepping

@@ -6,7 +6,7 @@ use Rattle.actor_parts.specs.StepValue as asked
 use Rattle.actor_parts.specs.StepValue.{StepValue}
 use Rattle.refusals.specs.declared.refusal.Refusal.{Refusal}
 use Rattle.store_core.specs.declared.stop.Stop.{Stop}
-use Rattle.store_core.specs.Core.{IsCount, Made, Leaves, StopsAfter, StepsOr, CoreStep, counted}
+use Rattle.store_core.specs.Core.{IsCount, Made, StopsAfter, StepsOr, CoreStep, counted}
 use Rattle.store_core.specs.State.{CoreState, Event, IsUp, UnlessStopped, IsRunning}
 use Rattle.store_core.proofs.RunningOn.{step_runs}
 
@@ -26,16 +26,14 @@ made_stat value same actor answer buf old stop count is = made_of value asked.St
 pub up_of : (old : CoreState) → old.stop ≡ None → IsRunning old → IsUp old
 up_of old runs running = subst (λ (o : Option Stop). UnlessStopped o (IsUp old)) runs running
 
-pub core_step : (step : StepValue) (actor : ℕ) (answer : Result Answer Refusal) (buf : List ℕ) (old mid : CoreState) (stop : Option Stop) (count : ℕ) → old.stop ≡ None → Leaves step actor answer buf old mid
-    → StopsAfter step answer old.acknowledged stop → count ≡ counted answer old.acknowledged
-    → CoreStep old (record { actor = actor; step = step; answer = answer; buf = buf }) (record mid { stop = stop; acknowledged = count })
-core_step step actor answer buf old mid stop count runs leaves stops is =
+pub core_step : (step : StepValue) (actor : ℕ) (answer : Result Answer Refusal) (buf : List ℕ) (old new : CoreState) → old.stop ≡ None → Made step actor answer buf old new
+    → StopsAfter step answer old.acknowledged new.stop → new.acknowledged ≡ counted answer old.acknowledged → CoreStep old (record { actor = actor; step = step; answer = answer; buf = buf }) new
+core_step step actor answer buf old new runs made stops is =
     let e : Event = record { actor = actor; step = step; answer = answer; buf = buf } in
-    subst (λ (o : Option Stop). StepsOr o e old (record mid { stop = stop; acknowledged = count })) (sym runs) (record { made = leaves stop count; stops = stops; counted_is = is })
+    subst (λ (o : Option Stop). StepsOr o e old new) (sym runs) (record { made = made; stops = stops; counted_is = is })
 
 -- and it runs on
-pub core_runs : (step : StepValue) (actor : ℕ) (answer : Result Answer Refusal) (buf : List ℕ) (old mid : CoreState) (stop : Option Stop) (count : ℕ) → old.stop ≡ None → Leaves step actor answer buf old mid
-    → StopsAfter step answer old.acknowledged stop → count ≡ counted answer old.acknowledged → IsRunning old → IsRunning (record mid { stop = stop; acknowledged = count })
-core_runs step actor answer buf old mid stop count runs leaves stops is running =
-    step_runs old (record mid { stop = stop; acknowledged = count }) (record { actor = actor; step = step; answer = answer; buf = buf })
-    (core_step step actor answer buf old mid stop count runs leaves stops is) running
+pub core_runs : (step : StepValue) (actor : ℕ) (answer : Result Answer Refusal) (buf : List ℕ) (old new : CoreState) → old.stop ≡ None → Made step actor answer buf old new
+    → StopsAfter step answer old.acknowledged new.stop → new.acknowledged ≡ counted answer old.acknowledged → IsRunning old → IsRunning new
+core_runs step actor answer buf old new runs made stops is running =
+    step_runs old new (record { actor = actor; step = step; answer = answer; buf = buf }) (core_step step actor answer buf old new runs made stops is) running

@@ -1,5 +1,5 @@
 -- What the actor of a step is at afterwards is held.
-use Rattle.std.proofs.Common.{◌≡◌, ◌⊎◌, inl, inr, ℕ, zero, suc, slice_set, slice_index_or, List, [], ◌∷◌, length, Option, Some, None, Result, Ok, Err, refl, sym, ◌∙◌, ap, subst}
+use Rattle.std.proofs.Common.{◌≡◌, ℕ, zero, suc, List, [], ◌∷◌, Some, None, Result, Ok, Err, refl, sym, ◌∙◌, subst}
 use Rattle.std.specs.FinMap as finite
 use Rattle.std.specs.Ordering.{nat_cmp}
 use Rattle.std.specs.Cmp.Lexicographic.{slice_cmp}
@@ -10,7 +10,7 @@ use Rattle.container_meta.specs.Segments.{KindSegment}
 use Rattle.merkle_file.specs.declared.top.Top.{Top}
 use Rattle.merkle_file.specs.Walk.{segments_in}
 use Rattle.actor_parts.specs.declared.part.Part.{Part}
-use Rattle.actor_parts.specs.declared.part.Part.TheVariants.{Idle, Writing, Reading}
+use Rattle.actor_parts.specs.declared.part.Part.TheVariants.{Idle, Writing}
 use Rattle.actor_parts.specs.declared.step.Answer.{Answer}
 use Rattle.actor_parts.specs.declared.step.Answer.TheVariants as answers
 use Rattle.actor_parts.specs.Parts.{part_of, with_part}
@@ -24,7 +24,7 @@ use Rattle.store_model.specs.Image.{Store, names_of}
 use Rattle.store_model.specs.Slots.{IsIndexOf}
 use Rattle.store_model.specs.Standing.{ByteSet, IsIn, IsAmong, Stands}
 use Rattle.store_state.specs.Invariant.{HoldsPart, HoldsRest}
-use Rattle.store_core.specs.Core.{BeginRow, ClaimRow, CommitRow, AbortRow, OpenRow, ReadRow, EndRow, StatRow, IsGiven, IsNotGiven}
+use Rattle.store_core.specs.Core.{BeginRow, ClaimRow, AbortRow, OpenRow, ReadRow, EndRow, StatRow, IsGiven, IsNotGiven}
 use Rattle.store_core.specs.State.{CoreState}
 
 -- ---- a list of parts

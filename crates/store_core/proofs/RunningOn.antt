@@ -15,9 +15,9 @@ use Rattle.store_state.specs.declared.tables.Tables.{Tables}
 use Rattle.store_state.specs.Tables.{Runs}
 use Rattle.store_core.specs.declared.stop.Stop.{Stop}
 use Rattle.store_core.specs.Core.{Effect, KeepsTables, KeepsUnlessBroken, StopsAfter, Steps, StepsOr, CoreStep}
-use Rattle.store_core.specs.Runs.{CoreRun, RunsOn}
+use Rattle.store_core.specs.Runs.{RunsOn}
 use Rattle.store_core.specs.State.{CoreState, Event, IsUp, UnlessStopped, IsRunning}
-use Rattle.store_core.proofs.Stepping.{ChangesOne, row_one, effect_later}
+use Rattle.store_core.proofs.Stepping.{ChangesOne, row_one}
 
 many_on : (actor : ℕ) (old new : List Part) → ChangesOne actor old new → length old ≡ ACTORS → length new ≡ ACTORS
 many_on actor old new changes many = ap length changes.parts_are ∙ apart.as_many old actor changes.part ∙ many

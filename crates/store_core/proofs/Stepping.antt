@@ -1,10 +1,9 @@
 -- What each step does, whichever it is.
-use Rattle.std.proofs.Common.{◌≡◌, ◌⊎◌, inl, inr, ℕ, List, length, Option, Some, None, Result, Ok, Err, refl, sym, ◌∙◌, ap, subst}
+use Rattle.std.proofs.Common.{◌≡◌, ℕ, List, Option, Some, None, Result, Ok, Err, sym, ◌∙◌}
 use Rattle.disk_format.specs.Cells.{Root}
 use Rattle.container_meta.specs.Segments.{KindSegment, Contents}
 use Rattle.dd_disk.specs.View.{IsLater}
 use Rattle.actor_parts.specs.declared.part.Part.{Part}
-use Rattle.actor_parts.specs.declared.part.Part.TheVariants.{Idle, Writing, Reading}
 use Rattle.actor_parts.specs.declared.step.Answer.{Answer}
 use Rattle.actor_parts.specs.declared.step.Answer.TheVariants as answers
 use Rattle.actor_parts.specs.Parts.{part_of, with_part}
@@ -45,7 +44,7 @@ module _ (actor : ℕ) (buf : List ℕ) (old new : CoreState) where
 
   seal_one : (filled : Contents) (answer : Result Answer Refusal) → SealRow filled actor answer old new → ChangesOne actor old.parts new.parts
   seal_one filled (Ok (answers.Sealed id)) row = one actor old.parts new.parts _ row.parts_are
-  seal_one filled (Err refusal) row = same_one actor old.parts new.parts row
+  seal_one filled (Err refusal) row = same_one actor old.parts new.parts row.1
   seal_one filled answer row = absurd row
 
   commit_one : (name : List ℕ) (root : Root) (answer : Result Answer Refusal) → CommitRow name root actor answer old new → ChangesOne actor old.parts new.parts

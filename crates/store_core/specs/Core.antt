@@ -1,28 +1,22 @@
 -- What each step makes of the core of a store, what it answers, and why it is refused (docs/MODEL.md, 'The core').
-use Rattle.std.specs.Prelude.{◌≡◌, ◌≢◌, ◌⊎◌, ℕ, suc, ◌+◌, ◌-◌, ◌<◌, ◌≤◌, List, [], ◌∷◌, Option, Some, None, Result, Ok, Err, IfOk, IfErr, OnOk, OnErr}
+use Rattle.std.specs.Prelude.{◌≡◌, ℕ, suc, ◌+◌, List, Option, Some, None, Result, Ok, Err, IfErr, OnOk, OnErr}
 use Rattle.std.specs.FinMap as finite
-use Rattle.std.specs.List.{AllByRecursion}
 use Rattle.base_model.specs.Known.{Known, KnownWith}
 use Rattle.disk_format.specs.Cells.{Root}
-use Rattle.disk_format.specs.declared.numbers.TheConstants.{RESERVE, LAST_ID}
-use Rattle.dd_disk.specs.View.{DiskView, IsDurable}
-use Rattle.dd_disk.specs.Ending.{Ending, Done, Refused, Unread, Broken, Reads, ending}
-use Rattle.dd_disk.specs.Moves.{Moves, Acts}
+use Rattle.dd_disk.specs.Ending.{Reads, ending}
+use Rattle.dd_disk.specs.Moves.{Acts}
 use Rattle.dd_disk.specs.Shows.{Shows}
 use Rattle.disk_format.specs.declared.why.Why.{Why}
-use Rattle.container_meta.specs.declared.kind.Kind.{Kind}
 use Rattle.container_meta.specs.Places.{PlaceMap}
 use Rattle.container_meta.specs.Spelling.{HeaderValue}
-use Rattle.container_meta.specs.Segments.{Segment, KindSegment, Contents, segment_key}
+use Rattle.container_meta.specs.Segments.{KindSegment, Contents}
 use Rattle.merkle_file.specs.declared.top.Top.{Top}
 use Rattle.actor_parts.specs.declared.part.Part.{Part}
-use Rattle.actor_parts.specs.declared.part.Part.TheVariants.{Idle, Writing, Reading}
+use Rattle.actor_parts.specs.declared.part.Part.TheVariants.{Idle, Writing}
 use Rattle.actor_parts.specs.declared.step.Answer.{Answer}
 use Rattle.actor_parts.specs.declared.step.Answer.TheVariants as answers
 use Rattle.actor_parts.specs.Kinds.{kind_of}
 use Rattle.actor_parts.specs.Parts.{part_of, with_part}
-use Rattle.actor_parts.specs.PinMap.{PinMap}
-use Rattle.actor_parts.specs.Segments.{pin_of, first_unpinned}
 use Rattle.actor_parts.specs.StepValue as asked
 use Rattle.actor_parts.specs.StepValue.{StepValue}
 use Rattle.refusals.specs.declared.refusal.PartKind.{PartKind}
@@ -30,14 +24,10 @@ use Rattle.refusals.specs.declared.refusal.PartKind.TheVariants as kinds
 use Rattle.refusals.specs.declared.refusal.Refusal.{Refusal}
 use Rattle.refusals.specs.declared.refusal.Refusal.TheVariants as refusals
 use Rattle.segment_index.specs.Places.{KnownMap}
-use Rattle.store_model.specs.Commands.{HasNoCollisions}
 use Rattle.store_model.specs.Files.{Files}
 use Rattle.store_model.specs.Image.{Store, Encodes, IsValidFor, names_of}
-use Rattle.store_model.specs.Slots.{Copy, IsIndexOf, newest}
-use Rattle.store_model.specs.Standing.{ByteSet, IsIn, IsAmong, IsStoreOf, Stands}
-use Rattle.store_model.specs.Steps.{StoreChange, SealContainer, PutName, CanChange, MaySeal, FitsCopy, KeepsCopies, changed, with_sealed}
-use Rattle.store_model.specs.Trees.{HasNewest}
-use Rattle.store_state.specs.Invariant.{HoldsPart}
+use Rattle.store_model.specs.Standing.{IsStoreOf}
+use Rattle.store_model.specs.Steps.{StoreChange, SealContainer, PutName, CanChange, KeepsCopies, changed}
 use Rattle.store_state.specs.Refused.{blames}
 use Rattle.store_state.specs.Settled as settled
 use Rattle.store_state.specs.Tables.{Represents, Runs, OfEach}
@@ -46,7 +36,9 @@ use Rattle.ingest_steps.specs.declared.claiming.Claimed.{Claimed}
 use Rattle.ingest_steps.specs.declared.claiming.Claimed.TheVariants.{Held, Absent}
 use Rattle.ingest_steps.specs.Claiming.{IsClaimed, IsClaimRefusal, IsOtherCopy, KeepsPart}
 use Rattle.ingest_steps.specs.Pinning.{MayKeep, with_pins}
-use Rattle.ingest_steps.specs.Sealing.{KeepsHeld, sealing_indexed}
+use Rattle.ingest_steps.specs.Sealing.{SealsCompared}
+use Rattle.ingest_steps.specs.SealStep.{IsStepRefusal, KeepsSealed}
+use Rattle.store_state.specs.Comparing.{IsFirstUnlike}
 use Rattle.ingest_steps.specs.Writers.{MayCommit, IsWrongPart, IsCommitRefusal}
 use Rattle.read_steps.specs.Counting.{counts_of}
 use Rattle.read_steps.specs.Readers as readers
@@ -88,21 +80,17 @@ IsUnclaimed seg actor refusal old new =
 abbrev pub next_id : CoreState → ℕ
 next_id c = c.tables.held.last_id + 1
 
--- What the actor keeps is right still, where a content stands for files; S has no collisions.
-abbrev pub SealKeepsPins : Contents → ℕ → ℕ → CoreState → CoreState → Type 0
-SealKeepsPins filled id actor old new =
-    (among : ByteSet) (store : Store) (files : Files) (given held : List ℕ) → Represents store old.known old.tables
-    → old.disk.content ≡ Some given → new.disk.content ≡ Some held → Stands (IsIn among) store files given
-    → HasNoCollisions (IsIn among) → AllByRecursion (MaySeal (IsIn among) filled.kind) filled.segments
-    → HoldsPart store.held given (part_of old.parts actor)
-    → HoldsPart (with_sealed id filled.kind filled.segments store).held held (part_of new.parts actor)
-
 -- the container stands, and its segments are pinned from now on
 pub record IsSealed (filled : Contents) (id actor : ℕ) (old new : CoreState) : Type 0 where
   pub may : MayKeep (part_of old.parts actor) filled
   pub id_is : id ≡ next_id old
   pub parts_are : Gets (Writing (with_pins filled.kind filled.segments may.pins)) actor old new
-  pub kept : SealKeepsPins filled id actor old new
+  pub kept : KeepsSealed old.disk new.disk old.known old.tables old.parts actor filled new.parts id
+
+abbrev pub IsUnsealed : Contents → ℕ → Refusal → CoreState → CoreState → Type 0
+IsUnsealed filled actor refusal old new =
+    IsStepRefusal (part_of old.parts actor) old.tables old.disk.size old.known filled
+    (IsFirstUnlike old.disk.size old.known (Shows old.disk new.disk) filled.kind filled.segments) refusal
 
 -- ---- a file that is given back
 
@@ -150,7 +138,7 @@ ClaimRow seg actor answer old new = ⊥
 
 abbrev pub SealRow : Contents → ℕ → Result Answer Refusal → CoreState → CoreState → Type 0
 SealRow filled actor (Ok (answers.Sealed id)) old new = IsSealed filled id actor old new
-SealRow filled actor (Err refusal) old new = new.parts ≡ old.parts
+SealRow filled actor (Err refusal) old new = IsUnsealed filled actor refusal old new × (new.parts ≡ old.parts)
 SealRow filled actor answer old new = ⊥
 
 abbrev pub CommitRow : List ℕ → Root → ℕ → Result Answer Refusal → CoreState → CoreState → Type 0
@@ -226,13 +214,7 @@ pub record Rests (answer : Result Answer Refusal) (old new : CoreState) : Type 0
 -- A container is stored, or isn't. After a write that failed only the disk's images are told.
 pub record SealsOne (filled : Contents) (answer : Result Answer Refusal) (old new : CoreState) : Type 0 where
   pub disk : settled.Steps old.tables.slots (ending blames answer) old.disk new.disk
-  pub moves : (among : ByteSet) (store : Store) (files : Files) → Represents store old.known old.tables → HasNoCollisions (IsIn among)
-      → AllByRecursion (MaySeal (IsIn among) filled.kind) filled.segments
-      → Moves (sealing_indexed (IsIn among) (next_id old) filled store files) (ending blames answer) old.disk new.disk
-  pub holds : (among : ByteSet) (store : Store) (files : Files) (given held : List ℕ) → Represents store old.known old.tables
-      → old.disk.content ≡ Some given → new.disk.content ≡ Some held → Stands (IsIn among) store files given
-      → HasNoCollisions (IsIn among) → AllByRecursion (MaySeal (IsIn among) filled.kind) filled.segments
-      → KeepsHeld (ending blames answer) (next_id old) filled store given held
+  pub moves : SealsCompared old.tables old.known (next_id old) filled (ending blames answer) old.disk new.disk
   pub made : OnOk answer (Makes (SealContainer (next_id old) filled.kind filled.segments) old new)
   pub kept : IfErr answer (λ refusal. KeepsUnlessBroken refusal old new)
 

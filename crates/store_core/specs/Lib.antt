@@ -1,3 +1,4 @@
 pub mod Core
+pub mod Opening
 pub mod Runs
 pub mod State

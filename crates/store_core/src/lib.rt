@@ -2,12 +2,15 @@
 #![tactic(auto)]
 
 mod laws;
+mod opening;
 mod running;
 mod state;
 mod stop;
-mod stub;
 
-pub use laws::{a_core_keeps_files, a_core_runs_on, a_core_survives_crashes, a_reader_checks_what_it_gives, a_reader_is_given_its_file};
+pub use laws::{
+    a_core_keeps_files, a_core_runs_on, a_core_survives_crashes, a_reader_checks_what_it_gives,
+    a_reader_is_given_its_file,
+};
 pub use running::Core;
 pub use state::HasState;
 pub use stop::Stop;

@@ -11,15 +11,14 @@ ghost use Rattle.store_core.specs.State.{IsUp, IsRunning};
 
 use crate::state::HasState;
 use crate::stop::Stop;
-use crate::stub::seal;
 use actor_parts::{Actor, Answer, Parts, SegBuf, Step};
 use container_meta::{OpenContainer, Seg};
 use dd_disk::Disk;
-use ingest_steps::{Claimed, abort, begin, claim, commit};
+use ingest_steps::{Claimed, abort, begin, claim, commit, seal};
 use namespace::Root;
 use read_steps::{end_read, open_read, read_next, stat};
 use refusals::{PartKind, Refusal};
-use segment_index::{Index, MapIndex};
+use segment_index::{Index, StoreIndex};
 use std::alloc::Global;
 use store_state::Tables;
 use summary_vector::Summary;
@@ -30,7 +29,7 @@ pub struct Core<D, M> {
     pub alloc: Global,
     pub disk: D,
     pub tables: Tables,
-    pub index: MapIndex,
+    pub index: StoreIndex,
     pub parts: Parts,
     pub summary: M,
     /// What stopped it.
@@ -41,14 +40,14 @@ pub struct Core<D, M> {
 
 impl<D: Disk, M: Summary> HasState for Core<D, M> {
     ghost state = { λ c. record {
-        disk = D.view c.disk;
-        tables = c.tables;
-        known = ⟦<MapIndex as Index>⟧.places c.index (D.view c.disk).content;
-        served = ⟦<MapIndex as Index>⟧.serves c.index (D.view c.disk).size;
-        breaks = ⟦<MapIndex as Index>⟧.breaks c.index;
-        parts = c.parts;
-        stop = c.stop;
-        acknowledged = c.acknowledged;
+      disk = D.view c.disk;
+      tables = c.tables;
+      known = ⟦<StoreIndex as Index>⟧.places c.index (D.view c.disk).content;
+      served = ⟦<StoreIndex as Index>⟧.serves c.index (D.view c.disk).size;
+      breaks = ⟦<StoreIndex as Index>⟧.breaks c.index;
+      parts = c.parts;
+      stop = c.stop;
+      acknowledged = c.acknowledged;
     } };
 }
 
@@ -84,7 +83,8 @@ fn count_after(answer: &Result<Answer, Refusal>, count: u64) -> u64
 
 impl<D: Disk, M: Summary> Core<D, M> {
     fn begin(&mut self, actor: Actor) -> Result<Answer, Refusal>
-        ensures made { (buf : List ℕ) → Leaves asked.Begin actor result buf (⟦<Core<D, M> as HasState>⟧.state self.old) (⟦<Core<D, M> as HasState>⟧.state self.new) }
+        ensures made { (buf : List ℕ) → Leaves asked.Begin actor result buf (⟦<Core<D, M> as HasState>⟧.state self.old)
+            (⟦<Core<D, M> as HasState>⟧.state self.new) }
         ensures stop { self.new.stop ≡ self.old.stop }
         ensures count { self.new.acknowledged ≡ self.old.acknowledged }
     {
@@ -95,7 +95,8 @@ impl<D: Disk, M: Summary> Core<D, M> {
     }
 
     fn abort(&mut self, actor: Actor) -> Result<Answer, Refusal>
-        ensures made { (buf : List ℕ) → Leaves asked.Abort actor result buf (⟦<Core<D, M> as HasState>⟧.state self.old) (⟦<Core<D, M> as HasState>⟧.state self.new) }
+        ensures made { (buf : List ℕ) → Leaves asked.Abort actor result buf (⟦<Core<D, M> as HasState>⟧.state self.old)
+            (⟦<Core<D, M> as HasState>⟧.state self.new) }
         ensures stop { self.new.stop ≡ self.old.stop }
         ensures count { self.new.acknowledged ≡ self.old.acknowledged }
     {
@@ -108,11 +109,19 @@ impl<D: Disk, M: Summary> Core<D, M> {
     fn claim(&mut self, actor: Actor, seg: &Seg, buf: &mut SegBuf) -> Result<Answer, Refusal>
         requires segment { IsStepSegment seg.now }
         requires up { IsUp (⟦<Core<D, M> as HasState>⟧.state self.old) }
-        ensures made { Leaves (asked.Claim seg.now) actor result buf.new (⟦<Core<D, M> as HasState>⟧.state self.old) (⟦<Core<D, M> as HasState>⟧.state self.new) }
+        ensures made { Leaves (asked.Claim seg.now) actor result buf.new (⟦<Core<D, M> as HasState>⟧.state self.old)
+            (⟦<Core<D, M> as HasState>⟧.state self.new) }
         ensures stop { self.new.stop ≡ self.old.stop }
         ensures count { self.new.acknowledged ≡ self.old.acknowledged }
     {
-        match claim(&mut self.disk, &mut self.index, &mut self.parts, actor, seg, buf) {
+        match claim(
+            &mut self.disk,
+            &mut self.index,
+            &mut self.parts,
+            actor,
+            seg,
+            buf,
+        ) {
             Ok(Claimed::Held) => Ok(Answer::Held),
             Ok(Claimed::Absent) => Ok(Answer::Absent),
             Err(refusal) => Err(refusal),
@@ -121,18 +130,30 @@ impl<D: Disk, M: Summary> Core<D, M> {
 
     fn commit(&mut self, actor: Actor, name: &[u8], root: &Root) -> Result<Answer, Refusal>
         requires up { IsUp (⟦<Core<D, M> as HasState>⟧.state self.old) }
-        ensures made { (buf : List ℕ) → Leaves (asked.Commit name.now root.now) actor result buf (⟦<Core<D, M> as HasState>⟧.state self.old) (⟦<Core<D, M> as HasState>⟧.state self.new) }
+        ensures made { (buf : List ℕ) → Leaves (asked.Commit name.now root.now) actor result buf
+            (⟦<Core<D, M> as HasState>⟧.state self.old)
+            (⟦<Core<D, M> as HasState>⟧.state self.new) }
         ensures stop { self.new.stop ≡ self.old.stop }
         ensures count { self.new.acknowledged ≡ self.old.acknowledged }
     {
-        match commit(self.alloc, &mut self.disk, &mut self.tables, &mut self.parts, actor, name, root) {
+        match commit(
+            self.alloc,
+            &mut self.disk,
+            &mut self.tables,
+            &mut self.parts,
+            actor,
+            name,
+            root,
+        ) {
             Ok(sequence) => Ok(Answer::Committed { sequence }),
             Err(refusal) => Err(refusal),
         }
     }
 
     fn open_read(&mut self, actor: Actor, name: &[u8]) -> Result<Answer, Refusal>
-        ensures made { (buf : List ℕ) → Leaves (asked.OpenRead name.now) actor result buf (⟦<Core<D, M> as HasState>⟧.state self.old) (⟦<Core<D, M> as HasState>⟧.state self.new) }
+        ensures made { (buf : List ℕ) → Leaves (asked.OpenRead name.now) actor result buf
+            (⟦<Core<D, M> as HasState>⟧.state self.old)
+            (⟦<Core<D, M> as HasState>⟧.state self.new) }
         ensures stop { self.new.stop ≡ self.old.stop }
         ensures count { self.new.acknowledged ≡ self.old.acknowledged }
     {
@@ -144,7 +165,8 @@ impl<D: Disk, M: Summary> Core<D, M> {
 
     fn read_next(&mut self, actor: Actor, buf: &mut SegBuf) -> Result<Answer, Refusal>
         requires up { IsUp (⟦<Core<D, M> as HasState>⟧.state self.old) }
-        ensures made { Leaves asked.ReadNext actor result buf.new (⟦<Core<D, M> as HasState>⟧.state self.old) (⟦<Core<D, M> as HasState>⟧.state self.new) }
+        ensures made { Leaves asked.ReadNext actor result buf.new (⟦<Core<D, M> as HasState>⟧.state self.old)
+            (⟦<Core<D, M> as HasState>⟧.state self.new) }
         ensures stop { self.new.stop ≡ self.old.stop }
         ensures count { self.new.acknowledged ≡ self.old.acknowledged }
     {
@@ -158,7 +180,8 @@ impl<D: Disk, M: Summary> Core<D, M> {
     }
 
     fn end_read(&mut self, actor: Actor) -> Result<Answer, Refusal>
-        ensures made { (buf : List ℕ) → Leaves asked.EndRead actor result buf (⟦<Core<D, M> as HasState>⟧.state self.old) (⟦<Core<D, M> as HasState>⟧.state self.new) }
+        ensures made { (buf : List ℕ) → Leaves asked.EndRead actor result buf (⟦<Core<D, M> as HasState>⟧.state self.old)
+            (⟦<Core<D, M> as HasState>⟧.state self.new) }
         ensures stop { self.new.stop ≡ self.old.stop }
         ensures count { self.new.acknowledged ≡ self.old.acknowledged }
     {
@@ -168,14 +191,33 @@ impl<D: Disk, M: Summary> Core<D, M> {
         }
     }
 
-    fn seal(&mut self, actor: Actor, filled: &OpenContainer, buf: &mut SegBuf) -> Result<Answer, Refusal>
+    fn seal(
+        &mut self,
+        actor: Actor,
+        filled: &OpenContainer,
+        buf: &mut SegBuf,
+    ) -> Result<Answer, Refusal>
         requires asked { IsStep (asked.Seal filled.now) }
         requires up { IsUp (⟦<Core<D, M> as HasState>⟧.state self.old) }
-        ensures made { (bytes : List ℕ) → Leaves (asked.Seal filled.now) actor result bytes (⟦<Core<D, M> as HasState>⟧.state self.old) (⟦<Core<D, M> as HasState>⟧.state self.new) }
+        ensures made { (bytes : List ℕ) → Leaves (asked.Seal filled.now) actor result bytes
+            (⟦<Core<D, M> as HasState>⟧.state self.old)
+            (⟦<Core<D, M> as HasState>⟧.state self.new) }
         ensures stop { self.new.stop ≡ self.old.stop }
         ensures count { self.new.acknowledged ≡ self.old.acknowledged }
     {
-        seal(self, actor, filled, buf)
+        match seal(
+            self.alloc,
+            &mut self.disk,
+            &mut self.tables,
+            &mut self.index,
+            &mut self.parts,
+            actor,
+            filled,
+            buf,
+        ) {
+            Ok(id) => Ok(Answer::Sealed { id }),
+            Err(refusal) => Err(refusal),
+        }
     }
 
     fn stat(&self) -> Answer
@@ -189,7 +231,8 @@ impl<D: Disk, M: Summary> Core<D, M> {
     fn make(&mut self, actor: Actor, step: Step<'_>, buf: &mut SegBuf) -> Result<Answer, Refusal>
         requires asked { IsStep (step_value step) }
         requires up { IsUp (⟦<Core<D, M> as HasState>⟧.state self.old) }
-        ensures made { Leaves (step_value step.entry) actor result buf.new (⟦<Core<D, M> as HasState>⟧.state self.old) (⟦<Core<D, M> as HasState>⟧.state self.new) }
+        ensures made { Leaves (step_value step.entry) actor result buf.new (⟦<Core<D, M> as HasState>⟧.state self.old)
+            (⟦<Core<D, M> as HasState>⟧.state self.new) }
         ensures stop { self.new.stop ≡ self.old.stop }
         ensures count { self.new.acknowledged ≡ self.old.acknowledged }
     {
@@ -210,12 +253,18 @@ impl<D: Disk, M: Summary> Core<D, M> {
     ///
     /// After `DiskWrite`, and after `Damaged` that a seal met in the index, the core is stopped: each further step is refused by
     /// `Stopped`, with how many puts had been acknowledged since the opening, and changes nothing.
-    pub fn step(&mut self, actor: Actor, step: Step<'_>, buf: &mut SegBuf) -> Result<Answer, Refusal>
+    pub fn step(
+        &mut self,
+        actor: Actor,
+        step: Step<'_>,
+        buf: &mut SegBuf,
+    ) -> Result<Answer, Refusal>
         requires asked { IsStep (step_value step) }
         requires running { IsRunning (⟦<Core<D, M> as HasState>⟧.state self.old) }
         ensures step { CoreStep (⟦<Core<D, M> as HasState>⟧.state self.old)
             (record { actor = actor; step = step_value step.entry; answer = result; buf = buf.new }) (⟦<Core<D, M> as HasState>⟧.state self.new) }
-        ensures stopped { IfSome self.old.stop (λ stop. (result ≡ Err (Stopped stop.at)) × (self.new ≡ self.old) × (buf.new ≡ buf.old)) }
+        ensures stopped { IfSome self.old.stop (λ stop. (result ≡ Err (Stopped stop.at)) × (self.new ≡ self.old) ×
+            (buf.new ≡ buf.old)) }
         ensures running { IsRunning (⟦<Core<D, M> as HasState>⟧.state self.new) }
     {
         if let Some(stop) = &self.stop {
@@ -257,7 +306,9 @@ impl<D: Disk, M: Summary> Core<D, M> {
             None => None,
         }
     }
+}
 
+impl<D: Disk, M: Summary + Drop> Core<D, M> {
     /// Its disk, which is all that is left of it.
     pub fn close(self) -> D
         ensures { result ≡ self.disk }

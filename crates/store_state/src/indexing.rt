@@ -70,8 +70,10 @@ fn put<D: Disk, X: Index>(
     ensures ok { OnOk result (KnownMap (X.places index.old (D.view disk.old).content)
         (λ m. X.places index.new (D.view disk.new).content ≡ Some (finite.insert m key.now place))) }
     ensures unknown { OnOk result (Stays (X.places index.old (D.view disk.old).content) (X.places index.new (D.view disk.new).content)) }
-    ensures memory { result ≡ Err Memory → X.places index.new (D.view disk.new).content ≡ X.places index.old (D.view disk.old).content }
-    ensures absent { result ≡ Err Memory → KnownMap (X.places index.old (D.view disk.old).content) (λ m. finite.get m key.now ≡ None) }
+    ensures memory { result ≡ Err Memory → X.places index.new (D.view disk.new).content ≡ X.places index.old
+        (D.view disk.old).content }
+    ensures absent { result ≡ Err Memory → KnownMap (X.places index.old (D.view disk.old).content)
+        (λ m. finite.get m key.now ≡ None) }
     ensures refused { IfErr result (IsChangeRefusal (X.places index.old (D.view disk.old).content)) }
     ensures changes { Changes (X.owned_from index.old (D.view disk.old).size) (ending blames result) (D.view disk.old) (D.view disk.new) }
     ensures served { X.serves index.new (D.view disk.new).size }
@@ -122,7 +124,8 @@ fn give_back<D: Disk, X: Index>(
     ensures ok { OnOk result (KnownMap (X.places index.old (D.view disk.old).content)
         (λ m. X.places index.new (D.view disk.new).content ≡ Some (with_had had.now key.now m))) }
     ensures unknown { OnOk result (Stays (X.places index.old (D.view disk.old).content) (X.places index.new (D.view disk.new).content)) }
-    ensures memory { result ≡ Err Memory → (X.places index.new (D.view disk.new).content ≡ X.places index.old (D.view disk.old).content)
+    ensures memory { result ≡ Err Memory → (X.places index.new (D.view disk.new).content ≡ X.places index.old
+        (D.view disk.old).content)
         × (X.places index.old (D.view disk.old).content ≡ None) }
     ensures refused { IfErr result (IsChangeRefusal (X.places index.old (D.view disk.old).content)) }
     ensures changes { Changes (X.owned_from index.old (D.view disk.old).size) (ending blames result) (D.view disk.old) (D.view disk.new) }
@@ -158,7 +161,8 @@ fn put_from<D: Disk, X: Index>(
     requires had { AreHad (D.view disk.old).size (X.places index.old (D.view disk.old).content) kind entries.now before.now }
     ensures ok { OnOk result (KnownMap (X.places index.old (D.view disk.old).content)
         (λ m. X.places index.new (D.view disk.new).content ≡ Some (with_entries kind slot entries.now m))) }
-    ensures memory { result ≡ Err Memory → X.places index.new (D.view disk.new).content ≡ X.places index.old (D.view disk.old).content }
+    ensures memory { result ≡ Err Memory → X.places index.new (D.view disk.new).content ≡ X.places index.old
+        (D.view disk.old).content }
     ensures refused { IfErr result (IsChangeRefusal (X.places index.old (D.view disk.old).content)) }
     ensures changes { (slots : ℕ) → (D.view disk.old).size ≡ size_of slots
         → Changes (slot_at slots) (ending blames result) (D.view disk.old) (D.view disk.new) }
@@ -201,11 +205,13 @@ pub fn put_entries<D: Disk, X: Index>(
         (entries_from 0 filled.now.segments) before.now }
     ensures ok { OnOk result (KnownMap (X.places index.old (D.view disk.old).content) (λ m. X.places index.new (D.view disk.new).content
         ≡ Some (with_entries filled.now.kind slot (entries_from 0 filled.now.segments) m))) }
-    ensures memory { result ≡ Err Memory → X.places index.new (D.view disk.new).content ≡ X.places index.old (D.view disk.old).content }
+    ensures memory { result ≡ Err Memory → X.places index.new (D.view disk.new).content ≡ X.places index.old
+        (D.view disk.old).content }
     ensures refused { IfErr result (IsChangeRefusal (X.places index.old (D.view disk.old).content)) }
     ensures changes { (slots : ℕ) → (D.view disk.old).size ≡ size_of slots
         → Changes (slot_at slots) (ending blames result) (D.view disk.old) (D.view disk.new) }
-    ensures counts { (slots : ℕ) → (D.view disk.old).size ≡ size_of slots → KeepsWhatCounts slots (D.view disk.old) (D.view disk.new) }
+    ensures counts { (slots : ℕ) → (D.view disk.old).size ≡ size_of slots → KeepsWhatCounts slots (D.view disk.old)
+        (D.view disk.new) }
     ensures served { X.serves index.new (D.view disk.new).size }
 {
     put_from(disk, index, slot, filled.kind(), filled.entries(), before)

@@ -67,7 +67,8 @@ impl SlotTable {
     pub fn take_container(&mut self, slot: u32, id: u64, entries: u32, bytes: u32)
         requires slot { slot < length self.old.ids.items }
         requires counts { length self.old.counts.items ≡ length self.old.ids.items }
-        ensures { (held : List (Option HeaderValue)) (h : HeaderValue) → h.id ≡ id → length h.entries ≡ entries → h.data_length ≡ bytes
+        ensures { (held : List (Option HeaderValue)) (h : HeaderValue) → h.id ≡ id → length h.entries ≡ entries
+            → h.data_length ≡ bytes
             → RepresentsSlots held self.old → RepresentsSlots (with_slot slot h held) self.new }
     {
         self.ids[slot as usize] = id;

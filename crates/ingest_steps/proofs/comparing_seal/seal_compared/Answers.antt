@@ -9,22 +9,21 @@ use Rattle.segment_index.specs.Places.{KnownMap}
 use Rattle.store_state.specs.Comparing.{IsFirstUnlike}
 use Rattle.store_state.specs.Indexing.{IsChangeRefusal}
 use Rattle.store_state.specs.Refused.{blames}
-use Rattle.ingest_steps.specs.Sealing.{IsSealRefusal, places_with}
-use Rattle.ingest_steps.proofs.AfterReads.{map_on_ok, known_before, change_refused, map_kept, steps_after, seals_after}
+use Rattle.ingest_steps.specs.Sealing.{IsSealRefusal, HasPlacesOf}
+use Rattle.ingest_steps.proofs.AfterReads.{map_on_ok, has_places_before, change_refused, map_kept, steps_after, seals_after}
 use Rattle.ingest_steps.proofs.comparing_seal.seal_compared.Goals as goal
 
 pub returns-clause-map : goal.returns-clause-map
 returns-clause-map g c =
-    let view = g.D.Disk.view in
     let places = g.X.Index.places in
-    let old = view c.args.disk.now in
-    let mid = view c.compare_all.new.disk in
-    let new = places c.seal_indexed.new.index (view c.seal_indexed.new.disk).content in
-    let before = places c.args.index.now old.content in
-    let now = places c.compare_all.new.index mid.content in
-    let P : PlaceMap → Type 0 = λ m. new ≡ places_with c.args.filled.now c.args.slot (Some m) in
-    map_on_ok c.seal_indexed.result (Known mid.content (λ _. KnownMap now P)) (Known old.content (λ _. KnownMap before P))
-    (known_before mid.content old.content now before P c.in_ok-before.ensures.reads.only.content_is c.in_ok-before.ensures.map) c.seal_indexed.ensures.map
+    let old = (g.D.Disk.view c.args.disk.now).content in
+    let mid = (g.D.Disk.view c.compare_all.new.disk).content in
+    let new = (g.D.Disk.view c.seal_indexed.new.disk).content in
+    let filled = c.args.filled.now in
+    map_on_ok c.seal_indexed.result (HasPlacesOf filled c.args.slot (places c.compare_all.new.index) (places c.seal_indexed.new.index) mid new)
+    (HasPlacesOf filled c.args.slot (places c.args.index.now) (places c.seal_indexed.new.index) old new)
+    (has_places_before filled c.args.slot (places c.args.index.now) (places c.compare_all.new.index) (places c.seal_indexed.new.index) old mid new c.in_ok-before.ensures.reads.only.content_is c.in_ok-before.ensures.map)
+    c.seal_indexed.ensures.map
 
 pub returns-clause-refused : goal.returns-clause-refused
 returns-clause-refused g c =

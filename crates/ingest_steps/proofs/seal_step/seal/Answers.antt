@@ -69,7 +69,7 @@ unpin_for-requires-clause-kept g c =
     let pinned : c.pin_for.new.parts ≡ more = c.in_ok-hads.ensures.ok may.pins may.writing in (
       may.pins,
       subst (WereHad filled.kind filled.segments may.pins) (sym c.deref.ensures.value) (c.in_ok-hads.ensures.had may.pins may.writing),
-      ap (λ (p : List Part). part_of p c.args.actor) {y = more} pinned ∙ apart.same c.args.parts.now c.args.actor kept c.part.ensures.there,
+      ap (λ (p : List Part). part_of p c.args.actor) pinned ∙ apart.same c.args.parts.now c.args.actor kept c.part.ensures.there,
     )
 
 pub returns-clause-unchanged : goal.returns-clause-unchanged
@@ -84,8 +84,8 @@ returns-clause-unchanged g c =
       c.in-Err.ensures.unchanged,
       c.unpin_for.ensures may.pins
           (subst (WereHad filled.kind filled.segments may.pins) (sym c.deref.ensures.value) (c.in_ok-hads.ensures.had may.pins may.writing))
-          (ap (λ (p : List Part). part_of p actor) {y = more} pinned ∙ apart.same parts actor kept c.part.ensures.there)
-          ∙ ap (λ (p : List Part). with_part p actor (Writing may.pins)) {y = more} pinned
+          (ap (λ (p : List Part). part_of p actor) pinned ∙ apart.same parts actor kept c.part.ensures.there)
+          ∙ ap (λ (p : List Part). with_part p actor (Writing may.pins)) pinned
           ∙ apart.replaced parts actor kept (Writing may.pins)
           ∙ ap (with_part parts actor) (sym may.writing)
           ∙ apart.unchanged parts actor,

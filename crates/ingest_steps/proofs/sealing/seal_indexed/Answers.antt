@@ -1,4 +1,4 @@
-use Rattle.std.proofs.Common.{ℕ, ◌+◌, refl, sym, subst, ◌∙◌}
+use Rattle.std.proofs.Common.{ℕ, ◌+◌, ap, refl, sym, subst, ◌∙◌}
 use Rattle.container_meta.specs.Spelling.{header_of}
 use Rattle.dd_disk.specs.Ending.{Done, ending_of}
 use Rattle.dd_disk.proofs.Moves.{passed}
@@ -8,7 +8,9 @@ use Rattle.store_state.specs.Settled.{Steps}
 use Rattle.store_state.specs.Tables.{Runs}
 use Rattle.store_state.proofs.Room.{room_of}
 use Rattle.ingest_steps.specs.Sealing.{SealsContainer, SealsIndexed}
-use Rattle.ingest_steps.proofs.SealedTables.{length-of_entries, place_on_disk, slots_on_disk, steps_refused, steps_on, seals_refused, seals_on, steps_broken, map_on}
+use Rattle.disk_format.specs.Layout.{slot_at}
+use Rattle.segment_index.specs.Changes.{SameBefore}
+use Rattle.ingest_steps.proofs.SealedTables.{length-of_entries, place_on_disk, slots_on_disk, steps_refused, steps_on, seals_refused, seals_on, steps_broken, map_on, no_content}
 use Rattle.ingest_steps.proofs.sealing.seal_indexed.Goals as goal
 
 pub put_entries-requires-clause-slot : goal.put_entries-requires-clause-slot
@@ -76,7 +78,7 @@ returns-in_err-seal_container-clause-moves g c =
     (subst (λ (i : ℕ). SealsContainer t i c.args.filled.now (ending_of (blames e)) mid new) c.next_id-id.ensures.next c.in_err-seal_container.ensures.moves))
 
 pub returns-clause-map : goal.returns-clause-map
-returns-clause-map g c = λ given content m known_is.
+returns-clause-map g c =
     let view = g.D.Disk.view in
     let old = view c.args.disk.now in
     let mid = view c.put_entries.new.disk in
@@ -85,9 +87,14 @@ returns-clause-map g c = λ given content m known_is.
     let index = c.put_entries.new.index in
     let places = g.X.Index.places index in
     let changes = c.in_ok-put_entries.ensures.changes t.slots (slots_on_disk old.size (g.X.Index.places c.args.index.now old.content) t c.requires.state) in
-    map_on places (g.X.Index.owned_from index) (g.met.X.Index.places_stay index) (g.X.Index.serves index) (g.met.X.Index.owns_no_slot index) old.size (g.X.Index.places c.args.index.now old.content) t c.args.slot c.requires.slot c.requires.state
+    record {
+    told = λ given content m known_is. map_on places (g.X.Index.owned_from index) (g.met.X.Index.places_stay index) (g.X.Index.serves index) (g.met.X.Index.owns_no_slot index) old.size (g.X.Index.places c.args.index.now old.content) t c.args.slot c.requires.slot c.requires.state
     old mid new changes refl given content c.in_ok-put_entries.ensures.served c.in_ok-seal_container.ensures.same
-    ∙ c.in_ok-put_entries.ensures.ok m known_is
+    ∙ c.in_ok-put_entries.ensures.ok m known_is;
+    untold = λ none m known_is.
+        let content = g.X.Index.places c.args.index.now in
+        ap places (sym (no_content (SameBefore (slot_at t.slots)) old.content mid.content changes.content_is none)) ∙ c.in_ok-put_entries.ensures.ok m (ap content none ∙ known_is);
+    }
 
 pub returns-clause-disk : goal.returns-clause-disk
 returns-clause-disk g c =

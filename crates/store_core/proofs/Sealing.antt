@@ -1,0 +1,73 @@
+-- What a seal makes of a core.
+use Rattle.std.proofs.Common.{◌≡◌, ℕ, List, Option, Some, None, Ok, Err, refl, sym, ◌∙◌, ap, subst}
+use Rattle.container_meta.specs.Places.{PlaceMap}
+use Rattle.container_meta.specs.Segments.{Contents}
+use Rattle.dd_disk.specs.View.{IsLater}
+use Rattle.dd_disk.specs.Ending.{Done, ending_of}
+use Rattle.actor_parts.specs.declared.step.Answer.TheVariants as answers
+use Rattle.actor_parts.specs.StepValue as asked
+use Rattle.refusals.specs.declared.refusal.Refusal.{Refusal}
+use Rattle.refusals.specs.declared.refusal.Refusal.TheVariants as refusals
+use Rattle.store_model.specs.Image.{IsValidFor}
+use Rattle.store_model.specs.Steps.{SealContainer, CanSeal, with_sealed}
+use Rattle.store_model.proofs.Valid.{valid_sealed}
+use Rattle.store_state.specs.Refused.{blames}
+use Rattle.store_state.specs.Settled as settled
+use Rattle.store_state.specs.Tables.{Represents, Runs}
+use Rattle.ingest_steps.specs.Sealing.{HasSealed, HasPlacesOf, SealsCompared, KeepsMap, places_with}
+use Rattle.ingest_steps.specs.SealStep.{IsSealedFor, KeepsSealed}
+use Rattle.store_core.specs.Core.{Makes, Made, KeepsUnlessBroken, IsUnsealed, next_id}
+use Rattle.store_core.specs.State.{CoreState}
+
+-- an index that knows its map whatever the disk tells has the places of the container
+pub index_has : (filled : Contents) (slot : ℕ) (before after : Option (List ℕ) → Option PlaceMap) (old new : Option (List ℕ)) (m : PlaceMap) (k : Option PlaceMap) → HasPlacesOf filled slot before after old new
+    → before old ≡ Some m → before None ≡ Some m → after new ≡ k → after None ≡ k → k ≡ places_with filled slot (Some m)
+index_has filled slot before after (Some given) new m k has told untold is none = sym is ∙ has.told given refl m told
+index_has filled slot before after None new m k has told untold is none = sym none ∙ has.untold refl m untold
+
+module _ (old new : CoreState) (filled : Contents) (slot id : ℕ) (sealed : HasSealed old.tables old.disk.size old.known slot filled new.tables id) (later : IsLater old.disk new.disk) (m : PlaceMap) (known : old.known ≡ Some m)
+    (index : new.known ≡ places_with filled slot (Some m)) where
+  map_is : new.known ≡ places_with filled slot old.known
+  map_is = index ∙ ap (places_with filled slot) (sym known)
+
+  id_is : id ≡ next_id old
+  id_is = sealed.number
+
+  pub makes_seal : Makes (SealContainer (next_id old) filled.kind filled.segments) old new
+  makes_seal = record {
+    can = record { store_has = λ store represents valid reserve. subst (λ (n : ℕ). CanSeal n filled.kind filled.segments store) id_is (sealed.can.store_has store represents valid reserve) };
+    represents = record {
+      store_has = λ store represents valid reserve. subst (λ (k : Option PlaceMap). Represents (with_sealed (next_id old) filled.kind filled.segments store) k new.tables) (sym map_is)
+          (subst (λ (n : ℕ). Represents (with_sealed n filled.kind filled.segments store) (places_with filled slot old.known) new.tables) id_is (sealed.represents.store_has store represents valid reserve));
+    };
+    valid = record {
+      store_has = λ store represents valid reserve. subst (λ (size : ℕ). IsValidFor size (with_sealed (next_id old) filled.kind filled.segments store)) (sym later.size_is)
+          (valid_sealed (next_id old) filled.kind filled.segments store (subst (λ (n : ℕ). CanSeal n filled.kind filled.segments store) id_is (sealed.can.store_has store represents valid reserve)) old.disk.size valid);
+    };
+    tells = λ places is. (_, index);
+    runs = λ runs. subst (λ (size : ℕ). Runs size new.known new.tables) (sym later.size_is) (subst (λ (k : Option PlaceMap). Runs old.disk.size k new.tables) (sym map_is) sealed.runs);
+  }
+
+kept_map : (refusal : Refusal) (old new : CoreState) → new.tables ≡ old.tables → KeepsMap old.known new.known refusal → KeepsUnlessBroken refusal old new
+kept_map refusals.DiskWrite old new tables map = tt
+kept_map (refusals.Damaged at why) old new tables map = tt
+kept_map refusal old new tables map = record { tables_are = tables; index_is = map }
+
+pub made_seal : (filled : Contents) (actor id slot : ℕ) (bytes : List ℕ) (old new : CoreState) (before after : Option (List ℕ) → Option PlaceMap) (m : PlaceMap) → old.known ≡ Some m
+    → (sealed : IsSealedFor old.tables old.disk old.known old.parts actor filled new.tables new.disk before after new.parts id) → new.known ≡ places_with filled sealed.slot (Some m)
+    → settled.Steps old.tables.slots Done old.disk new.disk → SealsCompared old.tables old.known (next_id old) filled Done old.disk new.disk
+    → KeepsSealed old.disk new.disk old.known old.tables old.parts actor filled new.parts id → (old.served → new.served) → Made (asked.Seal filled) actor (Ok (answers.Sealed id)) bytes old new
+made_seal filled actor id slot bytes old new before after m known sealed index steps moves kept served = record {
+  row = record { may = sealed.may; id_is = sealed.sealed.number; parts_are = sealed.parts_are; kept = kept };
+  effect = record { disk = steps; moves = moves; made = makes_seal old new filled sealed.slot id sealed.sealed steps.later m known index; kept = tt };
+  served = served;
+}
+
+pub made_unsealed : (filled : Contents) (actor : ℕ) (refusal : Refusal) (bytes : List ℕ) (old new : CoreState) → IsUnsealed filled actor refusal old new → new.tables ≡ old.tables → new.parts ≡ old.parts
+    → KeepsMap old.known new.known refusal → settled.Steps old.tables.slots (ending_of (blames refusal)) old.disk new.disk → SealsCompared old.tables old.known (next_id old) filled (ending_of (blames refusal)) old.disk new.disk
+    → (old.served → new.served) → Made (asked.Seal filled) actor (Err refusal) bytes old new
+made_unsealed filled actor refusal bytes old new refused tables parts map steps moves served = record {
+  row = (refused, parts);
+  effect = record { disk = steps; moves = moves; made = tt; kept = kept_map refusal old new tables map };
+  served = served;
+}

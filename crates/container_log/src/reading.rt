@@ -127,8 +127,7 @@ fn header_into(at: u64, bytes: &[u8], entries: &mut Vec<Entry>) -> Result<Header
 pub(crate) fn header_in(alloc: Global, at: u64, bytes: &[u8]) -> Result<Meta, LogFault>
     requires { length bytes.now ≡ HEADER_BYTES }
     ensures found { IfOk result (λ m. IsSpelled (view m) bytes.now) }
-    ensures only { (h : HeaderValue) → IsHeader h → bytes.now ≡ header_spelling h → UnlessFailed fails
-        (λ m. view m ≡ h) result }
+    ensures only { (h : HeaderValue) → IsHeader h → bytes.now ≡ header_spelling h → UnlessFailed fails (λ m. view m ≡ h) result }
     ensures fault { IfErr result (OrMemory (IsDecodeFault bytes.now at)) }
 {
     match decode(alloc, bytes) {

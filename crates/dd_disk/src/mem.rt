@@ -131,8 +131,7 @@ impl Disk for MemDisk {
         requires { at + length from.now ≤ length (shown self.old) }
         ensures ok { OnOk result (shown self.new ≡ written at from.now (shown self.old)) }
         ensures torn { Torn at (length from.now) (shown self.old) (shown self.new) }
-        ensures leaves { CrashLeaves (SteppedFrom (Torn at (length from.now)) (mem_view self.old)) (mem_view self.old)
-            (mem_view self.new) }
+        ensures leaves { CrashLeaves (SteppedFrom (Torn at (length from.now)) (mem_view self.old)) (mem_view self.old) (mem_view self.new) }
         ensures tears { OnOk result ((d c : List ℕ) → (mem_view self.old).images d → Torn at (length from.now) d c
             → (mem_view self.new).images c) }
         ensures later { IsLater (mem_view self.old) (mem_view self.new) }

@@ -55,8 +55,7 @@ fn read_copy<D: Disk>(
     requires { place_of_data place.now.slot + place.now.offset + place.now.length ≤ (D.view disk.old).size }
     ensures digest { IfOk result (λ bytes. sha256 bytes.items ≡ digest.now) }
     ensures length { IfOk result (λ bytes. length bytes.items ≡ place.now.length) }
-    ensures shown { IfOk result (λ bytes. Shows (D.view disk.old) (D.view disk.new)
-        (λ image. bytes_at place.now image ≡ bytes.items)) }
+    ensures shown { IfOk result (λ bytes. Shows (D.view disk.old) (D.view disk.new) (λ image. bytes_at place.now image ≡ bytes.items)) }
     ensures reads { Reads (ending blames result) (D.view disk.old) (D.view disk.new) }
     ensures refused { IfErr result (IsCopyRefusal (Shows (D.view disk.old) (D.view disk.new)) place.now digest.now) }
 {

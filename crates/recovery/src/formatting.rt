@@ -152,8 +152,7 @@ pub fn format<D: Disk>(alloc: Global, disk: &mut D, slots: u32) -> Result<(), Re
         (D.view disk.old) (D.view disk.new)) }
     ensures disk { Acts (ending blames result) (D.view disk.old) (D.view disk.new) }
     // A disk that is known to have a store is only read.
-    ensures store { Known (D.view disk.old).content (λ image. byte_at 0 image ≡ OPEN → OnlyReads (D.view disk.old)
-        (D.view disk.new)) }
+    ensures store { Known (D.view disk.old).content (λ image. byte_at 0 image ≡ OPEN → OnlyReads (D.view disk.old) (D.view disk.new)) }
     ensures refused { IfErr result (IsFormatRefusal (Shows (D.view disk.old) (D.view disk.new)) (D.view disk.old).size slots) }
 {
     may_format(disk, slots)?;

@@ -130,7 +130,8 @@ impl<D: Disk, M: Summary> Core<D, M> {
 
     fn commit(&mut self, actor: Actor, name: &[u8], root: &Root) -> Result<Answer, Refusal>
         requires up { IsUp (⟦<Core<D, M> as HasState>⟧.state self.old) }
-        ensures made { (buf : List ℕ) → Leaves (asked.Commit name.now root.now) actor result buf (⟦<Core<D, M> as HasState>⟧.state self.old)
+        ensures made { (buf : List ℕ) → Leaves (asked.Commit name.now root.now) actor result buf
+            (⟦<Core<D, M> as HasState>⟧.state self.old)
             (⟦<Core<D, M> as HasState>⟧.state self.new) }
         ensures stop { self.new.stop ≡ self.old.stop }
         ensures count { self.new.acknowledged ≡ self.old.acknowledged }
@@ -150,7 +151,8 @@ impl<D: Disk, M: Summary> Core<D, M> {
     }
 
     fn open_read(&mut self, actor: Actor, name: &[u8]) -> Result<Answer, Refusal>
-        ensures made { (buf : List ℕ) → Leaves (asked.OpenRead name.now) actor result buf (⟦<Core<D, M> as HasState>⟧.state self.old)
+        ensures made { (buf : List ℕ) → Leaves (asked.OpenRead name.now) actor result buf
+            (⟦<Core<D, M> as HasState>⟧.state self.old)
             (⟦<Core<D, M> as HasState>⟧.state self.new) }
         ensures stop { self.new.stop ≡ self.old.stop }
         ensures count { self.new.acknowledged ≡ self.old.acknowledged }
@@ -197,7 +199,8 @@ impl<D: Disk, M: Summary> Core<D, M> {
     ) -> Result<Answer, Refusal>
         requires asked { IsStep (asked.Seal filled.now) }
         requires up { IsUp (⟦<Core<D, M> as HasState>⟧.state self.old) }
-        ensures made { (bytes : List ℕ) → Leaves (asked.Seal filled.now) actor result bytes (⟦<Core<D, M> as HasState>⟧.state self.old)
+        ensures made { (bytes : List ℕ) → Leaves (asked.Seal filled.now) actor result bytes
+            (⟦<Core<D, M> as HasState>⟧.state self.old)
             (⟦<Core<D, M> as HasState>⟧.state self.new) }
         ensures stop { self.new.stop ≡ self.old.stop }
         ensures count { self.new.acknowledged ≡ self.old.acknowledged }
@@ -259,7 +262,8 @@ impl<D: Disk, M: Summary> Core<D, M> {
         requires asked { IsStep (step_value step) }
         requires running { IsRunning (⟦<Core<D, M> as HasState>⟧.state self.old) }
         ensures step { CoreStep (⟦<Core<D, M> as HasState>⟧.state self.old)
-            (record { actor = actor; step = step_value step.entry; answer = result; buf = buf.new }) (⟦<Core<D, M> as HasState>⟧.state self.new) }
+            (record { actor = actor; step = step_value step.entry; answer = result; buf = buf.new })
+            (⟦<Core<D, M> as HasState>⟧.state self.new) }
         ensures stopped { IfSome self.old.stop (λ stop. (result ≡ Err (Stopped stop.at)) × (self.new ≡ self.old) × (buf.new ≡ buf.old)) }
         ensures running { IsRunning (⟦<Core<D, M> as HasState>⟧.state self.new) }
     {

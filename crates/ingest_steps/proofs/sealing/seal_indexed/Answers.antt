@@ -88,12 +88,12 @@ returns-clause-map g c =
     let places = g.X.Index.places index in
     let changes = c.in_ok-put_entries.ensures.changes t.slots (slots_on_disk old.size (g.X.Index.places c.args.index.now old.content) t c.requires.state) in
     record {
-    told = λ given content m known_is. map_on places (g.X.Index.owned_from index) (g.met.X.Index.places_stay index) (g.X.Index.serves index) (g.met.X.Index.owns_no_slot index) old.size (g.X.Index.places c.args.index.now old.content) t c.args.slot c.requires.slot c.requires.state
-    old mid new changes refl given content c.in_ok-put_entries.ensures.served c.in_ok-seal_container.ensures.same
-    ∙ c.in_ok-put_entries.ensures.ok m known_is;
-    untold = λ none m known_is.
-        let content = g.X.Index.places c.args.index.now in
-        ap places (sym (no_content (SameBefore (slot_at t.slots)) old.content mid.content changes.content_is none)) ∙ c.in_ok-put_entries.ensures.ok m (ap content none ∙ known_is);
+      told = λ given content m known_is. map_on places (g.X.Index.owned_from index) (g.met.X.Index.places_stay index) (g.X.Index.serves index) (g.met.X.Index.owns_no_slot index) old.size (g.X.Index.places c.args.index.now old.content) t c.args.slot c.requires.slot c.requires.state
+          old mid new changes refl given content c.in_ok-put_entries.ensures.served c.in_ok-seal_container.ensures.same
+          ∙ c.in_ok-put_entries.ensures.ok m known_is;
+      untold = λ none m known_is.
+          let content = g.X.Index.places c.args.index.now in
+          ap places (sym (no_content (SameBefore (slot_at t.slots)) old.content mid.content changes.content_is none)) ∙ c.in_ok-put_entries.ensures.ok m (ap content none ∙ known_is);
     }
 
 pub returns-clause-disk : goal.returns-clause-disk

@@ -1,7 +1,6 @@
 -- A container that is sealed after reads.
-use Rattle.std.proofs.Common.{◌≡◌, inl, inr, ℕ, List, Option, Some, None, Result, Ok, Err, OnOk, IfErr, refl, sym, ◌∙◌, ap, subst}
+use Rattle.std.proofs.Common.{◌≡◌, inl, inr, ℕ, List, Option, Some, Result, Ok, Err, OnOk, IfErr, refl, sym, ◌∙◌, ap, subst}
 use Rattle.std.specs.List.{AllByRecursion}
-use Rattle.base_model.specs.Known.{Known}
 use Rattle.disk_format.specs.Layout.{slot_at}
 use Rattle.dd_disk.specs.View.{DiskView, SteppedFrom}
 use Rattle.dd_disk.specs.Ending.{Ending, Done, Refused, Unread, Broken, Reads}
@@ -17,7 +16,6 @@ use Rattle.container_meta.specs.Segments.{Contents}
 use Rattle.refusals.specs.declared.refusal.Refusal.{Refusal}
 use Rattle.refusals.specs.declared.refusal.Refusal.TheVariants.{Memory, DiskWrite, Damaged}
 use Rattle.segment_index.specs.Changes.{SameBefore}
-use Rattle.segment_index.specs.Places.{KnownMap}
 use Rattle.store_model.specs.Files.{Files}
 use Rattle.store_model.specs.Image.{Store}
 use Rattle.store_model.specs.Slots.{IsIndexOf}

@@ -1,10 +1,8 @@
 -- When a container is sealed for an actor, and what that makes of the store and of the actor (docs/MODEL.md, 'Claims and seals').
 use Rattle.std.specs.Prelude.{◌≡◌, ℕ, List, Option, Some}
-use Rattle.base_model.specs.Known.{Known}
 use Rattle.dd_disk.specs.View.{DiskView}
 use Rattle.container_meta.specs.Places.{PlaceMap}
 use Rattle.container_meta.specs.Segments.{Contents}
-use Rattle.segment_index.specs.Places.{KnownMap}
 use Rattle.actor_parts.specs.declared.part.Part.{Part}
 use Rattle.actor_parts.specs.declared.part.Part.TheVariants.{Writing}
 use Rattle.actor_parts.specs.Parts.{part_of, with_part}

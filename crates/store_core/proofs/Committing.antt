@@ -6,7 +6,7 @@ use Rattle.disk_format.specs.Cells.{Root}
 use Rattle.disk_format.specs.Layout.{cell_at}
 use Rattle.disk_format.specs.declared.numbers.TheConstants.{CELL_BYTES}
 use Rattle.container_meta.specs.Places.{PlaceMap}
-use Rattle.dd_disk.specs.View.{IsLater}
+use Rattle.dd_disk.specs.View.{IsLater, IsDurable}
 use Rattle.dd_disk.specs.Ending.{Done, Reads}
 use Rattle.dd_disk.specs.Moves.{Acts}
 use Rattle.actor_parts.specs.declared.step.Answer.TheVariants as answers
@@ -16,7 +16,7 @@ use Rattle.store_model.specs.Steps.{PutName, KeepsCopies, with_put}
 use Rattle.store_model.proofs.PutRoots.{put_newest}
 use Rattle.store_model.proofs.Valid.{valid_put}
 use Rattle.store_state.specs.Tables.{Represents, Runs}
-use Rattle.ingest_steps.specs.Naming.{IsNamed, PutsRoot, KeepsButNext}
+use Rattle.ingest_steps.specs.Naming.{IsNamed, PutsRoot, KeepsButNext, ChangesNextAlone}
 use Rattle.ingest_steps.specs.Writers.{IsCommitted}
 use Rattle.read_steps.specs.Readers as readers
 use Rattle.store_core.specs.Core.{Makes, Made, GivesHeld}
@@ -46,13 +46,15 @@ module _ (old new : CoreState) (name : List ℕ) (root : Root) (sequence : ℕ) 
       )
 
 pub made_put : (name : List ℕ) (root : Root) (actor sequence : ℕ) (buf : List ℕ) (old new : CoreState) → IsCommitted old.parts actor old.tables name root new.parts new.tables sequence → Acts Done old.disk new.disk
-    → PutsRoot old.tables name root Done old.disk new.disk → KeepsButNext old.tables.journal old.disk new.disk → new.known ≡ old.known → (old.served → new.served)
+    → PutsRoot old.tables name root Done old.disk new.disk → KeepsButNext old.tables.journal old.disk new.disk → ChangesNextAlone old.tables.journal old.disk new.disk → IsDurable new.disk → new.known ≡ old.known → (old.served → new.served)
     → Made (asked.Commit name root) actor (Ok (answers.Committed sequence)) buf old new
-made_put name root actor sequence buf old new committed acts moves keeps index served = record {
+made_put name root actor sequence buf old new committed acts moves keeps frame durable index served = record {
   row = (committed.may, committed.named.number, committed.parts_are);
   effect = record {
     disk = acts;
     moves = moves;
+    frame = frame;
+    durable = durable;
     made = makes_put old new name root sequence committed.named acts.later index;
     copies = put_copies old new name root sequence committed.named acts.later index keeps;
     kept = tt;

@@ -1,5 +1,5 @@
 -- What a crash leaves at any moment of a run.
-use Rattle.std.proofs.Common.{◌≡◌, ◌⊎◌, inl, inr, ℕ, List, [], ◌∷◌, Option, Some, None, Result, Ok, Err, refl, sym, ◌∙◌, subst, arith}
+use Rattle.std.proofs.Common.{◌≡◌, ◌⊎◌, inl, inr, ℕ, List, [], ◌∷◌, Option, Some, None, Result, Ok, Err, refl, sym, ◌∙◌, subst, arith, ap}
 use Rattle.dd_disk.specs.View.{OnlyReads, CrashLeaves}
 use Rattle.dd_disk.proofs.Later.{reads_here, reads_on, reads_leave, leaves_on, leaves_weaker}
 use Rattle.container_meta.specs.Segments.{Contents}
@@ -15,8 +15,8 @@ use Rattle.store_model.specs.Image.{Store}
 use Rattle.store_model.specs.Standing.{ByteSet, IsIn, Stands}
 use Rattle.store_model.specs.Steps.{with_sealed, with_put}
 use Rattle.store_core.specs.declared.stop.Stop.{Stop}
-use Rattle.store_core.specs.Core.{Effect, SealsOne, PutsOne, StepsOr, next_id}
-use Rattle.store_core.specs.Runs.{FileEvent, FileStep, FileRun, IsAt, IsOf, IsOnTheWay, IsGivenRight, IsRootOf, SurvivesCrashes, files_by, files_tried}
+use Rattle.store_core.specs.Core.{Effect, SealsOne, PutsOne, StepsOr, StopsAfter, next_id}
+use Rattle.store_core.specs.Runs.{FileEvent, FileStep, FileRun, IsAt, IsOf, IsOnTheWay, IsGivenRight, IsRootOf, SurvivesCrashes, files_with, files_by, files_after_steps, files_tried, files_tried_by, EndsWithAll}
 use Rattle.store_core.specs.State.{CoreState}
 use Rattle.store_core.proofs.KeepingFiles.{file_step, may_seal_all}
 use Rattle.store_core.proofs.Stepping.{step_later}
@@ -130,3 +130,107 @@ module _ (C : Type 0) (state : C → CoreState) where
         | inl was ↦ on_the_way C state among distinct steps files image (s, at.stands.each image ((state old).disk.only_now image below was))
         | inr is ↦ is
       ]
+
+-- ---- the end of a run
+
+-- a step of a core that was stopped puts no file
+put_none : (step : StepValue) (at : ℕ) (bytes : List ℕ) (files : Files) → files_with step (Err (refusals.Stopped at)) bytes files ≡ files
+put_none asked.Begin at bytes files = refl
+put_none (asked.Claim seg) at bytes files = refl
+put_none (asked.Seal filled) at bytes files = refl
+put_none (asked.Commit name root) at bytes files = refl
+put_none asked.Abort at bytes files = refl
+put_none (asked.OpenRead name) at bytes files = refl
+put_none asked.ReadNext at bytes files = refl
+put_none asked.EndRead at bytes files = refl
+put_none asked.Stat at bytes files = refl
+
+tried_none : (step : StepValue) (at : ℕ) (bytes : List ℕ) (files : Files) → files_tried step (Err (refusals.Stopped at)) bytes files ≡ files
+tried_none asked.Begin at bytes files = refl
+tried_none (asked.Claim seg) at bytes files = refl
+tried_none (asked.Seal filled) at bytes files = refl
+tried_none (asked.Commit name root) at bytes files = refl
+tried_none asked.Abort at bytes files = refl
+tried_none (asked.OpenRead name) at bytes files = refl
+tried_none asked.ReadNext at bytes files = refl
+tried_none asked.EndRead at bytes files = refl
+tried_none asked.Stat at bytes files = refl
+
+-- where a step didn't stop the core, what it tried is what it did
+tried_same : (step : StepValue) (answer : Result Answer Refusal) (count : ℕ) (stop : Option Stop) (bytes : List ℕ) (files : Files) → stop ≡ None → StopsAfter step answer count stop → files_tried step answer bytes files ≡ files_with step answer bytes files
+tried_same (asked.Commit name root) (Err refusals.DiskWrite) count stop bytes files none stops = absurd (let both = sym none ∙ stops in cc)
+tried_same step answer count stop bytes files none stops = refl
+
+put_refused : (step : StepValue) (refusal : Refusal) (bytes : List ℕ) (files : Files) → files_with step (Err refusal) bytes files ≡ files
+put_refused asked.Begin refusal bytes files = refl
+put_refused (asked.Claim seg) refusal bytes files = refl
+put_refused (asked.Seal filled) refusal bytes files = refl
+put_refused (asked.Commit name root) refusal bytes files = refl
+put_refused asked.Abort refusal bytes files = refl
+put_refused (asked.OpenRead name) refusal bytes files = refl
+put_refused asked.ReadNext refusal bytes files = refl
+put_refused asked.EndRead refusal bytes files = refl
+put_refused asked.Stat refusal bytes files = refl
+
+-- what stopped the core put no file
+stop_puts_none : (step : StepValue) (answer : Result Answer Refusal) (count : ℕ) (stop : Option Stop) (s : Stop) (bytes : List ℕ) (files : Files) → stop ≡ Some s → StopsAfter step answer count stop → files_with step answer bytes files ≡ files
+stop_puts_none (asked.Seal filled) (Ok answer) count stop s bytes files is stops = refl
+stop_puts_none (asked.Commit name root) (Ok answer) count stop s bytes files is stops = absurd (let both = sym is ∙ stops in cc)
+stop_puts_none step (Ok answer) count stop s bytes files is stops = refl
+stop_puts_none step (Err refusal) count stop s bytes files is stops = put_refused step refusal bytes files
+
+by_old_tried : (old : Option Stop) (f : FileEvent) (before after : CoreState) (files : Files) → StepsOr old f.event before after → after.stop ≡ None → files_tried f.event.step f.event.answer f.bytes files ≡ files_by f files
+by_old_tried None f before after files steps none = tried_same f.event.step f.event.answer before.acknowledged after.stop f.bytes files none steps.stops
+by_old_tried (Some stop) f before after files steps none =
+    ap (λ (a : Result Answer Refusal). files_tried f.event.step a f.bytes files) steps.answer_is ∙ tried_none f.event.step stop.at f.bytes files
+    ∙ sym (ap (λ (a : Result Answer Refusal). files_with f.event.step a f.bytes files) steps.answer_is ∙ put_none f.event.step stop.at f.bytes files)
+
+by_old_none : (old : Option Stop) (f : FileEvent) (before after : CoreState) (files : Files) (s : Stop) → StepsOr old f.event before after → after.stop ≡ Some s → files_by f files ≡ files
+by_old_none None f before after files s steps is = stop_puts_none f.event.step f.event.answer before.acknowledged after.stop s f.bytes files is steps.stops
+by_old_none (Some stop) f before after files s steps is = ap (λ (a : Result Answer Refusal). files_with f.event.step a f.bytes files) steps.answer_is ∙ put_none f.event.step stop.at f.bytes files
+
+module _ (C : Type 0) (state : C → CoreState) (among : ByteSet) where
+  stopped_files : (stop : Stop) (steps : List FileEvent) (files : Files) (old new : C) → (state old).stop ≡ Some stop → FileRun C state (IsIn among) steps old new
+      → (files_after_steps steps files ≡ files) × (files_tried_by steps files ≡ files)
+  stopped_files stop [] files old new is run = (refl, refl)
+  stopped_files stop (f ∷ fs) files old new is run =
+      let made = subst (λ (o : Option Stop). StepsOr o f.event (state old) (state run.0)) is run.1.0.made in
+      let rest = stopped_files stop fs files run.0 new (made.same.stop_is ∙ is) run.1.1 in
+      let by : files_by f files ≡ files = ap (λ (a : Result Answer Refusal). files_with f.event.step a f.bytes files) made.answer_is ∙ put_none f.event.step stop.at f.bytes files in
+      let tried : files_tried f.event.step f.event.answer f.bytes files ≡ files = ap (λ (a : Result Answer Refusal). files_tried f.event.step a f.bytes files) made.answer_is ∙ tried_none f.event.step stop.at f.bytes files in
+      (ap (files_after_steps fs) by ∙ rest.0, ap (files_tried_by fs) tried ∙ rest.1)
+
+module _ (C : Type 0) (state : C → CoreState) (among : ByteSet) (distinct : HasNoCollisions (IsIn among)) where
+  abbrev Ends : List FileEvent → Files → List ℕ → Type 0
+  Ends steps files image = IsOf (IsIn among) (files_after_steps steps files) image ⊎ IsOf (IsIn among) (files_tried_by steps files) image
+
+  -- the first step, and the end of the others where it didn't stop the core
+  ends_by : (f : FileEvent) (fs : List FileEvent) (s : Store) (files : Files) (old mid new : C) → IsAt (IsIn among) s files (state old) → FileStep (IsIn among) f (state old) (state mid) → FileRun C state (IsIn among) fs mid new
+      → (image : List ℕ) → (state new).disk.images image → ((t : Store) → IsAt (IsIn among) t (files_by f files) (state mid) → Ends fs (files_by f files) image)
+      → (stop : Option Stop) → (state mid).stop ≡ stop → Ends (f ∷ fs) files image
+  ends_by f fs s files old mid new at step run image there others None is =
+      let next = file_step among distinct f s files (state old) (state mid) step at is in
+      let same = by_old_tried (state old).stop f (state old) (state mid) files step.made is in
+      elim (others next.store next.is_at) [
+        | inl done ↦ inl done
+        | inr tried ↦ inr (subst (λ (m : Files). IsOf (IsIn among) (files_tried_by fs m) image) (sym same) tried)
+      ]
+  ends_by f fs s files old mid new at step run image there others (Some stop) is =
+      let first = by_stop among s files (state old) (state mid) f.bytes distinct at (state old).stop f refl step.made step.asked step.given in
+      let reads = stopped_reads C state among distinct stop fs mid new is run in
+      let none = by_old_none (state old).stop f (state old) (state mid) files stop step.made is in
+      let by = stopped_files C state among stop fs (files_by f files) mid new is run in
+      let tried = stopped_files C state among stop fs (files_tried f.event.step f.event.answer f.bytes files) mid new is run in
+      elim (first.now image (reads.images_are image there)) [
+        | inl before ↦ inl (subst (λ (m : Files). IsOf (IsIn among) m image) (sym (by.0 ∙ none)) before)
+        | inr after ↦ inr (subst (λ (m : Files). IsOf (IsIn among) m image) (sym tried.1) after)
+      ]
+
+  ends_all : (steps : List FileEvent) (s : Store) (files : Files) (old new : C) → IsAt (IsIn among) s files (state old) → FileRun C state (IsIn among) steps old new
+      → (image : List ℕ) → (state new).disk.images image → Ends steps files image
+  ends_all [] s files old new at run image there = inl (s, at.stands.each image (subst (λ (c : C). (state c).disk.images image) run there))
+  ends_all (f ∷ fs) s files old new at run image there =
+      ends_by f fs s files old run.0 new at run.1.0 run.1.1 image there (λ t mid. ends_all fs t (files_by f files) run.0 new mid run.1.1 image there) (state run.0).stop refl
+
+pub ends_with_all : (C : Type 0) (state : C → CoreState) → EndsWithAll C state
+ends_with_all C state among steps s files old new distinct at run image there = ends_all C state among distinct steps s files old new at run image there

@@ -5,6 +5,7 @@ use Rattle.base_model.specs.Known.{Known, KnownWith}
 use Rattle.disk_format.specs.Cells.{Root}
 use Rattle.dd_disk.specs.Ending.{Reads, ending}
 use Rattle.dd_disk.specs.Moves.{Acts}
+use Rattle.dd_disk.specs.View.{IsDurable}
 use Rattle.dd_disk.specs.Shows.{Shows}
 use Rattle.disk_format.specs.declared.why.Why.{Why}
 use Rattle.container_meta.specs.Places.{PlaceMap}
@@ -31,7 +32,7 @@ use Rattle.store_model.specs.Steps.{StoreChange, SealContainer, PutName, CanChan
 use Rattle.store_state.specs.Refused.{blames}
 use Rattle.store_state.specs.Settled as settled
 use Rattle.store_state.specs.Tables.{Represents, Runs, OfEach}
-use Rattle.ingest_steps.specs.Naming.{PutsRoot}
+use Rattle.ingest_steps.specs.Naming.{PutsRoot, ChangesNextAlone}
 use Rattle.ingest_steps.specs.declared.claiming.Claimed.{Claimed}
 use Rattle.ingest_steps.specs.declared.claiming.Claimed.TheVariants.{Held, Absent}
 use Rattle.ingest_steps.specs.Claiming.{IsClaimed, IsClaimRefusal, IsOtherCopy, KeepsPart}
@@ -222,6 +223,8 @@ pub record SealsOne (filled : Contents) (answer : Result Answer Refusal) (old ne
 pub record PutsOne (name : List ℕ) (root : Root) (answer : Result Answer Refusal) (old new : CoreState) : Type 0 where
   pub disk : Acts (ending blames answer) old.disk new.disk
   pub moves : PutsRoot old.tables name root (ending blames answer) old.disk new.disk
+  pub frame : ChangesNextAlone old.tables.journal old.disk new.disk
+  pub durable : OnOk answer (IsDurable new.disk)
   pub made : OnOk answer (Makes (PutName name root) old new)
   pub copies : OnOk answer ((store : Store) → Represents store old.known old.tables
       → Known old.disk.content (λ before. Encodes before store

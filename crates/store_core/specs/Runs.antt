@@ -139,6 +139,18 @@ SurvivesCrashes C state = (among : ByteSet) (steps : List FileEvent) (s : Store)
     → (state old).disk.clock < 2 ^ 64 - 1 → (image : List ℕ) → (state new).disk.images_since (state old).disk.clock image
     → IsOnTheWay (IsIn among) steps files image
 
+-- the files after steps, where a write that failed stands
+abbrev pub files_tried_by : List FileEvent → Files → Files
+files_tried_by [] files = files
+files_tried_by (f ∷ fs) files = files_tried_by fs (files_tried f.event.step f.event.answer f.bytes files)
+
+-- At the end each image is of the files after all commits that were acknowledged, or after these and the one whose write failed.
+abbrev pub EndsWithAll : (C : Type 0) → (C → CoreState) → Type 0
+EndsWithAll C state = (among : ByteSet) (steps : List FileEvent) (s : Store) (files : Files) (old new : C)
+    → HasNoCollisions (IsIn among) → IsAt (IsIn among) s files (state old) → FileRun C state (IsIn among) steps old new
+    → (image : List ℕ) → (state new).disk.images image
+    → IsOf (IsIn among) (files_after_steps steps files) image ⊎ IsOf (IsIn among) (files_tried_by steps files) image
+
 -- ---- readers
 
 -- the actor makes no other step than to read on

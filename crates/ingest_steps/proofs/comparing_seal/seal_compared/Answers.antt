@@ -1,11 +1,8 @@
-use Rattle.std.proofs.Common.{◌≡◌, ◌+◌, Some}
-use Rattle.base_model.specs.Known.{Known}
+use Rattle.std.proofs.Common.{◌+◌}
 use Rattle.base_model.proofs.Outcome.{map_err}
 use Rattle.dd_disk.specs.Ending.{ending}
 use Rattle.dd_disk.specs.Shows.{Shows}
-use Rattle.container_meta.specs.Places.{PlaceMap}
 use Rattle.refusals.specs.declared.refusal.Refusal.{Refusal}
-use Rattle.segment_index.specs.Places.{KnownMap}
 use Rattle.store_state.specs.Comparing.{IsFirstUnlike}
 use Rattle.store_state.specs.Indexing.{IsChangeRefusal}
 use Rattle.store_state.specs.Refused.{blames}

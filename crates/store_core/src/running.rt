@@ -264,7 +264,8 @@ impl<D: Disk, M: Summary> Core<D, M> {
         ensures step { CoreStep (⟦<Core<D, M> as HasState>⟧.state self.old)
             (record { actor = actor; step = step_value step.entry; answer = result; buf = buf.new })
             (⟦<Core<D, M> as HasState>⟧.state self.new) }
-        ensures stopped { IfSome self.old.stop (λ stop. (result ≡ Err (Stopped stop.at)) × (self.new ≡ self.old) × (buf.new ≡ buf.old)) }
+        ensures stopped { IfSome self.old.stop (λ stop. (result ≡ Err (Stopped stop.at))
+            × (self.new ≡ self.old) × (buf.new ≡ buf.old)) }
         ensures running { IsRunning (⟦<Core<D, M> as HasState>⟧.state self.new) }
     {
         if let Some(stop) = &self.stop {

@@ -16,9 +16,9 @@ use Rattle.store_model.specs.Standing.{ByteSet, IsIn, Stands}
 use Rattle.store_model.specs.Steps.{with_sealed, with_put}
 use Rattle.store_core.specs.declared.stop.Stop.{Stop}
 use Rattle.store_core.specs.Core.{Effect, SealsOne, PutsOne, StepsOr, StopsAfter, next_id}
-use Rattle.store_core.specs.Runs.{FileEvent, FileStep, FileRun, IsAt, IsOf, IsOnTheWay, IsGivenRight, IsRootOf, SurvivesCrashes, files_with, files_by, files_after_steps, files_tried, files_tried_by, EndsWithAll}
+use Rattle.store_core.specs.Runs.{FileEvent, FileStep, FileRun, IsAt, IsOf, IsOnTheWay, IsGivenRight, IsRootOf, SurvivesCrashes, KeepsAcknowledged, files_with, files_by, files_after_steps, files_tried, files_tried_by, EndsWithAll}
 use Rattle.store_core.specs.State.{CoreState}
-use Rattle.store_core.proofs.KeepingFiles.{file_step, may_seal_all}
+use Rattle.store_core.proofs.KeepingFiles.{file_step, keeps_files, may_seal_all}
 use Rattle.store_core.proofs.Stepping.{step_later}
 
 -- ---- one step
@@ -130,6 +130,11 @@ module _ (C : Type 0) (state : C → CoreState) where
         | inl was ↦ on_the_way C state among distinct steps files image (s, at.stands.each image ((state old).disk.only_now image below was))
         | inr is ↦ is
       ]
+
+  pub keeps_acknowledged : KeepsAcknowledged C state
+  keeps_acknowledged among first rest s files old mid new distinct at before stays run below image since =
+      let reached = keeps_files C state among first s files old mid distinct at before stays in
+      survives_crashes among rest reached.store (files_after_steps first files) mid new distinct reached.is_at run below image since
 
 -- ---- the end of a run
 

@@ -5,6 +5,7 @@ use Rattle.std.proofs.lemmas.Bool.{eqb-true, eqb-false}
 use Rattle.disk_format.specs.Cells.{Root}
 use Rattle.merkle_file.specs.declared.top.Top.{Top}
 use Rattle.actor_parts.specs.declared.part.Part.{Part}
+use Rattle.actor_parts.specs.declared.part.Part.TheVariants.{Reading}
 use Rattle.actor_parts.specs.declared.step.Answer.{Answer}
 use Rattle.actor_parts.specs.declared.step.Answer.TheVariants as answers
 use Rattle.actor_parts.specs.Parts.{part_of, with_part}
@@ -28,6 +29,18 @@ use Rattle.store_core.specs.Runs.{FileEvent, FileStep, FileRun, IsAt, ReadsAlone
 use Rattle.store_core.specs.State.{CoreState, Event}
 use Rattle.store_core.proofs.KeepingFiles.{Next, file_step, run_running}
 use Rattle.store_core.proofs.Stepping.{ChangesOne, row_one}
+
+-- a part that takes a file says of which root, and what is to come
+abbrev root_in : Root → Part → Root
+root_in other (Reading reader) = reader.root
+root_in other part = other
+
+abbrev rest_in : Part → List Top
+rest_in (Reading reader) = reader.cursor
+rest_in part = []
+
+pub same_reader : (a b : Root) (x y : List Top) → reading a x ≡ reading b y → (a ≡ b) × (x ≡ y)
+same_reader a b x y same = (ap (root_in a) same, ap rest_in same)
 
 -- the actor takes a file of which these segments, which the store holds, are to come
 pub record IsReader (actor : ℕ) (store : Store) (segments : List (List ℕ)) (c : CoreState) : Type 0 where
@@ -157,11 +170,23 @@ module _ (among : ByteSet) (s t : Store) (files : Files) (old new : CoreState) (
             (subst (λ (b : List ℕ). SegmentsAhead s.held image opened.ahead (segments_of b)) same opened.file.segments_ahead);
       }
 
-  by_stop_open : (stop : Option Stop) → old.stop ≡ stop → old.stop ≡ None → StepsOr stop (opens actor name count buf) old new → IsReader actor t (segments_of bytes) new
-  by_stop_open None is runs steps = opened_reader steps
+  -- the opening answered the length of the file
+  opened_count : Steps (opens actor name count buf) old new → count ≡ length bytes
+  opened_count steps =
+      let image : List ℕ = at.stands.known.0 in
+      let opened = steps.made.row.file s files image at.represents.names_are.names_are (at.stands.each image (old.disk.as_read image at.stands.known.1)).holds in
+      let is = steps.made.row.opens in
+      let same : opened.file.bytes ≡ bytes = let both = sym opened.file.filed ∙ filed in cc in
+      let parts = sym (apart.same old.parts actor (reading is.root is.ahead) below) ∙ ap (λ (parts : List Part). part_of parts actor) (sym is.parts_are ∙ opened.parts_are)
+          ∙ apart.same old.parts actor (reading opened.root opened.ahead) below in
+      is.count_is ∙ ap (λ (r : Root). r.length) ((same_reader is.root opened.root is.ahead opened.ahead parts).0 ∙ opened.file.root_is) ∙ ap length same
+
+  by_stop_open : (stop : Option Stop) → old.stop ≡ stop → old.stop ≡ None → StepsOr stop (opens actor name count buf) old new
+      → (count ≡ length bytes) × IsReader actor t (segments_of bytes) new
+  by_stop_open None is runs steps = (opened_count steps, opened_reader steps)
   by_stop_open (Some stop) is runs steps = absurd (let both = sym runs ∙ is in cc)
 
-  pub open_step : old.stop ≡ None → StepsOr old.stop (opens actor name count buf) old new → IsReader actor t (segments_of bytes) new
+  pub open_step : old.stop ≡ None → StepsOr old.stop (opens actor name count buf) old new → (count ≡ length bytes) × IsReader actor t (segments_of bytes) new
   open_step runs steps = by_stop_open old.stop refl runs steps
 
 module _ (C : Type 0) (state : C → CoreState) where
@@ -172,5 +197,5 @@ module _ (C : Type 0) (state : C → CoreState) where
       let going = run_running C state among distinct steps mid new run stays in
       let next = file_step among distinct opening s files (state old) (state mid) made at going in
       let runs = run_running C state among distinct (opening ∷ []) old mid (mid, (made, refl)) going in
-      gives_on C state among distinct actor steps next.store files (segments_of bytes) mid new next.is_at
-      (open_step among s next.store files (state old) (state mid) actor name bytes count buf at filed below next.copies runs step) run alone stays
+      let opened = open_step among s next.store files (state old) (state mid) actor name bytes count buf at filed below next.copies runs step in
+      (opened.0, gives_on C state among distinct actor steps next.store files (segments_of bytes) mid new next.is_at opened.1 run alone stays)

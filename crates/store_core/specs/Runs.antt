@@ -25,7 +25,8 @@ use Rattle.store_model.specs.Trees.{root_of, file_tree, HoldsTree}
 use Rattle.store_state.specs.Invariant.{CoreInvariant}
 use Rattle.store_state.specs.Tables.{Represents}
 use Rattle.read_steps.specs.Readers.{reading}
-use Rattle.read_steps.specs.Opening.{top_of}
+use Rattle.namespace.specs.Names.{NameMap}
+use Rattle.read_steps.specs.Opening.{top_of, HasRoot}
 use Rattle.read_steps.specs.Walking.{GivesAll}
 use Rattle.store_core.specs.Core.{CoreStep}
 use Rattle.store_core.specs.State.{CoreState, Event, IsRunning}
@@ -87,7 +88,7 @@ abbrev pub FileRun : (C : Type 0) → (C → CoreState) → (List ℕ → Type 0
 FileRun C state S [] old new = new ≡ old
 FileRun C state S (f ∷ fs) old new = (mid : C) × (FileStep S f (state old) (state mid) × FileRun C state S fs mid new)
 
--- Tables and index are those of the store, each image is it, of these files, and what holds of a running store does.
+-- Tables and index are those of the store, each image is that store of these files, and the invariant holds.
 pub record IsAt (S : List ℕ → Type 0) (store : Store) (files : Files) (c : CoreState) : Type 0 where
   pub represents : Represents store c.known c.tables
   pub index : PlaceMap
@@ -101,7 +102,7 @@ abbrev pub ChangesTo : List StoreChange → Store → Store → Type 0
 ChangesTo [] s t = t ≡ s
 ChangesTo (change ∷ rest) s t = CanChange change s × ChangesTo rest (changed change s) t
 
--- it has come to files of which P holds
+-- it has come to these files, from a store by such changes
 pub record Reaches (S : List ℕ → Type 0) (s : Store) (files : Files) (c : CoreState) : Type 0 where
   pub changes : List StoreChange
   pub store : Store
@@ -138,6 +139,15 @@ SurvivesCrashes C state = (among : ByteSet) (steps : List FileEvent) (s : Store)
     → HasNoCollisions (IsIn among) → IsAt (IsIn among) s files (state old) → FileRun C state (IsIn among) steps old new
     → (state old).disk.clock < 2 ^ 64 - 1 → (image : List ℕ) → (state new).disk.images_since (state old).disk.clock image
     → IsOnTheWay (IsIn among) steps files image
+
+-- Each image since a moment between two steps is of the files after all commits that were acknowledged before that moment, or is
+-- one on the way from there.
+abbrev pub KeepsAcknowledged : (C : Type 0) → (C → CoreState) → Type 0
+KeepsAcknowledged C state = (among : ByteSet) (first rest : List FileEvent) (s : Store) (files : Files) (old mid new : C)
+    → HasNoCollisions (IsIn among) → IsAt (IsIn among) s files (state old) → FileRun C state (IsIn among) first old mid
+    → (state mid).stop ≡ None → FileRun C state (IsIn among) rest mid new
+    → (state mid).disk.clock < 2 ^ 64 - 1 → (image : List ℕ) → (state new).disk.images_since (state mid).disk.clock image
+    → IsOnTheWay (IsIn among) rest (files_after_steps first files) image
 
 -- the files after steps, where a write that failed stands
 abbrev pub files_tried_by : List FileEvent → Files → Files
@@ -183,14 +193,14 @@ abbrev pub opens : ℕ → List ℕ → ℕ → List ℕ → Event
 opens actor name count buf = record { actor = actor; step = asked.OpenRead name; answer = Ok (answers.Opened count); buf = buf }
 
 -- A file that was opened is given as it was then, whatever steps others make: over a disk that tells its content, by a core
--- that isn't stopped.
+-- that isn't stopped. The opening answered its length.
 abbrev pub GivesTheFile : (C : Type 0) → (C → CoreState) → Type 0
 GivesTheFile C state = (among : ByteSet) (actor : ℕ) (name bytes : List ℕ) (count : ℕ) (buf : List ℕ) (steps : List FileEvent)
     (s : Store) (files : Files) (old mid new : C)
     → HasNoCollisions (IsIn among) → IsAt (IsIn among) s files (state old) → finite.get files name ≡ Some bytes
     → actor < length (state old).parts → CoreStep (state old) (opens actor name count buf) (state mid)
     → FileRun C state (IsIn among) steps mid new → ReadsAlone actor (events_of steps) → (state new).stop ≡ None
-    → GivesInOrder actor (events_of steps) (segments_of bytes)
+    → (count ≡ length bytes) × GivesInOrder actor (events_of steps) (segments_of bytes)
 
 -- ---- on any disk
 
@@ -212,10 +222,11 @@ pub record GivesAsNamed (root : Root) (segments : List (List ℕ)) (actor : ℕ)
 abbrev pub ends : ℕ → List ℕ → Event
 ends actor buf = record { actor = actor; step = asked.ReadNext; answer = Ok answers.End; buf = buf }
 
--- So it is of the root that was opened, of the length that was answered; and the end is answered only where what was given has
--- that length.
-pub record GivesByTree (actor count : ℕ) (events : List Event) (new : CoreState) : Type 0 where
+-- So it is of the root that the name had when it was opened, of the length that was answered; and the end is answered only where
+-- what was given has that length.
+pub record GivesByTree (names : NameMap) (name : List ℕ) (actor count : ℕ) (events : List Event) (new : CoreState) : Type 0 where
   pub root : Root
+  pub has_root : HasRoot names name root
   pub count_is : count ≡ root.length
   pub given : GivesAsNamed root (given_to actor events) actor new
   pub whole : given.rest ≡ [] → sum_by length (given_to actor events) ≡ count
@@ -223,9 +234,10 @@ pub record GivesByTree (actor count : ℕ) (events : List Event) (new : CoreStat
 abbrev pub ReadsAreChecked : (C : Type 0) → (C → CoreState) → Type 0
 ReadsAreChecked C state = (actor : ℕ) (name : List ℕ) (count : ℕ) (buf : List ℕ) (events : List Event) (old mid new : C)
     → actor < length (state old).parts → (state old).stop ≡ None → CoreStep (state old) (opens actor name count buf) (state mid)
-    → CoreRun C state events mid new → ReadsAlone actor events → GivesByTree actor count events (state new)
+    → CoreRun C state events mid new → ReadsAlone actor events
+    → GivesByTree (state old).tables.names name actor count events (state new)
 
 abbrev pub EndsAreWhole : (C : Type 0) → (C → CoreState) → Type 0
-EndsAreWhole C state = (actor count : ℕ) (events : List Event) (buf : List ℕ) (new last : C)
-    → GivesByTree actor count events (state new) → (state new).stop ≡ None → CoreStep (state new) (ends actor buf) (state last)
+EndsAreWhole C state = (names : NameMap) (name : List ℕ) (actor count : ℕ) (events : List Event) (buf : List ℕ) (new last : C)
+    → GivesByTree names name actor count events (state new) → (state new).stop ≡ None → CoreStep (state new) (ends actor buf) (state last)
     → sum_by length (given_to actor events) ≡ count

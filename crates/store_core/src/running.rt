@@ -6,7 +6,7 @@ ghost use Rattle.actor_parts.specs.StepValue as asked;
 ghost use Rattle.actor_parts.specs.StepValue.{IsStep, step_value};
 ghost use Rattle.actor_parts.specs.Segments.{IsStepSegment};
 ghost use Rattle.refusals.specs.declared.refusal.Refusal.TheVariants.{Stopped};
-ghost use Rattle.store_core.specs.Core.{Leaves, CoreStep, StopsAfter, IsCount, counted};
+ghost use Rattle.store_core.specs.Core.{MadeBefore, CoreStep, StopsAfter, IsCount, counted};
 ghost use Rattle.store_core.specs.State.{IsUp, IsRunning};
 
 use crate::state::HasState;
@@ -83,7 +83,7 @@ fn count_after(answer: &Result<Answer, Refusal>, count: u64) -> u64
 
 impl<D: Disk, M: Summary> Core<D, M> {
     fn begin(&mut self, actor: Actor) -> Result<Answer, Refusal>
-        ensures made { (buf : List ℕ) → Leaves asked.Begin actor result buf (⟦<Core<D, M> as HasState>⟧.state self.old)
+        ensures made { (buf : List ℕ) → MadeBefore asked.Begin actor result buf (⟦<Core<D, M> as HasState>⟧.state self.old)
             (⟦<Core<D, M> as HasState>⟧.state self.new) }
         ensures stop { self.new.stop ≡ self.old.stop }
         ensures count { self.new.acknowledged ≡ self.old.acknowledged }
@@ -95,7 +95,7 @@ impl<D: Disk, M: Summary> Core<D, M> {
     }
 
     fn abort(&mut self, actor: Actor) -> Result<Answer, Refusal>
-        ensures made { (buf : List ℕ) → Leaves asked.Abort actor result buf (⟦<Core<D, M> as HasState>⟧.state self.old)
+        ensures made { (buf : List ℕ) → MadeBefore asked.Abort actor result buf (⟦<Core<D, M> as HasState>⟧.state self.old)
             (⟦<Core<D, M> as HasState>⟧.state self.new) }
         ensures stop { self.new.stop ≡ self.old.stop }
         ensures count { self.new.acknowledged ≡ self.old.acknowledged }
@@ -109,7 +109,7 @@ impl<D: Disk, M: Summary> Core<D, M> {
     fn claim(&mut self, actor: Actor, seg: &Seg, buf: &mut SegBuf) -> Result<Answer, Refusal>
         requires segment { IsStepSegment seg.now }
         requires up { IsUp (⟦<Core<D, M> as HasState>⟧.state self.old) }
-        ensures made { Leaves (asked.Claim seg.now) actor result buf.new (⟦<Core<D, M> as HasState>⟧.state self.old)
+        ensures made { MadeBefore (asked.Claim seg.now) actor result buf.new (⟦<Core<D, M> as HasState>⟧.state self.old)
             (⟦<Core<D, M> as HasState>⟧.state self.new) }
         ensures stop { self.new.stop ≡ self.old.stop }
         ensures count { self.new.acknowledged ≡ self.old.acknowledged }
@@ -130,7 +130,7 @@ impl<D: Disk, M: Summary> Core<D, M> {
 
     fn commit(&mut self, actor: Actor, name: &[u8], root: &Root) -> Result<Answer, Refusal>
         requires up { IsUp (⟦<Core<D, M> as HasState>⟧.state self.old) }
-        ensures made { (buf : List ℕ) → Leaves (asked.Commit name.now root.now) actor result buf
+        ensures made { (buf : List ℕ) → MadeBefore (asked.Commit name.now root.now) actor result buf
             (⟦<Core<D, M> as HasState>⟧.state self.old)
             (⟦<Core<D, M> as HasState>⟧.state self.new) }
         ensures stop { self.new.stop ≡ self.old.stop }
@@ -151,7 +151,7 @@ impl<D: Disk, M: Summary> Core<D, M> {
     }
 
     fn open_read(&mut self, actor: Actor, name: &[u8]) -> Result<Answer, Refusal>
-        ensures made { (buf : List ℕ) → Leaves (asked.OpenRead name.now) actor result buf
+        ensures made { (buf : List ℕ) → MadeBefore (asked.OpenRead name.now) actor result buf
             (⟦<Core<D, M> as HasState>⟧.state self.old)
             (⟦<Core<D, M> as HasState>⟧.state self.new) }
         ensures stop { self.new.stop ≡ self.old.stop }
@@ -165,7 +165,7 @@ impl<D: Disk, M: Summary> Core<D, M> {
 
     fn read_next(&mut self, actor: Actor, buf: &mut SegBuf) -> Result<Answer, Refusal>
         requires up { IsUp (⟦<Core<D, M> as HasState>⟧.state self.old) }
-        ensures made { Leaves asked.ReadNext actor result buf.new (⟦<Core<D, M> as HasState>⟧.state self.old)
+        ensures made { MadeBefore asked.ReadNext actor result buf.new (⟦<Core<D, M> as HasState>⟧.state self.old)
             (⟦<Core<D, M> as HasState>⟧.state self.new) }
         ensures stop { self.new.stop ≡ self.old.stop }
         ensures count { self.new.acknowledged ≡ self.old.acknowledged }
@@ -180,7 +180,7 @@ impl<D: Disk, M: Summary> Core<D, M> {
     }
 
     fn end_read(&mut self, actor: Actor) -> Result<Answer, Refusal>
-        ensures made { (buf : List ℕ) → Leaves asked.EndRead actor result buf (⟦<Core<D, M> as HasState>⟧.state self.old)
+        ensures made { (buf : List ℕ) → MadeBefore asked.EndRead actor result buf (⟦<Core<D, M> as HasState>⟧.state self.old)
             (⟦<Core<D, M> as HasState>⟧.state self.new) }
         ensures stop { self.new.stop ≡ self.old.stop }
         ensures count { self.new.acknowledged ≡ self.old.acknowledged }
@@ -199,7 +199,7 @@ impl<D: Disk, M: Summary> Core<D, M> {
     ) -> Result<Answer, Refusal>
         requires asked { IsStep (asked.Seal filled.now) }
         requires up { IsUp (⟦<Core<D, M> as HasState>⟧.state self.old) }
-        ensures made { (bytes : List ℕ) → Leaves (asked.Seal filled.now) actor result bytes
+        ensures made { (bytes : List ℕ) → MadeBefore (asked.Seal filled.now) actor result bytes
             (⟦<Core<D, M> as HasState>⟧.state self.old)
             (⟦<Core<D, M> as HasState>⟧.state self.new) }
         ensures stop { self.new.stop ≡ self.old.stop }
@@ -231,7 +231,7 @@ impl<D: Disk, M: Summary> Core<D, M> {
     fn make(&mut self, actor: Actor, step: Step<'_>, buf: &mut SegBuf) -> Result<Answer, Refusal>
         requires asked { IsStep (step_value step) }
         requires up { IsUp (⟦<Core<D, M> as HasState>⟧.state self.old) }
-        ensures made { Leaves (step_value step.entry) actor result buf.new (⟦<Core<D, M> as HasState>⟧.state self.old)
+        ensures made { MadeBefore (step_value step.entry) actor result buf.new (⟦<Core<D, M> as HasState>⟧.state self.old)
             (⟦<Core<D, M> as HasState>⟧.state self.new) }
         ensures stop { self.new.stop ≡ self.old.stop }
         ensures count { self.new.acknowledged ≡ self.old.acknowledged }

@@ -177,7 +177,7 @@ module _ (among : ByteSet) (s t : Store) (stored : Stored) (old new : CoreState)
       let is = steps.made.row.opens in
       let same : opened.file.bytes ≡ bytes = let both = sym opened.file.filed ∙ filed in cc in
       let parts = sym (apart.same old.parts actor (reading is.root is.ahead) below) ∙ ap (λ (parts : List Part). part_of parts actor) (sym is.parts_are ∙ opened.parts_are)
-          ∙ apart.same old.parts actor (reading opened.root opened.ahead) below in
+      ∙ apart.same old.parts actor (reading opened.root opened.ahead) below in
       is.count_is ∙ ap (λ (r : Root). r.length) ((same_reader is.root opened.root is.ahead opened.ahead parts).0 ∙ opened.file.root_is) ∙ ap length same
 
   by_stop_open : (stop : Option Stop) → old.stop ≡ stop → old.stop ≡ None → StepsOr stop (opens actor name count buf) old new

@@ -5,7 +5,6 @@ use Rattle.disk_format.specs.Cells.{Root}
 use Rattle.merkle_file.specs.declared.top.Top.{Top}
 use Rattle.merkle_file.specs.Walk.{start_of}
 use Rattle.actor_parts.specs.declared.part.Part.{Part}
-use Rattle.actor_parts.specs.declared.part.Part.TheVariants.{Reading}
 use Rattle.actor_parts.specs.declared.step.Answer.{Answer}
 use Rattle.actor_parts.specs.declared.step.Answer.TheVariants as answers
 use Rattle.actor_parts.specs.Parts.{part_of, with_part}
@@ -14,7 +13,8 @@ use Rattle.actor_parts.specs.StepValue.{StepValue}
 use Rattle.actor_parts.proofs.Apart.{apart}
 use Rattle.refusals.specs.declared.refusal.Refusal.{Refusal}
 use Rattle.refusals.specs.declared.refusal.Refusal.TheVariants as refusals
-use Rattle.read_steps.specs.Opening.{top_of}
+use Rattle.namespace.specs.Names.{NameMap}
+use Rattle.read_steps.specs.Opening.{top_of, HasRoot}
 use Rattle.read_steps.specs.Readers.{reading}
 use Rattle.read_steps.specs.Walking.{WasRead, Walked, GivesAll, AnyBytes}
 use Rattle.read_steps.proofs.Walks.{walked_none, all_walked, all_given, reads_are_whole}
@@ -22,20 +22,8 @@ use Rattle.store_core.specs.declared.stop.Stop.{Stop}
 use Rattle.store_core.specs.Core.{ReadRow, Row, Steps, StepsOr}
 use Rattle.store_core.specs.Runs.{CoreRun, ReadsAlone, IsReadNext, GivesAsNamed, GivesByTree, ReadsAreChecked, EndsAreWhole, given_by, given_to, opens, ends}
 use Rattle.store_core.specs.State.{CoreState, Event}
-use Rattle.store_core.proofs.GivingFiles.{other_part, length_on}
+use Rattle.store_core.proofs.GivingFiles.{other_part, length_on, same_reader}
 use Rattle.store_core.proofs.Stepping.{ChangesOne, row_one}
-
--- a part that takes a file says of which root, and what is to come
-abbrev root_in : Root → Part → Root
-root_in other (Reading reader) = reader.root
-root_in other part = other
-
-abbrev rest_in : Part → List Top
-rest_in (Reading reader) = reader.cursor
-rest_in part = []
-
-same_reader : (a b : Root) (x y : List Top) → reading a x ≡ reading b y → (a ≡ b) × (x ≡ y)
-same_reader a b x y same = (ap (root_in a) same, ap rest_in same)
 
 -- the actor takes a file of this root, of which it was given these segments, the first of them first
 pub record Comes (actor : ℕ) (root : Root) (segments : List (List ℕ)) (c : CoreState) : Type 0 where
@@ -149,6 +137,7 @@ module _ (C : Type 0) (state : C → CoreState) (actor : ℕ) (root : Root) wher
 module _ (old new : CoreState) (actor : ℕ) (name : List ℕ) (count : ℕ) (buf : List ℕ) (below : actor < length old.parts) where
   pub record Began : Type 0 where
     pub root : Root
+    pub has_root : HasRoot old.tables.names name root
     pub count_is : count ≡ root.length
     pub comes : Comes actor root [] new
 
@@ -158,6 +147,7 @@ module _ (old new : CoreState) (actor : ℕ) (name : List ℕ) (count : ℕ) (bu
       let one = row_one actor buf old new (asked.OpenRead name) (Ok (answers.Opened count)) steps.made.row in
       record {
         root = is.root;
+        has_root = is.begins.has_root;
         count_is = is.count_is;
         comes = record {
           below = subst (λ (n : ℕ). actor < n) (sym (length_on actor old.parts new.parts one)) below;
@@ -180,18 +170,19 @@ module _ (C : Type 0) (state : C → CoreState) where
       let comes = comes_on C state actor began.root events [] mid new began.comes run alone in
       record {
         root = began.root;
+        has_root = began.has_root;
         count_is = began.count_is;
         given = comes.given;
         whole = λ ended. whole_of C state actor began.root (given_to actor events) (state new) comes.given ended ∙ sym began.count_is;
       }
 
-  ended_by : (old new : CoreState) (actor count : ℕ) (events : List Event) (buf : List ℕ) (stop : Option Stop) → GivesByTree actor count events old → old.stop ≡ stop → old.stop ≡ None → StepsOr stop (ends actor buf) old new
+  ended_by : (names : NameMap) (name : List ℕ) (old new : CoreState) (actor count : ℕ) (events : List Event) (buf : List ℕ) (stop : Option Stop) → GivesByTree names name actor count events old → old.stop ≡ stop → old.stop ≡ None → StepsOr stop (ends actor buf) old new
       → sum_by length (given_to actor events) ≡ count
-  ended_by old new actor count events buf None by is runs steps =
+  ended_by names name old new actor count events buf None by is runs steps =
       let row = steps.made.row.next in
       let same = same_reader row.goes_on.root by.root row.was by.given.rest (sym row.goes_on.part_is ∙ by.given.part_is) in
       by.whole (sym same.1 ∙ row.given.0)
-  ended_by old new actor count events buf (Some stop) by is runs steps = absurd (let both = sym runs ∙ is in cc)
+  ended_by names name old new actor count events buf (Some stop) by is runs steps = absurd (let both = sym runs ∙ is in cc)
 
   pub ends_are_whole : EndsAreWhole C state
-  ends_are_whole actor count events buf new last by runs step = ended_by (state new) (state last) actor count events buf (state new).stop by refl runs step
+  ends_are_whole names name actor count events buf new last by runs step = ended_by names name (state new) (state last) actor count events buf (state new).stop by refl runs step

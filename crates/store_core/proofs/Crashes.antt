@@ -1,5 +1,5 @@
 -- What a crash leaves at any moment of a run.
-use Rattle.std.proofs.Common.{◌≡◌, ◌⊎◌, inl, inr, ℕ, List, [], ◌∷◌, Option, Some, None, Result, Ok, Err, refl, sym, ◌∙◌, subst, arith, ap}
+use Rattle.std.proofs.Common.{◌≡◌, ◌⊎◌, inl, inr, ℕ, List, [], ◌∷◌, Option, Some, None, Result, Ok, Err, refl, sym, ◌∙◌, subst, arith, ap, suc}
 use Rattle.dd_disk.specs.View.{OnlyReads, CrashLeaves}
 use Rattle.dd_disk.proofs.Later.{reads_here, reads_on, reads_leave, leaves_on, leaves_weaker}
 use Rattle.container_meta.specs.Segments.{Contents}
@@ -10,60 +10,71 @@ use Rattle.actor_parts.specs.StepValue.{StepValue, IsStep}
 use Rattle.refusals.specs.declared.refusal.Refusal.{Refusal}
 use Rattle.refusals.specs.declared.refusal.Refusal.TheVariants as refusals
 use Rattle.store_model.specs.Commands.{HasNoCollisions}
-use Rattle.store_model.specs.Files.{Files, with_file}
-use Rattle.store_model.specs.Image.{Store}
+use Rattle.store_model.specs.Image.{Store, last_sequence}
 use Rattle.store_model.specs.Standing.{ByteSet, IsIn, Stands}
 use Rattle.store_model.specs.Steps.{with_sealed, with_put}
+use Rattle.store_model.specs.Files.{with_file}
+use Rattle.store_model.proofs.PutRoots.{last_put}
 use Rattle.store_core.specs.declared.stop.Stop.{Stop}
 use Rattle.store_core.specs.Core.{Effect, SealsOne, PutsOne, StepsOr, StopsAfter, next_id}
-use Rattle.store_core.specs.Runs.{FileEvent, FileStep, FileRun, IsAt, IsOf, IsOnTheWay, IsGivenRight, IsRootOf, SurvivesCrashes, files_with, files_by, files_after_steps, files_tried, files_tried_by, EndsWithAll}
+use Rattle.store_core.specs.Runs.{FileEvent, FileStep, FileRun, IsAt, Stored, IsOf, IsOnTheWay, IsGivenRight, IsRootOf, SurvivesCrashes, KeepsAcknowledged, stored_with, stored_by, stored_after, stored_tried, stored_tried_by, EndsWithAll}
 use Rattle.store_core.specs.State.{CoreState}
-use Rattle.store_core.proofs.KeepingFiles.{file_step, may_seal_all}
+use Rattle.store_core.proofs.KeepingFiles.{file_step, keeps_files, may_seal_all}
 use Rattle.store_core.proofs.Stepping.{step_later}
+
+-- the last number of the store
+pub last_at : (S : List ℕ → Type 0) (s : Store) (stored : Stored) (c : CoreState) → IsAt S s stored c → last_sequence s ≡ stored.last
+last_at S s stored c at = sym at.represents.names_are.last_is ∙ at.last_is
 
 -- ---- one step
 
 -- an image of the files before, or of those after, where a write that failed may stand
-abbrev Either : (List ℕ → Type 0) → StepValue → Result Answer Refusal → List ℕ → Files → List ℕ → Type 0
-Either S step answer bytes files image = IsOf S files image ⊎ IsOf S (files_tried step answer bytes files) image
+abbrev Either : (List ℕ → Type 0) → StepValue → Result Answer Refusal → List ℕ → Stored → List ℕ → Type 0
+Either S step answer bytes stored image = IsOf S stored image ⊎ IsOf S (stored_tried step answer bytes stored) image
 
-module _ (among : ByteSet) (s : Store) (files : Files) (old new : CoreState) (bytes : List ℕ) (distinct : HasNoCollisions (IsIn among)) (at : IsAt (IsIn among) s files old) where
+module _ (among : ByteSet) (s : Store) (stored : Stored) (old new : CoreState) (bytes : List ℕ) (distinct : HasNoCollisions (IsIn among)) (at : IsAt (IsIn among) s stored old) where
   abbrev S : List ℕ → Type 0
   S = IsIn among
 
-  of_old : (c : List ℕ) → old.disk.images c → IsOf S files c
-  of_old c is = (s, at.stands.each c is)
+  abbrev last_here : last_sequence s ≡ stored.last
+  last_here = last_at (IsIn among) s stored old at
+
+  last_more : (name : List ℕ) (root : Root) → last_sequence (with_put name root s) ≡ suc stored.last
+  last_more name root = last_put name root s ∙ ap suc last_here
+
+  of_old : (c : List ℕ) → old.disk.images c → IsOf S stored c
+  of_old c is = (s, (at.stands.each c is, last_here))
 
   -- where nothing was written
-  by_reads : (step : StepValue) (answer : Result Answer Refusal) → OnlyReads old.disk new.disk → CrashLeaves (Either S step answer bytes files) old.disk new.disk
-  by_reads step answer reads = reads_leave (Either S step answer bytes files) old.disk new.disk (λ c is. inl (of_old c is)) reads
+  by_reads : (step : StepValue) (answer : Result Answer Refusal) → OnlyReads old.disk new.disk → CrashLeaves (Either S step answer bytes stored) old.disk new.disk
+  by_reads step answer reads = reads_leave (Either S step answer bytes stored) old.disk new.disk (λ c is. inl (of_old c is)) reads
 
   by_seal : (filled : Contents) (answer : Result Answer Refusal) → SealsOne filled answer old new → IsStep (asked.Seal filled) → IsGivenRight S (asked.Seal filled) answer bytes old
-      → CrashLeaves (Either S (asked.Seal filled) answer bytes files) old.disk new.disk
+      → CrashLeaves (Either S (asked.Seal filled) answer bytes stored) old.disk new.disk
   by_seal filled answer effect right given =
-      leaves_weaker (λ c. Stands S s files c ⊎ Stands S (with_sealed (next_id old) filled.kind filled.segments s) files c) (Either S (asked.Seal filled) answer bytes files) old.disk new.disk
-      (λ c stands. elim stands [ inl is ↦ inl (s, is) | inr is ↦ inl (with_sealed (next_id old) filled.kind filled.segments s, is) ])
-      (effect.moves.moves among s files at.index at.index_known at.represents distinct (may_seal_all S filled.kind filled.segments right.1 given) at.stands).leaves
+      leaves_weaker (λ c. Stands S s stored.files c ⊎ Stands S (with_sealed (next_id old) filled.kind filled.segments s) stored.files c) (Either S (asked.Seal filled) answer bytes stored) old.disk new.disk
+      (λ c stands. elim stands [ inl is ↦ inl (s, (is, last_here)) | inr is ↦ inl (with_sealed (next_id old) filled.kind filled.segments s, (is, last_here)) ])
+      (effect.moves.moves among s stored.files at.index at.index_known at.represents distinct (may_seal_all S filled.kind filled.segments right.1 given) at.stands).leaves
 
   -- of a commit that came to its first write
   put_leaves : (name : List ℕ) (root : Root) (answer : Result Answer Refusal) → PutsOne name root answer old new → IsRootOf root bytes old
-      → CrashLeaves (λ c. Stands S s files c ⊎ Stands S (with_put name root s) (with_file files name bytes) c) old.disk new.disk
+      → CrashLeaves (λ c. Stands S s stored.files c ⊎ Stands S (with_put name root s) (with_file stored.files name bytes) c) old.disk new.disk
   put_leaves name root answer effect given =
       let tree = given.tree s at.represents in
-      (effect.moves.moves among s files bytes at.represents.names_are given.root_is (record { known = at.stands.known; each = λ c is. (at.stands.each c is, tree.each c is) })).leaves
+      (effect.moves.moves among s stored.files bytes at.represents.names_are given.root_is (record { known = at.stands.known; each = λ c is. (at.stands.each c is, tree.each c is) })).leaves
 
   by_commit : (name : List ℕ) (root : Root) (answer : Result Answer Refusal) → PutsOne name root answer old new → IsGivenRight S (asked.Commit name root) answer bytes old
-      → CrashLeaves (Either S (asked.Commit name root) answer bytes files) old.disk new.disk
+      → CrashLeaves (Either S (asked.Commit name root) answer bytes stored) old.disk new.disk
   by_commit name root (Ok answer) effect given =
-      leaves_weaker (λ c. Stands S s files c ⊎ Stands S (with_put name root s) (with_file files name bytes) c) (Either S (asked.Commit name root) (Ok answer) bytes files) old.disk new.disk
-      (λ c stands. elim stands [ inl is ↦ inl (s, is) | inr is ↦ inr (with_put name root s, is) ]) (put_leaves name root (Ok answer) effect given)
+      leaves_weaker (λ c. Stands S s stored.files c ⊎ Stands S (with_put name root s) (with_file stored.files name bytes) c) (Either S (asked.Commit name root) (Ok answer) bytes stored) old.disk new.disk
+      (λ c stands. elim stands [ inl is ↦ inl (s, (is, last_here)) | inr is ↦ inr (with_put name root s, (is, last_more name root)) ]) (put_leaves name root (Ok answer) effect given)
   by_commit name root (Err refusals.DiskWrite) effect given =
-      leaves_weaker (λ c. Stands S s files c ⊎ Stands S (with_put name root s) (with_file files name bytes) c) (Either S (asked.Commit name root) (Err refusals.DiskWrite) bytes files) old.disk new.disk
-      (λ c stands. elim stands [ inl is ↦ inl (s, is) | inr is ↦ inr (with_put name root s, is) ]) (put_leaves name root (Err refusals.DiskWrite) effect given)
+      leaves_weaker (λ c. Stands S s stored.files c ⊎ Stands S (with_put name root s) (with_file stored.files name bytes) c) (Either S (asked.Commit name root) (Err refusals.DiskWrite) bytes stored) old.disk new.disk
+      (λ c stands. elim stands [ inl is ↦ inl (s, (is, last_here)) | inr is ↦ inr (with_put name root s, (is, last_more name root)) ]) (put_leaves name root (Err refusals.DiskWrite) effect given)
   by_commit name root (Err refusals.DiskRead) effect given = by_reads (asked.Commit name root) (Err refusals.DiskRead) effect.disk.ends
   by_commit name root (Err refusal) effect given = by_reads (asked.Commit name root) (Err refusal) effect.disk.ends
 
-  by_effect : (step : StepValue) (answer : Result Answer Refusal) → Effect step answer old new → IsStep step → IsGivenRight S step answer bytes old → CrashLeaves (Either S step answer bytes files) old.disk new.disk
+  by_effect : (step : StepValue) (answer : Result Answer Refusal) → Effect step answer old new → IsStep step → IsGivenRight S step answer bytes old → CrashLeaves (Either S step answer bytes stored) old.disk new.disk
   by_effect asked.Begin answer effect right given = by_reads asked.Begin answer effect.disk.only
   by_effect (asked.Claim seg) answer effect right given = by_reads (asked.Claim seg) answer effect.disk.only
   by_effect (asked.Seal filled) answer effect right given = by_seal filled answer effect right given
@@ -75,7 +86,7 @@ module _ (among : ByteSet) (s : Store) (files : Files) (old new : CoreState) (by
   by_effect asked.Stat answer effect right given = by_reads asked.Stat answer effect.disk.only
 
   by_stop : (stop : Option Stop) (f : FileEvent) → f.bytes ≡ bytes → StepsOr stop f.event old new → IsStep f.event.step → IsGivenRight S f.event.step f.event.answer bytes old
-      → CrashLeaves (Either S f.event.step f.event.answer bytes files) old.disk new.disk
+      → CrashLeaves (Either S f.event.step f.event.answer bytes stored) old.disk new.disk
   by_stop None f same steps right given = by_effect f.event.step f.event.answer steps.made.effect right given
   by_stop (Some stop) f same steps right given = by_reads f.event.step f.event.answer steps.same.disk.only
 
@@ -92,145 +103,150 @@ module _ (C : Type 0) (state : C → CoreState) (among : ByteSet) (distinct : Ha
       let same = (subst (λ (o : Option Stop). StepsOr o f.event (state old) (state run.0)) is run.1.0.made).same in
       reads_on (state old).disk (state run.0).disk (state new).disk same.disk.only (stopped_reads stop fs run.0 new (same.stop_is ∙ is) run.1.1)
 
-  on_the_way : (steps : List FileEvent) (files : Files) (c : List ℕ) → IsOf In files c → IsOnTheWay In steps files c
-  on_the_way [] files c is = is
-  on_the_way (f ∷ fs) files c is = inl is
+  on_the_way : (steps : List FileEvent) (stored : Stored) (c : List ℕ) → IsOf In stored c → IsOnTheWay In steps stored c
+  on_the_way [] stored c is = is
+  on_the_way (f ∷ fs) stored c is = inl is
 
-  first_one : (f : FileEvent) (fs : List FileEvent) (files : Files) (c : List ℕ) → Either In f.event.step f.event.answer f.bytes files c → IsOnTheWay In (f ∷ fs) files c
-  first_one f fs files c (inl is) = inl is
-  first_one f fs files c (inr is) = inr (inl is)
+  first_one : (f : FileEvent) (fs : List FileEvent) (stored : Stored) (c : List ℕ) → Either In f.event.step f.event.answer f.bytes stored c → IsOnTheWay In (f ∷ fs) stored c
+  first_one f fs stored c (inl is) = inl is
+  first_one f fs stored c (inr is) = inr (inl is)
 
   -- a step, and what follows where it didn't stop the core
-  step_leaves : (f : FileEvent) (fs : List FileEvent) (s : Store) (files : Files) (old mid new : C) → IsAt In s files (state old) → FileStep In f (state old) (state mid) → FileRun C state In fs mid new
-      → ((t : Store) → IsAt In t (files_by f files) (state mid) → CrashLeaves (IsOnTheWay In fs (files_by f files)) (state mid).disk (state new).disk)
-      → (stop : Option Stop) → (state mid).stop ≡ stop → CrashLeaves (IsOnTheWay In (f ∷ fs) files) (state old).disk (state new).disk
-  step_leaves f fs s files old mid new at step run others None is =
-      let first = by_stop among s files (state old) (state mid) f.bytes distinct at (state old).stop f refl step.made step.asked step.given in
+  step_leaves : (f : FileEvent) (fs : List FileEvent) (s : Store) (stored : Stored) (old mid new : C) → IsAt In s stored (state old) → FileStep In f (state old) (state mid) → FileRun C state In fs mid new
+      → ((t : Store) → IsAt In t (stored_by f stored) (state mid) → CrashLeaves (IsOnTheWay In fs (stored_by f stored)) (state mid).disk (state new).disk)
+      → (stop : Option Stop) → (state mid).stop ≡ stop → CrashLeaves (IsOnTheWay In (f ∷ fs) stored) (state old).disk (state new).disk
+  step_leaves f fs s stored old mid new at step run others None is =
+      let first = by_stop among s stored (state old) (state mid) f.bytes distinct at (state old).stop f refl step.made step.asked step.given in
       let later = step_later (state old) (state mid) f.event (state old).stop step.made in
-      let next = file_step among distinct f s files (state old) (state mid) step at is in
-      leaves_on (Either In f.event.step f.event.answer f.bytes files) (IsOnTheWay In fs (files_by f files)) (IsOnTheWay In (f ∷ fs) files) (state old).disk (state mid).disk (state new).disk later.clock_is
-      first (others next.store next.is_at) (first_one f fs files) (λ c is. inr (inr is))
-  step_leaves f fs s files old mid new at step run others (Some stop) is =
-      let first = by_stop among s files (state old) (state mid) f.bytes distinct at (state old).stop f refl step.made step.asked step.given in
+      let next = file_step among distinct f s stored (state old) (state mid) step at is in
+      leaves_on (Either In f.event.step f.event.answer f.bytes stored) (IsOnTheWay In fs (stored_by f stored)) (IsOnTheWay In (f ∷ fs) stored) (state old).disk (state mid).disk (state new).disk later.clock_is
+      first (others next.store next.is_at) (first_one f fs stored) (λ c is. inr (inr is))
+  step_leaves f fs s stored old mid new at step run others (Some stop) is =
+      let first = by_stop among s stored (state old) (state mid) f.bytes distinct at (state old).stop f refl step.made step.asked step.given in
       let later = step_later (state old) (state mid) f.event (state old).stop step.made in
-      leaves_on (Either In f.event.step f.event.answer f.bytes files) (Either In f.event.step f.event.answer f.bytes files) (IsOnTheWay In (f ∷ fs) files) (state old).disk (state mid).disk (state new).disk later.clock_is
-      first (reads_leave (Either In f.event.step f.event.answer f.bytes files) (state mid).disk (state new).disk first.now (stopped_reads stop fs mid new is run)) (first_one f fs files) (first_one f fs files)
+      leaves_on (Either In f.event.step f.event.answer f.bytes stored) (Either In f.event.step f.event.answer f.bytes stored) (IsOnTheWay In (f ∷ fs) stored) (state old).disk (state mid).disk (state new).disk later.clock_is
+      first (reads_leave (Either In f.event.step f.event.answer f.bytes stored) (state mid).disk (state new).disk first.now (stopped_reads stop fs mid new is run)) (first_one f fs stored) (first_one f fs stored)
 
-  pub leaves : (steps : List FileEvent) (s : Store) (files : Files) (old new : C) → IsAt In s files (state old) → FileRun C state In steps old new → CrashLeaves (IsOnTheWay In steps files) (state old).disk (state new).disk
-  leaves [] s files old new at run =
-      reads_leave (IsOnTheWay In [] files) (state old).disk (state new).disk (λ c is. (s, at.stands.each c is))
+  pub leaves : (steps : List FileEvent) (s : Store) (stored : Stored) (old new : C) → IsAt In s stored (state old) → FileRun C state In steps old new → CrashLeaves (IsOnTheWay In steps stored) (state old).disk (state new).disk
+  leaves [] s stored old new at run =
+      reads_leave (IsOnTheWay In [] stored) (state old).disk (state new).disk (λ c is. (s, (at.stands.each c is, last_at In s stored (state old) at)))
       (subst (λ (c : C). OnlyReads (state old).disk (state c).disk) (sym run) (reads_here (state old).disk))
-  leaves (f ∷ fs) s files old new at run =
-      step_leaves f fs s files old run.0 new at run.1.0 run.1.1 (λ t there. leaves fs t (files_by f files) run.0 new there run.1.1) (state run.0).stop refl
+  leaves (f ∷ fs) s stored old new at run =
+      step_leaves f fs s stored old run.0 new at run.1.0 run.1.1 (λ t there. leaves fs t (stored_by f stored) run.0 new there run.1.1) (state run.0).stop refl
 
 module _ (C : Type 0) (state : C → CoreState) where
   pub survives_crashes : SurvivesCrashes C state
-  survives_crashes among steps s files old new distinct at run below image since =
-      elim ((leaves C state among distinct steps s files old new at run).since (state old).disk.clock image (omega arith) since) [
-        | inl was ↦ on_the_way C state among distinct steps files image (s, at.stands.each image ((state old).disk.only_now image below was))
+  survives_crashes among steps s stored old new distinct at run below image since =
+      elim ((leaves C state among distinct steps s stored old new at run).since (state old).disk.clock image (omega arith) since) [
+        | inl was ↦ on_the_way C state among distinct steps stored image (s, (at.stands.each image ((state old).disk.only_now image below was), last_at (IsIn among) s stored (state old) at))
         | inr is ↦ is
       ]
+
+  pub keeps_acknowledged : KeepsAcknowledged C state
+  keeps_acknowledged among first rest s stored old mid new distinct at before stays run below image since =
+      let reached = keeps_files C state among first s stored old mid distinct at before stays in
+      survives_crashes among rest reached.store (stored_after first stored) mid new distinct reached.is_at run below image since
 
 -- ---- the end of a run
 
 -- a step of a core that was stopped puts no file
-put_none : (step : StepValue) (at : ℕ) (bytes : List ℕ) (files : Files) → files_with step (Err (refusals.Stopped at)) bytes files ≡ files
-put_none asked.Begin at bytes files = refl
-put_none (asked.Claim seg) at bytes files = refl
-put_none (asked.Seal filled) at bytes files = refl
-put_none (asked.Commit name root) at bytes files = refl
-put_none asked.Abort at bytes files = refl
-put_none (asked.OpenRead name) at bytes files = refl
-put_none asked.ReadNext at bytes files = refl
-put_none asked.EndRead at bytes files = refl
-put_none asked.Stat at bytes files = refl
+put_none : (step : StepValue) (at : ℕ) (bytes : List ℕ) (stored : Stored) → stored_with step (Err (refusals.Stopped at)) bytes stored ≡ stored
+put_none asked.Begin at bytes stored = refl
+put_none (asked.Claim seg) at bytes stored = refl
+put_none (asked.Seal filled) at bytes stored = refl
+put_none (asked.Commit name root) at bytes stored = refl
+put_none asked.Abort at bytes stored = refl
+put_none (asked.OpenRead name) at bytes stored = refl
+put_none asked.ReadNext at bytes stored = refl
+put_none asked.EndRead at bytes stored = refl
+put_none asked.Stat at bytes stored = refl
 
-tried_none : (step : StepValue) (at : ℕ) (bytes : List ℕ) (files : Files) → files_tried step (Err (refusals.Stopped at)) bytes files ≡ files
-tried_none asked.Begin at bytes files = refl
-tried_none (asked.Claim seg) at bytes files = refl
-tried_none (asked.Seal filled) at bytes files = refl
-tried_none (asked.Commit name root) at bytes files = refl
-tried_none asked.Abort at bytes files = refl
-tried_none (asked.OpenRead name) at bytes files = refl
-tried_none asked.ReadNext at bytes files = refl
-tried_none asked.EndRead at bytes files = refl
-tried_none asked.Stat at bytes files = refl
+tried_none : (step : StepValue) (at : ℕ) (bytes : List ℕ) (stored : Stored) → stored_tried step (Err (refusals.Stopped at)) bytes stored ≡ stored
+tried_none asked.Begin at bytes stored = refl
+tried_none (asked.Claim seg) at bytes stored = refl
+tried_none (asked.Seal filled) at bytes stored = refl
+tried_none (asked.Commit name root) at bytes stored = refl
+tried_none asked.Abort at bytes stored = refl
+tried_none (asked.OpenRead name) at bytes stored = refl
+tried_none asked.ReadNext at bytes stored = refl
+tried_none asked.EndRead at bytes stored = refl
+tried_none asked.Stat at bytes stored = refl
 
 -- where a step didn't stop the core, what it tried is what it did
-tried_same : (step : StepValue) (answer : Result Answer Refusal) (count : ℕ) (stop : Option Stop) (bytes : List ℕ) (files : Files) → stop ≡ None → StopsAfter step answer count stop → files_tried step answer bytes files ≡ files_with step answer bytes files
-tried_same (asked.Commit name root) (Err refusals.DiskWrite) count stop bytes files none stops = absurd (let both = sym none ∙ stops in cc)
-tried_same step answer count stop bytes files none stops = refl
+tried_same : (step : StepValue) (answer : Result Answer Refusal) (count : ℕ) (stop : Option Stop) (bytes : List ℕ) (stored : Stored) → stop ≡ None → StopsAfter step answer count stop → stored_tried step answer bytes stored ≡ stored_with step answer bytes stored
+tried_same (asked.Commit name root) (Err refusals.DiskWrite) count stop bytes stored none stops = absurd (let both = sym none ∙ stops in cc)
+tried_same step answer count stop bytes stored none stops = refl
 
-put_refused : (step : StepValue) (refusal : Refusal) (bytes : List ℕ) (files : Files) → files_with step (Err refusal) bytes files ≡ files
-put_refused asked.Begin refusal bytes files = refl
-put_refused (asked.Claim seg) refusal bytes files = refl
-put_refused (asked.Seal filled) refusal bytes files = refl
-put_refused (asked.Commit name root) refusal bytes files = refl
-put_refused asked.Abort refusal bytes files = refl
-put_refused (asked.OpenRead name) refusal bytes files = refl
-put_refused asked.ReadNext refusal bytes files = refl
-put_refused asked.EndRead refusal bytes files = refl
-put_refused asked.Stat refusal bytes files = refl
+put_refused : (step : StepValue) (refusal : Refusal) (bytes : List ℕ) (stored : Stored) → stored_with step (Err refusal) bytes stored ≡ stored
+put_refused asked.Begin refusal bytes stored = refl
+put_refused (asked.Claim seg) refusal bytes stored = refl
+put_refused (asked.Seal filled) refusal bytes stored = refl
+put_refused (asked.Commit name root) refusal bytes stored = refl
+put_refused asked.Abort refusal bytes stored = refl
+put_refused (asked.OpenRead name) refusal bytes stored = refl
+put_refused asked.ReadNext refusal bytes stored = refl
+put_refused asked.EndRead refusal bytes stored = refl
+put_refused asked.Stat refusal bytes stored = refl
 
 -- what stopped the core put no file
-stop_puts_none : (step : StepValue) (answer : Result Answer Refusal) (count : ℕ) (stop : Option Stop) (s : Stop) (bytes : List ℕ) (files : Files) → stop ≡ Some s → StopsAfter step answer count stop → files_with step answer bytes files ≡ files
-stop_puts_none (asked.Seal filled) (Ok answer) count stop s bytes files is stops = refl
-stop_puts_none (asked.Commit name root) (Ok answer) count stop s bytes files is stops = absurd (let both = sym is ∙ stops in cc)
-stop_puts_none step (Ok answer) count stop s bytes files is stops = refl
-stop_puts_none step (Err refusal) count stop s bytes files is stops = put_refused step refusal bytes files
+stop_puts_none : (step : StepValue) (answer : Result Answer Refusal) (count : ℕ) (stop : Option Stop) (s : Stop) (bytes : List ℕ) (stored : Stored) → stop ≡ Some s → StopsAfter step answer count stop → stored_with step answer bytes stored ≡ stored
+stop_puts_none (asked.Seal filled) (Ok answer) count stop s bytes stored is stops = refl
+stop_puts_none (asked.Commit name root) (Ok answer) count stop s bytes stored is stops = absurd (let both = sym is ∙ stops in cc)
+stop_puts_none step (Ok answer) count stop s bytes stored is stops = refl
+stop_puts_none step (Err refusal) count stop s bytes stored is stops = put_refused step refusal bytes stored
 
-by_old_tried : (old : Option Stop) (f : FileEvent) (before after : CoreState) (files : Files) → StepsOr old f.event before after → after.stop ≡ None → files_tried f.event.step f.event.answer f.bytes files ≡ files_by f files
-by_old_tried None f before after files steps none = tried_same f.event.step f.event.answer before.acknowledged after.stop f.bytes files none steps.stops
-by_old_tried (Some stop) f before after files steps none =
-    ap (λ (a : Result Answer Refusal). files_tried f.event.step a f.bytes files) steps.answer_is ∙ tried_none f.event.step stop.at f.bytes files
-    ∙ sym (ap (λ (a : Result Answer Refusal). files_with f.event.step a f.bytes files) steps.answer_is ∙ put_none f.event.step stop.at f.bytes files)
+by_old_tried : (old : Option Stop) (f : FileEvent) (before after : CoreState) (stored : Stored) → StepsOr old f.event before after → after.stop ≡ None → stored_tried f.event.step f.event.answer f.bytes stored ≡ stored_by f stored
+by_old_tried None f before after stored steps none = tried_same f.event.step f.event.answer before.acknowledged after.stop f.bytes stored none steps.stops
+by_old_tried (Some stop) f before after stored steps none =
+    ap (λ (a : Result Answer Refusal). stored_tried f.event.step a f.bytes stored) steps.answer_is ∙ tried_none f.event.step stop.at f.bytes stored
+    ∙ sym (ap (λ (a : Result Answer Refusal). stored_with f.event.step a f.bytes stored) steps.answer_is ∙ put_none f.event.step stop.at f.bytes stored)
 
-by_old_none : (old : Option Stop) (f : FileEvent) (before after : CoreState) (files : Files) (s : Stop) → StepsOr old f.event before after → after.stop ≡ Some s → files_by f files ≡ files
-by_old_none None f before after files s steps is = stop_puts_none f.event.step f.event.answer before.acknowledged after.stop s f.bytes files is steps.stops
-by_old_none (Some stop) f before after files s steps is = ap (λ (a : Result Answer Refusal). files_with f.event.step a f.bytes files) steps.answer_is ∙ put_none f.event.step stop.at f.bytes files
+by_old_none : (old : Option Stop) (f : FileEvent) (before after : CoreState) (stored : Stored) (s : Stop) → StepsOr old f.event before after → after.stop ≡ Some s → stored_by f stored ≡ stored
+by_old_none None f before after stored s steps is = stop_puts_none f.event.step f.event.answer before.acknowledged after.stop s f.bytes stored is steps.stops
+by_old_none (Some stop) f before after stored s steps is = ap (λ (a : Result Answer Refusal). stored_with f.event.step a f.bytes stored) steps.answer_is ∙ put_none f.event.step stop.at f.bytes stored
 
 module _ (C : Type 0) (state : C → CoreState) (among : ByteSet) where
-  stopped_files : (stop : Stop) (steps : List FileEvent) (files : Files) (old new : C) → (state old).stop ≡ Some stop → FileRun C state (IsIn among) steps old new
-      → (files_after_steps steps files ≡ files) × (files_tried_by steps files ≡ files)
-  stopped_files stop [] files old new is run = (refl, refl)
-  stopped_files stop (f ∷ fs) files old new is run =
+  stopped_files : (stop : Stop) (steps : List FileEvent) (stored : Stored) (old new : C) → (state old).stop ≡ Some stop → FileRun C state (IsIn among) steps old new
+      → (stored_after steps stored ≡ stored) × (stored_tried_by steps stored ≡ stored)
+  stopped_files stop [] stored old new is run = (refl, refl)
+  stopped_files stop (f ∷ fs) stored old new is run =
       let made = subst (λ (o : Option Stop). StepsOr o f.event (state old) (state run.0)) is run.1.0.made in
-      let rest = stopped_files stop fs files run.0 new (made.same.stop_is ∙ is) run.1.1 in
-      let by : files_by f files ≡ files = ap (λ (a : Result Answer Refusal). files_with f.event.step a f.bytes files) made.answer_is ∙ put_none f.event.step stop.at f.bytes files in
-      let tried : files_tried f.event.step f.event.answer f.bytes files ≡ files = ap (λ (a : Result Answer Refusal). files_tried f.event.step a f.bytes files) made.answer_is ∙ tried_none f.event.step stop.at f.bytes files in
-      (ap (files_after_steps fs) by ∙ rest.0, ap (files_tried_by fs) tried ∙ rest.1)
+      let rest = stopped_files stop fs stored run.0 new (made.same.stop_is ∙ is) run.1.1 in
+      let by : stored_by f stored ≡ stored = ap (λ (a : Result Answer Refusal). stored_with f.event.step a f.bytes stored) made.answer_is ∙ put_none f.event.step stop.at f.bytes stored in
+      let tried : stored_tried f.event.step f.event.answer f.bytes stored ≡ stored = ap (λ (a : Result Answer Refusal). stored_tried f.event.step a f.bytes stored) made.answer_is ∙ tried_none f.event.step stop.at f.bytes stored in
+      (ap (stored_after fs) by ∙ rest.0, ap (stored_tried_by fs) tried ∙ rest.1)
 
 module _ (C : Type 0) (state : C → CoreState) (among : ByteSet) (distinct : HasNoCollisions (IsIn among)) where
-  abbrev Ends : List FileEvent → Files → List ℕ → Type 0
-  Ends steps files image = IsOf (IsIn among) (files_after_steps steps files) image ⊎ IsOf (IsIn among) (files_tried_by steps files) image
+  abbrev Ends : List FileEvent → Stored → List ℕ → Type 0
+  Ends steps stored image = IsOf (IsIn among) (stored_after steps stored) image ⊎ IsOf (IsIn among) (stored_tried_by steps stored) image
 
   -- the first step, and the end of the others where it didn't stop the core
-  ends_by : (f : FileEvent) (fs : List FileEvent) (s : Store) (files : Files) (old mid new : C) → IsAt (IsIn among) s files (state old) → FileStep (IsIn among) f (state old) (state mid) → FileRun C state (IsIn among) fs mid new
-      → (image : List ℕ) → (state new).disk.images image → ((t : Store) → IsAt (IsIn among) t (files_by f files) (state mid) → Ends fs (files_by f files) image)
-      → (stop : Option Stop) → (state mid).stop ≡ stop → Ends (f ∷ fs) files image
-  ends_by f fs s files old mid new at step run image there others None is =
-      let next = file_step among distinct f s files (state old) (state mid) step at is in
-      let same = by_old_tried (state old).stop f (state old) (state mid) files step.made is in
+  ends_by : (f : FileEvent) (fs : List FileEvent) (s : Store) (stored : Stored) (old mid new : C) → IsAt (IsIn among) s stored (state old) → FileStep (IsIn among) f (state old) (state mid) → FileRun C state (IsIn among) fs mid new
+      → (image : List ℕ) → (state new).disk.images image → ((t : Store) → IsAt (IsIn among) t (stored_by f stored) (state mid) → Ends fs (stored_by f stored) image)
+      → (stop : Option Stop) → (state mid).stop ≡ stop → Ends (f ∷ fs) stored image
+  ends_by f fs s stored old mid new at step run image there others None is =
+      let next = file_step among distinct f s stored (state old) (state mid) step at is in
+      let same = by_old_tried (state old).stop f (state old) (state mid) stored step.made is in
       elim (others next.store next.is_at) [
         | inl done ↦ inl done
-        | inr tried ↦ inr (subst (λ (m : Files). IsOf (IsIn among) (files_tried_by fs m) image) (sym same) tried)
+        | inr tried ↦ inr (subst (λ (m : Stored). IsOf (IsIn among) (stored_tried_by fs m) image) (sym same) tried)
       ]
-  ends_by f fs s files old mid new at step run image there others (Some stop) is =
-      let first = by_stop among s files (state old) (state mid) f.bytes distinct at (state old).stop f refl step.made step.asked step.given in
+  ends_by f fs s stored old mid new at step run image there others (Some stop) is =
+      let first = by_stop among s stored (state old) (state mid) f.bytes distinct at (state old).stop f refl step.made step.asked step.given in
       let reads = stopped_reads C state among distinct stop fs mid new is run in
-      let none = by_old_none (state old).stop f (state old) (state mid) files stop step.made is in
-      let by = stopped_files C state among stop fs (files_by f files) mid new is run in
-      let tried = stopped_files C state among stop fs (files_tried f.event.step f.event.answer f.bytes files) mid new is run in
+      let none = by_old_none (state old).stop f (state old) (state mid) stored stop step.made is in
+      let by = stopped_files C state among stop fs (stored_by f stored) mid new is run in
+      let tried = stopped_files C state among stop fs (stored_tried f.event.step f.event.answer f.bytes stored) mid new is run in
       elim (first.now image (reads.images_are image there)) [
-        | inl before ↦ inl (subst (λ (m : Files). IsOf (IsIn among) m image) (sym (by.0 ∙ none)) before)
-        | inr after ↦ inr (subst (λ (m : Files). IsOf (IsIn among) m image) (sym tried.1) after)
+        | inl before ↦ inl (subst (λ (m : Stored). IsOf (IsIn among) m image) (sym (by.0 ∙ none)) before)
+        | inr after ↦ inr (subst (λ (m : Stored). IsOf (IsIn among) m image) (sym tried.1) after)
       ]
 
-  ends_all : (steps : List FileEvent) (s : Store) (files : Files) (old new : C) → IsAt (IsIn among) s files (state old) → FileRun C state (IsIn among) steps old new
-      → (image : List ℕ) → (state new).disk.images image → Ends steps files image
-  ends_all [] s files old new at run image there = inl (s, at.stands.each image (subst (λ (c : C). (state c).disk.images image) run there))
-  ends_all (f ∷ fs) s files old new at run image there =
-      ends_by f fs s files old run.0 new at run.1.0 run.1.1 image there (λ t mid. ends_all fs t (files_by f files) run.0 new mid run.1.1 image there) (state run.0).stop refl
+  ends_all : (steps : List FileEvent) (s : Store) (stored : Stored) (old new : C) → IsAt (IsIn among) s stored (state old) → FileRun C state (IsIn among) steps old new
+      → (image : List ℕ) → (state new).disk.images image → Ends steps stored image
+  ends_all [] s stored old new at run image there = inl (s, (at.stands.each image (subst (λ (c : C). (state c).disk.images image) run there), last_at (IsIn among) s stored (state old) at))
+  ends_all (f ∷ fs) s stored old new at run image there =
+      ends_by f fs s stored old run.0 new at run.1.0 run.1.1 image there (λ t mid. ends_all fs t (stored_by f stored) run.0 new mid run.1.1 image there) (state run.0).stop refl
 
 pub ends_with_all : (C : Type 0) (state : C → CoreState) → EndsWithAll C state
-ends_with_all C state among steps s files old new distinct at run image there = ends_all C state among distinct steps s files old new at run image there
+ends_with_all C state among steps s stored old new distinct at run image there = ends_all C state among distinct steps s stored old new at run image there

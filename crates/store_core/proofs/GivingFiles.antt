@@ -5,6 +5,7 @@ use Rattle.std.proofs.lemmas.Bool.{eqb-true, eqb-false}
 use Rattle.disk_format.specs.Cells.{Root}
 use Rattle.merkle_file.specs.declared.top.Top.{Top}
 use Rattle.actor_parts.specs.declared.part.Part.{Part}
+use Rattle.actor_parts.specs.declared.part.Part.TheVariants.{Reading}
 use Rattle.actor_parts.specs.declared.step.Answer.{Answer}
 use Rattle.actor_parts.specs.declared.step.Answer.TheVariants as answers
 use Rattle.actor_parts.specs.Parts.{part_of, with_part}
@@ -15,7 +16,6 @@ use Rattle.refusals.specs.declared.refusal.Refusal.{Refusal}
 use Rattle.refusals.specs.declared.refusal.Refusal.TheVariants as refusals
 use Rattle.segmenter.specs.Segments.{segments_of}
 use Rattle.store_model.specs.Commands.{HasNoCollisions}
-use Rattle.store_model.specs.Files.{Files}
 use Rattle.store_model.specs.Image.{Store}
 use Rattle.store_model.specs.Standing.{ByteSet, IsIn}
 use Rattle.store_model.specs.Steps.{KeepsCopies}
@@ -24,10 +24,22 @@ use Rattle.read_steps.specs.Walking.{IsIndexed, SegmentsAhead}
 use Rattle.read_steps.proofs.Openings.{segments_on}
 use Rattle.store_core.specs.declared.stop.Stop.{Stop}
 use Rattle.store_core.specs.Core.{ReadRow, Row, Steps, StepsOr}
-use Rattle.store_core.specs.Runs.{FileEvent, FileStep, FileRun, IsAt, ReadsAlone, IsReadNext, GivesOne, GivesInOrder, GivesTheFile, events_of, files_by, opens}
+use Rattle.store_core.specs.Runs.{FileEvent, FileStep, FileRun, IsAt, ReadsAlone, IsReadNext, Stored, GivesOne, GivesInOrder, GivesTheFile, events_of, stored_by, opens}
 use Rattle.store_core.specs.State.{CoreState, Event}
 use Rattle.store_core.proofs.KeepingFiles.{Next, file_step, run_running}
 use Rattle.store_core.proofs.Stepping.{ChangesOne, row_one}
+
+-- a part that takes a file says of which root, and what is to come
+abbrev root_in : Root → Part → Root
+root_in other (Reading reader) = reader.root
+root_in other part = other
+
+abbrev rest_in : Part → List Top
+rest_in (Reading reader) = reader.cursor
+rest_in part = []
+
+pub same_reader : (a b : Root) (x y : List Top) → reading a x ≡ reading b y → (a ≡ b) × (x ≡ y)
+same_reader a b x y same = (ap (root_in a) same, ap rest_in same)
 
 -- the actor takes a file of which these segments, which the store holds, are to come
 pub record IsReader (actor : ℕ) (store : Store) (segments : List (List ℕ)) (c : CoreState) : Type 0 where
@@ -53,7 +65,7 @@ gives_map true (Ok answers.End) buf segments P Q next gives = (gives.0, next seg
 gives_map true (Err refusals.DiskRead) buf segments P Q next gives = next segments gives
 gives_map true answer buf segments P Q next gives = absurd gives
 
-module _ (among : ByteSet) (s : Store) (files later : Files) (old new : CoreState) (actor : ℕ) (segments : List (List ℕ)) (at : IsAt (IsIn among) s files old) (next : Next (IsIn among) s later old new) (reader : IsReader actor s segments old) where
+module _ (among : ByteSet) (s : Store) (stored later : Stored) (old new : CoreState) (actor : ℕ) (segments : List (List ℕ)) (at : IsAt (IsIn among) s stored old) (next : Next (IsIn among) s later old new) (reader : IsReader actor s segments old) where
   abbrev image : List ℕ
   image = at.stands.known.0
 
@@ -126,27 +138,27 @@ module _ (among : ByteSet) (s : Store) (files later : Files) (old new : CoreStat
   read_step e runs alone steps = by_stop old.stop e refl runs alone steps
 
 module _ (C : Type 0) (state : C → CoreState) (among : ByteSet) (distinct : HasNoCollisions (IsIn among)) (actor : ℕ) where
-  gives_on : (steps : List FileEvent) (s : Store) (files : Files) (segments : List (List ℕ)) (old new : C) → IsAt (IsIn among) s files (state old) → IsReader actor s segments (state old)
+  gives_on : (steps : List FileEvent) (s : Store) (stored : Stored) (segments : List (List ℕ)) (old new : C) → IsAt (IsIn among) s stored (state old) → IsReader actor s segments (state old)
       → FileRun C state (IsIn among) steps old new → ReadsAlone actor (events_of steps) → (state new).stop ≡ None → GivesInOrder actor (events_of steps) segments
-  gives_on [] s files segments old new at reader run alone stays = tt
-  gives_on (f ∷ fs) s files segments old new at reader run alone stays =
+  gives_on [] s stored segments old new at reader run alone stays = tt
+  gives_on (f ∷ fs) s stored segments old new at reader run alone stays =
       let mid = run.0 in
       let going = run_running C state among distinct fs mid new run.1.1 stays in
-      let next = file_step among distinct f s files (state old) (state mid) run.1.0 at going in
+      let next = file_step among distinct f s stored (state old) (state mid) run.1.0 at going in
       gives_map (f.event.actor == actor) f.event.answer f.event.buf segments (λ rest. IsReader actor next.store rest (state mid)) (GivesInOrder actor (events_of fs))
-      (λ rest still. gives_on fs next.store (files_by f files) rest mid new next.is_at still run.1.1 alone.1 stays)
-      (read_step among s files (files_by f files) (state old) (state mid) actor segments at next reader f.event (run_running C state among distinct (f ∷ []) old mid (mid, (run.1.0, refl)) going) alone.0 run.1.0.made)
+      (λ rest still. gives_on fs next.store (stored_by f stored) rest mid new next.is_at still run.1.1 alone.1 stays)
+      (read_step among s stored (stored_by f stored) (state old) (state mid) actor segments at next reader f.event (run_running C state among distinct (f ∷ []) old mid (mid, (run.1.0, refl)) going) alone.0 run.1.0.made)
 
 -- ---- it is opened
 
-module _ (among : ByteSet) (s t : Store) (files : Files) (old new : CoreState) (actor : ℕ) (name bytes : List ℕ) (count : ℕ) (buf : List ℕ) (at : IsAt (IsIn among) s files old) (filed : finite.get files name ≡ Some bytes)
+module _ (among : ByteSet) (s t : Store) (stored : Stored) (old new : CoreState) (actor : ℕ) (name bytes : List ℕ) (count : ℕ) (buf : List ℕ) (at : IsAt (IsIn among) s stored old) (filed : finite.get stored.files name ≡ Some bytes)
     (below : actor < length old.parts) (copies : (before after : List ℕ) → old.disk.content ≡ Some before → new.disk.content ≡ Some after → KeepsCopies s before t after) where
   opened_reader : Steps (opens actor name count buf) old new → IsReader actor t (segments_of bytes) new
   opened_reader steps =
       let image : List ℕ = at.stands.known.0 in
       let here = at.stands.known.1 in
       let one = row_one actor buf old new (asked.OpenRead name) (Ok (answers.Opened count)) steps.made.row in
-      let opened = steps.made.row.file s files image at.represents.names_are.names_are (at.stands.each image (old.disk.as_read image here)).holds in
+      let opened = steps.made.row.file s stored.files image at.represents.names_are.names_are (at.stands.each image (old.disk.as_read image here)).holds in
       let same : opened.file.bytes ≡ bytes = let both = sym opened.file.filed ∙ filed in cc in
       record {
         root = opened.root;
@@ -157,20 +169,32 @@ module _ (among : ByteSet) (s t : Store) (files : Files) (old new : CoreState) (
             (subst (λ (b : List ℕ). SegmentsAhead s.held image opened.ahead (segments_of b)) same opened.file.segments_ahead);
       }
 
-  by_stop_open : (stop : Option Stop) → old.stop ≡ stop → old.stop ≡ None → StepsOr stop (opens actor name count buf) old new → IsReader actor t (segments_of bytes) new
-  by_stop_open None is runs steps = opened_reader steps
+  -- the opening answered the length of the file
+  opened_count : Steps (opens actor name count buf) old new → count ≡ length bytes
+  opened_count steps =
+      let image : List ℕ = at.stands.known.0 in
+      let opened = steps.made.row.file s stored.files image at.represents.names_are.names_are (at.stands.each image (old.disk.as_read image at.stands.known.1)).holds in
+      let is = steps.made.row.opens in
+      let same : opened.file.bytes ≡ bytes = let both = sym opened.file.filed ∙ filed in cc in
+      let parts = sym (apart.same old.parts actor (reading is.root is.ahead) below) ∙ ap (λ (parts : List Part). part_of parts actor) (sym is.parts_are ∙ opened.parts_are)
+      ∙ apart.same old.parts actor (reading opened.root opened.ahead) below in
+      is.count_is ∙ ap (λ (r : Root). r.length) ((same_reader is.root opened.root is.ahead opened.ahead parts).0 ∙ opened.file.root_is) ∙ ap length same
+
+  by_stop_open : (stop : Option Stop) → old.stop ≡ stop → old.stop ≡ None → StepsOr stop (opens actor name count buf) old new
+      → (count ≡ length bytes) × IsReader actor t (segments_of bytes) new
+  by_stop_open None is runs steps = (opened_count steps, opened_reader steps)
   by_stop_open (Some stop) is runs steps = absurd (let both = sym runs ∙ is in cc)
 
-  pub open_step : old.stop ≡ None → StepsOr old.stop (opens actor name count buf) old new → IsReader actor t (segments_of bytes) new
+  pub open_step : old.stop ≡ None → StepsOr old.stop (opens actor name count buf) old new → (count ≡ length bytes) × IsReader actor t (segments_of bytes) new
   open_step runs steps = by_stop_open old.stop refl runs steps
 
 module _ (C : Type 0) (state : C → CoreState) where
   pub gives_the_file : GivesTheFile C state
-  gives_the_file among actor name bytes count buf steps s files old mid new distinct at filed below step run alone stays =
+  gives_the_file among actor name bytes count buf steps s stored old mid new distinct at filed below step run alone stays =
       let opening : FileEvent = record { event = opens actor name count buf; bytes = [] } in
       let made : FileStep (IsIn among) opening (state old) (state mid) = record { asked = tt; given = tt; made = step } in
       let going = run_running C state among distinct steps mid new run stays in
-      let next = file_step among distinct opening s files (state old) (state mid) made at going in
+      let next = file_step among distinct opening s stored (state old) (state mid) made at going in
       let runs = run_running C state among distinct (opening ∷ []) old mid (mid, (made, refl)) going in
-      gives_on C state among distinct actor steps next.store files (segments_of bytes) mid new next.is_at
-      (open_step among s next.store files (state old) (state mid) actor name bytes count buf at filed below next.copies runs step) run alone stays
+      let opened = open_step among s next.store stored (state old) (state mid) actor name bytes count buf at filed below next.copies runs step in
+      (opened.0, gives_on C state among distinct actor steps next.store stored (segments_of bytes) mid new next.is_at opened.1 run alone stays)

@@ -1,5 +1,5 @@
--- A core that isn't stopped has the files of the commits that it acknowledged, and its invariant holds.
-use Rattle.std.proofs.Common.{◌≡◌, ◌⊎◌, inl, inr, ◌≤◌, ℕ, List, [], ◌∷◌, ◌++◌, Option, Some, None, Result, Ok, Err, refl, sym, ◌∙◌, subst}
+-- A core that isn't stopped has the stored of the commits that it acknowledged, and its invariant holds.
+use Rattle.std.proofs.Common.{◌≡◌, ◌⊎◌, inl, inr, ◌≤◌, ℕ, List, [], ◌∷◌, ◌++◌, Option, Some, None, Result, Ok, Err, refl, sym, ◌∙◌, subst, ap, suc}
 use Rattle.std.specs.List.{AllByRecursion}
 use Rattle.disk_format.specs.Cells.{Root}
 use Rattle.dd_disk.specs.View.{DiskView, IsLater, OnlyReads}
@@ -21,8 +21,7 @@ use Rattle.actor_parts.specs.StepValue.{StepValue, IsStep}
 use Rattle.refusals.specs.declared.refusal.Refusal.{Refusal}
 use Rattle.refusals.specs.declared.refusal.Refusal.TheVariants as refusals
 use Rattle.store_model.specs.Commands.{HasNoCollisions}
-use Rattle.store_model.specs.Files.{Files, with_file}
-use Rattle.store_model.specs.Image.{Store, IsValidFor}
+use Rattle.store_model.specs.Image.{Store, IsValidFor, last_sequence}
 use Rattle.disk_format.specs.declared.numbers.TheConstants.{RESERVE}
 use Rattle.store_model.specs.Slots.{IsIndexOf, free_slots}
 use Rattle.store_model.specs.Standing.{ByteSet, IsIn, IsAmong, Stands}
@@ -31,21 +30,22 @@ use Rattle.store_state.specs.declared.tables.Tables.{Tables}
 use Rattle.store_state.specs.Invariant.{HoldsPart}
 use Rattle.store_state.specs.Refused.{blames}
 use Rattle.store_state.specs.Tables.{Represents}
+use Rattle.store_model.proofs.PutRoots.{last_put}
 use Rattle.store_state.proofs.Parts.{part_kept, parts_kept}
 use Rattle.ingest_steps.specs.Sealing.{KeepsHeld, sealing_indexed}
 use Rattle.store_core.specs.declared.stop.Stop.{Stop}
 use Rattle.store_core.specs.Core.{Row, Effect, Rests, SealsOne, Makes, KeepsTables, KeepsUnlessBroken, StopsAfter, StepsOr, next_id}
-use Rattle.store_core.specs.Runs.{FileEvent, FileStep, FileRun, IsAt, ChangesTo, KeepsFiles, IsGivenRight, files_with, files_by}
+use Rattle.store_core.specs.Runs.{FileEvent, FileStep, FileRun, IsAt, ChangesTo, KeepsFiles, Stored, with_stored, IsGivenRight, stored_with, stored_by}
 use Rattle.store_core.specs.State.{CoreState}
 use Rattle.store_core.proofs.OwnParts.{all_part, all_own, own_begin, own_claim, own_abort, own_open, own_read, own_drop, own_set, own_stat, own_refused}
 use Rattle.store_core.proofs.Stepping.{ChangesOne, row_one}
 
 -- where a step leads
-pub record Next (S : List ℕ → Type 0) (s : Store) (files : Files) (old new : CoreState) : Type 0 where
+pub record Next (S : List ℕ → Type 0) (s : Store) (stored : Stored) (old new : CoreState) : Type 0 where
   pub changes : List StoreChange
   pub store : Store
   pub chain : ChangesTo changes s store
-  pub is_at : IsAt S store files new
+  pub is_at : IsAt S store stored new
   pub copies : (before after : List ℕ) → old.disk.content ≡ Some before → new.disk.content ≡ Some after → KeepsCopies s before store after
 
 one_some : {A : Type 0} (x y : A) → Some x ≡ Some y → x ≡ y
@@ -53,16 +53,17 @@ one_some x y same = cc
 
 -- ---- what a step leads to
 
-module _ (S : List ℕ → Type 0) (store : Store) (files : Files) (new : CoreState) where
+module _ (S : List ℕ → Type 0) (store : Store) (stored : Stored) (new : CoreState) where
   -- from what the tables are, what each image is, and what the actors are at
-  pub arrive : Represents store new.known new.tables → (places : PlaceMap) → new.known ≡ Some places → IsValidFor new.disk.size store → StandsFor (Stands S store files) new.disk
-      → ((image : List ℕ) → new.disk.content ≡ Some image → AllByRecursion (HoldsPart store.held image) new.parts) → IsAt S store files new
-  arrive represents places known valid stands parts = record {
+  pub arrive : Represents store new.known new.tables → (places : PlaceMap) → new.known ≡ Some places → IsValidFor new.disk.size store → StandsFor (Stands S store stored.files) new.disk
+      → new.tables.journal.last ≡ stored.last → ((image : List ℕ) → new.disk.content ≡ Some image → AllByRecursion (HoldsPart store.held image) new.parts) → IsAt S store stored new
+  arrive represents places known valid stands last parts = record {
     represents = represents;
     index = places;
     index_known = known;
     valid = valid;
     stands = stands;
+    last_is = last;
     invariant = λ image told. record {
       index_is_newest = represents.index_is_newest;
       pins_are_closed = parts image told;
@@ -70,7 +71,7 @@ module _ (S : List ℕ → Type 0) (store : Store) (files : Files) (new : CoreSt
     };
   }
 
-module _ (among : ByteSet) (s : Store) (files : Files) (old new : CoreState) (actor : ℕ) (at : IsAt (IsIn among) s files old) (one : ChangesOne actor old.parts new.parts) where
+module _ (among : ByteSet) (s : Store) (stored : Stored) (old new : CoreState) (actor : ℕ) (at : IsAt (IsIn among) s stored old) (one : ChangesOne actor old.parts new.parts) where
   abbrev content : List ℕ
   content = at.stands.known.0
 
@@ -95,14 +96,17 @@ module _ (among : ByteSet) (s : Store) (files : Files) (old new : CoreState) (ac
       subst (λ (known : Option PlaceMap). Represents s known new.tables) (sym kept.index_is)
       (subst (λ (tables : Tables). Represents s old.known tables) (sym kept.tables_are) at.represents)
 
+  same_last : KeepsTables old new → new.tables.journal.last ≡ stored.last
+  same_last kept = ap (λ (tables : Tables). tables.journal.last) kept.tables_are ∙ at.last_is
+
   -- a step that only reads
-  pub rests : KeepsTables old new → OnlyReads old.disk new.disk → HoldsPart s.held content (part_of new.parts actor) → Next (IsIn among) s files old new
+  pub rests : KeepsTables old new → OnlyReads old.disk new.disk → HoldsPart s.held content (part_of new.parts actor) → Next (IsIn among) s stored old new
   rests kept reads own = record {
     changes = [];
     store = s;
     chain = refl;
-    is_at = arrive (IsIn among) s files new (same_tables kept) at.index (kept.index_is ∙ at.index_known)
-        (subst (λ (size : ℕ). IsValidFor size s) (sym reads.later.size_is) at.valid) (stands_reads (Stands (IsIn among) s files) old.disk new.disk at.stands reads)
+    is_at = arrive (IsIn among) s stored new (same_tables kept) at.index (kept.index_is ∙ at.index_known)
+        (subst (λ (size : ℕ). IsValidFor size s) (sym reads.later.size_is) at.valid) (stands_reads (Stands (IsIn among) s stored.files) old.disk new.disk at.stands reads) (same_last kept)
         (λ image is. let same : content ≡ image = one_some content image (sym told ∙ sym reads.content_is ∙ is) in
         subst (λ (bytes : List ℕ). AllByRecursion (HoldsPart s.held bytes) new.parts) same (all_hold s content (λ key level bytes has. has) own));
     copies = λ before after is_before is_after. let same : before ≡ after = one_some before after (sym is_before ∙ sym reads.content_is ∙ is_after) in
@@ -110,29 +114,30 @@ module _ (among : ByteSet) (s : Store) (files : Files) (old new : CoreState) (ac
   }
 
   -- a step after which each image is the same store
-  pub still : KeepsTables old new → IsLater old.disk new.disk → StandsFor (Stands (IsIn among) s files) new.disk
-      → ((after : List ℕ) → new.disk.content ≡ Some after → KeepsCopies s content s after × HoldsPart s.held after (part_of new.parts actor)) → Next (IsIn among) s files old new
+  pub still : KeepsTables old new → IsLater old.disk new.disk → StandsFor (Stands (IsIn among) s stored.files) new.disk
+      → ((after : List ℕ) → new.disk.content ≡ Some after → KeepsCopies s content s after × HoldsPart s.held after (part_of new.parts actor)) → Next (IsIn among) s stored old new
   still kept goes stands keeps = record {
     changes = [];
     store = s;
     chain = refl;
-    is_at = arrive (IsIn among) s files new (same_tables kept) at.index (kept.index_is ∙ at.index_known) (subst (λ (size : ℕ). IsValidFor size s) (sym goes.size_is) at.valid) stands
+    is_at = arrive (IsIn among) s stored new (same_tables kept) at.index (kept.index_is ∙ at.index_known) (subst (λ (size : ℕ). IsValidFor size s) (sym goes.size_is) at.valid) stands (same_last kept)
         (λ image is. let kept_here = keeps image is in all_hold s image kept_here.0 kept_here.1);
     copies = λ before after is_before is_after. let same : content ≡ before = one_some content before (sym told ∙ is_before) in
         subst (λ (bytes : List ℕ). KeepsCopies s bytes s after) same (keeps after is_after).0;
   }
 
   -- a step that makes a change
-  pub makes : (change : StoreChange) (later : Files) → Makes change old new → IsLater old.disk new.disk → StandsFor (Stands (IsIn among) (changed change s) later) new.disk
+  pub makes : (change : StoreChange) (later : Stored) → last_sequence (changed change s) ≡ later.last → Makes change old new → IsLater old.disk new.disk → StandsFor (Stands (IsIn among) (changed change s) later.files) new.disk
       → ((after : List ℕ) → new.disk.content ≡ Some after → KeepsCopies s content (changed change s) after × HoldsPart (changed change s).held after (part_of new.parts actor))
       → Next (IsIn among) s later old new
-  makes change later made goes stands keeps =
+  makes change later last made goes stands keeps =
       let known = made.tells at.index at.index_known in
+      let represents = made.represents.store_has s at.represents at.valid reserve in
       record {
         changes = change ∷ [];
         store = changed change s;
         chain = (made.can.store_has s at.represents at.valid reserve, refl);
-        is_at = arrive (IsIn among) (changed change s) later new (made.represents.store_has s at.represents at.valid reserve) known.0 known.1 (made.valid.store_has s at.represents at.valid reserve) stands
+        is_at = arrive (IsIn among) (changed change s) later new represents known.0 known.1 (made.valid.store_has s at.represents at.valid reserve) stands (represents.names_are.last_is ∙ last)
             (λ image is. let kept = keeps image is in all_hold (changed change s) image kept.0 kept.1);
         copies = λ before after is_before is_after. let same : content ≡ before = one_some content before (sym told ∙ is_before) in
             subst (λ (bytes : List ℕ). KeepsCopies s bytes (changed change s) after) same (keeps after is_after).0;
@@ -162,14 +167,14 @@ nothing_stands v stands = stands.each stands.known.0 (v.as_read stands.known.0 s
 
 -- ---- each step
 
-module _ (among : ByteSet) (s : Store) (files : Files) (old new : CoreState) (actor : ℕ) (buf bytes : List ℕ) (distinct : HasNoCollisions (IsIn among)) (at : IsAt (IsIn among) s files old) (stays : new.stop ≡ None) where
+module _ (among : ByteSet) (s : Store) (stored : Stored) (old new : CoreState) (actor : ℕ) (buf bytes : List ℕ) (distinct : HasNoCollisions (IsIn among)) (at : IsAt (IsIn among) s stored old) (stays : new.stop ≡ None) where
   abbrev image : List ℕ
   image = at.stands.known.0
 
   abbrev here : old.disk.content ≡ Some image
   here = at.stands.known.1
 
-  abbrev stands_here : Stands (IsIn among) s files image
+  abbrev stands_here : Stands (IsIn among) s stored.files image
   stands_here = at.stands.each image (old.disk.as_read image here)
 
   abbrev holds : AllByRecursion (HoldsPart s.held image) old.parts
@@ -178,65 +183,69 @@ module _ (among : ByteSet) (s : Store) (files : Files) (old new : CoreState) (ac
   abbrev Own : Type 0
   Own = HoldsPart s.held image (part_of new.parts actor)
 
+  -- the last number of the store
+  abbrev last_here : last_sequence s ≡ stored.last
+  last_here = sym at.represents.names_are.last_is ∙ at.last_is
+
   abbrev newest_index : IsIndexOf s.held at.index
   newest_index = at.represents.index_is_newest at.index at.index_known
 
   abbrev Goes : StepValue → Result Answer Refusal → Type 0
   Goes step answer = Row step actor answer buf old new → Effect step answer old new → StopsAfter step answer old.acknowledged new.stop
-      → IsStep step → IsGivenRight (IsIn among) step answer bytes old → Next (IsIn among) s (files_with step answer bytes files) old new
+      → IsStep step → IsGivenRight (IsIn among) step answer bytes old → Next (IsIn among) s (stored_with step answer bytes stored) old new
 
-  rests_by : (step : StepValue) (answer : Result Answer Refusal) → Row step actor answer buf old new → Rests answer old new → Own → Next (IsIn among) s files old new
-  rests_by step answer row effect own = rests among s files old new actor at (row_one actor buf old new step answer row) effect.tables effect.disk.only own
+  rests_by : (step : StepValue) (answer : Result Answer Refusal) → Row step actor answer buf old new → Rests answer old new → Own → Next (IsIn among) s stored old new
+  rests_by step answer row effect own = rests among s stored old new actor at (row_one actor buf old new step answer row) effect.tables effect.disk.only own
 
   begin_next : (answer : Result Answer Refusal) → Goes asked.Begin answer
   begin_next answer row effect stops right given =
-      rests_by asked.Begin answer row effect (own_begin among s files image at.index actor buf old new here at.index_known newest_index at.represents.names_are.names_are stands_here distinct holds answer row)
+      rests_by asked.Begin answer row effect (own_begin among s stored.files image at.index actor buf old new here at.index_known newest_index at.represents.names_are.names_are stands_here distinct holds answer row)
 
   claim_next : (seg : KindSegment) (answer : Result Answer Refusal) → Goes (asked.Claim seg) answer
   claim_next seg answer row effect stops right given =
       rests_by (asked.Claim seg) answer row effect
-      (own_claim among s files image at.index actor buf old new here at.index_known newest_index at.represents.names_are.names_are stands_here distinct holds seg answer given row)
+      (own_claim among s stored.files image at.index actor buf old new here at.index_known newest_index at.represents.names_are.names_are stands_here distinct holds seg answer given row)
 
   abort_next : (answer : Result Answer Refusal) → Goes asked.Abort answer
   abort_next answer row effect stops right given =
-      rests_by asked.Abort answer row effect (own_abort among s files image at.index actor buf old new here at.index_known newest_index at.represents.names_are.names_are stands_here distinct holds answer row)
+      rests_by asked.Abort answer row effect (own_abort among s stored.files image at.index actor buf old new here at.index_known newest_index at.represents.names_are.names_are stands_here distinct holds answer row)
 
   open_next : (name : List ℕ) (answer : Result Answer Refusal) → Goes (asked.OpenRead name) answer
   open_next name answer row effect stops right given =
       rests_by (asked.OpenRead name) answer row effect
-      (own_open among s files image at.index actor buf old new here at.index_known newest_index at.represents.names_are.names_are stands_here distinct holds name answer row)
+      (own_open among s stored.files image at.index actor buf old new here at.index_known newest_index at.represents.names_are.names_are stands_here distinct holds name answer row)
 
   read_next : (answer : Result Answer Refusal) → Goes asked.ReadNext answer
   read_next answer row effect stops right given =
-      rests_by asked.ReadNext answer row effect (own_read among s files image at.index actor buf old new here at.index_known newest_index at.represents.names_are.names_are stands_here distinct holds answer row)
+      rests_by asked.ReadNext answer row effect (own_read among s stored.files image at.index actor buf old new here at.index_known newest_index at.represents.names_are.names_are stands_here distinct holds answer row)
 
   drop_next : (answer : Result Answer Refusal) → Goes asked.EndRead answer
   drop_next answer row effect stops right given =
-      rests_by asked.EndRead answer row effect (own_drop among s files image at.index actor buf old new here at.index_known newest_index at.represents.names_are.names_are stands_here distinct holds answer row)
+      rests_by asked.EndRead answer row effect (own_drop among s stored.files image at.index actor buf old new here at.index_known newest_index at.represents.names_are.names_are stands_here distinct holds answer row)
 
   stat_next : (answer : Result Answer Refusal) → Goes asked.Stat answer
   stat_next answer row effect stops right given =
-      rests_by asked.Stat answer row effect (own_stat among s files image at.index actor buf old new here at.index_known newest_index at.represents.names_are.names_are stands_here distinct holds answer row)
+      rests_by asked.Stat answer row effect (own_stat among s stored.files image at.index actor buf old new here at.index_known newest_index at.represents.names_are.names_are stands_here distinct holds answer row)
 
   own_still : new.parts ≡ old.parts → Own
-  own_still = own_refused among s files image at.index actor buf old new here at.index_known newest_index at.represents.names_are.names_are stands_here distinct holds
+  own_still = own_refused among s stored.files image at.index actor buf old new here at.index_known newest_index at.represents.names_are.names_are stands_here distinct holds
 
   -- a container
   seal_moves : (filled : Contents) (answer : Result Answer Refusal) → SealsOne filled answer old new → IsStep (asked.Seal filled) → IsGivenRight (IsIn among) (asked.Seal filled) answer bytes old
-      → Moved (sealing_indexed (IsIn among) (next_id old) filled s files) (ending blames answer) old.disk new.disk
-  seal_moves filled answer effect right given = effect.moves.moves among s files at.index at.index_known at.represents distinct (may_seal_all (IsIn among) filled.kind filled.segments right.1 given) at.stands
+      → Moved (sealing_indexed (IsIn among) (next_id old) filled s stored.files) (ending blames answer) old.disk new.disk
+  seal_moves filled answer effect right given = effect.moves.moves among s stored.files at.index at.index_known at.represents distinct (may_seal_all (IsIn among) filled.kind filled.segments right.1 given) at.stands
 
   seal_holds : (filled : Contents) (answer : Result Answer Refusal) (after : List ℕ) → new.disk.content ≡ Some after → SealsOne filled answer old new → IsStep (asked.Seal filled) → IsGivenRight (IsIn among) (asked.Seal filled) answer bytes old
       → KeepsHeld (ending blames answer) (next_id old) filled s image after
-  seal_holds filled answer after is effect right given = effect.moves.holds among s files at.index image after at.index_known at.represents here is stands_here distinct (may_seal_all (IsIn among) filled.kind filled.segments right.1 given)
+  seal_holds filled answer after is effect right given = effect.moves.holds among s stored.files at.index image after at.index_known at.represents here is stands_here distinct (may_seal_all (IsIn among) filled.kind filled.segments right.1 given)
 
   -- a refusal that is no failed write
-  stands_still : OnlyReads old.disk new.disk ⊎ StandsFor (Stands (IsIn among) s files) new.disk → StandsFor (Stands (IsIn among) s files) new.disk
-  stands_still (inl reads) = stands_reads (Stands (IsIn among) s files) old.disk new.disk at.stands reads
+  stands_still : OnlyReads old.disk new.disk ⊎ StandsFor (Stands (IsIn among) s stored.files) new.disk → StandsFor (Stands (IsIn among) s stored.files) new.disk
+  stands_still (inl reads) = stands_reads (Stands (IsIn among) s stored.files) old.disk new.disk at.stands reads
   stands_still (inr stands) = stands
 
   seal_stands : (filled : Contents) (refusal : Refusal) → StopsAfter (asked.Seal filled) (Err refusal) old.acknowledged new.stop
-      → Arrives (sealing_indexed (IsIn among) (next_id old) filled s files) (ending_of (blames refusal)) old.disk new.disk → StandsFor (Stands (IsIn among) s files) new.disk
+      → Arrives (sealing_indexed (IsIn among) (next_id old) filled s stored.files) (ending_of (blames refusal)) old.disk new.disk → StandsFor (Stands (IsIn among) s stored.files) new.disk
   seal_stands filled refusals.DiskWrite stops arrives = absurd (let both = sym stays ∙ stops in cc)
   seal_stands filled refusals.DiskRead stops arrives = stands_still arrives
   seal_stands filled refusal stops arrives = stands_still arrives
@@ -254,15 +263,15 @@ module _ (among : ByteSet) (s : Store) (files : Files) (old new : CoreState) (ac
   seal_next : (filled : Contents) (answer : Result Answer Refusal) → Goes (asked.Seal filled) answer
   seal_next filled (Ok (answers.Sealed id)) row effect stops right given =
       let may = may_seal_all (IsIn among) filled.kind filled.segments right.1 given in
-      makes among s files old new actor at (row_one actor buf old new (asked.Seal filled) (Ok (answers.Sealed id)) row) (SealContainer (next_id old) filled.kind filled.segments) files effect.made effect.disk.later
+      makes among s stored old new actor at (row_one actor buf old new (asked.Seal filled) (Ok (answers.Sealed id)) row) (SealContainer (next_id old) filled.kind filled.segments) stored last_here effect.made effect.disk.later
       (seal_moves filled (Ok (answers.Sealed id)) effect right given).arrives
       (λ after is. (
         (seal_holds filled (Ok (answers.Sealed id)) after is effect right given).0,
         subst (λ (n : ℕ). HoldsPart (with_sealed n filled.kind filled.segments s).held after (part_of new.parts actor)) row.id_is
-            (row.kept among s files at.index image after at.index_known at.represents here is stands_here distinct may (all_part (HoldsPart s.held image) old.parts actor tt holds)),
+            (row.kept among s stored.files at.index image after at.index_known at.represents here is stands_here distinct may (all_part (HoldsPart s.held image) old.parts actor tt holds)),
       ))
   seal_next filled (Err refusal) row effect stops right given =
-      still among s files old new actor at (row_one actor buf old new (asked.Seal filled) (Err refusal) row) (seal_kept filled refusal stops effect.kept) effect.disk.later
+      still among s stored old new actor at (row_one actor buf old new (asked.Seal filled) (Err refusal) row) (seal_kept filled refusal stops effect.kept) effect.disk.later
       (seal_stands filled refusal stops (seal_moves filled (Err refusal) effect right given).arrives)
       (λ after is. let copies = seal_copies filled refusal after stops (seal_holds filled (Err refusal) after is effect right given) in
       (copies, part_kept s s image after copies (part_of new.parts actor) (own_still row.1)))
@@ -272,15 +281,15 @@ module _ (among : ByteSet) (s : Store) (files : Files) (old new : CoreState) (ac
   commit_next : (name : List ℕ) (root : Root) (answer : Result Answer Refusal) → Goes (asked.Commit name root) answer
   commit_next name root (Ok (answers.Committed sequence)) row effect stops right given =
       let tree = given.tree s at.represents in
-      let moved = effect.moves.moves among s files bytes at.represents.names_are given.root_is (record { known = at.stands.known; each = λ c is. (at.stands.each c is, tree.each c is) }) in
+      let moved = effect.moves.moves among s stored.files bytes at.represents.names_are given.root_is (record { known = at.stands.known; each = λ c is. (at.stands.each c is, tree.each c is) }) in
       let copies = effect.copies s at.represents image here stands_here.holds.right in
-      makes among s files old new actor at (row_one actor buf old new (asked.Commit name root) (Ok (answers.Committed sequence)) row) (PutName name root) (with_file files name bytes) effect.made effect.disk.later moved.arrives
+      makes among s stored old new actor at (row_one actor buf old new (asked.Commit name root) (Ok (answers.Committed sequence)) row) (PutName name root) (with_stored stored name bytes) (last_put name root s ∙ ap suc last_here) effect.made effect.disk.later moved.arrives
       (λ after is. (
         subst (KeepsCopies s image (with_put name root s)) (one_some copies.0 after (sym copies.1 ∙ is)) copies.2,
         subst (λ (parts : List Part). HoldsPart s.held after (part_of parts actor)) (sym row.2) (own_set (HoldsPart s.held after) old.parts actor Idle tt tt),
       ))
   commit_next name root (Err refusal) row effect stops right given =
-      rests among s files old new actor at (row_one actor buf old new (asked.Commit name root) (Err refusal) row) effect.kept
+      rests among s stored old new actor at (row_one actor buf old new (asked.Commit name root) (Err refusal) row) effect.kept
       (only_reads old new stays (asked.Commit name root) refusal stops effect.disk.ends) (own_still row.1)
   commit_next name root answer row effect stops right given = absurd row
 
@@ -302,13 +311,13 @@ module _ (among : ByteSet) (distinct : HasNoCollisions (IsIn among)) where
   stopped_on : (stop : Stop) (f : FileEvent) (old new : CoreState) → old.stop ≡ Some stop → StepsOr (Some stop) f.event old new → new.stop ≡ Some stop
   stopped_on stop f old new is step = step.same.stop_is ∙ is
 
-  by_stop : (stop : Option Stop) (f : FileEvent) (s : Store) (files : Files) (old new : CoreState) → old.stop ≡ stop → StepsOr stop f.event old new → IsStep f.event.step
-      → IsGivenRight (IsIn among) f.event.step f.event.answer f.bytes old → IsAt (IsIn among) s files old → new.stop ≡ None → Next (IsIn among) s (files_by f files) old new
-  by_stop None f s files old new is steps right given at stays = step_next among s files old new f.event.actor f.event.buf f.bytes distinct at stays f.event.step f.event.answer steps.made.row steps.made.effect steps.stops right given
-  by_stop (Some stop) f s files old new is steps right given at stays = absurd (let both = sym stays ∙ stopped_on stop f old new is steps in cc)
+  by_stop : (stop : Option Stop) (f : FileEvent) (s : Store) (stored : Stored) (old new : CoreState) → old.stop ≡ stop → StepsOr stop f.event old new → IsStep f.event.step
+      → IsGivenRight (IsIn among) f.event.step f.event.answer f.bytes old → IsAt (IsIn among) s stored old → new.stop ≡ None → Next (IsIn among) s (stored_by f stored) old new
+  by_stop None f s stored old new is steps right given at stays = step_next among s stored old new f.event.actor f.event.buf f.bytes distinct at stays f.event.step f.event.answer steps.made.row steps.made.effect steps.stops right given
+  by_stop (Some stop) f s stored old new is steps right given at stays = absurd (let both = sym stays ∙ stopped_on stop f old new is steps in cc)
 
-  pub file_step : (f : FileEvent) (s : Store) (files : Files) (old new : CoreState) → FileStep (IsIn among) f old new → IsAt (IsIn among) s files old → new.stop ≡ None → Next (IsIn among) s (files_by f files) old new
-  file_step f s files old new step at stays = by_stop old.stop f s files old new refl step.made step.asked step.given at stays
+  pub file_step : (f : FileEvent) (s : Store) (stored : Stored) (old new : CoreState) → FileStep (IsIn among) f old new → IsAt (IsIn among) s stored old → new.stop ≡ None → Next (IsIn among) s (stored_by f stored) old new
+  file_step f s stored old new step at stays = by_stop old.stop f s stored old new refl step.made step.asked step.given at stays
 
   -- where it isn't stopped afterwards, it wasn't before
   was_running : (stop : Option Stop) (f : FileEvent) (old new : CoreState) → old.stop ≡ stop → StepsOr stop f.event old new → new.stop ≡ None → old.stop ≡ None
@@ -327,15 +336,15 @@ chain_on (change ∷ more) rest s mid t one two = (one.0, chain_on more rest (ch
 
 module _ (C : Type 0) (state : C → CoreState) where
   pub keeps_files : KeepsFiles C state
-  keeps_files among [] s files old new distinct at run stays = record {
+  keeps_files among [] s stored old new distinct at run stays = record {
     changes = [];
     store = s;
     chain = refl;
-    is_at = subst (λ (c : C). IsAt (IsIn among) s files (state c)) (sym run) at;
+    is_at = subst (λ (c : C). IsAt (IsIn among) s stored (state c)) (sym run) at;
   }
-  keeps_files among (f ∷ fs) s files old new distinct at run stays =
-      let next = file_step among distinct f s files (state old) (state run.0) run.1.0 at (run_running C state among distinct fs run.0 new run.1.1 stays) in
-      let reached = keeps_files among fs next.store (files_by f files) run.0 new distinct next.is_at run.1.1 stays in
+  keeps_files among (f ∷ fs) s stored old new distinct at run stays =
+      let next = file_step among distinct f s stored (state old) (state run.0) run.1.0 at (run_running C state among distinct fs run.0 new run.1.1 stays) in
+      let reached = keeps_files among fs next.store (stored_by f stored) run.0 new distinct next.is_at run.1.1 stays in
       record {
         changes = next.changes ++ reached.changes;
         store = reached.store;

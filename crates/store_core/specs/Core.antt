@@ -95,7 +95,7 @@ IsUnsealed filled actor refusal old new =
 
 -- ---- a file that is given back
 
--- The actor is given the file of a name, which a store that stands for files has to come.
+-- The actor is given the file of a name; where a store stands for files, all of that file is to come.
 pub record IsOpened (name : List ℕ) (count actor : ℕ) (old new : CoreState) : Type 0 where
   pub opens : readers.Opens old.tables.names name actor old.parts new.parts count
   pub file : (store : Store) (files : Files) (image : List ℕ) → old.tables.names ≡ names_of store → IsStoreOf store files image
@@ -199,7 +199,7 @@ KeepsUnlessBroken refusals.DiskWrite old new = Unit {0}
 KeepsUnlessBroken (refusals.Damaged at why) old new = Unit {0}
 KeepsUnlessBroken refusal old new = KeepsTables old new
 
--- A change is made: of each store that they were those of, tables and index are those of the changed one.
+-- A change is made: for each store that the tables stood for, tables and index are those of the changed one.
 pub record Makes (change : StoreChange) (old new : CoreState) : Type 0 where
   pub can : OfEach old.disk.size old.known old.tables (CanChange change)
   pub represents : OfEach old.disk.size old.known old.tables (λ store. Represents (changed change store) new.known new.tables)
@@ -252,15 +252,15 @@ counted answer count = count
 
 -- ---- a step
 
--- what is made of all but what stopped the core, and the count
+-- a step made, as the core is then
 pub record Made (step : StepValue) (actor : ℕ) (answer : Result Answer Refusal) (buf : List ℕ) (old new : CoreState) : Type 0 where
   pub row : Row step actor answer buf old new
   pub effect : Effect step answer old new
   pub served : old.served → new.served
 
--- and whatever these become
-abbrev pub Leaves : StepValue → ℕ → Result Answer Refusal → List ℕ → CoreState → CoreState → Type 0
-Leaves step actor answer buf old new =
+-- a step made, before the stop and the count are set
+abbrev pub MadeBefore : StepValue → ℕ → Result Answer Refusal → List ℕ → CoreState → CoreState → Type 0
+MadeBefore step actor answer buf old new =
     (stop : Option Stop) (count : ℕ) → Made step actor answer buf old (record new { stop = stop; acknowledged = count })
 
 -- of a core that runs

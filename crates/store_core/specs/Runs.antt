@@ -1,5 +1,5 @@
 -- Steps of a core one after the other, by any actors (docs/MODEL.md, 'The core').
-use Rattle.std.specs.Prelude.{Bool, true, false, ◌≡◌, ◌⊎◌, ◌-◌, ◌^◌, ◌<◌, ℕ, List, [], ◌∷◌, ◌==◌, length, sum_by, take, None, Some, Result, Ok, Err}
+use Rattle.std.specs.Prelude.{Bool, true, false, ◌≡◌, ◌⊎◌, ◌-◌, ◌^◌, ◌<◌, ℕ, suc, List, [], ◌∷◌, ◌==◌, length, sum_by, take, None, Some, Result, Ok, Err}
 use Rattle.std.specs.FinMap as finite
 use Rattle.std.specs.List.{AllByRecursion}
 use Rattle.base_model.specs.Known.{Known}
@@ -18,14 +18,15 @@ use Rattle.refusals.specs.declared.refusal.Refusal.TheVariants as refusals
 use Rattle.segmenter.specs.Segments.{segments_of}
 use Rattle.store_model.specs.Commands.{HasNoCollisions}
 use Rattle.store_model.specs.Files.{Files, with_file}
-use Rattle.store_model.specs.Image.{Store, IsValidFor}
+use Rattle.store_model.specs.Image.{Store, IsValidFor, last_sequence}
 use Rattle.store_model.specs.Standing.{ByteSet, IsIn, IsAmong, Stands}
 use Rattle.store_model.specs.Steps.{StoreChange, CanChange, changed}
 use Rattle.store_model.specs.Trees.{root_of, file_tree, HoldsTree}
 use Rattle.store_state.specs.Invariant.{CoreInvariant}
 use Rattle.store_state.specs.Tables.{Represents}
 use Rattle.read_steps.specs.Readers.{reading}
-use Rattle.read_steps.specs.Opening.{top_of}
+use Rattle.namespace.specs.Names.{NameMap}
+use Rattle.read_steps.specs.Opening.{top_of, HasRoot}
 use Rattle.read_steps.specs.Walking.{GivesAll}
 use Rattle.store_core.specs.Core.{CoreStep}
 use Rattle.store_core.specs.State.{CoreState, Event, IsRunning}
@@ -47,18 +48,27 @@ pub record FileEvent : Type 0 where
   pub event : Event
   pub bytes : List ℕ
 
--- the files after a step: a commit that was acknowledged puts one
-abbrev pub files_with : StepValue → Result Answer Refusal → List ℕ → Files → Files
-files_with (asked.Commit name root) (Ok answer) bytes files = with_file files name bytes
-files_with step answer bytes files = files
+-- the files of a store, and the last sequence number that it gave out
+pub record Stored : Type 0 where
+  pub files : Files
+  pub last : ℕ
 
-abbrev pub files_by : FileEvent → Files → Files
-files_by f files = files_with f.event.step f.event.answer f.bytes files
+-- one file put under a name, which takes a number
+abbrev pub with_stored : Stored → List ℕ → List ℕ → Stored
+with_stored stored name bytes = record { files = with_file stored.files name bytes; last = suc stored.last }
+
+-- these after a step: a commit that was acknowledged puts a file
+abbrev pub stored_with : StepValue → Result Answer Refusal → List ℕ → Stored → Stored
+stored_with (asked.Commit name root) (Ok answer) bytes stored = with_stored stored name bytes
+stored_with step answer bytes stored = stored
+
+abbrev pub stored_by : FileEvent → Stored → Stored
+stored_by f stored = stored_with f.event.step f.event.answer f.bytes stored
 
 -- and after steps, the first of them first
-abbrev pub files_after_steps : List FileEvent → Files → Files
-files_after_steps [] files = files
-files_after_steps (f ∷ fs) files = files_after_steps fs (files_by f files)
+abbrev pub stored_after : List FileEvent → Stored → Stored
+stored_after [] stored = stored
+stored_after (f ∷ fs) stored = stored_after fs (stored_by f stored)
 
 -- a root is that of a file, whose tree each image holds
 pub record IsRootOf (root : Root) (bytes : List ℕ) (old : CoreState) : Type 0 where
@@ -87,13 +97,15 @@ abbrev pub FileRun : (C : Type 0) → (C → CoreState) → (List ℕ → Type 0
 FileRun C state S [] old new = new ≡ old
 FileRun C state S (f ∷ fs) old new = (mid : C) × (FileStep S f (state old) (state mid) × FileRun C state S fs mid new)
 
--- Tables and index are those of the store, each image is it, of these files, and what holds of a running store does.
-pub record IsAt (S : List ℕ → Type 0) (store : Store) (files : Files) (c : CoreState) : Type 0 where
+-- Tables and index are those of the store, each image is that store of these files, the number is the last, and the invariant
+-- holds.
+pub record IsAt (S : List ℕ → Type 0) (store : Store) (stored : Stored) (c : CoreState) : Type 0 where
   pub represents : Represents store c.known c.tables
   pub index : PlaceMap
   pub index_known : c.known ≡ Some index
   pub valid : IsValidFor c.disk.size store
-  pub stands : StandsFor (Stands S store files) c.disk
+  pub stands : StandsFor (Stands S store stored.files) c.disk
+  pub last_is : c.tables.journal.last ≡ stored.last
   pub invariant : Known c.disk.content (CoreInvariant c.known store c.parts)
 
 -- one change after the other, each where it can be made
@@ -101,55 +113,64 @@ abbrev pub ChangesTo : List StoreChange → Store → Store → Type 0
 ChangesTo [] s t = t ≡ s
 ChangesTo (change ∷ rest) s t = CanChange change s × ChangesTo rest (changed change s) t
 
--- it has come to files of which P holds
-pub record Reaches (S : List ℕ → Type 0) (s : Store) (files : Files) (c : CoreState) : Type 0 where
+-- it has come to these files, from a store by such changes
+pub record Reaches (S : List ℕ → Type 0) (s : Store) (stored : Stored) (c : CoreState) : Type 0 where
   pub changes : List StoreChange
   pub store : Store
   pub chain : ChangesTo changes s store
-  pub is_at : IsAt S store files c
+  pub is_at : IsAt S store stored c
 
 -- A core that isn't stopped at the end of a run has made exactly the commits that it acknowledged, and its invariant holds.
 abbrev pub KeepsFiles : (C : Type 0) → (C → CoreState) → Type 0
-KeepsFiles C state = (among : ByteSet) (steps : List FileEvent) (s : Store) (files : Files) (old new : C)
-    → HasNoCollisions (IsIn among) → IsAt (IsIn among) s files (state old) → FileRun C state (IsIn among) steps old new
-    → (state new).stop ≡ None → Reaches (IsIn among) s (files_after_steps steps files) (state new)
+KeepsFiles C state = (among : ByteSet) (steps : List FileEvent) (s : Store) (stored : Stored) (old new : C)
+    → HasNoCollisions (IsIn among) → IsAt (IsIn among) s stored (state old) → FileRun C state (IsIn among) steps old new
+    → (state new).stop ≡ None → Reaches (IsIn among) s (stored_after steps stored) (state new)
 
 -- ---- crashes
 
--- an image is that of a store of these files
-abbrev pub IsOf : (List ℕ → Type 0) → Files → List ℕ → Type 0
-IsOf S files image = (store : Store) × Stands S store files image
+-- an image is that of a store of these files, with this last sequence number
+abbrev pub IsOf : (List ℕ → Type 0) → Stored → List ℕ → Type 0
+IsOf S stored image = (store : Store) × (Stands S store stored.files image × (last_sequence store ≡ stored.last))
 
 -- the files after a step, where a write that failed stands
-abbrev pub files_tried : StepValue → Result Answer Refusal → List ℕ → Files → Files
-files_tried (asked.Commit name root) (Err refusals.DiskWrite) bytes files = with_file files name bytes
-files_tried step answer bytes files = files_with step answer bytes files
+abbrev pub stored_tried : StepValue → Result Answer Refusal → List ℕ → Stored → Stored
+stored_tried (asked.Commit name root) (Err refusals.DiskWrite) bytes stored = with_stored stored name bytes
+stored_tried step answer bytes stored = stored_with step answer bytes stored
 
 -- An image of these files, or of those after some of the steps, the first of them first; and a commit whose write failed may
 -- have put its file.
-abbrev pub IsOnTheWay : (List ℕ → Type 0) → List FileEvent → Files → List ℕ → Type 0
-IsOnTheWay S [] files image = IsOf S files image
-IsOnTheWay S (f ∷ fs) files image =
-    IsOf S files image ⊎ IsOf S (files_tried f.event.step f.event.answer f.bytes files) image ⊎ IsOnTheWay S fs (files_by f files) image
+abbrev pub IsOnTheWay : (List ℕ → Type 0) → List FileEvent → Stored → List ℕ → Type 0
+IsOnTheWay S [] stored image = IsOf S stored image
+IsOnTheWay S (f ∷ fs) stored image =
+    IsOf S stored image ⊎ IsOf S (stored_tried f.event.step f.event.answer f.bytes stored) image ⊎ IsOnTheWay S fs (stored_by f stored) image
 
 -- Each image since the first step is one on the way.
 abbrev pub SurvivesCrashes : (C : Type 0) → (C → CoreState) → Type 0
-SurvivesCrashes C state = (among : ByteSet) (steps : List FileEvent) (s : Store) (files : Files) (old new : C)
-    → HasNoCollisions (IsIn among) → IsAt (IsIn among) s files (state old) → FileRun C state (IsIn among) steps old new
+SurvivesCrashes C state = (among : ByteSet) (steps : List FileEvent) (s : Store) (stored : Stored) (old new : C)
+    → HasNoCollisions (IsIn among) → IsAt (IsIn among) s stored (state old) → FileRun C state (IsIn among) steps old new
     → (state old).disk.clock < 2 ^ 64 - 1 → (image : List ℕ) → (state new).disk.images_since (state old).disk.clock image
-    → IsOnTheWay (IsIn among) steps files image
+    → IsOnTheWay (IsIn among) steps stored image
+
+-- Each image since a moment between two steps is of the files after all commits that were acknowledged before that moment, or is
+-- one on the way from there.
+abbrev pub KeepsAcknowledged : (C : Type 0) → (C → CoreState) → Type 0
+KeepsAcknowledged C state = (among : ByteSet) (first rest : List FileEvent) (s : Store) (stored : Stored) (old mid new : C)
+    → HasNoCollisions (IsIn among) → IsAt (IsIn among) s stored (state old) → FileRun C state (IsIn among) first old mid
+    → (state mid).stop ≡ None → FileRun C state (IsIn among) rest mid new
+    → (state mid).disk.clock < 2 ^ 64 - 1 → (image : List ℕ) → (state new).disk.images_since (state mid).disk.clock image
+    → IsOnTheWay (IsIn among) rest (stored_after first stored) image
 
 -- the files after steps, where a write that failed stands
-abbrev pub files_tried_by : List FileEvent → Files → Files
-files_tried_by [] files = files
-files_tried_by (f ∷ fs) files = files_tried_by fs (files_tried f.event.step f.event.answer f.bytes files)
+abbrev pub stored_tried_by : List FileEvent → Stored → Stored
+stored_tried_by [] stored = stored
+stored_tried_by (f ∷ fs) stored = stored_tried_by fs (stored_tried f.event.step f.event.answer f.bytes stored)
 
 -- At the end each image is of the files after all commits that were acknowledged, or after these and the one whose write failed.
 abbrev pub EndsWithAll : (C : Type 0) → (C → CoreState) → Type 0
-EndsWithAll C state = (among : ByteSet) (steps : List FileEvent) (s : Store) (files : Files) (old new : C)
-    → HasNoCollisions (IsIn among) → IsAt (IsIn among) s files (state old) → FileRun C state (IsIn among) steps old new
+EndsWithAll C state = (among : ByteSet) (steps : List FileEvent) (s : Store) (stored : Stored) (old new : C)
+    → HasNoCollisions (IsIn among) → IsAt (IsIn among) s stored (state old) → FileRun C state (IsIn among) steps old new
     → (image : List ℕ) → (state new).disk.images image
-    → IsOf (IsIn among) (files_after_steps steps files) image ⊎ IsOf (IsIn among) (files_tried_by steps files) image
+    → IsOf (IsIn among) (stored_after steps stored) image ⊎ IsOf (IsIn among) (stored_tried_by steps stored) image
 
 -- ---- readers
 
@@ -183,14 +204,14 @@ abbrev pub opens : ℕ → List ℕ → ℕ → List ℕ → Event
 opens actor name count buf = record { actor = actor; step = asked.OpenRead name; answer = Ok (answers.Opened count); buf = buf }
 
 -- A file that was opened is given as it was then, whatever steps others make: over a disk that tells its content, by a core
--- that isn't stopped.
+-- that isn't stopped. The opening answered its length.
 abbrev pub GivesTheFile : (C : Type 0) → (C → CoreState) → Type 0
 GivesTheFile C state = (among : ByteSet) (actor : ℕ) (name bytes : List ℕ) (count : ℕ) (buf : List ℕ) (steps : List FileEvent)
-    (s : Store) (files : Files) (old mid new : C)
-    → HasNoCollisions (IsIn among) → IsAt (IsIn among) s files (state old) → finite.get files name ≡ Some bytes
+    (s : Store) (stored : Stored) (old mid new : C)
+    → HasNoCollisions (IsIn among) → IsAt (IsIn among) s stored (state old) → finite.get stored.files name ≡ Some bytes
     → actor < length (state old).parts → CoreStep (state old) (opens actor name count buf) (state mid)
     → FileRun C state (IsIn among) steps mid new → ReadsAlone actor (events_of steps) → (state new).stop ≡ None
-    → GivesInOrder actor (events_of steps) (segments_of bytes)
+    → (count ≡ length bytes) × GivesInOrder actor (events_of steps) (segments_of bytes)
 
 -- ---- on any disk
 
@@ -212,10 +233,11 @@ pub record GivesAsNamed (root : Root) (segments : List (List ℕ)) (actor : ℕ)
 abbrev pub ends : ℕ → List ℕ → Event
 ends actor buf = record { actor = actor; step = asked.ReadNext; answer = Ok answers.End; buf = buf }
 
--- So it is of the root that was opened, of the length that was answered; and the end is answered only where what was given has
--- that length.
-pub record GivesByTree (actor count : ℕ) (events : List Event) (new : CoreState) : Type 0 where
+-- So it is of the root that the name had when it was opened, of the length that was answered; and the end is answered only where
+-- what was given has that length.
+pub record GivesByTree (names : NameMap) (name : List ℕ) (actor count : ℕ) (events : List Event) (new : CoreState) : Type 0 where
   pub root : Root
+  pub has_root : HasRoot names name root
   pub count_is : count ≡ root.length
   pub given : GivesAsNamed root (given_to actor events) actor new
   pub whole : given.rest ≡ [] → sum_by length (given_to actor events) ≡ count
@@ -223,9 +245,10 @@ pub record GivesByTree (actor count : ℕ) (events : List Event) (new : CoreStat
 abbrev pub ReadsAreChecked : (C : Type 0) → (C → CoreState) → Type 0
 ReadsAreChecked C state = (actor : ℕ) (name : List ℕ) (count : ℕ) (buf : List ℕ) (events : List Event) (old mid new : C)
     → actor < length (state old).parts → (state old).stop ≡ None → CoreStep (state old) (opens actor name count buf) (state mid)
-    → CoreRun C state events mid new → ReadsAlone actor events → GivesByTree actor count events (state new)
+    → CoreRun C state events mid new → ReadsAlone actor events
+    → GivesByTree (state old).tables.names name actor count events (state new)
 
 abbrev pub EndsAreWhole : (C : Type 0) → (C → CoreState) → Type 0
-EndsAreWhole C state = (actor count : ℕ) (events : List Event) (buf : List ℕ) (new last : C)
-    → GivesByTree actor count events (state new) → (state new).stop ≡ None → CoreStep (state new) (ends actor buf) (state last)
+EndsAreWhole C state = (names : NameMap) (name : List ℕ) (actor count : ℕ) (events : List Event) (buf : List ℕ) (new last : C)
+    → GivesByTree names name actor count events (state new) → (state new).stop ≡ None → CoreStep (state new) (ends actor buf) (state last)
     → sum_by length (given_to actor events) ≡ count

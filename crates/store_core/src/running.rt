@@ -1,13 +1,14 @@
 //! The core of a running store: one step after the other.
 ghost use Rattle.std.specs.Prelude.{◌≡◌, ◌-◌, ◌^◌, ℕ, List, None, Err, IfSome, min, option_map};
+ghost use Rattle.dd_disk.specs.Ending.{Done, Reads};
 ghost use Rattle.actor_parts.specs.Kinds.{kind_of};
 ghost use Rattle.actor_parts.specs.Parts.{part_of};
 ghost use Rattle.actor_parts.specs.StepValue as asked;
 ghost use Rattle.actor_parts.specs.StepValue.{IsStep, step_value};
 ghost use Rattle.actor_parts.specs.Segments.{IsStepSegment};
 ghost use Rattle.refusals.specs.declared.refusal.Refusal.TheVariants.{Stopped};
-ghost use Rattle.store_core.specs.Core.{Leaves, CoreStep, StopsAfter, IsCount, counted};
-ghost use Rattle.store_core.specs.State.{IsUp, IsRunning};
+ghost use Rattle.store_core.specs.Core.{MadeBefore, CoreStep, StopsAfter, IsCount, counted};
+ghost use Rattle.store_core.specs.State.{IsUp, IsRunning, IsSame};
 
 use crate::state::HasState;
 use crate::stop::Stop;
@@ -26,16 +27,16 @@ use summary_vector::Summary;
 /// A running store, for one thread: its disk, its tables and its index, and what each actor is at.
 #[derive(Drop)]
 pub struct Core<D, M> {
-    pub alloc: Global,
-    pub disk: D,
-    pub tables: Tables,
-    pub index: StoreIndex,
-    pub parts: Parts,
-    pub summary: M,
+    pub(crate) alloc: Global,
+    pub(crate) disk: D,
+    pub(crate) tables: Tables,
+    pub(crate) index: StoreIndex,
+    pub(crate) parts: Parts,
+    pub(crate) summary: M,
     /// What stopped it.
-    pub stop: Option<Stop>,
+    pub(crate) stop: Option<Stop>,
     /// How many puts were acknowledged since the opening; it stays at 2^64 - 1 once there.
-    pub acknowledged: u64,
+    pub(crate) acknowledged: u64,
 }
 
 impl<D: Disk, M: Summary> HasState for Core<D, M> {
@@ -49,6 +50,10 @@ impl<D: Disk, M: Summary> HasState for Core<D, M> {
       stop = c.stop;
       acknowledged = c.acknowledged;
     } };
+
+    ghost there = { λ c. M.there c.summary };
+
+    ghost banks = { λ c. M.banks c.summary };
 }
 
 // What stops the core: a write or a sync that failed, and damage that a seal met in the index.
@@ -83,7 +88,7 @@ fn count_after(answer: &Result<Answer, Refusal>, count: u64) -> u64
 
 impl<D: Disk, M: Summary> Core<D, M> {
     fn begin(&mut self, actor: Actor) -> Result<Answer, Refusal>
-        ensures made { (buf : List ℕ) → Leaves asked.Begin actor result buf (⟦<Core<D, M> as HasState>⟧.state self.old)
+        ensures made { (buf : List ℕ) → MadeBefore asked.Begin actor result buf (⟦<Core<D, M> as HasState>⟧.state self.old)
             (⟦<Core<D, M> as HasState>⟧.state self.new) }
         ensures stop { self.new.stop ≡ self.old.stop }
         ensures count { self.new.acknowledged ≡ self.old.acknowledged }
@@ -95,7 +100,7 @@ impl<D: Disk, M: Summary> Core<D, M> {
     }
 
     fn abort(&mut self, actor: Actor) -> Result<Answer, Refusal>
-        ensures made { (buf : List ℕ) → Leaves asked.Abort actor result buf (⟦<Core<D, M> as HasState>⟧.state self.old)
+        ensures made { (buf : List ℕ) → MadeBefore asked.Abort actor result buf (⟦<Core<D, M> as HasState>⟧.state self.old)
             (⟦<Core<D, M> as HasState>⟧.state self.new) }
         ensures stop { self.new.stop ≡ self.old.stop }
         ensures count { self.new.acknowledged ≡ self.old.acknowledged }
@@ -109,7 +114,7 @@ impl<D: Disk, M: Summary> Core<D, M> {
     fn claim(&mut self, actor: Actor, seg: &Seg, buf: &mut SegBuf) -> Result<Answer, Refusal>
         requires segment { IsStepSegment seg.now }
         requires up { IsUp (⟦<Core<D, M> as HasState>⟧.state self.old) }
-        ensures made { Leaves (asked.Claim seg.now) actor result buf.new (⟦<Core<D, M> as HasState>⟧.state self.old)
+        ensures made { MadeBefore (asked.Claim seg.now) actor result buf.new (⟦<Core<D, M> as HasState>⟧.state self.old)
             (⟦<Core<D, M> as HasState>⟧.state self.new) }
         ensures stop { self.new.stop ≡ self.old.stop }
         ensures count { self.new.acknowledged ≡ self.old.acknowledged }
@@ -130,7 +135,7 @@ impl<D: Disk, M: Summary> Core<D, M> {
 
     fn commit(&mut self, actor: Actor, name: &[u8], root: &Root) -> Result<Answer, Refusal>
         requires up { IsUp (⟦<Core<D, M> as HasState>⟧.state self.old) }
-        ensures made { (buf : List ℕ) → Leaves (asked.Commit name.now root.now) actor result buf
+        ensures made { (buf : List ℕ) → MadeBefore (asked.Commit name.now root.now) actor result buf
             (⟦<Core<D, M> as HasState>⟧.state self.old)
             (⟦<Core<D, M> as HasState>⟧.state self.new) }
         ensures stop { self.new.stop ≡ self.old.stop }
@@ -151,7 +156,7 @@ impl<D: Disk, M: Summary> Core<D, M> {
     }
 
     fn open_read(&mut self, actor: Actor, name: &[u8]) -> Result<Answer, Refusal>
-        ensures made { (buf : List ℕ) → Leaves (asked.OpenRead name.now) actor result buf
+        ensures made { (buf : List ℕ) → MadeBefore (asked.OpenRead name.now) actor result buf
             (⟦<Core<D, M> as HasState>⟧.state self.old)
             (⟦<Core<D, M> as HasState>⟧.state self.new) }
         ensures stop { self.new.stop ≡ self.old.stop }
@@ -165,7 +170,7 @@ impl<D: Disk, M: Summary> Core<D, M> {
 
     fn read_next(&mut self, actor: Actor, buf: &mut SegBuf) -> Result<Answer, Refusal>
         requires up { IsUp (⟦<Core<D, M> as HasState>⟧.state self.old) }
-        ensures made { Leaves asked.ReadNext actor result buf.new (⟦<Core<D, M> as HasState>⟧.state self.old)
+        ensures made { MadeBefore asked.ReadNext actor result buf.new (⟦<Core<D, M> as HasState>⟧.state self.old)
             (⟦<Core<D, M> as HasState>⟧.state self.new) }
         ensures stop { self.new.stop ≡ self.old.stop }
         ensures count { self.new.acknowledged ≡ self.old.acknowledged }
@@ -180,7 +185,7 @@ impl<D: Disk, M: Summary> Core<D, M> {
     }
 
     fn end_read(&mut self, actor: Actor) -> Result<Answer, Refusal>
-        ensures made { (buf : List ℕ) → Leaves asked.EndRead actor result buf (⟦<Core<D, M> as HasState>⟧.state self.old)
+        ensures made { (buf : List ℕ) → MadeBefore asked.EndRead actor result buf (⟦<Core<D, M> as HasState>⟧.state self.old)
             (⟦<Core<D, M> as HasState>⟧.state self.new) }
         ensures stop { self.new.stop ≡ self.old.stop }
         ensures count { self.new.acknowledged ≡ self.old.acknowledged }
@@ -199,7 +204,7 @@ impl<D: Disk, M: Summary> Core<D, M> {
     ) -> Result<Answer, Refusal>
         requires asked { IsStep (asked.Seal filled.now) }
         requires up { IsUp (⟦<Core<D, M> as HasState>⟧.state self.old) }
-        ensures made { (bytes : List ℕ) → Leaves (asked.Seal filled.now) actor result bytes
+        ensures made { (bytes : List ℕ) → MadeBefore (asked.Seal filled.now) actor result bytes
             (⟦<Core<D, M> as HasState>⟧.state self.old)
             (⟦<Core<D, M> as HasState>⟧.state self.new) }
         ensures stop { self.new.stop ≡ self.old.stop }
@@ -231,7 +236,7 @@ impl<D: Disk, M: Summary> Core<D, M> {
     fn make(&mut self, actor: Actor, step: Step<'_>, buf: &mut SegBuf) -> Result<Answer, Refusal>
         requires asked { IsStep (step_value step) }
         requires up { IsUp (⟦<Core<D, M> as HasState>⟧.state self.old) }
-        ensures made { Leaves (step_value step.entry) actor result buf.new (⟦<Core<D, M> as HasState>⟧.state self.old)
+        ensures made { MadeBefore (step_value step.entry) actor result buf.new (⟦<Core<D, M> as HasState>⟧.state self.old)
             (⟦<Core<D, M> as HasState>⟧.state self.new) }
         ensures stop { self.new.stop ≡ self.old.stop }
         ensures count { self.new.acknowledged ≡ self.old.acknowledged }
@@ -264,8 +269,9 @@ impl<D: Disk, M: Summary> Core<D, M> {
         ensures step { CoreStep (⟦<Core<D, M> as HasState>⟧.state self.old)
             (record { actor = actor; step = step_value step.entry; answer = result; buf = buf.new })
             (⟦<Core<D, M> as HasState>⟧.state self.new) }
-        ensures stopped { IfSome self.old.stop (λ stop. (result ≡ Err (Stopped stop.at))
-            × (self.new ≡ self.old) × (buf.new ≡ buf.old)) }
+        ensures stopped { IfSome (⟦<Core<D, M> as HasState>⟧.state self.old).stop (λ stop. (result ≡ Err (Stopped stop.at))
+            × IsSame (⟦<Core<D, M> as HasState>⟧.state self.old) (⟦<Core<D, M> as HasState>⟧.state self.new)
+            × (buf.new ≡ buf.old)) }
         ensures running { IsRunning (⟦<Core<D, M> as HasState>⟧.state self.new) }
     {
         if let Some(stop) = &self.stop {
@@ -279,28 +285,28 @@ impl<D: Disk, M: Summary> Core<D, M> {
 
     /// What an actor is at.
     pub fn part_kind(&self, actor: Actor) -> PartKind
-        ensures { result ≡ kind_of (part_of self.now.parts actor) }
+        ensures { result ≡ kind_of (part_of (⟦<Core<D, M> as HasState>⟧.state self.now).parts actor) }
     {
         self.parts.part(actor).kind()
     }
 
     /// The last sequence number that was given out, 0 where there was none.
     pub fn last_sequence(&self) -> u64
-        ensures { result ≡ self.now.tables.journal.last }
+        ensures { result ≡ (⟦<Core<D, M> as HasState>⟧.state self.now).tables.journal.last }
     {
         self.tables.journal.last()
     }
 
     /// The moment of its disk, or 2^64 - 1 where that is less.
     pub fn moment(&self) -> u64
-        ensures { result ≡ min (D.view self.now.disk).clock (2 ^ 64 - 1) }
+        ensures { result ≡ min (⟦<Core<D, M> as HasState>⟧.state self.now).disk.clock (2 ^ 64 - 1) }
     {
         self.disk.moment()
     }
 
     /// The refusal that stopped it; none while it runs.
     pub fn stopped_by(&self) -> Option<Refusal>
-        ensures { result ≡ option_map (λ stop. stop.refusal) self.now.stop }
+        ensures { result ≡ option_map (λ stop. stop.refusal) (⟦<Core<D, M> as HasState>⟧.state self.now).stop }
     {
         match &self.stop {
             Some(stop) => Some(stop.refusal),
@@ -312,7 +318,8 @@ impl<D: Disk, M: Summary> Core<D, M> {
 impl<D: Disk, M: Summary + Drop> Core<D, M> {
     /// Its disk, which is all that is left of it.
     pub fn close(self) -> D
-        ensures { result ≡ self.disk }
+        ensures disk { Reads Done (⟦<Core<D, M> as HasState>⟧.state self).disk (D.view result) }
+        ensures moment { (D.view result).clock ≡ (⟦<Core<D, M> as HasState>⟧.state self).disk.clock }
     {
         self.disk
     }

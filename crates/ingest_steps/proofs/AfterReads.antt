@@ -1,5 +1,5 @@
 -- A container that is sealed after reads.
-use Rattle.std.proofs.Common.{◌≡◌, inl, inr, ℕ, List, Option, Some, Result, Ok, Err, OnOk, IfErr, IsErrAnd, refl, sym, ◌∙◌, ap, subst}
+use Rattle.std.proofs.Common.{◌≡◌, inl, inr, ℕ, List, Option, Some, Result, Ok, Err, OnOk, IfOk, IfErr, IsErrAnd, refl, sym, ◌∙◌, ap, subst}
 use Rattle.std.specs.List.{AllByRecursion}
 use Rattle.disk_format.specs.Layout.{slot_at}
 use Rattle.dd_disk.specs.View.{DiskView, IsLater, OnlyReads, SteppedFrom}
@@ -10,7 +10,8 @@ use Rattle.dd_disk.specs.Writes.{Both}
 use Rattle.dd_disk.proofs.Ended.{counts_on}
 use Rattle.dd_disk.proofs.Later.{later_on, leaves_on, reads_leave, reads_on}
 use Rattle.dd_disk.proofs.Moves.{stands_reads}
-use Rattle.dd_disk.proofs.Shows.{shown_content}
+use Rattle.dd_disk.proofs.Shows.{shown_content, until}
+use Rattle.container_meta.specs.declared.place.Place.{Place}
 use Rattle.container_meta.specs.Places.{PlaceMap}
 use Rattle.container_meta.specs.Segments.{Contents}
 use Rattle.refusals.specs.declared.refusal.Refusal.{Refusal}
@@ -21,11 +22,12 @@ use Rattle.store_model.specs.Image.{Store}
 use Rattle.store_model.specs.Slots.{IsIndexOf}
 use Rattle.store_model.specs.Standing.{IsIn, Stands}
 use Rattle.store_model.specs.Steps.{FitsHeld}
+use Rattle.store_state.specs.Comparing.{FitSoFar}
 use Rattle.store_state.specs.Indexing.{IsChangeRefusal}
 use Rattle.store_state.specs.Refused.{blames}
 use Rattle.store_state.specs.Settled.{IsSettled, KeepsWhatCounts, Left, Steps}
 use Rattle.store_state.specs.declared.tables.Tables.{Tables}
-use Rattle.ingest_steps.specs.Sealing.{FitBeside, KeepsHeld, SealsIndexed, SealsCompared, HasPlacesOf, IsSealRefusal, KeepsMap, sealing_indexed}
+use Rattle.ingest_steps.specs.Sealing.{FitBeside, KeepsHeld, SealsIndexed, SealsCompared, HasSealed, HasPlacesOf, WasCompared, IsSealRefusal, KeepsMap, sealing_indexed}
 use Rattle.ingest_steps.proofs.SlotFrame.{first_after, first_reads}
 use Rattle.ingest_steps.proofs.Sealed.{same_content, same_keeps}
 
@@ -54,6 +56,23 @@ map_kept (Err Memory) k l new same refused memory = memory refl ∙ same
 map_kept (Err DiskWrite) k l new same refused memory = tt
 map_kept (Err (Damaged at why)) k l new same refused memory = tt
 map_kept (Err refusal) k l new same refused memory = absurd refused
+
+-- and what was compared was so on the disk of before
+pub compared_and_sealed : (result : Result ℕ Refusal) (t new : Tables) (slot : ℕ) (filled : Contents) (size mid_size : ℕ) (known mid_known : Option PlaceMap) (compared : Type 0) → mid_size ≡ size
+    → mid_known ≡ known → compared → IfOk result (HasSealed t mid_size mid_known slot filled new) → IfOk result (λ id. HasSealed t size known slot filled new id × compared)
+compared_and_sealed (Ok id) t new slot filled size mid_size known mid_known compared same_size same_known has sealed = (
+  subst (λ (n : ℕ). HasSealed t n known slot filled new id) same_size
+      (subst (λ (k : Option PlaceMap). HasSealed t mid_size k slot filled new id) same_known sealed),
+  has,
+)
+compared_and_sealed (Err e) t new slot filled size mid_size known mid_known compared same_size same_known has sealed = tt
+
+pub was_compared : (size : ℕ) (known : Option PlaceMap) (old mid new : DiskView) (filled : Contents) (hads : List (Option Place)) → OnlyReads old mid → IsLater mid new
+    → FitSoFar size known (Shows old mid) filled.kind filled.segments hads → WasCompared size known (Shows old new) filled
+was_compared size known old mid new filled hads reads later fit = record {
+  hads = hads;
+  fit = record { had = fit.had; fit = until old mid new fit.fit reads.later.clock_is later };
+}
 
 -- ---- the disk
 

@@ -9,6 +9,7 @@ use Rattle.dd_disk.specs.View.{DiskView, CrashLeaves, SteppedFrom}
 use Rattle.dd_disk.specs.Ending.{Ending, Done, Refused, Unread, Broken}
 use Rattle.dd_disk.specs.Moves.{Way, one_step, Moves}
 use Rattle.container_meta.specs.declared.kind.Kind.{Kind}
+use Rattle.container_meta.specs.declared.place.Place.{Place}
 use Rattle.container_meta.specs.Places.{PlaceMap}
 use Rattle.container_meta.specs.Segments.{Segment, Contents, entries_from, segment_key}
 use Rattle.segment_index.specs.Places.{KnownMap}
@@ -22,6 +23,7 @@ use Rattle.store_model.specs.Slots.{newest, free_slots, first_free}
 use Rattle.store_model.specs.Standing.{ByteSet, IsIn, Stands}
 use Rattle.store_model.specs.Steps.{CanSeal, MaySeal, FitsHeld, KeepsCopies, with_sealed}
 use Rattle.store_model.specs.Trees.{HasNewest}
+use Rattle.store_state.specs.Comparing.{FitSoFar}
 use Rattle.store_state.specs.Settled.{IsSettled}
 use Rattle.store_state.specs.declared.tables.Tables.{Tables}
 use Rattle.store_state.specs.Tables.{Represents, Runs, OfEach}
@@ -136,6 +138,12 @@ pub record SealsCompared (t : Tables) (known : Option PlaceMap) (id : ℕ) (fill
       → Represents store known t → old.content ≡ Some given → new.content ≡ Some held → Stands (IsIn among) store files given
       → HasNoCollisions (IsIn among) → AllByRecursion (MaySeal (IsIn among) filled.kind) filled.segments
       → KeepsHeld ending id filled store given held
+
+-- Each segment was compared with the copy of its key that is held, on any disk: where the map is known it has these places,
+-- and reads showed that what lies there fits.
+pub record WasCompared (size : ℕ) (known : Option PlaceMap) (shown : (List ℕ → Type 0) → Type 0) (filled : Contents) : Type 0 where
+  pub hads : List (Option Place)
+  pub fit : FitSoFar size known shown filled.kind filled.segments hads
 
 -- why it is not sealed: no memory; a call of the disk failed; damage, where the map isn't known; or another copy is held
 abbrev pub IsSealRefusal : Option PlaceMap → (Refusal → Type 0) → Refusal → Type 0

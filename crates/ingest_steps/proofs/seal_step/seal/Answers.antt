@@ -57,7 +57,8 @@ returns-in-Ok-clause-ok g c =
       may = may;
       slot = c.in_ok-slot.slot;
       has = c.in_ok-slot.ensures.slot;
-      sealed = c.in-Ok.ensures.ok;
+      compared = c.in-Ok.ensures.ok.1;
+      sealed = c.in-Ok.ensures.ok.0;
       map = c.in-Ok.ensures.map;
       parts_are = c.in_ok-hads.ensures.ok may.pins may.writing;
     }
@@ -99,7 +100,7 @@ returns-in-Ok-clause-kept g c =
     let old = view c.args.disk.now in
     let may = subst (λ (p : Part). MayKeep p c.args.filled.now) c.part.ensures.part c.in_ok-may_keep.ensures.may in
     keeps_sealed old (view c.seal_compared.new.disk) (g.X.Index.places c.args.index.now old.content) c.args.tables.now c.args.parts.now c.pin_for.new.parts c.args.actor c.args.filled.now
-    c.in-Ok.id c.in-Ok.ensures.ok.number c.part.ensures.there c.requires.step may (c.in_ok-hads.ensures.ok may.pins may.writing) c.in-Ok.ensures.moves
+    c.in-Ok.id c.in-Ok.ensures.ok.0.number c.part.ensures.there c.requires.step may (c.in_ok-hads.ensures.ok may.pins may.writing) c.in-Ok.ensures.moves
 
 pub returns-in_err-may_keep-clause-moves : goal.returns-in_err-may_keep-clause-moves
 returns-in_err-may_keep-clause-moves g c =

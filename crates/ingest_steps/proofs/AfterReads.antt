@@ -1,16 +1,17 @@
 -- A container that is sealed after reads.
-use Rattle.std.proofs.Common.{◌≡◌, inl, inr, ℕ, List, Option, Some, Result, Ok, Err, OnOk, IfErr, refl, sym, ◌∙◌, ap, subst}
+use Rattle.std.proofs.Common.{◌≡◌, inl, inr, ℕ, List, Option, Some, Result, Ok, Err, OnOk, IfOk, IfErr, IsErrAnd, refl, sym, ◌∙◌, ap, subst}
 use Rattle.std.specs.List.{AllByRecursion}
 use Rattle.disk_format.specs.Layout.{slot_at}
-use Rattle.dd_disk.specs.View.{DiskView, SteppedFrom}
-use Rattle.dd_disk.specs.Ending.{Ending, Done, Refused, Unread, Broken, Reads}
-use Rattle.dd_disk.specs.Moves.{Arrives}
+use Rattle.dd_disk.specs.View.{DiskView, IsLater, OnlyReads, SteppedFrom}
+use Rattle.dd_disk.specs.Ending.{Ending, Blame, NoCall, ReadCall, WriteCall, Done, Refused, Unread, Broken, Reads, ending, ending_of}
+use Rattle.dd_disk.specs.Moves.{Arrives, StandsFor}
 use Rattle.dd_disk.specs.Shows.{Shows}
 use Rattle.dd_disk.specs.Writes.{Both}
 use Rattle.dd_disk.proofs.Ended.{counts_on}
 use Rattle.dd_disk.proofs.Later.{later_on, leaves_on, reads_leave, reads_on}
 use Rattle.dd_disk.proofs.Moves.{stands_reads}
-use Rattle.dd_disk.proofs.Shows.{shown_content}
+use Rattle.dd_disk.proofs.Shows.{shown_content, until}
+use Rattle.container_meta.specs.declared.place.Place.{Place}
 use Rattle.container_meta.specs.Places.{PlaceMap}
 use Rattle.container_meta.specs.Segments.{Contents}
 use Rattle.refusals.specs.declared.refusal.Refusal.{Refusal}
@@ -21,10 +22,14 @@ use Rattle.store_model.specs.Image.{Store}
 use Rattle.store_model.specs.Slots.{IsIndexOf}
 use Rattle.store_model.specs.Standing.{IsIn, Stands}
 use Rattle.store_model.specs.Steps.{FitsHeld}
+use Rattle.store_state.specs.Comparing.{FitSoFar}
 use Rattle.store_state.specs.Indexing.{IsChangeRefusal}
+use Rattle.store_state.specs.Refused.{blames}
 use Rattle.store_state.specs.Settled.{IsSettled, KeepsWhatCounts, Left, Steps}
 use Rattle.store_state.specs.declared.tables.Tables.{Tables}
-use Rattle.ingest_steps.specs.Sealing.{FitBeside, SealsIndexed, SealsCompared, HasPlacesOf, IsSealRefusal, KeepsMap, sealing_indexed}
+use Rattle.ingest_steps.specs.Sealing.{FitBeside, KeepsHeld, SealsIndexed, SealsCompared, HasSealed, HasPlacesOf, WasCompared, IsSealRefusal, KeepsMap, sealing_indexed}
+use Rattle.ingest_steps.proofs.SlotFrame.{first_after, first_reads}
+use Rattle.ingest_steps.proofs.Sealed.{same_content, same_keeps}
 
 -- ---- the map
 
@@ -51,6 +56,23 @@ map_kept (Err Memory) k l new same refused memory = memory refl ∙ same
 map_kept (Err DiskWrite) k l new same refused memory = tt
 map_kept (Err (Damaged at why)) k l new same refused memory = tt
 map_kept (Err refusal) k l new same refused memory = absurd refused
+
+-- and what was compared was so on the disk of before
+pub compared_and_sealed : (result : Result ℕ Refusal) (t new : Tables) (slot : ℕ) (filled : Contents) (size mid_size : ℕ) (known mid_known : Option PlaceMap) (compared : Type 0) → mid_size ≡ size
+    → mid_known ≡ known → compared → IfOk result (HasSealed t mid_size mid_known slot filled new) → IfOk result (λ id. HasSealed t size known slot filled new id × compared)
+compared_and_sealed (Ok id) t new slot filled size mid_size known mid_known compared same_size same_known has sealed = (
+  subst (λ (n : ℕ). HasSealed t n known slot filled new id) same_size
+      (subst (λ (k : Option PlaceMap). HasSealed t mid_size k slot filled new id) same_known sealed),
+  has,
+)
+compared_and_sealed (Err e) t new slot filled size mid_size known mid_known compared same_size same_known has sealed = tt
+
+pub was_compared : (size : ℕ) (known : Option PlaceMap) (old mid new : DiskView) (filled : Contents) (hads : List (Option Place)) → OnlyReads old mid → IsLater mid new
+    → FitSoFar size known (Shows old mid) filled.kind filled.segments hads → WasCompared size known (Shows old new) filled
+was_compared size known old mid new filled hads reads later fit = record {
+  hads = hads;
+  fit = record { had = fit.had; fit = until old mid new fit.fit reads.later.clock_is later };
+}
 
 -- ---- the disk
 
@@ -84,7 +106,7 @@ module _ (slots : ℕ) (old mid new : DiskView) (reads : Reads Done old mid) whe
 
 module _ (t : Tables) (known : Option PlaceMap) (id : ℕ) (filled : Contents) (e : Ending) (old mid new : DiskView) (reads : Reads Done old mid)
     (held : Shows old mid (λ image. (store : Store) (m : PlaceMap) → known ≡ Some m → IsIndexOf store.held m → AllByRecursion (FitsHeld filled.kind store image) filled.segments))
-    (seals : SealsIndexed t id filled e mid new) where
+    (later : IsLater mid new) (seals : SealsIndexed t id filled e mid new) where
   arrives_after : (S : List ℕ → Type 0) (store : Store) (files : Files) (x : Ending) → Arrives (sealing_indexed S id filled store files) x mid new → Arrives (sealing_indexed S id filled store files) x old new
   arrives_after S store files Done arrives = arrives
   arrives_after S store files Refused (inl only) = inl (reads_on old mid new reads.only only)
@@ -95,6 +117,7 @@ module _ (t : Tables) (known : Option PlaceMap) (id : ℕ) (filled : Contents) (
 
   pub seals_after : SealsCompared t known id filled e old new
   seals_after = record {
+    frame = first_after known t old mid new reads.only later (seals.frame known);
     moves = λ among store files map known_is is distinct may stands.
         let given = stands.known.0 in
         let content = stands.known.1 in
@@ -111,3 +134,34 @@ module _ (t : Tables) (known : Option PlaceMap) (id : ℕ) (filled : Contents) (
         seals.holds among store known files given now is (reads.only.content_is ∙ content) content_now stands may
         (inl (distinct, shown_content old mid _ given held content store map known_is (is.index_is_newest map known_is)));
   }
+
+-- ---- nothing but reads
+
+module _ (t : Tables) (known : Option PlaceMap) (id : ℕ) (filled : Contents) (old new : DiskView) (reads : OnlyReads old new) where
+  arrives_read : (S : List ℕ → Type 0) (store : Store) (files : Files) (b : Blame) → StandsFor (Stands S store files) old → Arrives (sealing_indexed S id filled store files) (ending_of b) old new
+  arrives_read S store files NoCall stands = inl reads
+  arrives_read S store files ReadCall stands = inl reads
+  arrives_read S store files WriteCall stands = record { known = stands_now.known; each = λ c image. inl (stands_now.each c image) }
+    where
+      stands_now : StandsFor (Stands S store files) new
+      stands_now = stands_reads (Stands S store files) old new stands reads
+
+  holds_read : (store : Store) (given held : List ℕ) (b : Blame) → old.content ≡ Some given → new.content ≡ Some held → KeepsHeld (ending_of b) id filled store given held
+  holds_read store given held NoCall content now = same_keeps store given held (same_content held given (sym now ∙ reads.content_is ∙ content))
+  holds_read store given held ReadCall content now = same_keeps store given held (same_content held given (sym now ∙ reads.content_is ∙ content))
+  holds_read store given held WriteCall content now = tt
+
+  seals_read : (b : Blame) → SealsCompared t known id filled (ending_of b) old new
+  seals_read b = record {
+    frame = first_reads known t old new reads;
+    moves = λ among store files map known_is is distinct may stands. record {
+      leaves = reads_leave (sealing_indexed (IsIn among) id filled store files).between old new (λ c image. inl (stands.each c image)) reads;
+      arrives = arrives_read (IsIn among) store files b stands;
+    };
+    holds = λ among store files map given held known_is is content now stands distinct may. holds_read store given held b content now;
+  }
+
+  -- whatever was refused
+  pub seals_refused_by : {T : Type 0} (result : Result T Refusal) (P : Refusal → Type 0) → IsErrAnd result P → SealsCompared t known id filled (ending blames result) old new
+  seals_refused_by (Ok x) P is = absurd is
+  seals_refused_by (Err e) P is = seals_read (blames e)

@@ -15,7 +15,6 @@ use Rattle.container_meta.specs.declared.kind.Kind.{Kind}
 use Rattle.container_meta.specs.Places.{PlaceMap}
 use Rattle.container_meta.specs.Segments.{Segment, Contents, segment_key}
 use Rattle.container_log.specs.Writing.{Seals, IsSealed}
-use Rattle.segment_index.specs.Changes.{SameBefore}
 use Rattle.store_model.specs.Files.{Files}
 use Rattle.store_model.specs.Image.{Store}
 use Rattle.store_model.specs.Slots.{HoldsContainer, newest, last_id, free_slots, first_free}
@@ -30,11 +29,12 @@ use Rattle.store_model.proofs.Sound.{sound_of_right}
 use Rattle.store_state.specs.declared.tables.Tables.{Tables}
 use Rattle.store_state.specs.Tables.{Represents, Runs}
 use Rattle.ingest_steps.specs.Sealing.{IsSlotFor, HasSlot, FitBeside, KeepsHeld, IsSlotOf, SealsContainer, SameButSlotOf, ChangesSlotAlone, sealing}
+use Rattle.ingest_steps.proofs.SlotFrame.{frame_of}
 
-same_content : (a b : List ℕ) → Some a ≡ Some b → a ≡ b
+pub same_content : (a b : List ℕ) → Some a ≡ Some b → a ≡ b
 same_content a b is = cc
 
-same_keeps : (store : Store) (given held : List ℕ) → held ≡ given → KeepsCopies store given store held
+pub same_keeps : (store : Store) (given held : List ℕ) → held ≡ given → KeepsCopies store given store held
 same_keeps store given held is = λ key level bytes has. subst (HasNewest store.held key level bytes) (sym is) has
 
 -- ---- in terms of the store
@@ -151,34 +151,23 @@ seals_container t slot id filled has next e old new writes = record {
 
 -- ---- the bytes
 
-same_slot : (slots slot : ℕ) (given d c : List ℕ) → SameBefore (slot_at slots) given d → SameOutside (slot_at slot) SLOT_BYTES d c → slot < slots → SameButSlotOf slots slot given c
-same_slot slots slot given d c settled same within = record {
-  size = same.size ∙ settled.size;
-  before = λ p n below. same.before p n below ∙ settled.before p n (omega (arith, below, within));
-  after = λ p n above below. same.after p n (omega (arith, above)) ∙ settled.before p n below;
-}
-
-same_here : (place : ℕ) (bytes : List ℕ) → SameBefore place bytes bytes
-same_here place bytes = record { size = refl; before = λ p n within. refl }
-
-same_settled : (slots slot : ℕ) (given c : List ℕ) → SameBefore (slot_at slots) given c → slot < slots → SameButSlotOf slots slot given c
-same_settled slots slot given c settled within = record {
-  size = settled.size;
-  before = λ p n below. settled.before p n (omega (arith, below, within));
-  after = λ p n above below. settled.before p n below;
-}
-
 module _ (slots slot id : ℕ) (filled : Contents) (within : slot < slots) where
-  stepped : (given d c : List ℕ) → SameBefore (slot_at slots) given d → Seals slot id filled.kind filled.segments given d c → SameButSlotOf slots slot given c
-  stepped given d c settled (inl is) = same_slot slots slot given d c settled is.0 within
-  stepped given d c settled (inr is) = same_slot slots slot given given c (same_here (slot_at slots) given) is.0 within
+  slot_alone : (d c : List ℕ) → SameOutside (slot_at slot) SLOT_BYTES d c → SameButSlotOf slots slot d c
+  slot_alone d c same = record {
+    size = same.size;
+    before = λ p n below. same.before p n below;
+    after = λ p n above below. same.after p n (omega (arith, above));
+  }
+
+  stepped : (old : DiskView) (given d c : List ℕ) → old.content ≡ Some given → old.images d → Seals slot id filled.kind filled.segments given d c
+      → SteppedFrom (SameButSlotOf slots slot) old c
+  stepped old given d c known image (inl is) = inr (d, image, slot_alone d c is.0)
+  stepped old given d c known image (inr is) = inr (given, old.as_read given known, slot_alone given c is.0)
 
   pub changes_slot : (e : Ending) (old new : DiskView) → Writes (Seals slot id filled.kind filled.segments) (IsSealed slot id filled.kind filled.segments) e old new
       → ChangesSlotAlone slots slot old new
-  changes_slot e old new writes settled given known =
-      let leaves = leaves_weaker (SteppedFrom (Seals slot id filled.kind filled.segments given) old) (SameButSlotOf slots slot given) old new (λ c from. elim from [
-        | inl same ↦ same_settled slots slot given c (settled given known c same) within
-        | inr step ↦ stepped given step.0 c (settled given known step.0 step.1) step.2
-      ]) (writes.steps given known) in
-      let now = writes.later.tells given known in
-      ((now.0, now.1, leaves.now now.0 (new.as_read now.0 now.1)), leaves)
+  changes_slot e old new writes = frame_of slots slot within old new writes.later (λ given known.
+      leaves_weaker (SteppedFrom (Seals slot id filled.kind filled.segments given) old) (SteppedFrom (SameButSlotOf slots slot) old) old new (λ c from. elim from [
+        | inl image ↦ inl image
+        | inr step ↦ stepped old given step.0 c known step.1 step.2
+      ]) (writes.steps given known))

@@ -7,7 +7,7 @@ use Rattle.std.proofs.lemmas.List.{length-map}
 use Rattle.std.proofs.lemmas.List.Sums.{sum_by-cons}
 use Rattle.disk_format.specs.declared.numbers.TheConstants.{RESERVE}
 use Rattle.disk_format.specs.Layout.{size_of, slot_at}
-use Rattle.dd_disk.specs.View.{DiskView, IsDurable, CrashLeaves, SteppedFrom}
+use Rattle.dd_disk.specs.View.{DiskView, IsDurable, IsLater, CrashLeaves, SteppedFrom}
 use Rattle.dd_disk.specs.Ending.{Ending, Blame, NoCall, ReadCall, WriteCall, Done, Refused, Unread, Broken, ending_of}
 use Rattle.dd_disk.specs.Writes.{Both}
 use Rattle.dd_disk.specs.Moves.{StandsFor, Acts, Arrives}
@@ -47,7 +47,8 @@ use Rattle.store_state.specs.declared.tables.Tables.{Tables}
 use Rattle.store_state.specs.Settled.{KeepsWhatCounts, Left, Steps}
 use Rattle.store_state.specs.Tables.{Represents, RepresentsSlots, Runs, count_of}
 use Rattle.store_state.proofs.Changed.{keeps}
-use Rattle.ingest_steps.specs.Sealing.{IsSlotOf, HasSlot, FitBeside, KeepsHeld, SealsContainer, SealsIndexed, HasSealed, places_with, sealing, sealing_indexed}
+use Rattle.ingest_steps.specs.Sealing.{IsSlotOf, HasSlot, FitBeside, KeepsHeld, SealsContainer, SealsIndexed, HasSealed, ChangesSlotAlone, places_with, sealing, sealing_indexed}
+use Rattle.ingest_steps.proofs.SlotFrame.{first_changed, first_on}
 
 -- ---- how much a container has
 
@@ -206,6 +207,7 @@ module _ (t : Tables) (id : ℕ) (filled : Contents) (b : Blame) (old new : Disk
 
   pub seals_refused : SealsIndexed t id filled (ending_of b) old new
   seals_refused = record {
+    frame = λ known. first_changed known t (ending_of b) old new changes;
     moves = λ among store known files given is content may fit stands. record {
       leaves = leaves_weaker (Stands (IsIn among) store files) (sealing_indexed (IsIn among) id filled store files).between old new (λ c has. inl has)
           (leaves_before store t.slots is.slots_are (IsIn among) files (ending_of b) old new changes stands);
@@ -217,7 +219,8 @@ module _ (t : Tables) (id : ℕ) (filled : Contents) (b : Blame) (old new : Disk
   }
 
 -- it was, and then the container was written
-module _ (t : Tables) (id : ℕ) (filled : Contents) (e : Ending) (old mid new : DiskView) (changes : Changes (slot_at t.slots) Done old mid) (seals : SealsContainer t id filled e mid new) where
+module _ (t : Tables) (id : ℕ) (filled : Contents) (e : Ending) (old mid new : DiskView) (changes : Changes (slot_at t.slots) Done old mid) (seals : SealsContainer t id filled e mid new)
+    (slot : ℕ) (has : HasSlot t slot) (later : IsLater mid new) (alone : ChangesSlotAlone t.slots slot mid new) where
   arrives_on : (S : List ℕ → Type 0) (store : Store) (files : Files) (x : Ending) → StandsFor (Stands S store files) mid → Arrives (sealing S id filled store files) x mid new
       → Arrives (sealing_indexed S id filled store files) x old new
   arrives_on S store files Done stands arrives = arrives
@@ -239,6 +242,7 @@ module _ (t : Tables) (id : ℕ) (filled : Contents) (e : Ending) (old mid new :
 
   pub seals_on : SealsIndexed t id filled e old new
   seals_on = record {
+    frame = λ known. first_on known t slot has old mid new changes later alone;
     moves = λ among store known files given is content may fit stands.
         let then = changes.later.tells given content in
         let same = same_then given then.0 content then.1 in

@@ -1,5 +1,5 @@
 -- When a segment is claimed, and what an actor keeps of it (docs/MODEL.md, 'Steps').
-use Rattle.std.specs.Prelude.{◌≡◌, ◌≢◌, ℕ, List, length, Option, Some, None}
+use Rattle.std.specs.Prelude.{◌≡◌, ℕ, List, length, Option, Some, None}
 use Rattle.std.specs.FinMap as finite
 use Rattle.sha2.specs.Sha256.{sha256}
 use Rattle.disk_format.specs.declared.why.Why.{Why}
@@ -9,7 +9,6 @@ use Rattle.container_meta.specs.Segments.{KindSegment, segment_key}
 use Rattle.segment_index.specs.Places.{KnownMap, IsPlace}
 use Rattle.actor_parts.specs.declared.part.Part.{Part}
 use Rattle.actor_parts.specs.declared.part.Part.TheVariants.{Writing}
-use Rattle.actor_parts.specs.Kinds.{kind_of}
 use Rattle.actor_parts.specs.Parts.{part_of, with_part}
 use Rattle.actor_parts.specs.PinMap.{PinMap}
 use Rattle.actor_parts.specs.Segments.{first_unpinned, pin_of}
@@ -25,6 +24,7 @@ use Rattle.store_state.specs.Comparing.{FitsBytes, IsUnlike, IsOneRefusal}
 use Rattle.store_state.specs.Invariant.{HoldsPart}
 use Rattle.ingest_steps.specs.declared.claiming.Claimed.{Claimed}
 use Rattle.ingest_steps.specs.declared.claiming.Claimed.TheVariants.{Held, Absent}
+use Rattle.ingest_steps.specs.Writers.{IsWrongPart}
 
 abbrev pub key_of_seg : KindSegment → List ℕ
 key_of_seg s = segment_key s.kind s.segment
@@ -37,7 +37,7 @@ pub record MayClaim (part : Part) (seg : KindSegment) : Type 0 where
 
 -- why it isn't so, in this order: the part, the first child that it doesn't keep
 abbrev pub IsUnclaimable : Part → KindSegment → Refusal → Type 0
-IsUnclaimable part seg (WrongPart kind) = (kind ≡ kind_of part) × (kind ≢ kinds.Writing)
+IsUnclaimable part seg (WrongPart kind) = IsWrongPart kinds.Writing part (WrongPart kind)
 IsUnclaimable part seg (Unpinned key) = (pins : PinMap) × (part ≡ Writing pins) × (first_unpinned seg pins ≡ Some key)
 IsUnclaimable part seg refusal = ⊥
 

@@ -1,17 +1,17 @@
 -- What an actor keeps of a container that it seals (docs/MODEL.md, 'Steps').
-use Rattle.std.specs.Prelude.{◌≡◌, ◌≢◌, ℕ, ◌<◌, List, [], ◌∷◌, length, take, get_or, Option, Some, None}
+use Rattle.std.specs.Prelude.{◌≡◌, ℕ, ◌<◌, List, [], ◌∷◌, length, take, get_or, Option, Some, None}
 use Rattle.std.specs.FinMap as finite
 use Rattle.container_meta.specs.declared.kind.Kind.{Kind}
 use Rattle.container_meta.specs.Segments.{Segment, Contents, segment_at, segment_key}
 use Rattle.actor_parts.specs.declared.part.Part.{Part}
 use Rattle.actor_parts.specs.declared.part.Part.TheVariants.{Writing}
 use Rattle.actor_parts.specs.declared.pins.Pin.{Pin}
-use Rattle.actor_parts.specs.Kinds.{kind_of}
 use Rattle.actor_parts.specs.PinMap.{PinMap}
 use Rattle.actor_parts.specs.Segments.{children_by, first_not_in, pin_by}
 use Rattle.refusals.specs.declared.refusal.PartKind.TheVariants as kinds
 use Rattle.refusals.specs.declared.refusal.Refusal.{Refusal}
 use Rattle.refusals.specs.declared.refusal.Refusal.TheVariants.{WrongPart, Unpinned}
+use Rattle.ingest_steps.specs.Writers.{IsWrongPart}
 
 -- ---- what has to be kept already
 
@@ -32,7 +32,7 @@ pub record MayKeep (part : Part) (filled : Contents) : Type 0 where
 
 -- why it isn't so, in this order: the part, the first child that it doesn't keep
 abbrev pub IsUnkept : Part → Contents → Refusal → Type 0
-IsUnkept part filled (WrongPart kind) = (kind ≡ kind_of part) × (kind ≢ kinds.Writing)
+IsUnkept part filled (WrongPart kind) = IsWrongPart kinds.Writing part (WrongPart kind)
 IsUnkept part filled (Unpinned key) =
     (pins : PinMap) × (part ≡ Writing pins) × (first_unpinned_of filled.kind filled.segments pins ≡ Some key)
 IsUnkept part filled refusal = ⊥

@@ -1,6 +1,7 @@
 -- When a container is sealed for an actor, and what that makes of the store and of the actor (docs/MODEL.md, 'Claims and seals').
 use Rattle.std.specs.Prelude.{◌≡◌, ℕ, List, Option, Some}
 use Rattle.dd_disk.specs.View.{DiskView}
+use Rattle.dd_disk.specs.Shows.{Shows}
 use Rattle.container_meta.specs.Places.{PlaceMap}
 use Rattle.container_meta.specs.Segments.{Contents}
 use Rattle.actor_parts.specs.declared.part.Part.{Part}
@@ -18,14 +19,16 @@ use Rattle.store_model.specs.Steps.{MaySeal, with_sealed}
 use Rattle.store_state.specs.Invariant.{HoldsPart}
 use Rattle.store_state.specs.Tables.{Represents}
 use Rattle.ingest_steps.specs.Pinning.{MayKeep, IsUnkept, with_pins}
-use Rattle.ingest_steps.specs.Sealing.{HasSlot, IsSlotRefusal, IsSealRefusal, HasSealed, HasPlacesOf}
+use Rattle.ingest_steps.specs.Sealing.{HasSlot, IsSlotRefusal, IsSealRefusal, HasSealed, HasPlacesOf, WasCompared}
 
--- The container stands in a slot that was free, its places are in the map, and the actor keeps its segments, too.
+-- The container was compared with what is held. It stands in a slot that was free, its places are in the map, and the actor
+-- keeps its segments, too.
 pub record IsSealedFor (old : Tables) (disk : DiskView) (known : Option PlaceMap) (parts : List Part) (actor : ℕ) (filled : Contents)
     (new : Tables) (disk_new : DiskView) (before after : Option (List ℕ) → Option PlaceMap) (parts_new : List Part) (id : ℕ) : Type 0 where
   pub may : MayKeep (part_of parts actor) filled
   pub slot : ℕ
   pub has : HasSlot old slot
+  pub compared : WasCompared disk.size known (Shows disk disk_new) filled
   pub sealed : HasSealed old disk.size known slot filled new id
   pub map : HasPlacesOf filled slot before after disk.content disk_new.content
   pub parts_are : parts_new ≡ with_part parts actor (Writing (with_pins filled.kind filled.segments may.pins))

@@ -5,10 +5,11 @@ use Rattle.base_model.specs.Bytes.{range}
 use Rattle.base_model.specs.Known.{Known, KnownWith}
 use Rattle.disk_format.specs.declared.numbers.TheConstants.{RESERVE, LAST_ID}
 use Rattle.disk_format.specs.Layout.{slot_at}
-use Rattle.dd_disk.specs.View.{DiskView, CrashLeaves}
+use Rattle.dd_disk.specs.View.{DiskView, CrashLeaves, SteppedFrom}
 use Rattle.dd_disk.specs.Ending.{Ending, Done, Refused, Unread, Broken}
 use Rattle.dd_disk.specs.Moves.{Way, one_step, Moves}
 use Rattle.container_meta.specs.declared.kind.Kind.{Kind}
+use Rattle.container_meta.specs.declared.place.Place.{Place}
 use Rattle.container_meta.specs.Places.{PlaceMap}
 use Rattle.container_meta.specs.Segments.{Segment, Contents, entries_from, segment_key}
 use Rattle.segment_index.specs.Places.{KnownMap}
@@ -22,6 +23,7 @@ use Rattle.store_model.specs.Slots.{newest, free_slots, first_free}
 use Rattle.store_model.specs.Standing.{ByteSet, IsIn, Stands}
 use Rattle.store_model.specs.Steps.{CanSeal, MaySeal, FitsHeld, KeepsCopies, with_sealed}
 use Rattle.store_model.specs.Trees.{HasNewest}
+use Rattle.store_state.specs.Comparing.{FitSoFar}
 use Rattle.store_state.specs.Settled.{IsSettled}
 use Rattle.store_state.specs.declared.tables.Tables.{Tables}
 use Rattle.store_state.specs.Tables.{Represents, Runs, OfEach}
@@ -48,6 +50,26 @@ abbrev pub IsSlotRefusal : Tables → ℕ → Option PlaceMap → Refusal → Ty
 IsSlotRefusal t size known (Full free) = OfEach size known t (λ store. (free ≡ free_slots store.held) × (free ≤ RESERVE))
 IsSlotRefusal t size known Numbers = OfEach size known t (λ store. RESERVE < free_slots store.held) × (LAST_ID ≤ t.held.last_id)
 IsSlotRefusal t size known refusal = ⊥
+
+-- ---- what becomes of the bytes
+
+-- the same bytes but those of a slot and those after all slots
+pub record SameButSlotOf (slots slot : ℕ) (old new : List ℕ) : Type 0 where
+  pub size : length new ≡ length old
+  pub before : (p n : ℕ) → p + n ≤ slot_at slot → range p n new ≡ range p n old
+  pub after : (p n : ℕ) → slot_at (slot + 1) ≤ p → p + n ≤ slot_at slots → range p n new ≡ range p n old
+
+-- Nothing changes but the slot, and what comes after all slots, whatever the disk holds.
+pub record ChangesSlotAlone (slots slot : ℕ) (old new : DiskView) : Type 0 where
+  -- At any moment a crash leaves an image from before, or one but for these.
+  pub leaves : Known old.content (λ given. CrashLeaves (SteppedFrom (SameButSlotOf slots slot) old) old new)
+  -- Of a disk that was settled reads give, and a crash leaves, what they gave, but for these.
+  pub settled : IsSettled slots old → Known old.content (λ given.
+      KnownWith new.content (SameButSlotOf slots slot given) × CrashLeaves (SameButSlotOf slots slot given) old new)
+
+-- the slot is the first free one of each store that the tables represent
+abbrev pub ChangesFirstFree : Option PlaceMap → Tables → DiskView → DiskView → Type 0
+ChangesFirstFree known t old new = OfEach old.size known t (λ store. ChangesSlotAlone t.slots (first_free store.held) old new)
 
 -- ---- what the disk stands for, on the way
 
@@ -95,6 +117,7 @@ sealing_indexed S id filled store files = record {
 }
 
 pub record SealsIndexed (t : Tables) (id : ℕ) (filled : Contents) (ending : Ending) (old new : DiskView) : Type 0 where
+  pub frame : (known : Option PlaceMap) → ChangesFirstFree known t old new
   pub moves : (among : ByteSet) (store : Store) (known : Option PlaceMap) (files : Files) (given : List ℕ)
       → Represents store known t → old.content ≡ Some given → AllByRecursion (MaySeal (IsIn among) filled.kind) filled.segments
       → FitBeside (IsIn among) filled.kind filled.segments store given
@@ -105,8 +128,9 @@ pub record SealsIndexed (t : Tables) (id : ℕ) (filled : Contents) (ending : En
       → FitBeside (IsIn among) filled.kind filled.segments store given → KeepsHeld ending id filled store given held
 
 -- A container that was compared is sealed: of each store that the tables represent and whose map the index is, where no two
--- data segments of S of one digest differ.
+-- data segments of S of one digest differ. What it leaves as it was it leaves so on any disk.
 pub record SealsCompared (t : Tables) (known : Option PlaceMap) (id : ℕ) (filled : Contents) (ending : Ending) (old new : DiskView) : Type 0 where
+  pub frame : ChangesFirstFree known t old new
   pub moves : (among : ByteSet) (store : Store) (files : Files) (map : PlaceMap) → known ≡ Some map → Represents store known t
       → HasNoCollisions (IsIn among) → AllByRecursion (MaySeal (IsIn among) filled.kind) filled.segments
       → Moves (sealing_indexed (IsIn among) id filled store files) ending old new
@@ -114,6 +138,12 @@ pub record SealsCompared (t : Tables) (known : Option PlaceMap) (id : ℕ) (fill
       → Represents store known t → old.content ≡ Some given → new.content ≡ Some held → Stands (IsIn among) store files given
       → HasNoCollisions (IsIn among) → AllByRecursion (MaySeal (IsIn among) filled.kind) filled.segments
       → KeepsHeld ending id filled store given held
+
+-- Each segment was compared with the copy of its key that is held, on any disk: where the map is known it has these places,
+-- and reads showed that what lies there fits.
+pub record WasCompared (size : ℕ) (known : Option PlaceMap) (shown : (List ℕ → Type 0) → Type 0) (filled : Contents) : Type 0 where
+  pub hads : List (Option Place)
+  pub fit : FitSoFar size known shown filled.kind filled.segments hads
 
 -- why it is not sealed: no memory; a call of the disk failed; damage, where the map isn't known; or another copy is held
 abbrev pub IsSealRefusal : Option PlaceMap → (Refusal → Type 0) → Refusal → Type 0
@@ -149,18 +179,3 @@ pub record HasSealed (old : Tables) (size : ℕ) (known : Option PlaceMap) (slot
   pub represents : OfEach size known old
       (λ store. Represents (with_sealed id filled.kind filled.segments store) (places_with filled slot known) new)
   pub runs : Runs size (places_with filled slot known) new
-
--- ---- what becomes of the bytes
-
--- the same bytes but those of a slot and those after all slots
-pub record SameButSlotOf (slots slot : ℕ) (old new : List ℕ) : Type 0 where
-  pub size : length new ≡ length old
-  pub before : (p n : ℕ) → p + n ≤ slot_at slot → range p n new ≡ range p n old
-  pub after : (p n : ℕ) → slot_at (slot + 1) ≤ p → p + n ≤ slot_at slots → range p n new ≡ range p n old
-
--- On a disk that was settled nothing changes but the slot, and what comes after all slots, in what reads give and in what a
--- crash leaves at any moment, whatever the disk holds.
-abbrev pub ChangesSlotAlone : ℕ → ℕ → DiskView → DiskView → Type 0
-ChangesSlotAlone slots slot old new =
-    IsSettled slots old
-    → Known old.content (λ given. KnownWith new.content (SameButSlotOf slots slot given) × CrashLeaves (SameButSlotOf slots slot given) old new)

@@ -8,7 +8,7 @@ ghost use Rattle.store_state.specs.Comparing.{IsFirstUnlike};
 ghost use Rattle.store_state.specs.Refused.{blames};
 ghost use Rattle.store_state.specs.Settled.{Steps};
 ghost use Rattle.store_state.specs.Tables.{Runs};
-ghost use Rattle.ingest_steps.specs.Sealing.{HasSlot, HasSealed, HasPlacesOf, SealsCompared, IsSealRefusal, KeepsMap, places_with};
+ghost use Rattle.ingest_steps.specs.Sealing.{HasSlot, HasSealed, HasPlacesOf, WasCompared, SealsCompared, IsSealRefusal, KeepsMap, places_with};
 
 use crate::sealing::seal_indexed;
 use actor_parts::SegBuf;
@@ -38,8 +38,10 @@ pub fn seal_compared<D: Disk, X: Index>(
     requires state { Runs (D.view disk.old).size (X.places index.old (D.view disk.old).content) tables.old }
     requires slot { HasSlot tables.old slot }
     requires there { 1 ≤ length filled.now.segments }
-    ensures ok { IfOk result (HasSealed tables.old (D.view disk.old).size (X.places index.old
-        (D.view disk.old).content) slot filled.now tables.new) }
+    ensures ok { IfOk result (λ id. HasSealed tables.old (D.view disk.old).size (X.places index.old
+        (D.view disk.old).content) slot filled.now tables.new id
+        × WasCompared (D.view disk.old).size (X.places index.old (D.view disk.old).content)
+        (Shows (D.view disk.old) (D.view disk.new)) filled.now) }
     ensures map { OnOk result (HasPlacesOf filled.now slot (X.places index.old) (X.places index.new)
         (D.view disk.old).content (D.view disk.new).content) }
     ensures refused { IfErr result (IsSealRefusal (X.places index.old (D.view disk.old).content)

@@ -37,7 +37,7 @@ use Rattle.ingest_steps.specs.declared.claiming.Claimed.{Claimed}
 use Rattle.ingest_steps.specs.declared.claiming.Claimed.TheVariants.{Held, Absent}
 use Rattle.ingest_steps.specs.Claiming.{IsClaimed, IsClaimRefusal, IsOtherCopy, KeepsPart}
 use Rattle.ingest_steps.specs.Pinning.{MayKeep, with_pins}
-use Rattle.ingest_steps.specs.Sealing.{SealsCompared}
+use Rattle.ingest_steps.specs.Sealing.{SealsCompared, WasCompared}
 use Rattle.ingest_steps.specs.SealStep.{IsStepRefusal, KeepsSealed}
 use Rattle.store_state.specs.Comparing.{IsFirstUnlike}
 use Rattle.ingest_steps.specs.Writers.{MayCommit, IsWrongPart, IsCommitRefusal}
@@ -81,9 +81,10 @@ IsUnclaimed seg actor refusal old new =
 abbrev pub next_id : CoreState → ℕ
 next_id c = c.tables.held.last_id + 1
 
--- the container stands, and its segments are pinned from now on
+-- the container was compared with what is held, and stands, and its segments are pinned from now on
 pub record IsSealed (filled : Contents) (id actor : ℕ) (old new : CoreState) : Type 0 where
   pub may : MayKeep (part_of old.parts actor) filled
+  pub compared : WasCompared old.disk.size old.known (Shows old.disk new.disk) filled
   pub id_is : id ≡ next_id old
   pub parts_are : Gets (Writing (with_pins filled.kind filled.segments may.pins)) actor old new
   pub kept : KeepsSealed old.disk new.disk old.known old.tables old.parts actor filled new.parts id
@@ -212,7 +213,8 @@ pub record Rests (answer : Result Answer Refusal) (old new : CoreState) : Type 0
   pub disk : Reads (ending blames answer) old.disk new.disk
   pub tables : KeepsTables old new
 
--- A container is stored, or isn't. After a write that failed only the disk's images are told.
+-- A container is stored, or isn't; nothing changes but its slot and what lies after all slots (`moves.frame`). After a write
+-- that failed only the disk's images are told.
 pub record SealsOne (filled : Contents) (answer : Result Answer Refusal) (old new : CoreState) : Type 0 where
   pub disk : settled.Steps old.tables.slots (ending blames answer) old.disk new.disk
   pub moves : SealsCompared old.tables old.known (next_id old) filled (ending blames answer) old.disk new.disk

@@ -6,8 +6,8 @@ use Rattle.refusals.specs.declared.refusal.Refusal.{Refusal}
 use Rattle.store_state.specs.Comparing.{IsFirstUnlike}
 use Rattle.store_state.specs.Indexing.{IsChangeRefusal}
 use Rattle.store_state.specs.Refused.{blames}
-use Rattle.ingest_steps.specs.Sealing.{IsSealRefusal, HasPlacesOf}
-use Rattle.ingest_steps.proofs.AfterReads.{map_on_ok, has_places_before, change_refused, map_kept, steps_after, seals_after}
+use Rattle.ingest_steps.specs.Sealing.{IsSealRefusal, HasPlacesOf, WasCompared}
+use Rattle.ingest_steps.proofs.AfterReads.{compared_and_sealed, was_compared, map_on_ok, has_places_before, change_refused, map_kept, steps_after, seals_after, seals_refused_by}
 use Rattle.ingest_steps.proofs.comparing_seal.seal_compared.Goals as goal
 
 pub returns-clause-map : goal.returns-clause-map
@@ -49,4 +49,37 @@ returns-clause-moves g c =
     let view = g.D.Disk.view in
     let old = view c.args.disk.now in
     seals_after c.args.tables.now (g.X.Index.places c.args.index.now old.content) (c.args.tables.now.held.last_id + 1) c.args.filled.now (ending blames c.seal_indexed.result)
-    old (view c.compare_all.new.disk) (view c.seal_indexed.new.disk) c.in_ok-before.ensures.reads c.in_ok-before.ensures.held c.seal_indexed.ensures.moves
+    old (view c.compare_all.new.disk) (view c.seal_indexed.new.disk) c.in_ok-before.ensures.reads c.in_ok-before.ensures.held c.seal_indexed.ensures.disk.later c.seal_indexed.ensures.moves
+
+pub returns-in_err-before-clause-moves : goal.returns-in_err-before-clause-moves
+returns-in_err-before-clause-moves g c =
+    let view = g.D.Disk.view in
+    let old = view c.args.disk.now in
+    let new = view c.compare_all.new.disk in
+    let t = c.args.tables.now in
+    let known = g.X.Index.places c.args.index.now old.content in
+    seals_refused_by t known (t.held.last_id + 1) c.args.filled.now old new c.in_err-before.ensures.reads.only c.from_residual.result _ c.from_residual.ensures.1
+
+pub returns-in_err-image-clause-moves : goal.returns-in_err-image-clause-moves
+returns-in_err-image-clause-moves g c =
+    let view = g.D.Disk.view in
+    let old = view c.args.disk.now in
+    let new = view c.compare_all.new.disk in
+    let t = c.args.tables.now in
+    let known = g.X.Index.places c.args.index.now old.content in
+    seals_refused_by t known (t.held.last_id + 1) c.args.filled.now old new c.in_ok-before.ensures.reads.only c.from_residual-in_err-image.result _ c.from_residual-in_err-image.ensures.1
+
+pub returns-clause-ok : goal.returns-clause-ok
+returns-clause-ok g c =
+    let view = g.D.Disk.view in
+    let places = g.X.Index.places in
+    let old = view c.args.disk.now in
+    let mid = view c.compare_all.new.disk in
+    let new = view c.seal_indexed.new.disk in
+    let known = places c.args.index.now old.content in
+    let filled = c.args.filled.now in
+    let reads = c.in_ok-before.ensures.reads.only in
+    compared_and_sealed c.seal_indexed.result c.args.tables.now c.seal_indexed.new.tables c.args.slot filled old.size mid.size known (places c.compare_all.new.index mid.content)
+    (WasCompared old.size known (Shows old new) filled) reads.later.size_is c.in_ok-before.ensures.map
+    (was_compared old.size known old mid new filled c.in_ok-before.before.items reads c.seal_indexed.ensures.disk.later c.in_ok-before.ensures.fit)
+    c.seal_indexed.ensures.ok

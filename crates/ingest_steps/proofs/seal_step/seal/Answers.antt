@@ -1,6 +1,7 @@
-use Rattle.std.proofs.Common.{◌≡◌, List, ap, sym, subst, ◌∙◌}
+use Rattle.std.proofs.Common.{◌≡◌, ◌+◌, List, ap, sym, subst, ◌∙◌}
 use Rattle.base_model.proofs.Outcome.{passed_on}
 use Rattle.dd_disk.specs.Shows.{Shows}
+use Rattle.dd_disk.proofs.Later.{reads_here}
 use Rattle.dd_disk.proofs.Moves.{passed}
 use Rattle.actor_parts.specs.declared.part.Part.{Part}
 use Rattle.actor_parts.specs.declared.part.Part.TheVariants.{Writing}
@@ -12,6 +13,7 @@ use Rattle.store_state.specs.Refused.{blames}
 use Rattle.store_state.specs.Settled.{Steps}
 use Rattle.ingest_steps.specs.Pinning.{MayKeep, IsUnkept, WereHad, with_pins}
 use Rattle.ingest_steps.specs.SealStep.{IsStepRefusal}
+use Rattle.ingest_steps.proofs.AfterReads.{seals_refused_by}
 use Rattle.ingest_steps.proofs.SealedPins.{keeps_sealed}
 use Rattle.ingest_steps.proofs.StepRefusals.{of_unkept, of_slot, slot_blames, steps_here}
 use Rattle.ingest_steps.proofs.seal_step.seal.Goals as goal
@@ -55,7 +57,8 @@ returns-in-Ok-clause-ok g c =
       may = may;
       slot = c.in_ok-slot.slot;
       has = c.in_ok-slot.ensures.slot;
-      sealed = c.in-Ok.ensures.ok;
+      compared = c.in-Ok.ensures.ok.1;
+      sealed = c.in-Ok.ensures.ok.0;
       map = c.in-Ok.ensures.map;
       parts_are = c.in_ok-hads.ensures.ok may.pins may.writing;
     }
@@ -97,4 +100,25 @@ returns-in-Ok-clause-kept g c =
     let old = view c.args.disk.now in
     let may = subst (λ (p : Part). MayKeep p c.args.filled.now) c.part.ensures.part c.in_ok-may_keep.ensures.may in
     keeps_sealed old (view c.seal_compared.new.disk) (g.X.Index.places c.args.index.now old.content) c.args.tables.now c.args.parts.now c.pin_for.new.parts c.args.actor c.args.filled.now
-    c.in-Ok.id c.in-Ok.ensures.ok.number c.part.ensures.there c.requires.step may (c.in_ok-hads.ensures.ok may.pins may.writing) c.in-Ok.ensures.moves
+    c.in-Ok.id c.in-Ok.ensures.ok.0.number c.part.ensures.there c.requires.step may (c.in_ok-hads.ensures.ok may.pins may.writing) c.in-Ok.ensures.moves
+
+pub returns-in_err-may_keep-clause-moves : goal.returns-in_err-may_keep-clause-moves
+returns-in_err-may_keep-clause-moves g c =
+    let v = g.D.Disk.view c.args.disk.now in
+    let t = c.args.tables.now in
+    let known = g.X.Index.places c.args.index.now v.content in
+    seals_refused_by t known (t.held.last_id + 1) c.args.filled.now v v (reads_here v) c.from_residual.result _ c.from_residual.ensures.1
+
+pub returns-in_err-slot-clause-moves : goal.returns-in_err-slot-clause-moves
+returns-in_err-slot-clause-moves g c =
+    let v = g.D.Disk.view c.args.disk.now in
+    let t = c.args.tables.now in
+    let known = g.X.Index.places c.args.index.now v.content in
+    seals_refused_by t known (t.held.last_id + 1) c.args.filled.now v v (reads_here v) c.from_residual-in_err-slot.result _ c.from_residual-in_err-slot.ensures.1
+
+pub returns-in_err-hads-clause-moves : goal.returns-in_err-hads-clause-moves
+returns-in_err-hads-clause-moves g c =
+    let v = g.D.Disk.view c.args.disk.now in
+    let t = c.args.tables.now in
+    let known = g.X.Index.places c.args.index.now v.content in
+    seals_refused_by t known (t.held.last_id + 1) c.args.filled.now v v (reads_here v) c.from_residual-in_err-hads.result _ c.from_residual-in_err-hads.ensures.1

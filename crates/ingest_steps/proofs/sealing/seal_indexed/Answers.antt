@@ -75,7 +75,8 @@ returns-in_err-seal_container-clause-moves g c =
     let changes = c.in_ok-put_entries.ensures.changes t.slots (slots_on_disk old.size (g.X.Index.places c.args.index.now old.content) t c.requires.state) in
     passed (λ x. SealsIndexed t id c.args.filled.now x old new) blames c.from_residual-in_err-seal_container.result e c.from_residual-in_err-seal_container.ensures.1
     (seals_on t id c.args.filled.now (ending_of (blames e)) old mid new changes
-    (subst (λ (i : ℕ). SealsContainer t i c.args.filled.now (ending_of (blames e)) mid new) c.next_id-id.ensures.next c.in_err-seal_container.ensures.moves))
+    (subst (λ (i : ℕ). SealsContainer t i c.args.filled.now (ending_of (blames e)) mid new) c.next_id-id.ensures.next c.in_err-seal_container.ensures.moves)
+    c.args.slot c.requires.slot c.in_err-seal_container.ensures.disk.later c.in_err-seal_container.ensures.frame)
 
 pub returns-clause-map : goal.returns-clause-map
 returns-clause-map g c =
@@ -114,3 +115,4 @@ returns-clause-moves g c =
     let changes = c.in_ok-put_entries.ensures.changes t.slots (slots_on_disk old.size (g.X.Index.places c.args.index.now old.content) t c.requires.state) in
     seals_on t (t.held.last_id + 1) c.args.filled.now Done old mid new changes
     (subst (λ (i : ℕ). SealsContainer t i c.args.filled.now Done mid new) c.next_id-id.ensures.next c.in_ok-seal_container.ensures.moves)
+    c.args.slot c.requires.slot c.in_ok-seal_container.ensures.disk.later c.in_ok-seal_container.ensures.frame

@@ -42,7 +42,7 @@ use Rattle.store_state.specs.Comparing.{FitsBytes, FitsHad}
 use Rattle.store_state.specs.Invariant.{ArePinsOf, HoldsPart}
 use Rattle.ingest_steps.specs.declared.claiming.Claimed.{Claimed}
 use Rattle.ingest_steps.specs.declared.claiming.Claimed.TheVariants.{Held, Absent}
-use Rattle.ingest_steps.specs.Claiming.{MayClaim, IsUnclaimable, IsClaimRefusal, WasHeld, IsLookedUp, IsClaimed, KeepsPart, key_of_seg}
+use Rattle.ingest_steps.specs.Claiming.{MayClaim, MayNotClaim, IsClaimRefusal, WasHeld, IsLookedUp, IsClaimed, KeepsPart, key_of_seg}
 use Rattle.ingest_steps.proofs.Pinned.{all_pinned, pins_with, pin_right}
 
 -- ---- the newest copy of a segment that is held
@@ -171,7 +171,7 @@ module _ (parts new : List Part) (actor : ℕ) (seg : KindSegment) (key : List �
 
 -- ---- refusals
 
-pub of_part : (part : Part) (seg : KindSegment) (damaged : ℕ → Why → Type 0) (other : Refusal → Type 0) (refusal : Refusal) → IsUnclaimable part seg refusal
+pub of_part : (part : Part) (seg : KindSegment) (damaged : ℕ → Why → Type 0) (other : Refusal → Type 0) (refusal : Refusal) → MayNotClaim part seg refusal
     → IsClaimRefusal part seg damaged other refusal
 of_part part seg damaged other (WrongPart kind) has = has
 of_part part seg damaged other (Unpinned key) has = has

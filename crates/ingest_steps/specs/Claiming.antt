@@ -36,10 +36,10 @@ pub record MayClaim (part : Part) (seg : KindSegment) : Type 0 where
   pub pinned : first_unpinned seg pins ≡ None
 
 -- why it isn't so, in this order: the part, the first child that it doesn't keep
-abbrev pub IsUnclaimable : Part → KindSegment → Refusal → Type 0
-IsUnclaimable part seg (WrongPart kind) = IsWrongPart kinds.Writing part (WrongPart kind)
-IsUnclaimable part seg (Unpinned key) = (pins : PinMap) × (part ≡ Writing pins) × (first_unpinned seg pins ≡ Some key)
-IsUnclaimable part seg refusal = ⊥
+abbrev pub MayNotClaim : Part → KindSegment → Refusal → Type 0
+MayNotClaim part seg (WrongPart kind) = IsWrongPart kinds.Writing part (WrongPart kind)
+MayNotClaim part seg (Unpinned key) = (pins : PinMap) × (part ≡ Writing pins) × (first_unpinned seg pins ≡ Some key)
+MayNotClaim part seg refusal = ⊥
 
 -- The segment is held: its key has a place, where a copy lies that is as long, and, of a node, has the same bytes.
 pub record WasHeld (size : ℕ) (known : Option PlaceMap) (seg : KindSegment) (shown : (List ℕ → Type 0) → Type 0) : Type 0 where
@@ -55,14 +55,14 @@ IsLookedUp size known seg shown Held = WasHeld size known seg shown
 IsLookedUp size known seg shown Absent = KnownMap known (λ m. finite.get m (key_of_seg seg) ≡ None)
 
 -- the copy of the segment's key isn't the same
-abbrev pub IsOtherCopy : ℕ → Option PlaceMap → KindSegment → ((List ℕ → Type 0) → Type 0) → Refusal → Type 0
-IsOtherCopy size known seg shown = IsUnlike size known shown seg.kind (sha256 seg.segment.bytes) seg.segment.bytes
+abbrev pub DiffersFrom : ℕ → Option PlaceMap → KindSegment → ((List ℕ → Type 0) → Type 0) → Refusal → Type 0
+DiffersFrom size known seg shown = IsUnlike size known shown seg.kind (sha256 seg.segment.bytes) seg.segment.bytes
 
 -- Why a claim is refused. Want of memory is free, and a failed read is told by the count of faults.
 abbrev pub IsClaimRefusal : Part → KindSegment → (ℕ → Why → Type 0) → (Refusal → Type 0) → Refusal → Type 0
 IsClaimRefusal part seg damaged other Memory = Unit {0}
-IsClaimRefusal part seg damaged other (WrongPart kind) = IsUnclaimable part seg (WrongPart kind)
-IsClaimRefusal part seg damaged other (Unpinned key) = IsUnclaimable part seg (Unpinned key)
+IsClaimRefusal part seg damaged other (WrongPart kind) = MayNotClaim part seg (WrongPart kind)
+IsClaimRefusal part seg damaged other (Unpinned key) = MayNotClaim part seg (Unpinned key)
 IsClaimRefusal part seg damaged other refusal = MayClaim part seg × IsOneRefusal damaged other refusal
 
 -- the parts once a segment is claimed: where it is held the actor keeps it, too
@@ -80,7 +80,8 @@ pub record IsClaimed (size : ℕ) (known : Option PlaceMap) (parts : List Part) 
 -- the segment's digest is the segment.
 abbrev pub KeepsPart : Option (List ℕ) → Option PlaceMap → List Part → ℕ → KindSegment → List Part → Type 0
 KeepsPart content known parts actor seg new =
-    (among : ByteSet) (store : Store) (files : Files) (image : List ℕ) (places : PlaceMap) → content ≡ Some image → known ≡ Some places
+    (among : ByteSet) (store : Store) (files : Files) (image : List ℕ) (places : PlaceMap)
+    → content ≡ Some image → known ≡ Some places
     → IsIndexOf store.held places → Stands (IsIn among) store files image → HasNoCollisions (IsIn among)
     → IsAmong (IsIn among) seg.kind seg.segment.bytes → HoldsPart store.held image (part_of parts actor)
     → HoldsPart store.held image (part_of new actor)

@@ -24,7 +24,8 @@ use Rattle.ingest_steps.specs.Sealing.{HasSlot, IsSlotRefusal, IsSealRefusal, Ha
 -- The container was compared with what is held. It stands in a slot that was free, its places are in the map, and the actor
 -- keeps its segments, too.
 pub record IsSealedFor (old : Tables) (disk : DiskView) (known : Option PlaceMap) (parts : List Part) (actor : ℕ) (filled : Contents)
-    (new : Tables) (disk_new : DiskView) (before after : Option (List ℕ) → Option PlaceMap) (parts_new : List Part) (id : ℕ) : Type 0 where
+    (new : Tables) (disk_new : DiskView) (before after : Option (List ℕ) → Option PlaceMap) (parts_new : List Part) (id : ℕ)
+    : Type 0 where
   pub may : MayKeep (part_of parts actor) filled
   pub slot : ℕ
   pub has : HasSlot old slot
@@ -45,9 +46,11 @@ IsStepRefusal part t size known filled unlike refusal =
 
 -- What the actor keeps is right still, and closed, where a content stood for files and the map was that of its store; no data
 -- of S differs under one digest.
-abbrev pub KeepsSealed : DiskView → DiskView → Option PlaceMap → Tables → List Part → ℕ → Contents → List Part → ℕ → Type 0
+abbrev pub KeepsSealed : DiskView → DiskView → Option PlaceMap → Tables → List Part → ℕ → Contents → List Part → ℕ
+    → Type 0
 KeepsSealed old new known t parts actor filled parts_new id =
-    (among : ByteSet) (store : Store) (files : Files) (map : PlaceMap) (given held : List ℕ) → known ≡ Some map → Represents store known t
-    → old.content ≡ Some given → new.content ≡ Some held → Stands (IsIn among) store files given → HasNoCollisions (IsIn among)
+    (among : ByteSet) (store : Store) (files : Files) (map : PlaceMap) (given held : List ℕ)
+    → known ≡ Some map → Represents store known t → old.content ≡ Some given → new.content ≡ Some held
+    → Stands (IsIn among) store files given → HasNoCollisions (IsIn among)
     → AllByRecursion (MaySeal (IsIn among) filled.kind) filled.segments → HoldsPart store.held given (part_of parts actor)
     → HoldsPart (with_sealed id filled.kind filled.segments store).held held (part_of parts_new actor)

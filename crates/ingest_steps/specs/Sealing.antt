@@ -90,8 +90,8 @@ FitBeside S kind segments store image =
 abbrev pub KeepsHeld : Ending → ℕ → Contents → Store → List ℕ → List ℕ → Type 0
 KeepsHeld Done id filled store given new =
     KeepsCopies store given (with_sealed id filled.kind filled.segments store) new
-    × AllByRecursion (λ s. HasNewest (with_sealed id filled.kind filled.segments store).held (segment_key filled.kind s) s.level s.bytes new)
-    filled.segments
+    × AllByRecursion (λ s.
+    HasNewest (with_sealed id filled.kind filled.segments store).held (segment_key filled.kind s) s.level s.bytes new) filled.segments
 KeepsHeld Refused id filled store given new = KeepsCopies store given store new
 KeepsHeld Unread id filled store given new = KeepsCopies store given store new
 KeepsHeld Broken id filled store given new = Unit {0}
@@ -101,7 +101,8 @@ pub record SealsContainer (t : Tables) (id : ℕ) (filled : Contents) (ending : 
   -- where its segments may be sealed, beside what the content holds
   pub moves : (among : ByteSet) (store : Store) (known : Option PlaceMap) (files : Files) (given : List ℕ)
       → Represents store known t → old.content ≡ Some given → AllByRecursion (MaySeal (IsIn among) filled.kind) filled.segments
-      → FitBeside (IsIn among) filled.kind filled.segments store given → Moves (sealing (IsIn among) id filled store files) ending old new
+      → FitBeside (IsIn among) filled.kind filled.segments store given
+      → Moves (sealing (IsIn among) id filled store files) ending old new
   pub holds : (among : ByteSet) (store : Store) (known : Option PlaceMap) (files : Files) (given held : List ℕ)
       → Represents store known t → old.content ≡ Some given → new.content ≡ Some held → Stands (IsIn among) store files given
       → AllByRecursion (MaySeal (IsIn among) filled.kind) filled.segments
@@ -129,7 +130,8 @@ pub record SealsIndexed (t : Tables) (id : ℕ) (filled : Contents) (ending : En
 
 -- A container that was compared is sealed: of each store that the tables represent and whose map the index is, where no two
 -- data segments of S of one digest differ. What it leaves as it was it leaves so on any disk.
-pub record SealsCompared (t : Tables) (known : Option PlaceMap) (id : ℕ) (filled : Contents) (ending : Ending) (old new : DiskView) : Type 0 where
+pub record SealsCompared (t : Tables) (known : Option PlaceMap) (id : ℕ) (filled : Contents) (ending : Ending) (old new : DiskView)
+    : Type 0 where
   pub frame : ChangesFirstFree known t old new
   pub moves : (among : ByteSet) (store : Store) (files : Files) (map : PlaceMap) → known ≡ Some map → Represents store known t
       → HasNoCollisions (IsIn among) → AllByRecursion (MaySeal (IsIn among) filled.kind) filled.segments
@@ -173,7 +175,8 @@ pub record HasPlacesOf (filled : Contents) (slot : ℕ) (before after : Option (
 
 -- The tables are those of before with a container more, under the next id: of each store that they and the map of the index
 -- were those of, they are those of the store with it.
-pub record HasSealed (old : Tables) (size : ℕ) (known : Option PlaceMap) (slot : ℕ) (filled : Contents) (new : Tables) (id : ℕ) : Type 0 where
+pub record HasSealed (old : Tables) (size : ℕ) (known : Option PlaceMap) (slot : ℕ) (filled : Contents) (new : Tables) (id : ℕ)
+    : Type 0 where
   pub number : id ≡ old.held.last_id + 1
   pub can : OfEach size known old (CanSeal id filled.kind filled.segments)
   pub represents : OfEach size known old

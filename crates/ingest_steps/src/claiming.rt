@@ -12,7 +12,7 @@ ghost use Rattle.refusals.specs.declared.refusal.PartKind.TheVariants as kinds;
 ghost use Rattle.refusals.specs.declared.refusal.Refusal.TheVariants.{Memory};
 ghost use Rattle.store_state.specs.Comparing.{IsOneRefusal};
 ghost use Rattle.store_state.specs.Refused.{blames};
-ghost use Rattle.ingest_steps.specs.Claiming.{MayClaim, IsUnclaimable, IsLookedUp, IsOtherCopy, IsClaimRefusal, IsClaimed, KeepsPart};
+ghost use Rattle.ingest_steps.specs.Claiming.{MayClaim, MayNotClaim, IsLookedUp, DiffersFrom, IsClaimRefusal, IsClaimed, KeepsPart};
 
 use actor_parts::{Actor, Part, Parts, Pin, SegBuf, first_unpinned, pin_of};
 use container_meta::{Key, Seg};
@@ -34,7 +34,7 @@ pub enum Claimed {
 fn may_claim(part: &Part, seg: &Seg) -> Result<(), Refusal>
     requires { IsStepSegment seg.now }
     ensures may { OnOk result (MayClaim part.now seg.now) }
-    ensures refused { IfErr result (IsUnclaimable part.now seg.now) }
+    ensures refused { IfErr result (MayNotClaim part.now seg.now) }
 {
     match part {
         Part::Writing(pins) => match first_unpinned(seg, pins) {
@@ -58,7 +58,7 @@ fn look_up<D: Disk, X: Index>(
     ensures refused { IfErr result (IsOneRefusal
         (λ at why. (X.places index.old (D.view disk.old).content ≡ None)
         × Shows (D.view disk.old) (D.view disk.new) (X.breaks index.old at why))
-        (IsOtherCopy (D.view disk.old).size (X.places index.old (D.view disk.old).content) seg.now
+        (DiffersFrom (D.view disk.old).size (X.places index.old (D.view disk.old).content) seg.now
         (Shows (D.view disk.old) (D.view disk.new)))) }
     ensures map { X.places index.new (D.view disk.new).content ≡ X.places index.old (D.view disk.old).content }
     ensures reads { Reads (ending blames result) (D.view disk.old) (D.view disk.new) }
@@ -119,7 +119,7 @@ pub fn claim<D: Disk, X: Index>(
     ensures refused { IfErr result (IsClaimRefusal (part_of parts.old actor) seg.now
         (λ at why. (X.places index.old (D.view disk.old).content ≡ None)
         × Shows (D.view disk.old) (D.view disk.new) (X.breaks index.old at why))
-        (IsOtherCopy (D.view disk.old).size (X.places index.old (D.view disk.old).content) seg.now
+        (DiffersFrom (D.view disk.old).size (X.places index.old (D.view disk.old).content) seg.now
         (Shows (D.view disk.old) (D.view disk.new)))) }
     ensures unchanged { OnErr result (parts.new ≡ parts.old) }
     ensures map { X.places index.new (D.view disk.new).content ≡ X.places index.old (D.view disk.old).content }

@@ -35,7 +35,7 @@ use Rattle.store_state.specs.Tables.{Represents, Runs, OfEach}
 use Rattle.ingest_steps.specs.Naming.{PutsRoot, ChangesNextAlone}
 use Rattle.ingest_steps.specs.declared.claiming.Claimed.{Claimed}
 use Rattle.ingest_steps.specs.declared.claiming.Claimed.TheVariants.{Held, Absent}
-use Rattle.ingest_steps.specs.Claiming.{IsClaimed, IsClaimRefusal, IsOtherCopy, KeepsPart}
+use Rattle.ingest_steps.specs.Claiming.{IsClaimed, IsClaimRefusal, DiffersFrom, KeepsPart}
 use Rattle.ingest_steps.specs.Pinning.{MayKeep, with_pins}
 use Rattle.ingest_steps.specs.Sealing.{SealsCompared, WasCompared}
 use Rattle.ingest_steps.specs.SealStep.{IsStepRefusal, KeepsSealed}
@@ -74,7 +74,8 @@ IsDamage old new at why = (old.known ≡ None) × Shows old.disk new.disk (old.b
 
 abbrev pub IsUnclaimed : KindSegment → ℕ → Refusal → CoreState → CoreState → Type 0
 IsUnclaimed seg actor refusal old new =
-    IsClaimRefusal (part_of old.parts actor) seg (IsDamage old new) (IsOtherCopy old.disk.size old.known seg (Shows old.disk new.disk)) refusal
+    IsClaimRefusal (part_of old.parts actor) seg (IsDamage old new)
+    (DiffersFrom old.disk.size old.known seg (Shows old.disk new.disk)) refusal
 
 -- ---- a container that is stored
 

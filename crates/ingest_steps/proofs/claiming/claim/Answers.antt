@@ -5,7 +5,7 @@ use Rattle.base_model.proofs.Outcome.{passed_on}
 use Rattle.dd_disk.specs.Shows.{Shows}
 use Rattle.actor_parts.specs.declared.part.Part.{Part}
 use Rattle.actor_parts.specs.Parts.{part_of}
-use Rattle.ingest_steps.specs.Claiming.{MayClaim, IsUnclaimable, IsClaimRefusal, IsOtherCopy}
+use Rattle.ingest_steps.specs.Claiming.{MayClaim, MayNotClaim, IsClaimRefusal, DiffersFrom}
 use Rattle.ingest_steps.proofs.HeldPins.{of_part, pin_held, is_claimed, keeps_claimed}
 use Rattle.ingest_steps.proofs.claiming.claim.Goals as goal
 
@@ -16,9 +16,9 @@ returns-in_err-may_claim-clause-refused g c =
     let old = g.D.Disk.view c.args.disk.now in
     let known = g.X.Index.places c.args.index.now old.content in
     let damaged : ℕ → Why → Type 0 = λ at why. (known ≡ None) × Shows old old (g.X.Index.breaks c.args.index.now at why) in
-    let other : Refusal → Type 0 = IsOtherCopy old.size known c.args.seg.now (Shows old old) in
+    let other : Refusal → Type 0 = DiffersFrom old.size known c.args.seg.now (Shows old old) in
     passed_on c.from_residual.result (IsClaimRefusal part c.args.seg.now damaged other) e c.from_residual.ensures.1
-    (of_part part c.args.seg.now damaged other e (subst (λ (p : Part). IsUnclaimable p c.args.seg.now e) c.part.ensures.part c.in_err-may_claim.ensures.refused))
+    (of_part part c.args.seg.now damaged other e (subst (λ (p : Part). MayNotClaim p c.args.seg.now e) c.part.ensures.part c.in_err-may_claim.ensures.refused))
 
 pub add_pin-requires-clause-pin : goal.add_pin-requires-clause-pin
 add_pin-requires-clause-pin g c =

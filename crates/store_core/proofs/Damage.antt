@@ -131,9 +131,11 @@ module _ (among : ByteSet) (s : Store) (stored : Stored) (old new : CoreState) (
   by_byte : (kind : Kind) (offered key : List ℕ) (place mine other : ℕ) → Unlike kind offered (refusals.Clash key (Byte place mine other)) → IsTwin kind offered
   by_byte kinds.Leaf offered key place mine other u = absurd (let leaf = u.refused.0 in cc)
   by_byte kinds.Tree offered key place mine other u =
-      let first = (shown_content old.disk new.disk _ image u.refused.2.1 here).1 in
-      (refl, twin offered (refusals.Clash key (Byte place mine other)) u
-      (λ same. first.differ (first.offered_is ∙ ap (λ (b : List ℕ). get_or b place 0) (sym same) ∙ sym first.held_is)))
+      let first = (shown_content old.disk new.disk _ image u.refused.2.1 here).1 in (
+        refl,
+        twin offered (refusals.Clash key (Byte place mine other)) u
+            (λ same. first.differ (first.offered_is ∙ ap (λ (b : List ℕ). get_or b place 0) (sym same) ∙ sym first.held_is)),
+      )
 
   no_corrupt : (kind : Kind) (offered : List ℕ) (slot offset count : ℕ) (want got : List ℕ) → Unlike kind offered (refusals.Corrupt slot offset count want got) → ⊥
   no_corrupt kind offered slot offset count want got u =
@@ -141,8 +143,8 @@ module _ (among : ByteSet) (s : Store) (stored : Stored) (old new : CoreState) (
       let found = f.5 in
       let read = shown_content old.disk new.disk _ image found.there here in
       let same : bytes_at u.place image ≡ found.bytes = subst (λ (n : ℕ). bytes_at (record u.place { slot = n }) image ≡ found.bytes) f.0
-          (subst (λ (n : ℕ). bytes_at (record u.place { slot = slot; offset = n }) image ≡ found.bytes) f.1
-          (subst (λ (n : ℕ). bytes_at (record u.place { slot = slot; offset = offset; length = n }) image ≡ found.bytes) f.2 read)) in
+      (subst (λ (n : ℕ). bytes_at (record u.place { slot = slot; offset = n }) image ≡ found.bytes) f.1
+      (subst (λ (n : ℕ). bytes_at (record u.place { slot = slot; offset = offset; length = n }) image ≡ found.bytes) f.2 read)) in
       f.4 (f.3 ∙ sym (digest_is kind offered (refusals.Corrupt slot offset count want got) u) ∙ ap sha256 same ∙ found.digest_is)
 
   unlike : (kind : Kind) (offered : List ℕ) (refusal : Refusal) → IsAmong (IsIn among) kind offered → Unlike kind offered refusal → IsHarmless (IsTwin kind offered) refusal

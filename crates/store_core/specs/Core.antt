@@ -74,7 +74,8 @@ IsDamage old new at why = (old.known ≡ None) × Shows old.disk new.disk (old.b
 
 abbrev pub IsUnclaimed : KindSegment → ℕ → Refusal → CoreState → CoreState → Type 0
 IsUnclaimed seg actor refusal old new =
-    IsClaimRefusal (part_of old.parts actor) seg (IsDamage old new) (IsOtherCopy old.disk.size old.known seg (Shows old.disk new.disk)) refusal
+    IsClaimRefusal (part_of old.parts actor) seg (IsDamage old new)
+    (IsOtherCopy old.disk.size old.known seg (Shows old.disk new.disk)) refusal
 
 -- ---- a container that is stored
 

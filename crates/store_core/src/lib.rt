@@ -4,6 +4,7 @@
 mod laws;
 mod opening;
 mod running;
+mod solo;
 mod state;
 mod stop;
 
@@ -12,5 +13,6 @@ pub use laws::{
     a_reader_checks_what_it_gives, a_reader_is_given_its_file,
 };
 pub use running::Core;
+pub use solo::Solo;
 pub use state::HasState;
 pub use stop::Stop;

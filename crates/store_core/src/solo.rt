@@ -1,5 +1,5 @@
 //! A core whose only caller is one actor.
-ghost use Rattle.std.specs.Prelude.{◌≡◌, ◌<◌, ℕ, get_or, length};
+ghost use Rattle.std.specs.Prelude.{◌≡◌, ◌<◌, ℕ, get_or};
 ghost use Rattle.actor_parts.specs.Counts.{Counts, is_refused_by, is_end};
 ghost use Rattle.refusals.specs.Numbers.{number_of};
 ghost use Rattle.store_core.specs.Core.{CoreStep};

@@ -1,6 +1,7 @@
 pub mod CheckedReads
 pub mod Committing
 pub mod Crashes
+pub mod Damage
 pub mod GivingFiles
 pub mod KeepingFiles
 pub mod Making

@@ -17,7 +17,7 @@ use Rattle.actor_parts.specs.Parts.{part_of, with_part}
 use Rattle.refusals.specs.declared.refusal.Refusal.{Refusal}
 use Rattle.refusals.specs.declared.refusal.Refusal.TheVariants as refusals
 use Rattle.read_steps.specs.Readers as readers
-use Rattle.read_steps.specs.Walking.{IsIndexed, SegmentsAhead}
+use Rattle.read_steps.specs.Walking.{IsIndexed, SegmentsAhead, IsHeldAnswer}
 use Rattle.store_model.specs.Commands.{HasNoCollisions}
 use Rattle.store_model.specs.Files.{Files}
 use Rattle.store_model.specs.Image.{Store, names_of}
@@ -119,6 +119,15 @@ module _ (among : ByteSet) (store : Store) (files : Files) (image : List ℕ) (p
       own_one (readers.reading row.next.goes_on.root row.next.rest) row.next.goes_on.parts_are
       (record { trees = []; ahead = record { tops = row.next.given.1; each = tt }; are_held = tt })
 
+  -- why a read is refused on its way, where what is to come is held
+  pub stuck_held : (refusal : Refusal) → IsNotGiven refusal buf actor old new → readers.IsStuck old.known old.breaks old.disk new.disk actor old.parts new.parts refusal
+      → (rest : List Top) × ((segments : List (List ℕ)) × IsHeldAnswer store.held image rest segments buf (Err refusal))
+  stuck_held refusal row cause =
+      let before = cause.goes_on in
+      let rest = ahead_is before.root cause.was before.part_is in
+      let held = row.held before.root cause.was store.held image (segments_in rest.trees) before.part_is indexed (some_ahead before.root cause.was rest) in
+      (held.rest, (segments_in rest.trees, held.given))
+
   own_stuck : (refusal : Refusal) → IsNotGiven refusal buf actor old new → Own
   own_stuck (refusals.WrongPart kind) row = own_same row.cause.same
   own_stuck refusals.DiskRead row =
@@ -126,10 +135,7 @@ module _ (among : ByteSet) (store : Store) (files : Files) (image : List ℕ) (p
       let rest = ahead_is before.root row.cause.was before.part_is in
       let held = row.held before.root row.cause.was store.held image (segments_in rest.trees) before.part_is indexed (some_ahead before.root row.cause.was rest) in
       own_one (readers.reading held.goes_on.root held.rest) held.goes_on.parts_are (reads_on held.goes_on.root held.rest (segments_in rest.trees) held.given)
-  own_stuck refusal row =
-      let before = row.cause.goes_on in
-      let rest = ahead_is before.root row.cause.was before.part_is in
-      absurd (row.held before.root row.cause.was store.held image (segments_in rest.trees) before.part_is indexed (some_ahead before.root row.cause.was rest)).given
+  own_stuck refusal row = absurd (stuck_held refusal row row.cause).1.1
 
   pub own_read : (answer : Result Answer Refusal) → ReadRow actor answer buf old new → Own
   own_read (Ok (answers.Bytes count)) row = own_given count row

@@ -73,7 +73,8 @@ stored_after (f ∷ fs) stored = stored_after fs (stored_by f stored)
 -- a root is that of a file, whose tree each image holds
 pub record IsRootOf (root : Root) (bytes : List ℕ) (old : CoreState) : Type 0 where
   pub root_is : root ≡ root_of bytes
-  pub tree : (store : Store) → Represents store old.known old.tables → StandsFor (λ c. HoldsTree store.held c (file_tree bytes)) old.disk
+  pub tree : (store : Store) → Represents store old.known old.tables
+      → StandsFor (λ c. HoldsTree store.held c (file_tree bytes)) old.disk
 
 -- of a commit that comes to its first write
 abbrev pub IsRightCommit : Result Answer Refusal → Root → List ℕ → CoreState → Type 0
@@ -142,7 +143,8 @@ stored_tried step answer bytes stored = stored_with step answer bytes stored
 abbrev pub IsOnTheWay : (List ℕ → Type 0) → List FileEvent → Stored → List ℕ → Type 0
 IsOnTheWay S [] stored image = IsOf S stored image
 IsOnTheWay S (f ∷ fs) stored image =
-    IsOf S stored image ⊎ IsOf S (stored_tried f.event.step f.event.answer f.bytes stored) image ⊎ IsOnTheWay S fs (stored_by f stored) image
+    IsOf S stored image ⊎ IsOf S (stored_tried f.event.step f.event.answer f.bytes stored) image
+    ⊎ IsOnTheWay S fs (stored_by f stored) image
 
 -- Each image since the first step is one on the way.
 abbrev pub SurvivesCrashes : (C : Type 0) → (C → CoreState) → Type 0
@@ -184,7 +186,8 @@ ReadsAlone actor events = AllByRecursion (λ e. e.actor ≡ actor → IsReadNext
 
 -- what one read of the actor gives of these segments, and then the others
 abbrev pub GivesOne : Bool → Result Answer Refusal → List ℕ → List (List ℕ) → (List (List ℕ) → Type 0) → Type 0
-GivesOne true (Ok (answers.Bytes count)) buf segments next = (rest : List (List ℕ)) × ((segments ≡ take count buf ∷ rest) × next rest)
+GivesOne true (Ok (answers.Bytes count)) buf segments next =
+    (rest : List (List ℕ)) × ((segments ≡ take count buf ∷ rest) × next rest)
 GivesOne true (Ok answers.End) buf segments next = (segments ≡ []) × next segments
 GivesOne true (Err refusals.DiskRead) buf segments next = next segments
 GivesOne true answer buf segments next = ⊥
@@ -250,5 +253,6 @@ ReadsAreChecked C state = (actor : ℕ) (name : List ℕ) (count : ℕ) (buf : L
 
 abbrev pub EndsAreWhole : (C : Type 0) → (C → CoreState) → Type 0
 EndsAreWhole C state = (names : NameMap) (name : List ℕ) (actor count : ℕ) (events : List Event) (buf : List ℕ) (new last : C)
-    → GivesByTree names name actor count events (state new) → (state new).stop ≡ None → CoreStep (state new) (ends actor buf) (state last)
+    → GivesByTree names name actor count events (state new) → (state new).stop ≡ None
+    → CoreStep (state new) (ends actor buf) (state last)
     → sum_by length (given_to actor events) ≡ count

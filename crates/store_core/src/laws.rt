@@ -1,5 +1,6 @@
 //! Laws of steps of a core, one after the other (docs/MODEL.md, 'The core').
 ghost use Rattle.store_core.specs.Runs.{RunsOn, KeepsFiles, GivesTheFile, ReadsAreChecked, EndsAreWhole, SurvivesCrashes, KeepsAcknowledged, EndsWithAll};
+ghost use Rattle.store_core.specs.Sound.{NeverDamaged, FindsFiles};
 
 use crate::state::HasState;
 
@@ -32,4 +33,11 @@ pub fn a_core_survives_crashes<C: HasState>()
     ensures since { SurvivesCrashes C C.state }
     ensures acknowledged { KeepsAcknowledged C C.state }
     ensures end { EndsWithAll C C.state }
+{}
+
+/// No step of a run finds damage or misses a segment, and data never clashes; a name is found exactly where it has a file. The
+/// function does nothing.
+pub fn a_core_finds_no_damage<C: HasState>()
+    ensures harmless { NeverDamaged C C.state }
+    ensures names { FindsFiles C C.state }
 {}

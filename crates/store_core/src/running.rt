@@ -54,6 +54,15 @@ impl<D: Disk, M: Summary> HasState for Core<D, M> {
     ghost there = { λ c. M.there c.summary };
 
     ghost banks = { λ c. M.banks c.summary };
+
+    fn make_step(
+        &mut self,
+        actor: Actor,
+        step: Step<'_>,
+        buf: &mut SegBuf,
+    ) -> Result<Answer, Refusal> {
+        self.step(actor, step, buf)
+    }
 }
 
 // What stops the core: a write or a sync that failed, and damage that a seal met in the index.

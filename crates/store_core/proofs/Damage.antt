@@ -1,0 +1,309 @@
+-- No step of a run finds damage, and names are found as they are.
+use Rattle.std.proofs.Common.{◌≡◌, ◌≢◌, ◌<◌, ℕ, zero, suc, List, [], ◌∷◌, length, get_or, Option, Some, None, option_map, Result, Ok, Err, IfErr, refl, sym, ◌∙◌, ap, subst, arith}
+use Rattle.std.specs.FinMap as finite
+use Rattle.std.specs.List.{AllByRecursion}
+use Rattle.sha2.specs.Sha256.{sha256}
+use Rattle.base_model.specs.Bytes.{key_of}
+use Rattle.dd_disk.specs.Shows.{Shows}
+use Rattle.dd_disk.proofs.Shows.{shown_content}
+use Rattle.container_meta.specs.declared.kind.Kind.{Kind}
+use Rattle.container_meta.specs.declared.kind.Kind.TheVariants as kinds
+use Rattle.container_meta.specs.declared.place.Place.{Place}
+use Rattle.container_meta.specs.Format.{kind_byte}
+use Rattle.container_meta.specs.Segments.{Segment, KindSegment, Contents, segment_at}
+use Rattle.disk_format.specs.Cells.{Root}
+use Rattle.merkle_file.specs.declared.top.Top.{Top}
+use Rattle.namespace.specs.Names.{NameMap}
+use Rattle.namespace.specs.declared.record.Named.{Named}
+use Rattle.actor_parts.specs.declared.step.Answer.{Answer}
+use Rattle.actor_parts.specs.declared.step.Answer.TheVariants as answers
+use Rattle.actor_parts.specs.StepValue as asked
+use Rattle.actor_parts.specs.StepValue.{StepValue}
+use Rattle.refusals.specs.declared.refusal.PartKind.{PartKind}
+use Rattle.refusals.specs.declared.refusal.PartKind.TheVariants as part
+use Rattle.refusals.specs.declared.refusal.Difference.TheVariants.{Length, Byte}
+use Rattle.refusals.specs.declared.refusal.Refusal.{Refusal}
+use Rattle.refusals.specs.declared.refusal.Refusal.TheVariants as refusals
+use Rattle.store_model.specs.Commands.{HasNoCollisions}
+use Rattle.store_model.specs.Files.{Files}
+use Rattle.store_model.specs.Image.{Store, names_of}
+use Rattle.store_model.specs.Slots.{Copy, newest}
+use Rattle.store_model.specs.Standing.{ByteSet, IsIn, IsAmong, IsFileOf, Stands}
+use Rattle.store_model.specs.Trees.{bytes_at, root_of}
+use Rattle.store_model.proofs.Copies.{copy_digest}
+use Rattle.store_model.proofs.HeldSlots.{newest_so, IsNodeEntry, nodes_so, IsAmongThese, among_so}
+use Rattle.store_model.proofs.Roots.{length_of_copy}
+use Rattle.store_state.specs.Comparing.{IsUnlike}
+use Rattle.read_steps.specs.Readers.{IsStuck}
+use Rattle.read_steps.specs.Walking.{IsHeldAnswer}
+use Rattle.store_core.specs.declared.stop.Stop.{Stop}
+use Rattle.store_core.specs.Core.{Row, ClaimRow, SealRow, CommitRow, OpenRow, ReadRow, EndRow, IsAtOther, IsNotGiven, StepsOr}
+use Rattle.store_core.specs.Runs.{FileEvent, FileStep, FileRun, IsAt, IsGivenRight, Stored, stored_after}
+use Rattle.store_core.specs.Sound.{HasTwin, IsTwin, MayClash, IsHarmless, NeverDamaged, FindsFile, FindsFiles}
+use Rattle.store_core.specs.State.{CoreState}
+use Rattle.store_core.proofs.KeepingFiles.{keeps_files}
+use Rattle.store_core.proofs.OwnParts.{stuck_held}
+
+some_one : {A : Type 0} (x y : A) → Some x ≡ Some y → x ≡ y
+some_one x y same = cc
+
+-- the copy whose place the index has
+pub record HasCopy (found : Option Copy) (place : Place) : Type 0 where
+  pub copy : Copy
+  pub found_is : found ≡ Some copy
+  pub place_is : copy.place ≡ place
+
+copy_placed : (found : Option Copy) (place : Place) → option_map (λ c. c.place) found ≡ Some place → HasCopy found place
+copy_placed None place is = absurd cc
+copy_placed (Some copy) place is = record { copy = copy; found_is = refl; place_is = some_one copy.place place is }
+
+all_at : (P : Segment → Type 0) (segments : List Segment) (number : ℕ) → number < length segments → AllByRecursion P segments → P (segment_at segments number)
+all_at P [] number within all = absurd (omega (arith, within))
+all_at P (s ∷ ss) zero within all = all.0
+all_at P (s ∷ ss) (suc number) within all = all_at P ss number (omega (arith, within)) all.1
+
+module _ (among : ByteSet) (s : Store) (stored : Stored) (old new : CoreState) (distinct : HasNoCollisions (IsIn among)) (at : IsAt (IsIn among) s stored old) where
+  abbrev image : List ℕ
+  image = at.stands.known.0
+
+  abbrev here : old.disk.content ≡ Some image
+  here = at.stands.known.1
+
+  abbrev stands_here : Stands (IsIn among) s stored.files image
+  stands_here = at.stands.each image (old.disk.as_read image here)
+
+  map_known : old.known ≡ None → ⊥
+  map_known none = let both = sym none ∙ at.index_known in cc
+
+  -- ---- a segment beside the copy of its key
+
+  module _ (kind : Kind) (offered : List ℕ) where
+    abbrev Unlike : Refusal → Type 0
+    Unlike refusal = IsUnlike old.disk.size old.known (Shows old.disk new.disk) kind (sha256 offered) offered refusal
+
+    had : (refusal : Refusal) (u : Unlike refusal) → HasCopy (newest 0 s.held (key_of (kind_byte kind) (sha256 offered))) u.place
+    had refusal u =
+        copy_placed (newest 0 s.held (key_of (kind_byte kind) (sha256 offered))) u.place
+        (sym (at.represents.index_is_newest at.index at.index_known (key_of (kind_byte kind) (sha256 offered))) ∙ u.there at.index at.index_known)
+
+    -- its bytes have the digest
+    digest_is : (refusal : Refusal) (u : Unlike refusal) → sha256 (bytes_at u.place image) ≡ sha256 offered
+    digest_is refusal u =
+        let c = had refusal u in
+        subst (λ (place : Place). sha256 (bytes_at place image) ≡ sha256 offered) c.place_is
+        (copy_digest s.held (kind_byte kind) (sha256 offered) image c.copy stands_here.holds.copies c.found_is)
+
+    -- and there are as many as the place says
+    long : (refusal : Refusal) (u : Unlike refusal) → length (bytes_at u.place image) ≡ u.place.length
+    long refusal u =
+        let c = had refusal u in
+        subst (λ (place : Place). length (bytes_at place image) ≡ place.length) c.place_is
+        (length_of_copy s image (key_of (kind_byte kind) (sha256 offered)) c.copy stands_here.holds.right c.found_is)
+
+  -- data of the digest is the same
+  same_data : (offered : List ℕ) (refusal : Refusal) (u : Unlike kinds.Leaf offered refusal) → IsIn among offered → bytes_at u.place image ≡ offered
+  same_data offered refusal u is =
+      let c = had kinds.Leaf offered refusal u in
+      let so = (newest_so (IsAmongThese (IsIn among)) s.held kinds.Leaf (sha256 offered) image c.copy (among_so (IsIn among) 0 s.held image stands_here.among) c.found_is).so in
+      distinct (bytes_at u.place image) offered (subst (λ (place : Place). IsIn among (bytes_at place image)) c.place_is so) is (digest_is kinds.Leaf offered refusal u)
+
+  -- of a tree it is a node
+  twin : (offered : List ℕ) (refusal : Refusal) (u : Unlike kinds.Tree offered refusal) → bytes_at u.place image ≢ offered → HasTwin offered
+  twin offered refusal u differ =
+      let c = had kinds.Tree offered refusal u in
+      let so = newest_so IsNodeEntry s.held kinds.Tree (sha256 offered) image c.copy (nodes_so 0 s.held image stands_here.holds.nodes) c.found_is in
+      record {
+        other = bytes_at u.place image;
+        level = so.entry.level;
+        node = subst (λ (place : Place). IsNodeEntry kinds.Tree so.entry (bytes_at place image)) c.place_is so.so;
+        digest = digest_is kinds.Tree offered refusal u;
+        differ = differ;
+      }
+
+  by_length : (kind : Kind) (offered key : List ℕ) (mine other : ℕ) → IsAmong (IsIn among) kind offered → Unlike kind offered (refusals.Clash key (Length mine other)) → IsTwin kind offered
+  by_length kinds.Leaf offered key mine other is u =
+      let r = refusals.Clash key (Length mine other) in
+      absurd (u.refused.3 (u.refused.1 ∙ ap length (sym (same_data offered r u is)) ∙ long kinds.Leaf offered r u ∙ sym u.refused.2))
+  by_length kinds.Tree offered key mine other is u =
+      let r = refusals.Clash key (Length mine other) in
+      (refl, twin offered r u (λ same. u.refused.3 (u.refused.1 ∙ ap length (sym same) ∙ long kinds.Tree offered r u ∙ sym u.refused.2)))
+
+  by_byte : (kind : Kind) (offered key : List ℕ) (place mine other : ℕ) → Unlike kind offered (refusals.Clash key (Byte place mine other)) → IsTwin kind offered
+  by_byte kinds.Leaf offered key place mine other u = absurd (let leaf = u.refused.0 in cc)
+  by_byte kinds.Tree offered key place mine other u =
+      let first = (shown_content old.disk new.disk _ image u.refused.2.1 here).1 in (
+        refl,
+        twin offered (refusals.Clash key (Byte place mine other)) u
+            (λ same. first.differ (first.offered_is ∙ ap (λ (b : List ℕ). get_or b place 0) (sym same) ∙ sym first.held_is)),
+      )
+
+  no_corrupt : (kind : Kind) (offered : List ℕ) (slot offset count : ℕ) (want got : List ℕ) → Unlike kind offered (refusals.Corrupt slot offset count want got) → ⊥
+  no_corrupt kind offered slot offset count want got u =
+      let f = u.refused.2 in
+      let found = f.5 in
+      let read = shown_content old.disk new.disk _ image found.there here in
+      let same : bytes_at u.place image ≡ found.bytes = subst (λ (n : ℕ). bytes_at (record u.place { slot = n }) image ≡ found.bytes) f.0
+      (subst (λ (n : ℕ). bytes_at (record u.place { slot = slot; offset = n }) image ≡ found.bytes) f.1
+      (subst (λ (n : ℕ). bytes_at (record u.place { slot = slot; offset = offset; length = n }) image ≡ found.bytes) f.2 read)) in
+      f.4 (f.3 ∙ sym (digest_is kind offered (refusals.Corrupt slot offset count want got) u) ∙ ap sha256 same ∙ found.digest_is)
+
+  unlike : (kind : Kind) (offered : List ℕ) (refusal : Refusal) → IsAmong (IsIn among) kind offered → Unlike kind offered refusal → IsHarmless (IsTwin kind offered) refusal
+  unlike kind offered (refusals.Clash key (Length mine other)) is u = by_length kind offered key mine other is u
+  unlike kind offered (refusals.Clash key (Byte place mine other)) is u = by_byte kind offered key place mine other u
+  unlike kind offered (refusals.Corrupt slot offset count want got) is u = no_corrupt kind offered slot offset count want got u
+  unlike kind offered (refusals.Missing key) is u = absurd u.refused.2
+  unlike kind offered (refusals.Damaged at_byte why) is u = absurd u.refused.2
+  unlike kind offered refusal is u = tt
+
+  -- ---- each step
+
+  module _ (actor : ℕ) (buf bytes : List ℕ) where
+    claim_harmless : (seg : KindSegment) (refusal : Refusal) → IsAmong (IsIn among) seg.kind seg.segment.bytes → ClaimRow seg actor (Err refusal) old new → IsHarmless (IsTwin seg.kind seg.segment.bytes) refusal
+    claim_harmless seg (refusals.Clash key d) is row = unlike seg.kind seg.segment.bytes (refusals.Clash key d) is row.0.1
+    claim_harmless seg (refusals.Corrupt slot offset count want got) is row = unlike seg.kind seg.segment.bytes (refusals.Corrupt slot offset count want got) is row.0.1
+    claim_harmless seg (refusals.Missing key) is row = unlike seg.kind seg.segment.bytes (refusals.Missing key) is row.0.1
+    claim_harmless seg (refusals.Damaged at_byte why) is row = map_known row.0.1.0
+    claim_harmless seg refusal is row = tt
+
+    seal_harmless : (filled : Contents) (refusal : Refusal) → AllByRecursion (λ s. IsAmong (IsIn among) filled.kind s.bytes) filled.segments → SealRow filled actor (Err refusal) old new
+        → IsHarmless (MayClash (asked.Seal filled)) refusal
+    seal_harmless filled (refusals.Clash key d) all row =
+        let first = row.0.2 in
+        record {
+          number = first.number;
+          within = first.within;
+          is_twin = unlike filled.kind (segment_at filled.segments first.number).bytes (refusals.Clash key d) (all_at (λ s. IsAmong (IsIn among) filled.kind s.bytes) filled.segments first.number first.within all) first.unlike;
+        }
+    seal_harmless filled (refusals.Corrupt slot offset count want got) all row =
+        let first = row.0.2 in
+        unlike filled.kind (segment_at filled.segments first.number).bytes (refusals.Corrupt slot offset count want got)
+        (all_at (λ s. IsAmong (IsIn among) filled.kind s.bytes) filled.segments first.number first.within all) first.unlike
+    seal_harmless filled (refusals.Missing key) all row =
+        let first = row.0.2 in
+        unlike filled.kind (segment_at filled.segments first.number).bytes (refusals.Missing key)
+        (all_at (λ s. IsAmong (IsIn among) filled.kind s.bytes) filled.segments first.number first.within all) first.unlike
+    seal_harmless filled (refusals.Damaged at_byte why) all row = map_known row.0.2
+    seal_harmless filled refusal all row = tt
+
+    other_harmless : (taken : PartKind) (refusal : Refusal) → IsAtOther taken actor refusal old new → IsHarmless ⊥ refusal
+    other_harmless taken (refusals.Clash key d) row = absurd row.0
+    other_harmless taken (refusals.Corrupt slot offset count want got) row = absurd row.0
+    other_harmless taken (refusals.Missing key) row = absurd row.0
+    other_harmless taken (refusals.Damaged at_byte why) row = absurd row.0
+    other_harmless taken refusal row = tt
+
+    commit_harmless : (name : List ℕ) (root : Root) (refusal : Refusal) → CommitRow name root actor (Err refusal) old new → IsHarmless ⊥ refusal
+    commit_harmless name root (refusals.Clash key d) row = absurd row.0.1
+    commit_harmless name root (refusals.Corrupt slot offset count want got) row = absurd row.0.1
+    commit_harmless name root (refusals.Missing key) row = absurd row.0.1
+    commit_harmless name root (refusals.Damaged at_byte why) row = absurd row.0.1
+    commit_harmless name root refusal row = tt
+
+    open_harmless : (name : List ℕ) (refusal : Refusal) → OpenRow name actor (Err refusal) old new → IsHarmless ⊥ refusal
+    open_harmless name (refusals.Clash key d) row = absurd row.0.1
+    open_harmless name (refusals.Corrupt slot offset count want got) row = absurd row.0.1
+    open_harmless name (refusals.Missing key) row = absurd row.0.1
+    open_harmless name (refusals.Damaged at_byte why) row = absurd row.0.1
+    open_harmless name refusal row = tt
+
+    end_harmless : (refusal : Refusal) → EndRow actor (Err refusal) old new → IsHarmless ⊥ refusal
+    end_harmless (refusals.Clash key d) row = absurd row
+    end_harmless (refusals.Corrupt slot offset count want got) row = absurd row
+    end_harmless (refusals.Missing key) row = absurd row
+    end_harmless (refusals.Damaged at_byte why) row = absurd row
+    end_harmless refusal row = tt
+
+    -- a read on the way of what is held
+    stuck : (refusal : Refusal) → IsNotGiven refusal buf actor old new → IsStuck old.known old.breaks old.disk new.disk actor old.parts new.parts refusal
+        → (rest : List Top) × ((segments : List (List ℕ)) × IsHeldAnswer s.held image rest segments buf (Err refusal))
+    stuck refusal row cause =
+        stuck_held among s stored.files image at.index actor buf old new here at.index_known (at.represents.index_is_newest at.index at.index_known) at.represents.names_are.names_are stands_here distinct
+        (at.invariant image here).pins_are_closed refusal row cause
+
+    read_harmless : (refusal : Refusal) → ReadRow actor (Err refusal) buf old new → IsHarmless ⊥ refusal
+    read_harmless (refusals.Clash key d) row = absurd (stuck (refusals.Clash key d) row row.cause).1.1
+    read_harmless (refusals.Corrupt slot offset count want got) row = absurd (stuck (refusals.Corrupt slot offset count want got) row row.cause).1.1
+    read_harmless (refusals.Missing key) row = absurd (stuck (refusals.Missing key) row row.cause).1.1
+    read_harmless (refusals.Damaged at_byte why) row = absurd (stuck (refusals.Damaged at_byte why) row row.cause).1.1
+    read_harmless refusal row = tt
+
+    step_harmless : (step : StepValue) (refusal : Refusal) → IsGivenRight (IsIn among) step (Err refusal) bytes old → Row step actor (Err refusal) buf old new → IsHarmless (MayClash step) refusal
+    step_harmless asked.Begin refusal given row = other_harmless part.Idle refusal row
+    step_harmless (asked.Claim seg) refusal given row = claim_harmless seg refusal given row
+    step_harmless (asked.Seal filled) refusal given row = seal_harmless filled refusal given row
+    step_harmless (asked.Commit name root) refusal given row = commit_harmless name root refusal row
+    step_harmless asked.Abort refusal given row = other_harmless part.Writing refusal row
+    step_harmless (asked.OpenRead name) refusal given row = open_harmless name refusal row
+    step_harmless asked.ReadNext refusal given row = read_harmless refusal row
+    step_harmless asked.EndRead refusal given row = end_harmless refusal row
+    step_harmless asked.Stat refusal given row = absurd row
+
+    pub answer_harmless : (step : StepValue) (answer : Result Answer Refusal) → IsGivenRight (IsIn among) step answer bytes old → Row step actor answer buf old new
+        → IfErr answer (λ refusal. IsHarmless (MayClash step) refusal)
+    answer_harmless step (Ok answer) given row = tt
+    answer_harmless step (Err refusal) given row = step_harmless step refusal given row
+
+    -- ---- names
+
+    named_file : (named : Option Named) (file : Option (List ℕ)) (n : Named) → named ≡ Some n → IsFileOf s.held image named file → (bytes : List ℕ) × ((file ≡ Some bytes) × (n.root ≡ root_of bytes))
+    named_file None file n is f = absurd cc
+    named_file (Some m) None n is f = absurd f
+    named_file (Some m) (Some b) n is f = (b, (refl, ap (λ (x : Named). x.root) (sym (some_one m n is)) ∙ f.0))
+
+    unnamed_file : (named : Option Named) (file : Option (List ℕ)) → named ≡ None → IsFileOf s.held image named file → file ≡ None
+    unnamed_file None None is f = refl
+    unnamed_file None (Some b) is f = absurd f
+    unnamed_file (Some m) file is f = absurd cc
+
+    -- a name as the tables have it
+    abbrev named_of : List ℕ → Option Named
+    named_of name = finite.get (names_of s) name
+
+    same_names : old.tables.names ≡ names_of s
+    same_names = at.represents.names_are.names_are
+
+    open_finds : (name : List ℕ) (answer : Result Answer Refusal) → OpenRow name actor answer old new → FindsFile stored.files (asked.OpenRead name) answer
+    open_finds name (Ok (answers.Opened count)) row =
+        let has = row.opens.begins.has_root in
+        let file = named_file (named_of name) (finite.get stored.files name) (record { sequence = has.sequence; root = row.opens.root }) (ap (λ (names : NameMap). finite.get names name) (sym same_names) ∙ has.found) (stands_here.holds.files_are name) in
+        (file.0, (file.1.0, row.opens.count_is ∙ ap (λ (r : Root). r.length) file.1.1))
+    open_finds name (Err refusals.NoFile) row =
+        unnamed_file (named_of name) (finite.get stored.files name) (ap (λ (names : NameMap). finite.get names name) (sym same_names) ∙ row.0.1.1) (stands_here.holds.files_are name)
+    open_finds name answer row = tt
+
+    pub step_finds : (step : StepValue) (answer : Result Answer Refusal) → Row step actor answer buf old new → FindsFile stored.files step answer
+    step_finds (asked.OpenRead name) answer row = open_finds name answer row
+    step_finds step answer row = tt
+
+-- ---- a run
+
+-- a core that is stopped answers so
+stopped_harmless : (step : StepValue) (answer : Result Answer Refusal) (at : ℕ) → answer ≡ Err (refusals.Stopped at) → IfErr answer (λ refusal. IsHarmless (MayClash step) refusal)
+stopped_harmless step answer at is = subst (λ (a : Result Answer Refusal). IfErr a (λ refusal. IsHarmless (MayClash step) refusal)) (sym is) tt
+
+stopped_finds : (files : Files) (step : StepValue) (at : ℕ) → FindsFile files step (Err (refusals.Stopped at))
+stopped_finds files (asked.OpenRead name) at = tt
+stopped_finds files step at = tt
+
+module _ (C : Type 0) (state : C → CoreState) where
+  harmless_by : (among : ByteSet) (steps : List FileEvent) (f : FileEvent) (s : Store) (stored : Stored) (old mid new : C) → HasNoCollisions (IsIn among) → IsAt (IsIn among) s stored (state old) → FileRun C state (IsIn among) steps old mid
+      → FileStep (IsIn among) f (state mid) (state new) → (stop : Option Stop) → (state mid).stop ≡ stop → StepsOr stop f.event (state mid) (state new)
+      → IfErr f.event.answer (λ refusal. IsHarmless (MayClash f.event.step) refusal)
+  harmless_by among steps f s stored old mid new distinct at run step None is made =
+      let reached = keeps_files C state among steps s stored old mid distinct at run is in
+      answer_harmless among reached.store (stored_after steps stored) (state mid) (state new) distinct reached.is_at f.event.actor f.event.buf f.bytes f.event.step f.event.answer step.given made.made.row
+  harmless_by among steps f s stored old mid new distinct at run step (Some stop) is made = stopped_harmless f.event.step f.event.answer stop.at made.answer_is
+
+  pub never_damaged : NeverDamaged C state
+  never_damaged among steps f s stored old mid new distinct at run step = harmless_by among steps f s stored old mid new distinct at run step (state mid).stop refl step.made
+
+  finds_by : (among : ByteSet) (steps : List FileEvent) (f : FileEvent) (s : Store) (stored : Stored) (old mid new : C) → HasNoCollisions (IsIn among) → IsAt (IsIn among) s stored (state old) → FileRun C state (IsIn among) steps old mid
+      → (stop : Option Stop) → (state mid).stop ≡ stop → StepsOr stop f.event (state mid) (state new) → FindsFile (stored_after steps stored).files f.event.step f.event.answer
+  finds_by among steps f s stored old mid new distinct at run None is made =
+      let reached = keeps_files C state among steps s stored old mid distinct at run is in
+      step_finds among reached.store (stored_after steps stored) (state mid) (state new) distinct reached.is_at f.event.actor f.event.buf f.bytes f.event.step f.event.answer made.made.row
+  finds_by among steps f s stored old mid new distinct at run (Some stop) is made =
+      subst (λ (a : Result Answer Refusal). FindsFile (stored_after steps stored).files f.event.step a) (sym made.answer_is) (stopped_finds (stored_after steps stored).files f.event.step stop.at)
+
+  pub finds_files : FindsFiles C state
+  finds_files among steps f s stored old mid new distinct at run step = finds_by among steps f s stored old mid new distinct at run (state mid).stop refl step.made

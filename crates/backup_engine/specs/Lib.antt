@@ -1,9 +1,9 @@
-pub mod Clauses
-pub mod Effects
+pub mod AnyDisk
 pub mod Frame
 pub mod Line
 pub mod LineValue
 pub mod PlainMap
 pub mod Promise
+pub mod Running
 pub mod Storing
 pub mod TopCall

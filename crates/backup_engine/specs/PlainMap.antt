@@ -1,6 +1,6 @@
--- The plain map that the program is measured by: what each command answers of it, and what it makes of it
+-- The plain map that the program is measured by: what each command makes of it, and when it is refused
 -- (docs/MODEL.md, 'The plain map').
-use Rattle.std.specs.Prelude.{◌≡◌, ◌≢◌, ◌⊎◌, ℕ, suc, ◌-◌, ◌^◌, ◌<◌, ◌≤◌, List, [], length, option_map, Option, None, Some}
+use Rattle.std.specs.Prelude.{◌≡◌, ◌≢◌, ◌⊎◌, ℕ, ◌-◌, ◌^◌, ◌<◌, ◌≤◌, List, [], length, Bool, true, false, is_some, option_map, Option, None, Some}
 use Rattle.std.specs.FinMap as finite
 use Rattle.disk_format.specs.declared.numbers.TheConstants.{MOST_NAMES, RESERVE, LAST_ID}
 use Rattle.disk_format.specs.Cells.{IsName}
@@ -8,17 +8,12 @@ use Rattle.disk_format.specs.Layout.{half_cells, size_of}
 use Rattle.refusals.specs.declared.refusal.Difference.TheVariants.{Length}
 use Rattle.refusals.specs.declared.refusal.Refusal.{Refusal}
 use Rattle.refusals.specs.declared.refusal.Refusal.TheVariants.{Memory, NoFile, BadName, TooMany, TooLong, Full, Clash, DiskRead, DiskWrite, Numbers, AlreadyStore, WrongSize}
-use Rattle.reply_text.specs.Text.{stored_line}
-use Rattle.store_model.specs.Files.{Files, with_file}
-use Rattle.store_model.specs.Image.{Store}
+use Rattle.store_model.specs.Files.{Files}
+use Rattle.store_model.specs.Image.{Store, names_of, last_sequence}
 use Rattle.store_model.specs.Slots.{newest, free_slots, last_id}
-use Rattle.store_model.specs.Trees.{leaf_key, root_of}
+use Rattle.store_model.specs.Trees.{leaf_key}
+use Rattle.store_core.specs.Runs.{Stored, with_stored}
 use Rattle.backup_engine.specs.Line.{CommandLine, Format, Ingest, Restore}
-
--- names to byte lists, and the last sequence number that was given out
-pub record Map : Type 0 where
-  pub files : Files
-  pub last : ℕ
 
 -- how many bytes a file has at most, for now
 abbrev pub most_bytes : ℕ
@@ -26,81 +21,112 @@ most_bytes = 2048
 
 -- ---- what is done
 
--- What a command that is done replies, and the map then. `given` is what the source gave to an `ingest`. A disk that stands
--- for a map has a store, so `format` is never done there.
-abbrev pub Answers : CommandLine → List ℕ → Map → List ℕ → Map → Type 0
-Answers (Format slots) given m reply next = ⊥
-Answers (Ingest name) given m reply next =
-    IsName name × (length given ≤ most_bytes) × (reply ≡ stored_line name (root_of given))
-    × (next ≡ record { files = with_file m.files name given; last = suc m.last })
-Answers (Restore name) given m reply next = (finite.get m.files name ≡ Some reply) × (next ≡ m)
+-- The map after a command that is done: names to byte lists, and the last sequence number. `given` is what the source gave.
+abbrev pub map_after : CommandLine → List ℕ → Stored → Stored
+map_after (Format slots) given m = m
+map_after (Ingest name) given m = with_stored m name given
+map_after (Restore name) given m = m
+
+-- What is so of a command that is done. A disk that stands for a map has a store, so `format` is never done there.
+abbrev pub CanBeDone : CommandLine → List ℕ → Stored → Type 0
+CanBeDone (Format slots) given m = ⊥
+CanBeDone (Ingest name) given m = IsName name × (length given ≤ most_bytes)
+CanBeDone (Restore name) given m = is_some (finite.get m.files name) ≡ true
 
 -- ---- what is refused
 
--- What refusals go by besides the map: the disk's size, how many slots are free, the last container id, how many records
--- the journal has, and, by its key, how long a segment is that is held.
+-- What refusals go by: whether the name has a file, how many names have one, the last sequence number; and of the disk its
+-- size, how many slots are free, the last container id, how many records the journal has, and how long a segment is that
+-- is held, by its key.
 pub record Room : Type 0 where
+  pub knows : Bool
+  pub names : ℕ
+  pub last : ℕ
   pub size : ℕ
   pub free : ℕ
   pub last_id : ℕ
   pub records : ℕ
   pub held : List ℕ → Option ℕ
 
-abbrev pub room_of : Store → Room
-room_of store = record {
+abbrev pub held_length : Store → List ℕ → Option ℕ
+held_length store key = option_map (λ c. c.place.length) (newest 0 store.held key)
+
+-- the name of a command, where it has one
+abbrev pub name_of : CommandLine → List ℕ
+name_of (Format slots) = []
+name_of (Ingest name) = name
+name_of (Restore name) = name
+
+-- those of a map, and of a store of its files
+abbrev pub room_of : CommandLine → Stored → Store → Room
+room_of command m store = record {
+  knows = is_some (finite.get m.files (name_of command));
+  names = finite.len m.files;
+  last = m.last;
   size = size_of store.slots;
   free = free_slots store.held;
   last_id = last_id store.held;
   records = length store.records;
-  held = λ key. option_map (λ c. c.place.length) (newest 0 store.held key);
+  held = held_length store;
+}
+
+-- those of a store alone, whatever its names stand for
+abbrev pub room_in : CommandLine → Store → Room
+room_in command store = record {
+  knows = is_some (finite.get (names_of store) (name_of command));
+  names = finite.len (names_of store);
+  last = last_sequence store;
+  size = size_of store.slots;
+  free = free_slots store.held;
+  last_id = last_id store.held;
+  records = length store.records;
+  held = held_length store;
 }
 
 -- the file is not empty, and its segment is not held
 abbrev pub IsNew : List ℕ → Room → Type 0
 IsNew given room = (given ≢ []) × (room.held (leaf_key given) ≡ None)
 
--- its segment is held, or can be added
-abbrev pub HasPlace : List ℕ → Room → Type 0
-HasPlace given room =
-    (given ≡ [])
-    ⊎ (room.held (leaf_key given) ≡ Some (length given))
-    ⊎ (IsNew given room × (RESERVE < room.free) × (room.last_id < LAST_ID))
+-- its segment is held, as it is, or there is none
+abbrev pub IsHeld : List ℕ → Room → Type 0
+IsHeld given room = (given ≡ []) ⊎ (room.held (leaf_key given) ≡ Some (length given))
 
 -- there are as many names as there may be, and this one is new; or the journal has no cell left
-abbrev pub HasNoCell : List ℕ → Map → Room → Type 0
-HasNoCell name m room = ((finite.get m.files name ≡ None) × (MOST_NAMES ≤ finite.len m.files)) ⊎ (half_cells ≤ room.records)
+abbrev pub HasNoCell : Room → Type 0
+HasNoCell room = ((room.knows ≡ false) × (MOST_NAMES ≤ room.names)) ⊎ (half_cells ≤ room.records)
 
--- Why an `ingest` is refused, in order: the source, the segment, the name.
-abbrev pub RefusesIngest : List ℕ → List ℕ → Map → Room → Refusal → Type 0
-RefusesIngest name given m room TooLong = most_bytes < length given
-RefusesIngest name given m room (Clash key (Length offered held)) =
+-- Why an `ingest` is refused, in order: the source; the segment; and, once that is held, the name.
+abbrev pub RefusesIngest : List ℕ → List ℕ → Room → Refusal → Type 0
+RefusesIngest name given room TooLong = most_bytes < length given
+RefusesIngest name given room (Clash key (Length offered held)) =
     (length given ≤ most_bytes) × (key ≡ leaf_key given) × (offered ≡ length given) × (room.held key ≡ Some held) × (offered ≢ held)
-RefusesIngest name given m room (Full free) = (length given ≤ most_bytes) × IsNew given room × (free ≡ room.free) × (free ≤ RESERVE)
-RefusesIngest name given m room BadName = (length given ≤ most_bytes) × HasPlace given room × ¬ (IsName name)
-RefusesIngest name given m room TooMany = (length given ≤ most_bytes) × HasPlace given room × IsName name × HasNoCell name m room
-RefusesIngest name given m room Numbers =
+RefusesIngest name given room (Full free) = (length given ≤ most_bytes) × IsNew given room × (free ≡ room.free) × (free ≤ RESERVE)
+RefusesIngest name given room BadName = (length given ≤ most_bytes) × IsHeld given room × ¬ (IsName name)
+RefusesIngest name given room TooMany = (length given ≤ most_bytes) × IsHeld given room × IsName name × HasNoCell room
+RefusesIngest name given room Numbers =
     (length given ≤ most_bytes)
     × ((IsNew given room × (RESERVE < room.free) × (room.last_id ≡ LAST_ID))
-    ⊎ (HasPlace given room × IsName name × ¬ (HasNoCell name m room) × (m.last ≡ 2 ^ 64 - 1)))
-RefusesIngest name given m room refusal = ⊥
+    ⊎ (IsHeld given room × IsName name × ¬ (HasNoCell room) × (room.last ≡ 2 ^ 64 - 1)))
+RefusesIngest name given room refusal = ⊥
 
-abbrev pub RefusesRestore : List ℕ → Map → Refusal → Type 0
-RefusesRestore name m BadName = ¬ (IsName name)
-RefusesRestore name m NoFile = IsName name × (finite.get m.files name ≡ None)
-RefusesRestore name m refusal = ⊥
+abbrev pub RefusesRestore : List ℕ → Room → Refusal → Type 0
+RefusesRestore name room BadName = ¬ (IsName name)
+RefusesRestore name room NoFile = IsName name × (room.knows ≡ false)
+RefusesRestore name room refusal = ⊥
 
 abbrev pub RefusesFormat : ℕ → Room → Refusal → Type 0
 RefusesFormat slots room AlreadyStore = room.size ≡ size_of slots
 RefusesFormat slots room (WrongSize want got) = (want ≡ size_of slots) × (got ≡ room.size) × (want ≢ got)
 RefusesFormat slots room refusal = ⊥
 
--- Why a command is refused. Want of memory is free, and a call of the disk that failed is told by its count of faults; a
--- `format` of a disk that has a store writes nothing, and syncs nothing.
-abbrev pub Refuses : CommandLine → List ℕ → Map → Room → Refusal → Type 0
-Refuses command given m room Memory = Unit {0}
-Refuses command given m room DiskRead = Unit {0}
-Refuses (Format slots) given m room refusal = RefusesFormat slots room refusal
-Refuses (Ingest name) given m room DiskWrite = Unit {0}
-Refuses (Ingest name) given m room refusal = RefusesIngest name given m room refusal
-Refuses (Restore name) given m room DiskWrite = Unit {0}
-Refuses (Restore name) given m room refusal = RefusesRestore name m refusal
+-- Why a command is refused, by what the store is as it leaves it: so `ingest` may have stored the segment before. Want of
+-- memory is free, and a call of the disk that failed is told by its count of faults; a `format` of a disk that has a store
+-- writes nothing, and syncs nothing.
+abbrev pub Refuses : CommandLine → List ℕ → Room → Refusal → Type 0
+Refuses command given room Memory = Unit {0}
+Refuses command given room DiskRead = Unit {0}
+Refuses (Format slots) given room refusal = RefusesFormat slots room refusal
+Refuses (Ingest name) given room DiskWrite = Unit {0}
+Refuses (Ingest name) given room refusal = RefusesIngest name given room refusal
+Refuses (Restore name) given room DiskWrite = Unit {0}
+Refuses (Restore name) given room refusal = RefusesRestore name room refusal

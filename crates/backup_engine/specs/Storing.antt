@@ -1,19 +1,73 @@
--- Taking a source in.
-use Rattle.std.specs.Prelude.{◌≡◌, ◌<◌, List, ℕ, ◌++◌, length, Option, Some}
+-- Taking a source in, and storing it (docs/MODEL.md, 'Commands').
+use Rattle.std.specs.Prelude.{◌≡◌, ◌⊎◌, ◌<◌, ◌≤◌, List, ℕ, ◌++◌, length, Option, Some, Result, Ok, Err, IfErr}
 use Rattle.base_model.specs.Fault.{Rose}
-use Rattle.base_model.specs.Known.{Known}
-use Rattle.dd_io.specs.Flow.{SourceView}
+use Rattle.base_model.specs.Known.{Known, Appended}
+use Rattle.dd_io.specs.Flow.{SourceView, SinkView, AppendedPart}
+use Rattle.refusals.specs.declared.refusal.Refusal.{Refusal}
 use Rattle.refusals.specs.declared.refusal.Refusal.TheVariants.{Memory, TooLong}
 use Rattle.reply_text.specs.declared.ending.Ending.{Ending}
-use Rattle.reply_text.specs.declared.ending.Ending.TheVariants.{Source, Refused}
+use Rattle.reply_text.specs.declared.ending.Ending.TheVariants.{Source, Sink, Refused}
+use Rattle.reply_text.specs.Text.{stored_line}
+use Rattle.store_model.specs.Trees.{root_of}
+use Rattle.store_core.specs.State.{CoreState}
+use Rattle.backup_engine.specs.PlainMap.{most_bytes}
+use Rattle.backup_engine.specs.Running.{PutRun, IsPutRefusal}
+
+-- ---- the source
+
+-- all that it had left, at most as many bytes as a file has
+pub record TakesIn (left : Option (List ℕ)) (bytes : List ℕ) : Type 0 where
+  pub at_most : length bytes ≤ most_bytes
+  pub all : Known left (λ all. bytes ≡ all)
+
+-- the bytes taken so far, and the rest that the source has left
+pub record TakenSoFar (first now : Option (List ℕ)) (bytes : List ℕ) : Type 0 where
+  pub rest : Known first (λ all. (rest : List ℕ) × (all ≡ bytes ++ rest) × (now ≡ Some rest))
 
 -- why a source is not taken in
 abbrev pub IsSourceFault : SourceView → SourceView → Ending → Type 0
 IsSourceFault source source_now Source = Rose source.faults source_now.faults
 IsSourceFault source source_now (Refused Memory) = Unit {0}
-IsSourceFault source source_now (Refused TooLong) = Known source.left (λ bytes. 2048 < length bytes)
+IsSourceFault source source_now (Refused TooLong) = Known source.left (λ bytes. most_bytes < length bytes)
 IsSourceFault source source_now _ = ⊥
 
--- the bytes taken so far, and the rest that the source has left
-pub record TakenSoFar (first now : Option (List ℕ)) (bytes : List ℕ) : Type 0 where
-  pub rest : Known first (λ all. (rest : List ℕ) × (all ≡ bytes ++ rest) × (now ≡ Some rest))
+-- ---- the reply
+
+-- a reply was written, or the sink failed
+abbrev pub Sent : List ℕ → Result Unit Ending → SinkView → SinkView → Type 0
+Sent reply (Ok u) sink sink_now = Appended sink.written sink_now.written reply
+Sent reply (Err Sink) sink sink_now = AppendedPart sink.written sink_now.written reply × Rose sink.faults sink_now.faults
+Sent reply (Err ending) sink sink_now = ⊥
+
+-- once a file was stored, or not
+abbrev pub Replies : List ℕ → Result Unit Refusal → Result Unit Ending → SinkView → SinkView → Type 0
+Replies reply (Ok u) result sink sink_now = Sent reply result sink sink_now
+Replies reply (Err refusal) result sink sink_now = (result ≡ Err (Refused refusal)) × (sink_now ≡ sink)
+
+-- ---- both
+
+-- nothing was asked of the core: the source failed, or had too much, or there was no memory
+pub record IsNotTaken (C : Type 0) (given : List ℕ) (result : Result Unit Ending) (old new : C) (source source_now : SourceView)
+    (sink sink_now : SinkView) : Type 0 where
+  pub ending : Ending
+  pub result_is : result ≡ Err ending
+  pub cause : IsSourceFault source source_now ending
+  pub long : ending ≡ Refused TooLong → most_bytes < length given
+  pub core_is : new ≡ old
+  pub sink_is : sink_now ≡ sink
+
+-- the file was put in, or refused by a step
+pub record IsTaken (C : Type 0) (state : C → CoreState) (name given : List ℕ) (result : Result Unit Ending) (old new : C)
+    (sink sink_now : SinkView) : Type 0 where
+  pub few : length given ≤ most_bytes
+  pub put : Result Unit Refusal
+  pub ran : PutRun C state name given put old new
+  pub refused : IfErr put (IsPutRefusal name given (state new))
+  pub replies : Replies (stored_line name (root_of given)) put result sink sink_now
+
+-- What the source gave was stored under the name, or not.
+pub record IngestRun (C : Type 0) (state : C → CoreState) (name : List ℕ) (result : Result Unit Ending) (old new : C)
+    (source source_now : SourceView) (sink sink_now : SinkView) : Type 0 where
+  pub given : List ℕ
+  pub took : Known source.left (λ all. given ≡ all)
+  pub way : IsNotTaken C given result old new source source_now sink sink_now ⊎ IsTaken C state name given result old new sink sink_now

@@ -2,8 +2,13 @@
 #![tactic(auto)]
 
 mod format;
+mod giving;
 mod ingest;
+mod lent;
+mod putting;
+mod reply;
 mod restore;
+mod storing;
 mod top_call;
 mod words;
 

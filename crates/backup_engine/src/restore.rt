@@ -1,26 +1,41 @@
 //! Giving a file back.
-ghost use Rattle.std.specs.Prelude.{◌≡◌, List, ℕ, Option, IfOk, IfErr};
-ghost use Rattle.dd_disk.specs.View.{OnlyReads};
+ghost use Rattle.std.specs.Prelude.{◌≡◌, []};
 ghost use Rattle.dd_io.specs.Flow.{SourceView};
+ghost use Rattle.dd_disk.specs.View.{IsLater};
 ghost use Rattle.backup_engine.specs.Line.{Restore};
-ghost use Rattle.backup_engine.specs.Effects.{Did, GaveUp};
+ghost use Rattle.backup_engine.specs.TopCall.{Keeps, ending_in};
 
+use crate::giving::give_out;
+use crate::lent::handed_back;
+use actor_parts::SegBuf;
 use dd_disk::Disk;
-use read_steps::{read_root, root_named};
-use recovery::open;
+use dd_io::Sink;
 use reply_text::Ending;
 use std::alloc::Global;
+use store_core::Core;
+use summary_vector::NoSummary;
 
-/// The bytes of the file of a name.
-pub(crate) fn restore<D: Disk>(alloc: Global, disk: &mut D, name: &str) -> Result<Vec<u8>, Ending>
-    ensures did { IfOk result (λ bytes. (left : Option (List ℕ))
-        → Did (Restore name.now) left (D.view disk.old) (D.view disk.new) bytes.items) }
-    ensures gave_up { IfErr result (λ ending. (source : SourceView)
-        → GaveUp (Restore name.now) source source (D.view disk.old) (D.view disk.new) ending) }
-    ensures reads { OnlyReads (D.view disk.old) (D.view disk.new) }
+/// Gives the file of a name to a sink.
+pub(crate) fn restore<D: Disk, K: Sink>(
+    alloc: Global,
+    disk: &mut D,
+    sink: &mut K,
+    name: &str,
+) -> Result<(), Ending>
+    ensures keeps { (source : SourceView) → Keeps (Restore name.now) [] (ending_in result) (D.view disk.old) (D.view disk.new)
+        source source (K.view sink.old) (K.view sink.new) }
+    ensures later { IsLater (D.view disk.old) (D.view disk.new) }
 {
-    let opened = open(alloc, disk)?;
-    let root = root_named(&opened, name)?;
-    let bytes = read_root(alloc, disk, &opened, &root)?;
-    Ok(bytes)
+    let mut buf = SegBuf::new(alloc)?;
+    let mut core = match Core::open(alloc, disk, NoSummary) {
+        Ok(core) => core,
+        Err(refused) => {
+            let refusal = refused.1;
+            let _disk = handed_back(refused);
+            return Err(Ending::Refused(refusal));
+        }
+    };
+    let given = give_out(&mut core, name, &mut buf, sink);
+    let _disk = core.close();
+    given
 }

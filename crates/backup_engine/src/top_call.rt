@@ -1,12 +1,10 @@
 //! The top call.
-ghost use Rattle.std.specs.Prelude.{◌≡◌, map, string_bytes, IfOk, IfErr};
+ghost use Rattle.std.specs.Prelude.{◌≡◌, map, string_bytes, IfOk, List, ℕ};
 ghost use Rattle.dd_disk.specs.View.{IsLater};
 ghost use Rattle.reply_text.specs.Table.{status_of as table_status};
-ghost use Rattle.backup_engine.specs.Clauses.{IsNoted};
-ghost use Rattle.backup_engine.specs.Effects.{IsRightLine, KeepsSource, Did, GaveUp, Leaves, size_made};
 ghost use Rattle.backup_engine.specs.Line.{line_of};
-ghost use Rattle.backup_engine.specs.LineValue.{line_value};
-ghost use Rattle.backup_engine.specs.TopCall.{Promise, SurvivesCrash};
+ghost use Rattle.backup_engine.specs.LineValue.{line_value, IsRightLine, size_made};
+ghost use Rattle.backup_engine.specs.TopCall.{Promise, Keeps, IsNoted, ending_in};
 
 use crate::format::format;
 use crate::ingest::ingest;
@@ -34,8 +32,6 @@ pub fn backup<R, D: Disk + Send, S: Source, K: Sink, Q: Sink>(
 ) -> u8
     ensures promise { Promise (line_of (map string_bytes words.now)) result (D.view disk.old) (D.view disk.new)
         (S.view source.old) (S.view source.new) (K.view sink.old) (K.view sink.new) (Q.view notes.old) (Q.view notes.new) }
-    ensures crash { SurvivesCrash (line_of (map string_bytes words.now)) result
-        (S.view source.old).left (D.view disk.old) (D.view disk.new) }
     ensures later { IsLater (D.view disk.old) (D.view disk.new) }
 {
     backup_alone(rt, alloc, words, disk, source, sink, notes)
@@ -53,18 +49,13 @@ pub fn backup_alone<R, D: Disk + Send, S: Source, K: Sink, Q: Sink>(
 ) -> u8
     ensures promise { Promise (line_of (map string_bytes words.now)) result (D.view disk.old) (D.view disk.new)
         (S.view source.old) (S.view source.new) (K.view sink.old) (K.view sink.new) (Q.view notes.old) (Q.view notes.new) }
-    ensures crash { SurvivesCrash (line_of (map string_bytes words.now)) result
-        (S.view source.old).left (D.view disk.old) (D.view disk.new) }
     ensures later { IsLater (D.view disk.old) (D.view disk.new) }
 {
     let Some(line) = read_words(words) else {
         return give_up(notes, &Ending::Words);
     };
-    match run_line(alloc, &line, disk, source) {
-        Ok(reply) => match sink.write_all(&reply) {
-            Ok(()) => 0,
-            Err(_) => give_up(notes, &Ending::Sink),
-        },
+    match run_line(alloc, &line, disk, source, sink) {
+        Ok(()) => 0,
         Err(ending) => give_up(notes, &ending),
     }
 }
@@ -79,25 +70,23 @@ pub fn size_of_format(_alloc: Global, words: &[String]) -> Result<Option<u64>, A
     }
 }
 
-// Does what a line says, up to its reply: the bytes that go to the sink.
-fn run_line<D: Disk, S: Source>(
+// Does what a line says.
+fn run_line<D: Disk, S: Source, K: Sink>(
     alloc: Global,
     line: &Line<'_>,
     disk: &mut D,
     source: &mut S,
-) -> Result<Vec<u8>, Ending>
+    sink: &mut K,
+) -> Result<(), Ending>
     requires { IsRightLine line.now }
-    ensures did { IfOk result (λ reply.
-        Did (line_value line.now) (S.view source.old).left (D.view disk.old) (D.view disk.new) reply.items) }
-    ensures gave_up { IfErr result (GaveUp (line_value line.now)
-        (S.view source.old) (S.view source.new) (D.view disk.old) (D.view disk.new)) }
-    ensures leaves { Leaves (line_value line.now) (S.view source.old).left (D.view disk.old) (D.view disk.new) }
-    ensures source { KeepsSource (line_value line.now) (S.view source.old) (S.view source.new) }
+    ensures keeps { (given : List ℕ) × Keeps (line_value line.now) given (ending_in result) (D.view disk.old) (D.view disk.new)
+        (S.view source.old) (S.view source.new) (K.view sink.old) (K.view sink.new) }
+    ensures later { IsLater (D.view disk.old) (D.view disk.new) }
 {
     match line {
-        Line::Format(slots) => format(alloc, disk, *slots),
-        Line::Ingest(name) => ingest(alloc, disk, source, name),
-        Line::Restore(name) => restore(alloc, disk, name),
+        Line::Format(slots) => format(alloc, disk, sink, *slots),
+        Line::Ingest(name) => ingest(alloc, disk, source, sink, name),
+        Line::Restore(name) => restore(alloc, disk, sink, name),
     }
 }
 

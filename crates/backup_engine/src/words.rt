@@ -1,9 +1,8 @@
 //! The words of a command line.
 ghost use Rattle.std.specs.Prelude.{◌≡◌, map, option_map, IfSome, IsTrue, string_bytes};
 ghost use Rattle.disk_format.specs.Layout.{IsSlotCount};
-ghost use Rattle.backup_engine.specs.Effects.{IsRightLine};
 ghost use Rattle.backup_engine.specs.Line.{line_of, command_of, argument_of, is_dashed, all_digits, begins_as_number, is_number, slots_of};
-ghost use Rattle.backup_engine.specs.LineValue.{line_value};
+ghost use Rattle.backup_engine.specs.LineValue.{line_value, IsRightLine};
 
 use disk_format::is_slot_count;
 

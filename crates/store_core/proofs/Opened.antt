@@ -1,6 +1,7 @@
 -- A core that was opened runs.
-use Rattle.std.proofs.Common.{◌≡◌, ℕ, List, length, Option, None, replicate, sym, ◌∙◌, ap, subst}
+use Rattle.std.proofs.Common.{◌≡◌, ℕ, List, length, Option, None, Some, replicate, sym, ◌∙◌, ap, subst}
 use Rattle.std.proofs.lemmas.List.{length-replicate}
+use Rattle.container_meta.specs.Places.{PlaceMap}
 use Rattle.actor_parts.specs.declared.actor.TheConstants.{ACTORS}
 use Rattle.actor_parts.specs.declared.part.Part.TheVariants.{Idle}
 use Rattle.recovery.specs.Opening.{IsOpened}
@@ -14,8 +15,8 @@ use Rattle.store_core.specs.State.{CoreState, IsUp, UnlessStopped, IsRunning}
 
 pub new_core : (shown : (List ℕ → Type 0) → Type 0) (size : ℕ) (o : OpenStore) (c : CoreState) → IsOpened shown size o → c.disk.size ≡ size
     → ((store : Store) → opened.Represents store o → Represents store c.known c.tables) → ((store : Store) → opened.Represents store o → IsValidFor size store → c.served)
-    → c.parts ≡ replicate ACTORS Idle → c.stop ≡ None → c.acknowledged ≡ 0 → IsNew shown size c
-new_core shown size o c is same represents serves parts stop count = record {
+    → ((places : PlaceMap) × (c.known ≡ Some places)) → c.parts ≡ replicate ACTORS Idle → c.stop ≡ None → c.acknowledged ≡ 0 → IsNew shown size c
+new_core shown size o c is same represents serves told parts stop count = record {
   store = is.found.store;
   right = is.found.right;
   represents = represents is.found.store is.found.represents;
@@ -25,6 +26,7 @@ new_core shown size o c is same represents serves parts stop count = record {
   stop_is = stop;
   counted = count;
   served = serves is.found.store is.found.represents is.found.valid;
+  told = told;
 }
 
 pub new_runs : (shown : (List ℕ → Type 0) → Type 0) (size : ℕ) (c : CoreState) → c.disk.size ≡ size → IsNew shown size c → IsRunning c

@@ -1,6 +1,7 @@
 -- A core that was opened (docs/MODEL.md, 'The core').
-use Rattle.std.specs.Prelude.{◌≡◌, ◌≤◌, ℕ, List, None, Err, replicate}
+use Rattle.std.specs.Prelude.{◌≡◌, ◌≤◌, ℕ, List, None, Some, Err, replicate}
 use Rattle.disk_format.specs.declared.numbers.TheConstants.{RESERVE}
+use Rattle.container_meta.specs.Places.{PlaceMap}
 use Rattle.actor_parts.specs.declared.actor.TheConstants.{ACTORS}
 use Rattle.actor_parts.specs.declared.part.Part.TheVariants.{Idle}
 use Rattle.refusals.specs.declared.refusal.Refusal.{Refusal}
@@ -21,6 +22,8 @@ pub record IsNew (shown : (List ℕ → Type 0) → Type 0) (size : ℕ) (c : Co
   pub stop_is : c.stop ≡ None
   pub counted : c.acknowledged ≡ 0
   pub served : c.served
+  -- the map of its index is known, whatever the disk tells
+  pub told : (places : PlaceMap) × (c.known ≡ Some places)
 
 -- why an image that holds a store is not opened: memory or the disk failed, or too few of its slots are free
 abbrev pub IsGivenUp : Refusal → List ℕ → Type 0

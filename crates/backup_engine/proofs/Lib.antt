@@ -1,9 +1,0 @@
-mod Crashes
-mod Formatting
-mod Numbers
-mod Opened
-mod Putting
-mod Reading
-mod Restoring
-mod Taking
-mod TopCall

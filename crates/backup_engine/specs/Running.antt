@@ -1,0 +1,149 @@
+-- The steps of a core that a command makes, and what they answered (docs/MODEL.md, 'Commands').
+use Rattle.std.specs.Prelude.{◌≡◌, ◌⊎◌, ℕ, List, [], ◌∷◌, replicate, Option, Some, None, Result, Ok, Err}
+use Rattle.std.specs.List.{AllByRecursion, concat}
+use Rattle.base_model.specs.Fault.{Rose}
+use Rattle.base_model.specs.Known.{Appended}
+use Rattle.dd_io.specs.Flow.{SinkView, AppendedPart}
+use Rattle.container_meta.specs.declared.kind.Kind.{Kind}
+use Rattle.container_meta.specs.declared.kind.Kind.TheVariants.{Leaf}
+use Rattle.container_meta.specs.Places.{PlaceMap}
+use Rattle.container_meta.specs.Segments.{Segment}
+use Rattle.actor_parts.specs.declared.actor.TheConstants.{ACTORS}
+use Rattle.actor_parts.specs.declared.part.Part.TheVariants.{Idle}
+use Rattle.actor_parts.specs.declared.step.Answer.{Answer}
+use Rattle.actor_parts.specs.declared.step.Answer.TheVariants as answers
+use Rattle.actor_parts.specs.StepValue as asked
+use Rattle.actor_parts.specs.StepValue.{StepValue, IsStep}
+use Rattle.refusals.specs.declared.refusal.Refusal.{Refusal}
+use Rattle.refusals.specs.declared.refusal.Refusal.TheVariants.{Memory, DiskRead, DiskWrite}
+use Rattle.reply_text.specs.declared.ending.Ending.{Ending}
+use Rattle.reply_text.specs.declared.ending.Ending.TheVariants as endings
+use Rattle.store_model.specs.Image.{Store, IsValidFor}
+use Rattle.store_model.specs.Standing.{IsSegmentOf}
+use Rattle.store_model.specs.Trees.{root_of}
+use Rattle.store_state.specs.Tables.{Represents}
+use Rattle.store_core.specs.Core.{CoreStep}
+use Rattle.store_core.specs.Runs.{CoreRun, FileEvent, events_of, opens, given_to}
+use Rattle.store_core.specs.State.{CoreState, Event, IsUp}
+use Rattle.backup_engine.specs.Line.{Ingest}
+use Rattle.backup_engine.specs.PlainMap.{RefusesIngest, room_in}
+
+-- A core that was opened just now: it runs, each actor is idle, and the map of its index is known.
+pub record IsFresh (c : CoreState) : Type 0 where
+  pub up : IsUp c
+  pub runs : c.stop ≡ None
+  pub idle : c.parts ≡ replicate ACTORS Idle
+  pub told : (places : PlaceMap) × (c.known ≡ Some places)
+
+-- ---- a file is stored
+
+-- a segment that is offered is one of the file's
+abbrev pub IsPieceOf : List ℕ → Kind → Segment → Type 0
+IsPieceOf bytes kind segment = (kind ≡ Leaf) × IsSegmentOf bytes segment.bytes
+
+-- what is asked
+abbrev pub IsAskedFor : List ℕ → List ℕ → StepValue → List ℕ → Type 0
+IsAskedFor name bytes asked.Begin put = Unit {0}
+IsAskedFor name bytes (asked.Claim seg) put = IsPieceOf bytes seg.kind seg.segment
+IsAskedFor name bytes (asked.Seal filled) put = AllByRecursion (λ s. IsPieceOf bytes filled.kind s) filled.segments
+IsAskedFor name bytes (asked.Commit n root) put = (n ≡ name) × (root ≡ root_of bytes) × (put ≡ bytes)
+IsAskedFor name bytes step put = ⊥
+
+-- a step by which this file is stored under this name
+pub record IsPutStep (name bytes : List ℕ) (f : FileEvent) : Type 0 where
+  pub by_first : f.event.actor ≡ 0
+  pub is_step : IsStep f.event.step
+  pub asked_for : IsAskedFor name bytes f.event.step f.bytes
+
+abbrev pub IsNoCommit : StepValue → Type 0
+IsNoCommit (asked.Commit name root) = ⊥
+IsNoCommit step = Unit {0}
+
+abbrev pub IsOk : Result Answer Refusal → Type 0
+IsOk (Ok answer) = Unit {0}
+IsOk (Err refusal) = ⊥
+
+-- another step than the last: it was done
+abbrev pub IsOnTheWay : Event → Type 0
+IsOnTheWay e = IsNoCommit e.step × IsOk e.answer
+
+-- the commit was acknowledged
+abbrev pub IsLastPut : StepValue → Result Answer Refusal → Type 0
+IsLastPut (asked.Commit name root) answer = IsOk answer
+IsLastPut step answer = ⊥
+
+-- How the steps ended: with the commit, with a step that was refused, or for want of memory between two.
+abbrev pub EndsPut : List FileEvent → Result Unit Refusal → Type 0
+EndsPut [] (Ok u) = ⊥
+EndsPut [] (Err refusal) = refusal ≡ Memory
+EndsPut (f ∷ []) (Ok u) = IsLastPut f.event.step f.event.answer
+EndsPut (f ∷ []) (Err refusal) = (f.event.answer ≡ Err refusal) ⊎ (IsOnTheWay f.event × (refusal ≡ Memory))
+EndsPut (f ∷ g ∷ fs) result = IsOnTheWay f.event × EndsPut (g ∷ fs) result
+
+-- These steps were made.
+pub record PutRun (C : Type 0) (state : C → CoreState) (name bytes : List ℕ) (result : Result Unit Refusal) (old new : C) : Type 0 where
+  pub steps : List FileEvent
+  pub ran : CoreRun C state (events_of steps) old new
+  pub each : AllByRecursion (IsPutStep name bytes) steps
+  pub ends : EndsPut steps result
+
+-- why the file wasn't stored, by each store that the tables represent at the end
+abbrev pub IsPutRefusal : List ℕ → List ℕ → CoreState → Refusal → Type 0
+IsPutRefusal name bytes c Memory = Unit {0}
+IsPutRefusal name bytes c DiskRead = Unit {0}
+IsPutRefusal name bytes c DiskWrite = Unit {0}
+IsPutRefusal name bytes c refusal =
+    (store : Store) → Represents store c.known c.tables → RefusesIngest name bytes (room_in (Ingest name) store) refusal
+
+-- ---- a file is given back
+
+-- the name was not opened
+pub record IsNotOpened (C : Type 0) (state : C → CoreState) (name : List ℕ) (result : Result Unit Ending) (old new : C)
+    (sink sink_now : SinkView) : Type 0 where
+  pub refusal : Refusal
+  pub buf : List ℕ
+  pub result_is : result ≡ Err (endings.Refused refusal)
+  pub asked : CoreStep (state old) (record { actor = 0; step = asked.OpenRead name; answer = Err refusal; buf = buf }) (state new)
+  pub sink_is : sink_now ≡ sink
+
+-- a segment of the file was read on
+abbrev pub IsRead : Event → Type 0
+IsRead e = (e.actor ≡ 0) × (e.step ≡ asked.ReadNext)
+
+-- it was given
+abbrev pub IsGiven : Result Answer Refusal → Type 0
+IsGiven (Ok (answers.Bytes count)) = Unit {0}
+IsGiven answer = ⊥
+
+-- how the reads ended: with the end of the file, with a read that was refused, or as a segment could not be written
+abbrev pub EndsGiving : List Event → Result Unit Ending → Type 0
+EndsGiving [] result = ⊥
+EndsGiving (e ∷ []) (Ok u) = e.answer ≡ Ok answers.End
+EndsGiving (e ∷ []) (Err (endings.Refused refusal)) = e.answer ≡ Err refusal
+EndsGiving (e ∷ []) (Err endings.Sink) = IsGiven e.answer
+EndsGiving (e ∷ []) (Err ending) = ⊥
+EndsGiving (e ∷ f ∷ es) result = IsGiven e.answer × EndsGiving (f ∷ es) result
+
+-- what was given was written, one segment after the other; the sink may have taken a first part alone
+abbrev pub WroteGiven : Result Unit Ending → List ℕ → SinkView → SinkView → Type 0
+WroteGiven (Err endings.Sink) bytes sink sink_now =
+    AppendedPart sink.written sink_now.written bytes × Rose sink.faults sink_now.faults
+WroteGiven result bytes sink sink_now = Appended sink.written sink_now.written bytes
+
+-- the name was opened, and the file read on
+pub record IsGivenOut (C : Type 0) (state : C → CoreState) (name : List ℕ) (result : Result Unit Ending) (old new : C)
+    (sink sink_now : SinkView) : Type 0 where
+  pub count : ℕ
+  pub buf : List ℕ
+  pub mid : C
+  pub opened : CoreStep (state old) (opens 0 name count buf) (state mid)
+  pub reads : List Event
+  pub ran : CoreRun C state reads mid new
+  pub each : AllByRecursion IsRead reads
+  pub ends : EndsGiving reads result
+  pub wrote : WroteGiven result (concat (given_to 0 reads)) sink sink_now
+
+-- These steps were made.
+abbrev pub GiveRun : (C : Type 0) → (C → CoreState) → List ℕ → Result Unit Ending → C → C → SinkView → SinkView → Type 0
+GiveRun C state name result old new sink sink_now =
+    IsNotOpened C state name result old new sink sink_now ⊎ IsGivenOut C state name result old new sink sink_now

@@ -1,3 +1,4 @@
 pub mod Called
 pub mod Numbers
 pub mod Unlent
+pub mod Reading

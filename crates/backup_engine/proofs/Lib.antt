@@ -2,3 +2,4 @@ pub mod Called
 pub mod Numbers
 pub mod Unlent
 pub mod Reading
+pub mod NotDone

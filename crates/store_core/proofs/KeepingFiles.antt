@@ -40,7 +40,7 @@ use Rattle.store_core.specs.State.{CoreState}
 use Rattle.store_core.proofs.OwnParts.{all_part, all_own, own_begin, own_claim, own_abort, own_open, own_read, own_drop, own_set, own_stat, own_refused}
 use Rattle.store_core.proofs.Stepping.{ChangesOne, row_one}
 
--- where a step leads
+-- where a step leads, by these changes
 pub record Next (S : List ℕ → Type 0) (s : Store) (changes : List StoreChange) (stored : Stored) (old new : CoreState) : Type 0 where
   pub store : Store
   pub chain : ChangesTo changes s store
@@ -260,13 +260,13 @@ module _ (among : ByteSet) (s : Store) (stored : Stored) (old new : CoreState) (
   seal_next filled (Ok (answers.Sealed id)) row effect stops right given =
       let may = may_seal_all (IsIn among) filled.kind filled.segments right.1 given in
       let next : Next (IsIn among) s (SealContainer (next_id old) filled.kind filled.segments ∷ []) stored old new =
-          makes among s stored old new actor at (row_one actor buf old new (asked.Seal filled) (Ok (answers.Sealed id)) row) (SealContainer (next_id old) filled.kind filled.segments) stored last_here effect.made effect.disk.later
-          (seal_moves filled (Ok (answers.Sealed id)) effect right given).arrives
-          (λ after is. (
-            (seal_holds filled (Ok (answers.Sealed id)) after is effect right given).0,
-            subst (λ (n : ℕ). HoldsPart (with_sealed n filled.kind filled.segments s).held after (part_of new.parts actor)) row.id_is
-                (row.kept among s stored.files at.index image after at.index_known at.represents here is stands_here distinct may (all_part (HoldsPart s.held image) old.parts actor tt holds)),
-          )) in
+      makes among s stored old new actor at (row_one actor buf old new (asked.Seal filled) (Ok (answers.Sealed id)) row) (SealContainer (next_id old) filled.kind filled.segments) stored last_here effect.made effect.disk.later
+      (seal_moves filled (Ok (answers.Sealed id)) effect right given).arrives
+      (λ after is. (
+        (seal_holds filled (Ok (answers.Sealed id)) after is effect right given).0,
+        subst (λ (n : ℕ). HoldsPart (with_sealed n filled.kind filled.segments s).held after (part_of new.parts actor)) row.id_is
+            (row.kept among s stored.files at.index image after at.index_known at.represents here is stands_here distinct may (all_part (HoldsPart s.held image) old.parts actor tt holds)),
+      )) in
       subst (λ (n : ℕ). Next (IsIn among) s (SealContainer n filled.kind filled.segments ∷ []) stored old new) (sym row.id_is) next
   seal_next filled (Err refusal) row effect stops right given =
       still among s stored old new actor at (row_one actor buf old new (asked.Seal filled) (Err refusal) row) (seal_kept filled refusal stops effect.kept) effect.disk.later

@@ -4,3 +4,4 @@ pub mod Numbers
 pub mod Reading
 pub mod Replied
 pub mod Unlent
+pub mod Reading

@@ -4,4 +4,3 @@ pub mod Numbers
 pub mod Reading
 pub mod Replied
 pub mod Unlent
-pub mod Reading

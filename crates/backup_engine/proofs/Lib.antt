@@ -1,5 +1,7 @@
 pub mod Called
-pub mod Numbers
-pub mod Unlent
-pub mod Reading
+pub mod Formatting
 pub mod NotDone
+pub mod Numbers
+pub mod Reading
+pub mod Replied
+pub mod Unlent

@@ -1,1 +1,4 @@
 pub mod Called
+pub mod PutEnds
+pub mod PutRuns
+pub mod RightRoots

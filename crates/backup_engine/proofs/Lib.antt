@@ -2,6 +2,9 @@ pub mod Called
 pub mod Formatting
 pub mod NotDone
 pub mod Numbers
+pub mod PutEnds
+pub mod PutRuns
 pub mod Reading
 pub mod Replied
+pub mod RightRoots
 pub mod Unlent

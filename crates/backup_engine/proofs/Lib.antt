@@ -1,9 +1,11 @@
 pub mod Called
 pub mod Formatting
+pub mod GivenOrder
 pub mod NotDone
 pub mod Numbers
 pub mod PutEnds
 pub mod PutRuns
+pub mod ReadSteps
 pub mod Reading
 pub mod Replied
 pub mod RightRoots

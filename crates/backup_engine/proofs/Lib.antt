@@ -1,6 +1,7 @@
 pub mod Called
 pub mod Formatting
 pub mod GivenOrder
+pub mod Giving
 pub mod NotDone
 pub mod Numbers
 pub mod PutEnds

@@ -91,7 +91,7 @@ module _ (index : PlaceMap) (breaks : ℕ → Why → List ℕ → Type 0) (a b 
 counts_then : (e : DiskEnding) (before mid now : ℕ) → CountsFault e before mid → now ≡ mid → CountsFault e before now
 counts_then e before mid now counts stays = subst (λ (n : ℕ). CountsFault e before n) (sym stays) counts
 
-reads_closed : (e : DiskEnding) (old mid new : DiskView) → Reads e old mid → Reads Done mid new → Reads e old new
+pub reads_closed : (e : DiskEnding) (old mid new : DiskView) → Reads e old mid → Reads Done mid new → Reads e old new
 reads_closed e old mid new first second = record {
   only = only_reads_on old mid new first.only second.only;
   faults_are = counts_then e old.faults mid.faults new.faults first.faults_are second.faults_are;

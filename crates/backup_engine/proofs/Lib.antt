@@ -1,8 +1,10 @@
 pub mod Called
 pub mod Formatting
+pub mod GivenBack
 pub mod GivenOrder
 pub mod Giving
 pub mod NotDone
+pub mod NotOpened
 pub mod Numbers
 pub mod PutEnds
 pub mod PutRuns

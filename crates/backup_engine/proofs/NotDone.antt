@@ -34,11 +34,11 @@ use Rattle.backup_engine.proofs.Reading.{Answers, AnswersEach, since_start, read
 
 -- ---- over a map
 
-not_sink : (refusal : Refusal) → ¬ (Refused refusal ≡ Sink)
+pub not_sink : (refusal : Refusal) → ¬ (Refused refusal ≡ Sink)
 not_sink refusal is = cc
 
 -- the content is a store of the map's files
-left_with : (S : List ℕ → Type 0) (m : Stored) (old : List ℕ) (content : Option (List ℕ)) (P : Store → Type 0) → content ≡ Some old → (is : IsOf S m old) → P is.0 → IsLeftWith m content P
+pub left_with : (S : List ℕ → Type 0) (m : Stored) (old : List ℕ) (content : Option (List ℕ)) (P : Store → Type 0) → content ≡ Some old → (is : IsOf S m old) → P is.0 → IsLeftWith m content P
 left_with S m old content P told is holds = (is.0, (old, told, is.1.0.holds), holds)
 
 -- memory or the disk failed, whatever the map is

@@ -1,5 +1,5 @@
 -- A put that is refused for another reason than a write that failed stops no core, and one that is done has a good name.
-use Rattle.std.proofs.Common.{◌≡◌, ◌<◌, inl, inr, ℕ, List, [], ◌∷◌, length, Option, Some, None, Result, Ok, Err, IfErr, refl, sym, ◌∙◌, subst, arith}
+use Rattle.std.proofs.Common.{◌≡◌, ◌<◌, inl, inr, ℕ, List, [], ◌∷◌, length, Option, None, Result, Ok, Err, IfErr, refl, sym, ◌∙◌, subst, arith}
 use Rattle.std.specs.List.{AllByRecursion}
 use Rattle.disk_format.specs.Cells.{IsName}
 use Rattle.dd_disk.specs.View.{IsLater}

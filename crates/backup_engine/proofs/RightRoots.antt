@@ -1,17 +1,14 @@
 -- The root of a short file that a core stored is right: each image holds its segment.
-use Rattle.std.proofs.Common.{◌≡◌, ◌⊎◌, inl, inr, ℕ, ◌<◌, ◌≤◌, Bool, true, false, List, [], ◌∷◌, length, Option, Some, None, option_map, refl, sym, ◌∙◌, ap, subst, arith}
+use Rattle.std.proofs.Common.{◌≡◌, inl, inr, ℕ, ◌<◌, ◌≤◌, true, List, [], ◌∷◌, length, Option, Some, None, option_map, refl, sym, ◌∙◌, ap, subst, arith}
 use Rattle.std.proofs.lemmas.Bool.{eqb-true}
 use Rattle.std.specs.FinMap as finite
 use Rattle.std.specs.List.{slice_get}
 use Rattle.sha2.specs.Sha256.{sha256}
 use Rattle.disk_format.specs.Cells.{Root}
 use Rattle.disk_format.specs.declared.numbers.TheConstants.{LEAST_SEGMENT}
-use Rattle.dd_disk.specs.Moves.{StandsFor}
 use Rattle.container_meta.specs.declared.kind.Kind.TheVariants.{Leaf}
 use Rattle.container_meta.specs.declared.place.Place.{Place}
-use Rattle.merkle_file.specs.Tree.{Tree}
 use Rattle.segmenter.proofs.LengthLemmas.{short_is_one}
-use Rattle.actor_parts.specs.declared.part.Part.{Part}
 use Rattle.actor_parts.specs.declared.part.Part.TheVariants.{Writing}
 use Rattle.actor_parts.specs.declared.pins.Pin.{Pin}
 use Rattle.actor_parts.specs.Parts.{part_of}

@@ -1,5 +1,5 @@
 -- A store of a map's files has as much room as the map.
-use Rattle.std.proofs.Common.{◌≡◌, ℕ, suc, Bool, Ordering, true, false, cond, List, [], ◌∷◌, map, length, Option, Some, None, option_map, is_some, T, refl, sym, ◌∙◌, ap, subst}
+use Rattle.std.proofs.Common.{◌≡◌, ℕ, suc, Bool, Ordering, true, false, cond, List, [], ◌∷◌, length, Option, Some, None, option_map, is_some, T, refl, sym, ◌∙◌, ap, subst}
 use Rattle.std.specs.Prelude.{◌&&◌}
 use Rattle.std.specs.Cmp.{IsTotalOrder}
 use Rattle.std.specs.Cmp.Lexicographic.{nat_list_cmp_total, slice_cmp}
@@ -8,13 +8,11 @@ use Rattle.std.specs.FinMap as finite
 use Rattle.std.specs.FinMap.Entries.{find, is_sorted, below_all}
 use Rattle.container_meta.specs.Spelling.{HeaderValue}
 use Rattle.namespace.specs.declared.record.Named.{Named}
-use Rattle.namespace.specs.Names.{NameMap}
-use Rattle.store_model.specs.Files.{Files}
 use Rattle.store_model.specs.Image.{Store, names_of, last_sequence}
 use Rattle.store_model.specs.Standing.{IsFileOf, IsStoreOf}
 use Rattle.store_core.specs.Runs.{Stored}
 use Rattle.backup_engine.specs.Line.{Ingest}
-use Rattle.backup_engine.specs.PlainMap.{Room, room_of, room_in}
+use Rattle.backup_engine.specs.PlainMap.{room_of, room_in}
 
 -- ---- maps of the same keys
 

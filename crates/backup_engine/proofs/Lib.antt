@@ -3,10 +3,10 @@ pub mod Formatting
 pub mod Numbers
 pub mod PutEnds
 pub mod PutMaps
-pub mod PutRuns
 pub mod PutStops
 pub mod Reading
 pub mod Replied
+pub mod RightPuts
 pub mod RightRoots
 pub mod SameRoom
 pub mod Unlent

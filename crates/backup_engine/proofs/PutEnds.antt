@@ -10,7 +10,7 @@ use Rattle.reply_text.specs.declared.ending.Ending.{Ending}
 use Rattle.reply_text.specs.declared.ending.Ending.TheVariants.{Refused}
 use Rattle.store_core.specs.Runs.{FileEvent, Stored, IsOf, IsOnTheWay, with_stored, stored_with, stored_by, stored_after, stored_tried, stored_tried_by}
 use Rattle.backup_engine.specs.Line.{Ingest}
-use Rattle.backup_engine.specs.Promise.{Stands, StandsMeanwhile}
+use Rattle.backup_engine.specs.Promise.{IsLeftAs, MayBeMeanwhile}
 use Rattle.backup_engine.specs.Running.{IsAskedFor, IsPutStep, IsNoCommit, IsLastPut, EndsPut}
 
 -- how a command ends whose file was put, or not
@@ -61,10 +61,10 @@ module _ (S : List ℕ → Type 0) (name given : List ℕ) (m : Stored) where
 
   -- what stands where the put ended so, at its end and at any moment
   abbrev pub Left : Result Unit Refusal → List ℕ → Type 0
-  Left put c = Stands S (Ingest name) given m (ended put) c
+  Left put c = IsLeftAs S (Ingest name) given m (ended put) c
 
   abbrev pub LeftMeanwhile : Result Unit Refusal → List ℕ → Type 0
-  LeftMeanwhile put c = StandsMeanwhile S (Ingest name) given m (ended put) c
+  LeftMeanwhile put c = MayBeMeanwhile S (Ingest name) given m (ended put) c
 
   -- the map after it, where no write that failed stands
   abbrev pub put_after : Result Unit Refusal → Stored

@@ -2,6 +2,7 @@
 use Rattle.std.proofs.Common.{◌≡◌, ◌⊎◌, inl, inr, ℕ, ◌-◌, ◌^◌, ◌<◌, ◌≤◌, List, length, Option, Some, None, Result, Ok, Err, refl, sym, ◌∙◌, subst, arith}
 use Rattle.base_model.specs.Known.{KnownWith}
 use Rattle.disk_format.specs.Cells.{IsName}
+use Rattle.disk_format.specs.declared.numbers.TheConstants.{RESERVE}
 use Rattle.dd_disk.specs.View.{DiskView, CrashLeaves}
 use Rattle.dd_disk.proofs.Moves.{stands_content}
 use Rattle.dd_io.specs.Flow.{SinkView}
@@ -11,7 +12,8 @@ use Rattle.reply_text.specs.declared.ending.Ending.{Ending}
 use Rattle.reply_text.specs.declared.ending.Ending.TheVariants.{Sink, Refused}
 use Rattle.reply_text.specs.Text.{stored_line}
 use Rattle.store_model.specs.Commands.{HasNoCollisions}
-use Rattle.store_model.specs.Image.{Store}
+use Rattle.store_model.specs.Image.{Store, IsValidFor}
+use Rattle.store_model.specs.Slots.{free_slots}
 use Rattle.store_model.specs.Standing.{ByteSet, IsIn, IsStoreOf, IsSegmentOf}
 use Rattle.store_model.specs.Standing as standing
 use Rattle.store_model.specs.Trees.{root_of}
@@ -22,11 +24,11 @@ use Rattle.store_core.proofs.Crashes.{last_at, leaves, ends_with_all}
 use Rattle.store_core.proofs.KeepingFiles.{keeps_files}
 use Rattle.backup_engine.specs.Line.{Ingest}
 use Rattle.backup_engine.specs.PlainMap.{most_bytes, Room, room_of, room_in, Refuses, RefusesIngest}
-use Rattle.backup_engine.specs.Promise.{ClashesByLength, KeepsMap, KeepsEachMap, IsRefusedBy, EndsBy, WroteReply, SinceStart, Stands, StandsMeanwhile}
+use Rattle.backup_engine.specs.Promise.{ClashesByData, KeepsMap, KeepsEachMap, IsRefusedBy, IsLeftWith, IsLeftAs, EndsBy, WroteReply, SinceStart, MayBeMeanwhile}
 use Rattle.backup_engine.specs.Running.{PutRun, IsPutRefusal}
 use Rattle.backup_engine.proofs.Called.{Called, Starts, starts}
 use Rattle.backup_engine.proofs.PutEnds.{Left, LeftMeanwhile, meanwhile, maps_after, left_at_end, left_on_the_way}
-use Rattle.backup_engine.proofs.PutRuns.{file_run}
+use Rattle.backup_engine.proofs.RightPuts.{file_run}
 use Rattle.backup_engine.proofs.PutStops.{RunsOn, refused_on, done_name, run_later}
 use Rattle.backup_engine.proofs.SameRoom.{same_room}
 
@@ -42,12 +44,17 @@ by_write DiskWrite = inl refl
 by_write refusal = inr (λ is. subst IsWrite (sym is) tt)
 
 -- what the store of a map refuses the map refuses
-refuses_by : (name given : List ℕ) (m : Stored) (t : Store) (c : CoreState) (refusal : Refusal) → Represents t c.known c.tables → room_in (Ingest name) t ≡ room_of (Ingest name) m t → IsPutRefusal name given c refusal
+refuses_by : (name given : List ℕ) (m : Stored) (t : Store) (c : CoreState) (refusal : Refusal) → Represents t c.known c.tables → room_in (Ingest name) t ≡ room_of (Ingest name) m t → IsValidFor c.disk.size t → RESERVE ≤ free_slots t.held → IsPutRefusal name given c refusal
     → Refuses (Ingest name) given (room_of (Ingest name) m t) refusal
-refuses_by name given m t c Memory represents same is = tt
-refuses_by name given m t c DiskRead represents same is = tt
-refuses_by name given m t c DiskWrite represents same is = tt
-refuses_by name given m t c refusal represents same is = subst (λ (room : Room). RefusesIngest name given room refusal) same (is t represents)
+refuses_by name given m t c Memory represents same valid reserve is = tt
+refuses_by name given m t c DiskRead represents same valid reserve is = tt
+refuses_by name given m t c DiskWrite represents same valid reserve is = tt
+refuses_by name given m t c refusal represents same valid reserve is = subst (λ (room : Room). RefusesIngest name given room refusal) same (is.store_has t represents valid reserve)
+
+-- after a write that failed either map may be
+refused_left : (name given : List ℕ) (m : Stored) (content : Option (List ℕ)) (refusal : Refusal) → IsLeftWith m content (λ store. Refuses (Ingest name) given (room_of (Ingest name) m store) refusal) → IsRefusedBy (Ingest name) given m content refusal
+refused_left name given m content DiskWrite left = tt
+refused_left name given m content refusal left = left
 
 -- ---- a run over a map
 
@@ -101,18 +108,17 @@ module _ (C : Type 0) (state : C → CoreState) (v w : DiskView) (old new : C) (
 
   -- A command that ended so, and left what the put left.
   keeps : (ending : Option Ending) (sink sink_now : SinkView) → EndsBy (Ingest name) given m w.content ending → WroteReply (stored_line name (root_of given)) ending sink sink_now
-      → ((c : List ℕ) → Left S name given m put c → Stands S (Ingest name) given m ending c) → ((c : List ℕ) → LeftMeanwhile S name given m put c → StandsMeanwhile S (Ingest name) given m ending c)
+      → ((c : List ℕ) → Left S name given m put c → IsLeftAs S (Ingest name) given m ending c) → ((c : List ℕ) → LeftMeanwhile S name given m put c → MayBeMeanwhile S (Ingest name) given m ending c)
       → KeepsMap S (Ingest name) given ending m v w sink sink_now
   keeps ending sink sink_now by_map wrote at_end between = record {
     by_map = by_map;
     wrote = wrote;
-    content = (content_left.0, content_left.1, at_end content_left.0 content_left.2);
-    images = λ c there. inr (at_end c (images_left c there));
+    left = inl ((content_left.0, content_left.1, at_end content_left.0 content_left.2), λ c there. at_end c (images_left c there));
     crash = λ c since. elim (left_meanwhile c since) [ inl first ↦ inl first | inr left ↦ inr (between c left) ];
   }
 
   -- where the core runs on
-  reached : (state new).stop ≡ None → Reaches S start.store (stored_after ran.steps m) (state new)
+  reached : (state new).stop ≡ None → Reaches S start.store (stored_after ran.steps m) ran.steps (state new)
   reached runs = keeps_files C state among ran.steps start.store m old new distinct start.is_at run runs
 
 -- ---- a put that was refused
@@ -125,7 +131,7 @@ module _ (C : Type 0) (state : C → CoreState) (v w : DiskView) (old new : C) (
     first = starts C state v w old new was (IsIn among) m image told is
 
     -- no write failed: a store of the map is left
-    runs_on : ¬ (refusal ≡ DiskWrite) → RunsOn refusal (state new)
+    runs_on : ¬ (refusal ≡ DiskWrite) → RunsOn given refusal (state new)
     runs_on other =
         refused_on C state among name given distinct ran.steps refusal first.store m old new other was.opened.stop_is first.is_at
         (run C state v w old new was name given few (Err refusal) ran among m image told distinct all is) ran.each ran.ends
@@ -135,28 +141,20 @@ module _ (C : Type 0) (state : C → CoreState) (v w : DiskView) (old new : C) (
         let end = reached C state v w old new was name given few (Err refusal) ran among m image told distinct all is (runs_on other).runs in
         (end.store, subst (λ (stored : Stored). IsAt (IsIn among) end.store stored (state new)) (maps_after (IsIn among) name given m ran.steps (Err refusal) ran.each ran.ends) end.is_at)
 
-    by_map_left : ¬ (refusal ≡ DiskWrite) → IsRefusedBy (Ingest name) given m w.content refusal
+    by_map_left : ¬ (refusal ≡ DiskWrite) → IsLeftWith m w.content (λ store. Refuses (Ingest name) given (room_of (Ingest name) m store) refusal)
     by_map_left other =
         let end = at_end other in
-        let left : List ℕ = end.1.stands.known.0 in
-        let holds : IsStoreOf end.0 m.files left = (stands_content (standing.Stands (IsIn among) end.0 m.files) (state new).disk end.1.stands left end.1.stands.known.1).holds in
-        record {
-          store = end.0;
-          left = λ same. (left, was.last.only.content_is ∙ end.1.stands.known.1, holds);
-          refuses = refuses_by name given m end.0 (state new) refusal end.1.represents (same_room end.0 m left holds (last_at (IsIn among) end.0 m (state new) end.1) name) why;
-        }
+        let at : IsAt (IsIn among) end.0 m (state new) = end.1 in
+        let left : List ℕ = at.stands.known.0 in
+        let here = at.stands.known.1 in
+        let holds : IsStoreOf end.0 m.files left = (stands_content (standing.Stands (IsIn among) end.0 m.files) (state new).disk at.stands left here).holds in
+        let room = same_room end.0 m left holds (last_at (IsIn among) end.0 m (state new) at) name in
+        (end.0, (left, was.last.only.content_is ∙ here, holds), refuses_by name given m end.0 (state new) refusal at.represents room at.valid (at.invariant left here).reserve_holds why)
 
-    by_map_written : refusal ≡ DiskWrite → IsRefusedBy (Ingest name) given m w.content refusal
-    by_map_written write = record {
-      store = first.store;
-      left = λ other. absurd (other write);
-      refuses = subst (λ (r : Refusal). Refuses (Ingest name) given (room_of (Ingest name) m first.store) r) (sym write) tt;
-    }
-
-    by_map : IsRefusedBy (Ingest name) given m w.content refusal × ¬ (ClashesByLength refusal)
+    by_map : IsRefusedBy (Ingest name) given m w.content refusal × ¬ (ClashesByData given refusal)
     by_map = elim (by_write refusal) [
-      | inl write ↦ (by_map_written write, λ clash. subst ClashesByLength write clash)
-      | inr other ↦ (by_map_left other, (runs_on other).free)
+      | inl write ↦ subst (λ (r : Refusal). IsRefusedBy (Ingest name) given m w.content r × ¬ (ClashesByData given r)) (sym write) (tt, λ clash. clash)
+      | inr other ↦ (refused_left name given m w.content refusal (by_map_left other), (runs_on other).free)
     ]
 
     refused_keeps : (sink : SinkView) → KeepsMap (IsIn among) (Ingest name) given (Some (Refused refusal)) m v w sink sink

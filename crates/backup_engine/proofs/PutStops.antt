@@ -11,7 +11,6 @@ use Rattle.actor_parts.specs.declared.step.Answer.{Answer}
 use Rattle.actor_parts.specs.declared.step.Answer.TheVariants as answers
 use Rattle.actor_parts.specs.StepValue as asked
 use Rattle.actor_parts.specs.StepValue.{StepValue}
-use Rattle.refusals.specs.declared.refusal.Difference.TheVariants.{Length}
 use Rattle.refusals.specs.declared.refusal.Refusal.{Refusal}
 use Rattle.refusals.specs.declared.refusal.Refusal.TheVariants as refusals
 use Rattle.store_model.specs.Commands.{HasNoCollisions}
@@ -25,8 +24,9 @@ use Rattle.store_core.specs.State.{CoreState, Event}
 use Rattle.store_core.proofs.Damage.{never_damaged}
 use Rattle.store_core.proofs.KeepingFiles.{file_step}
 use Rattle.store_core.proofs.Stepping.{step_later}
-use Rattle.backup_engine.specs.Promise.{ClashesByLength}
-use Rattle.backup_engine.specs.Running.{IsPieceOf, IsAskedFor, IsPutStep, IsLastPut, IsOk, IsOnTheWay, EndsPut}
+use Rattle.backup_engine.specs.AnyDisk.{IsPieceOf}
+use Rattle.backup_engine.specs.Promise.{ClashesByData}
+use Rattle.backup_engine.specs.Running.{IsAskedFor, IsPutStep, IsLastPut, IsOk, IsDoneBefore, EndsPut}
 
 -- ---- what stops a core
 
@@ -45,7 +45,7 @@ refused_runs step refusal count stop clash other harmless stops = stops
 step_of : (old new : CoreState) (e : Event) → old.stop ≡ None → CoreStep old e new → Steps e old new
 step_of old new e runs step = subst (λ (stop : Option Stop). StepsOr stop e old new) runs step
 
-goes_on : (old new : CoreState) (e : Event) → old.stop ≡ None → CoreStep old e new → IsOnTheWay e → new.stop ≡ None
+goes_on : (old new : CoreState) (e : Event) → old.stop ≡ None → CoreStep old e new → IsDoneBefore e → new.stop ≡ None
 goes_on old new e runs step goes = ok_runs e.step e.answer old.acknowledged new.stop goes.1 (step_of old new e runs step).stops
 
 -- ---- what clashes
@@ -63,23 +63,23 @@ no_twin name given bytes (asked.Claim seg) is clash = data_no_tree seg.kind is.0
 no_twin name given bytes (asked.Seal filled) is clash = data_no_tree filled.kind (pieces_data given filled.kind filled.segments clash.number clash.within is) clash.is_twin.0
 no_twin name given bytes step is clash = absurd clash
 
-not_by_length : (refusal : Refusal) (clash : Type 0) → IsHarmless clash refusal → (clash → ⊥) → ¬ (ClashesByLength refusal)
-not_by_length (refusals.Clash key (Length offered held)) clash harmless free is = free harmless
-not_by_length refusal clash harmless free is = absurd is
+no_data : (given : List ℕ) (refusal : Refusal) (clash : Type 0) → IsHarmless clash refusal → (clash → ⊥) → ¬ (ClashesByData given refusal)
+no_data given (refusals.Clash key at) clash harmless free is = free harmless
+no_data given refusal clash harmless free is = absurd is
 
 -- ---- a run
 
 -- the core runs on, and the refusal is no clash of data
-pub record RunsOn (refusal : Refusal) (c : CoreState) : Type 0 where
+pub record RunsOn (given : List ℕ) (refusal : Refusal) (c : CoreState) : Type 0 where
   pub runs : c.stop ≡ None
-  pub free : ¬ (ClashesByLength refusal)
+  pub free : ¬ (ClashesByData given refusal)
 
-memory_runs : (refusal : Refusal) (c : CoreState) → refusal ≡ refusals.Memory → c.stop ≡ None → RunsOn refusal c
-memory_runs refusal c is runs = record { runs = runs; free = λ clash. subst ClashesByLength is clash }
+memory_runs : (given : List ℕ) (refusal : Refusal) (c : CoreState) → refusal ≡ refusals.Memory → c.stop ≡ None → RunsOn given refusal c
+memory_runs given refusal c is runs = record { runs = runs; free = λ clash. subst (ClashesByData given) is clash }
 
 module _ (C : Type 0) (state : C → CoreState) (among : ByteSet) (name given : List ℕ) (distinct : HasNoCollisions (IsIn among)) where
   last_runs : (f : FileEvent) (refusal : Refusal) (s : Store) (m : Stored) (old new : C) → ¬ (refusal ≡ refusals.DiskWrite) → (state old).stop ≡ None → IsAt (IsIn among) s m (state old)
-      → FileStep (IsIn among) f (state old) (state new) → IsPutStep name given f → EndsPut (f ∷ []) (Err refusal) → RunsOn refusal (state new)
+      → FileStep (IsIn among) f (state old) (state new) → IsPutStep name given f → EndsPut (f ∷ []) (Err refusal) → RunsOn given refusal (state new)
   last_runs f refusal s m old new other runs at step put (inl is) =
       let harmless : IsHarmless (MayClash f.event.step) refusal =
       subst (λ (answer : Result Answer Refusal). IfErr answer (λ r. IsHarmless (MayClash f.event.step) r)) is (never_damaged C state among [] f s m old old new distinct at refl step) in
@@ -87,16 +87,16 @@ module _ (C : Type 0) (state : C → CoreState) (among : ByteSet) (name given : 
       record {
         runs = refused_runs f.event.step refusal (state old).acknowledged (state new).stop (MayClash f.event.step) other harmless
             (subst (λ (answer : Result Answer Refusal). StopsAfter f.event.step answer (state old).acknowledged (state new).stop) is stops);
-        free = not_by_length refusal (MayClash f.event.step) harmless (no_twin name given f.bytes f.event.step put.asked_for);
+        free = no_data given refusal (MayClash f.event.step) harmless (no_twin name given f.bytes f.event.step put.asked_for);
       }
-  last_runs f refusal s m old new other runs at step put (inr is) = memory_runs refusal (state new) is.1 (goes_on (state old) (state new) f.event runs step.made is.0)
+  last_runs f refusal s m old new other runs at step put (inr is) = memory_runs given refusal (state new) is.1 (goes_on (state old) (state new) f.event runs step.made is.0)
 
   -- where no write failed
   pub refused_on : (fs : List FileEvent) (refusal : Refusal) (s : Store) (m : Stored) (old new : C) → ¬ (refusal ≡ refusals.DiskWrite) → (state old).stop ≡ None → IsAt (IsIn among) s m (state old)
-      → FileRun C state (IsIn among) fs old new → AllByRecursion (IsPutStep name given) fs → EndsPut fs (Err refusal) → RunsOn refusal (state new)
-  refused_on [] refusal s m old new other runs at run each ends = memory_runs refusal (state new) ends (subst (λ (c : C). (state c).stop ≡ None) (sym run) runs)
+      → FileRun C state (IsIn among) fs old new → AllByRecursion (IsPutStep name given) fs → EndsPut fs (Err refusal) → RunsOn given refusal (state new)
+  refused_on [] refusal s m old new other runs at run each ends = memory_runs given refusal (state new) ends (subst (λ (c : C). (state c).stop ≡ None) (sym run) runs)
   refused_on (f ∷ []) refusal s m old new other runs at run each ends =
-      subst (λ (c : C). RunsOn refusal (state c)) (sym run.1.1) (last_runs f refusal s m old run.0 other runs at run.1.0 each.0 ends)
+      subst (λ (c : C). RunsOn given refusal (state c)) (sym run.1.1) (last_runs f refusal s m old run.0 other runs at run.1.0 each.0 ends)
   refused_on (f ∷ g ∷ fs) refusal s m old new other runs at run each ends =
       let mid = goes_on (state old) (state run.0) f.event runs run.1.0.made ends.0 in
       let next = file_step among distinct f s m (state old) (state run.0) run.1.0 at mid in

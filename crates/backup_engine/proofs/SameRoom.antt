@@ -12,7 +12,7 @@ use Rattle.store_model.specs.Image.{Store, names_of, last_sequence}
 use Rattle.store_model.specs.Standing.{IsFileOf, IsStoreOf}
 use Rattle.store_core.specs.Runs.{Stored}
 use Rattle.backup_engine.specs.Line.{Ingest}
-use Rattle.backup_engine.specs.PlainMap.{room_of, room_in}
+use Rattle.backup_engine.specs.PlainMap.{room, room_of, room_in}
 
 -- ---- maps of the same keys
 
@@ -85,6 +85,6 @@ module _ (store : Store) (m : Stored) (image : List ℕ) (holds : IsStoreOf stor
   -- The room in a store of a map's files is that of the map.
   pub same_room : (name : List ℕ) → room_in (Ingest name) store ≡ room_of (Ingest name) m store
   same_room name =
-      ap (λ (knows : Bool). record (room_in (Ingest name) store) { knows = knows }) (same_keys name)
-      ∙ ap (λ (count : ℕ). record (room_in (Ingest name) store) { knows = is_some (finite.get m.files name); names = count }) same_count
-      ∙ ap (λ (n : ℕ). record (room_of (Ingest name) m store) { last = n }) last
+      ap (λ (knows : Bool). room knows (finite.len (names_of store)) (last_sequence store) store) (same_keys name)
+      ∙ ap (λ (count : ℕ). room (is_some (finite.get m.files name)) count (last_sequence store) store) same_count
+      ∙ ap (λ (n : ℕ). room (is_some (finite.get m.files name)) (finite.len m.files) n store) last

@@ -1,6 +1,12 @@
 pub mod Called
 pub mod Formatting
 pub mod Numbers
+pub mod PutEnds
+pub mod PutMaps
+pub mod PutStops
 pub mod Reading
 pub mod Replied
+pub mod RightPuts
+pub mod RightRoots
+pub mod SameRoom
 pub mod Unlent

@@ -1,4 +1,4 @@
--- Byte lists of which no two have one digest (docs/MODEL.md, 'Collisions').
+-- Byte lists of which no two have one digest (docs/MODEL.md, 'Files by trees').
 use Rattle.std.specs.Prelude.{◌≡◌, ℕ, List}
 use Rattle.sha2.specs.Sha256.{sha256}
 

@@ -1,4 +1,4 @@
--- What refusals of reading say (docs/MODEL.md, 'Refusals').
+-- What refusals of several steps have in common (docs/MODEL.md, 'Refusals').
 use Rattle.std.specs.Prelude.{◌≡◌, ℕ, ◌==◌, if◌then◌else◌, List, length, Some}
 use Rattle.std.specs.FinMap as finite
 use Rattle.sha2.specs.Sha256.{sha256}

@@ -6,9 +6,17 @@ use Rattle.container_meta.specs.Places.{PlaceMap}
 use Rattle.store_model.specs.Slots.{Copy, newest, IsIndexOf}
 use Rattle.store_model.specs.Image.{Store}
 
+none_of : (copy : Option Copy) → option_map (λ (c : Copy). c.place) copy ≡ None → copy ≡ None
+none_of None none = refl
+none_of (Some copy) none = absurd cc
+
 some_of : (copy : Option Copy) (place : Place) → option_map (λ (c : Copy). c.place) copy ≡ Some place → (c : Copy) × (copy ≡ Some c) × (c.place ≡ place)
 some_of None place some = absurd cc
 some_of (Some copy) place some = (copy, refl, cc)
+
+-- a key that the index lacks has no copy
+pub lacks : (store : Store) (places : PlaceMap) (key : List ℕ) → IsIndexOf store.held places → finite.get places key ≡ None → newest 0 store.held key ≡ None
+lacks store places key index found = none_of (newest 0 store.held key) (sym (index key) ∙ found)
 
 -- the place of one that it has is that of its newest copy
 pub finds : (store : Store) (places : PlaceMap) (key : List ℕ) (place : Place) → IsIndexOf store.held places → finite.get places key ≡ Some place

@@ -1,5 +1,9 @@
 -- What is so of a store that an image of some size holds.
-use Rattle.std.proofs.Common.{◌≡◌, ℕ, List, length, sym, ◌∙◌}
+use Rattle.std.proofs.Common.{◌≡◌, ℕ, ◌-◌, ◌^◌, ◌≤◌, Bool, true, false, List, [], ◌∷◌, Option, Some, None, length, sym, ◌∙◌, arith}
+use Rattle.std.specs.Prelude.{◌&&◌, nat_le}
+use Rattle.std.proofs.lemmas.Bool.{leb-true}
+use Rattle.container_meta.specs.Spelling.{HeaderValue, IsHeader}
+use Rattle.store_model.specs.Slots.{AreHeaders, last_id}
 use Rattle.store_model.specs.Image.{Store, Encodes, IsValidFor}
 use Rattle.store_model.proofs.Copies.{headers_of_right}
 
@@ -15,3 +19,17 @@ sound_of_right size image store long right = record {
   headers = headers_of_right image store right;
   different = right.different;
 }
+
+-- a container's id is at most the greatest that there may be
+id_within : (h : HeaderValue) → IsHeader h → h.id ≤ 2 ^ 64 - 2
+id_within h right = leb-true h.id (2 ^ 64 - 2) (second (nat_le 1 h.id) (nat_le h.id (2 ^ 64 - 2)) right.id)
+  where
+    second : (a b : Bool) → a && b ≡ true → b ≡ true
+    second true b e = e
+    second false b e = absurd cc
+
+-- so is the last one
+pub last_within : (held : List (Option HeaderValue)) → AreHeaders held → last_id held ≤ 2 ^ 64 - 2
+last_within [] right = omega arith
+last_within (None ∷ held) right = last_within held right
+last_within (Some h ∷ held) right = omega (arith, id_within h right.0, last_within held right.1)

@@ -80,6 +80,10 @@ newest slot (c ∷ cs) key = newer (copy_in slot c key) (newest (slot + 1) cs ke
 abbrev pub IsIndexOf : List (Option HeaderValue) → PlaceMap → Type 0
 IsIndexOf containers places = (key : List ℕ) → finite.get places key ≡ option_map (λ c. c.place) (newest 0 containers key)
 
+-- the segment of the bytes of a file
+abbrev pub leaf_segment : List ℕ → Segment
+leaf_segment bytes = record { level = 0; bytes = bytes }
+
 -- the greatest id, 0 where there is no container
 abbrev pub last_id : List (Option HeaderValue) → ℕ
 last_id [] = 0

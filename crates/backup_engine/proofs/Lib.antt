@@ -9,4 +9,5 @@ pub mod Replied
 pub mod RightPuts
 pub mod RightRoots
 pub mod SameRoom
+pub mod TopCall
 pub mod Unlent

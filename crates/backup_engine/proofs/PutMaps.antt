@@ -1,5 +1,6 @@
 -- Over a disk that stands for a map an `ingest` keeps the map.
 use Rattle.std.proofs.Common.{◌≡◌, ◌⊎◌, inl, inr, ℕ, ◌-◌, ◌^◌, ◌<◌, ◌≤◌, List, length, Option, Some, None, Result, Ok, Err, refl, sym, ◌∙◌, subst, arith}
+use Rattle.store_model.specs.Files.{Stored}
 use Rattle.base_model.specs.Known.{KnownWith}
 use Rattle.disk_format.specs.Cells.{IsName}
 use Rattle.disk_format.specs.declared.numbers.TheConstants.{RESERVE}
@@ -18,7 +19,7 @@ use Rattle.store_model.specs.Standing.{ByteSet, IsIn, IsStoreOf, IsSegmentOf}
 use Rattle.store_model.specs.Standing as standing
 use Rattle.store_model.specs.Trees.{root_of}
 use Rattle.store_state.specs.Tables.{Represents}
-use Rattle.store_core.specs.Runs.{FileRun, IsAt, IsOf, IsOnTheWay, Reaches, Stored, stored_after}
+use Rattle.store_core.specs.Runs.{FileRun, IsAt, IsOf, IsOnTheWay, Reaches, stored_after}
 use Rattle.store_core.specs.State.{CoreState}
 use Rattle.store_core.proofs.Crashes.{last_at, leaves, ends_with_all}
 use Rattle.store_core.proofs.KeepingFiles.{keeps_files}

@@ -1,5 +1,6 @@
 -- A put that is refused for another reason than a write that failed stops no core, and one that is done has a good name.
 use Rattle.std.proofs.Common.{◌≡◌, ◌<◌, inl, inr, ℕ, List, [], ◌∷◌, length, Option, None, Result, Ok, Err, IfErr, refl, sym, ◌∙◌, subst, arith}
+use Rattle.store_model.specs.Files.{Stored}
 use Rattle.std.specs.List.{AllByRecursion}
 use Rattle.disk_format.specs.Cells.{IsName}
 use Rattle.dd_disk.specs.View.{IsLater}
@@ -18,7 +19,7 @@ use Rattle.store_model.specs.Image.{Store}
 use Rattle.store_model.specs.Standing.{ByteSet, IsIn}
 use Rattle.store_core.specs.declared.stop.Stop.{Stop}
 use Rattle.store_core.specs.Core.{CoreStep, Row, StepsOr, Steps, StopsAfter}
-use Rattle.store_core.specs.Runs.{FileEvent, FileStep, FileRun, IsAt, Stored, stored_by}
+use Rattle.store_core.specs.Runs.{FileEvent, FileStep, FileRun, IsAt, stored_by}
 use Rattle.store_core.specs.Sound.{MayClash, IsHarmless}
 use Rattle.store_core.specs.State.{CoreState, Event}
 use Rattle.store_core.proofs.Damage.{never_damaged}

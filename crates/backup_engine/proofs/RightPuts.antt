@@ -1,5 +1,6 @@
 -- The steps by which a file is stored, over a core that is at a map: they are given what is right.
 use Rattle.std.proofs.Common.{◌≡◌, ℕ, ◌≤◌, List, [], ◌∷◌, length, Option, Some, None, Result, Ok, Err, refl, sym, subst}
+use Rattle.store_model.specs.Files.{Stored}
 use Rattle.std.specs.List.{AllByRecursion}
 use Rattle.disk_format.specs.Cells.{Root}
 use Rattle.container_meta.specs.declared.kind.Kind.{Kind}
@@ -19,7 +20,7 @@ use Rattle.store_model.specs.Standing.{ByteSet, IsIn, IsAmong, IsSegmentOf}
 use Rattle.store_model.specs.Trees.{root_of}
 use Rattle.store_core.specs.declared.stop.Stop.{Stop}
 use Rattle.store_core.specs.Core.{Row, CommitRow, StepsOr}
-use Rattle.store_core.specs.Runs.{CoreRun, FileEvent, FileStep, FileRun, IsAt, IsGivenRight, IsRightCommit, IsRootOf, Stored, events_of, stored_by}
+use Rattle.store_core.specs.Runs.{CoreRun, FileEvent, FileStep, FileRun, IsAt, IsGivenRight, IsRightCommit, IsRootOf, events_of, stored_by}
 use Rattle.store_core.specs.State.{CoreState}
 use Rattle.store_core.proofs.KeepingFiles.{file_step, run_running}
 use Rattle.backup_engine.specs.PlainMap.{most_bytes}

@@ -1,5 +1,6 @@
 -- The root of a short file that a core stored is right: each image holds its segment.
 use Rattle.std.proofs.Common.{◌≡◌, inl, inr, ℕ, ◌<◌, ◌≤◌, true, List, [], ◌∷◌, length, Option, Some, None, option_map, refl, sym, ◌∙◌, ap, subst, arith}
+use Rattle.store_model.specs.Files.{Stored}
 use Rattle.std.proofs.lemmas.Bool.{eqb-true}
 use Rattle.std.specs.FinMap as finite
 use Rattle.std.specs.List.{slice_get}
@@ -24,7 +25,7 @@ use Rattle.store_model.proofs.HeldSlots.{newest_so, HasLevel, levels_so, IsAmong
 use Rattle.store_model.proofs.SameFiles.{tree_of_short, tree_of_none, root_of_short}
 use Rattle.store_state.specs.Invariant.{HoldsPart, ArePinsOf}
 use Rattle.store_state.specs.Tables.{Represents}
-use Rattle.store_core.specs.Runs.{Stored, IsAt, IsRootOf}
+use Rattle.store_core.specs.Runs.{IsAt, IsRootOf}
 use Rattle.store_core.specs.State.{CoreState}
 use Rattle.store_core.proofs.OwnParts.{all_part}
 

@@ -1,5 +1,6 @@
 -- A store of a map's files has as much room as the map.
 use Rattle.std.proofs.Common.{◌≡◌, ℕ, suc, Bool, Ordering, true, false, cond, List, [], ◌∷◌, length, Option, Some, None, option_map, is_some, T, refl, sym, ◌∙◌, ap, subst}
+use Rattle.store_model.specs.Files.{Stored}
 use Rattle.std.specs.Prelude.{◌&&◌}
 use Rattle.std.specs.Cmp.{IsTotalOrder}
 use Rattle.std.specs.Cmp.Lexicographic.{nat_list_cmp_total, slice_cmp}
@@ -10,7 +11,6 @@ use Rattle.container_meta.specs.Spelling.{HeaderValue}
 use Rattle.namespace.specs.declared.record.Named.{Named}
 use Rattle.store_model.specs.Image.{Store, names_of, last_sequence}
 use Rattle.store_model.specs.Standing.{IsFileOf, IsStoreOf}
-use Rattle.store_core.specs.Runs.{Stored}
 use Rattle.backup_engine.specs.Line.{Ingest}
 use Rattle.backup_engine.specs.PlainMap.{room, room_of, room_in}
 

@@ -9,7 +9,7 @@ use Rattle.dd_disk.proofs.Shows.{shown_content}
 use Rattle.actor_parts.specs.declared.actor.TheConstants.{ACTORS}
 use Rattle.actor_parts.specs.declared.part.Part.TheVariants.{Idle}
 use Rattle.store_model.specs.Image.{Store, Encodes, IsValidFor}
-use Rattle.store_model.specs.Standing.{Stands}
+use Rattle.store_model.specs.Collisions.{Stands}
 use Rattle.store_model.proofs.Once.{store_once}
 use Rattle.store_state.specs.Invariant.{HoldsPart}
 use Rattle.store_state.specs.Tables.{Represents}

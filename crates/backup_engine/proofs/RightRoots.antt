@@ -15,10 +15,10 @@ use Rattle.actor_parts.specs.declared.pins.Pin.{Pin}
 use Rattle.actor_parts.specs.Parts.{part_of}
 use Rattle.actor_parts.specs.PinMap.{PinMap, is_pin, has_pin}
 use Rattle.ingest_steps.specs.Writers.{IsStored}
-use Rattle.store_model.specs.Commands.{HasNoCollisions}
+use Rattle.store_model.specs.Collisions.{HasNoCollisions, ByteSet, IsIn, Stands}
 use Rattle.store_model.specs.Image.{Store}
 use Rattle.store_model.specs.Slots.{Copy, newest}
-use Rattle.store_model.specs.Standing.{ByteSet, IsIn, Stands, IsSegmentOf}
+use Rattle.store_model.specs.Standing.{IsSegmentOf}
 use Rattle.store_model.specs.Trees.{root_of, file_tree, leaf_key, bytes_at, HasNewest, HoldsTree}
 use Rattle.store_model.proofs.Copies.{copy_digest, headers_of_right}
 use Rattle.store_model.proofs.HeldSlots.{newest_so, HasLevel, levels_so, IsAmongThese, among_so}

@@ -21,7 +21,7 @@ use Rattle.read_steps.specs.Walking.{IsCopyAt, WasRead, IsCorrupt, IsMisnamed, I
 use Rattle.backup_engine.specs.AnyDisk.{Holds, HasAdded, GivesBack, IsStuck, IsRefused, IsStored, IsCaused, WroteOnAny, EndsDurable, OnAnyDisk}
 use Rattle.backup_engine.specs.Frame.{KeepsOthers}
 use Rattle.backup_engine.specs.Line.{CommandLine, Ingest, Restore}
-use Rattle.store_model.specs.Standing.{ByteSet, IsIn}
+use Rattle.store_model.specs.Collisions.{ByteSet, IsIn}
 use Rattle.backup_engine.specs.Promise.{KeepsMap, KeepsEachMap, IsLeftAs, Stands, NothingWritten}
 use Rattle.backup_engine.specs.TopCall.{Keeps}
 

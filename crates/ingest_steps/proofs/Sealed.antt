@@ -18,7 +18,7 @@ use Rattle.container_log.specs.Writing.{Seals, IsSealed}
 use Rattle.store_model.specs.Files.{Files}
 use Rattle.store_model.specs.Image.{Store}
 use Rattle.store_model.specs.Slots.{HoldsContainer, newest, last_id, free_slots, first_free}
-use Rattle.store_model.specs.Standing.{ByteSet, IsIn, Stands}
+use Rattle.store_model.specs.Collisions.{ByteSet, IsIn, Stands}
 use Rattle.store_model.specs.Steps.{CanSeal, MaySeal, KeepsCopies, with_sealed}
 use Rattle.store_model.specs.Trees.{HasNewest}
 use Rattle.store_model.proofs.FramedTrees.{unsealed}

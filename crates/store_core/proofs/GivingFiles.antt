@@ -15,10 +15,9 @@ use Rattle.actor_parts.proofs.Apart.{apart}
 use Rattle.refusals.specs.declared.refusal.Refusal.{Refusal}
 use Rattle.refusals.specs.declared.refusal.Refusal.TheVariants as refusals
 use Rattle.segmenter.specs.Segments.{segments_of}
-use Rattle.store_model.specs.Commands.{HasNoCollisions}
+use Rattle.store_model.specs.Collisions.{HasNoCollisions, ByteSet, IsIn}
 use Rattle.store_model.specs.Files.{Stored}
 use Rattle.store_model.specs.Image.{Store}
-use Rattle.store_model.specs.Standing.{ByteSet, IsIn}
 use Rattle.store_model.specs.Steps.{StoreChange, KeepsCopies}
 use Rattle.read_steps.specs.Readers.{reading}
 use Rattle.read_steps.specs.Walking.{IsIndexed, SegmentsAhead}

@@ -17,10 +17,9 @@ use Rattle.actor_parts.specs.StepValue.{StepValue, IsStep}
 use Rattle.refusals.specs.declared.refusal.Refusal.{Refusal}
 use Rattle.refusals.specs.declared.refusal.Refusal.TheVariants as refusals
 use Rattle.segmenter.specs.Segments.{segments_of}
-use Rattle.store_model.specs.Commands.{HasNoCollisions}
+use Rattle.store_model.specs.Collisions.{HasNoCollisions, ByteSet, IsIn, IsAmong, Stands}
 use Rattle.store_model.specs.Files.{Stored, with_stored}
 use Rattle.store_model.specs.Image.{Store, IsValidFor, last_sequence}
-use Rattle.store_model.specs.Standing.{ByteSet, IsIn, IsAmong, Stands}
 use Rattle.store_model.specs.Steps.{StoreChange, SealContainer, PutName, CanChange, changed}
 use Rattle.store_model.specs.Trees.{root_of, file_tree, HoldsTree}
 use Rattle.store_state.specs.Invariant.{CoreInvariant}

@@ -6,7 +6,8 @@ use Rattle.container_meta.specs.declared.kind.Kind.{Kind}
 use Rattle.container_meta.specs.declared.kind.Kind.TheVariants.{Leaf, Tree}
 use Rattle.container_meta.specs.Spelling.{HeaderValue}
 use Rattle.store_model.specs.Image.{Store, Encodes}
-use Rattle.store_model.specs.Standing.{entry_bytes, IsAmong, AreAmong, IsHeldData}
+use Rattle.store_model.specs.Standing.{entry_bytes, IsHeldData}
+use Rattle.store_model.specs.Collisions.{IsAmong, AreAmong}
 
 -- what is so of each place of a list is so of each that follows
 module _ {X : Type 0} (P : X → Type 0) where

@@ -1,4 +1,3 @@
-pub mod Among
 pub mod Copies
 pub mod CopyIds
 pub mod Empty

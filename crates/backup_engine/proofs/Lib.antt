@@ -1,1 +1,3 @@
 pub mod Called
+pub mod PutCauses
+pub mod PutChanges

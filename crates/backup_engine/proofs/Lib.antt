@@ -1,3 +1,5 @@
 pub mod Called
+pub mod KeptBytes
 pub mod PutCauses
 pub mod PutChanges
+pub mod PutFrame

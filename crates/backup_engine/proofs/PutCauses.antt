@@ -1,8 +1,8 @@
 -- What the top call promises of `ingest` over any disk: each ending has its cause.
-use Rattle.std.proofs.Common.{◌≡◌, ◌⊎◌, inl, inr, ℕ, ◌<◌, List, [], ◌∷◌, length, Option, Some, None, Result, Ok, Err, IfErr, refl, sym, ◌∙◌, ap, subst, arith}
+use Rattle.std.proofs.Common.{◌≡◌, inl, inr, ℕ, ◌<◌, List, [], ◌∷◌, length, Option, Some, None, Result, Ok, Err, IfErr, refl, sym, ◌∙◌, ap, subst}
 use Rattle.std.specs.List.{AllByRecursion}
 use Rattle.base_model.specs.Known.{Known}
-use Rattle.dd_disk.specs.View.{DiskView, IsLater, IsDurable}
+use Rattle.dd_disk.specs.View.{DiskView, IsLater}
 use Rattle.dd_disk.specs.Ending.{Done, CountsFault, ending, ending_of}
 use Rattle.dd_disk.proofs.Ended.{counts_on}
 use Rattle.dd_disk.proofs.Later.{later_here, later_on, durable_reads}
@@ -12,16 +12,15 @@ use Rattle.actor_parts.specs.declared.step.Answer.{Answer}
 use Rattle.actor_parts.specs.StepValue as asked
 use Rattle.actor_parts.specs.StepValue.{StepValue}
 use Rattle.refusals.specs.declared.refusal.Refusal.{Refusal}
-use Rattle.refusals.specs.declared.refusal.Refusal.TheVariants.{Memory, DiskRead, DiskWrite, TooLong, Stopped}
+use Rattle.refusals.specs.declared.refusal.Refusal.TheVariants.{Memory, DiskRead, DiskWrite, TooLong}
 use Rattle.reply_text.specs.declared.ending.Ending.{Ending}
 use Rattle.reply_text.specs.declared.ending.Ending.TheVariants.{Words, Source, Sink, Refused}
 use Rattle.reply_text.specs.Text.{stored_line}
 use Rattle.store_model.specs.Image.{Store, IsValidFor}
 use Rattle.store_model.specs.Trees.{root_of}
 use Rattle.store_state.specs.Refused.{blames}
-use Rattle.store_state.specs.Tables.{Represents}
 use Rattle.store_core.specs.declared.stop.Stop.{Stop}
-use Rattle.store_core.specs.Core.{Effect, StepsOr, CoreStep}
+use Rattle.store_core.specs.Core.{Effect, StepsOr}
 use Rattle.store_core.specs.Runs.{CoreRun, FileEvent, events_of}
 use Rattle.store_core.specs.State.{CoreState, Event}
 use Rattle.store_core.proofs.Stepping.{step_later}
@@ -32,7 +31,7 @@ use Rattle.backup_engine.specs.Running.{PutRun, IsPutRefusal, IsOk, IsLastPut}
 use Rattle.backup_engine.specs.Storing.{Replies, Sent, IsNotTaken, IsTaken, IsSourceFault, IngestRun}
 use Rattle.backup_engine.specs.TopCall.{ending_in}
 use Rattle.backup_engine.proofs.Called.{Called}
-use Rattle.backup_engine.proofs.PutChanges.{IsOn, Seals, Puts, Ways, EndsBy, IsWayStep, RepresentsUnless, none_sealed, ways_of, put_changes}
+use Rattle.backup_engine.proofs.PutChanges.{IsOn, Seals, EndsBy, IsWayStep, AreUnless, none_sealed, ways_of, put_changes}
 
 -- ---- counts of faults
 
@@ -133,12 +132,12 @@ module _ (C : Type 0) (state : C → CoreState) (v w : DiskView) (old new : C) (
     abbrev Any : Option Ending → Type 0
     Any ending = OnAnyDisk (Ingest name) given ending v w source source_now sink sink_now
 
-    cause_of : (refusal : Refusal) (after : Store) → IsLater (state old).disk (state new).disk → Seals store after → RepresentsUnless refusal after (state new)
+    cause_of : (refusal : Refusal) (after : Store) → IsLater (state old).disk (state new).disk → Seals store after → AreUnless refusal after (state new)
         → IsPutRefusal name given (state new) refusal → IsCaused (Ingest name) given v w source source_now sink sink_now (Some (Refused refusal))
-    cause_of Memory after later sealed represents refuses = tt
-    cause_of DiskRead after later sealed represents refuses = tt
-    cause_of DiskWrite after later sealed represents refuses = tt
-    cause_of refusal after later sealed represents refuses = inr (inl (has_sealed later after sealed, refuses after represents))
+    cause_of Memory after later sealed are refuses = tt
+    cause_of DiskRead after later sealed are refuses = tt
+    cause_of DiskWrite after later sealed are refuses = tt
+    cause_of refusal after later sealed are refuses = inr (inl (has_sealed later after sealed, refuses.store_has after are.represents are.valid are.reserve))
 
     module _ (took : Known source.left (λ all. given ≡ all)) where
       -- the file was put in

@@ -1,10 +1,9 @@
 -- What the steps by which a file is stored make of a core: containers are sealed, and then the name is put, or a step is
 -- refused.
-use Rattle.std.proofs.Common.{◌≡◌, ◌⊎◌, inl, inr, ℕ, suc, ◌<◌, ◌≤◌, List, [], ◌∷◌, ◌++◌, Option, Some, None, Result, Ok, Err, refl, sym, ◌∙◌, subst, arith}
+use Rattle.std.proofs.Common.{◌≡◌, ◌⊎◌, inl, inr, ℕ, suc, ◌≤◌, List, [], ◌∷◌, ◌++◌, Option, Some, None, Result, Ok, Err, refl, sym, ◌∙◌, subst, arith}
 use Rattle.std.specs.List.{AllByRecursion}
 use Rattle.disk_format.specs.declared.numbers.TheConstants.{RESERVE}
-use Rattle.disk_format.specs.Cells.{Root}
-use Rattle.dd_disk.specs.View.{IsDurable}
+use Rattle.dd_disk.specs.View.{IsLater, IsDurable}
 use Rattle.container_meta.specs.Places.{PlaceMap}
 use Rattle.container_meta.specs.Segments.{Contents}
 use Rattle.container_meta.specs.Spelling.{HeaderValue, header_of}
@@ -15,7 +14,7 @@ use Rattle.refusals.specs.declared.refusal.Refusal.{Refusal}
 use Rattle.refusals.specs.declared.refusal.Refusal.TheVariants.{Memory, DiskWrite, Damaged}
 use Rattle.store_model.specs.Image.{Store, IsValidFor}
 use Rattle.store_model.specs.Slots.{free_slots, first_free, with_slot}
-use Rattle.store_model.specs.Steps.{StoreChange, SealContainer, CanPut, with_sealed, changed}
+use Rattle.store_model.specs.Steps.{StoreChange, SealContainer, CanPut, changed}
 use Rattle.store_state.specs.declared.tables.Tables.{Tables}
 use Rattle.store_state.specs.Tables.{Represents}
 use Rattle.store_core.specs.declared.stop.Stop.{Stop}
@@ -215,43 +214,56 @@ module _ (name bytes : List ℕ) where
 
 -- ---- the end
 
--- what the tables represent at the end, but after a write that failed
-abbrev pub RepresentsUnless : Refusal → Store → CoreState → Type 0
-RepresentsUnless DiskWrite s c = Unit {0}
-RepresentsUnless refusal s c = Represents s c.known c.tables
+-- the tables are those of the store, which the disk may hold
+pub record AreOf (s : Store) (c : CoreState) : Type 0 where
+  pub represents : Represents s c.known c.tables
+  pub valid : IsValidFor c.disk.size s
+  pub reserve : RESERVE ≤ free_slots s.held
+
+-- and so they are at the end, but after a write that failed
+abbrev pub AreUnless : Refusal → Store → CoreState → Type 0
+AreUnless DiskWrite s c = Unit {0}
+AreUnless refusal s c = AreOf s c
 
 abbrev pub EndsAt : List ℕ → Result Unit Refusal → Store → CoreState → Type 0
 EndsAt name (Ok u) after new = CanPut name after × IsDurable new.disk
-EndsAt name (Err refusal) after new = RepresentsUnless refusal after new
+EndsAt name (Err refusal) after new = AreUnless refusal after new
 
 pub record Puts (name : List ℕ) (result : Result Unit Refusal) (s : Store) (new : CoreState) : Type 0 where
   pub after : Store
   pub sealed : Seals s after
   pub ends : EndsAt name result after new
 
-unless : (refusal : Refusal) (s : Store) (c : CoreState) → Represents s c.known c.tables → RepresentsUnless refusal s c
-unless DiskWrite s c represents = tt
-unless refusal s c represents = represents
+unless : (refusal : Refusal) (s : Store) (c : CoreState) → AreOf s c → AreUnless refusal s c
+unless DiskWrite s c are = tt
+unless refusal s c are = are
+
+are_of : (s : Store) (c : CoreState) → IsOn s c → AreOf s c
+are_of s c on = record { represents = on.represents; valid = on.valid; reserve = on.reserve }
 
 module _ (s : Store) (old new : CoreState) (on : IsOn s old) where
-  kept : (refusal : Refusal) → KeepsTables old new → RepresentsUnless refusal s new
-  kept refusal tables = unless refusal s new (same_tables s old new tables on.represents)
+  kept : (refusal : Refusal) → KeepsTables old new → IsLater old.disk new.disk → AreUnless refusal s new
+  kept refusal tables later = unless refusal s new (record {
+    represents = same_tables s old new tables on.represents;
+    valid = subst (λ (size : ℕ). IsValidFor size s) (sym later.size_is) on.valid;
+    reserve = on.reserve;
+  })
 
-  unsealed : (filled : Contents) (actor : ℕ) (buf : List ℕ) (refusal : Refusal) → Row (asked.Seal filled) actor (Err refusal) buf old new → SealsOne filled (Err refusal) old new → RepresentsUnless refusal s new
+  unsealed : (filled : Contents) (actor : ℕ) (buf : List ℕ) (refusal : Refusal) → Row (asked.Seal filled) actor (Err refusal) buf old new → SealsOne filled (Err refusal) old new → AreUnless refusal s new
   unsealed filled actor buf DiskWrite row effect = tt
   unsealed filled actor buf (Damaged at why) row effect = absurd (let none : None ≡ Some on.told.0 = sym row.0.2 ∙ on.told.1 in cc)
-  unsealed filled actor buf refusal row effect = kept refusal effect.kept
+  unsealed filled actor buf refusal row effect = kept refusal effect.kept effect.disk.later
 
-  step_refused : (step : StepValue) (actor : ℕ) (buf : List ℕ) (refusal : Refusal) → Row step actor (Err refusal) buf old new → Effect step (Err refusal) old new → RepresentsUnless refusal s new
-  step_refused asked.Begin actor buf refusal row effect = kept refusal effect.tables
-  step_refused (asked.Claim seg) actor buf refusal row effect = kept refusal effect.tables
+  step_refused : (step : StepValue) (actor : ℕ) (buf : List ℕ) (refusal : Refusal) → Row step actor (Err refusal) buf old new → Effect step (Err refusal) old new → AreUnless refusal s new
+  step_refused asked.Begin actor buf refusal row effect = kept refusal effect.tables effect.disk.only.later
+  step_refused (asked.Claim seg) actor buf refusal row effect = kept refusal effect.tables effect.disk.only.later
   step_refused (asked.Seal filled) actor buf refusal row effect = unsealed filled actor buf refusal row effect
-  step_refused (asked.Commit n root) actor buf refusal row effect = kept refusal effect.kept
-  step_refused asked.Abort actor buf refusal row effect = kept refusal effect.tables
-  step_refused (asked.OpenRead n) actor buf refusal row effect = kept refusal effect.tables
-  step_refused asked.ReadNext actor buf refusal row effect = kept refusal effect.tables
-  step_refused asked.EndRead actor buf refusal row effect = kept refusal effect.tables
-  step_refused asked.Stat actor buf refusal row effect = kept refusal effect.tables
+  step_refused (asked.Commit n root) actor buf refusal row effect = kept refusal effect.kept effect.disk.later
+  step_refused asked.Abort actor buf refusal row effect = kept refusal effect.tables effect.disk.only.later
+  step_refused (asked.OpenRead n) actor buf refusal row effect = kept refusal effect.tables effect.disk.only.later
+  step_refused asked.ReadNext actor buf refusal row effect = kept refusal effect.tables effect.disk.only.later
+  step_refused asked.EndRead actor buf refusal row effect = kept refusal effect.tables effect.disk.only.later
+  step_refused asked.Stat actor buf refusal row effect = kept refusal effect.tables effect.disk.only.later
 
   put_last : (name bytes put : List ℕ) (step : StepValue) (answer : Result Answer Refusal) → IsAskedFor name bytes step put → IsLastPut step answer → Effect step answer old new
       → CanPut name s × IsDurable new.disk
@@ -272,15 +284,15 @@ module _ (C : Type 0) (state : C → CoreState) (name bytes : List ℕ) (s : Sto
   ends_at (Ok u) mid new on last =
       let steps = running_step (state mid) (state new) last.f.event on.runs last.made in
       put_last s (state mid) (state new) on name bytes last.f.bytes last.f.event.step last.f.event.answer last.put_step.asked_for last.last steps.made.effect
-  ends_at (Err refusal) mid new on (inl none) = unless refusal s (state new) (subst (λ (c : C). Represents s (state c).known (state c).tables) (sym none.0) on.represents)
+  ends_at (Err refusal) mid new on (inl none) = unless refusal s (state new) (subst (λ (c : C). AreOf s (state c)) (sym none.0) (are_of s (state mid) on))
   ends_at (Err refusal) mid new on (inr last) =
       let e = last.f.event in
       let steps = running_step (state mid) (state new) e on.runs last.made in
       step_refused s (state mid) (state new) on e.step e.actor e.buf refusal (subst (λ (answer : Result Answer Refusal). Row e.step e.actor answer e.buf (state mid) (state new)) last.answer_is steps.made.row)
       (subst (λ (answer : Result Answer Refusal). Effect e.step answer (state mid) (state new)) last.answer_is steps.made.effect)
 
--- From a store that a core is on, the steps seal containers; the store that they lead to can take the name, or the tables at
--- the end represent it.
+-- From a store that a core is on, the steps seal containers; the store that they lead to can take the name, or is that of the
+-- tables at the end.
 pub put_changes : (C : Type 0) (state : C → CoreState) (name bytes : List ℕ) (s : Store) (result : Result Unit Refusal) (old new : C) → IsOn s (state old)
     → PutRun C state name bytes result old new → Puts name result s (state new)
 put_changes C state name bytes s result old new on run =

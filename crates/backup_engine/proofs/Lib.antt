@@ -1,5 +1,10 @@
 pub mod Called
+pub mod Formatting
 pub mod KeptBytes
+pub mod Numbers
 pub mod PutCauses
 pub mod PutChanges
 pub mod PutFrame
+pub mod Reading
+pub mod Replied
+pub mod Unlent

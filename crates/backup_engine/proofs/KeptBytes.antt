@@ -5,19 +5,19 @@ use Rattle.std.specs.List.{AllByRecursion}
 use Rattle.std.proofs.lemmas.Bool.{ltb-true, ltb-false}
 use Rattle.base_model.specs.Bytes.{range, byte_at}
 use Rattle.base_model.specs.Frames.{SameOutside}
-use Rattle.disk_format.specs.declared.numbers.TheConstants.{CELL_BYTES, SLOT_BYTES, FIRST_SLOT, FIRST_HALF, RECORD_GATE, CONTAINER_GATE}
-use Rattle.disk_format.specs.Layout.{half_cells, cell_at, slot_at, size_of}
+use Rattle.disk_format.specs.declared.numbers.TheConstants.{CELL_BYTES, SLOT_BYTES, FIRST_SLOT, FIRST_HALF, CONTAINER_GATE, RESERVE}
+use Rattle.disk_format.specs.Layout.{half_cells, cell_at, slot_at}
 use Rattle.container_meta.specs.Spelling.{HeaderValue}
 use Rattle.reply_text.specs.declared.ending.Ending.{Ending}
 use Rattle.segment_index.specs.Changes.{SameBefore}
 use Rattle.store_model.specs.Image.{Store, Encodes}
-use Rattle.store_model.specs.Slots.{HoldSlots, first_free, with_slot}
+use Rattle.store_model.specs.Slots.{HoldSlots, free_slots, first_free, with_slot}
 use Rattle.store_model.specs.Steps.{StoreChange, SealContainer, PutName, changed}
 use Rattle.store_core.specs.Runs.{ChangesTo}
 use Rattle.ingest_steps.specs.Sealing.{SameButSlotOf}
-use Rattle.backup_engine.specs.AnyDisk.{IsSeal}
 use Rattle.backup_engine.specs.Frame.{KeepsOpen}
 use Rattle.backup_engine.specs.Promise.{MayChange}
+use Rattle.backup_engine.proofs.PutChanges.{IsSeal}
 
 -- ---- closed slots
 
@@ -48,36 +48,31 @@ first_shut place slot (Some h ∷ cs) image is within closed = first_shut place 
 
 -- ---- what of an image a store leaves free
 
--- The slots in which the store has no container are closed in the image, and so is the cell after its records.
-pub record IsFreeIn (slots : ℕ) (base : List ℕ) (store : Store) : Type 0 where
-  pub slots_are : store.slots ≡ slots
-  pub low : store.selector.half ≤ 1
-  pub cell : length store.records < half_cells → byte_at (cell_at store.selector.half (length store.records)) base ≢ RECORD_GATE
+-- A store with more containers than the first one: the slots in which it has none are closed in the image.
+pub record IsFreeIn (first : Store) (base : List ℕ) (store : Store) : Type 0 where
+  pub slots_are : store.slots ≡ first.slots
+  pub half_is : store.selector.half ≡ first.selector.half
+  pub count_is : length store.records ≡ length first.records
   pub free : AreClosed 0 store.held base
 
-pub free_held : (base : List ℕ) (store : Store) → Encodes base store → IsFreeIn store.slots base store
-free_held base store right = record {
-  slots_are = refl;
-  low = right.journal.selector_is.0.half;
-  cell = right.journal.records_are.ends;
-  free = closed_held 0 store.held base right.slots_are;
-}
+pub free_held : (base : List ℕ) (store : Store) → Encodes base store → IsFreeIn store base store
+free_held base store right = record { slots_are = refl; half_is = refl; count_is = refl; free = closed_held 0 store.held base right.slots_are }
 
 -- and so it is of a store with more containers
-pub free_sealed : (slots : ℕ) (base : List ℕ) (changes : List StoreChange) (s t : Store) → ChangesTo changes s t → AllByRecursion IsSeal changes → IsFreeIn slots base s → IsFreeIn slots base t
-free_sealed slots base [] s t chain seals free = subst (IsFreeIn slots base) (sym chain) free
-free_sealed slots base (SealContainer id kind segments ∷ changes) s t chain seals free =
-    free_sealed slots base changes (changed (SealContainer id kind segments) s) t chain.1 seals.1 (record {
+pub free_sealed : (first : Store) (base : List ℕ) (changes : List StoreChange) (s t : Store) → ChangesTo changes s t → AllByRecursion IsSeal changes → IsFreeIn first base s → IsFreeIn first base t
+free_sealed first base [] s t chain seals free = subst (IsFreeIn first base) (sym chain) free
+free_sealed first base (SealContainer id kind segments ∷ changes) s t chain seals free =
+    free_sealed first base changes (changed (SealContainer id kind segments) s) t chain.1 seals.1 (record {
       slots_are = free.slots_are;
-      low = free.low;
-      cell = free.cell;
+      half_is = free.half_is;
+      count_is = free.count_is;
       free = closed_with (first_free s.held) 0 _ s.held base free.free;
     })
-free_sealed slots base (PutName name root ∷ changes) s t chain seals free = absurd seals.0
+free_sealed first base (PutName name root ∷ changes) s t chain seals free = absurd seals.0
 
 -- its first free slot is closed there
-pub first_is_shut : (slots : ℕ) (base : List ℕ) (store : Store) → IsFreeIn slots base store → first_free store.held < length store.held → byte_at (slot_at (first_free store.held)) base ≢ CONTAINER_GATE
-first_is_shut slots base store free within = first_shut (first_free store.held) 0 store.held base (omega arith) within free.free
+pub first_is_shut : (first : Store) (base : List ℕ) (store : Store) → IsFreeIn first base store → first_free store.held < length store.held → byte_at (slot_at (first_free store.held)) base ≢ CONTAINER_GATE
+first_is_shut first base store free within = first_shut (first_free store.held) 0 store.held base (omega arith) within free.free
 
 -- ---- what stays
 
@@ -118,32 +113,44 @@ module _ (slots : ℕ) (base old : List ℕ) (keeps : KeepsSlots slots base old)
       other_slot : (other : ℕ) → other < slots → byte_at (slot_at other) base ≡ CONTAINER_GATE → range (slot_at other) SLOT_BYTES new ≡ range (slot_at other) SLOT_BYTES old
       other_slot other within opened = below_or other (nat_lt other slot) refl within (λ is. shut (ap (λ (s : ℕ). byte_at (slot_at s) base) (sym is) ∙ opened))
 
-  -- what was open stays
-  pub open_kept : (ending : Option Ending) → length base ≡ size_of slots → KeepsOpen ending base old
-  open_kept ending size = record {
-    slots = slots;
-    size = size;
+-- what was open stays
+module _ (store : Store) (base : List ℕ) (right : Encodes base store) (reserve : RESERVE ≤ free_slots store.held) (old : List ℕ) (keeps : KeepsSlots store.slots base old) where
+  pub open_kept : (ending : Option Ending) → KeepsOpen ending base old
+  open_kept ending = record {
+    store = store;
+    right = right;
+    reserve = reserve;
     size_is = keeps.size_is;
     head = keeps.front 0 FIRST_HALF (omega arith);
-    cells = λ half cell low within opened. keeps.front (cell_at half cell) CELL_BYTES (omega (arith, low, within));
+    cells = λ half cell low within other. keeps.front (cell_at half cell) CELL_BYTES (omega (arith, low, within));
     containers = keeps.containers;
   }
 
-  -- and so it does where a closed cell changes
-  pub open_next : (ending : Option Ending) → MayChange ending → length base ≡ size_of slots → (half cell : ℕ) → half ≤ 1 → cell < half_cells → byte_at (cell_at half cell) base ≢ RECORD_GATE
-      → (new : List ℕ) → SameOutside (cell_at half cell) CELL_BYTES old new → KeepsOpen ending base new
-  open_next ending may size half cell low within shut new same = record {
-    slots = slots;
-    size = size;
+  -- and so it does where the cell after the records changes
+  pub open_next : (ending : Option Ending) → MayChange ending → (half cell : ℕ) → half ≡ store.selector.half → cell ≡ length store.records → cell < half_cells → (new : List ℕ)
+      → SameOutside (cell_at half cell) CELL_BYTES old new → KeepsOpen ending base new
+  open_next ending may half cell half_is cell_is within new same = record {
+    store = store;
+    right = right;
+    reserve = reserve;
     size_is = same.size ∙ keeps.size_is;
     head = same.before 0 FIRST_HALF (omega arith) ∙ keeps.front 0 FIRST_HALF (omega arith);
-    cells = λ h c low_too within_too opened. other_cell h c low_too within_too (opened may) ∙ keeps.front (cell_at h c) CELL_BYTES (omega (arith, low_too, within_too));
+    cells = λ h c low_too within_too other.
+        below_or h c (nat_lt (cell_at h c) (cell_at half cell)) refl (λ is. other (may, same_half h c low_too within_too is ∙ half_is, same_cell h c low_too within_too is ∙ cell_is))
+        ∙ keeps.front (cell_at h c) CELL_BYTES (omega (arith, low_too, within_too));
     containers = λ slot below opened. same.after (slot_at slot) SLOT_BYTES (omega (arith, low, within)) ∙ keeps.containers slot below opened;
   }
     where
+      low : half ≤ 1
+      low = omega (arith, half_is, right.journal.selector_is.0.half)
+
+      -- each place has one half and one cell
+      same_half : (h c : ℕ) → h ≤ 1 → c < half_cells → cell_at h c ≡ cell_at half cell → h ≡ half
+      same_half h c low_too within_too is = omega (arith, low_too, within_too, is, low, within)
+
+      same_cell : (h c : ℕ) → h ≤ 1 → c < half_cells → cell_at h c ≡ cell_at half cell → c ≡ cell
+      same_cell h c low_too within_too is = omega (arith, low_too, within_too, is, low, within)
+
       below_or : (h c : ℕ) (below : Bool) → nat_lt (cell_at h c) (cell_at half cell) ≡ below → (cell_at h c ≡ cell_at half cell → ⊥) → range (cell_at h c) CELL_BYTES new ≡ range (cell_at h c) CELL_BYTES old
       below_or h c true is differ = same.before (cell_at h c) CELL_BYTES (omega (arith, ltb-true (cell_at h c) (cell_at half cell) is))
       below_or h c false is differ = same.after (cell_at h c) CELL_BYTES (omega (arith, ltb-false (cell_at h c) (cell_at half cell) is, differ))
-
-      other_cell : (h c : ℕ) → h ≤ 1 → c < half_cells → byte_at (cell_at h c) base ≡ RECORD_GATE → range (cell_at h c) CELL_BYTES new ≡ range (cell_at h c) CELL_BYTES old
-      other_cell h c low_too within_too opened = below_or h c (nat_lt (cell_at h c) (cell_at half cell)) refl (λ is. shut (ap (λ (p : ℕ). byte_at p base) (sym is) ∙ opened))

@@ -1,12 +1,11 @@
 -- What `ingest` never changes, whatever the disk holds.
-use Rattle.std.proofs.Common.{◌≡◌, ◌⊎◌, inl, inr, ℕ, ◌-◌, ◌^◌, ◌<◌, ◌≤◌, List, [], ◌∷◌, length, Option, Some, None, Result, Ok, Err, sym, ◌∙◌, ap, subst, arith}
+use Rattle.std.proofs.Common.{◌≡◌, ◌⊎◌, inl, inr, ℕ, ◌-◌, ◌^◌, ◌<◌, ◌≤◌, List, [], ◌∷◌, Option, Some, None, Result, Ok, Err, sym, ◌∙◌, subst, arith}
 use Rattle.std.specs.List.{AllByRecursion}
-use Rattle.base_model.specs.Bytes.{byte_at}
 use Rattle.base_model.specs.Frames.{SameOutside}
 use Rattle.base_model.specs.Known.{KnownWith}
-use Rattle.disk_format.specs.declared.numbers.TheConstants.{CELL_BYTES, RECORD_GATE}
+use Rattle.disk_format.specs.declared.numbers.TheConstants.{CELL_BYTES, RESERVE}
 use Rattle.disk_format.specs.Cells.{Root}
-use Rattle.disk_format.specs.Layout.{half_cells, cell_at, slot_at, size_of}
+use Rattle.disk_format.specs.Layout.{half_cells, cell_at, slot_at}
 use Rattle.dd_disk.specs.View.{DiskView, IsLater, OnlyReads, CrashLeaves, SteppedFrom}
 use Rattle.dd_disk.proofs.Later.{later_here, reads_here, reads_leave, leaves_on, leaves_weaker}
 use Rattle.dd_disk.proofs.Shows.{shown_content}
@@ -23,7 +22,7 @@ use Rattle.reply_text.specs.declared.ending.Ending.TheVariants.{Words, Source, S
 use Rattle.reply_text.specs.Text.{stored_line}
 use Rattle.segment_index.specs.Changes.{SameBefore}
 use Rattle.store_model.specs.Image.{Store, Encodes}
-use Rattle.store_model.specs.Slots.{first_free}
+use Rattle.store_model.specs.Slots.{free_slots, first_free}
 use Rattle.store_model.specs.Trees.{root_of}
 use Rattle.store_model.proofs.Free.{some_free}
 use Rattle.store_state.specs.Settled.{IsSettled}
@@ -35,7 +34,7 @@ use Rattle.store_core.proofs.Stepping.{effect_later}
 use Rattle.backup_engine.specs.Frame.{KeepsOpen, KeepsRest, KeepsOthers}
 use Rattle.backup_engine.specs.Line.{Ingest}
 use Rattle.backup_engine.specs.Promise.{MayChange, SinceStart}
-use Rattle.backup_engine.specs.Running.{PutRun, IsAskedFor, IsNoCommit, IsOk, IsLastPut}
+use Rattle.backup_engine.specs.Running.{PutRun, IsAskedFor, IsNoCommit, IsOk, IsLastPut, seal_by}
 use Rattle.backup_engine.specs.Storing.{Replies, IngestRun}
 use Rattle.backup_engine.specs.TopCall.{ending_in}
 use Rattle.backup_engine.proofs.Called.{Called}
@@ -51,12 +50,15 @@ pub record Leaves (P : List ℕ → Type 0) (old new : DiskView) : Type 0 where
   pub images : CrashLeaves P old new
 
 -- the disk of a core that is on a store: all is as in the base but what the store leaves free there
-pub record IsHeldBy (slots : ℕ) (base : List ℕ) (store : Store) (v : DiskView) : Type 0 where
-  pub free : IsFreeIn slots base store
-  pub content : KnownWith v.content (KeepsSlots slots base)
-  pub settled : IsSettled slots v
+pub record IsHeldBy (first : Store) (base : List ℕ) (store : Store) (v : DiskView) : Type 0 where
+  pub free : IsFreeIn first base store
+  pub content : KnownWith v.content (KeepsSlots first.slots base)
+  pub settled : IsSettled first.slots v
 
-module _ (slots : ℕ) (base : List ℕ) (t : Store) (old new : CoreState) (on : IsOn t old) (held : IsHeldBy slots base t old.disk) where
+module _ (first : Store) (base : List ℕ) (t : Store) (old new : CoreState) (on : IsOn t old) (held : IsHeldBy first base t old.disk) where
+  abbrev slots : ℕ
+  slots = first.slots
+
   abbrev given : List ℕ
   given = held.content.0
 
@@ -87,7 +89,7 @@ module _ (slots : ℕ) (base : List ℕ) (t : Store) (old new : CoreState) (on :
   by_seal filled answer effect =
       let frame : ChangesSlotAlone slots (first_free t.held) old.disk new.disk =
       subst (λ (n : ℕ). ChangesSlotAlone n (first_free t.held) old.disk new.disk) tables_slots (effect.moves.frame.store_has t on.represents on.valid on.reserve) in
-      let shut = first_is_shut slots base t held.free (some_free t.held (omega (arith, on.reserve))) in
+      let shut = first_is_shut first base t held.free (some_free t.held (omega (arith, on.reserve))) in
       let left = frame.settled held.settled given known in
       let each = λ (c : List ℕ) (same : SameButSlotOf slots (first_free t.held) given c). slots_sealed slots base given keeps (first_free t.held) c shut same in
       record {
@@ -100,12 +102,12 @@ module _ (slots : ℕ) (base : List ℕ) (t : Store) (old new : CoreState) (on :
       subst (λ (n : ℕ). IsSettled n new.disk) tables_slots (effect.disk.left (subst (λ (n : ℕ). IsSettled n old.disk) (sym tables_slots) held.settled))
 
   -- a record was written, or in part
-  module _ (ending : Option Ending) (size : length base ≡ size_of slots) where
+  module _ (ending : Option Ending) (right : Encodes base first) (reserve : RESERVE ≤ free_slots first.held) where
     abbrev Open : List ℕ → Type 0
     Open = KeepsOpen ending base
 
     slots_open : (c : List ℕ) → KeepsSlots slots base c → KeepsOpen ending base c
-    slots_open c keeps_there = open_kept slots base c keeps_there ending size
+    slots_open c keeps_there = open_kept first base right reserve c keeps_there ending
 
     pub slots_leave : Leaves Slots old.disk new.disk → Leaves Open old.disk new.disk
     slots_leave leaves = record {
@@ -118,21 +120,10 @@ module _ (slots : ℕ) (base : List ℕ) (t : Store) (old new : CoreState) (on :
       abbrev SameButNext : List ℕ → List ℕ → Type 0
       SameButNext before after = SameOutside (cell_at old.tables.journal.half old.tables.journal.count) CELL_BYTES before after
 
-      half_is : old.tables.journal.half ≡ t.selector.half
-      half_is = on.represents.names_are.half
-
-      count_is : old.tables.journal.count ≡ length t.records
-      count_is = on.represents.names_are.count
-
-      -- that cell is closed
-      next_shut : byte_at (cell_at old.tables.journal.half old.tables.journal.count) base ≡ RECORD_GATE → ⊥
-      next_shut opened =
-          held.free.cell (omega (arith, count_is, room))
-          (ap (λ (h : ℕ). byte_at (cell_at h (length t.records)) base) (sym half_is) ∙ ap (λ (n : ℕ). byte_at (cell_at old.tables.journal.half n) base) (sym count_is) ∙ opened)
-
       next_open : (d c : List ℕ) → KeepsSlots slots base d → SameButNext d c → KeepsOpen ending base c
       next_open d c keeps_there same =
-          open_next slots base d keeps_there ending may size old.tables.journal.half old.tables.journal.count (omega (arith, half_is, held.free.low)) room next_shut c same
+          open_next first base right reserve d keeps_there ending may old.tables.journal.half old.tables.journal.count (on.represents.names_are.half ∙ held.free.half_is)
+          (on.represents.names_are.count ∙ held.free.count_is) room c same
 
       by_commit : (name : List ℕ) (root : Root) (answer : Result Answer Refusal) → PutsOne name root answer old new → Leaves Open old.disk new.disk
       by_commit name root answer effect =
@@ -146,28 +137,28 @@ module _ (slots : ℕ) (base : List ℕ) (t : Store) (old new : CoreState) (on :
 -- ---- the steps on the way
 
 -- a core on a store, whose disk holds it, and what a crash left since the start
-pub record IsFramed (slots : ℕ) (base : List ℕ) (start : DiskView) (c : CoreState) : Type 0 where
+pub record IsFramed (first : Store) (base : List ℕ) (start : DiskView) (c : CoreState) : Type 0 where
   pub store : Store
   pub on : IsOn store c
-  pub held : IsHeldBy slots base store c.disk
+  pub held : IsHeldBy first base store c.disk
   pub clock : start.clock ≤ c.disk.clock
-  pub images : CrashLeaves (KeepsSlots slots base) start c.disk
+  pub images : CrashLeaves (KeepsSlots first.slots base) start c.disk
 
-module _ (slots : ℕ) (base : List ℕ) where
+module _ (first : Store) (base : List ℕ) where
   abbrev All : List ℕ → Type 0
-  All = KeepsSlots slots base
+  All = KeepsSlots first.slots base
 
-  module _ (t : Store) (old new : CoreState) (on : IsOn t old) (held : IsHeldBy slots base t old.disk) where
-    reads_held : OnlyReads old.disk new.disk → Leaves All old.disk new.disk × IsSettled slots new.disk
-    reads_held reads = (by_reads slots base t old new on held reads, still_settled slots base t old new on held reads)
+  module _ (t : Store) (old new : CoreState) (on : IsOn t old) (held : IsHeldBy first base t old.disk) where
+    reads_held : OnlyReads old.disk new.disk → Leaves All old.disk new.disk × IsSettled first.slots new.disk
+    reads_held reads = (by_reads first base t old new on held reads, still_settled first base t old new on held reads)
 
     step_held : (name bytes put : List ℕ) (step : StepValue) (answer : Result Answer Refusal) → IsAskedFor name bytes step put → IsNoCommit step → IsOk answer → Effect step answer old new
-        → Leaves All old.disk new.disk × IsSettled slots new.disk
+        → Leaves All old.disk new.disk × IsSettled first.slots new.disk
     step_held name bytes put step (Err refusal) asks other ok effect = absurd ok
     step_held name bytes put asked.Begin (Ok answer) asks other ok effect = reads_held effect.disk.only
     step_held name bytes put (asked.Claim seg) (Ok answer) asks other ok effect = reads_held effect.disk.only
     step_held name bytes put (asked.Seal filled) (Ok answer) asks other ok effect =
-        (by_seal slots base t old new on held filled (Ok answer) effect, seal_settled slots base t old new on held filled answer effect)
+        (by_seal first base t old new on held filled (Ok answer) effect, seal_settled first base t old new on held filled answer effect)
     step_held name bytes put (asked.Commit n root) (Ok answer) asks other ok effect = absurd other
     step_held name bytes put asked.Abort (Ok answer) asks other ok effect = absurd asks
     step_held name bytes put (asked.OpenRead n) (Ok answer) asks other ok effect = absurd asks
@@ -176,7 +167,7 @@ module _ (slots : ℕ) (base : List ℕ) where
     step_held name bytes put asked.Stat (Ok answer) asks other ok effect = absurd asks
 
   module _ (name bytes : List ℕ) (start : DiskView) where
-    framed_step : (f : FileEvent) (old new : CoreState) → IsFramed slots base start old → CoreStep old f.event new → IsWayStep name bytes f → IsFramed slots base start new
+    framed_step : (f : FileEvent) (old new : CoreState) → IsFramed first base start old → CoreStep old f.event new → IsWayStep name bytes f → IsFramed first base start new
     framed_step f old new framed made is =
         let effect = (running_step old new f.event framed.on.runs made).made.effect in
         let here = way_step name bytes f framed.store old new framed.on made is in
@@ -185,7 +176,7 @@ module _ (slots : ℕ) (base : List ℕ) where
           store = here.after;
           on = here.on;
           held = record {
-            free = free_sealed slots base here.sealed.changes framed.store here.after here.sealed.chain here.sealed.seals framed.held.free;
+            free = free_sealed first base (seal_by f.event.step f.event.answer) framed.store here.after here.chain here.seals framed.held.free;
             content = disk.0.content;
             settled = disk.1;
           };
@@ -193,9 +184,9 @@ module _ (slots : ℕ) (base : List ℕ) where
           images = leaves_on All All All start old.disk new.disk framed.clock framed.images disk.0.images (λ c keeps_it. keeps_it) (λ c keeps_it. keeps_it);
         }
 
-    framed_way : (C : Type 0) (state : C → CoreState) (way : List FileEvent) (old new : C) → IsFramed slots base start (state old) → CoreRun C state (events_of way) old new
-        → AllByRecursion (IsWayStep name bytes) way → IsFramed slots base start (state new)
-    framed_way C state [] old new framed run each = subst (λ (c : C). IsFramed slots base start (state c)) (sym run) framed
+    framed_way : (C : Type 0) (state : C → CoreState) (way : List FileEvent) (old new : C) → IsFramed first base start (state old) → CoreRun C state (events_of way) old new
+        → AllByRecursion (IsWayStep name bytes) way → IsFramed first base start (state new)
+    framed_way C state [] old new framed run each = subst (λ (c : C). IsFramed first base start (state c)) (sym run) framed
     framed_way C state (f ∷ fs) old new framed run each =
         framed_way C state fs run.0 new (framed_step f (state old) (state run.0) framed run.1.0 each.0) run.1.1 each.1
 
@@ -205,25 +196,25 @@ commit_room : (old new : CoreState) (name : List ℕ) (root : Root) (actor : ℕ
 commit_room old new name root actor buf (answers.Committed sequence) row = row.0.may_name.cell
 commit_room old new name root actor buf answer row = absurd row
 
-module _ (slots : ℕ) (base : List ℕ) (size : length base ≡ size_of slots) (start : DiskView) where
-  module _ (old new : CoreState) (framed : IsFramed slots base start old) where
+module _ (first : Store) (base : List ℕ) (right : Encodes base first) (reserve : RESERVE ≤ free_slots first.held) (start : DiskView) where
+  module _ (old new : CoreState) (framed : IsFramed first base start old) where
     abbrev t : Store
     t = framed.store
 
     abbrev EndsSo : Option Ending → Type 0
     EndsSo ending = Leaves (KeepsOpen ending base) old.disk new.disk
 
-    here_open : (ending : Option Ending) → Leaves (KeepsSlots slots base) old.disk new.disk → EndsSo ending
-    here_open ending leaves = slots_leave slots base t old new framed.on framed.held ending size leaves
+    here_open : (ending : Option Ending) → Leaves (KeepsSlots first.slots base) old.disk new.disk → EndsSo ending
+    here_open ending leaves = slots_leave first base t old new framed.on framed.held ending right reserve leaves
 
     reads_open : (ending : Option Ending) → OnlyReads old.disk new.disk → EndsSo ending
-    reads_open ending reads = here_open ending (by_reads slots base t old new framed.on framed.held reads)
+    reads_open ending reads = here_open ending (by_reads first base t old new framed.on framed.held reads)
 
     put_open : (ending : Option Ending) → MayChange ending → (actor : ℕ) (buf : List ℕ) (step : StepValue) (answer : Result Answer Refusal) → IsLastPut step answer → Row step actor answer buf old new
         → Effect step answer old new → EndsSo ending
     put_open ending may actor buf (asked.Commit name root) (Err refusal) last row effect = absurd last
     put_open ending may actor buf (asked.Commit name root) (Ok answer) last row effect =
-        by_commit slots base t old new framed.on framed.held ending size may (commit_room old new name root actor buf answer row) name root (Ok answer) effect
+        by_commit first base t old new framed.on framed.held ending right reserve may (commit_room old new name root actor buf answer row) name root (Ok answer) effect
     put_open ending may actor buf asked.Begin answer last row effect = absurd last
     put_open ending may actor buf (asked.Claim seg) answer last row effect = absurd last
     put_open ending may actor buf (asked.Seal filled) answer last row effect = absurd last
@@ -237,14 +228,14 @@ module _ (slots : ℕ) (base : List ℕ) (size : length base ≡ size_of slots) 
     uncommitted : (name : List ℕ) (root : Root) (actor : ℕ) (buf : List ℕ) (refusal : Refusal) → Row (asked.Commit name root) actor (Err refusal) buf old new → PutsOne name root (Err refusal) old new
         → EndsSo (Some (Refused refusal))
     uncommitted name root actor buf DiskWrite row effect =
-        by_commit slots base t old new framed.on framed.held (Some (Refused DiskWrite)) size tt row.0.0.may_name.cell name root (Err DiskWrite) effect
+        by_commit first base t old new framed.on framed.held (Some (Refused DiskWrite)) right reserve tt row.0.0.may_name.cell name root (Err DiskWrite) effect
     uncommitted name root actor buf DiskRead row effect = reads_open (Some (Refused DiskRead)) effect.disk.ends
     uncommitted name root actor buf refusal row effect = reads_open (Some (Refused refusal)) effect.disk.ends
 
     refused_open : (actor : ℕ) (buf : List ℕ) (refusal : Refusal) (step : StepValue) → Row step actor (Err refusal) buf old new → Effect step (Err refusal) old new → EndsSo (Some (Refused refusal))
     refused_open actor buf refusal asked.Begin row effect = reads_open (Some (Refused refusal)) effect.disk.only
     refused_open actor buf refusal (asked.Claim seg) row effect = reads_open (Some (Refused refusal)) effect.disk.only
-    refused_open actor buf refusal (asked.Seal filled) row effect = here_open (Some (Refused refusal)) (by_seal slots base t old new framed.on framed.held filled (Err refusal) effect)
+    refused_open actor buf refusal (asked.Seal filled) row effect = here_open (Some (Refused refusal)) (by_seal first base t old new framed.on framed.held filled (Err refusal) effect)
     refused_open actor buf refusal (asked.Commit name root) row effect = uncommitted name root actor buf refusal row effect
     refused_open actor buf refusal asked.Abort row effect = reads_open (Some (Refused refusal)) effect.disk.only
     refused_open actor buf refusal (asked.OpenRead name) row effect = reads_open (Some (Refused refusal)) effect.disk.only
@@ -256,22 +247,22 @@ module _ (slots : ℕ) (base : List ℕ) (size : length base ≡ size_of slots) 
     since_start : (ending : Option Ending) → EndsSo ending → Leaves (KeepsOpen ending base) start new.disk
     since_start ending leaves = record {
       content = leaves.content;
-      images = leaves_on (KeepsSlots slots base) (KeepsOpen ending base) (KeepsOpen ending base) start old.disk new.disk framed.clock framed.images leaves.images
-          (λ c keeps_it. open_kept slots base c keeps_it ending size) (λ c keeps_it. keeps_it);
+      images = leaves_on (KeepsSlots first.slots base) (KeepsOpen ending base) (KeepsOpen ending base) start old.disk new.disk framed.clock framed.images leaves.images
+          (λ c keeps_it. open_kept first base right reserve c keeps_it ending) (λ c keeps_it. keeps_it);
     }
 
   -- the core is as it was
-  framed_open : (c : CoreState) (ending : Option Ending) → IsFramed slots base start c → Leaves (KeepsOpen ending base) start c.disk
+  framed_open : (c : CoreState) (ending : Option Ending) → IsFramed first base start c → Leaves (KeepsOpen ending base) start c.disk
   framed_open c ending framed = since_start c c framed ending (reads_open c c framed ending (reads_here c.disk))
 
-  pub last_put : (name bytes : List ℕ) (ending : Option Ending) → MayChange ending → (mid new : CoreState) → IsFramed slots base start mid → IsPutLast name bytes mid new
+  pub last_put : (name bytes : List ℕ) (ending : Option Ending) → MayChange ending → (mid new : CoreState) → IsFramed first base start mid → IsPutLast name bytes mid new
       → Leaves (KeepsOpen ending base) start new.disk
   last_put name bytes ending may mid new framed last =
       let e = last.f.event in
       let steps = running_step mid new e framed.on.runs last.made in
       since_start mid new framed ending (put_open mid new framed ending may e.actor e.buf e.step e.answer last.last steps.made.row steps.made.effect)
 
-  pub last_refused : (name bytes : List ℕ) (refusal : Refusal) (mid new : CoreState) → IsFramed slots base start mid → IsStepRefused name bytes refusal mid new
+  pub last_refused : (name bytes : List ℕ) (refusal : Refusal) (mid new : CoreState) → IsFramed first base start mid → IsStepRefused name bytes refusal mid new
       → Leaves (KeepsOpen (Some (Refused refusal)) base) start new.disk
   last_refused name bytes refusal mid new framed last =
       let e = last.f.event in
@@ -293,10 +284,13 @@ module _ (C : Type 0) (state : C → CoreState) (v w : DiskView) (old new : C) (
     encodes : Encodes base store
     encodes = shown_content v (state old).disk (λ image. Encodes image store) base called.opened.right known
 
+    reserve : RESERVE ≤ free_slots store.held
+    reserve = called.opened.reserve
+
     told : (state old).disk.content ≡ Some base
     told = called.first.only.content_is ∙ known
 
-    framed : IsFramed store.slots base (state old).disk (state old)
+    framed : IsFramed store base (state old).disk (state old)
     framed = record {
       store = store;
       on = opened_on C state v w old new called;
@@ -313,21 +307,21 @@ module _ (C : Type 0) (state : C → CoreState) (v w : DiskView) (old new : C) (
     put_left : (name bytes : List ℕ) (ending : Option Ending) → MayChange ending → PutRun C state name bytes (Ok tt) old new → Left base ending
     put_left name bytes ending may run =
         let ways = ways_of C state name bytes (Ok tt) old new run in
-        let there = framed_way store.slots base name bytes (state old).disk C state ways.way old ways.mid framed ways.ran ways.each in
-        last_put store.slots base encodes.size (state old).disk name bytes ending may (state ways.mid) (state new) there ways.last
+        let there = framed_way store base name bytes (state old).disk C state ways.way old ways.mid framed ways.ran ways.each in
+        last_put store base encodes reserve (state old).disk name bytes ending may (state ways.mid) (state new) there ways.last
 
-    ended : (name bytes : List ℕ) (refusal : Refusal) (mid : C) → IsFramed store.slots base (state old).disk (state mid) → EndsBy C state name bytes (Err refusal) mid new → Left base (Some (Refused refusal))
+    ended : (name bytes : List ℕ) (refusal : Refusal) (mid : C) → IsFramed store base (state old).disk (state mid) → EndsBy C state name bytes (Err refusal) mid new → Left base (Some (Refused refusal))
     ended name bytes refusal mid there (inl none) =
-        framed_open store.slots base encodes.size (state old).disk (state new) (Some (Refused refusal)) (subst (λ (c : C). IsFramed store.slots base (state old).disk (state c)) (sym none.0) there)
-    ended name bytes refusal mid there (inr last) = last_refused store.slots base encodes.size (state old).disk name bytes refusal (state mid) (state new) there last
+        framed_open store base encodes reserve (state old).disk (state new) (Some (Refused refusal)) (subst (λ (c : C). IsFramed store base (state old).disk (state c)) (sym none.0) there)
+    ended name bytes refusal mid there (inr last) = last_refused store base encodes reserve (state old).disk name bytes refusal (state mid) (state new) there last
 
     refused_left : (name bytes : List ℕ) (refusal : Refusal) → PutRun C state name bytes (Err refusal) old new → Left base (Some (Refused refusal))
     refused_left name bytes refusal run =
         let ways = ways_of C state name bytes (Err refusal) old new run in
-        ended name bytes refusal ways.mid (framed_way store.slots base name bytes (state old).disk C state ways.way old ways.mid framed ways.ran ways.each) ways.last
+        ended name bytes refusal ways.mid (framed_way store base name bytes (state old).disk C state ways.way old ways.mid framed ways.ran ways.each) ways.last
 
     still_left : (ending : Option Ending) → new ≡ old → Left base ending
-    still_left ending core = framed_open store.slots base encodes.size (state old).disk (state new) ending (subst (λ (c : C). IsFramed store.slots base (state old).disk (state c)) (sym core) framed)
+    still_left ending core = framed_open store base encodes reserve (state old).disk (state new) ending (subst (λ (c : C). IsFramed store base (state old).disk (state c)) (sym core) framed)
 
     taken_left : (name bytes : List ℕ) (put : Result Unit Refusal) → PutRun C state name bytes put old new → (reply : List ℕ) (result : Result Unit Ending) (sink sink_now : SinkView)
         → Replies reply put result sink sink_now → Left base (ending_in result)

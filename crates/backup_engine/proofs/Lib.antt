@@ -1,7 +1,11 @@
 pub mod Called
 pub mod Formatting
+pub mod KeptBytes
 pub mod Numbers
+pub mod PutCauses
+pub mod PutChanges
 pub mod PutEnds
+pub mod PutFrame
 pub mod PutMaps
 pub mod PutStops
 pub mod Reading

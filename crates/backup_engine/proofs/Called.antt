@@ -1,21 +1,20 @@
 -- A core that was opened over a disk, ran, and was closed.
-use Rattle.std.proofs.Common.{◌≡◌, ℕ, zero, suc, List, replicate, Option, Some, sym, ◌∙◌, subst}
+use Rattle.std.proofs.Common.{◌≡◌, ℕ, zero, suc, List, replicate, Some, sym, ◌∙◌, subst}
+use Rattle.store_model.specs.Files.{Stored}
 use Rattle.std.specs.List.{AllByRecursion}
 use Rattle.dd_disk.specs.View.{DiskView, IsDurable}
 use Rattle.dd_disk.specs.Ending.{Reads, Done}
-use Rattle.dd_disk.specs.Moves.{StandsFor}
 use Rattle.dd_disk.specs.Shows.{Shows}
 use Rattle.dd_disk.proofs.Shows.{shown_content}
 use Rattle.actor_parts.specs.declared.actor.TheConstants.{ACTORS}
-use Rattle.actor_parts.specs.declared.part.Part.{Part}
 use Rattle.actor_parts.specs.declared.part.Part.TheVariants.{Idle}
 use Rattle.store_model.specs.Image.{Store, Encodes, IsValidFor}
-use Rattle.store_model.specs.Standing.{Stands}
+use Rattle.store_model.specs.Collisions.{Stands}
 use Rattle.store_model.proofs.Once.{store_once}
-use Rattle.store_state.specs.Invariant.{CoreInvariant, HoldsPart}
+use Rattle.store_state.specs.Invariant.{HoldsPart}
 use Rattle.store_state.specs.Tables.{Represents}
 use Rattle.store_core.specs.Opening.{IsNew}
-use Rattle.store_core.specs.Runs.{Stored, IsOf, IsAt}
+use Rattle.store_core.specs.Runs.{IsOf, IsAt}
 use Rattle.store_core.specs.State.{CoreState, IsRunning}
 
 -- the disk as it was before the opening, and as the closing gave it back

@@ -13,14 +13,15 @@ use Rattle.refusals.specs.declared.refusal.Refusal.{Refusal}
 use Rattle.refusals.specs.declared.refusal.Refusal.TheVariants.{Memory, TooLong, Full, Clash, DiskRead, DiskWrite}
 use Rattle.reply_text.specs.declared.ending.Ending.{Ending}
 use Rattle.reply_text.specs.declared.ending.Ending.TheVariants.{Words, Source, Sink, Refused}
+use Rattle.store_model.specs.Files.{Stored}
 use Rattle.store_model.specs.Image.{Store, Encodes}
 use Rattle.store_model.specs.Slots.{free_slots}
-use Rattle.store_model.specs.Standing.{ByteSet, IsIn}
+use Rattle.store_model.specs.Collisions.{IsIn}
 use Rattle.store_state.specs.declared.open_store.OpenStore.{OpenStore}
 use Rattle.store_state.specs.Refused.{blames, fails}
 use Rattle.recovery.specs.Opening.{IsOpenRefusal, Opens}
 use Rattle.store_core.specs.Opening.{IsGivenUp}
-use Rattle.store_core.specs.Runs.{Stored, IsOf}
+use Rattle.store_core.specs.Runs.{IsOf}
 use Rattle.store_core.specs.State.{CoreState}
 use Rattle.backup_engine.specs.Line.{CommandLine, Format, Ingest, Restore}
 use Rattle.backup_engine.specs.PlainMap.{Refuses, most_bytes, room_of}

@@ -18,13 +18,13 @@ use Rattle.reply_text.specs.declared.ending.Ending.TheVariants as endings
 use Rattle.disk_format.specs.Cells.{IsName}
 use Rattle.namespace.specs.declared.record.Named.{Named}
 use Rattle.namespace.specs.Names.{NameMap}
-use Rattle.store_model.specs.Commands.{HasNoCollisions}
+use Rattle.store_model.specs.Files.{Stored}
 use Rattle.store_model.specs.Image.{Store, names_of}
-use Rattle.store_model.specs.Standing.{ByteSet, IsIn}
+use Rattle.store_model.specs.Collisions.{IsIn}
 use Rattle.store_state.specs.Refused.{blames}
 use Rattle.read_steps.specs.Readers as readers
 use Rattle.store_core.specs.Core.{CoreStep, OpenRow}
-use Rattle.store_core.specs.Runs.{Stored, IsOf, FileEvent}
+use Rattle.store_core.specs.Runs.{IsOf, FileEvent}
 use Rattle.store_core.specs.Sound.{FindsFile}
 use Rattle.store_core.specs.State.{CoreState, Event}
 use Rattle.store_core.proofs.Damage.{finds_files}

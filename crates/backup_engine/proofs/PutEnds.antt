@@ -1,5 +1,6 @@
 -- Which maps the steps by which a file is stored lead to.
-use Rattle.std.proofs.Common.{◌≡◌, ◌⊎◌, inl, inr, ℕ, List, [], ◌∷◌, Option, Some, None, Result, Ok, Err, refl, sym, ◌∙◌, ap, subst}
+use Rattle.std.proofs.Common.{◌≡◌, ◌⊎◌, inl, inr, ℕ, List, [], ◌∷◌, Option, Some, None, Result, Ok, Err, refl, ◌∙◌, ap, subst}
+use Rattle.store_model.specs.Files.{Stored, with_stored}
 use Rattle.std.specs.List.{AllByRecursion}
 use Rattle.actor_parts.specs.declared.step.Answer.{Answer}
 use Rattle.actor_parts.specs.StepValue as asked
@@ -7,12 +8,11 @@ use Rattle.actor_parts.specs.StepValue.{StepValue}
 use Rattle.refusals.specs.declared.refusal.Refusal.{Refusal}
 use Rattle.refusals.specs.declared.refusal.Refusal.TheVariants as refusals
 use Rattle.reply_text.specs.declared.ending.Ending.{Ending}
-use Rattle.reply_text.specs.declared.ending.Ending.TheVariants.{Sink, Refused}
-use Rattle.store_core.specs.Runs.{FileEvent, Stored, IsOf, IsOnTheWay, with_stored, stored_with, stored_by, stored_after, stored_tried, stored_tried_by}
+use Rattle.reply_text.specs.declared.ending.Ending.TheVariants.{Refused}
+use Rattle.store_core.specs.Runs.{FileEvent, IsOf, IsOnTheWay, stored_with, stored_by, stored_after, stored_tried, stored_tried_by}
 use Rattle.backup_engine.specs.Line.{Ingest}
-use Rattle.backup_engine.specs.Promise.{MayChange, Stands, StandsMeanwhile}
-use Rattle.backup_engine.specs.Running.{IsAskedFor, IsPutStep, IsNoCommit, IsLastPut, IsOk, EndsPut}
-use Rattle.backup_engine.specs.Running.{IsOnTheWay as GoesOn}
+use Rattle.backup_engine.specs.Promise.{IsLeftAs, MayBeMeanwhile}
+use Rattle.backup_engine.specs.Running.{IsAskedFor, IsPutStep, IsNoCommit, IsLastPut, EndsPut}
 
 -- how a command ends whose file was put, or not
 abbrev pub ended : Result Unit Refusal → Option Ending
@@ -62,10 +62,10 @@ module _ (S : List ℕ → Type 0) (name given : List ℕ) (m : Stored) where
 
   -- what stands where the put ended so, at its end and at any moment
   abbrev pub Left : Result Unit Refusal → List ℕ → Type 0
-  Left put c = Stands S (Ingest name) given m (ended put) c
+  Left put c = IsLeftAs S (Ingest name) given m (ended put) c
 
   abbrev pub LeftMeanwhile : Result Unit Refusal → List ℕ → Type 0
-  LeftMeanwhile put c = StandsMeanwhile S (Ingest name) given m (ended put) c
+  LeftMeanwhile put c = MayBeMeanwhile S (Ingest name) given m (ended put) c
 
   -- the map after it, where no write that failed stands
   abbrev pub put_after : Result Unit Refusal → Stored
@@ -77,7 +77,7 @@ module _ (S : List ℕ → Type 0) (name given : List ℕ) (m : Stored) where
   left_before refusal c is = is
 
   -- what stands at the end stood at some moment
-  meanwhile : (put : Result Unit Refusal) (c : List ℕ) → Left put c → LeftMeanwhile put c
+  pub meanwhile : (put : Result Unit Refusal) (c : List ℕ) → Left put c → LeftMeanwhile put c
   meanwhile (Ok u) c is = inr (tt, is)
   meanwhile (Err refusals.DiskWrite) c (inl is) = inl is
   meanwhile (Err refusals.DiskWrite) c (inr is) = inr (tt, is)

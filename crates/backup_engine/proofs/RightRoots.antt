@@ -1,33 +1,31 @@
 -- The root of a short file that a core stored is right: each image holds its segment.
-use Rattle.std.proofs.Common.{◌≡◌, ◌⊎◌, inl, inr, ℕ, ◌<◌, ◌≤◌, Bool, true, false, List, [], ◌∷◌, length, Option, Some, None, option_map, refl, sym, ◌∙◌, ap, subst, arith}
+use Rattle.std.proofs.Common.{◌≡◌, inl, inr, ℕ, ◌<◌, ◌≤◌, true, List, [], ◌∷◌, length, Option, Some, None, option_map, refl, sym, ◌∙◌, ap, subst, arith}
+use Rattle.store_model.specs.Files.{Stored}
 use Rattle.std.proofs.lemmas.Bool.{eqb-true}
 use Rattle.std.specs.FinMap as finite
 use Rattle.std.specs.List.{slice_get}
 use Rattle.sha2.specs.Sha256.{sha256}
 use Rattle.disk_format.specs.Cells.{Root}
 use Rattle.disk_format.specs.declared.numbers.TheConstants.{LEAST_SEGMENT}
-use Rattle.dd_disk.specs.Moves.{StandsFor}
 use Rattle.container_meta.specs.declared.kind.Kind.TheVariants.{Leaf}
 use Rattle.container_meta.specs.declared.place.Place.{Place}
-use Rattle.merkle_file.specs.Tree.{Tree}
 use Rattle.segmenter.proofs.LengthLemmas.{short_is_one}
-use Rattle.actor_parts.specs.declared.part.Part.{Part}
 use Rattle.actor_parts.specs.declared.part.Part.TheVariants.{Writing}
 use Rattle.actor_parts.specs.declared.pins.Pin.{Pin}
 use Rattle.actor_parts.specs.Parts.{part_of}
 use Rattle.actor_parts.specs.PinMap.{PinMap, is_pin, has_pin}
 use Rattle.ingest_steps.specs.Writers.{IsStored}
-use Rattle.store_model.specs.Commands.{HasNoCollisions}
+use Rattle.store_model.specs.Collisions.{HasNoCollisions, ByteSet, IsIn, Stands}
 use Rattle.store_model.specs.Image.{Store}
 use Rattle.store_model.specs.Slots.{Copy, newest}
-use Rattle.store_model.specs.Standing.{ByteSet, IsIn, Stands, IsSegmentOf}
+use Rattle.store_model.specs.Standing.{IsSegmentOf}
 use Rattle.store_model.specs.Trees.{root_of, file_tree, leaf_key, bytes_at, HasNewest, HoldsTree}
 use Rattle.store_model.proofs.Copies.{copy_digest, headers_of_right}
 use Rattle.store_model.proofs.HeldSlots.{newest_so, HasLevel, levels_so, IsAmongThese, among_so}
 use Rattle.store_model.proofs.SameFiles.{tree_of_short, tree_of_none, root_of_short}
 use Rattle.store_state.specs.Invariant.{HoldsPart, ArePinsOf}
 use Rattle.store_state.specs.Tables.{Represents}
-use Rattle.store_core.specs.Runs.{Stored, IsAt, IsRootOf}
+use Rattle.store_core.specs.Runs.{IsAt, IsRootOf}
 use Rattle.store_core.specs.State.{CoreState}
 use Rattle.store_core.proofs.OwnParts.{all_part}
 

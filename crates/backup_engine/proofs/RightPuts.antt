@@ -1,10 +1,11 @@
 -- The steps by which a file is stored, over a core that is at a map: they are given what is right.
 use Rattle.std.proofs.Common.{◌≡◌, ℕ, ◌≤◌, List, [], ◌∷◌, length, Option, Some, None, Result, Ok, Err, refl, sym, subst}
+use Rattle.store_model.specs.Files.{Stored}
 use Rattle.std.specs.List.{AllByRecursion}
 use Rattle.disk_format.specs.Cells.{Root}
 use Rattle.container_meta.specs.declared.kind.Kind.{Kind}
 use Rattle.container_meta.specs.declared.kind.Kind.TheVariants.{Leaf, Tree}
-use Rattle.container_meta.specs.Segments.{Segment, Contents}
+use Rattle.container_meta.specs.Segments.{Segment}
 use Rattle.actor_parts.specs.declared.step.Answer.{Answer}
 use Rattle.actor_parts.specs.declared.step.Answer.TheVariants as answers
 use Rattle.actor_parts.specs.Parts.{part_of}
@@ -13,17 +14,18 @@ use Rattle.actor_parts.specs.StepValue.{StepValue}
 use Rattle.refusals.specs.declared.refusal.Refusal.{Refusal}
 use Rattle.refusals.specs.declared.refusal.Refusal.TheVariants as refusals
 use Rattle.ingest_steps.specs.Writers.{MayCommit}
-use Rattle.store_model.specs.Commands.{HasNoCollisions}
+use Rattle.store_model.specs.Collisions.{HasNoCollisions, ByteSet, IsIn, IsAmong}
 use Rattle.store_model.specs.Image.{Store}
-use Rattle.store_model.specs.Standing.{ByteSet, IsIn, IsAmong, IsSegmentOf}
+use Rattle.store_model.specs.Standing.{IsSegmentOf}
 use Rattle.store_model.specs.Trees.{root_of}
 use Rattle.store_core.specs.declared.stop.Stop.{Stop}
 use Rattle.store_core.specs.Core.{Row, CommitRow, StepsOr}
-use Rattle.store_core.specs.Runs.{CoreRun, FileEvent, FileStep, FileRun, IsAt, IsGivenRight, IsRightCommit, IsRootOf, Stored, events_of, stored_by}
+use Rattle.store_core.specs.Runs.{CoreRun, FileEvent, FileStep, FileRun, IsAt, IsGivenRight, IsRightCommit, IsRootOf, events_of, stored_by}
 use Rattle.store_core.specs.State.{CoreState}
 use Rattle.store_core.proofs.KeepingFiles.{file_step, run_running}
 use Rattle.backup_engine.specs.PlainMap.{most_bytes}
-use Rattle.backup_engine.specs.Running.{IsPieceOf, IsAskedFor, IsPutStep}
+use Rattle.backup_engine.specs.AnyDisk.{IsPieceOf}
+use Rattle.backup_engine.specs.Running.{IsAskedFor, IsPutStep}
 use Rattle.backup_engine.proofs.RightRoots.{right_root}
 
 -- the core is at some map

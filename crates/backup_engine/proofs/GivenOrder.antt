@@ -1,5 +1,5 @@
 -- What reads gave of a file, and what was written of it.
-use Rattle.std.proofs.Common.{◌≡◌, ◌≤◌, ◌==◌, ◌++◌, ℕ, Bool, true, false, List, [], ◌∷◌, length, take, Option, Some, None, Result, Ok, Err, refl, sym, ◌∙◌, ap, subst, arith}
+use Rattle.std.proofs.Common.{◌≡◌, ◌==◌, ◌++◌, ℕ, true, List, [], ◌∷◌, length, take, Option, Some, Result, Ok, Err, refl, sym, ◌∙◌, ap, subst, arith}
 use Rattle.std.specs.List.{AllByRecursion, concat}
 use Rattle.std.proofs.lemmas.List.{append-nil, take-append-le, take_all, length-append}
 use Rattle.std.proofs.lemmas.List.Folds.{concat-append}
@@ -75,7 +75,7 @@ gave (e ∷ []) result segments each ends gives =
 gave (e ∷ f ∷ es) result segments each ends gives =
     subst (λ (given : List (List ℕ)). GaveOf result given segments) (sym (own_given e (given_to 0 (f ∷ es)) each.0.0))
     (gave_one result e.answer e.buf (given_to 0 (f ∷ es)) segments (GivesInOrder 0 (f ∷ es)) ends.0 (own_gives e segments (GivesInOrder 0 (f ∷ es)) each.0.0 gives)
-        (λ rest others. gave (f ∷ es) result rest each.1 ends.1 others))
+    (λ rest others. gave (f ∷ es) result rest each.1 ends.1 others))
 
 -- ---- what is written of them
 

@@ -1,14 +1,12 @@
 -- A file that is given back, or not: what the promise says of it.
-use Rattle.std.proofs.Common.{◌≡◌, ◌⊎◌, inl, inr, ◌<◌, ◌≤◌, ℕ, Bool, true, false, List, [], ◌∷◌, length, is_some, Option, Some, None, Result, Ok, Err, refl, sym, ◌∙◌, ap, subst, arith}
-use Rattle.std.specs.Prelude.{replicate, sum_by}
+use Rattle.std.proofs.Common.{◌≡◌, inl, inr, ◌<◌, ◌≤◌, ℕ, List, [], ◌∷◌, length, Option, Some, None, Result, Ok, Err, refl, sym, ◌∙◌, ap, subst, arith}
 use Rattle.std.proofs.lemmas.List.{length-replicate}
-use Rattle.std.specs.FinMap as finite
 use Rattle.std.specs.List.{AllByRecursion, concat}
 use Rattle.dd_disk.specs.View.{DiskView, IsLater, OnlyReads}
-use Rattle.dd_disk.specs.Ending.{Ending as DiskEnding, Reads, Done, Refused as NoFault, Unread, Broken, CountsFault}
+use Rattle.dd_disk.specs.Ending.{Ending as DiskEnding, Reads, Done, CountsFault}
 use Rattle.dd_disk.specs.Shows.{Shows}
 use Rattle.dd_disk.proofs.Ended.{reads_on}
-use Rattle.dd_disk.proofs.Later.{later_on, reads_on as only_reads_on}
+use Rattle.dd_disk.proofs.Later.{reads_on as only_reads_on}
 use Rattle.dd_disk.proofs.Shows.{until, since}
 use Rattle.dd_io.specs.Flow.{SourceView, SinkView}
 use Rattle.disk_format.specs.declared.why.Why.{Why}
@@ -21,7 +19,6 @@ use Rattle.actor_parts.specs.declared.part.Part.TheVariants.{Idle}
 use Rattle.actor_parts.specs.declared.step.Answer.{Answer}
 use Rattle.actor_parts.specs.declared.step.Answer.TheVariants as answers
 use Rattle.actor_parts.specs.Parts.{part_of, with_part}
-use Rattle.actor_parts.specs.StepValue as asked
 use Rattle.actor_parts.proofs.Apart.{apart}
 use Rattle.refusals.specs.declared.refusal.Refusal.{Refusal}
 use Rattle.refusals.specs.declared.refusal.Refusal.TheVariants.{Memory, DiskRead, DiskWrite, Corrupt, Missing, Damaged, WrongPart}
@@ -30,22 +27,21 @@ use Rattle.reply_text.specs.declared.ending.Ending.TheVariants as endings
 use Rattle.namespace.specs.Names.{NameMap}
 use Rattle.segment_index.specs.Places.{IsPlace}
 use Rattle.store_model.specs.Image.{names_of}
-use Rattle.store_model.specs.Refusals.{WereFound}
 use Rattle.read_steps.specs.Opening.{HasRoot}
 use Rattle.read_steps.specs.Readers.{reading, IsReading}
-use Rattle.read_steps.specs.Walking.{WasRead, IsNextRefusal, IsTopRefusal, IsCopyRefusal, IsLookupRefusal, top_key}
+use Rattle.read_steps.specs.Walking.{WasRead, IsNextRefusal, IsTopRefusal, IsCopyRefusal, top_key}
 use Rattle.store_core.specs.Core.{ReadRow}
 use Rattle.store_core.specs.Runs.{ReadsAlone, IsReadNext, GivesByTree, given_to}
 use Rattle.store_core.specs.State.{CoreState, Event}
 use Rattle.store_core.proofs.CheckedReads.{reads_are_checked}
 use Rattle.store_core.proofs.GivingFiles.{same_reader}
 use Rattle.backup_engine.specs.Line.{Restore}
-use Rattle.backup_engine.specs.AnyDisk.{Holds, GivesBack, IsStuck, IsCaused, WroteOnAny, WroteSegments, OnAnyDisk, disk_ending}
-use Rattle.backup_engine.specs.Running.{IsRead, EndsGiving, WroteGiven, IsGivenOut, IsNotOpened, GiveRun}
-use Rattle.backup_engine.specs.TopCall.{Keeps, ending_in}
+use Rattle.backup_engine.specs.AnyDisk.{GivesBack, IsCaused, WroteOnAny, WroteSegments, OnAnyDisk, disk_ending}
+use Rattle.backup_engine.specs.Running.{IsRead, EndsGiving, WroteGiven, IsGivenOut}
+use Rattle.backup_engine.specs.TopCall.{ending_in}
 use Rattle.backup_engine.proofs.Called.{Called}
 use Rattle.backup_engine.proofs.NotDone.{holds}
-use Rattle.backup_engine.proofs.ReadSteps.{LeavesAll, open_leaves, Came, came, last_leaves, last_made, last_reads}
+use Rattle.backup_engine.proofs.ReadSteps.{LeavesAll, open_leaves, Came, came, last_made, last_reads}
 
 -- ---- a walk that is stuck, as it is shown of the whole call
 
@@ -191,8 +187,8 @@ module _ (C : Type 0) (state : C → CoreState) (v w : DiskView) (old new : C) (
         let of_last = last_reads C state result out.mid new way in
         subst (λ (tops : List Top). IsNextRefusal (Some was.opened.told.0) (λ at why image. ⊥) v w tops refusal) (left_ahead root rest parts_are)
         (next_stuck was.opened.told.0 last.breaks last.disk (state new).disk v w first.only.later.size_is
-            (shown_by_all v last.disk (state new).disk w first.only of_last.only.later.clock_is was.last.only.later) rest refusal
-            (subst (λ (known : Option PlaceMap). IsNextRefusal known last.breaks last.disk (state new).disk rest refusal) known_there cause))
+        (shown_by_all v last.disk (state new).disk w first.only of_last.only.later.clock_is was.last.only.later) rest refusal
+        (subst (λ (known : Option PlaceMap). IsNextRefusal known last.breaks last.disk (state new).disk rest refusal) known_there cause))
 
     refused_caused : (refusal : Refusal) → ReadRow 0 (Err refusal) way.event.buf last (state new) → WroteSegments ahead segments (Some (endings.Refused refusal)) sink sink_now
         → IsCaused (Restore name) [] v w source source sink sink_now (Some (endings.Refused refusal))

@@ -12,7 +12,6 @@ pub mod PutChanges
 pub mod PutEnds
 pub mod PutFrame
 pub mod PutMaps
-pub mod PutRuns
 pub mod PutStops
 pub mod ReadSteps
 pub mod Reading

@@ -1,5 +1,5 @@
 -- Commands that end before anything is asked of a core.
-use Rattle.std.proofs.Common.{◌≡◌, ◌⊎◌, inl, inr, ◌<◌, ◌≤◌, ℕ, List, [], length, IsTrue, false, true, Option, Some, None, Err, refl, sym, ◌∙◌, ap, subst, arith}
+use Rattle.std.proofs.Common.{◌≡◌, inl, inr, ◌<◌, ◌≤◌, ℕ, List, [], length, IsTrue, false, true, Option, Some, Err, refl, ◌∙◌, subst, arith}
 use Rattle.base_model.specs.Fault.{Rose}
 use Rattle.base_model.specs.Known.{Known}
 use Rattle.dd_disk.specs.View.{DiskView, IsLater, OnlyReads}
@@ -8,30 +8,27 @@ use Rattle.dd_disk.specs.Shows.{Shows}
 use Rattle.dd_disk.proofs.Ended.{reads_on, reads_then, reads_refused}
 use Rattle.dd_disk.proofs.Shows.{until, shown_content}
 use Rattle.dd_io.specs.Flow.{SourceView, SinkView}
-use Rattle.disk_format.specs.declared.numbers.TheConstants.{RESERVE}
 use Rattle.refusals.specs.declared.refusal.Refusal.{Refusal}
-use Rattle.refusals.specs.declared.refusal.Refusal.TheVariants.{Memory, TooLong, Full, Clash, DiskRead, DiskWrite}
+use Rattle.refusals.specs.declared.refusal.Refusal.TheVariants.{Memory, TooLong, Full, DiskRead, DiskWrite}
 use Rattle.reply_text.specs.declared.ending.Ending.{Ending}
-use Rattle.reply_text.specs.declared.ending.Ending.TheVariants.{Words, Source, Sink, Refused}
+use Rattle.reply_text.specs.declared.ending.Ending.TheVariants.{Source, Sink, Refused}
 use Rattle.store_model.specs.Files.{Stored}
-use Rattle.store_model.specs.Image.{Store, Encodes}
+use Rattle.store_model.specs.Image.{Store}
 use Rattle.store_model.specs.Slots.{free_slots}
 use Rattle.store_model.specs.Collisions.{IsIn}
-use Rattle.store_state.specs.declared.open_store.OpenStore.{OpenStore}
 use Rattle.store_state.specs.Refused.{blames, fails}
 use Rattle.recovery.specs.Opening.{IsOpenRefusal, Opens}
 use Rattle.store_core.specs.Opening.{IsGivenUp}
 use Rattle.store_core.specs.Runs.{IsOf}
 use Rattle.store_core.specs.State.{CoreState}
 use Rattle.backup_engine.specs.Line.{CommandLine, Format, Ingest, Restore}
-use Rattle.backup_engine.specs.PlainMap.{Refuses, most_bytes, room_of}
-use Rattle.backup_engine.specs.Promise as promise
-use Rattle.backup_engine.specs.Promise.{EndsBy, IsRefusedBy, IsLeftWith, ClashesByData}
-use Rattle.backup_engine.specs.AnyDisk.{Holds, HasAdded, IsCaused, OnAnyDisk, Took, WroteOnAny, EndsDurable}
+use Rattle.backup_engine.specs.PlainMap.{most_bytes}
+use Rattle.backup_engine.specs.Promise.{EndsBy, IsRefusedBy, IsLeftWith}
+use Rattle.backup_engine.specs.AnyDisk.{Holds, HasAdded, IsCaused, Took, WroteOnAny, EndsDurable}
 use Rattle.backup_engine.specs.Storing.{IsSourceFault}
 use Rattle.backup_engine.specs.TopCall.{Keeps, IsLeftBlank, IsUntouched}
 use Rattle.backup_engine.proofs.Called.{Called}
-use Rattle.backup_engine.proofs.Reading.{Answers, AnswersEach, since_start, reads_frame, reads_map, wrote_nothing}
+use Rattle.backup_engine.proofs.Reading.{AnswersEach, since_start, reads_frame, reads_map, wrote_nothing}
 
 -- ---- over a map
 
@@ -42,22 +39,23 @@ not_sink refusal is = cc
 pub left_with : (S : List ℕ → Type 0) (m : Stored) (old : List ℕ) (content : Option (List ℕ)) (P : Store → Type 0) → content ≡ Some old → (is : IsOf S m old) → P is.0 → IsLeftWith m content P
 left_with S m old content P told is holds = (is.0, (old, told, is.1.0.holds), holds)
 
--- memory or the disk failed, whatever the map is
-refused_free : (command : CommandLine) (given : List ℕ) (S : List ℕ → Type 0) (m : Stored) (old : List ℕ) (content : Option (List ℕ)) → content ≡ Some old → IsOf S m old → IsRefusedBy command given m content Memory
-refused_free (Format slots) given S m old content told is = left_with S m old content (λ store. Unit {0}) told is tt
-refused_free (Ingest name) given S m old content told is = left_with S m old content (λ store. Unit {0}) told is tt
-refused_free (Restore name) given S m old content told is = left_with S m old content (λ store. Unit {0}) told is tt
+-- want of memory, whatever the map is
+no_memory : (command : CommandLine) (given : List ℕ) (S : List ℕ → Type 0) (m : Stored) (old : List ℕ) (content : Option (List ℕ)) → content ≡ Some old → IsOf S m old → IsRefusedBy command given m content Memory
+no_memory (Format slots) given S m old content told is = left_with S m old content (λ store. Unit {0}) told is tt
+no_memory (Ingest name) given S m old content told is = left_with S m old content (λ store. Unit {0}) told is tt
+no_memory (Restore name) given S m old content told is = left_with S m old content (λ store. Unit {0}) told is tt
 
--- want of memory, before anything was written
+-- and whatever the command is
 memory_answers : (command : CommandLine) (given : List ℕ) (v w : DiskView) (sink : SinkView) → OnlyReads v w → AnswersEach command given (Some (Refused Memory)) v w sink sink
 memory_answers command given v w sink reads old known among m distinct right is = record {
-  by_map = (refused_free command given (IsIn among) m old w.content (reads.content_is ∙ known) is, λ clashes. clashes);
+  by_map = (no_memory command given (IsIn among) m old w.content (reads.content_is ∙ known) is, λ clashes. clashes);
   wrote = wrote_nothing command given m (Refused Memory) sink (not_sink Memory);
 }
 
 false_not_true : false ≡ true → ⊥
 false_not_true wrong = cc
 
+-- memory or the disk failed, whatever the map is
 ingest_failed : (name given : List ℕ) (S : List ℕ → Type 0) (m : Stored) (old : List ℕ) (content : Option (List ℕ)) → content ≡ Some old → IsOf S m old → (refusal : Refusal) → IsTrue (fails refusal)
     → EndsBy (Ingest name) given m content (Some (Refused refusal))
 ingest_failed name given S m old content told is Memory fails = (left_with S m old content (λ store. Unit {0}) told is tt, λ clashes. clashes)

@@ -1,5 +1,5 @@
 -- A name that is not opened: what the promise says of it.
-use Rattle.std.proofs.Common.{◌≡◌, ◌⊎◌, inl, inr, ◌<◌, ℕ, Bool, true, false, List, [], length, is_some, Option, Some, None, Result, Err, refl, sym, ◌∙◌, ap, subst}
+use Rattle.std.proofs.Common.{◌≡◌, inl, inr, ℕ, false, List, [], is_some, Option, Some, None, Result, Err, refl, sym, ◌∙◌, ap, subst}
 use Rattle.std.specs.Prelude.{replicate}
 use Rattle.std.specs.FinMap as finite
 use Rattle.dd_disk.specs.View.{DiskView}
@@ -16,10 +16,9 @@ use Rattle.refusals.specs.declared.refusal.Refusal.TheVariants.{Memory, NoFile, 
 use Rattle.reply_text.specs.declared.ending.Ending.{Ending}
 use Rattle.reply_text.specs.declared.ending.Ending.TheVariants as endings
 use Rattle.disk_format.specs.Cells.{IsName}
-use Rattle.namespace.specs.declared.record.Named.{Named}
 use Rattle.namespace.specs.Names.{NameMap}
 use Rattle.store_model.specs.Files.{Stored}
-use Rattle.store_model.specs.Image.{Store, names_of}
+use Rattle.store_model.specs.Image.{names_of}
 use Rattle.store_model.specs.Collisions.{IsIn}
 use Rattle.store_state.specs.Refused.{blames}
 use Rattle.read_steps.specs.Readers as readers
@@ -33,7 +32,7 @@ use Rattle.backup_engine.specs.Promise.{EndsBy}
 use Rattle.backup_engine.specs.AnyDisk.{IsCaused}
 use Rattle.backup_engine.specs.Running.{IsNotOpened}
 use Rattle.backup_engine.specs.TopCall.{Keeps, ending_in}
-use Rattle.backup_engine.proofs.Called.{Called, Starts, starts}
+use Rattle.backup_engine.proofs.Called.{Called, starts}
 use Rattle.backup_engine.proofs.Giving.{reads_closed}
 use Rattle.backup_engine.proofs.NotDone.{holds, not_sink, left_with, restore_failed}
 use Rattle.backup_engine.proofs.Reading.{AnswersEach, reads_frame, reads_map, wrote_nothing}

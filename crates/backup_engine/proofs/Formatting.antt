@@ -20,9 +20,9 @@ use Rattle.refusals.specs.declared.refusal.Refusal.TheVariants.{Memory, DiskRead
 use Rattle.reply_text.specs.declared.ending.Ending.{Ending}
 use Rattle.reply_text.specs.declared.ending.Ending.TheVariants.{Sink, Refused}
 use Rattle.reply_text.specs.Text.{formatted_line}
+use Rattle.store_model.specs.Files.{Stored}
 use Rattle.store_model.specs.Image.{Store, Encodes}
 use Rattle.store_state.specs.Refused.{blames}
-use Rattle.store_core.specs.Runs.{Stored}
 use Rattle.recovery.specs.Formatting.{IsFormatRefusal, IsLeftByFormat, IsBlankOrFormatted}
 use Rattle.backup_engine.specs.AnyDisk.{Formats, IsCaused, EndsDurable, OnAnyDisk, disk_ending}
 use Rattle.backup_engine.specs.Frame.{KeepsRest, KeepsOthers}

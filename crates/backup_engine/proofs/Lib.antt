@@ -4,7 +4,14 @@ pub mod KeptBytes
 pub mod Numbers
 pub mod PutCauses
 pub mod PutChanges
+pub mod PutEnds
 pub mod PutFrame
+pub mod PutMaps
+pub mod PutStops
 pub mod Reading
 pub mod Replied
+pub mod RightPuts
+pub mod RightRoots
+pub mod SameRoom
+pub mod TopCall
 pub mod Unlent

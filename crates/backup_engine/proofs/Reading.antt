@@ -9,9 +9,10 @@ use Rattle.refusals.specs.declared.refusal.Refusal.{Refusal}
 use Rattle.refusals.specs.declared.refusal.Refusal.TheVariants.{DiskWrite}
 use Rattle.reply_text.specs.declared.ending.Ending.{Ending}
 use Rattle.reply_text.specs.declared.ending.Ending.TheVariants.{Words, Source, Sink, Refused}
-use Rattle.store_model.specs.Commands.{HasNoCollisions}
-use Rattle.store_model.specs.Standing.{ByteSet, IsIn, IsSegmentOf}
-use Rattle.store_core.specs.Runs.{Stored, IsOf}
+use Rattle.store_model.specs.Collisions.{HasNoCollisions, ByteSet, IsIn}
+use Rattle.store_model.specs.Files.{Stored}
+use Rattle.store_model.specs.Standing.{IsSegmentOf}
+use Rattle.store_core.specs.Runs.{IsOf}
 use Rattle.backup_engine.specs.Line.{CommandLine, Format, Ingest, Restore}
 use Rattle.backup_engine.specs.Promise as promise
 use Rattle.backup_engine.specs.Promise.{EndsBy, WroteFile, IsLeftAs, SinceStart, NothingWritten, KeepsMap, KeepsEachMap}

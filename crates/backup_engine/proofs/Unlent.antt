@@ -12,6 +12,7 @@ use Rattle.refusals.specs.declared.refusal.Refusal.{Refusal}
 use Rattle.refusals.specs.declared.refusal.Refusal.TheVariants.{Memory, DiskRead, DiskWrite, Corrupt, Missing, Damaged, WrongSize, NotAStore, Version, Full}
 use Rattle.reply_text.specs.declared.ending.Ending.{Ending}
 use Rattle.reply_text.specs.declared.ending.Ending.TheVariants.{Words, Source, Sink, Refused}
+use Rattle.store_model.specs.Files.{Stored}
 use Rattle.store_model.specs.Refusals.{WereFound}
 use Rattle.journal_cells.specs.declared.fault.CellFault.{CellFault}
 use Rattle.recovery.specs.Opening.{IsOpenRefusal, IsSized, BreaksFormat, BreaksJournal, BreaksSlots, HasWrongSize, HasTooFew}
@@ -20,8 +21,7 @@ use Rattle.read_steps.specs.Walking.{IsCopyAt, WasRead, IsCorrupt, IsMisnamed, I
 use Rattle.backup_engine.specs.AnyDisk.{Holds, HasAdded, GivesBack, IsStuck, IsRefused, IsStored, IsCaused, WroteOnAny, EndsDurable, OnAnyDisk}
 use Rattle.backup_engine.specs.Frame.{KeepsOthers}
 use Rattle.backup_engine.specs.Line.{CommandLine, Ingest, Restore}
-use Rattle.store_model.specs.Standing.{ByteSet, IsIn}
-use Rattle.store_core.specs.Runs.{Stored}
+use Rattle.store_model.specs.Collisions.{ByteSet, IsIn}
 use Rattle.backup_engine.specs.Promise.{KeepsMap, KeepsEachMap, IsLeftAs, Stands, NothingWritten}
 use Rattle.backup_engine.specs.TopCall.{Keeps}
 

@@ -23,10 +23,9 @@ use Rattle.refusals.specs.declared.refusal.Refusal.TheVariants.{Memory, DiskRead
 use Rattle.reply_text.specs.declared.ending.Ending.{Ending}
 use Rattle.reply_text.specs.declared.ending.Ending.TheVariants.{Words, Source, Sink, Refused}
 use Rattle.reply_text.specs.Text.{formatted_line, stored_line}
-use Rattle.store_model.specs.Commands.{IsFormatted}
 use Rattle.store_model.specs.Image.{Store, Encodes, names_of}
 use Rattle.store_model.specs.Slots.{IsIndexOf, free_slots, last_id, newest}
-use Rattle.store_model.specs.Standing.{IsSegmentOf}
+use Rattle.store_model.specs.Standing.{IsSegmentOf, IsFormatted}
 use Rattle.store_model.specs.Steps.{StoreChange, SealContainer, PutName, CanPut, with_sealed}
 use Rattle.store_model.specs.Trees.{root_of}
 use Rattle.store_state.specs.Refused.{blames}

@@ -8,12 +8,11 @@ use Rattle.disk_format.specs.Layout.{half_cells, size_of}
 use Rattle.refusals.specs.declared.refusal.Difference.TheVariants.{Length}
 use Rattle.refusals.specs.declared.refusal.Refusal.{Refusal}
 use Rattle.refusals.specs.declared.refusal.Refusal.TheVariants.{Memory, NoFile, BadName, TooMany, TooLong, Full, Clash, DiskRead, DiskWrite, Numbers, AlreadyStore, WrongSize}
-use Rattle.store_model.specs.Files.{Files}
+use Rattle.store_model.specs.Files.{Files, Stored, with_stored}
 use Rattle.store_model.specs.Image.{Store, names_of, last_sequence}
 use Rattle.store_model.specs.Slots.{newest, free_slots, last_id}
 use Rattle.store_model.specs.Standing.{IsSegmentOf}
 use Rattle.store_model.specs.Trees.{leaf_key}
-use Rattle.store_core.specs.Runs.{Stored, with_stored}
 use Rattle.backup_engine.specs.Line.{CommandLine, Format, Ingest, Restore}
 
 -- how many bytes a file has at most, for now

@@ -20,7 +20,7 @@ use Rattle.segment_index.specs.Changes.{SameBefore}
 use Rattle.store_model.specs.Files.{Files}
 use Rattle.store_model.specs.Image.{Store}
 use Rattle.store_model.specs.Slots.{IsIndexOf}
-use Rattle.store_model.specs.Standing.{IsIn, Stands}
+use Rattle.store_model.specs.Collisions.{IsIn, Stands}
 use Rattle.store_model.specs.Steps.{FitsHeld}
 use Rattle.store_state.specs.Comparing.{FitSoFar}
 use Rattle.store_state.specs.Indexing.{IsChangeRefusal}

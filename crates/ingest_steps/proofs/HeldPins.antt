@@ -26,11 +26,10 @@ use Rattle.actor_parts.specs.declared.pins.Pin.{Pin}
 use Rattle.actor_parts.specs.Segments.{IsNodeSegment, IsStepSegment, IsOfKind, first_unpinned, pin_of, children_of}
 use Rattle.refusals.specs.declared.refusal.Refusal.{Refusal}
 use Rattle.refusals.specs.declared.refusal.Refusal.TheVariants.{WrongPart, Unpinned}
-use Rattle.store_model.specs.Commands.{HasNoCollisions}
+use Rattle.store_model.specs.Collisions.{HasNoCollisions, IsIn, IsAmong, Stands}
 use Rattle.store_model.specs.Files.{Files}
 use Rattle.store_model.specs.Image.{Store}
 use Rattle.store_model.specs.Slots.{AreHeaders, Copy, IsIndexOf}
-use Rattle.store_model.specs.Standing.{IsIn, IsAmong, Stands}
 use Rattle.store_model.specs.Steps.{FitsHeld}
 use Rattle.store_model.specs.Trees.{HasNewest, IsNodeOf, bytes_at}
 use Rattle.store_model.proofs.Copies.{some_same, headers_of_right}

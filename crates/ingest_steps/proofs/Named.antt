@@ -23,7 +23,7 @@ use Rattle.journal_cells.specs.Journal.{JournalValue, Precedes, IsJournalOf, wit
 use Rattle.store_model.specs.Files.{Files, with_file}
 use Rattle.store_model.specs.Journal.{HoldsRecords, ClosedFrom}
 use Rattle.store_model.specs.Image.{Store, Encodes}
-use Rattle.store_model.specs.Standing.{IsIn, Stands}
+use Rattle.store_model.specs.Collisions.{IsIn, Stands}
 use Rattle.store_model.specs.Steps.{CanPut, put_of, with_put}
 use Rattle.store_model.specs.Trees.{root_of, file_tree, HoldsTree}
 use Rattle.store_model.proofs.PutRoots.{record_taken, last_put, right_where, put_still, put_stands}

@@ -33,7 +33,7 @@ use Rattle.store_model.specs.Files.{Files}
 use Rattle.store_model.specs.Image.{Store, IsValidFor}
 use Rattle.store_model.specs.Indexing.{with_entries}
 use Rattle.store_model.specs.Slots.{Copy, IsIndexOf, free_slots, newest, with_slot}
-use Rattle.store_model.specs.Standing.{IsIn, Stands}
+use Rattle.store_model.specs.Collisions.{IsIn, Stands}
 use Rattle.store_model.specs.Steps.{CanSeal, FitsHeld, with_sealed}
 use Rattle.store_model.specs.Trees.{HasNewest, bytes_at}
 use Rattle.store_model.proofs.Copies.{some_same, headers_of_right}

@@ -15,11 +15,10 @@ use Rattle.actor_parts.specs.Segments.{first_unpinned, pin_of}
 use Rattle.refusals.specs.declared.refusal.PartKind.TheVariants as kinds
 use Rattle.refusals.specs.declared.refusal.Refusal.{Refusal}
 use Rattle.refusals.specs.declared.refusal.Refusal.TheVariants.{Memory, WrongPart, Unpinned}
-use Rattle.store_model.specs.Commands.{HasNoCollisions}
+use Rattle.store_model.specs.Collisions.{HasNoCollisions, ByteSet, IsIn, IsAmong, Stands}
 use Rattle.store_model.specs.Files.{Files}
 use Rattle.store_model.specs.Image.{Store}
 use Rattle.store_model.specs.Slots.{IsIndexOf}
-use Rattle.store_model.specs.Standing.{ByteSet, IsIn, IsAmong, Stands}
 use Rattle.store_state.specs.Comparing.{FitsBytes, IsUnlike, IsOneRefusal}
 use Rattle.store_state.specs.Invariant.{HoldsPart}
 use Rattle.ingest_steps.specs.declared.claiming.Claimed.{Claimed}

@@ -15,7 +15,7 @@ use Rattle.refusals.specs.declared.refusal.Refusal.{Refusal}
 use Rattle.refusals.specs.declared.refusal.Refusal.TheVariants.{Memory, BadName, TooMany, Numbers, DiskWrite}
 use Rattle.store_model.specs.Files.{Files, with_file}
 use Rattle.store_model.specs.Image.{Store, Encodes}
-use Rattle.store_model.specs.Standing.{ByteSet, IsIn, Stands}
+use Rattle.store_model.specs.Collisions.{ByteSet, IsIn, Stands}
 use Rattle.store_model.specs.Steps.{CanPut, with_put}
 use Rattle.store_model.specs.Trees.{root_of, file_tree, HoldsTree}
 use Rattle.store_state.specs.declared.tables.Tables.{Tables}

@@ -11,10 +11,9 @@ use Rattle.refusals.specs.declared.refusal.Refusal.{Refusal}
 use Rattle.refusals.specs.declared.refusal.Refusal.TheVariants.{Memory, WrongPart, Unpinned, Full, Numbers}
 use Rattle.store_state.specs.declared.tables.Tables.{Tables}
 use Rattle.std.specs.List.{AllByRecursion}
-use Rattle.store_model.specs.Commands.{HasNoCollisions}
+use Rattle.store_model.specs.Collisions.{HasNoCollisions, ByteSet, IsIn, Stands}
 use Rattle.store_model.specs.Files.{Files}
 use Rattle.store_model.specs.Image.{Store}
-use Rattle.store_model.specs.Standing.{ByteSet, IsIn, Stands}
 use Rattle.store_model.specs.Steps.{MaySeal, with_sealed}
 use Rattle.store_state.specs.Invariant.{HoldsPart}
 use Rattle.store_state.specs.Tables.{Represents}

@@ -15,12 +15,11 @@ use Rattle.container_meta.specs.Segments.{Segment, Contents, entries_from, segme
 use Rattle.segment_index.specs.Places.{KnownMap}
 use Rattle.refusals.specs.declared.refusal.Refusal.{Refusal}
 use Rattle.refusals.specs.declared.refusal.Refusal.TheVariants.{Memory, Full, DiskRead, DiskWrite, Numbers, Damaged}
-use Rattle.store_model.specs.Commands.{HasNoCollisions}
+use Rattle.store_model.specs.Collisions.{HasNoCollisions, ByteSet, IsIn, Stands}
 use Rattle.store_model.specs.Files.{Files}
 use Rattle.store_model.specs.Image.{Store}
 use Rattle.store_model.specs.Indexing.{with_entries}
 use Rattle.store_model.specs.Slots.{newest, free_slots, first_free}
-use Rattle.store_model.specs.Standing.{ByteSet, IsIn, Stands}
 use Rattle.store_model.specs.Steps.{CanSeal, MaySeal, FitsHeld, KeepsCopies, with_sealed}
 use Rattle.store_model.specs.Trees.{HasNewest}
 use Rattle.store_state.specs.Comparing.{FitSoFar}

@@ -9,15 +9,14 @@ use Rattle.actor_parts.specs.StepValue as asked
 use Rattle.actor_parts.specs.StepValue.{StepValue, IsStep}
 use Rattle.refusals.specs.declared.refusal.Refusal.{Refusal}
 use Rattle.refusals.specs.declared.refusal.Refusal.TheVariants as refusals
-use Rattle.store_model.specs.Commands.{HasNoCollisions}
+use Rattle.store_model.specs.Collisions.{HasNoCollisions, ByteSet, IsIn, Stands}
 use Rattle.store_model.specs.Image.{Store, last_sequence}
-use Rattle.store_model.specs.Standing.{ByteSet, IsIn, Stands}
 use Rattle.store_model.specs.Steps.{with_sealed, with_put}
-use Rattle.store_model.specs.Files.{with_file}
+use Rattle.store_model.specs.Files.{with_file, Stored}
 use Rattle.store_model.proofs.PutRoots.{last_put}
 use Rattle.store_core.specs.declared.stop.Stop.{Stop}
 use Rattle.store_core.specs.Core.{Effect, SealsOne, PutsOne, StepsOr, StopsAfter, next_id}
-use Rattle.store_core.specs.Runs.{FileEvent, FileStep, FileRun, IsAt, Stored, IsOf, IsOnTheWay, IsGivenRight, IsRootOf, SurvivesCrashes, SurvivesSince, KeepsAcknowledged, stored_with, stored_by, stored_after, stored_tried, stored_tried_by, EndsWithAll}
+use Rattle.store_core.specs.Runs.{FileEvent, FileStep, FileRun, IsAt, IsOf, IsOnTheWay, IsGivenRight, IsRootOf, SurvivesCrashes, SurvivesSince, KeepsAcknowledged, stored_with, stored_by, stored_after, stored_tried, stored_tried_by, EndsWithAll}
 use Rattle.store_core.specs.State.{CoreState}
 use Rattle.store_core.proofs.KeepingFiles.{file_step, keeps_files, may_seal_all}
 use Rattle.store_core.proofs.Stepping.{step_later}

@@ -15,16 +15,16 @@ use Rattle.actor_parts.proofs.Apart.{apart}
 use Rattle.refusals.specs.declared.refusal.Refusal.{Refusal}
 use Rattle.refusals.specs.declared.refusal.Refusal.TheVariants as refusals
 use Rattle.segmenter.specs.Segments.{segments_of}
-use Rattle.store_model.specs.Commands.{HasNoCollisions}
+use Rattle.store_model.specs.Collisions.{HasNoCollisions, ByteSet, IsIn}
+use Rattle.store_model.specs.Files.{Stored}
 use Rattle.store_model.specs.Image.{Store}
-use Rattle.store_model.specs.Standing.{ByteSet, IsIn}
 use Rattle.store_model.specs.Steps.{StoreChange, KeepsCopies}
 use Rattle.read_steps.specs.Readers.{reading}
 use Rattle.read_steps.specs.Walking.{IsIndexed, SegmentsAhead}
 use Rattle.read_steps.proofs.Openings.{segments_on}
 use Rattle.store_core.specs.declared.stop.Stop.{Stop}
 use Rattle.store_core.specs.Core.{ReadRow, Row, Steps, StepsOr}
-use Rattle.store_core.specs.Runs.{FileEvent, FileStep, FileRun, IsAt, ReadsAlone, IsReadNext, Stored, GivesOne, GivesInOrder, GivesTheFile, changes_by, events_of, stored_by, opens}
+use Rattle.store_core.specs.Runs.{FileEvent, FileStep, FileRun, IsAt, ReadsAlone, IsReadNext, GivesOne, GivesInOrder, GivesTheFile, changes_by, events_of, stored_by, opens}
 use Rattle.store_core.specs.State.{CoreState, Event}
 use Rattle.store_core.proofs.KeepingFiles.{Next, file_step, run_running}
 use Rattle.store_core.proofs.Stepping.{ChangesOne, row_one}

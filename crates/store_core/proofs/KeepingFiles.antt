@@ -20,11 +20,11 @@ use Rattle.actor_parts.specs.StepValue as asked
 use Rattle.actor_parts.specs.StepValue.{StepValue, IsStep}
 use Rattle.refusals.specs.declared.refusal.Refusal.{Refusal}
 use Rattle.refusals.specs.declared.refusal.Refusal.TheVariants as refusals
-use Rattle.store_model.specs.Commands.{HasNoCollisions}
+use Rattle.store_model.specs.Collisions.{HasNoCollisions, ByteSet, IsIn, IsAmong, Stands}
+use Rattle.store_model.specs.Files.{Stored, with_stored}
 use Rattle.store_model.specs.Image.{Store, IsValidFor, last_sequence}
 use Rattle.disk_format.specs.declared.numbers.TheConstants.{RESERVE}
 use Rattle.store_model.specs.Slots.{IsIndexOf, free_slots}
-use Rattle.store_model.specs.Standing.{ByteSet, IsIn, IsAmong, Stands}
 use Rattle.store_model.specs.Steps.{StoreChange, SealContainer, PutName, MaySeal, KeepsCopies, changed, with_sealed, with_put}
 use Rattle.store_state.specs.declared.tables.Tables.{Tables}
 use Rattle.store_state.specs.Invariant.{HoldsPart}
@@ -35,7 +35,7 @@ use Rattle.store_state.proofs.Parts.{part_kept, parts_kept}
 use Rattle.ingest_steps.specs.Sealing.{KeepsHeld, sealing_indexed}
 use Rattle.store_core.specs.declared.stop.Stop.{Stop}
 use Rattle.store_core.specs.Core.{Row, Effect, Rests, SealsOne, Makes, KeepsTables, KeepsUnlessBroken, StopsAfter, StepsOr, next_id}
-use Rattle.store_core.specs.Runs.{FileEvent, FileStep, FileRun, IsAt, ChangesTo, changes_by, changes_of, KeepsFiles, Stored, with_stored, IsGivenRight, stored_with, stored_by}
+use Rattle.store_core.specs.Runs.{FileEvent, FileStep, FileRun, IsAt, ChangesTo, changes_by, changes_of, KeepsFiles, IsGivenRight, stored_with, stored_by}
 use Rattle.store_core.specs.State.{CoreState}
 use Rattle.store_core.proofs.OwnParts.{all_part, all_own, own_begin, own_claim, own_abort, own_open, own_read, own_drop, own_set, own_stat, own_refused}
 use Rattle.store_core.proofs.Stepping.{ChangesOne, row_one}

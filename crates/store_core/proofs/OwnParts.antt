@@ -18,11 +18,10 @@ use Rattle.refusals.specs.declared.refusal.Refusal.{Refusal}
 use Rattle.refusals.specs.declared.refusal.Refusal.TheVariants as refusals
 use Rattle.read_steps.specs.Readers as readers
 use Rattle.read_steps.specs.Walking.{IsIndexed, SegmentsAhead, IsHeldAnswer}
-use Rattle.store_model.specs.Commands.{HasNoCollisions}
+use Rattle.store_model.specs.Collisions.{HasNoCollisions, ByteSet, IsIn, IsAmong, Stands}
 use Rattle.store_model.specs.Files.{Files}
 use Rattle.store_model.specs.Image.{Store, names_of}
 use Rattle.store_model.specs.Slots.{IsIndexOf}
-use Rattle.store_model.specs.Standing.{ByteSet, IsIn, IsAmong, Stands}
 use Rattle.store_state.specs.Invariant.{HoldsPart, HoldsRest}
 use Rattle.store_core.specs.Core.{BeginRow, ClaimRow, AbortRow, OpenRow, ReadRow, EndRow, StatRow, IsGiven, IsNotGiven}
 use Rattle.store_core.specs.State.{CoreState}

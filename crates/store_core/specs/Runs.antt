@@ -1,5 +1,5 @@
 -- Steps of a core one after the other, by any actors (docs/MODEL.md, 'The core').
-use Rattle.std.specs.Prelude.{Bool, true, false, ◌≡◌, ◌⊎◌, ◌-◌, ◌^◌, ◌<◌, ℕ, suc, List, [], ◌∷◌, ◌++◌, ◌==◌, length, sum_by, take, None, Some, Result, Ok, Err}
+use Rattle.std.specs.Prelude.{Bool, true, false, ◌≡◌, ◌⊎◌, ◌-◌, ◌^◌, ◌<◌, ℕ, List, [], ◌∷◌, ◌++◌, ◌==◌, length, sum_by, take, None, Some, Result, Ok, Err}
 use Rattle.std.specs.FinMap as finite
 use Rattle.std.specs.List.{AllByRecursion}
 use Rattle.base_model.specs.Known.{Known}
@@ -17,10 +17,9 @@ use Rattle.actor_parts.specs.StepValue.{StepValue, IsStep}
 use Rattle.refusals.specs.declared.refusal.Refusal.{Refusal}
 use Rattle.refusals.specs.declared.refusal.Refusal.TheVariants as refusals
 use Rattle.segmenter.specs.Segments.{segments_of}
-use Rattle.store_model.specs.Commands.{HasNoCollisions}
-use Rattle.store_model.specs.Files.{Files, with_file}
+use Rattle.store_model.specs.Collisions.{HasNoCollisions, ByteSet, IsIn, IsAmong, Stands}
+use Rattle.store_model.specs.Files.{Stored, with_stored}
 use Rattle.store_model.specs.Image.{Store, IsValidFor, last_sequence}
-use Rattle.store_model.specs.Standing.{ByteSet, IsIn, IsAmong, Stands}
 use Rattle.store_model.specs.Steps.{StoreChange, SealContainer, PutName, CanChange, changed}
 use Rattle.store_model.specs.Trees.{root_of, file_tree, HoldsTree}
 use Rattle.store_state.specs.Invariant.{CoreInvariant}
@@ -48,15 +47,6 @@ RunsOn C state = (events : List Event) (old new : C) → CoreRun C state events 
 pub record FileEvent : Type 0 where
   pub event : Event
   pub bytes : List ℕ
-
--- the files of a store, and the last sequence number that it gave out
-pub record Stored : Type 0 where
-  pub files : Files
-  pub last : ℕ
-
--- one file put under a name, which takes a number
-abbrev pub with_stored : Stored → List ℕ → List ℕ → Stored
-with_stored stored name bytes = record { files = with_file stored.files name bytes; last = suc stored.last }
 
 -- these after a step: a commit that was acknowledged puts a file
 abbrev pub stored_with : StepValue → Result Answer Refusal → List ℕ → Stored → Stored

@@ -13,7 +13,8 @@ use Rattle.namespace.specs.declared.record.Named.{Named}
 use Rattle.store_model.specs.Files.{Files}
 use Rattle.store_model.specs.Slots.{HoldsSlot, HoldSlots, AreHeaders, DifferentIds, free_slots, first_free}
 use Rattle.store_model.specs.Image.{Store, Encodes, AreCopies, names_of}
-use Rattle.store_model.specs.Standing.{AreNodes, AreAmong, IsFileOf, AreFilesOf, Stands}
+use Rattle.store_model.specs.Standing.{AreNodes, IsFileOf, AreFilesOf}
+use Rattle.store_model.specs.Collisions.{AreAmong, Stands}
 use Rattle.store_model.specs.Trees.{file_tree, leaf_key, node_key, HasNewest, HoldsTree, HoldsTrees}
 use Rattle.store_model.proofs.Copies.{headers_of_right}
 use Rattle.store_model.proofs.Frames.{SameTo, SameSlots, format_kept, journal_kept, closed_kept, slots_kept, copies_kept}

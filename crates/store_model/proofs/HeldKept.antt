@@ -12,7 +12,8 @@ use Rattle.merkle_file.specs.Walk.{contents_of}
 use Rattle.namespace.specs.declared.record.Named.{Named}
 use Rattle.store_model.specs.Slots.{AreHeaders}
 use Rattle.store_model.specs.Trees.{leaf_key, node_key, HasNewest, HoldsTree, HoldsTrees}
-use Rattle.store_model.specs.Standing.{entry_bytes, IsOfKind, AreNodes, IsAmong, AreAmong, IsFileOf}
+use Rattle.store_model.specs.Standing.{entry_bytes, IsOfKind, AreNodes, IsFileOf}
+use Rattle.store_model.specs.Collisions.{IsAmong, AreAmong}
 use Rattle.store_model.proofs.Copies.{data_within, newest_within}
 use Rattle.store_model.proofs.Frames.{SameSlot, SameSlots, place_kept, copy_kept}
 

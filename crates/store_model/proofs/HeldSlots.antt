@@ -13,7 +13,8 @@ use Rattle.container_meta.specs.declared.kind.Kind.TheVariants.{Leaf, Tree}
 use Rattle.container_meta.specs.Format.{kind_byte, is_level}
 use Rattle.container_meta.specs.Spelling.{HeaderValue, IsHeader, Follow, bytes_of}
 use Rattle.store_model.specs.Slots.{AreHeaders, Copy, newest, first_free, with_slot}
-use Rattle.store_model.specs.Standing.{entry_bytes, IsOfKind, AreNodes, IsAmong, AreAmong}
+use Rattle.store_model.specs.Standing.{entry_bytes, IsOfKind, AreNodes}
+use Rattle.store_model.specs.Collisions.{IsAmong, AreAmong}
 use Rattle.store_model.specs.Trees.{bytes_at, HasNewest}
 use Rattle.store_model.proofs.Copies.{some_same, lies, data_within}
 use Rattle.store_model.proofs.Frames.{SameSlot, SameSlots, copy_kept, place_kept}

@@ -17,7 +17,8 @@ use Rattle.store_model.specs.Journal.{HoldsRecords, last_of, ClosedFrom}
 use Rattle.store_model.specs.Slots.{AreHeaders}
 use Rattle.store_model.specs.Image.{Store, Encodes, names_of, last_sequence}
 use Rattle.store_model.specs.Trees.{root_of, file_tree, HasNewest, HoldsTree}
-use Rattle.store_model.specs.Standing.{IsFileOf, AreFilesOf, Stands}
+use Rattle.store_model.specs.Standing.{IsFileOf, AreFilesOf}
+use Rattle.store_model.specs.Collisions.{Stands}
 use Rattle.store_model.specs.Steps.{CanPut, put_of, with_put}
 use Rattle.store_model.proofs.Copies.{headers_of_right}
 use Rattle.store_model.proofs.Frames.{SameTo, SameSlots, format_kept, selector_kept, older_kept, slots_kept, copies_kept}

@@ -21,11 +21,11 @@ use Rattle.merkle_file.specs.Tree as tree
 use Rattle.merkle_file.specs.Tree.{Tree as TreeOf, Trees}
 use Rattle.merkle_file.specs.Walk.{contents_of}
 use Rattle.namespace.specs.declared.record.Named.{Named}
-use Rattle.store_model.specs.Commands.{HasNoCollisions}
+use Rattle.store_model.specs.Collisions.{HasNoCollisions, IsAmong, AreAmong, Stands}
 use Rattle.store_model.specs.Files.{Files}
 use Rattle.store_model.specs.Slots.{HoldsContainer, StandAt, AreHeaders, Copy, newest, last_id, free_slots, first_free}
 use Rattle.store_model.specs.Image.{Store, Encodes, AreCopies, names_of}
-use Rattle.store_model.specs.Standing.{entry_bytes, IsOfKind, IsAmong, AreNodes, AreAmong, IsFileOf, Stands}
+use Rattle.store_model.specs.Standing.{entry_bytes, IsOfKind, AreNodes, IsFileOf}
 use Rattle.store_model.specs.Steps.{with_sealed, CanSeal, MaySeal, FitsHeld}
 use Rattle.store_model.specs.Trees.{bytes_at, file_tree, leaf_key, node_key, HasNewest, HoldsTree, HoldsTrees}
 use Rattle.store_model.proofs.Copies.{some_same, headers_of_right, copy_digest}

@@ -1,4 +1,4 @@
-pub mod Commands
+pub mod Collisions
 pub mod Files
 pub mod Image
 pub mod Indexing

@@ -12,7 +12,8 @@ use Rattle.container_meta.specs.Spelling.{IsHeader, header_of}
 use Rattle.namespace.specs.Names.{HasRoom}
 use Rattle.store_model.specs.Image.{Store, names_of, last_sequence}
 use Rattle.store_model.specs.Slots.{Copy, newest, last_id, free_slots, first_free, with_slot}
-use Rattle.store_model.specs.Standing.{IsOfKind, IsAmong}
+use Rattle.store_model.specs.Standing.{IsOfKind}
+use Rattle.store_model.specs.Collisions.{IsAmong}
 use Rattle.store_model.specs.Trees.{HasNewest, bytes_at}
 
 -- ---- a container is sealed

@@ -3,8 +3,7 @@ ghost use Rattle.std.specs.Prelude.{◌≡◌, ◌<◌, ◌≤◌, ◌==◌, Lis
 ghost use Rattle.disk_format.specs.declared.numbers.TheConstants.{MOST_SLOTS as MANY};
 ghost use Rattle.container_meta.specs.Spelling.{HeaderValue};
 ghost use Rattle.store_model.specs.Slots.{AreHeaders, free_slots, ids_of, with_slot};
-ghost use Rattle.store_state.specs.Containers.{IsFirstFree};
-ghost use Rattle.store_state.specs.Tables.{RepresentsSlots};
+ghost use Rattle.store_state.specs.Tables.{RepresentsSlots, IsFirstFree};
 
 /// How much the container in a slot holds: nothing, where the slot is closed.
 #[derive(Clone, Copy)]
@@ -27,7 +26,7 @@ pub struct SlotTable {
 }
 
 // How many ids are 0.
-fn zeros_in(ids: &[u64]) -> u32
+pub(crate) fn zeros_in(ids: &[u64]) -> u32
     requires { length ids.now ≤ MANY }
     ensures { result ≡ count_by (λ id. id == 0) ids.now }
 {

@@ -12,6 +12,7 @@ pub mod PutChanges
 pub mod PutEnds
 pub mod PutFrame
 pub mod PutMaps
+pub mod PutPieces
 pub mod PutStops
 pub mod ReadSteps
 pub mod Reading

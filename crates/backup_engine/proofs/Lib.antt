@@ -1,1 +1,10 @@
 pub mod Called
+pub mod FewBytes
+pub mod FirstActor
+pub mod HeldFile
+pub mod Holding
+pub mod PutCommits
+pub mod PutFile
+pub mod PutRuns
+pub mod PutSteps
+pub mod Taking

@@ -4,6 +4,7 @@ pub mod Line
 pub mod LineValue
 pub mod PlainMap
 pub mod Promise
+pub mod Putting
 pub mod Running
 pub mod Storing
 pub mod TopCall

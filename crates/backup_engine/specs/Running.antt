@@ -18,22 +18,29 @@ use Rattle.refusals.specs.declared.refusal.Refusal.{Refusal}
 use Rattle.refusals.specs.declared.refusal.Refusal.TheVariants.{Memory, DiskRead, DiskWrite}
 use Rattle.reply_text.specs.declared.ending.Ending.{Ending}
 use Rattle.reply_text.specs.declared.ending.Ending.TheVariants as endings
-use Rattle.store_model.specs.Image.{Store, IsValidFor}
+use Rattle.store_model.specs.Image.{Store}
+use Rattle.store_model.specs.Slots.{last_id}
 use Rattle.store_model.specs.Standing.{IsSegmentOf}
 use Rattle.store_model.specs.Trees.{root_of}
-use Rattle.store_state.specs.Tables.{Represents}
+use Rattle.store_state.specs.Tables.{Represents, OfEach}
 use Rattle.store_core.specs.Core.{CoreStep}
 use Rattle.store_core.specs.Runs.{CoreRun, FileEvent, events_of, opens, given_to}
 use Rattle.store_core.specs.State.{CoreState, Event, IsUp}
 use Rattle.backup_engine.specs.Line.{Ingest}
 use Rattle.backup_engine.specs.PlainMap.{RefusesIngest, room_in}
 
--- A core that was opened just now: it runs, each actor is idle, and the map of its index is known.
+-- the last container id of the tables is that of each store that they represent
+abbrev pub GivesLastId : CoreState → Type 0
+GivesLastId c = (store : Store) → Represents store c.known c.tables → c.tables.held.last_id ≡ last_id store.held
+
+-- A core that was opened just now: it runs, each actor is idle, the map of its index is known, and no id was given out but
+-- those of the containers that are held.
 pub record IsFresh (c : CoreState) : Type 0 where
   pub up : IsUp c
   pub runs : c.stop ≡ None
   pub idle : c.parts ≡ replicate ACTORS Idle
   pub told : (places : PlaceMap) × (c.known ≡ Some places)
+  pub last : GivesLastId c
 
 -- ---- a file is stored
 
@@ -93,7 +100,7 @@ IsPutRefusal name bytes c Memory = Unit {0}
 IsPutRefusal name bytes c DiskRead = Unit {0}
 IsPutRefusal name bytes c DiskWrite = Unit {0}
 IsPutRefusal name bytes c refusal =
-    (store : Store) → Represents store c.known c.tables → RefusesIngest name bytes (room_in (Ingest name) store) refusal
+    OfEach c.disk.size c.known c.tables (λ store. RefusesIngest name bytes (room_in (Ingest name) store) refusal)
 
 -- ---- a file is given back
 

@@ -1,0 +1,98 @@
+-- What the first actor's steps make of a core by which a file is stored.
+use Rattle.std.proofs.Common.{◌≡◌, ◌≢◌, inl, inr, ◌<◌, ◌≤◌, ℕ, Bool, true, false, List, [], ◌∷◌, length, replicate, Option, Some, None, Result, Ok, Err, refl, sym, ◌∙◌, ap, subst, arith}
+use Rattle.std.specs.FinMap as finite
+use Rattle.container_meta.specs.Places.{PlaceMap}
+use Rattle.container_meta.specs.Segments.{KindSegment}
+use Rattle.container_meta.specs.declared.kind.Kind.TheVariants.{Leaf}
+use Rattle.disk_format.specs.Cells.{Root}
+use Rattle.actor_parts.specs.declared.actor.TheConstants.{ACTORS}
+use Rattle.actor_parts.specs.declared.part.Part.{Part}
+use Rattle.actor_parts.specs.declared.part.Part.TheVariants.{Idle, Writing}
+use Rattle.actor_parts.specs.declared.step.Answer.{Answer}
+use Rattle.actor_parts.specs.declared.step.Answer.TheVariants as answers
+use Rattle.actor_parts.specs.Kinds.{kind_of}
+use Rattle.actor_parts.specs.Parts.{part_of, with_part}
+use Rattle.actor_parts.specs.PinMap.{PinMap}
+use Rattle.actor_parts.specs.StepValue as asked
+use Rattle.actor_parts.specs.StepValue.{StepValue}
+use Rattle.actor_parts.proofs.Apart.{apart}
+use Rattle.refusals.specs.declared.refusal.Refusal.{Refusal}
+use Rattle.refusals.specs.declared.refusal.Refusal.TheVariants as refusals
+use Rattle.refusals.specs.declared.refusal.PartKind.TheVariants as kinds
+use Rattle.store_model.specs.Image.{Store}
+use Rattle.store_model.specs.Slots.{last_id}
+use Rattle.store_state.specs.Tables.{Represents}
+use Rattle.store_state.specs.declared.tables.Tables.{Tables}
+use Rattle.ingest_steps.specs.Writers.{IsWrongPart}
+use Rattle.store_core.specs.declared.stop.Stop.{Stop}
+use Rattle.store_core.specs.Core.{CoreStep, Steps, StepsOr, BeginRow, KeepsTables}
+use Rattle.store_core.specs.State.{CoreState, Event, IsUp, IsRunning, UnlessStopped}
+use Rattle.backup_engine.specs.Putting.{IsStoring}
+use Rattle.backup_engine.specs.Running.{IsFresh, GivesLastId}
+
+-- a step of the first actor
+abbrev pub by_first : StepValue → Result Answer Refusal → List ℕ → Event
+by_first step answer buf = record { actor = 0; step = step; answer = answer; buf = buf }
+
+module _ (old new : CoreState) where
+  -- of a core that runs
+  pub steps_of : (e : Event) → old.stop ≡ None → CoreStep old e new → Steps e old new
+  steps_of e runs step = subst (λ (stop : Option Stop). StepsOr stop e old new) runs step
+
+  -- tables and index represent what they did
+  pub kept_represents : KeepsTables old new → (store : Store) → Represents store new.known new.tables → Represents store old.known old.tables
+  kept_represents kept store represents =
+      subst (λ (t : Tables). Represents store old.known t) kept.tables_are (subst (λ (known : Option PlaceMap). Represents store known new.tables) kept.index_is represents)
+
+  pub kept_last : KeepsTables old new → GivesLastId old → GivesLastId new
+  kept_last kept last store represents = ap (λ (t : Tables). t.held.last_id) kept.tables_are ∙ last store (kept_represents kept store represents)
+
+  -- the first actor's part
+  pub first_part : (part : Part) → IsUp old → new.parts ≡ with_part old.parts 0 part → part_of new.parts 0 ≡ part
+  first_part part up is = ap (λ (parts : List Part). part_of parts 0) is ∙ apart.same old.parts 0 part (omega (arith, up.many))
+
+-- it is up while it isn't stopped
+pub up_of : (c : CoreState) → c.stop ≡ None → IsRunning c → IsUp c
+up_of c runs running = subst (λ (stop : Option Stop). UnlessStopped stop (IsUp c)) runs running
+
+idle_first : part_of (replicate ACTORS Idle) 0 ≡ Idle
+unfolding part_of
+idle_first = refl
+
+pub idle_of : (c : CoreState) → IsFresh c → part_of c.parts 0 ≡ Idle
+idle_of c fresh = ap (λ (parts : List Part). part_of parts 0) fresh.idle ∙ idle_first
+
+-- a part is not of another kind than that it has
+pub no_other : (taken : _) (part : Part) (refusal : Refusal) → kind_of part ≡ taken → IsWrongPart taken part refusal → ⊥
+no_other taken part (refusals.WrongPart kind) is wrong = wrong.1 (wrong.0 ∙ is)
+no_other taken part refusal is wrong = absurd wrong
+
+-- ---- a file is begun
+
+module _ (old new : CoreState) (buf : List ℕ) (fresh : IsFresh old) where
+  begin_row : (answer : Result Answer Refusal) → CoreStep old (by_first asked.Begin answer buf) new → BeginRow 0 answer old new
+  begin_row answer step = (steps_of old new (by_first asked.Begin answer buf) fresh.runs step).made.row
+
+  -- it is never refused
+  pub begin_is_done : (refusal : Refusal) → CoreStep old (by_first asked.Begin (Err refusal) buf) new → ⊥
+  begin_is_done refusal step = no_other kinds.Idle (part_of old.parts 0) refusal (ap kind_of (idle_of old fresh)) (begin_row (Err refusal) step).0
+
+  begun : (answer : Answer) → BeginRow 0 (Ok answer) old new → new.parts ≡ with_part old.parts 0 (Writing finite.empty)
+  begun answers.Begun row = row.1
+  begun answer row = absurd row
+
+  pub begin_runs : (answer : Answer) → CoreStep old (by_first asked.Begin (Ok answer) buf) new → new.stop ≡ None
+  begin_runs answer step = (steps_of old new (by_first asked.Begin (Ok answer) buf) fresh.runs step).stops
+
+  pub is_storing : (answer : Answer) → CoreStep old (by_first asked.Begin (Ok answer) buf) new → IsRunning new → IsStoring new
+  is_storing answer step running =
+      let steps = steps_of old new (by_first asked.Begin (Ok answer) buf) fresh.runs step in
+      let kept : KeepsTables old new = steps.made.effect.tables in
+      record {
+        up = up_of new (begin_runs answer step) running;
+        runs = begin_runs answer step;
+        told = (fresh.told.0, kept.index_is ∙ fresh.told.1);
+        last = kept_last old new kept fresh.last;
+        pins = finite.empty;
+        writing = first_part old new (Writing finite.empty) fresh.up (begun answer steps.made.row);
+      }

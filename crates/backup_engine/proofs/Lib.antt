@@ -7,4 +7,5 @@ pub mod PutCommits
 pub mod PutFile
 pub mod PutRuns
 pub mod PutSteps
+pub mod SourceRuns
 pub mod Taking

@@ -1,10 +1,7 @@
 -- What the first actor's steps make of a core by which a file is stored.
-use Rattle.std.proofs.Common.{◌≡◌, ◌≢◌, inl, inr, ◌<◌, ◌≤◌, ℕ, Bool, true, false, List, [], ◌∷◌, length, replicate, Option, Some, None, Result, Ok, Err, refl, sym, ◌∙◌, ap, subst, arith}
+use Rattle.std.proofs.Common.{◌≡◌, ℕ, List, replicate, Option, None, Result, Ok, Err, refl, ◌∙◌, ap, subst, arith}
 use Rattle.std.specs.FinMap as finite
 use Rattle.container_meta.specs.Places.{PlaceMap}
-use Rattle.container_meta.specs.Segments.{KindSegment}
-use Rattle.container_meta.specs.declared.kind.Kind.TheVariants.{Leaf}
-use Rattle.disk_format.specs.Cells.{Root}
 use Rattle.actor_parts.specs.declared.actor.TheConstants.{ACTORS}
 use Rattle.actor_parts.specs.declared.part.Part.{Part}
 use Rattle.actor_parts.specs.declared.part.Part.TheVariants.{Idle, Writing}
@@ -12,7 +9,6 @@ use Rattle.actor_parts.specs.declared.step.Answer.{Answer}
 use Rattle.actor_parts.specs.declared.step.Answer.TheVariants as answers
 use Rattle.actor_parts.specs.Kinds.{kind_of}
 use Rattle.actor_parts.specs.Parts.{part_of, with_part}
-use Rattle.actor_parts.specs.PinMap.{PinMap}
 use Rattle.actor_parts.specs.StepValue as asked
 use Rattle.actor_parts.specs.StepValue.{StepValue}
 use Rattle.actor_parts.proofs.Apart.{apart}
@@ -20,7 +16,6 @@ use Rattle.refusals.specs.declared.refusal.Refusal.{Refusal}
 use Rattle.refusals.specs.declared.refusal.Refusal.TheVariants as refusals
 use Rattle.refusals.specs.declared.refusal.PartKind.TheVariants as kinds
 use Rattle.store_model.specs.Image.{Store}
-use Rattle.store_model.specs.Slots.{last_id}
 use Rattle.store_state.specs.Tables.{Represents}
 use Rattle.store_state.specs.declared.tables.Tables.{Tables}
 use Rattle.ingest_steps.specs.Writers.{IsWrongPart}

@@ -1,23 +1,20 @@
 -- A segment that is held and kept, and what refusals say of it.
-use Rattle.std.proofs.Common.{◌≡◌, ◌≢◌, inl, inr, ◌<◌, ◌≤◌, ◌==◌, ◌&&◌, ℕ, Bool, true, false, cond, List, [], ◌∷◌, length, Option, Some, None, option_map, Result, Ok, Err, refl, sym, ◌∙◌, ap, subst, arith}
+use Rattle.std.proofs.Common.{◌≡◌, inl, inr, ◌≤◌, ◌==◌, ℕ, Bool, true, cond, List, [], length, Some, None, option_map, refl, sym, ◌∙◌, ap, subst, arith}
 use Rattle.std.specs.FinMap as finite
 use Rattle.std.specs.Cmp.Lexicographic.{slice_cmp, nat_list_cmp_total}
 use Rattle.std.specs.Ordering.{nat_cmp, eq_by_cmp}
 use Rattle.std.proofs.lemmas.Slice.Eq.{bytes_eq-Decides}
-use Rattle.sha2.specs.Sha256.{sha256}
-use Rattle.base_model.specs.Bytes.{key_of}
-use Rattle.container_meta.specs.declared.kind.Kind.TheVariants.{Leaf, Tree}
 use Rattle.container_meta.specs.declared.place.Place.{Place}
 use Rattle.container_meta.specs.Places.{PlaceMap}
 use Rattle.disk_format.specs.Cells.{Root}
 use Rattle.actor_parts.specs.declared.pins.Pin.{Pin}
 use Rattle.actor_parts.specs.PinMap.{PinMap, is_pin, has_pin}
 use Rattle.store_model.specs.Image.{Store}
-use Rattle.store_model.specs.Slots.{Copy, IsIndexOf, newest}
+use Rattle.store_model.specs.Slots.{Copy, IsIndexOf}
 use Rattle.store_model.specs.Trees.{root_of, leaf_key}
 use Rattle.store_model.proofs.Indexing.{tied}
 use Rattle.store_model.proofs.Lookups.{lacks, finds}
-use Rattle.ingest_steps.specs.Writers.{IsStored, is_pinned, empty_root}
+use Rattle.ingest_steps.specs.Writers.{IsStored, is_pinned}
 use Rattle.backup_engine.specs.PlainMap.{most_bytes, held_length}
 use Rattle.backup_engine.proofs.FewBytes.{root_of_few}
 

@@ -1,25 +1,22 @@
 -- How the segment of a file is held and kept: a claim, and, where it is absent, a seal.
-use Rattle.std.proofs.Common.{◌≡◌, ◌≢◌, ◌≤◌, ◌<◌, inl, inr, ℕ, List, [], ◌∷◌, length, Result, Ok, Err, refl, sym, ◌∙◌, ap, subst, arith}
+use Rattle.std.proofs.Common.{◌≡◌, ◌≢◌, ◌≤◌, ℕ, List, [], length, Result, Ok, Err, refl, sym, subst, arith}
 use Rattle.std.specs.Result.{IsErrAnd}
-use Rattle.disk_format.specs.Cells.{Root}
 use Rattle.actor_parts.specs.declared.step.Answer.{Answer}
 use Rattle.actor_parts.specs.declared.step.Answer.TheVariants as answers
 use Rattle.actor_parts.specs.StepValue as asked
 use Rattle.actor_parts.specs.StepValue.{StepValue, IsStep}
 use Rattle.refusals.specs.declared.refusal.Refusal.{Refusal}
 use Rattle.refusals.specs.declared.refusal.Refusal.TheVariants.{Memory}
-use Rattle.store_model.specs.Standing.{IsSegmentOf}
-use Rattle.store_model.specs.Trees.{root_of}
 use Rattle.store_core.specs.Core.{CoreStep}
 use Rattle.store_core.specs.Runs.{FileEvent}
 use Rattle.store_core.specs.State.{CoreState, Event, IsRunning}
 use Rattle.backup_engine.specs.PlainMap.{most_bytes}
-use Rattle.backup_engine.specs.Putting.{IsStoring, IsKept, PutSoFar, Holds}
-use Rattle.backup_engine.specs.Running.{IsFresh, IsPutStep, IsAskedFor, PutRun, IsPutRefusal}
+use Rattle.backup_engine.specs.Putting.{IsStoring, PutSoFar, Holds}
+use Rattle.backup_engine.specs.Running.{IsPutStep, IsAskedFor}
 use Rattle.backup_engine.proofs.FewBytes.{is_its_segment}
 use Rattle.backup_engine.proofs.FirstActor.{by_first, steps_of}
 use Rattle.backup_engine.proofs.PutRuns.{nothing_put, one_put, put_refused, put_on, put_then}
-use Rattle.backup_engine.proofs.PutSteps.{leaf_seg, leaf_container, IsAbsent, claim_held, claim_absent, claimed_absent, claim_refused, seal_kept, seal_refused}
+use Rattle.backup_engine.proofs.PutSteps.{leaf_seg, leaf_container, claim_held, claim_absent, claimed_absent, claim_refused, seal_kept, seal_refused}
 
 -- what is so of each error is so of a result that is this one
 pub by_error : {T E : Type 0} (P : Result T E → Type 0) (result : Result T E) (e : E) → IsErrAnd result (λ y. y ≡ e) → P (Err e) → P result

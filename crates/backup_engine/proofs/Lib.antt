@@ -1,11 +1,13 @@
 pub mod Called
 pub mod FewBytes
 pub mod FirstActor
+pub mod GiveRuns
 pub mod HeldFile
 pub mod Holding
 pub mod PutCommits
 pub mod PutFile
 pub mod PutRuns
 pub mod PutSteps
+pub mod SinkWrites
 pub mod SourceRuns
 pub mod Taking

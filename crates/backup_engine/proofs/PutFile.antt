@@ -1,16 +1,14 @@
 -- How a file is stored: it is begun, its segment is held and kept, and its name is given its root.
-use Rattle.std.proofs.Common.{◌≡◌, ◌≢◌, ◌≤◌, inl, inr, ℕ, List, [], ◌∷◌, length, Result, Ok, Err, refl, sym, ap, subst}
+use Rattle.std.proofs.Common.{◌≡◌, inl, ℕ, List, [], ◌∷◌, Result, Ok, Err, refl}
 use Rattle.actor_parts.specs.declared.step.Answer.{Answer}
 use Rattle.actor_parts.specs.StepValue as asked
 use Rattle.actor_parts.specs.StepValue.{StepValue}
 use Rattle.refusals.specs.declared.refusal.Refusal.{Refusal}
-use Rattle.refusals.specs.declared.refusal.Refusal.TheVariants.{Memory}
 use Rattle.store_model.specs.Trees.{root_of}
 use Rattle.store_core.specs.Core.{CoreStep}
-use Rattle.store_core.specs.State.{CoreState, IsRunning}
-use Rattle.backup_engine.specs.PlainMap.{most_bytes}
+use Rattle.store_core.specs.State.{CoreState}
 use Rattle.backup_engine.specs.Putting.{IsStoring, IsKept, PutSoFar, Holds}
-use Rattle.backup_engine.specs.Running.{IsFresh, IsPutStep, PutRun, IsPutRefusal}
+use Rattle.backup_engine.specs.Running.{IsPutStep, PutRun}
 use Rattle.backup_engine.proofs.FirstActor.{by_first}
 use Rattle.backup_engine.proofs.HeldFile.{stored_none}
 use Rattle.backup_engine.proofs.Holding.{file_event, put_step}

@@ -1,13 +1,11 @@
 -- The steps by which a segment is held and kept, and why they are refused.
-use Rattle.std.proofs.Common.{◌≡◌, ◌≢◌, inl, inr, ◌<◌, ◌≤◌, ◌+◌, ℕ, List, [], ◌∷◌, length, Option, Some, None, option_map, Result, Ok, Err, refl, sym, ◌∙◌, ap, subst, arith}
+use Rattle.std.proofs.Common.{◌≡◌, ◌≢◌, inl, inr, ◌≤◌, ℕ, List, [], ◌∷◌, length, Option, Some, None, option_map, Result, Ok, Err, sym, ◌∙◌, ap, subst, arith}
 use Rattle.std.specs.FinMap as finite
 use Rattle.sha2.specs.Sha256.{sha256}
-use Rattle.disk_format.specs.declared.numbers.TheConstants.{RESERVE, LAST_ID}
 use Rattle.dd_disk.specs.Shows.{Shows}
 use Rattle.container_meta.specs.declared.kind.Kind.TheVariants.{Leaf}
-use Rattle.container_meta.specs.declared.place.Place.{Place}
 use Rattle.container_meta.specs.Places.{PlaceMap}
-use Rattle.container_meta.specs.Segments.{Segment, KindSegment, Contents, segment_at}
+use Rattle.container_meta.specs.Segments.{KindSegment, Contents, segment_at}
 use Rattle.container_meta.specs.Spelling.{HeaderValue, header_of}
 use Rattle.segment_index.specs.Places.{KnownMap}
 use Rattle.actor_parts.specs.declared.part.Part.{Part}
@@ -23,16 +21,16 @@ use Rattle.refusals.specs.declared.refusal.Refusal.{Refusal}
 use Rattle.refusals.specs.declared.refusal.Refusal.TheVariants as refusals
 use Rattle.refusals.specs.declared.refusal.PartKind.TheVariants as kinds
 use Rattle.store_model.specs.Image.{Store, IsValidFor}
-use Rattle.store_model.specs.Slots.{Copy, IsIndexOf, newest, leaf_segment, last_id, free_slots, first_free}
-use Rattle.store_model.specs.Steps.{SealContainer, with_sealed}
+use Rattle.store_model.specs.Slots.{Copy}
+use Rattle.store_model.specs.Steps.{SealContainer}
 use Rattle.store_model.specs.Trees.{leaf_key}
-use Rattle.store_model.proofs.NewestSealed.{newest_of_entries, entry_copy}
+use Rattle.store_model.proofs.NewestSealed.{newest_of_entries}
 use Rattle.store_model.proofs.Sound.{last_within}
 use Rattle.store_state.specs.Comparing.{IsUnlike, IsFirstUnlike}
 use Rattle.store_state.specs.Tables.{Represents}
 use Rattle.ingest_steps.specs.Claiming.{IsClaimRefusal, DiffersFrom}
 use Rattle.ingest_steps.specs.SealStep.{IsStepRefusal}
-use Rattle.store_core.specs.Core.{CoreStep, Steps, KeepsTables, KeepsUnlessBroken, IsDamage, Makes, next_id}
+use Rattle.store_core.specs.Core.{CoreStep, KeepsTables, KeepsUnlessBroken, IsDamage, Makes, next_id}
 use Rattle.store_core.specs.State.{CoreState, Event, IsRunning}
 use Rattle.backup_engine.specs.PlainMap.{most_bytes, held_length}
 use Rattle.backup_engine.specs.Putting.{IsStoring, IsKept}

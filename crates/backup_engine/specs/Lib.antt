@@ -1,5 +1,6 @@
 pub mod AnyDisk
 pub mod Frame
+pub mod Giving
 pub mod Line
 pub mod LineValue
 pub mod PlainMap
@@ -7,4 +8,5 @@ pub mod Promise
 pub mod Putting
 pub mod Running
 pub mod Storing
+
 pub mod TopCall

@@ -1,5 +1,5 @@
 -- What is so on the way of storing a file (docs/MODEL.md, 'Commands').
-use Rattle.std.specs.Prelude.{◌≡◌, ◌⊎◌, ◌≤◌, ℕ, List, [], length, Option, Some, None, Result, Ok, Err}
+use Rattle.std.specs.Prelude.{◌≡◌, ◌⊎◌, ℕ, List, [], length, Some, None, Result, Ok, Err}
 use Rattle.std.specs.List.{AllByRecursion}
 use Rattle.container_meta.specs.Places.{PlaceMap}
 use Rattle.actor_parts.specs.declared.part.Part.TheVariants.{Writing}
@@ -7,7 +7,6 @@ use Rattle.actor_parts.specs.Parts.{part_of}
 use Rattle.actor_parts.specs.PinMap.{PinMap}
 use Rattle.refusals.specs.declared.refusal.Refusal.{Refusal}
 use Rattle.store_model.specs.Image.{Store}
-use Rattle.store_model.specs.Slots.{last_id}
 use Rattle.store_model.specs.Trees.{root_of, leaf_key}
 use Rattle.store_state.specs.Tables.{Represents}
 use Rattle.ingest_steps.specs.Writers.{IsStored}

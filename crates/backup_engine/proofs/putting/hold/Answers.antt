@@ -1,4 +1,4 @@
-use Rattle.std.proofs.Common.{◌≡◌, ℕ, List, Result, Ok, Err, refl, sym, ◌∙◌, ap, subst}
+use Rattle.std.proofs.Common.{◌≡◌, Result, Ok, Err, sym, ap, subst}
 use Rattle.actor_parts.specs.declared.step.Answer.TheVariants as answers
 use Rattle.actor_parts.specs.StepValue as asked
 use Rattle.refusals.specs.declared.refusal.Refusal.{Refusal}
@@ -42,7 +42,7 @@ returns-in_err-make_step-2-clause-holds g c = λ name.
     let absent : c.in_ok-make_step.field-0 ≡ answers.Absent = c.in-Absent.is in
     let step = as_first (state old) (state mid) _ _ (asked.Claim (leaf_seg bytes)) (Ok answers.Absent) c.make_step.new.buf c.first.ensures (ap asked.Claim c.in_ok-seg.ensures) (rw absent at c.in_ok-make_step.ensures.step) in
     let sealed = as_first (state mid) (state new) _ _ (asked.Seal (leaf_container bytes)) (Err e) c.make_step-in-Absent.new.buf c.first-in-Absent.ensures
-        (ap asked.Seal (filled_is c.in_ok-filled.filled c.in_ok-seg.seg bytes c.in_ok-filled.ensures c.in_ok-seg.ensures)) c.in_err-make_step-2.ensures.step in
+    (ap asked.Seal (filled_is c.in_ok-filled.filled c.in_ok-seg.seg bytes c.in_ok-filled.ensures c.in_ok-seg.ensures)) c.in_err-make_step-2.ensures.step in
     by_error (λ (r : Result Unit Refusal). Holds _ state name bytes r old new) c.from_residual-in_err-make_step-2.result e c.from_residual-in_err-make_step-2.ensures.1
     (hold_unsealed _ state name bytes old c.requires.storing c.requires.some c.requires.few mid c.make_step.new.buf step c.make_step.ensures.running new c.make_step-in-Absent.new.buf e sealed)
 
@@ -59,7 +59,7 @@ returns-clause-holds g c = λ name.
           let absent : c.in_ok-make_step.field-0 ≡ answers.Absent = w.in-Absent.is in
           let step = as_first (state old) (state mid) _ _ (asked.Claim (leaf_seg bytes)) (Ok answers.Absent) c.make_step.new.buf c.first.ensures seg_is (rw absent at c.in_ok-make_step.ensures.step) in
           let sealed = as_first (state mid) (state new) _ _ (asked.Seal (leaf_container bytes)) (Ok w.in_ok-make_step-2.field-0) w.make_step-in-Absent.new.buf w.first-in-Absent.ensures
-              (ap asked.Seal (filled_is w.in_ok-filled.filled c.in_ok-seg.seg bytes w.in_ok-filled.ensures c.in_ok-seg.ensures)) w.in_ok-make_step-2.ensures.step in
+          (ap asked.Seal (filled_is w.in_ok-filled.filled c.in_ok-seg.seg bytes w.in_ok-filled.ensures c.in_ok-seg.ensures)) w.in_ok-make_step-2.ensures.step in
           subst (λ (end : _). Holds _ state name bytes (Ok tt) old end) (sym w.core-is)
           (hold_sealed _ state name bytes old c.requires.storing c.requires.some c.requires.few mid c.make_step.new.buf step c.make_step.ensures.running new w.make_step-in-Absent.new.buf w.in_ok-make_step-2.field-0 sealed)
       | in_default w ↦

@@ -1,13 +1,10 @@
-use Rattle.std.proofs.Common.{◌≡◌, ℕ, List, [], Result, Ok, Err, IfErr, refl, sym, ◌∙◌, ap, subst}
-use Rattle.disk_format.specs.Cells.{Root}
+use Rattle.std.proofs.Common.{Result, Ok, Err, IfErr, refl, sym, subst}
 use Rattle.actor_parts.specs.StepValue as asked
 use Rattle.refusals.specs.declared.refusal.Refusal.{Refusal}
 use Rattle.store_model.specs.Trees.{root_of}
-use Rattle.store_core.specs.Core.{CoreStep}
-use Rattle.backup_engine.specs.Putting.{Holds}
 use Rattle.backup_engine.specs.Running.{PutRun, IsPutRefusal}
 use Rattle.backup_engine.proofs.FewBytes.{no_bytes}
-use Rattle.backup_engine.proofs.FirstActor.{by_first, begin_is_done, is_storing}
+use Rattle.backup_engine.proofs.FirstActor.{begin_is_done, is_storing}
 use Rattle.backup_engine.proofs.Holding.{by_error, as_first}
 use Rattle.backup_engine.proofs.PutCommits.{commit_refused, commit_is}
 use Rattle.backup_engine.proofs.PutFile.{IsReady, kept_none, put_begun, ready_held, not_held, not_committed, committed}

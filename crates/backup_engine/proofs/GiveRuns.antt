@@ -122,11 +122,11 @@ module _ (C : Type 0) (state : C → CoreState) (name : List ℕ) (old : C) (sin
     still_wrote answer none = subst (λ (b : List ℕ). Appended sink.written sink_now.written b) (sym (nothing_more so_far.reads (read answer) none)) so_far.wrote
 
     pub read_refused : (refusal : Refusal) → CoreStep (state now) (read (Err refusal)) (state new) → GiveRun C state name (Err (endings.Refused refusal)) old new sink sink_now
-    read_refused refusal step = given_out (Err refusal) (Err (endings.Refused refusal)) sink_now step refl (still_wrote (Err refusal) refl)
+    read_refused refusal step = given_out (Err refusal) (Err (endings.Refused refusal)) sink_now step refl (still_wrote (Err refusal) refl, so_far.faults_are)
 
     -- only the end is answered but a segment
     pub read_ended : (answer : Answer) → ((count : ℕ) → answer ≡ answers.Bytes count → ⊥) → CoreStep (state now) (read (Ok answer)) (state new) → GiveRun C state name (Ok tt) old new sink sink_now
-    read_ended answers.End other step = given_out (Ok answers.End) (Ok tt) sink_now step refl (still_wrote (Ok answers.End) refl)
+    read_ended answers.End other step = given_out (Ok answers.End) (Ok tt) sink_now step refl (still_wrote (Ok answers.End) refl, so_far.faults_are)
     read_ended (answers.Bytes count) other step = absurd (other count refl)
     read_ended answer other step = absurd (steps (Ok answer) step).made.row
 

@@ -1,13 +1,26 @@
 pub mod Called
 pub mod FewBytes
 pub mod FirstActor
+pub mod Formatting
 pub mod GiveRuns
 pub mod HeldFile
 pub mod Holding
+pub mod Numbers
 pub mod PutCommits
+pub mod PutEnds
 pub mod PutFile
+pub mod PutMaps
 pub mod PutRuns
 pub mod PutSteps
+pub mod PutStops
+pub mod Reading
+pub mod Replied
+pub mod RightPuts
+pub mod RightRoots
+pub mod SameRoom
 pub mod SinkWrites
 pub mod SourceRuns
 pub mod Taking
+
+pub mod TopCall
+pub mod Unlent

@@ -23,10 +23,11 @@ use Rattle.ingest_steps.specs.Writers.{IsStored, IsNotStored, IsCommitRefusal}
 use Rattle.store_core.specs.Core.{CoreStep, KeepsTables}
 use Rattle.store_core.specs.State.{CoreState, Event}
 use Rattle.backup_engine.specs.Line.{Ingest}
-use Rattle.backup_engine.specs.PlainMap.{most_bytes, HasNoCell, room_in}
+use Rattle.backup_engine.specs.PlainMap.{most_bytes, HasNoCell, HasPieces, room_in}
 use Rattle.backup_engine.specs.Putting.{IsKept}
 use Rattle.backup_engine.specs.Running.{IsPutRefusal}
 use Rattle.backup_engine.proofs.FirstActor.{by_first, steps_of, kept_represents, no_other}
+use Rattle.backup_engine.proofs.HeldFile.{has_pieces}
 
 -- ---- names
 
@@ -60,6 +61,9 @@ module _ (old new : CoreState) (name bytes buf : List ℕ) (kept : IsKept bytes 
     before : Represents store old.known old.tables
     before = kept_represents old new same store represents
 
+    pieces : HasPieces bytes (room_in (Ingest name) store)
+    pieces = has_pieces name bytes store few (kept.held store before)
+
     names_are : old.tables.names ≡ names_of store
     names_are = before.names_are.names_are
 
@@ -81,13 +85,16 @@ module _ (old new : CoreState) (name bytes buf : List ℕ) (kept : IsKept bytes 
   commit_cause refusals.Numbers same cause = record {
     store_has = λ store represents valid reserve.
         let may = cause.0.may_name in
-        (few, inr (kept.held store (before same store represents), may.named, has_cell same store represents may.room may.cell, sym (before same store represents).names_are.last_is ∙ cause.1));
+        inr (
+          record { few = few; pieces = pieces same store represents; named = may.named; cell = has_cell same store represents may.room may.cell },
+          sym (before same store represents).names_are.last_is ∙ cause.1,
+        );
   }
   commit_cause refusals.BadName same cause = record {
-    store_has = λ store represents valid reserve. (few, kept.held store (before same store represents), cause.1);
+    store_has = λ store represents valid reserve. (few, pieces same store represents, cause.1);
   }
   commit_cause refusals.TooMany same cause = record {
-    store_has = λ store represents valid reserve. (few, kept.held store (before same store represents), cause.1.0, no_cell same store represents cause.1.1);
+    store_has = λ store represents valid reserve. (few, pieces same store represents, cause.1.0, no_cell same store represents cause.1.1);
   }
   commit_cause (refusals.WrongPart kind) same cause = absurd (no_other kinds.Writing (part_of old.parts 0) (refusals.WrongPart kind) (ap kind_of kept.writing) cause)
   commit_cause (refusals.Unpinned key) same cause =

@@ -1,34 +1,33 @@
 -- What the top call promises over any disk, also one that tells nothing, or lies (docs/MODEL.md, 'The promise').
-use Rattle.std.specs.Prelude.{◌≡◌, ◌≢◌, ◌⊎◌, ℕ, ◌+◌, ◌≤◌, List, [], get_or, Option, None, Some}
+use Rattle.std.specs.Prelude.{◌≡◌, ◌≢◌, ◌⊎◌, ℕ, suc, ◌≤◌, List, [], ◌∷◌, length, sum_by, Option, None, Some}
 use Rattle.std.specs.List.{AllByRecursion, concat}
-use Rattle.base_model.specs.Bytes.{byte_at, key_of}
-use Rattle.sha2.specs.Sha256.{sha256}
+use Rattle.base_model.specs.Bytes.{byte_at}
 use Rattle.base_model.specs.Fault.{Rose}
 use Rattle.base_model.specs.Known.{Known, KnownWith, Appended}
 use Rattle.disk_format.specs.declared.numbers.TheConstants.{FORMAT_GATE, RESERVE}
-use Rattle.disk_format.specs.Layout.{IsSlotCount, size_of, data_at}
+use Rattle.disk_format.specs.Layout.{IsSlotCount, size_of}
 use Rattle.disk_format.specs.Cells.{Root}
-use Rattle.dd_disk.specs.View.{DiskView, IsLater, IsDurable}
-use Rattle.dd_disk.specs.Ending.{Blame, NoCall, Done, CountsFault, ending_of}
+use Rattle.dd_disk.specs.View.{DiskView, IsDurable}
+use Rattle.dd_disk.specs.Ending.{NoCall, Done, CountsFault, ending_of}
 use Rattle.dd_disk.specs.Ending as device
 use Rattle.dd_disk.specs.Shows.{Shows}
 use Rattle.dd_io.specs.Flow.{SourceView, SinkView, AppendedPart}
-use Rattle.container_meta.specs.declared.place.Place.{Place}
+use Rattle.container_meta.specs.declared.kind.Kind.{Kind}
+use Rattle.container_meta.specs.declared.kind.Kind.TheVariants.{Leaf}
 use Rattle.container_meta.specs.Places.{PlaceMap}
+use Rattle.container_meta.specs.Segments.{Segment, segment_key}
 use Rattle.merkle_file.specs.declared.top.Top.{Top}
 use Rattle.merkle_file.specs.Walk.{start_of}
-use Rattle.refusals.specs.declared.refusal.Difference.TheVariants.{Byte}
 use Rattle.refusals.specs.declared.refusal.Refusal.{Refusal}
-use Rattle.refusals.specs.declared.refusal.Refusal.TheVariants.{Memory, DiskRead, DiskWrite, Clash, Corrupt}
+use Rattle.refusals.specs.declared.refusal.Refusal.TheVariants.{Memory, DiskRead, DiskWrite}
 use Rattle.reply_text.specs.declared.ending.Ending.{Ending}
 use Rattle.reply_text.specs.declared.ending.Ending.TheVariants.{Words, Source, Sink, Refused}
 use Rattle.reply_text.specs.Text.{formatted_line, stored_line}
-use Rattle.store_model.specs.Commands.{IsFormatted}
 use Rattle.store_model.specs.Image.{Store, Encodes, names_of}
-use Rattle.store_model.specs.Refusals.{WereFound}
-use Rattle.store_model.specs.Slots.{IsIndexOf, free_slots}
-use Rattle.store_model.specs.Steps.{StoreChange, SealContainer, PutName, CanPut}
-use Rattle.store_model.specs.Trees.{bytes_at, root_of}
+use Rattle.store_model.specs.Slots.{IsIndexOf, free_slots, last_id, newest}
+use Rattle.store_model.specs.Standing.{IsSegmentOf, IsFormatted}
+use Rattle.store_model.specs.Steps.{StoreChange, SealContainer, PutName, CanPut, with_sealed}
+use Rattle.store_model.specs.Trees.{root_of}
 use Rattle.store_state.specs.Refused.{blames}
 use Rattle.recovery.specs.Opening.{IsOpenRefusal}
 use Rattle.recovery.specs.Formatting.{IsFormatRefusal}
@@ -36,7 +35,7 @@ use Rattle.read_steps.specs.Opening.{HasRoot, top_of}
 use Rattle.read_steps.specs.Walking.{GivesAll, IsNextRefusal}
 use Rattle.store_core.specs.Runs.{ChangesTo}
 use Rattle.backup_engine.specs.Line.{CommandLine, Format, Ingest, Restore}
-use Rattle.backup_engine.specs.PlainMap.{RefusesIngest, RefusesRestore, room_in}
+use Rattle.backup_engine.specs.PlainMap.{RefusesIngest, RefusesRestore, HasAll, room_in}
 use Rattle.backup_engine.specs.Promise.{WroteReply}
 
 -- ---- what reads showed
@@ -47,17 +46,26 @@ pub record Holds (disk disk_now : DiskView) : Type 0 where
   pub right : Shows disk disk_now (λ image. Encodes image store)
   pub reserve : RESERVE ≤ free_slots store.held
 
-abbrev pub IsSeal : StoreChange → Type 0
-IsSeal (SealContainer id kind segments) = Unit {0}
-IsSeal (PutName name root) = ⊥
+-- a segment that is stored is one of the file's
+abbrev pub IsPieceOf : List ℕ → Kind → Segment → Type 0
+IsPieceOf given kind segment = (kind ≡ Leaf) × IsSegmentOf given segment.bytes
 
--- and some containers were sealed
-pub record HasSealed (disk disk_now : DiskView) : Type 0 where
+-- Containers are added, each under the next id, with pieces of the file that no container before it holds.
+abbrev pub AddsOnce : List ℕ → List StoreChange → Store → Type 0
+AddsOnce given [] store = Unit {0}
+AddsOnce given (SealContainer id kind segments ∷ rest) store =
+    (id ≡ suc (last_id store.held))
+    × AllByRecursion (λ s. IsPieceOf given kind s × (newest 0 store.held (segment_key kind s) ≡ None)) segments
+    × AddsOnce given rest (with_sealed id kind segments store)
+AddsOnce given (PutName name root ∷ rest) store = ⊥
+
+-- and some containers were added
+pub record HasAdded (given : List ℕ) (disk disk_now : DiskView) : Type 0 where
   pub holds : Holds disk disk_now
   pub changes : List StoreChange
   pub after : Store
   pub chain : ChangesTo changes holds.store after
-  pub seals : AllByRecursion IsSeal changes
+  pub adds : AddsOnce given changes holds.store
 
 -- the disk had the size of so many slots and no store, and, where it tells its content, is an empty store now
 pub record Formats (slots : ℕ) (disk disk_now : DiskView) : Type 0 where
@@ -83,6 +91,7 @@ pub record GivesBack (name : List ℕ) (ending : Option Ending) (disk disk_now :
   pub segments : List (List ℕ)
   pub ahead : List Top
   pub given : GivesAll (start_of (top_of root)) segments ahead
+  pub whole : ahead ≡ [] → sum_by length segments ≡ root.length
   pub wrote : WroteSegments ahead segments ending sink sink_now
 
 -- what comes first of the rest is not given: the index of the store has no place for it, or reads showed what is wrong
@@ -94,16 +103,6 @@ IsStuck {name} {ending} {disk} {disk_now} given refusal =
 
 -- ---- causes
 
--- a node that is offered, and the copy of its key: bytes of another digest, or another node
-abbrev pub IsOtherNode : DiskView → DiskView → Refusal → Type 0
-IsOtherNode disk disk_now (Corrupt slot offset count want got) =
-    (want ≢ got) × WereFound (Shows disk disk_now) (data_at slot + offset) count got
-IsOtherNode disk disk_now (Clash key (Byte at mine other)) =
-    (mine ≢ other)
-    × ((place : Place) × Shows disk disk_now
-    (λ image. (key ≡ key_of 1 (sha256 (bytes_at place image))) × (other ≡ get_or (bytes_at place image) at 0)))
-IsOtherNode disk disk_now refusal = ⊥
-
 -- Why a command is refused. A call of the disk that failed is told by its count of faults.
 abbrev pub IsRefused : CommandLine → List ℕ → DiskView → DiskView → SourceView → SourceView → SinkView → SinkView → Refusal → Type 0
 IsRefused (Format slots) given disk disk_now source source_now sink sink_now refusal =
@@ -112,8 +111,7 @@ IsRefused (Ingest name) given disk disk_now source source_now sink sink_now Disk
 IsRefused (Ingest name) given disk disk_now source source_now sink sink_now DiskWrite = Unit {0}
 IsRefused (Ingest name) given disk disk_now source source_now sink sink_now refusal =
     (IsOpenRefusal (Shows disk disk_now) disk.size refusal × (source_now.left ≡ source.left))
-    ⊎ ((sealed : HasSealed disk disk_now) × RefusesIngest name given (room_in (Ingest name) sealed.after) refusal)
-    ⊎ IsOtherNode disk disk_now refusal
+    ⊎ ((added : HasAdded given disk disk_now) × RefusesIngest name given (room_in (Ingest name) added.after) refusal)
 IsRefused (Restore name) given disk disk_now source source_now sink sink_now DiskRead = Unit {0}
 IsRefused (Restore name) given disk disk_now source source_now sink sink_now DiskWrite = Unit {0}
 IsRefused (Restore name) given disk disk_now source source_now sink sink_now refusal =
@@ -121,30 +119,36 @@ IsRefused (Restore name) given disk disk_now source source_now sink sink_now ref
     ⊎ ((holds : Holds disk disk_now) × RefusesRestore name (room_in (Restore name) holds.store) refusal)
     ⊎ ((given : GivesBack name (Some (Refused refusal)) disk disk_now sink sink_now) × IsStuck given refusal)
 
+-- An `ingest` that was done: each piece of the file is held, and the name could be given its root.
+pub record IsStored (name given : List ℕ) (disk disk_now : DiskView) : Type 0 where
+  pub added : HasAdded given disk disk_now
+  pub all : HasAll name given (room_in (Ingest name) added.after)
+  pub can : CanPut name added.after
+
 -- what is so of a command that was done, but perhaps for its reply
-abbrev pub IsDone : CommandLine → DiskView → DiskView → Type 0
-IsDone (Format slots) disk disk_now = Formats slots disk disk_now
-IsDone (Ingest name) disk disk_now = (sealed : HasSealed disk disk_now) × CanPut name sealed.after
-IsDone (Restore name) disk disk_now = Unit {0}
+abbrev pub IsDone : CommandLine → List ℕ → DiskView → DiskView → Type 0
+IsDone (Format slots) given disk disk_now = Formats slots disk disk_now
+IsDone (Ingest name) given disk disk_now = IsStored name given disk disk_now
+IsDone (Restore name) given disk disk_now = Unit {0}
 
 abbrev pub IsCaused : CommandLine → List ℕ → DiskView → DiskView → SourceView → SourceView → SinkView → SinkView → Option Ending → Type 0
-IsCaused command given disk disk_now source source_now sink sink_now None = IsDone command disk disk_now
+IsCaused command given disk disk_now source source_now sink sink_now None = IsDone command given disk disk_now
 IsCaused command given disk disk_now source source_now sink sink_now (Some Words) = ⊥
 IsCaused command given disk disk_now source source_now sink sink_now (Some Source) =
     ((name : List ℕ) × (command ≡ Ingest name)) × Holds disk disk_now × Rose source.faults source_now.faults
 IsCaused command given disk disk_now source source_now sink sink_now (Some Sink) =
-    IsDone command disk disk_now × Rose sink.faults sink_now.faults
+    IsDone command given disk disk_now × Rose sink.faults sink_now.faults
 IsCaused command given disk disk_now source source_now sink sink_now (Some (Refused Memory)) = Unit {0}
 IsCaused command given disk disk_now source source_now sink sink_now (Some (Refused refusal)) =
     IsRefused command given disk disk_now source source_now sink sink_now refusal
 
 -- ---- what was written, and taken
 
-abbrev pub Wrote : CommandLine → List ℕ → Option Ending → DiskView → DiskView → SinkView → SinkView → Type 0
-Wrote (Format slots) given ending disk disk_now sink sink_now = WroteReply (formatted_line slots) ending sink sink_now
-Wrote (Ingest name) given ending disk disk_now sink sink_now = WroteReply (stored_line name (root_of given)) ending sink sink_now
-Wrote (Restore name) given None disk disk_now sink sink_now = GivesBack name None disk disk_now sink sink_now
-Wrote (Restore name) given (Some ending) disk disk_now sink sink_now =
+abbrev pub WroteOnAny : CommandLine → List ℕ → Option Ending → DiskView → DiskView → SinkView → SinkView → Type 0
+WroteOnAny (Format slots) given ending disk disk_now sink sink_now = WroteReply (formatted_line slots) ending sink sink_now
+WroteOnAny (Ingest name) given ending disk disk_now sink sink_now = WroteReply (stored_line name (root_of given)) ending sink sink_now
+WroteOnAny (Restore name) given None disk disk_now sink sink_now = GivesBack name None disk disk_now sink sink_now
+WroteOnAny (Restore name) given (Some ending) disk disk_now sink sink_now =
     (sink_now.written ≡ sink.written) ⊎ GivesBack name (Some ending) disk disk_now sink sink_now
 
 -- What the source gave: for `ingest` all that it had left, where it tells. No other command reads it.
@@ -174,6 +178,9 @@ pub record OnAnyDisk (command : CommandLine) (given : List ℕ) (ending : Option
     (source source_now : SourceView) (sink sink_now : SinkView) : Type 0 where
   pub took : Took command given source source_now
   pub caused : IsCaused command given disk disk_now source source_now sink sink_now ending
-  pub wrote : Wrote command given ending disk disk_now sink sink_now
+  pub wrote : WroteOnAny command given ending disk disk_now sink sink_now
   pub faults_are : CountsFault (disk_ending ending) disk.faults disk_now.faults
   pub durable : EndsDurable command ending disk_now
+  -- no fault of a source or a sink is passed over
+  pub source_faults : ¬ (ending ≡ Some Source) → source_now.faults ≡ source.faults
+  pub sink_faults : ¬ (ending ≡ Some Sink) → sink_now.faults ≡ sink.faults

@@ -3,22 +3,26 @@ use Rattle.std.specs.Prelude.{◌≡◌, ◌⊎◌, ℕ, ◌≤◌, ◌<◌, Lis
 use Rattle.base_model.specs.Bytes.{range, byte_at}
 use Rattle.base_model.specs.Known.{Known, KnownWith}
 use Rattle.dd_disk.specs.View.{DiskView}
-use Rattle.disk_format.specs.declared.numbers.TheConstants.{CELL_BYTES, SLOT_BYTES, FIRST_HALF, RECORD_GATE, CONTAINER_GATE, FORMAT_GATE}
-use Rattle.disk_format.specs.Layout.{half_cells, cell_at, slot_at, size_of}
+use Rattle.disk_format.specs.declared.numbers.TheConstants.{CELL_BYTES, SLOT_BYTES, FIRST_HALF, CONTAINER_GATE, FORMAT_GATE, RESERVE}
+use Rattle.disk_format.specs.Layout.{half_cells, cell_at, slot_at}
+use Rattle.store_model.specs.Image.{Store, Encodes}
+use Rattle.store_model.specs.Slots.{free_slots}
 use Rattle.reply_text.specs.declared.ending.Ending.{Ending}
 use Rattle.backup_engine.specs.Line.{CommandLine, Format, Ingest, Restore}
 use Rattle.backup_engine.specs.Promise.{MayChange, SinceStart}
 
--- The format cell and the selectors are as they were; each record cell that was open, and, where the map may not have changed,
--- each; and each container slot that was open.
+-- The content held a store that is opened. The format cell and the selectors are as they were; each record cell but the one
+-- after the records, and that, too, where the map may not have changed; and each container slot that was open.
 pub record KeepsOpen (ending : Option Ending) (old new : List ℕ) : Type 0 where
-  pub slots : ℕ
-  pub size : length old ≡ size_of slots
+  pub store : Store
+  pub right : Encodes old store
+  pub reserve : RESERVE ≤ free_slots store.held
   pub size_is : length new ≡ length old
   pub head : range 0 FIRST_HALF new ≡ range 0 FIRST_HALF old
-  pub cells : (half cell : ℕ) → half ≤ 1 → cell < half_cells → (MayChange ending → byte_at (cell_at half cell) old ≡ RECORD_GATE)
+  pub cells : (half cell : ℕ) → half ≤ 1 → cell < half_cells
+      → ¬ (MayChange ending × (half ≡ store.selector.half) × (cell ≡ length store.records))
       → range (cell_at half cell) CELL_BYTES new ≡ range (cell_at half cell) CELL_BYTES old
-  pub containers : (slot : ℕ) → slot < slots → byte_at (slot_at slot) old ≡ CONTAINER_GATE
+  pub containers : (slot : ℕ) → slot < store.slots → byte_at (slot_at slot) old ≡ CONTAINER_GATE
       → range (slot_at slot) SLOT_BYTES new ≡ range (slot_at slot) SLOT_BYTES old
 
 -- What a command leaves of any content. Of a disk with no store a `format` says itself what it leaves.

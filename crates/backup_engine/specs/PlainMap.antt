@@ -8,11 +8,11 @@ use Rattle.disk_format.specs.Layout.{half_cells, size_of}
 use Rattle.refusals.specs.declared.refusal.Difference.TheVariants.{Length}
 use Rattle.refusals.specs.declared.refusal.Refusal.{Refusal}
 use Rattle.refusals.specs.declared.refusal.Refusal.TheVariants.{Memory, NoFile, BadName, TooMany, TooLong, Full, Clash, DiskRead, DiskWrite, Numbers, AlreadyStore, WrongSize}
-use Rattle.store_model.specs.Files.{Files}
+use Rattle.store_model.specs.Files.{Files, Stored, with_stored}
 use Rattle.store_model.specs.Image.{Store, names_of, last_sequence}
 use Rattle.store_model.specs.Slots.{newest, free_slots, last_id}
+use Rattle.store_model.specs.Standing.{IsSegmentOf}
 use Rattle.store_model.specs.Trees.{leaf_key}
-use Rattle.store_core.specs.Runs.{Stored, with_stored}
 use Rattle.backup_engine.specs.Line.{CommandLine, Format, Ingest, Restore}
 
 -- how many bytes a file has at most, for now
@@ -48,65 +48,67 @@ pub record Room : Type 0 where
   pub records : ℕ
   pub held : List ℕ → Option ℕ
 
-abbrev pub held_length : Store → List ℕ → Option ℕ
-held_length store key = option_map (λ c. c.place.length) (newest 0 store.held key)
-
 -- the name of a command, where it has one
 abbrev pub name_of : CommandLine → List ℕ
 name_of (Format slots) = []
 name_of (Ingest name) = name
 name_of (Restore name) = name
 
--- those of a map, and of a store of its files
+-- those of a store, by what has a file
+abbrev pub room : Bool → ℕ → ℕ → Store → Room
+room knows names last store = record {
+  knows = knows;
+  names = names;
+  last = last;
+  size = size_of store.slots;
+  free = free_slots store.held;
+  last_id = last_id store.held;
+  records = length store.records;
+  held = λ key. option_map (λ c. c.place.length) (newest 0 store.held key);
+}
+
+-- of a map, and a store of its files
 abbrev pub room_of : CommandLine → Stored → Store → Room
-room_of command m store = record {
-  knows = is_some (finite.get m.files (name_of command));
-  names = finite.len m.files;
-  last = m.last;
-  size = size_of store.slots;
-  free = free_slots store.held;
-  last_id = last_id store.held;
-  records = length store.records;
-  held = held_length store;
-}
+room_of command m store = room (is_some (finite.get m.files (name_of command))) (finite.len m.files) m.last store
 
--- those of a store alone, whatever its names stand for
+-- of a store alone, whatever its names stand for
 abbrev pub room_in : CommandLine → Store → Room
-room_in command store = record {
-  knows = is_some (finite.get (names_of store) (name_of command));
-  names = finite.len (names_of store);
-  last = last_sequence store;
-  size = size_of store.slots;
-  free = free_slots store.held;
-  last_id = last_id store.held;
-  records = length store.records;
-  held = held_length store;
-}
+room_in command store =
+    room (is_some (finite.get (names_of store) (name_of command))) (finite.len (names_of store)) (last_sequence store) store
 
--- the file is not empty, and its segment is not held
-abbrev pub IsNew : List ℕ → Room → Type 0
-IsNew given room = (given ≢ []) × (room.held (leaf_key given) ≡ None)
+-- a piece of a file: a segment, by its key and its length
+abbrev pub IsPiece : List ℕ → List ℕ → ℕ → Type 0
+IsPiece given key count = (segment : List ℕ) × IsSegmentOf given segment × (key ≡ leaf_key segment) × (count ≡ length segment)
 
--- its segment is held, as it is, or there is none
-abbrev pub IsHeld : List ℕ → Room → Type 0
-IsHeld given room = (given ≡ []) ⊎ (room.held (leaf_key given) ≡ Some (length given))
+-- each is held, or one is not
+abbrev pub HasPieces : List ℕ → Room → Type 0
+HasPieces given room = (key : List ℕ) (count : ℕ) → IsPiece given key count → room.held key ≡ Some count
+
+abbrev pub LacksPiece : List ℕ → Room → Type 0
+LacksPiece given room = (key : List ℕ) × ((count : ℕ) × IsPiece given key count × (room.held key ≡ None))
 
 -- there are as many names as there may be, and this one is new; or the journal has no cell left
 abbrev pub HasNoCell : Room → Type 0
 HasNoCell room = ((room.knows ≡ false) × (MOST_NAMES ≤ room.names)) ⊎ (half_cells ≤ room.records)
 
--- Why an `ingest` is refused, in order: the source; the segment; and, once that is held, the name.
+-- The file is not too long, each piece of it is held, and the name is good and has a cell.
+pub record HasAll (name given : List ℕ) (room : Room) : Type 0 where
+  pub few : length given ≤ most_bytes
+  pub pieces : HasPieces given room
+  pub named : IsName name
+  pub cell : ¬ (HasNoCell room)
+
+-- Why an `ingest` is refused, in order: the source; a piece; and, once all are held, the name.
 abbrev pub RefusesIngest : List ℕ → List ℕ → Room → Refusal → Type 0
 RefusesIngest name given room TooLong = most_bytes < length given
 RefusesIngest name given room (Clash key (Length offered held)) =
-    (length given ≤ most_bytes) × (key ≡ leaf_key given) × (offered ≡ length given) × (room.held key ≡ Some held) × (offered ≢ held)
-RefusesIngest name given room (Full free) = (length given ≤ most_bytes) × IsNew given room × (free ≡ room.free) × (free ≤ RESERVE)
-RefusesIngest name given room BadName = (length given ≤ most_bytes) × IsHeld given room × ¬ (IsName name)
-RefusesIngest name given room TooMany = (length given ≤ most_bytes) × IsHeld given room × IsName name × HasNoCell room
+    IsPiece given key offered × (room.held key ≡ Some held) × (offered ≢ held)
+RefusesIngest name given room (Full free) = LacksPiece given room × (free ≡ room.free) × (free ≤ RESERVE)
+RefusesIngest name given room BadName = (length given ≤ most_bytes) × HasPieces given room × ¬ (IsName name)
+RefusesIngest name given room TooMany = (length given ≤ most_bytes) × HasPieces given room × IsName name × HasNoCell room
 RefusesIngest name given room Numbers =
-    (length given ≤ most_bytes)
-    × ((IsNew given room × (RESERVE < room.free) × (room.last_id ≡ LAST_ID))
-    ⊎ (IsHeld given room × IsName name × ¬ (HasNoCell room) × (room.last ≡ 2 ^ 64 - 1)))
+    (LacksPiece given room × (RESERVE < room.free) × (room.last_id ≡ LAST_ID))
+    ⊎ (HasAll name given room × (room.last ≡ 2 ^ 64 - 1))
 RefusesIngest name given room refusal = ⊥
 
 abbrev pub RefusesRestore : List ℕ → Room → Refusal → Type 0

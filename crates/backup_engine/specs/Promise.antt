@@ -4,17 +4,17 @@ use Rattle.std.specs.FinMap as finite
 use Rattle.base_model.specs.Known.{Known, KnownWith, Appended}
 use Rattle.dd_disk.specs.View.{DiskView}
 use Rattle.dd_io.specs.Flow.{SinkView, AppendedPart}
-use Rattle.refusals.specs.declared.refusal.Difference.TheVariants.{Length}
 use Rattle.refusals.specs.declared.refusal.Refusal.{Refusal}
 use Rattle.refusals.specs.declared.refusal.Refusal.TheVariants.{DiskWrite, Clash}
 use Rattle.reply_text.specs.declared.ending.Ending.{Ending}
 use Rattle.reply_text.specs.declared.ending.Ending.TheVariants.{Words, Source, Sink, Refused}
 use Rattle.reply_text.specs.Text.{stored_line}
 use Rattle.store_model.specs.Commands.{HasNoCollisions}
+use Rattle.store_model.specs.Files.{Stored}
 use Rattle.store_model.specs.Image.{Store}
 use Rattle.store_model.specs.Standing.{ByteSet, IsIn, IsStoreOf, IsSegmentOf}
-use Rattle.store_model.specs.Trees.{root_of}
-use Rattle.store_core.specs.Runs.{Stored, IsOf}
+use Rattle.store_model.specs.Trees.{root_of, leaf_key}
+use Rattle.store_core.specs.Runs.{IsOf}
 use Rattle.backup_engine.specs.Line.{CommandLine, Format, Ingest, Restore}
 use Rattle.backup_engine.specs.PlainMap.{map_after, CanBeDone, Refuses, room_of}
 
@@ -27,17 +27,19 @@ MayChange (Some Sink) = Unit {0}
 MayChange (Some (Refused DiskWrite)) = Unit {0}
 MayChange (Some ending) = ⊥
 
--- It was refused so: by the map, and by the store of its files that is left, which is there but where a write failed.
-pub record IsRefusedBy (command : CommandLine) (given : List ℕ) (m : Stored) (content : Option (List ℕ)) (refusal : Refusal)
-    : Type 0 where
-  pub store : Store
-  pub left : ¬ (refusal ≡ DiskWrite) → KnownWith content (IsStoreOf store m.files)
-  pub refuses : Refuses command given (room_of command m store) refusal
+-- the files are those of a store that is left, of which P holds
+abbrev pub IsLeftWith : Stored → Option (List ℕ) → (Store → Type 0) → Type 0
+IsLeftWith m content P = (store : Store) × KnownWith content (IsStoreOf store m.files) × P store
 
--- Data never clashes, since no two different segments have one digest.
-abbrev pub ClashesByLength : Refusal → Type 0
-ClashesByLength (Clash key (Length offered held)) = Unit {0}
-ClashesByLength refusal = ⊥
+-- It was refused so, by the map, and by the store that is left. After a write that failed either map may be.
+abbrev pub IsRefusedBy : CommandLine → List ℕ → Stored → Option (List ℕ) → Refusal → Type 0
+IsRefusedBy (Ingest name) given m content DiskWrite = Unit {0}
+IsRefusedBy command given m content refusal = IsLeftWith m content (λ store. Refuses command given (room_of command m store) refusal)
+
+-- data clashes with what is held: never, since no two different segments have one digest
+abbrev pub ClashesByData : List ℕ → Refusal → Type 0
+ClashesByData given (Clash key at) = (segment : List ℕ) × IsSegmentOf given segment × (key ≡ leaf_key segment)
+ClashesByData given refusal = ⊥
 
 -- why it ended so, of the map; a source and a sink that failed are told by their counts of faults
 abbrev pub EndsBy : CommandLine → List ℕ → Stored → Option (List ℕ) → Option Ending → Type 0
@@ -46,7 +48,7 @@ EndsBy command given m content (Some Words) = ⊥
 EndsBy command given m content (Some Source) = (name : List ℕ) × (command ≡ Ingest name)
 EndsBy command given m content (Some Sink) = CanBeDone command given m
 EndsBy command given m content (Some (Refused refusal)) =
-    IsRefusedBy command given m content refusal × ¬ (ClashesByLength refusal)
+    IsRefusedBy command given m content refusal × ¬ (ClashesByData given refusal)
 
 -- ---- what was written
 
@@ -67,28 +69,32 @@ Wrote (Format slots) given m ending sink sink_now = sink_now.written ≡ sink.wr
 Wrote (Ingest name) given m ending sink sink_now = WroteReply (stored_line name (root_of given)) ending sink sink_now
 Wrote (Restore name) given m ending sink sink_now = WroteFile (finite.get m.files name) ending sink sink_now
 
--- ---- what stands
+-- ---- what is left
 
 -- at the end, in what reads give and in each image that a crash leaves then: the map as it was, or as it is after the command
-abbrev pub Stands : (List ℕ → Type 0) → CommandLine → List ℕ → Stored → Option Ending → List ℕ → Type 0
-Stands S command given m None image = IsOf S (map_after command given m) image
-Stands S command given m (Some Sink) image = IsOf S (map_after command given m) image
-Stands S command given m (Some (Refused DiskWrite)) image = IsOf S m image ⊎ IsOf S (map_after command given m) image
-Stands S command given m (Some ending) image = IsOf S m image
+abbrev pub IsLeftAs : (List ℕ → Type 0) → CommandLine → List ℕ → Stored → Option Ending → List ℕ → Type 0
+IsLeftAs S command given m None image = IsOf S (map_after command given m) image
+IsLeftAs S command given m (Some Sink) image = IsOf S (map_after command given m) image
+IsLeftAs S command given m (Some (Refused DiskWrite)) image = IsOf S m image ⊎ IsOf S (map_after command given m) image
+IsLeftAs S command given m (Some ending) image = IsOf S m image
 
 -- what a crash may leave at any moment of the command
-abbrev pub StandsMeanwhile : (List ℕ → Type 0) → CommandLine → List ℕ → Stored → Option Ending → List ℕ → Type 0
-StandsMeanwhile S command given m ending image = IsOf S m image ⊎ (MayChange ending × IsOf S (map_after command given m) image)
+abbrev pub MayBeMeanwhile : (List ℕ → Type 0) → CommandLine → List ℕ → Stored → Option Ending → List ℕ → Type 0
+MayBeMeanwhile S command given m ending image = IsOf S m image ⊎ (MayChange ending × IsOf S (map_after command given m) image)
 
 -- what a crash at the end may leave, or might have left at a moment since the call began
 abbrev pub SinceStart : DiskView → DiskView → List ℕ → Type 0
 SinceStart disk disk_now c = disk_now.images c ⊎ ((disk.clock < 2 ^ 64 - 1) × disk_now.images_since disk.clock c)
 
--- An image from before the command may last, but where it was done: then there is none but what it made.
-abbrev pub Lasts : Option Ending → (List ℕ → Type 0) → List ℕ → Type 0
-Lasts None images c = ⊥
-Lasts (Some Sink) images c = ⊥
-Lasts (Some ending) images c = images c
+-- P holds of what reads give, and of each image that a crash leaves now
+abbrev pub Stands : (List ℕ → Type 0) → DiskView → Type 0
+Stands P v = KnownWith v.content P × ((c : List ℕ) → v.images c → P c)
+
+-- nothing was written: so images from before may last
+pub record NothingWritten (ending : Option Ending) (disk disk_now : DiskView) : Type 0 where
+  pub not_done : (e : Ending) × (ending ≡ Some e) × ¬ (e ≡ Sink)
+  pub content : disk_now.content ≡ disk.content
+  pub images : (c : List ℕ) → disk_now.images c → disk.images c
 
 -- Over a content that stands for the map m the command answers by the map, and leaves it as it was or as it is after the
 -- command, at the end and at every moment before, but for what a crash might have left before it.
@@ -96,9 +102,8 @@ pub record KeepsMap (S : List ℕ → Type 0) (command : CommandLine) (given : L
     (disk disk_now : DiskView) (sink sink_now : SinkView) : Type 0 where
   pub by_map : EndsBy command given m disk_now.content ending
   pub wrote : Wrote command given m ending sink sink_now
-  pub content : KnownWith disk_now.content (Stands S command given m ending)
-  pub images : (c : List ℕ) → disk_now.images c → Lasts ending disk.images c ⊎ Stands S command given m ending c
-  pub crash : (c : List ℕ) → SinceStart disk disk_now c → disk.images c ⊎ StandsMeanwhile S command given m ending c
+  pub left : Stands (IsLeftAs S command given m ending) disk_now ⊎ NothingWritten ending disk disk_now
+  pub crash : (c : List ℕ) → SinceStart disk disk_now c → disk.images c ⊎ MayBeMeanwhile S command given m ending c
 
 -- It holds where no two different data segments have one digest: of a set of those that the disk holds and is given.
 abbrev pub KeepsEachMap : CommandLine → List ℕ → Option Ending → DiskView → DiskView → SinkView → SinkView → Type 0

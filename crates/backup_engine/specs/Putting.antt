@@ -1,5 +1,5 @@
 -- What is so on the way of storing a file (docs/MODEL.md, 'Commands').
-use Rattle.std.specs.Prelude.{◌≡◌, ◌⊎◌, ℕ, List, [], length, Some, None, Result, Ok, Err}
+use Rattle.std.specs.Prelude.{◌≡◌, ◌⊎◌, ℕ, List, [], length, option_map, Option, Some, None, Result, Ok, Err}
 use Rattle.std.specs.List.{AllByRecursion}
 use Rattle.container_meta.specs.Places.{PlaceMap}
 use Rattle.actor_parts.specs.declared.part.Part.TheVariants.{Writing}
@@ -7,22 +7,27 @@ use Rattle.actor_parts.specs.Parts.{part_of}
 use Rattle.actor_parts.specs.PinMap.{PinMap}
 use Rattle.refusals.specs.declared.refusal.Refusal.{Refusal}
 use Rattle.store_model.specs.Image.{Store}
+use Rattle.store_model.specs.Slots.{newest, last_id}
 use Rattle.store_model.specs.Trees.{root_of, leaf_key}
-use Rattle.store_state.specs.Tables.{Represents}
+use Rattle.store_state.specs.Tables.{Represents, OfEach}
 use Rattle.ingest_steps.specs.Writers.{IsStored}
 use Rattle.store_core.specs.Runs.{CoreRun, FileEvent, events_of}
 use Rattle.store_core.specs.State.{CoreState, IsUp}
-use Rattle.backup_engine.specs.PlainMap.{held_length}
-use Rattle.backup_engine.specs.Running.{PutRun, IsPutStep, IsOnTheWay, IsPutRefusal, GivesLastId}
+use Rattle.backup_engine.specs.AnyDisk.{AddsOnce}
+use Rattle.backup_engine.specs.Running.{PutRun, IsPutStep, IsDoneBefore, IsPutRefusal, seals_of}
 
--- The first actor stores a file; the map of the index is known.
+-- The first actor stores a file; the map of the index is known, and the last container id is the greatest of the store.
 pub record IsStoring (c : CoreState) : Type 0 where
   pub up : IsUp c
   pub runs : c.stop ≡ None
   pub told : (places : PlaceMap) × (c.known ≡ Some places)
-  pub last : GivesLastId c
+  pub ids : OfEach c.disk.size c.known c.tables (λ store. c.tables.held.last_id ≡ last_id store.held)
   pub pins : PinMap
   pub writing : part_of c.parts 0 ≡ Writing pins
+
+-- how long the newest copy of a key is
+abbrev pub held_length : Store → List ℕ → Option ℕ
+held_length store key = option_map (λ c. c.place.length) (newest 0 store.held key)
 
 -- there is no segment, or it is held, as long as it is
 abbrev pub HasSegment : List ℕ → Store → Type 0
@@ -41,7 +46,8 @@ pub record PutSoFar (C : Type 0) (state : C → CoreState) (name bytes : List �
   pub steps : List FileEvent
   pub ran : CoreRun C state (events_of steps) old new
   pub each : AllByRecursion (IsPutStep name bytes) steps
-  pub done : AllByRecursion (λ f. IsOnTheWay f.event) steps
+  pub done : AllByRecursion (λ f. IsDoneBefore f.event) steps
+  pub adds : OfEach (state old).disk.size (state old).known (state old).tables (λ store. AddsOnce bytes (seals_of steps) store)
 
 -- The steps by which the segment of a file is held and kept, for any name.
 abbrev pub Holds : (C : Type 0) → (C → CoreState) → List ℕ → List ℕ → Result Unit Refusal → C → C → Type 0

@@ -1,13 +1,10 @@
 -- The steps of a core that a command makes, and what they answered (docs/MODEL.md, 'Commands').
-use Rattle.std.specs.Prelude.{◌≡◌, ◌⊎◌, ℕ, List, [], ◌∷◌, replicate, Some, None, Result, Ok, Err}
+use Rattle.std.specs.Prelude.{◌≡◌, ◌⊎◌, ℕ, List, [], ◌∷◌, ◌++◌, replicate, Option, Some, None, Result, Ok, Err}
 use Rattle.std.specs.List.{AllByRecursion, concat}
 use Rattle.base_model.specs.Fault.{Rose}
 use Rattle.base_model.specs.Known.{Appended}
 use Rattle.dd_io.specs.Flow.{SinkView, AppendedPart}
-use Rattle.container_meta.specs.declared.kind.Kind.{Kind}
-use Rattle.container_meta.specs.declared.kind.Kind.TheVariants.{Leaf}
 use Rattle.container_meta.specs.Places.{PlaceMap}
-use Rattle.container_meta.specs.Segments.{Segment}
 use Rattle.actor_parts.specs.declared.actor.TheConstants.{ACTORS}
 use Rattle.actor_parts.specs.declared.part.Part.TheVariants.{Idle}
 use Rattle.actor_parts.specs.declared.step.Answer.{Answer}
@@ -18,35 +15,27 @@ use Rattle.refusals.specs.declared.refusal.Refusal.{Refusal}
 use Rattle.refusals.specs.declared.refusal.Refusal.TheVariants.{Memory, DiskRead, DiskWrite}
 use Rattle.reply_text.specs.declared.ending.Ending.{Ending}
 use Rattle.reply_text.specs.declared.ending.Ending.TheVariants as endings
-use Rattle.store_model.specs.Image.{Store}
 use Rattle.store_model.specs.Slots.{last_id}
-use Rattle.store_model.specs.Standing.{IsSegmentOf}
+use Rattle.store_model.specs.Steps.{StoreChange, SealContainer}
 use Rattle.store_model.specs.Trees.{root_of}
-use Rattle.store_state.specs.Tables.{Represents, OfEach}
+use Rattle.store_state.specs.Tables.{OfEach}
 use Rattle.store_core.specs.Core.{CoreStep}
 use Rattle.store_core.specs.Runs.{CoreRun, FileEvent, events_of, opens, given_to}
 use Rattle.store_core.specs.State.{CoreState, Event, IsUp}
+use Rattle.backup_engine.specs.AnyDisk.{IsPieceOf, AddsOnce}
 use Rattle.backup_engine.specs.Line.{Ingest}
 use Rattle.backup_engine.specs.PlainMap.{RefusesIngest, room_in}
 
--- the last container id of the tables is that of each store that they represent
-abbrev pub GivesLastId : CoreState → Type 0
-GivesLastId c = (store : Store) → Represents store c.known c.tables → c.tables.held.last_id ≡ last_id store.held
-
--- A core that was opened just now: it runs, each actor is idle, the map of its index is known, and no id was given out but
--- those of the containers that are held.
+-- A core that was opened just now: it runs, each actor is idle, the map of its index is known, and its last container id is the
+-- greatest of its store.
 pub record IsFresh (c : CoreState) : Type 0 where
   pub up : IsUp c
   pub runs : c.stop ≡ None
   pub idle : c.parts ≡ replicate ACTORS Idle
   pub told : (places : PlaceMap) × (c.known ≡ Some places)
-  pub last : GivesLastId c
+  pub ids : OfEach c.disk.size c.known c.tables (λ store. c.tables.held.last_id ≡ last_id store.held)
 
 -- ---- a file is stored
-
--- a segment that is offered is one of the file's
-abbrev pub IsPieceOf : List ℕ → Kind → Segment → Type 0
-IsPieceOf bytes kind segment = (kind ≡ Leaf) × IsSegmentOf bytes segment.bytes
 
 -- what is asked
 abbrev pub IsAskedFor : List ℕ → List ℕ → StepValue → List ℕ → Type 0
@@ -71,8 +60,8 @@ IsOk (Ok answer) = Unit {0}
 IsOk (Err refusal) = ⊥
 
 -- another step than the last: it was done
-abbrev pub IsOnTheWay : Event → Type 0
-IsOnTheWay e = IsNoCommit e.step × IsOk e.answer
+abbrev pub IsDoneBefore : Event → Type 0
+IsDoneBefore e = IsNoCommit e.step × IsOk e.answer
 
 -- the commit was acknowledged
 abbrev pub IsLastPut : StepValue → Result Answer Refusal → Type 0
@@ -84,8 +73,17 @@ abbrev pub EndsPut : List FileEvent → Result Unit Refusal → Type 0
 EndsPut [] (Ok u) = ⊥
 EndsPut [] (Err refusal) = refusal ≡ Memory
 EndsPut (f ∷ []) (Ok u) = IsLastPut f.event.step f.event.answer
-EndsPut (f ∷ []) (Err refusal) = (f.event.answer ≡ Err refusal) ⊎ (IsOnTheWay f.event × (refusal ≡ Memory))
-EndsPut (f ∷ g ∷ fs) result = IsOnTheWay f.event × EndsPut (g ∷ fs) result
+EndsPut (f ∷ []) (Err refusal) = (f.event.answer ≡ Err refusal) ⊎ (IsDoneBefore f.event × (refusal ≡ Memory))
+EndsPut (f ∷ g ∷ fs) result = IsDoneBefore f.event × EndsPut (g ∷ fs) result
+
+-- the containers that were added: each seal that was done
+abbrev pub seal_by : StepValue → Result Answer Refusal → List StoreChange
+seal_by (asked.Seal filled) (Ok (answers.Sealed id)) = SealContainer id filled.kind filled.segments ∷ []
+seal_by step answer = []
+
+abbrev pub seals_of : List FileEvent → List StoreChange
+seals_of [] = []
+seals_of (f ∷ fs) = seal_by f.event.step f.event.answer ++ seals_of fs
 
 -- These steps were made.
 pub record PutRun (C : Type 0) (state : C → CoreState) (name bytes : List ℕ) (result : Result Unit Refusal) (old new : C) : Type 0 where
@@ -93,6 +91,8 @@ pub record PutRun (C : Type 0) (state : C → CoreState) (name bytes : List ℕ)
   pub ran : CoreRun C state (events_of steps) old new
   pub each : AllByRecursion (IsPutStep name bytes) steps
   pub ends : EndsPut steps result
+  -- what was sealed is of the file, and was not held
+  pub adds : OfEach (state old).disk.size (state old).known (state old).tables (λ store. AddsOnce bytes (seals_of steps) store)
 
 -- why the file wasn't stored, by each store that the tables represent at the end
 abbrev pub IsPutRefusal : List ℕ → List ℕ → CoreState → Refusal → Type 0
@@ -135,7 +135,7 @@ EndsGiving (e ∷ f ∷ es) result = IsGiven e.answer × EndsGiving (f ∷ es) r
 abbrev pub WroteGiven : Result Unit Ending → List ℕ → SinkView → SinkView → Type 0
 WroteGiven (Err endings.Sink) bytes sink sink_now =
     AppendedPart sink.written sink_now.written bytes × Rose sink.faults sink_now.faults
-WroteGiven result bytes sink sink_now = Appended sink.written sink_now.written bytes
+WroteGiven result bytes sink sink_now = Appended sink.written sink_now.written bytes × (sink_now.faults ≡ sink.faults)
 
 -- the name was opened, and the file read on
 pub record IsGivenOut (C : Type 0) (state : C → CoreState) (name : List ℕ) (result : Result Unit Ending) (old new : C)

@@ -35,7 +35,7 @@ IsSourceFault source source_now _ = ⊥
 
 -- a reply was written, or the sink failed
 abbrev pub Sent : List ℕ → Result Unit Ending → SinkView → SinkView → Type 0
-Sent reply (Ok u) sink sink_now = Appended sink.written sink_now.written reply
+Sent reply (Ok u) sink sink_now = Appended sink.written sink_now.written reply × (sink_now.faults ≡ sink.faults)
 Sent reply (Err Sink) sink sink_now = AppendedPart sink.written sink_now.written reply × Rose sink.faults sink_now.faults
 Sent reply (Err ending) sink sink_now = ⊥
 

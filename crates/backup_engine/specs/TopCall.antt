@@ -71,9 +71,9 @@ pub record Keeps (command : CommandLine) (given : List ℕ) (ending : Option End
 pub record DoesNothing (ending : Option Ending) (disk disk_now : DiskView) (source source_now : SourceView) (sink sink_now : SinkView)
     : Type 0 where
   pub why : ending ≡ Some Words
-  pub disk : Reads NoFault disk disk_now
-  pub source : source_now ≡ source
-  pub sink : sink_now ≡ sink
+  pub disk_is : Reads NoFault disk disk_now
+  pub source_is : source_now ≡ source
+  pub sink_is : sink_now ≡ sink
 
 abbrev pub Does : Option CommandLine → List ℕ → Option Ending → DiskView → DiskView → SourceView → SourceView → SinkView → SinkView
     → Type 0

@@ -26,6 +26,8 @@ pub(crate) fn format<D: Disk, K: Sink>(
 {
     // Its memory is taken before the first write.
     let reply = formatted_line(alloc, slots)?;
-    recovery::format(alloc, disk, slots)?;
-    send(sink, &reply)
+    match recovery::format(alloc, disk, slots) {
+        Ok(()) => send(sink, &reply),
+        Err(refusal) => Err(Ending::Refused(refusal)),
+    }
 }

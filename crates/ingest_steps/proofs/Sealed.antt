@@ -23,7 +23,7 @@ use Rattle.store_model.specs.Steps.{CanSeal, MaySeal, KeepsCopies, with_sealed}
 use Rattle.store_model.specs.Trees.{HasNewest}
 use Rattle.store_model.proofs.FramedTrees.{unsealed}
 use Rattle.store_model.proofs.Free.{as_many}
-use Rattle.store_model.proofs.Sealed.{first_free_closed}
+use Rattle.store_model.proofs.Free.{first_free_closed}
 use Rattle.store_model.proofs.SealedTrees.{IsNewestOf, all_by_fit, newest_of_none, newest_kept, newest_sealed, sealed}
 use Rattle.store_model.proofs.Sound.{sound_of_right}
 use Rattle.store_state.specs.declared.tables.Tables.{Tables}

@@ -85,7 +85,7 @@ slot_in_table size known t slot has runs =
     omega (arith, ((has.slot_is size known).store_has runs.store runs.represents runs.valid runs.reserve_holds).within, ap length runs.represents.slots_hold.ids_are, as_many runs.store.held, runs.valid.many)
 
 module _ (t new : Tables) (slot id : ℕ) (filled : Contents) (has : HasSlot t slot) (next : id ≡ t.held.last_id + 1) (right : IsHeader (header_of id filled.kind filled.segments))
-    (slots_are : new.slots ≡ t.slots) (journal_is : new.journal ≡ t.journal) (names_are : new.names ≡ t.names)
+    (last : new.held.last_id ≡ id) (slots_are : new.slots ≡ t.slots) (journal_is : new.journal ≡ t.journal) (names_are : new.names ≡ t.names)
     (taken : (held : List (Option HeaderValue)) → RepresentsSlots held t.held → RepresentsSlots (with_slot slot (header_of id filled.kind filled.segments) held) new.held) where
   can_seal : (store : Store) (known : Option PlaceMap) → Represents store known t → IsSlotOf slot store → CanSeal id filled.kind filled.segments store
   can_seal store known is at = record { slot = at.spare; new_id = omega (arith, next, is.slots_hold.last_id_is); right = right }
@@ -117,6 +117,7 @@ module _ (t new : Tables) (slot id : ℕ) (filled : Contents) (has : HasSlot t s
   pub has_sealed : (size : ℕ) (known : Option PlaceMap) → Runs size known t → HasSealed t size known slot filled new id
   has_sealed size known runs = record {
     number = next;
+    last_is = last;
     can = record { store_has = λ store is valid reserve. can_seal store known is (at store is valid reserve) };
     represents = record { store_has = λ store is valid reserve. represents_sealed store known is (at store is valid reserve) };
     runs = record {

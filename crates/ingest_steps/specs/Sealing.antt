@@ -178,6 +178,7 @@ pub record HasPlacesOf (filled : Contents) (slot : ℕ) (before after : Option (
 pub record HasSealed (old : Tables) (size : ℕ) (known : Option PlaceMap) (slot : ℕ) (filled : Contents) (new : Tables) (id : ℕ)
     : Type 0 where
   pub number : id ≡ old.held.last_id + 1
+  pub last_is : new.held.last_id ≡ id
   pub can : OfEach size known old (CanSeal id filled.kind filled.segments)
   pub represents : OfEach size known old
       (λ store. Represents (with_sealed id filled.kind filled.segments store) (places_with filled slot known) new)

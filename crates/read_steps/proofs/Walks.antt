@@ -10,20 +10,12 @@ use Rattle.disk_format.specs.declared.numbers.TheConstants.{MOST_SEGMENT}
 use Rattle.disk_format.specs.declared.why.Why.{Why}
 use Rattle.disk_format.specs.declared.why.Why.TheVariants.{Field}
 use Rattle.disk_format.specs.Layout.{data_at}
-use Rattle.container_log.specs.declared.reading.Spot.{Spot}
-use Rattle.container_log.specs.Faults.{blames as log_blames, IsCorrupt as IsSegmentCorrupt, IsSegmentFault}
-use Rattle.container_log.specs.declared.fault.LogFault.{LogFault}
-use Rattle.container_log.specs.declared.fault.LogFault.TheVariants as log
-use Rattle.container_log.specs.Parts.{ReadAs, segment_bytes}
 use Rattle.container_meta.specs.declared.place.Place.{Place}
 use Rattle.merkle_file.specs.declared.want.Want.TheVariants as wants
 use Rattle.store_model.specs.Trees.{bytes_at}
 use Rattle.dd_disk.specs.View.{DiskView, OnlyReads}
 use Rattle.dd_disk.specs.Shows.{Shows}
-use Rattle.dd_disk.specs.Ending.{Done, Reads, ending_of}
-use Rattle.dd_disk.proofs.Ended.{reads_on, reads_blamed}
 use Rattle.dd_disk.proofs.Shows.{until, since}
-use Rattle.store_state.specs.Refused.{blames}
 use Rattle.container_meta.specs.Places.{PlaceMap}
 use Rattle.merkle_file.specs.declared.node.Child.{Child}
 use Rattle.merkle_file.specs.declared.top.Top.{Top}
@@ -34,7 +26,8 @@ use Rattle.refusals.specs.declared.refusal.Refusal.{Refusal}
 use Rattle.refusals.specs.declared.refusal.Refusal.TheVariants.{DiskRead, Corrupt, Missing, Damaged}
 use Rattle.segment_index.specs.Places.{IsPlace}
 use Rattle.store_model.specs.Refusals.{WereFound}
-use Rattle.read_steps.specs.Walking.{as_refusal, IsPlaceOf, IsCopyRefusal, IsAnswer, IsCopyAt, WasRead, Opened, Walked, IsLeafRead, Gives, IsDamage, IsCorrupt, IsTopRefusal, IsNextRefusal, IsWalkRefusal, IsNodeNamed, top_key, level_ahead, leaf_top, bytes_ahead, GivesAll, AnyBytes, ReadsAreWhole}
+use Rattle.store_state.specs.Comparing as copies
+use Rattle.read_steps.specs.Walking.{IsPlaceOf, IsCopyRefusal, IsAnswer, IsCopyAt, WasRead, Opened, Walked, IsLeafRead, Gives, IsDamage, IsTopRefusal, IsNextRefusal, IsWalkRefusal, IsNodeNamed, top_key, level_ahead, leaf_top, bytes_ahead, GivesAll, AnyBytes, ReadsAreWhole}
 
 -- the key of a node that is to come
 pub key_of_node : (t : Top) → 1 ≤ t.level → top_key t ≡ 1 ∷ t.digest
@@ -249,51 +242,17 @@ copy_at known old mid new key place buf is right room reads there = record {
   there = since old mid new reads there;
 }
 
--- others were
-pub corrupt_at : (known : Option PlaceMap) (old mid new : DiskView) (key : List ℕ) (place : Place) (digest : List ℕ) → IsPlaceOf known key place → OnlyReads old mid → (slot offset count : ℕ) (want got : List ℕ)
-    → IsSegmentCorrupt (ReadAs mid new (segment_bytes (record { slot = place.slot; offset = place.offset; length = place.length; digest = digest })))
-    (record { slot = place.slot; offset = place.offset; length = place.length; digest = digest }) slot offset count want got
-    → IsCorrupt known old new key digest slot offset count want got
-corrupt_at known old mid new key place digest is reads slot offset count want got corrupt = record {
-  want_is = ap (λ (s : Spot). s.digest) (sym corrupt.place_is);
-  differ = corrupt.differ;
-  placed = record {
-    place = place;
-    place_is = is;
-    slot_is = ap (λ (s : Spot). s.slot) (sym corrupt.place_is);
-    offset_is = ap (λ (s : Spot). s.offset) (sym corrupt.place_is);
-    count_is = ap (λ (s : Spot). s.length) (sym corrupt.place_is);
-  };
-  found = record {
-    bytes = corrupt.bytes;
-    long = corrupt.long;
-    digest_is = corrupt.digest;
-    there = since old mid new reads (subst (λ (s : Spot). ReadAs mid new (segment_bytes s) corrupt.bytes) corrupt.place_is corrupt.are_found);
-  };
+-- why they could not be given
+pub copy_unread : (known : Option PlaceMap) (breaks : ℕ → Why → List ℕ → Type 0) (old mid new : DiskView) (key : List ℕ) (place : Place) (digest : List ℕ) → IsPlaceOf known key place → OnlyReads old mid
+    → (refusal : Refusal) → copies.IsCopyRefusal (Shows mid new) place digest refusal → IsCopyRefusal known breaks old new key digest refusal
+copy_unread known breaks old mid new key place digest is reads DiskRead why = tt
+copy_unread known breaks old mid new key place digest is reads (Corrupt slot offset count want got) why = record {
+  want_is = why.3;
+  differ = why.4;
+  placed = record { place = place; place_is = is; slot_is = why.0; offset_is = why.1; count_is = why.2 };
+  found = record { bytes = why.5.bytes; long = why.5.long; digest_is = why.5.digest_is; there = since old mid new reads why.5.there };
 }
-
-pub segment_refused : (known : Option PlaceMap) (breaks : ℕ → Why → List ℕ → Type 0) (old mid new : DiskView) (key : List ℕ) (place : Place) (digest : List ℕ) → IsPlaceOf known key place → OnlyReads old mid
-    → (fault : LogFault) → IsSegmentFault (ReadAs mid new (segment_bytes (record { slot = place.slot; offset = place.offset; length = place.length; digest = digest })))
-    (record { slot = place.slot; offset = place.offset; length = place.length; digest = digest }) fault → (refusal : Refusal) → refusal ≡ as_refusal fault → IsCopyRefusal known breaks old new key digest refusal
-segment_refused known breaks old mid new key place digest is reads fault found refusal e =
-    subst (IsCopyRefusal known breaks old new key digest) (sym e) (by_fault fault found)
-  where
-    by_fault : (fault : LogFault) → IsSegmentFault (ReadAs mid new (segment_bytes (record { slot = place.slot; offset = place.offset; length = place.length; digest = digest })))
-        (record { slot = place.slot; offset = place.offset; length = place.length; digest = digest }) fault → IsCopyRefusal known breaks old new key digest (as_refusal fault)
-    by_fault log.DiskRead found = tt
-    by_fault (log.Corrupt slot offset count want got) found = corrupt_at known old mid new key place digest is reads slot offset count want got found
-    by_fault fault found = absurd found
-
-segment_blames : (found : List ℕ → Type 0) (spot : Spot) (fault : LogFault) → IsSegmentFault found spot fault → log_blames fault ≡ blames (as_refusal fault)
-segment_blames found spot log.DiskRead is = refl
-segment_blames found spot (log.Corrupt slot offset count want got) is = refl
-segment_blames found spot fault is = absurd is
-
-pub segment_reads : (old mid new : DiskView) (found : List ℕ → Type 0) (spot : Spot) (fault : LogFault) → IsSegmentFault found spot fault → Reads Done old mid → Reads (ending_of (log_blames fault)) mid new
-    → (refusal : Refusal) → refusal ≡ as_refusal fault → Reads (ending_of (blames refusal)) old new
-segment_reads old mid new found spot fault is first second refusal e =
-    let same : log_blames fault ≡ blames refusal = segment_blames found spot fault is ∙ ap blames (sym e) in
-    reads_on (ending_of (blames refusal)) old mid new first (reads_blamed (log_blames fault) (blames refusal) mid new same second)
+copy_unread known breaks old mid new key place digest is reads refusal why = absurd why
 
 -- a node by its first wrong field
 pub misnamed_node : (known : Option PlaceMap) (breaks : ℕ → Why → List ℕ → Type 0) (old new : DiskView) (before after : List Top) (digest : List ℕ) (place : Place) (bytes : List ℕ) (offset got : ℕ)

@@ -10,8 +10,6 @@ use Rattle.dd_disk.specs.Shows.{Shows}
 use Rattle.disk_format.specs.Layout.{data_at}
 use Rattle.disk_format.specs.declared.why.Why.{Why}
 use Rattle.disk_format.specs.declared.why.Why.TheVariants.{Digest, Field}
-use Rattle.container_log.specs.declared.fault.LogFault.{LogFault}
-use Rattle.container_log.specs.declared.fault.LogFault.TheVariants as log
 use Rattle.container_meta.specs.declared.place.Place.{Place}
 use Rattle.container_meta.specs.Places.{PlaceMap}
 use Rattle.container_meta.specs.Spelling.{HeaderValue}
@@ -135,11 +133,6 @@ pub record IsCorrupt (known : Option PlaceMap) (old new : DiskView) (key digest 
 abbrev pub IsCopyRefusal : Option PlaceMap → (ℕ → Why → List ℕ → Type 0) → DiskView → DiskView → List ℕ → List ℕ → Refusal → Type 0
 IsCopyRefusal known breaks old new key digest (Corrupt slot offset count want got) = IsCorrupt known old new key digest slot offset count want got
 IsCopyRefusal known breaks old new key digest refusal = IsLookupRefusal known breaks old new key refusal
-
--- the refusal that a fault of a read segment becomes
-abbrev pub as_refusal : LogFault → Refusal
-as_refusal (log.Corrupt slot offset count want got) = Corrupt slot offset count want got
-as_refusal fault = DiskRead
 
 -- bytes of the right digest aren't what was named: as a node by their first wrong field, as a segment by their length
 abbrev pub IsWrong : Top → List ℕ → Why → Type 0

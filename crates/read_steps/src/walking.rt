@@ -13,16 +13,16 @@ ghost use Rattle.container_meta.specs.Spelling.{HeaderValue};
 ghost use Rattle.segment_index.specs.Places.{IsPlace};
 ghost use Rattle.store_state.specs.Refused.{blames};
 ghost use Rattle.read_steps.specs.Walking.{IsPlaceOf, IsCopyAt, WasRead, IsLookupRefusal, IsCopyRefusal, IsNextRefusal, IsWalkRefusal};
-ghost use Rattle.read_steps.specs.Walking.{IsNodeNamed, IsLeafRead, Walked, as_refusal, leaf_top, level_ahead};
+ghost use Rattle.read_steps.specs.Walking.{IsNodeNamed, IsLeafRead, Walked, leaf_top, level_ahead};
 ghost use Rattle.read_steps.specs.Walking.{IsAnswer, IsHeldAnswer, IsIndexed, SegmentsAhead};
 
-use container_log::{LogFault, Spot, read_segment};
 use container_meta::{Key, Kind, Place, key_of};
 use dd_disk::Disk;
 use disk_format::{Why, data_at};
 use merkle_file::{Cursor, Hash, Want};
 use refusals::Refusal;
 use segment_index::{Index, IndexFault};
+use store_state::read_copy;
 
 // Where the index has a key.
 fn find_place<D: Disk, X: Index>(disk: &mut D, index: &mut X, key: &Key) -> Result<Place, Refusal>
@@ -46,30 +46,8 @@ fn find_place<D: Disk, X: Index>(disk: &mut D, index: &mut X, key: &Key) -> Resu
     }
 }
 
-// The refusal that a fault of a read segment becomes.
-fn refusal_of(fault: LogFault) -> Refusal
-    ensures { result ≡ as_refusal fault }
-{
-    match fault {
-        LogFault::Corrupt {
-            slot,
-            offset,
-            length,
-            want,
-            got,
-        } => Refusal::Corrupt {
-            slot,
-            offset,
-            length,
-            want,
-            got,
-        },
-        _ => Refusal::DiskRead,
-    }
-}
-
 // The bytes of a key, read into the front of a buffer, and their place.
-fn read_copy<D: Disk, X: Index>(
+fn read_newest<D: Disk, X: Index>(
     disk: &mut D,
     index: &mut X,
     kind: Kind,
@@ -89,16 +67,8 @@ fn read_copy<D: Disk, X: Index>(
     ensures reads { Reads (ending blames result) (D.view disk.old) (D.view disk.new) }
 {
     let place = find_place(disk, index, &key_of(kind, digest))?;
-    let spot = Spot {
-        slot: place.slot,
-        offset: place.offset,
-        length: place.length,
-        digest: *digest,
-    };
-    match read_segment(disk, &spot, buf) {
-        Ok(()) => Ok(place),
-        Err(fault) => Err(refusal_of(fault)),
-    }
+    read_copy(disk, &place, digest, buf)?;
+    Ok(place)
 }
 
 // The refusal of bytes that lie at a place and have a wrong field.
@@ -132,7 +102,7 @@ fn open_node<D: Disk, X: Index>(
     ensures served { X.serves index.new (D.view disk.new).size }
     ensures reads { Reads (ending blames result) (D.view disk.old) (D.view disk.new) }
 {
-    let place = read_copy(disk, index, Kind::Tree, digest, buf)?;
+    let place = read_newest(disk, index, Kind::Tree, digest, buf)?;
     match cursor.feed(&buf[..place.length as usize]) {
         Ok(()) => Ok(()),
         Err(fault) => Err(damaged(&place, fault.offset, fault.got)),
@@ -184,7 +154,7 @@ fn read_leaf<D: Disk, X: Index>(
     ensures served { X.serves index.new (D.view disk.new).size }
     ensures reads { Reads (ending blames result) (D.view disk.old) (D.view disk.new) }
 {
-    let place = read_copy(disk, index, Kind::Leaf, digest, buf)?;
+    let place = read_newest(disk, index, Kind::Leaf, digest, buf)?;
     let got = u64::from(place.length);
     if got != named {
         return Err(damaged(&place, 0, got));

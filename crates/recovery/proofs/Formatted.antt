@@ -9,7 +9,7 @@ use Rattle.disk_format.specs.declared.numbers.TheConstants.{CELL_BYTES, FIRST_SE
 use Rattle.disk_format.proofs.CellParts.{length-sealed, length-format_fields, length-selector_fields}
 use Rattle.dd_disk.specs.Gated.{TornFrom}
 use Rattle.store_model.specs.Image.{IsBlankOf}
-use Rattle.store_model.specs.Commands.{IsFormatted}
+use Rattle.store_model.specs.Standing.{IsFormatted}
 use Rattle.store_model.proofs.Empty.{formatted_holds}
 use Rattle.base_model.proofs.ByteAt.{byte-written, byte-zeros, byte-written-before, byte-written-after}
 use Rattle.recovery.specs.Formatting.{with_closed, laid_out, IsBlankOrFormatted}

@@ -16,7 +16,7 @@ use Rattle.dd_disk.proofs.Later.{later_on, leaves_on, leaves_weaker, reads_leave
 use Rattle.dd_disk.proofs.Shows.{shown_content}
 use Rattle.dd_disk.proofs.Writes.{IsUnrefused, writes_on}
 use Rattle.store_model.specs.Image.{IsBlankOf}
-use Rattle.store_model.specs.Commands.{IsFormatted}
+use Rattle.store_model.specs.Standing.{IsFormatted}
 use Rattle.recovery.specs.Formatting.{IsBlankOrFormatted, IsLeftByFormat, StaysBlank, laid_out}
 use Rattle.recovery.proofs.Formatted.{is_formatted, blank_or_formatted}
 

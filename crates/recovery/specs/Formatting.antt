@@ -8,7 +8,7 @@ use Rattle.dd_disk.specs.View.{DiskView, IsLater, CrashLeaves}
 use Rattle.refusals.specs.declared.refusal.Refusal.{Refusal}
 use Rattle.refusals.specs.declared.refusal.Refusal.TheVariants.{Memory, DiskRead, DiskWrite, AlreadyStore, WrongSize}
 use Rattle.store_model.specs.Image.{IsBlankOf}
-use Rattle.store_model.specs.Commands.{IsFormatted}
+use Rattle.store_model.specs.Standing.{IsFormatted}
 
 -- no store, or an empty one
 abbrev pub IsBlankOrFormatted : ℕ → List ℕ → Type 0

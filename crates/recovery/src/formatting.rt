@@ -11,7 +11,7 @@ ghost use Rattle.dd_disk.specs.Shows.{Shows};
 ghost use Rattle.dd_disk.specs.Writes.{Writes};
 ghost use Rattle.dd_disk.specs.Moves.{Acts};
 ghost use Rattle.store_model.specs.Image.{IsBlankOf};
-ghost use Rattle.store_model.specs.Commands.{IsFormatted};
+ghost use Rattle.store_model.specs.Standing.{IsFormatted};
 ghost use Rattle.store_state.specs.Refused.{blames};
 ghost use Rattle.recovery.specs.Formatting.{IsBlankOrFormatted, IsLeftByFormat, IsFormatRefusal, StaysBlank, with_closed, laid_out};
 

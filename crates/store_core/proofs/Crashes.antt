@@ -13,11 +13,11 @@ use Rattle.store_model.specs.Commands.{HasNoCollisions}
 use Rattle.store_model.specs.Image.{Store, last_sequence}
 use Rattle.store_model.specs.Standing.{ByteSet, IsIn, Stands}
 use Rattle.store_model.specs.Steps.{with_sealed, with_put}
-use Rattle.store_model.specs.Files.{with_file}
+use Rattle.store_model.specs.Files.{with_file, Stored}
 use Rattle.store_model.proofs.PutRoots.{last_put}
 use Rattle.store_core.specs.declared.stop.Stop.{Stop}
 use Rattle.store_core.specs.Core.{Effect, SealsOne, PutsOne, StepsOr, StopsAfter, next_id}
-use Rattle.store_core.specs.Runs.{FileEvent, FileStep, FileRun, IsAt, Stored, IsOf, IsOnTheWay, IsGivenRight, IsRootOf, SurvivesCrashes, KeepsAcknowledged, stored_with, stored_by, stored_after, stored_tried, stored_tried_by, EndsWithAll}
+use Rattle.store_core.specs.Runs.{FileEvent, FileStep, FileRun, IsAt, IsOf, IsOnTheWay, IsGivenRight, IsRootOf, SurvivesCrashes, SurvivesSince, KeepsAcknowledged, stored_with, stored_by, stored_after, stored_tried, stored_tried_by, EndsWithAll}
 use Rattle.store_core.specs.State.{CoreState}
 use Rattle.store_core.proofs.KeepingFiles.{file_step, keeps_files, may_seal_all}
 use Rattle.store_core.proofs.Stepping.{step_later}
@@ -135,7 +135,10 @@ module _ (C : Type 0) (state : C → CoreState) (among : ByteSet) (distinct : Ha
       step_leaves f fs s stored old run.0 new at run.1.0 run.1.1 (λ t there. leaves fs t (stored_by f stored) run.0 new there run.1.1) (state run.0).stop refl
 
 module _ (C : Type 0) (state : C → CoreState) where
-  pub survives_crashes : SurvivesCrashes C state
+  pub leaves_on_the_way : SurvivesCrashes C state
+  leaves_on_the_way among steps s stored old new distinct at run = leaves C state among distinct steps s stored old new at run
+
+  pub survives_crashes : SurvivesSince C state
   survives_crashes among steps s stored old new distinct at run below image since =
       elim ((leaves C state among distinct steps s stored old new at run).since (state old).disk.clock image (omega arith) since) [
         | inl was ↦ on_the_way C state among distinct steps stored image (s, (at.stands.each image ((state old).disk.only_now image below was), last_at (IsIn among) s stored (state old) at))

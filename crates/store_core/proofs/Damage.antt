@@ -25,7 +25,7 @@ use Rattle.refusals.specs.declared.refusal.Difference.TheVariants.{Length, Byte}
 use Rattle.refusals.specs.declared.refusal.Refusal.{Refusal}
 use Rattle.refusals.specs.declared.refusal.Refusal.TheVariants as refusals
 use Rattle.store_model.specs.Commands.{HasNoCollisions}
-use Rattle.store_model.specs.Files.{Files}
+use Rattle.store_model.specs.Files.{Files, Stored}
 use Rattle.store_model.specs.Image.{Store, names_of}
 use Rattle.store_model.specs.Slots.{Copy, newest}
 use Rattle.store_model.specs.Standing.{ByteSet, IsIn, IsAmong, IsFileOf, Stands}
@@ -38,7 +38,7 @@ use Rattle.read_steps.specs.Readers.{IsStuck}
 use Rattle.read_steps.specs.Walking.{IsHeldAnswer}
 use Rattle.store_core.specs.declared.stop.Stop.{Stop}
 use Rattle.store_core.specs.Core.{Row, ClaimRow, SealRow, CommitRow, OpenRow, ReadRow, EndRow, IsAtOther, IsNotGiven, StepsOr}
-use Rattle.store_core.specs.Runs.{FileEvent, FileStep, FileRun, IsAt, IsGivenRight, Stored, stored_after}
+use Rattle.store_core.specs.Runs.{FileEvent, FileStep, FileRun, IsAt, IsGivenRight, stored_after}
 use Rattle.store_core.specs.Sound.{HasTwin, IsTwin, MayClash, IsHarmless, NeverDamaged, FindsFile, FindsFiles}
 use Rattle.store_core.specs.State.{CoreState}
 use Rattle.store_core.proofs.KeepingFiles.{keeps_files}

@@ -16,15 +16,16 @@ use Rattle.refusals.specs.declared.refusal.Refusal.{Refusal}
 use Rattle.refusals.specs.declared.refusal.Refusal.TheVariants as refusals
 use Rattle.segmenter.specs.Segments.{segments_of}
 use Rattle.store_model.specs.Commands.{HasNoCollisions}
+use Rattle.store_model.specs.Files.{Stored}
 use Rattle.store_model.specs.Image.{Store}
 use Rattle.store_model.specs.Standing.{ByteSet, IsIn}
-use Rattle.store_model.specs.Steps.{KeepsCopies}
+use Rattle.store_model.specs.Steps.{StoreChange, KeepsCopies}
 use Rattle.read_steps.specs.Readers.{reading}
 use Rattle.read_steps.specs.Walking.{IsIndexed, SegmentsAhead}
 use Rattle.read_steps.proofs.Openings.{segments_on}
 use Rattle.store_core.specs.declared.stop.Stop.{Stop}
 use Rattle.store_core.specs.Core.{ReadRow, Row, Steps, StepsOr}
-use Rattle.store_core.specs.Runs.{FileEvent, FileStep, FileRun, IsAt, ReadsAlone, IsReadNext, Stored, GivesOne, GivesInOrder, GivesTheFile, events_of, stored_by, opens}
+use Rattle.store_core.specs.Runs.{FileEvent, FileStep, FileRun, IsAt, ReadsAlone, IsReadNext, GivesOne, GivesInOrder, GivesTheFile, changes_by, events_of, stored_by, opens}
 use Rattle.store_core.specs.State.{CoreState, Event}
 use Rattle.store_core.proofs.KeepingFiles.{Next, file_step, run_running}
 use Rattle.store_core.proofs.Stepping.{ChangesOne, row_one}
@@ -65,7 +66,7 @@ gives_map true (Ok answers.End) buf segments P Q next gives = (gives.0, next seg
 gives_map true (Err refusals.DiskRead) buf segments P Q next gives = next segments gives
 gives_map true answer buf segments P Q next gives = absurd gives
 
-module _ (among : ByteSet) (s : Store) (stored later : Stored) (old new : CoreState) (actor : ℕ) (segments : List (List ℕ)) (at : IsAt (IsIn among) s stored old) (next : Next (IsIn among) s later old new) (reader : IsReader actor s segments old) where
+module _ (among : ByteSet) (s : Store) (changes : List StoreChange) (stored later : Stored) (old new : CoreState) (actor : ℕ) (segments : List (List ℕ)) (at : IsAt (IsIn among) s stored old) (next : Next (IsIn among) s changes later old new) (reader : IsReader actor s segments old) where
   abbrev image : List ℕ
   image = at.stands.known.0
 
@@ -147,7 +148,7 @@ module _ (C : Type 0) (state : C → CoreState) (among : ByteSet) (distinct : Ha
       let next = file_step among distinct f s stored (state old) (state mid) run.1.0 at going in
       gives_map (f.event.actor == actor) f.event.answer f.event.buf segments (λ rest. IsReader actor next.store rest (state mid)) (GivesInOrder actor (events_of fs))
       (λ rest still. gives_on fs next.store (stored_by f stored) rest mid new next.is_at still run.1.1 alone.1 stays)
-      (read_step among s stored (stored_by f stored) (state old) (state mid) actor segments at next reader f.event (run_running C state among distinct (f ∷ []) old mid (mid, (run.1.0, refl)) going) alone.0 run.1.0.made)
+      (read_step among s (changes_by f.event.step f.event.answer) stored (stored_by f stored) (state old) (state mid) actor segments at next reader f.event (run_running C state among distinct (f ∷ []) old mid (mid, (run.1.0, refl)) going) alone.0 run.1.0.made)
 
 -- ---- it is opened
 

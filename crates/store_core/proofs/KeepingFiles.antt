@@ -21,6 +21,7 @@ use Rattle.actor_parts.specs.StepValue.{StepValue, IsStep}
 use Rattle.refusals.specs.declared.refusal.Refusal.{Refusal}
 use Rattle.refusals.specs.declared.refusal.Refusal.TheVariants as refusals
 use Rattle.store_model.specs.Commands.{HasNoCollisions}
+use Rattle.store_model.specs.Files.{Stored, with_stored}
 use Rattle.store_model.specs.Image.{Store, IsValidFor, last_sequence}
 use Rattle.disk_format.specs.declared.numbers.TheConstants.{RESERVE}
 use Rattle.store_model.specs.Slots.{IsIndexOf, free_slots}
@@ -35,14 +36,13 @@ use Rattle.store_state.proofs.Parts.{part_kept, parts_kept}
 use Rattle.ingest_steps.specs.Sealing.{KeepsHeld, sealing_indexed}
 use Rattle.store_core.specs.declared.stop.Stop.{Stop}
 use Rattle.store_core.specs.Core.{Row, Effect, Rests, SealsOne, Makes, KeepsTables, KeepsUnlessBroken, StopsAfter, StepsOr, next_id}
-use Rattle.store_core.specs.Runs.{FileEvent, FileStep, FileRun, IsAt, ChangesTo, KeepsFiles, Stored, with_stored, IsGivenRight, stored_with, stored_by}
+use Rattle.store_core.specs.Runs.{FileEvent, FileStep, FileRun, IsAt, ChangesTo, changes_by, changes_of, KeepsFiles, IsGivenRight, stored_with, stored_by}
 use Rattle.store_core.specs.State.{CoreState}
 use Rattle.store_core.proofs.OwnParts.{all_part, all_own, own_begin, own_claim, own_abort, own_open, own_read, own_drop, own_set, own_stat, own_refused}
 use Rattle.store_core.proofs.Stepping.{ChangesOne, row_one}
 
--- where a step leads
-pub record Next (S : List ℕ → Type 0) (s : Store) (stored : Stored) (old new : CoreState) : Type 0 where
-  pub changes : List StoreChange
+-- where a step leads, by these changes
+pub record Next (S : List ℕ → Type 0) (s : Store) (changes : List StoreChange) (stored : Stored) (old new : CoreState) : Type 0 where
   pub store : Store
   pub chain : ChangesTo changes s store
   pub is_at : IsAt S store stored new
@@ -100,9 +100,8 @@ module _ (among : ByteSet) (s : Store) (stored : Stored) (old new : CoreState) (
   same_last kept = ap (λ (tables : Tables). tables.journal.last) kept.tables_are ∙ at.last_is
 
   -- a step that only reads
-  pub rests : KeepsTables old new → OnlyReads old.disk new.disk → HoldsPart s.held content (part_of new.parts actor) → Next (IsIn among) s stored old new
+  pub rests : KeepsTables old new → OnlyReads old.disk new.disk → HoldsPart s.held content (part_of new.parts actor) → Next (IsIn among) s [] stored old new
   rests kept reads own = record {
-    changes = [];
     store = s;
     chain = refl;
     is_at = arrive (IsIn among) s stored new (same_tables kept) at.index (kept.index_is ∙ at.index_known)
@@ -115,9 +114,8 @@ module _ (among : ByteSet) (s : Store) (stored : Stored) (old new : CoreState) (
 
   -- a step after which each image is the same store
   pub still : KeepsTables old new → IsLater old.disk new.disk → StandsFor (Stands (IsIn among) s stored.files) new.disk
-      → ((after : List ℕ) → new.disk.content ≡ Some after → KeepsCopies s content s after × HoldsPart s.held after (part_of new.parts actor)) → Next (IsIn among) s stored old new
+      → ((after : List ℕ) → new.disk.content ≡ Some after → KeepsCopies s content s after × HoldsPart s.held after (part_of new.parts actor)) → Next (IsIn among) s [] stored old new
   still kept goes stands keeps = record {
-    changes = [];
     store = s;
     chain = refl;
     is_at = arrive (IsIn among) s stored new (same_tables kept) at.index (kept.index_is ∙ at.index_known) (subst (λ (size : ℕ). IsValidFor size s) (sym goes.size_is) at.valid) stands (same_last kept)
@@ -129,12 +127,11 @@ module _ (among : ByteSet) (s : Store) (stored : Stored) (old new : CoreState) (
   -- a step that makes a change
   pub makes : (change : StoreChange) (later : Stored) → last_sequence (changed change s) ≡ later.last → Makes change old new → IsLater old.disk new.disk → StandsFor (Stands (IsIn among) (changed change s) later.files) new.disk
       → ((after : List ℕ) → new.disk.content ≡ Some after → KeepsCopies s content (changed change s) after × HoldsPart (changed change s).held after (part_of new.parts actor))
-      → Next (IsIn among) s later old new
+      → Next (IsIn among) s (change ∷ []) later old new
   makes change later last made goes stands keeps =
       let known = made.tells at.index at.index_known in
       let represents = made.represents.store_has s at.represents at.valid reserve in
       record {
-        changes = change ∷ [];
         store = changed change s;
         chain = (made.can.store_has s at.represents at.valid reserve, refl);
         is_at = arrive (IsIn among) (changed change s) later new represents known.0 known.1 (made.valid.store_has s at.represents at.valid reserve) stands (represents.names_are.last_is ∙ last)
@@ -192,9 +189,9 @@ module _ (among : ByteSet) (s : Store) (stored : Stored) (old new : CoreState) (
 
   abbrev Goes : StepValue → Result Answer Refusal → Type 0
   Goes step answer = Row step actor answer buf old new → Effect step answer old new → StopsAfter step answer old.acknowledged new.stop
-      → IsStep step → IsGivenRight (IsIn among) step answer bytes old → Next (IsIn among) s (stored_with step answer bytes stored) old new
+      → IsStep step → IsGivenRight (IsIn among) step answer bytes old → Next (IsIn among) s (changes_by step answer) (stored_with step answer bytes stored) old new
 
-  rests_by : (step : StepValue) (answer : Result Answer Refusal) → Row step actor answer buf old new → Rests answer old new → Own → Next (IsIn among) s stored old new
+  rests_by : (step : StepValue) (answer : Result Answer Refusal) → Row step actor answer buf old new → Rests answer old new → Own → Next (IsIn among) s [] stored old new
   rests_by step answer row effect own = rests among s stored old new actor at (row_one actor buf old new step answer row) effect.tables effect.disk.only own
 
   begin_next : (answer : Result Answer Refusal) → Goes asked.Begin answer
@@ -263,13 +260,15 @@ module _ (among : ByteSet) (s : Store) (stored : Stored) (old new : CoreState) (
   seal_next : (filled : Contents) (answer : Result Answer Refusal) → Goes (asked.Seal filled) answer
   seal_next filled (Ok (answers.Sealed id)) row effect stops right given =
       let may = may_seal_all (IsIn among) filled.kind filled.segments right.1 given in
+      let next : Next (IsIn among) s (SealContainer (next_id old) filled.kind filled.segments ∷ []) stored old new =
       makes among s stored old new actor at (row_one actor buf old new (asked.Seal filled) (Ok (answers.Sealed id)) row) (SealContainer (next_id old) filled.kind filled.segments) stored last_here effect.made effect.disk.later
       (seal_moves filled (Ok (answers.Sealed id)) effect right given).arrives
       (λ after is. (
         (seal_holds filled (Ok (answers.Sealed id)) after is effect right given).0,
         subst (λ (n : ℕ). HoldsPart (with_sealed n filled.kind filled.segments s).held after (part_of new.parts actor)) row.id_is
             (row.kept among s stored.files at.index image after at.index_known at.represents here is stands_here distinct may (all_part (HoldsPart s.held image) old.parts actor tt holds)),
-      ))
+      )) in
+      subst (λ (n : ℕ). Next (IsIn among) s (SealContainer n filled.kind filled.segments ∷ []) stored old new) (sym row.id_is) next
   seal_next filled (Err refusal) row effect stops right given =
       still among s stored old new actor at (row_one actor buf old new (asked.Seal filled) (Err refusal) row) (seal_kept filled refusal stops effect.kept) effect.disk.later
       (seal_stands filled refusal stops (seal_moves filled (Err refusal) effect right given).arrives)
@@ -312,11 +311,11 @@ module _ (among : ByteSet) (distinct : HasNoCollisions (IsIn among)) where
   stopped_on stop f old new is step = step.same.stop_is ∙ is
 
   by_stop : (stop : Option Stop) (f : FileEvent) (s : Store) (stored : Stored) (old new : CoreState) → old.stop ≡ stop → StepsOr stop f.event old new → IsStep f.event.step
-      → IsGivenRight (IsIn among) f.event.step f.event.answer f.bytes old → IsAt (IsIn among) s stored old → new.stop ≡ None → Next (IsIn among) s (stored_by f stored) old new
+      → IsGivenRight (IsIn among) f.event.step f.event.answer f.bytes old → IsAt (IsIn among) s stored old → new.stop ≡ None → Next (IsIn among) s (changes_by f.event.step f.event.answer) (stored_by f stored) old new
   by_stop None f s stored old new is steps right given at stays = step_next among s stored old new f.event.actor f.event.buf f.bytes distinct at stays f.event.step f.event.answer steps.made.row steps.made.effect steps.stops right given
   by_stop (Some stop) f s stored old new is steps right given at stays = absurd (let both = sym stays ∙ stopped_on stop f old new is steps in cc)
 
-  pub file_step : (f : FileEvent) (s : Store) (stored : Stored) (old new : CoreState) → FileStep (IsIn among) f old new → IsAt (IsIn among) s stored old → new.stop ≡ None → Next (IsIn among) s (stored_by f stored) old new
+  pub file_step : (f : FileEvent) (s : Store) (stored : Stored) (old new : CoreState) → FileStep (IsIn among) f old new → IsAt (IsIn among) s stored old → new.stop ≡ None → Next (IsIn among) s (changes_by f.event.step f.event.answer) (stored_by f stored) old new
   file_step f s stored old new step at stays = by_stop old.stop f s stored old new refl step.made step.asked step.given at stays
 
   -- where it isn't stopped afterwards, it wasn't before
@@ -337,7 +336,6 @@ chain_on (change ∷ more) rest s mid t one two = (one.0, chain_on more rest (ch
 module _ (C : Type 0) (state : C → CoreState) where
   pub keeps_files : KeepsFiles C state
   keeps_files among [] s stored old new distinct at run stays = record {
-    changes = [];
     store = s;
     chain = refl;
     is_at = subst (λ (c : C). IsAt (IsIn among) s stored (state c)) (sym run) at;
@@ -346,8 +344,7 @@ module _ (C : Type 0) (state : C → CoreState) where
       let next = file_step among distinct f s stored (state old) (state run.0) run.1.0 at (run_running C state among distinct fs run.0 new run.1.1 stays) in
       let reached = keeps_files among fs next.store (stored_by f stored) run.0 new distinct next.is_at run.1.1 stays in
       record {
-        changes = next.changes ++ reached.changes;
         store = reached.store;
-        chain = chain_on next.changes reached.changes s next.store reached.store next.chain reached.chain;
+        chain = chain_on (changes_by f.event.step f.event.answer) (changes_of fs) s next.store reached.store next.chain reached.chain;
         is_at = reached.is_at;
       }

@@ -15,11 +15,12 @@ use Rattle.store_core.specs.State.{CoreState, IsUp, UnlessStopped, IsRunning}
 
 pub new_core : (shown : (List ℕ → Type 0) → Type 0) (size : ℕ) (o : OpenStore) (c : CoreState) → IsOpened shown size o → c.disk.size ≡ size
     → ((store : Store) → opened.Represents store o → Represents store c.known c.tables) → ((store : Store) → opened.Represents store o → IsValidFor size store → c.served)
-    → ((places : PlaceMap) × (c.known ≡ Some places)) → c.parts ≡ replicate ACTORS Idle → c.stop ≡ None → c.acknowledged ≡ 0 → IsNew shown size c
-new_core shown size o c is same represents serves told parts stop count = record {
+    → c.tables.held.last_id ≡ o.containers.last_id → ((places : PlaceMap) × (c.known ≡ Some places)) → c.parts ≡ replicate ACTORS Idle → c.stop ≡ None → c.acknowledged ≡ 0 → IsNew shown size c
+new_core shown size o c is same represents serves last told parts stop count = record {
   store = is.found.store;
   right = is.found.right;
   represents = represents is.found.store is.found.represents;
+  last_id_is = last ∙ is.found.represents.containers.last;
   valid = is.found.valid;
   reserve = is.reserve;
   parts_are = parts;

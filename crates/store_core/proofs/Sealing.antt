@@ -58,7 +58,7 @@ pub made_seal : (filled : Contents) (actor id slot : ℕ) (bytes : List ℕ) (ol
     → settled.Steps old.tables.slots Done old.disk new.disk → SealsCompared old.tables old.known (next_id old) filled Done old.disk new.disk
     → KeepsSealed old.disk new.disk old.known old.tables old.parts actor filled new.parts id → (old.served → new.served) → Made (asked.Seal filled) actor (Ok (answers.Sealed id)) bytes old new
 made_seal filled actor id slot bytes old new before after m known sealed index steps moves kept served = record {
-  row = record { may = sealed.may; compared = sealed.compared; id_is = sealed.sealed.number; parts_are = sealed.parts_are; kept = kept };
+  row = record { may = sealed.may; compared = sealed.compared; id_is = sealed.sealed.number; last_is = sealed.sealed.last_is; parts_are = sealed.parts_are; kept = kept };
   effect = record { disk = steps; moves = moves; made = makes_seal old new filled sealed.slot id sealed.sealed steps.later m known index; kept = tt };
   served = served;
 }

@@ -87,6 +87,8 @@ pub record IsSealed (filled : Contents) (id actor : ℕ) (old new : CoreState) :
   pub may : MayKeep (part_of old.parts actor) filled
   pub compared : WasCompared old.disk.size old.known (Shows old.disk new.disk) filled
   pub id_is : id ≡ next_id old
+  -- it is the greatest that was given out
+  pub last_is : new.tables.held.last_id ≡ id
   pub parts_are : Gets (Writing (with_pins filled.kind filled.segments may.pins)) actor old new
   pub kept : KeepsSealed old.disk new.disk old.known old.tables old.parts actor filled new.parts id
 

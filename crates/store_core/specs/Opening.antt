@@ -6,7 +6,7 @@ use Rattle.actor_parts.specs.declared.actor.TheConstants.{ACTORS}
 use Rattle.actor_parts.specs.declared.part.Part.TheVariants.{Idle}
 use Rattle.refusals.specs.declared.refusal.Refusal.{Refusal}
 use Rattle.store_model.specs.Image.{Store, Encodes, IsValidFor}
-use Rattle.store_model.specs.Slots.{free_slots}
+use Rattle.store_model.specs.Slots.{free_slots, last_id}
 use Rattle.store_state.specs.Tables.{Represents}
 use Rattle.recovery.specs.Opening.{Opens}
 use Rattle.store_core.specs.State.{CoreState}
@@ -16,6 +16,8 @@ pub record IsNew (shown : (List ℕ → Type 0) → Type 0) (size : ℕ) (c : Co
   pub store : Store
   pub right : shown (λ image. Encodes image store)
   pub represents : Represents store c.known c.tables
+  -- no id was given out that none of its containers has
+  pub last_id_is : c.tables.held.last_id ≡ last_id store.held
   pub valid : IsValidFor size store
   pub reserve : RESERVE ≤ free_slots store.held
   pub parts_are : c.parts ≡ replicate ACTORS Idle

@@ -1,10 +1,11 @@
 -- Steps of a core one after the other, by any actors (docs/MODEL.md, 'The core').
-use Rattle.std.specs.Prelude.{Bool, true, false, ◌≡◌, ◌⊎◌, ◌-◌, ◌^◌, ◌<◌, ℕ, suc, List, [], ◌∷◌, ◌==◌, length, sum_by, take, None, Some, Result, Ok, Err}
+use Rattle.std.specs.Prelude.{Bool, true, false, ◌≡◌, ◌⊎◌, ◌-◌, ◌^◌, ◌<◌, ℕ, List, [], ◌∷◌, ◌++◌, ◌==◌, length, sum_by, take, None, Some, Result, Ok, Err}
 use Rattle.std.specs.FinMap as finite
 use Rattle.std.specs.List.{AllByRecursion}
 use Rattle.base_model.specs.Known.{Known}
 use Rattle.disk_format.specs.Cells.{Root}
 use Rattle.dd_disk.specs.Moves.{StandsFor}
+use Rattle.dd_disk.specs.View.{CrashLeaves}
 use Rattle.container_meta.specs.Places.{PlaceMap}
 use Rattle.merkle_file.specs.declared.top.Top.{Top}
 use Rattle.merkle_file.specs.Walk.{start_of}
@@ -17,10 +18,10 @@ use Rattle.refusals.specs.declared.refusal.Refusal.{Refusal}
 use Rattle.refusals.specs.declared.refusal.Refusal.TheVariants as refusals
 use Rattle.segmenter.specs.Segments.{segments_of}
 use Rattle.store_model.specs.Commands.{HasNoCollisions}
-use Rattle.store_model.specs.Files.{Files, with_file}
+use Rattle.store_model.specs.Files.{Stored, with_stored}
 use Rattle.store_model.specs.Image.{Store, IsValidFor, last_sequence}
 use Rattle.store_model.specs.Standing.{ByteSet, IsIn, IsAmong, Stands}
-use Rattle.store_model.specs.Steps.{StoreChange, CanChange, changed}
+use Rattle.store_model.specs.Steps.{StoreChange, SealContainer, PutName, CanChange, changed}
 use Rattle.store_model.specs.Trees.{root_of, file_tree, HoldsTree}
 use Rattle.store_state.specs.Invariant.{CoreInvariant}
 use Rattle.store_state.specs.Tables.{Represents}
@@ -47,15 +48,6 @@ RunsOn C state = (events : List Event) (old new : C) → CoreRun C state events 
 pub record FileEvent : Type 0 where
   pub event : Event
   pub bytes : List ℕ
-
--- the files of a store, and the last sequence number that it gave out
-pub record Stored : Type 0 where
-  pub files : Files
-  pub last : ℕ
-
--- one file put under a name, which takes a number
-abbrev pub with_stored : Stored → List ℕ → List ℕ → Stored
-with_stored stored name bytes = record { files = with_file stored.files name bytes; last = suc stored.last }
 
 -- these after a step: a commit that was acknowledged puts a file
 abbrev pub stored_with : StepValue → Result Answer Refusal → List ℕ → Stored → Stored
@@ -114,18 +106,29 @@ abbrev pub ChangesTo : List StoreChange → Store → Store → Type 0
 ChangesTo [] s t = t ≡ s
 ChangesTo (change ∷ rest) s t = CanChange change s × ChangesTo rest (changed change s) t
 
--- it has come to these files, from a store by such changes
-pub record Reaches (S : List ℕ → Type 0) (s : Store) (stored : Stored) (c : CoreState) : Type 0 where
-  pub changes : List StoreChange
+-- what a step changes, by its answer: a seal under an id that it answers, and a commit that was acknowledged
+abbrev pub changes_by : StepValue → Result Answer Refusal → List StoreChange
+changes_by (asked.Seal filled) (Ok (answers.Sealed id)) = SealContainer id filled.kind filled.segments ∷ []
+changes_by (asked.Commit name root) (Ok answer) = PutName name root ∷ []
+changes_by step answer = []
+
+-- and what steps change, the first of them first
+abbrev pub changes_of : List FileEvent → List StoreChange
+changes_of [] = []
+changes_of (f ∷ fs) = changes_by f.event.step f.event.answer ++ changes_of fs
+
+-- it has come to these files, from a store by the changes that the steps' answers tell
+pub record Reaches (S : List ℕ → Type 0) (s : Store) (stored : Stored) (steps : List FileEvent) (c : CoreState) : Type 0 where
   pub store : Store
-  pub chain : ChangesTo changes s store
+  pub chain : ChangesTo (changes_of steps) s store
   pub is_at : IsAt S store stored c
 
--- A core that isn't stopped at the end of a run has made exactly the commits that it acknowledged, and its invariant holds.
+-- A core that isn't stopped at the end of a run has made exactly the commits and the seals that it acknowledged, and its
+-- invariant holds.
 abbrev pub KeepsFiles : (C : Type 0) → (C → CoreState) → Type 0
 KeepsFiles C state = (among : ByteSet) (steps : List FileEvent) (s : Store) (stored : Stored) (old new : C)
     → HasNoCollisions (IsIn among) → IsAt (IsIn among) s stored (state old) → FileRun C state (IsIn among) steps old new
-    → (state new).stop ≡ None → Reaches (IsIn among) s (stored_after steps stored) (state new)
+    → (state new).stop ≡ None → Reaches (IsIn among) s (stored_after steps stored) steps (state new)
 
 -- ---- crashes
 
@@ -146,9 +149,16 @@ IsOnTheWay S (f ∷ fs) stored image =
     IsOf S stored image ⊎ IsOf S (stored_tried f.event.step f.event.answer f.bytes stored) image
     ⊎ IsOnTheWay S fs (stored_by f stored) image
 
--- Each image since the first step is one on the way.
+-- At the end of the steps, and at each moment between, a crash leaves an image that is on the way, or one that it might have
+-- left before the first of them.
 abbrev pub SurvivesCrashes : (C : Type 0) → (C → CoreState) → Type 0
 SurvivesCrashes C state = (among : ByteSet) (steps : List FileEvent) (s : Store) (stored : Stored) (old new : C)
+    → HasNoCollisions (IsIn among) → IsAt (IsIn among) s stored (state old) → FileRun C state (IsIn among) steps old new
+    → CrashLeaves (IsOnTheWay (IsIn among) steps stored) (state old).disk (state new).disk
+
+-- So each image since the first step is one on the way.
+abbrev pub SurvivesSince : (C : Type 0) → (C → CoreState) → Type 0
+SurvivesSince C state = (among : ByteSet) (steps : List FileEvent) (s : Store) (stored : Stored) (old new : C)
     → HasNoCollisions (IsIn among) → IsAt (IsIn among) s stored (state old) → FileRun C state (IsIn among) steps old new
     → (state old).disk.clock < 2 ^ 64 - 1 → (image : List ℕ) → (state new).disk.images_since (state old).disk.clock image
     → IsOnTheWay (IsIn among) steps stored image

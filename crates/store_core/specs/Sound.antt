@@ -12,11 +12,11 @@ use Rattle.actor_parts.specs.StepValue.{StepValue}
 use Rattle.refusals.specs.declared.refusal.Refusal.{Refusal}
 use Rattle.refusals.specs.declared.refusal.Refusal.TheVariants as refusals
 use Rattle.store_model.specs.Commands.{HasNoCollisions}
-use Rattle.store_model.specs.Files.{Files}
+use Rattle.store_model.specs.Files.{Files, Stored}
 use Rattle.store_model.specs.Image.{Store}
 use Rattle.store_model.specs.Standing.{ByteSet, IsIn}
 use Rattle.store_model.specs.Trees.{IsNodeOf}
-use Rattle.store_core.specs.Runs.{FileEvent, FileStep, FileRun, IsAt, Stored, stored_after}
+use Rattle.store_core.specs.Runs.{FileEvent, FileStep, FileRun, IsAt, stored_after}
 use Rattle.store_core.specs.State.{CoreState}
 
 -- ---- no damage

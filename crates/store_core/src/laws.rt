@@ -1,5 +1,5 @@
 //! Laws of steps of a core, one after the other (docs/MODEL.md, 'The core').
-ghost use Rattle.store_core.specs.Runs.{RunsOn, KeepsFiles, GivesTheFile, ReadsAreChecked, EndsAreWhole, SurvivesCrashes, KeepsAcknowledged, EndsWithAll};
+ghost use Rattle.store_core.specs.Runs.{RunsOn, KeepsFiles, GivesTheFile, ReadsAreChecked, EndsAreWhole, SurvivesCrashes, SurvivesSince, KeepsAcknowledged, EndsWithAll};
 ghost use Rattle.store_core.specs.Sound.{NeverDamaged, FindsFiles};
 
 use crate::state::HasState;
@@ -9,8 +9,8 @@ pub fn a_core_runs_on<C: HasState>()
     ensures { RunsOn C C.state }
 {}
 
-/// A core that isn't stopped has made exactly the commits that it acknowledged, and its invariant holds. The function does
-/// nothing.
+/// A core that isn't stopped has made exactly the commits and the seals that it acknowledged, and its invariant holds. The
+/// function does nothing.
 pub fn a_core_keeps_files<C: HasState>()
     ensures { KeepsFiles C C.state }
 {}
@@ -28,9 +28,11 @@ pub fn a_reader_checks_what_it_gives<C: HasState>()
 {}
 
 /// What a crash leaves at any moment of a run is of the files after some of its commits, the first of them first, and it may
-/// be one whose write failed; all that were acknowledged before a moment are among them from then on. The function does nothing.
+/// be one whose write failed; all that were acknowledged before a moment are among them from then on. Seen from a moment before the
+/// run it is that, or what might have been left before the run. The function does nothing.
 pub fn a_core_survives_crashes<C: HasState>()
-    ensures since { SurvivesCrashes C C.state }
+    ensures moments { SurvivesCrashes C C.state }
+    ensures since { SurvivesSince C C.state }
     ensures acknowledged { KeepsAcknowledged C C.state }
     ensures end { EndsWithAll C C.state }
 {}

@@ -16,8 +16,8 @@ use Rattle.container_meta.specs.declared.kind.Kind.TheVariants.{Leaf, Tree}
 use Rattle.container_meta.specs.Format.{kind_byte, is_length, is_level, is_within, child_count}
 use Rattle.container_meta.specs.Spelling.{HeaderValue, IsHeader, Follow, bytes_of}
 use Rattle.store_model.specs.Slots.{HoldSlots, AreHeaders, Copy, place_of, copy_in, newer, newest}
-use Rattle.store_model.specs.Image.{Store, Encodes, AreCopies, bytes_at}
-use Rattle.store_model.specs.Commands.{copy_of}
+use Rattle.store_model.specs.Image.{Store, Encodes, AreCopies}
+use Rattle.store_model.specs.Trees.{bytes_at}
 
 -- two that are there and the same
 pub some_same : {A : Type 0} (a b : A) → Some a ≡ Some b → a ≡ b
@@ -166,7 +166,7 @@ pub headers_of_right : (image : List ℕ) (store : Store) → Encodes image stor
 headers_of_right image store right = headers_of_slots 0 store.held image right.slots_are
 
 -- a copy of a store lies within its slots
-pub copy_within : (store : Store) (key : List ℕ) (copy : Copy) → AreHeaders store.held → copy_of store key ≡ Some copy
+pub copy_within : (store : Store) (key : List ℕ) (copy : Copy) → AreHeaders store.held → newest 0 store.held key ≡ Some copy
     → (copy.place.slot < length store.held) × (copy.place.offset + copy.place.length ≤ 212480) × (1 ≤ copy.place.length) × (copy.place.length ≤ 16384)
 copy_within store key copy headers e =
     let within = newest_within store.held key copy headers e in

@@ -12,8 +12,8 @@ use Rattle.container_meta.specs.Spelling.{HeaderValue}
 use Rattle.namespace.specs.declared.record.Named.{Named}
 use Rattle.store_model.specs.Files.{no_files}
 use Rattle.store_model.specs.Slots.{HoldSlots, DifferentIds, free_slots}
-use Rattle.store_model.specs.Image.{HasFormat, AreCopies, IsFileOf, AreFilesOf}
-use Rattle.store_model.specs.Commands.{IsFormatted}
+use Rattle.store_model.specs.Image.{HasFormat, AreCopies}
+use Rattle.store_model.specs.Standing.{AreNodes, IsFileOf, AreFilesOf, IsFormatted}
 
 -- so many closed slots
 abbrev none_held : ℕ → List (Option HeaderValue)
@@ -30,6 +30,10 @@ ids_differ (suc count) = ids_differ count
 no_copies : (slot count : ℕ) (image : List ℕ) → AreCopies slot (none_held count) image
 no_copies slot zero image = tt
 no_copies slot (suc count) image = no_copies (slot + 1) count image
+
+no_nodes : (slot count : ℕ) (image : List ℕ) → AreNodes slot (none_held count) image
+no_nodes slot zero image = tt
+no_nodes slot (suc count) image = no_nodes (slot + 1) count image
 
 all_free : (count : ℕ) → free_slots (none_held count) ≡ count
 all_free zero = refl
@@ -68,6 +72,7 @@ formatted_holds slots image laid = record {
   };
   past = λ cell from within. laid.records cell within;
   copies = no_copies 0 slots image;
+  nodes = no_nodes 0 slots image;
   files_are = no_files_held (none_held slots) image;
   reserve = omega (arith, all_free slots, laid.count.0);
 }

@@ -1,15 +1,7 @@
 -- Slots, once a container is in the first that is closed.
-use Rattle.std.proofs.Common.{◌≡◌, ◌≢◌, ℕ, zero, suc, ◌<◌, ◌≤◌, List, [], ◌∷◌, length, max, get_or, Option, Some, None, refl, ◌∙◌, ap, arith}
+use Rattle.std.proofs.Common.{◌≡◌, ◌≢◌, ℕ, zero, suc, ◌<◌, ◌≤◌, List, [], ◌∷◌, length, max, Option, Some, None, refl, ◌∙◌, ap, arith}
 use Rattle.container_meta.specs.Spelling.{HeaderValue, IsHeader}
 use Rattle.store_model.specs.Slots.{AreHeaders, IsUnusedId, DifferentIds, last_id, free_slots, first_free, with_slot}
-
--- the first closed slot is one of them, and closed
-pub free_first : (held : List (Option HeaderValue)) → 1 ≤ free_slots held → (first_free held < length held) × (get_or held (first_free held) None ≡ None)
-free_first [] some = absurd (omega (arith, some))
-free_first (None ∷ cs) some = (omega arith, refl)
-free_first (Some h ∷ cs) some =
-    let rest = free_first cs some in
-    (omega (arith, rest.0), rest.1)
 
 -- there are as many slots as before
 pub length-with_slot : (slot : ℕ) (h : HeaderValue) (held : List (Option HeaderValue)) → length (with_slot slot h held) ≡ length held

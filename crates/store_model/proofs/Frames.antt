@@ -11,11 +11,10 @@ use Rattle.disk_format.specs.Layout.{slot_at, data_at, selector_at, cell_at, hal
 use Rattle.container_meta.specs.declared.entry.Entry.{Entry}
 use Rattle.container_meta.specs.declared.kind.Kind.{Kind}
 use Rattle.container_meta.specs.Spelling.{HeaderValue, IsHeader, Follow, bytes_of}
-use Rattle.namespace.specs.declared.record.Named.{Named}
 use Rattle.store_model.specs.Journal.{HoldsSelector, IsOlder, StandFrom, HoldsJournal, ClosedFrom}
 use Rattle.store_model.specs.Slots.{HoldsSlot, HoldSlots, AreHeaders, Copy, newest}
-use Rattle.store_model.specs.Image.{HasFormat, AreCopies, HasCopy, IsFileOf, bytes_at}
-use Rattle.store_model.specs.Commands.{leaf_key}
+use Rattle.store_model.specs.Image.{HasFormat, AreCopies}
+use Rattle.store_model.specs.Trees.{bytes_at}
 use Rattle.store_model.proofs.Copies.{data_within, newest_within}
 
 -- the bytes before a place are as they were
@@ -128,18 +127,3 @@ module _ (old new : List ℕ) where
   pub copy_kept : (held : List (Option HeaderValue)) (key : List ℕ) (copy : Copy) → AreHeaders held → newest 0 held key ≡ Some copy → SameSlot copy.place.slot old new
       → bytes_at copy.place new ≡ bytes_at copy.place old
   copy_kept held key copy headers e same = place_kept copy.place.slot old new same copy.place.offset copy.place.length (newest_within held key copy headers e).ends
-
-  -- where each slot is as it was, so is each copy of a file's segment
-  pub has_copy_kept : (held : List (Option HeaderValue)) → SameSlots 0 (length held) old new → AreHeaders held → (bytes : List ℕ) → HasCopy held bytes old → HasCopy held bytes new
-  has_copy_kept held same headers bytes (inl empty) = inl empty
-  has_copy_kept held same headers bytes (inr (copy, found, is)) =
-      let here : SameSlot copy.place.slot old new = same copy.place.slot (omega arith) (omega (arith, (newest_within held (leaf_key bytes) copy headers found).slot)) in
-      inr (copy, found, copy_kept held (leaf_key bytes) copy headers found here ∙ is)
-
--- a file goes on, if its copy does
-pub file_kept : (held held' : List (Option HeaderValue)) (old new : List ℕ) → ((bytes : List ℕ) → HasCopy held bytes old → HasCopy held' bytes new)
-    → (named : Option Named) (file : Option (List ℕ)) → IsFileOf held old named file → IsFileOf held' new named file
-file_kept held held' old new each None None is = tt
-file_kept held held' old new each None (Some bytes) is = is
-file_kept held held' old new each (Some named) None is = is
-file_kept held held' old new each (Some named) (Some bytes) is = (is.0, each bytes is.1)

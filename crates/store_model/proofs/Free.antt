@@ -1,13 +1,17 @@
--- Closed slots, by the id in each slot: 0 where it is closed.
-use Rattle.std.proofs.Common.{◌≡◌, ℕ, ◌+◌, ◌-◌, ◌^◌, ◌<◌, ◌≤◌, Bool, true, false, cond, List, [], ◌∷◌, length, Option, Some, None, refl, sym, ap, ◌∙◌, arith}
+-- Closed slots, by the id in each slot: 0 where it is closed; and the first of them on the disk.
+use Rattle.std.proofs.Common.{◌≡◌, ◌≢◌, ℕ, ◌+◌, ◌-◌, ◌^◌, ◌<◌, ◌≤◌, Bool, true, false, cond, List, [], ◌∷◌, length, Option, Some, None, refl, sym, ap, subst, ◌∙◌, arith}
 use Rattle.std.specs.Prelude.{◌==◌, ◌&&◌, nat_le, nat_lt}
 use Rattle.std.specs.List.{count_by, position, position_or_len, slice_get}
 use Rattle.std.proofs.lemmas.Bool.{leb-true, ltb-false, eqb-true}
 use Rattle.std.proofs.lemmas.List.Quantifiers.{position-Some}
 use Rattle.std.proofs.lemmas.List.Sums.{position_or_len_is}
 use Rattle.std.proofs.lemmas.List.Recursion.{is_count_by, is_position_or_len}
+use Rattle.base_model.specs.Bytes.{byte_at}
+use Rattle.disk_format.specs.declared.numbers.TheConstants.{CONTAINER_GATE}
+use Rattle.disk_format.specs.Layout.{slot_at}
 use Rattle.container_meta.specs.Spelling.{HeaderValue, IsHeader}
-use Rattle.store_model.specs.Slots.{HoldSlots, AreHeaders, ids_of, free_slots, first_free}
+use Rattle.store_model.specs.Slots.{HoldsSlot, HoldSlots, AreHeaders, ids_of, free_slots, first_free}
+use Rattle.store_model.specs.Image.{Store, Encodes}
 
 abbrev pub is_zero : ℕ → Bool
 is_zero id = id == 0
@@ -102,8 +106,14 @@ no_place_free held right is = none_free held (omega (arith, first_zero held righ
     past : length (ids_of held) ≤ position_or_len is_zero (ids_of held)
     past = ltb-false (position_or_len is_zero (ids_of held)) (length (ids_of held)) (by_test _ (position_or_len is_zero (ids_of held)) refl is)
 
--- slots that an image holds have right headers
-pub headers_held : (slot : ℕ) (held : List (Option HeaderValue)) (image : List ℕ) → HoldSlots slot held image → AreHeaders held
-headers_held slot [] image holds = tt
-headers_held slot (None ∷ held) image holds = headers_held (slot + 1) held image holds.1
-headers_held slot (Some h ∷ held) image holds = (holds.0.0, headers_held (slot + 1) held image holds.1)
+-- ---- the free slot of least number is closed
+
+closed_from : (from slot : ℕ) (held : List (Option HeaderValue)) (image : List ℕ) → slot ≡ from + first_free held → 1 ≤ free_slots held → HoldSlots from held image
+    → HoldsSlot image slot None
+closed_from from slot [] image place some holds = absurd (omega (arith, some))
+closed_from from slot (None ∷ cs) image place some holds = subst (λ (s : ℕ). byte_at (slot_at s) image ≢ CONTAINER_GATE) (omega (arith, place)) holds.0
+closed_from from slot (Some h ∷ cs) image place some holds = closed_from (from + 1) slot cs image (omega (arith, place)) some holds.1
+
+-- where a slot is free, the first free slot is closed
+pub first_free_closed : (image : List ℕ) (store : Store) → Encodes image store → 1 ≤ free_slots store.held → HoldsSlot image (first_free store.held) None
+first_free_closed image store right some = closed_from 0 (first_free store.held) store.held image (omega arith) some right.slots_are

@@ -18,7 +18,7 @@ use Rattle.container_meta.specs.Spelling.{HeaderValue, IsHeader, Follow, has_dig
 use Rattle.store_model.specs.Indexing.{entry_key, with_entries}
 use Rattle.store_model.specs.Slots.{Copy, IsIndexOf, place_of, copy_in, newer, newest, last_id, free_slots, first_free, with_slot}
 use Rattle.store_model.proofs.Copies.{some_same}
-use Rattle.store_model.proofs.NewestWith.{newest_id}
+use Rattle.store_model.proofs.CopyIds.{newest_id}
 
 -- the map tells keys apart as their bytes do
 pub tied : (q key : List ℕ) → eq_by_cmp (slice_cmp nat_cmp) q key ≡ bytes_eq key q

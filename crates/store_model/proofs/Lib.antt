@@ -1,5 +1,6 @@
 pub mod Among
 pub mod Copies
+pub mod CopyIds
 pub mod Empty
 pub mod Filled
 pub mod FramedTrees
@@ -12,17 +13,12 @@ pub mod Indexing
 pub mod Kept
 pub mod Lookups
 pub mod NewestSealed
-pub mod NewestWith
 pub mod Once
 pub mod OneNode
-pub mod Placed
-pub mod Put
 pub mod PutRoots
 pub mod Records
 pub mod Roots
 pub mod SameFiles
-pub mod Scratch
-pub mod Sealed
 pub mod SealedTrees
 pub mod Sound
 pub mod Spellings

@@ -12,7 +12,7 @@ use Rattle.container_meta.specs.Format.{kind_byte}
 use Rattle.container_meta.specs.Spelling.{HeaderValue, IsHeader, Follow, has_digest}
 use Rattle.store_model.specs.Slots.{Copy, place_of, copy_in, newer, newest, last_id, free_slots, first_free, with_slot}
 use Rattle.store_model.proofs.Copies.{some_same}
-use Rattle.store_model.proofs.NewestWith.{newest_id}
+use Rattle.store_model.proofs.CopyIds.{newest_id}
 
 -- the copy that an entry of a container is
 abbrev pub entry_copy : ℕ → ℕ → Entry → Copy

@@ -1,22 +1,17 @@
--- An image holds one store at most, and is a store of one map of files at most.
+-- An image holds one store at most.
 use Rattle.std.proofs.Common.{◌≡◌, ◌≢◌, inl, inr, ℕ, suc, ◌+◌, ◌-◌, ◌<◌, ◌≤◌, List, [], ◌∷◌, length, Option, Some, None, refl, sym, ◌∙◌, ap, subst, arith}
 use Rattle.std.proofs.lemmas.Bool.Decides.{eqb_tells}
 use Rattle.std.specs.FinMap as finite
-use Rattle.std.specs.Cmp.Lexicographic.{nat_list_cmp_total}
-use Rattle.sha2.specs.Sha256.{sha256}
-use Rattle.base_model.specs.Bytes.{range, byte_at, key_of}
+use Rattle.base_model.specs.Bytes.{range, byte_at}
 use Rattle.base_model.proofs.Ranges.{byte-range}
 use Rattle.disk_format.specs.declared.numbers.TheConstants.{RECORD_GATE}
 use Rattle.disk_format.specs.Layout.{slot_at, selector_at, cell_at, half_cells}
-use Rattle.disk_format.specs.Cells.{Root, RecordValue, SelectorValue}
+use Rattle.disk_format.specs.Cells.{RecordValue, SelectorValue}
 use Rattle.container_meta.specs.Spelling.{HeaderValue}
-use Rattle.namespace.specs.declared.record.Named.{Named}
 use Rattle.namespace.specs.Names.{NameMap, names_with}
-use Rattle.store_model.specs.Files.{Files, root_of}
 use Rattle.store_model.specs.Journal.{HoldsSelector, IsOlder, Follow, StandFrom, HoldsRecords}
-use Rattle.store_model.specs.Slots.{HoldsSlot, HoldSlots, Copy, newest}
-use Rattle.store_model.specs.Image.{Store, Encodes, IsStoreOf, StandsFor, IsFileOf, HasCopy, names_of, last_sequence, bytes_at}
-use Rattle.store_model.proofs.Copies.{some_same}
+use Rattle.store_model.specs.Slots.{HoldsSlot, HoldSlots}
+use Rattle.store_model.specs.Image.{Store, Encodes}
 use Rattle.store_model.proofs.Spellings.{same_format, same_selector, gate_of_selector, same_record, gate_of_record, same_header, gate_of_header}
 
 -- the first byte of a part
@@ -109,46 +104,4 @@ store_once image s t one other =
 
 -- ---- the files
 
-no_bytes : (bytes : List ℕ) → length bytes ≡ 0 → bytes ≡ []
-no_bytes [] none = refl
-no_bytes (b ∷ bs) none = absurd (omega (arith, none))
-
-copy_once : (held : List (Option HeaderValue)) (image a b : List ℕ) → root_of a ≡ root_of b → HasCopy held a image → HasCopy held b image → a ≡ b
-copy_once held image a b root (inl none) other = none ∙ sym (no_bytes b (sym (ap (λ (r : Root). r.length) root) ∙ ap length none))
-copy_once held image a b root (inr one) (inl none) = no_bytes a (ap (λ (r : Root). r.length) root ∙ ap length none) ∙ sym none
-copy_once held image a b root (inr one) (inr other) =
-    let digest : sha256 a ≡ sha256 b = ap (λ (r : Root). r.digest) root in
-    let same : one.0 ≡ other.0 = some_same one.0 other.0 (sym one.1 ∙ ap (λ (d : List ℕ). newest 0 held (key_of 0 d)) digest ∙ other.1) in
-    sym one.2 ∙ ap (λ (c : Copy). bytes_at c.place image) same ∙ other.2
-
-file_once : (held : List (Option HeaderValue)) (image : List ℕ) (named : Option Named) (a b : Option (List ℕ)) → IsFileOf held image named a → IsFileOf held image named b → a ≡ b
-file_once held image None None None one other = refl
-file_once held image None None (Some b) one other = absurd other
-file_once held image None (Some a) b one other = absurd one
-file_once held image (Some named) None b one other = absurd one
-file_once held image (Some named) (Some a) None one other = absurd other
-file_once held image (Some named) (Some a) (Some b) one other = ap Some (copy_once held image a b (sym one.0 ∙ other.0) one.1 other.1)
-
-pub files_once : (image : List ℕ) (s t : Store) (m n : Files) → IsStoreOf image s m → IsStoreOf image t n → m ≡ n
-files_once image s t m n one other =
-    let same : s ≡ t = store_once image s t one.right other.right in
-    let theirs : IsStoreOf image s n = subst (λ (x : Store). IsStoreOf image x n) (sym same) other in
-    finite.same_map nat_list_cmp_total (finite.slice_cmp-IsAntisymmetric finite.nat_cmp-IsAntisymmetric) m n
-    (λ q. file_once s.held image (finite.get (names_of s) q) (finite.get m q) (finite.get n q) (one.files_are q) (theirs.files_are q))
-
-pub last_once : (image : List ℕ) (m n : Files) (i j : ℕ) → StandsFor image m i → StandsFor image n j → i ≡ j
-last_once image m n i j one other =
-    one.last_is ∙ ap last_sequence (store_once image one.store other.store one.holds.right other.holds.right) ∙ sym other.last_is
-
 -- ---- refusals, of the map
-
-none_filed : (held : List (Option HeaderValue)) (image : List ℕ) (named : Option Named) (file : Option (List ℕ)) → named ≡ None → IsFileOf held image named file → file ≡ None
-none_filed held image None None none is = refl
-none_filed held image None (Some bytes) none is = absurd is
-none_filed held image (Some named) file none is = absurd (let wrong : Some named ≡ None = none in cc)
-
--- a name that is refused as one without a file has none in the map
-pub not_filed : (image name : List ℕ) (s t : Store) (files : Files) → Encodes image s → finite.get (names_of s) name ≡ None → IsStoreOf image t files → finite.get files name ≡ None
-not_filed image name s t files right none holds =
-    none_filed t.held image (finite.get (names_of t) name) (finite.get files name)
-    (ap (λ (x : Store). finite.get (names_of x) name) (store_once image t s holds.right right) ∙ none) (holds.files_are name)

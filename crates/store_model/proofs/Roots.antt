@@ -1,5 +1,5 @@
--- The roots that the names of a store have, and their files.
-use Rattle.std.proofs.Common.{◌≡◌, inl, inr, ℕ, ◌+◌, Bool, true, false, cond, List, [], ◌∷◌, length, Option, Some, None, refl, sym, ◌∙◌, ap, subst, arith}
+-- The roots that the names of a store have, and how long its copies are.
+use Rattle.std.proofs.Common.{◌≡◌, ℕ, ◌+◌, Bool, true, false, cond, List, [], ◌∷◌, length, Option, Some, None, sym, ◌∙◌, subst, arith}
 use Rattle.std.specs.Ordering.{nat_cmp, eq_by_cmp}
 use Rattle.std.specs.Cmp.Lexicographic.{slice_cmp, nat_list_cmp_total}
 use Rattle.std.specs.FinMap as finite
@@ -7,15 +7,13 @@ use Rattle.base_model.proofs.Ranges.{length-range}
 use Rattle.disk_format.specs.Layout.{data_at}
 use Rattle.disk_format.specs.Cells.{Root, Change, RecordValue, IsRoot, IsChange}
 use Rattle.disk_format.specs.Cells.Change.{Put, Delete}
-use Rattle.container_meta.specs.Spelling.{HeaderValue}
 use Rattle.namespace.specs.declared.record.Named.{Named}
 use Rattle.namespace.specs.Names.{NameMap, names_with, names_changed, names_after}
 use Rattle.store_model.specs.Journal.{Follow}
-use Rattle.store_model.specs.Files.{Files, root_of}
-use Rattle.store_model.specs.Slots.{Copy}
-use Rattle.store_model.specs.Image.{Store, Encodes, IsValidFor, IsStoreOf, IsFileOf, HasCopy, bytes_at}
-use Rattle.store_model.specs.Commands.{leaf_key, copy_of}
-use Rattle.store_model.specs.Refusals.{HasRoot, AreBytesOf, root_key}
+use Rattle.store_model.specs.Slots.{Copy, newest}
+use Rattle.store_model.specs.Image.{Store, Encodes, IsValidFor}
+use Rattle.store_model.specs.Trees.{bytes_at}
+use Rattle.store_model.specs.Refusals.{HasRoot}
 use Rattle.store_model.proofs.Copies.{some_same, headers_of_right, copy_within}
 
 -- ---- each root is one that a file may have
@@ -53,55 +51,10 @@ no_roots q named found =
 pub root_of_name : (size : ℕ) (store : Store) (name : List ℕ) (root : Root) → IsValidFor size store → HasRoot name root store → IsRoot root
 root_of_name size store name root sound has = roots_after 0 finite.empty store.records sound.follow no_roots name (record { sequence = has.0; root = root }) has.1
 
--- ---- the file of a root
-
--- the file of a name that has a root
-pub record HasFile (name : List ℕ) (root : Root) (store : Store) (image : List ℕ) (files : Files) : Type 0 where
-  pub bytes : List ℕ
-  pub filed : finite.get files name ≡ Some bytes
-  pub root_is : root ≡ root_of bytes
-  pub copy : HasCopy store.held bytes image
-
-some_file : (held : List (Option HeaderValue)) (image : List ℕ) (named : Named) (file : Option (List ℕ)) → IsFileOf held image (Some named) file
-    → (bytes : List ℕ) × (file ≡ Some bytes) × (named.root ≡ root_of bytes) × HasCopy held bytes image
-some_file held image named None is = absurd is
-some_file held image named (Some bytes) is = (bytes, refl, is.0, is.1)
-
--- in a store of some files a root is that of a file
-pub file_of_root : (name : List ℕ) (root : Root) (store : Store) (image : List ℕ) (files : Files) → IsStoreOf image store files → HasRoot name root store → HasFile name root store image files
-file_of_root name root store image files holds has =
-    let named : Named = record { sequence = has.0; root = root } in
-    let some = some_file store.held image named (finite.get files name) (subst (λ (o : Option Named). IsFileOf store.held image o (finite.get files name)) has.1 (holds.files_are name)) in
-    record { bytes = some.0; filed = some.1; root_is = some.2; copy = some.3 }
-
-no_bytes : (bytes : List ℕ) → length bytes ≡ 0 → bytes ≡ []
-no_bytes [] none = refl
-no_bytes (b ∷ bs) none = absurd (omega arith)
-
--- the key of the root of a file is that of its segment
-pub key_of_file : (root : Root) (bytes : List ℕ) → root ≡ root_of bytes → root_key root ≡ leaf_key bytes
-key_of_file root bytes is = ap root_key is
+-- ---- how long a copy is
 
 -- a copy is as long as its place says
-pub length_of_copy : (store : Store) (image key : List ℕ) (copy : Copy) → Encodes image store → copy_of store key ≡ Some copy → length (bytes_at copy.place image) ≡ copy.place.length
+pub length_of_copy : (store : Store) (image key : List ℕ) (copy : Copy) → Encodes image store → newest 0 store.held key ≡ Some copy → length (bytes_at copy.place image) ≡ copy.place.length
 length_of_copy store image key copy right is =
     let within = copy_within store key copy (headers_of_right image store right) is in
     length-range (data_at copy.place.slot + copy.place.offset) copy.place.length image (omega (arith, within.0, within.1, right.size, right.many))
-
--- the bytes of the copy of a root are the file
-copied : (root : Root) (store : Store) (image bytes other : List ℕ) (copy : Copy) → root ≡ root_of other → length bytes ≡ root.length → copy_of store (root_key root) ≡ Some copy → bytes_at copy.place image ≡ bytes
-    → HasCopy store.held other image → other ≡ bytes
-copied root store image bytes other copy is long found at (inl none) =
-    let same : length bytes ≡ length other = long ∙ ap (λ (r : Root). r.length) is in
-    none ∙ sym (no_bytes bytes (same ∙ ap length none))
-copied root store image bytes other copy is long found at (inr held) =
-    let same : held.0 ≡ copy = some_same held.0 copy (sym held.1 ∙ ap (copy_of store) (sym (key_of_file root other is)) ∙ found) in
-    sym held.2 ∙ ap (λ (c : Copy). bytes_at c.place image) same ∙ at
-
--- bytes of the length of a root, and those of its newest copy, are its file
-pub same_file : (name : List ℕ) (root : Root) (store : Store) (image bytes : List ℕ) (files : Files) → HasFile name root store image files → length bytes ≡ root.length → AreBytesOf root bytes store image
-    → finite.get files name ≡ Some bytes
-same_file name root store image bytes files file long (inl none) =
-    let same : length bytes ≡ length file.bytes = long ∙ ap (λ (r : Root). r.length) file.root_is in
-    file.filed ∙ ap Some (no_bytes file.bytes (sym same ∙ ap length none) ∙ sym none)
-same_file name root store image bytes files file long (inr at) = file.filed ∙ ap Some (copied root store image bytes file.bytes at.0 file.root_is long at.1 at.2 file.copy)

@@ -5,7 +5,6 @@ use Rattle.std.specs.FinMap as finite
 use Rattle.base_model.specs.Bytes.{range, byte_at, key_of}
 use Rattle.container_meta.specs.declared.entry.Entry.{Entry}
 use Rattle.container_meta.specs.declared.kind.Kind.{Kind}
-use Rattle.container_meta.specs.declared.kind.Kind.TheVariants.{Leaf}
 use Rattle.container_meta.specs.Segments.{Segment}
 use Rattle.container_meta.specs.Format.{kind_byte}
 use Rattle.container_meta.specs.Spelling.{HeaderValue, IsHeader, header_of, header_spelling}
@@ -84,10 +83,6 @@ IsIndexOf containers places = (key : List ℕ) → finite.get places key ≡ opt
 -- the segment of the bytes of a file
 abbrev pub leaf_segment : List ℕ → Segment
 leaf_segment bytes = record { level = 0; bytes = bytes }
-
--- the header of a container of one segment of a file
-abbrev pub one_segment : ℕ → List ℕ → HeaderValue
-one_segment id bytes = header_of id Leaf (leaf_segment bytes ∷ [])
 
 -- the greatest id, 0 where there is no container
 abbrev pub last_id : List (Option HeaderValue) → ℕ

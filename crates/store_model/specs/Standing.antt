@@ -12,8 +12,8 @@ use Rattle.namespace.specs.declared.record.Named.{Named}
 use Rattle.namespace.specs.Names.{NameMap}
 use Rattle.segmenter.specs.Segments.{segments_of}
 use Rattle.store_model.specs.Commands.{HasNoCollisions}
-use Rattle.store_model.specs.Files.{Files}
-use Rattle.store_model.specs.Image.{Store, Encodes, AreCopies, names_of, last_sequence}
+use Rattle.store_model.specs.Files.{Files, no_files}
+use Rattle.store_model.specs.Image.{Store, Encodes, AreCopies, empty_store, names_of, last_sequence}
 use Rattle.store_model.specs.Journal.{ClosedFrom}
 use Rattle.store_model.specs.Slots.{free_slots}
 use Rattle.store_model.specs.Trees.{root_of, file_tree, HoldsTree, IsNodeOf}
@@ -60,6 +60,10 @@ pub record StandsFor (files : Files) (last : ℕ) (image : List ℕ) : Type 0 wh
   pub store : Store
   pub holds : IsStoreOf store files image
   pub last_is : last ≡ last_sequence store
+
+-- the image is an empty store, as `format` makes it
+abbrev pub IsFormatted : ℕ → List ℕ → Type 0
+IsFormatted slots image = IsStoreOf (empty_store slots) no_files image
 
 -- ---- collisions
 

@@ -1,5 +1,5 @@
 -- Which containers of a store the tables in memory represent.
-use Rattle.std.specs.Prelude.{◌≡◌, ℕ, ◌<◌, List, length, map, Bool, true, nat_lt, get_or, slice_get, find, option_map, Option, Some, None}
+use Rattle.std.specs.Prelude.{◌≡◌, ℕ, List, length, map, Bool, true, nat_lt, get_or, find, option_map, Option, Some, None}
 use Rattle.std.specs.FinMap as finite
 use Rattle.std.specs.Str.{bytes_eq}
 use Rattle.base_model.specs.Bytes.{key_of}
@@ -9,7 +9,7 @@ use Rattle.container_meta.specs.declared.place.Place.{Place}
 use Rattle.container_meta.specs.Format.{kind_byte}
 use Rattle.container_meta.specs.Places.{PlaceMap}
 use Rattle.container_meta.specs.Spelling.{HeaderValue}
-use Rattle.store_model.specs.Slots.{Copy, place_of, newer, newest, IsIndexOf, ids_of, last_id, first_free}
+use Rattle.store_model.specs.Slots.{Copy, place_of, newer, newest, IsIndexOf, ids_of, last_id}
 use Rattle.store_state.specs.declared.containers.Containers.{Containers}
 use Rattle.store_state.specs.Tables.{count_of}
 
@@ -19,12 +19,6 @@ pub record RepresentsContainers (held : List (Option HeaderValue)) (tables : Con
   pub ids : tables.ids.items ≡ ids_of held
   pub counts : tables.counts.items ≡ map count_of held
   pub last : tables.last_id ≡ last_id held
-
--- the closed slot of least number
-pub record IsFirstFree (slot : ℕ) (held : List (Option HeaderValue)) : Type 0 where
-  pub first : slot ≡ first_free held
-  pub within : slot < length held
-  pub closed : slice_get held slot ≡ Some None
 
 -- the copy of a key among the first entries of a container
 abbrev pub copy_from : ℕ → ℕ → Kind → List Entry → List ℕ → Option Copy

@@ -1,7 +1,7 @@
 -- Which store the tables in memory represent (docs/MODEL.md, 'The opened store').
-use Rattle.std.specs.Prelude.{◌≡◌, ℕ}
+use Rattle.std.specs.Prelude.{◌≡◌}
 use Rattle.journal_cells.specs.Journal.{IsTold}
-use Rattle.store_model.specs.Image.{Store, IsValidFor}
+use Rattle.store_model.specs.Image.{Store}
 use Rattle.store_state.specs.declared.open_store.OpenStore.{OpenStore}
 use Rattle.store_state.specs.Containers.{RepresentsContainers}
 
@@ -14,7 +14,3 @@ pub record Represents (store : Store) (o : OpenStore) : Type 0 where
   pub slots_are : o.slots ≡ store.slots
   pub journal : RepresentsNames store o
   pub containers : RepresentsContainers store.held o.containers
-
--- the tables are those of some store that a disk of this size may hold
-abbrev pub RepresentsSome : ℕ → OpenStore → Type 0
-RepresentsSome size o = (store : Store) × Represents store o × IsValidFor size store

@@ -1,12 +1,12 @@
 -- Which store the tables of a running store represent (docs/MODEL.md, 'The running store').
-use Rattle.std.specs.Prelude.{◌≡◌, ℕ, ◌≤◌, List, length, map, Option, Some, None}
+use Rattle.std.specs.Prelude.{◌≡◌, ℕ, ◌<◌, ◌≤◌, List, length, map, slice_get, Option, Some, None}
 use Rattle.disk_format.specs.declared.numbers.TheConstants.{RESERVE}
 use Rattle.container_meta.specs.Places.{PlaceMap}
 use Rattle.container_meta.specs.Spelling.{HeaderValue}
 use Rattle.journal_cells.specs.Journal.{IsTold}
 use Rattle.segment_index.specs.Places.{KnownMap}
 use Rattle.store_model.specs.Image.{Store, IsValidFor}
-use Rattle.store_model.specs.Slots.{IsIndexOf, free_slots, ids_of, last_id}
+use Rattle.store_model.specs.Slots.{IsIndexOf, free_slots, first_free, ids_of, last_id}
 use Rattle.store_state.specs.declared.slot_table.SlotCount.{SlotCount}
 use Rattle.store_state.specs.declared.slot_table.SlotTable.{SlotTable}
 use Rattle.store_state.specs.declared.tables.Tables.{Tables}
@@ -21,6 +21,12 @@ pub record RepresentsSlots (held : List (Option HeaderValue)) (table : SlotTable
   pub ids_are : table.ids.items ≡ ids_of held
   pub counts_are : table.counts.items ≡ map count_of held
   pub last_id_is : last_id held ≤ table.last_id
+
+-- the closed slot of least number
+pub record IsFirstFree (slot : ℕ) (held : List (Option HeaderValue)) : Type 0 where
+  pub first : slot ≡ first_free held
+  pub within : slot < length held
+  pub closed : slice_get held slot ≡ Some None
 
 -- the journal and the names are those of the store
 abbrev pub RepresentsNames : Store → Tables → Type 0

@@ -28,8 +28,9 @@ use refusals::{Difference, Refusal};
 use segment_index::Index;
 use std::alloc::Global;
 
-// Reads a copy into the first bytes of `buf`.
-fn read_copy<D: Disk>(
+/// Reads the copy at a place into the first bytes of `buf`. Refused by `DiskRead`, or by `Corrupt` where the bytes that are read
+/// have another digest.
+pub fn read_copy<D: Disk>(
     disk: &mut D,
     place: &Place,
     digest: &[u8; 32],

@@ -1,15 +1,14 @@
 //! The containers of a store in memory.
 ghost use Rattle.std.specs.Prelude.{◌≡◌, ◌∷◌, ◌++◌, [], List, Option, None, Some, length, not, false};
-ghost use Rattle.std.specs.Prelude.{count_by, position, ◌==◌, ◌≤◌, IsTrue, option_map, OnOk, IfSome};
-ghost use Rattle.std.specs.FinMap as finite;
+ghost use Rattle.std.specs.Prelude.{◌≤◌, IsTrue, option_map, OnOk, IfSome};
 ghost use Rattle.disk_format.specs.declared.numbers.TheConstants.{MOST_SLOTS as MANY};
 ghost use Rattle.container_meta.specs.Spelling.{HeaderValue, IsHeader, view, has_digest};
 ghost use Rattle.container_meta.specs.declared.entry.Entry.{Entry as EntryValue};
 ghost use Rattle.store_model.specs.Slots.{AreHeaders, IsUnusedId, place_of, free_slots};
-ghost use Rattle.store_state.specs.Containers.{RepresentsContainers, IsFirstFree, ArePart, is_newer};
+ghost use Rattle.store_state.specs.Containers.{RepresentsContainers, ArePart, is_newer};
 ghost use Rattle.store_state.specs.Tables.{count_of};
 
-use crate::slot_table::SlotCount;
+use crate::slot_table::{SlotCount, zeros_in};
 use container_meta::{Entry, Key, Kind, Meta, Place, key_of};
 use segment_index::StoreIndex;
 use std::alloc::{AllocError, Global};
@@ -49,21 +48,6 @@ fn count_in(meta: &Meta) -> SlotCount
     }
 }
 
-// How many ids are 0.
-fn zeros_in(ids: &[u64]) -> u32
-    requires { length ids.now ≤ MANY }
-    ensures { result ≡ count_by (λ id. id == 0) ids.now }
-{
-    ids.iter().filter(|id| **id == 0).count() as u32
-}
-
-// The place of the first id that is 0.
-fn first_zero(ids: &[u64]) -> Option<usize>
-    ensures { result ≡ position (λ id. id == 0) ids.now }
-{
-    ids.iter().position(|id| *id == 0)
-}
-
 impl Containers {
     /// No slot.
     pub fn new(alloc: Global) -> Containers
@@ -94,7 +78,7 @@ impl Containers {
     fn is_newer(&self, key: &Key, id: u64) -> bool
         ensures { result ≡ is_newer self.now.index self.now.ids.items key.now id }
     {
-        match self.place_of(key) {
+        match self.index.find(key) {
             Some(place) => {
                 let known = self.ids.get(place.slot as usize).copied().unwrap_or(0);
                 known < id
@@ -141,13 +125,6 @@ impl Containers {
         Ok(())
     }
 
-    /// The place of a key's newest copy, if a container has one.
-    pub fn place_of(&self, key: &Key) -> Option<Place>
-        ensures { result ≡ finite.get self.now.index key.now }
-    {
-        self.index.find(key)
-    }
-
     /// Whether no container has this id, which isn't 0.
     pub fn is_unused_id(&self, id: u64) -> bool
         requires { 1 ≤ id }
@@ -166,18 +143,6 @@ impl Containers {
             → result ≡ free_slots held }
     {
         zeros_in(&self.ids)
-    }
-
-    /// The closed slot of least number, if there is one.
-    pub fn first_free(&self) -> Option<u32>
-        requires { length self.now.ids.items ≤ MANY }
-        ensures some { IfSome result (λ slot. (held : List (Option HeaderValue)) → RepresentsContainers held self.now
-            → AreHeaders held → IsFirstFree slot held) }
-        ensures none { result ≡ None → (held : List (Option HeaderValue)) → RepresentsContainers held self.now
-            → AreHeaders held → free_slots held ≡ 0 }
-    {
-        let slot = first_zero(&self.ids)?;
-        Some(slot as u32)
     }
 
     /// Takes what the next slot holds; `slot` is its number.

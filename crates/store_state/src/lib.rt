@@ -9,7 +9,7 @@ mod open_store;
 mod slot_table;
 mod tables;
 
-pub use comparing::{compare_all, compare_one, read_same};
+pub use comparing::{compare_all, compare_one, read_copy, read_same};
 pub use containers::Containers;
 pub use indexing::{find, put_entries};
 pub use laws::an_index_has_room;

@@ -31,6 +31,8 @@ impl OpenStore {
         // So where two slots or more are free, that store can run.
         ensures runs { (size : ℕ) (store : Store) → Represents store self → IsValidFor size store
             → RESERVE ≤ free_slots store.held → running.Runs size (Some result.1) result.0 }
+        // The last id is that of the store.
+        ensures ids { result.0.held.last_id ≡ self.containers.last_id }
         // Of the index the map is known, whatever the disk tells, and it serves the disk of that store.
         ensures known { (content : Option (List ℕ)) → ⟦<StoreIndex as Index>⟧.places result.1 content ≡ Some result.1 }
         ensures serves { (size : ℕ) (store : Store) → Represents store self → IsValidFor size store

@@ -1,10 +1,9 @@
 //! What each slot of a running store holds, as far as steps go by it.
-ghost use Rattle.std.specs.Prelude.{◌≡◌, ◌<◌, ◌≤◌, ◌==◌, List, Option, None, length, count_by, position, IfSome};
+ghost use Rattle.std.specs.Prelude.{◌≡◌, ◌<◌, ◌≤◌, ◌==◌, List, Option, None, length, max, count_by, position, IfSome};
 ghost use Rattle.disk_format.specs.declared.numbers.TheConstants.{MOST_SLOTS as MANY};
 ghost use Rattle.container_meta.specs.Spelling.{HeaderValue};
 ghost use Rattle.store_model.specs.Slots.{AreHeaders, free_slots, ids_of, with_slot};
-ghost use Rattle.store_state.specs.Containers.{IsFirstFree};
-ghost use Rattle.store_state.specs.Tables.{RepresentsSlots};
+ghost use Rattle.store_state.specs.Tables.{RepresentsSlots, IsFirstFree};
 
 /// How much the container in a slot holds: nothing, where the slot is closed.
 #[derive(Clone, Copy)]
@@ -27,7 +26,7 @@ pub struct SlotTable {
 }
 
 // How many ids are 0.
-fn zeros_in(ids: &[u64]) -> u32
+pub(crate) fn zeros_in(ids: &[u64]) -> u32
     requires { length ids.now ≤ MANY }
     ensures { result ≡ count_by (λ id. id == 0) ids.now }
 {
@@ -67,9 +66,10 @@ impl SlotTable {
     pub fn take_container(&mut self, slot: u32, id: u64, entries: u32, bytes: u32)
         requires slot { slot < length self.old.ids.items }
         requires counts { length self.old.counts.items ≡ length self.old.ids.items }
-        ensures { (held : List (Option HeaderValue)) (h : HeaderValue) → h.id ≡ id → length h.entries ≡ entries
+        ensures holds { (held : List (Option HeaderValue)) (h : HeaderValue) → h.id ≡ id → length h.entries ≡ entries
             → h.data_length ≡ bytes
             → RepresentsSlots held self.old → RepresentsSlots (with_slot slot h held) self.new }
+        ensures last { self.new.last_id ≡ max self.old.last_id id }
     {
         self.ids[slot as usize] = id;
         self.counts[slot as usize] = SlotCount { entries, bytes };

@@ -5,9 +5,17 @@ use Rattle.refusals.specs.declared.refusal.Refusal.{Refusal}
 use Rattle.refusals.specs.declared.refusal.Refusal.TheVariants.{Memory}
 use Rattle.backup_engine.specs.Putting.{Holds}
 use Rattle.backup_engine.proofs.Holding.{by_error, as_first, hold_unclaimed, hold_held, hold_no_memory, hold_unsealed, hold_sealed}
+use Rattle.backup_engine.proofs.PutRuns.{nothing_put}
 use Rattle.backup_engine.proofs.PutSteps.{leaf_seg, leaf_container, filled_is}
 use Rattle.backup_engine.proofs.putting.hold.Goals as goal
 use Rattle.backup_engine.proofs.putting.hold.Goals.{in-Absent+in_ok-filled+in_ok-make_step-2, in_default}
+
+pub returns-in_err-seg-clause-holds : goal.returns-in_err-seg-clause-holds
+returns-in_err-seg-clause-holds g c = λ name.
+    let state = g.C.HasState.state in
+    let core = c.args.core.now in
+    let bytes = c.args.bytes.now in
+    by_error (λ (r : Result Unit Refusal). Holds _ state name bytes r core core) c.from_residual.result Memory c.from_residual.ensures.1 (nothing_put _ state name bytes core, tt)
 
 pub returns-in_err-make_step-clause-holds : goal.returns-in_err-make_step-clause-holds
 returns-in_err-make_step-clause-holds g c = λ name.

@@ -13,6 +13,9 @@ use Rattle.segment_index.specs.Changes.{SameBefore}
 use Rattle.ingest_steps.proofs.SealedTables.{length-of_entries, place_on_disk, slots_on_disk, steps_refused, steps_on, seals_refused, seals_on, steps_broken, map_on, no_content}
 use Rattle.ingest_steps.proofs.sealing.seal_indexed.Goals as goal
 
+pub returns-clause-ok : goal.returns-clause-ok
+returns-clause-ok g c = c.take_sealed.ensures _ _ c.requires.state
+
 pub put_entries-requires-clause-slot : goal.put_entries-requires-clause-slot
 put_entries-requires-clause-slot g c =
     let old = g.D.Disk.view c.args.disk.now in

@@ -18,5 +18,6 @@ take_container-requires-clause-counts c = counts_many c.requires.state.0 c.requi
 pub returns : goal.returns
 returns c = λ size known runs.
     let filled = c.args.filled.now in
-    has_sealed c.args.tables.now _ c.args.slot c.args.id filled c.requires.slot c.requires.id c.requires.right refl refl refl
-    (λ held. c.take_container.ensures held (header_of c.args.id filled.kind filled.segments) refl (length-of_entries 0 filled.segments ∙ sym c.len.ensures) (sym c.requires.bytes)) size known runs
+    has_sealed c.args.tables.now _ c.args.slot c.args.id filled c.requires.slot c.requires.id c.requires.right
+    (omega (arith, c.take_container.ensures.last, c.requires.id)) refl refl refl
+    (λ held. c.take_container.ensures.holds held (header_of c.args.id filled.kind filled.segments) refl (length-of_entries 0 filled.segments ∙ sym c.len.ensures) (sym c.requires.bytes)) size known runs

@@ -11,6 +11,7 @@ returns-clause-opened g c =
     new_core (Shows (view c.args.disk) (view c.open.new.disk)) (view c.args.disk).size c.in-Ok.found _ c.in-Ok.ensures.opened same
     c.into_running-tables.ensures.represents
     (λ store represents valid. subst (λ (n : ℕ). HasPlaces n c.into_running-tables.result.1) (sym same) (c.into_running-tables.ensures.serves (view c.args.disk).size store represents valid))
+    c.into_running-tables.ensures.ids
     (_, c.into_running-tables.ensures.known (view c.open.new.disk).content)
     c.in-Ok-new.ensures refl refl
 

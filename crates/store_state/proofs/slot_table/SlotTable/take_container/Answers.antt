@@ -5,8 +5,8 @@ use Rattle.store_state.specs.Tables.{count_of}
 use Rattle.store_state.proofs.Taken.{ids_with, counts_with, last_with, same_count}
 use Rattle.store_state.proofs.slot_table.SlotTable.take_container.Goals as goal
 
-pub returns : goal.returns
-returns c = λ held h id_is entries_is bytes_is before.
+pub returns-clause-holds : goal.returns-clause-holds
+returns-clause-holds c = λ held h id_is entries_is bytes_is before.
     let slot = c.args.slot in
     record {
       ids_are = ap (λ (l : List ℕ). set l slot c.args.id) before.ids_are ∙ ap (set (ids_of held) slot) (sym id_is) ∙ sym (ids_with slot h held);

@@ -1,0 +1,186 @@
+-- What `format` keeps: all of a disk that has a store. Of one that has none it says itself what it leaves.
+use Rattle.std.proofs.Common.{◌≡◌, ◌≢◌, ◌⊎◌, inl, inr, ℕ, ◌==◌, Bool, true, false, List, [], Option, Some, None, refl, sym, ◌∙◌, ap, subst, arith}
+use Rattle.std.proofs.lemmas.Bool.{eqb-true, eqb-false}
+use Rattle.base_model.specs.Bytes.{byte_at, range}
+use Rattle.base_model.specs.Known.{Known, KnownWith}
+use Rattle.base_model.proofs.Ranges.{byte-range}
+use Rattle.disk_format.specs.declared.numbers.TheConstants.{FORMAT_GATE}
+use Rattle.disk_format.specs.Cells.{format_cell, sealed}
+use Rattle.disk_format.specs.Layout.{IsSlotCount, size_of}
+use Rattle.dd_disk.specs.View.{DiskView, OnlyReads, CrashLeaves, IsDurable}
+use Rattle.dd_disk.specs.Ending.{Done, CountsFault, ending_of}
+use Rattle.dd_disk.specs.Ending as device
+use Rattle.dd_disk.specs.Shows.{Shows}
+use Rattle.dd_disk.specs.Moves.{Acts}
+use Rattle.dd_disk.proofs.Shows.{shown_content}
+use Rattle.base_model.specs.Fault.{Rose}
+use Rattle.dd_io.specs.Flow.{SourceView, SinkView}
+use Rattle.refusals.specs.declared.refusal.Refusal.{Refusal}
+use Rattle.refusals.specs.declared.refusal.Refusal.TheVariants.{Memory, DiskRead, DiskWrite, Clash, AlreadyStore, WrongSize}
+use Rattle.reply_text.specs.declared.ending.Ending.{Ending}
+use Rattle.reply_text.specs.declared.ending.Ending.TheVariants.{Sink, Refused}
+use Rattle.reply_text.specs.Text.{formatted_line}
+use Rattle.store_model.specs.Files.{Stored}
+use Rattle.store_model.specs.Image.{Store, Encodes}
+use Rattle.store_state.specs.Refused.{blames}
+use Rattle.recovery.specs.Formatting.{IsFormatRefusal, IsLeftByFormat, IsBlankOrFormatted}
+use Rattle.backup_engine.specs.AnyDisk.{Formats, IsCaused, EndsDurable, OnAnyDisk, disk_ending}
+use Rattle.backup_engine.specs.Frame.{KeepsRest, KeepsOthers}
+use Rattle.backup_engine.specs.Line.{Format}
+use Rattle.backup_engine.specs.PlainMap.{Refuses, room_of}
+use Rattle.backup_engine.specs.Promise.{KeepsEachMap, ClashesByData, WroteReply, SinceStart}
+use Rattle.backup_engine.specs.TopCall.{Keeps, IsLeftBlank, IsUntouched}
+use Rattle.backup_engine.proofs.Replied.{IsReplied, replied_faults}
+use Rattle.backup_engine.proofs.Reading.{reads_map, AnswersEach, since_start}
+
+gate_of_format : (slots : ℕ) → byte_at 0 (format_cell slots) ≡ FORMAT_GATE
+unfolding sealed
+gate_of_format slots = refl
+
+-- the gate of a store is open
+gate_open : (image : List ℕ) (store : Store) → Encodes image store → byte_at 0 image ≡ FORMAT_GATE
+gate_open image store right = sym (byte-range 0 0 512 image (omega arith)) ∙ ap (byte_at 0) right.format ∙ gate_of_format store.slots
+
+-- ---- refused
+
+module _ (slots : ℕ) (v w : DiskView) where
+  abbrev shown : (List ℕ → Type 0) → Type 0
+  shown = Shows v w
+
+  never_clashes : (refusal : Refusal) → IsFormatRefusal shown v.size slots refusal → ¬ (ClashesByData [] refusal)
+  never_clashes (Clash key at) wrong = absurd wrong
+  never_clashes refusal wrong = λ is. is
+
+  -- of a disk that has a store it is one of the map's
+  module _ (old : List ℕ) (known : v.content ≡ Some old) (m : Stored) (store : Store) (right : Encodes old store) where
+    same_size : v.size ≡ size_of store.slots
+    same_size = sym (v.sized old known) ∙ right.size
+
+    refuses : (refusal : Refusal) → IsFormatRefusal shown v.size slots refusal → Refuses (Format slots) [] (room_of (Format slots) m store) refusal
+    refuses Memory wrong = tt
+    refuses DiskRead wrong = tt
+    refuses DiskWrite wrong = absurd (shown_content v w _ old wrong.1 known (gate_open old store right))
+    refuses AlreadyStore wrong = sym same_size ∙ wrong.0
+    refuses (WrongSize want got) wrong = (wrong.0, wrong.1 ∙ same_size, wrong.2)
+    refuses refusal wrong = absurd wrong
+
+  -- that is never a write that failed
+  reads_over : (refusal : Refusal) → IsFormatRefusal shown v.size slots refusal → Acts (ending_of (blames refusal)) v w → (old : List ℕ) → v.content ≡ Some old → (store : Store) → Encodes old store
+      → OnlyReads v w
+  reads_over DiskWrite wrong acts old known store right = absurd (shown_content v w _ old wrong.1 known (gate_open old store right))
+  reads_over DiskRead wrong acts old known store right = acts.ends
+  reads_over refusal wrong acts old known store right = acts.ends
+
+  refused_by : (refusal : Refusal) (sink : SinkView) → IsFormatRefusal shown v.size slots refusal → OnlyReads v w
+      → AnswersEach (Format slots) [] (Some (Refused refusal)) v w sink sink
+  refused_by refusal sink wrong reads old known among m distinct right is = record {
+    by_map = ((is.0, (old, reads.content_is ∙ known, is.1.0.holds), refuses old known m is.0 is.1.0.holds.right refusal wrong), never_clashes refusal wrong);
+    wrote = refl;
+  }
+
+  -- ---- a disk with a store, and one without
+
+  abbrev ReadsAStore : Type 0
+  ReadsAStore = Known v.content (λ image. byte_at 0 image ≡ FORMAT_GATE → OnlyReads v w)
+
+  one_content : OnlyReads v w → (old now : List ℕ) → v.content ≡ Some old → w.content ≡ Some now → now ≡ old
+  one_content reads old now known told = let same : Some now ≡ Some old = sym told ∙ reads.content_is ∙ known in cc
+
+  by_gate : (ending : Option Ending) → ReadsAStore → (old : List ℕ) → v.content ≡ Some old → (c : List ℕ) → SinceStart v w c → (stands : Bool) → byte_at 0 old == FORMAT_GATE ≡ stands
+      → v.images c ⊎ KeepsRest (Format slots) ending old c
+  by_gate ending store old known c since true is = inl (since_start v w (store old known (eqb-true (byte_at 0 old) FORMAT_GATE is)) c since)
+  by_gate ending store old known c since false is = inr (λ gate. absurd (eqb-false (byte_at 0 old) FORMAT_GATE is gate))
+
+  frame : (ending : Option Ending) → ReadsAStore → Known v.content (λ image. KnownWith w.content (IsLeftByFormat slots image)) → KeepsOthers (Format slots) ending v w
+  frame ending store left = record {
+    content = λ old known.
+        let there = left old known in
+        (there.0, there.1, λ gate. one_content (store old known gate) old there.0 known there.1);
+    crash = λ old known c since. by_gate ending store old known c since (byte_at 0 old == FORMAT_GATE) refl;
+  }
+
+  abbrev IsLeft : Type 0
+  IsLeft = Known v.content (λ image. KnownWith w.content (IsLeftByFormat slots image))
+
+  abbrev Crashes : Type 0
+  Crashes = Known v.content (λ _. CrashLeaves (λ c. v.images c ⊎ IsBlankOrFormatted slots c) v w)
+
+  since_blank : CrashLeaves (λ c. v.images c ⊎ IsBlankOrFormatted slots c) v w → (c : List ℕ) → SinceStart v w c → v.images c ⊎ IsBlankOrFormatted slots c
+  since_blank leaves c (inl now) = leaves.now c now
+  since_blank leaves c (inr since) =
+      elim (leaves.since v.clock c (omega arith) since.1) [ inl earlier ↦ inl (v.only_now c since.0 earlier) | inr here ↦ here ]
+
+  blank : IsLeft → Crashes → IsLeftBlank (Format slots) v w
+  blank left crash old known = (left old known, since_blank (crash old known))
+
+  untouched : (refusal : Refusal) → Acts (ending_of (blames refusal)) v w → IsUntouched (Format slots) (Some (Refused refusal)) v w
+  untouched DiskWrite acts = tt
+  untouched DiskRead acts = (acts.ends.content_is, λ old known. acts.ends.images_are)
+  untouched refusal acts = (acts.ends.content_is, λ old known. acts.ends.images_are)
+
+  -- ---- all of it
+
+  caused : (refusal : Refusal) (source : SourceView) (sink : SinkView) → IsFormatRefusal shown v.size slots refusal → IsCaused (Format slots) [] v w source source sink sink (Some (Refused refusal))
+  caused Memory source sink wrong = tt
+  caused refusal source sink wrong = wrong
+
+  done_caused : (ending : Option Ending) (source : SourceView) (sink sink_now : SinkView) → IsReplied ending sink sink_now → Formats slots v w
+      → IsCaused (Format slots) [] v w source source sink sink_now ending
+  done_caused None source sink sink_now replied formats = formats
+  done_caused (Some Sink) source sink sink_now replied formats = (formats, replied)
+  done_caused (Some ending) source sink sink_now replied formats = absurd replied
+
+  done_faults : (ending : Option Ending) (sink sink_now : SinkView) → IsReplied ending sink sink_now → Acts Done v w → CountsFault (disk_ending ending) v.faults w.faults
+  done_faults None sink sink_now replied acts = acts.faults_are
+  done_faults (Some Sink) sink sink_now replied acts = acts.faults_are
+  done_faults (Some ending) sink sink_now replied acts = absurd replied
+
+  done_durable : (ending : Option Ending) (sink sink_now : SinkView) → IsReplied ending sink sink_now → IsDurable w → EndsDurable (Format slots) ending w
+  done_durable None sink sink_now replied durable = durable
+  done_durable (Some Sink) sink sink_now replied durable = durable
+  done_durable (Some ending) sink sink_now replied durable = absurd replied
+
+  done_untouched : (ending : Option Ending) (sink sink_now : SinkView) → IsReplied ending sink sink_now → IsUntouched (Format slots) ending v w
+  done_untouched None sink sink_now replied = tt
+  done_untouched (Some Sink) sink sink_now replied = tt
+  done_untouched (Some ending) sink sink_now replied = absurd replied
+
+  module _ (acts_left : IsLeft) (crash : Crashes) (store : ReadsAStore) (source : SourceView) where
+    pub refused_keeps : (refusal : Refusal) (sink : SinkView) → IsFormatRefusal shown v.size slots refusal → Acts (ending_of (blames refusal)) v w
+        → Keeps (Format slots) [] (Some (Refused refusal)) v w source source sink sink
+    refused_keeps refusal sink wrong acts = record {
+      map = λ old known among m distinct right is.
+          reads_map (Format slots) [] (Refused refusal) v w sink sink (reads_over refusal wrong acts old known is.0 is.1.0.holds.right) (λ sink_is. cc)
+          (refused_by refusal sink wrong (reads_over refusal wrong acts old known is.0 is.1.0.holds.right)) old known among m distinct right is;
+      any = record {
+        took = (refl, refl);
+        caused = caused refusal source sink wrong;
+        wrote = refl;
+        faults_are = acts.faults_are;
+        durable = tt;
+        source_faults = λ other. refl;
+        sink_faults = λ other. refl;
+      };
+      frame = frame (Some (Refused refusal)) store acts_left;
+      blank = blank acts_left crash;
+      untouched = untouched refusal acts;
+    }
+
+    -- it was done, and its reply was written, or not
+    pub done_keeps : (ending : Option Ending) (sink sink_now : SinkView) → IsReplied ending sink sink_now → Formats slots v w → IsDurable w → Acts Done v w → WroteReply (formatted_line slots) ending sink sink_now
+        → Keeps (Format slots) [] ending v w source source sink sink_now
+    done_keeps ending sink sink_now replied formats durable acts wrote = record {
+      map = λ old known among m distinct right is. absurd (shown_content v w _ old formats.closed known (gate_open old is.0 is.1.0.holds.right));
+      any = record {
+        took = (refl, refl);
+        caused = done_caused ending source sink sink_now replied formats;
+        wrote = wrote;
+        faults_are = done_faults ending sink sink_now replied acts;
+        durable = done_durable ending sink sink_now replied durable;
+        source_faults = λ other. refl;
+        sink_faults = replied_faults ending sink sink_now replied;
+      };
+      frame = frame ending store acts_left;
+      blank = blank acts_left crash;
+      untouched = done_untouched ending sink sink_now replied;
+    }

@@ -1,0 +1,196 @@
+-- Over a disk that stands for a map an `ingest` keeps the map.
+use Rattle.std.proofs.Common.{◌≡◌, ◌⊎◌, inl, inr, ℕ, ◌-◌, ◌^◌, ◌<◌, ◌≤◌, List, length, Option, Some, None, Result, Ok, Err, refl, sym, ◌∙◌, subst, arith}
+use Rattle.store_model.specs.Files.{Stored}
+use Rattle.base_model.specs.Known.{KnownWith}
+use Rattle.disk_format.specs.Cells.{IsName}
+use Rattle.disk_format.specs.declared.numbers.TheConstants.{RESERVE}
+use Rattle.dd_disk.specs.View.{DiskView, CrashLeaves}
+use Rattle.dd_disk.proofs.Moves.{stands_content}
+use Rattle.dd_io.specs.Flow.{SinkView}
+use Rattle.refusals.specs.declared.refusal.Refusal.{Refusal}
+use Rattle.refusals.specs.declared.refusal.Refusal.TheVariants.{Memory, DiskRead, DiskWrite}
+use Rattle.reply_text.specs.declared.ending.Ending.{Ending}
+use Rattle.reply_text.specs.declared.ending.Ending.TheVariants.{Sink, Refused}
+use Rattle.reply_text.specs.Text.{stored_line}
+use Rattle.store_model.specs.Commands.{HasNoCollisions}
+use Rattle.store_model.specs.Image.{Store, IsValidFor}
+use Rattle.store_model.specs.Slots.{free_slots}
+use Rattle.store_model.specs.Standing.{ByteSet, IsIn, IsStoreOf, IsSegmentOf}
+use Rattle.store_model.specs.Standing as standing
+use Rattle.store_model.specs.Trees.{root_of}
+use Rattle.store_state.specs.Tables.{Represents}
+use Rattle.store_core.specs.Runs.{FileRun, IsAt, IsOf, IsOnTheWay, Reaches, stored_after}
+use Rattle.store_core.specs.State.{CoreState}
+use Rattle.store_core.proofs.Crashes.{last_at, leaves, ends_with_all}
+use Rattle.store_core.proofs.KeepingFiles.{keeps_files}
+use Rattle.backup_engine.specs.Line.{Ingest}
+use Rattle.backup_engine.specs.PlainMap.{most_bytes, Room, room_of, room_in, Refuses, RefusesIngest}
+use Rattle.backup_engine.specs.Promise.{ClashesByData, KeepsMap, KeepsEachMap, IsRefusedBy, IsLeftWith, IsLeftAs, EndsBy, WroteReply, SinceStart, MayBeMeanwhile}
+use Rattle.backup_engine.specs.Running.{PutRun, IsPutRefusal}
+use Rattle.backup_engine.proofs.Called.{Called, Starts, starts}
+use Rattle.backup_engine.proofs.PutEnds.{Left, LeftMeanwhile, meanwhile, maps_after, left_at_end, left_on_the_way}
+use Rattle.backup_engine.proofs.RightPuts.{file_run}
+use Rattle.backup_engine.proofs.PutStops.{RunsOn, refused_on, done_name, run_later}
+use Rattle.backup_engine.proofs.SameRoom.{same_room}
+
+-- ---- refusals
+
+abbrev IsWrite : Refusal → Type 0
+IsWrite DiskWrite = Unit {0}
+IsWrite refusal = ⊥
+
+-- a write failed, or not
+by_write : (refusal : Refusal) → (refusal ≡ DiskWrite) ⊎ ¬ (refusal ≡ DiskWrite)
+by_write DiskWrite = inl refl
+by_write refusal = inr (λ is. subst IsWrite (sym is) tt)
+
+-- what the store of a map refuses the map refuses
+refuses_by : (name given : List ℕ) (m : Stored) (t : Store) (c : CoreState) (refusal : Refusal) → Represents t c.known c.tables → room_in (Ingest name) t ≡ room_of (Ingest name) m t → IsValidFor c.disk.size t → RESERVE ≤ free_slots t.held → IsPutRefusal name given c refusal
+    → Refuses (Ingest name) given (room_of (Ingest name) m t) refusal
+refuses_by name given m t c Memory represents same valid reserve is = tt
+refuses_by name given m t c DiskRead represents same valid reserve is = tt
+refuses_by name given m t c DiskWrite represents same valid reserve is = tt
+refuses_by name given m t c refusal represents same valid reserve is = subst (λ (room : Room). RefusesIngest name given room refusal) same (is.store_has t represents valid reserve)
+
+-- after a write that failed either map may be
+refused_left : (name given : List ℕ) (m : Stored) (content : Option (List ℕ)) (refusal : Refusal) → IsLeftWith m content (λ store. Refuses (Ingest name) given (room_of (Ingest name) m store) refusal) → IsRefusedBy (Ingest name) given m content refusal
+refused_left name given m content DiskWrite left = tt
+refused_left name given m content refusal left = left
+
+-- ---- a run over a map
+
+module _ (C : Type 0) (state : C → CoreState) (v w : DiskView) (old new : C) (was : Called C state v w old new) (name given : List ℕ) (few : length given ≤ most_bytes) (put : Result Unit Refusal) (ran : PutRun C state name given put old new)
+    (among : ByteSet) (m : Stored) (image : List ℕ) (told : v.content ≡ Some image) (distinct : HasNoCollisions (IsIn among)) (all : (segment : List ℕ) → IsSegmentOf given segment → IsIn among segment)
+    (is : IsOf (IsIn among) m image) where
+  abbrev S : List ℕ → Type 0
+  S = IsIn among
+
+  abbrev start : Starts S m image (state old)
+  start = starts C state v w old new was S m image told is
+
+  run : FileRun C state S ran.steps old new
+  run = file_run among name given distinct all few C state ran.steps old new (λ runs. record { store = start.store; stored = m; is_at = start.is_at }) ran.ran ran.each
+
+  crashes : CrashLeaves (IsOnTheWay S ran.steps m) (state old).disk (state new).disk
+  crashes = leaves C state among distinct ran.steps start.store m old new start.is_at run
+
+  -- at the end
+  image_left : (c : List ℕ) → (state new).disk.images c → Left S name given m put c
+  image_left c there = left_at_end S name given m ran.steps put c ran.each ran.ends (ends_with_all C state among ran.steps start.store m old new distinct start.is_at run c there)
+
+  images_left : (c : List ℕ) → w.images c → Left S name given m put c
+  images_left c there = image_left c (was.last.only.images_are c there)
+
+  content_left : KnownWith w.content (Left S name given m put)
+  content_left =
+      let now = (run_later C state among name given distinct ran.steps old new run).tells image start.told in
+      let here : w.content ≡ Some now.0 = was.last.only.content_is ∙ now.1 in
+      (now.0, here, images_left now.0 (w.as_read now.0 here))
+
+  -- at any moment
+  left_since : (c : List ℕ) → v.clock < 2 ^ 64 - 1 → (state new).disk.images_since v.clock c → v.images c ⊎ LeftMeanwhile S name given m put c
+  left_since c below since =
+      elim (crashes.since v.clock c was.first.only.later.clock_is since) [
+        | inr on ↦ inr (left_on_the_way S name given m ran.steps put c ran.each ran.ends on)
+        | inl before ↦ elim (was.first.only.since_are v.clock c (omega arith) before) [
+          | inl first ↦ inl (v.only_now c below first)
+          | inr there ↦ inl there
+        ]
+      ]
+
+  left_meanwhile : (c : List ℕ) → SinceStart v w c → v.images c ⊎ LeftMeanwhile S name given m put c
+  left_meanwhile c (inl there) = inr (meanwhile S name given m put c (images_left c there))
+  left_meanwhile c (inr since) =
+      let within : v.clock ≤ (state new).disk.clock = omega (arith, was.first.only.later.clock_is, (run_later C state among name given distinct ran.steps old new run).clock_is) in
+      elim (was.last.only.since_are v.clock c within since.1) [
+        | inl before ↦ left_since c since.0 before
+        | inr there ↦ inr (meanwhile S name given m put c (image_left c there))
+      ]
+
+  -- A command that ended so, and left what the put left.
+  keeps : (ending : Option Ending) (sink sink_now : SinkView) → EndsBy (Ingest name) given m w.content ending → WroteReply (stored_line name (root_of given)) ending sink sink_now
+      → ((c : List ℕ) → Left S name given m put c → IsLeftAs S (Ingest name) given m ending c) → ((c : List ℕ) → LeftMeanwhile S name given m put c → MayBeMeanwhile S (Ingest name) given m ending c)
+      → KeepsMap S (Ingest name) given ending m v w sink sink_now
+  keeps ending sink sink_now by_map wrote at_end between = record {
+    by_map = by_map;
+    wrote = wrote;
+    left = inl ((content_left.0, content_left.1, at_end content_left.0 content_left.2), λ c there. at_end c (images_left c there));
+    crash = λ c since. elim (left_meanwhile c since) [ inl first ↦ inl first | inr left ↦ inr (between c left) ];
+  }
+
+  -- where the core runs on
+  reached : (state new).stop ≡ None → Reaches S start.store (stored_after ran.steps m) ran.steps (state new)
+  reached runs = keeps_files C state among ran.steps start.store m old new distinct start.is_at run runs
+
+-- ---- a put that was refused
+
+module _ (C : Type 0) (state : C → CoreState) (v w : DiskView) (old new : C) (was : Called C state v w old new) (name given : List ℕ) (few : length given ≤ most_bytes) (refusal : Refusal) (ran : PutRun C state name given (Err refusal) old new)
+    (why : IsPutRefusal name given (state new) refusal) where
+  module _ (among : ByteSet) (m : Stored) (image : List ℕ) (told : v.content ≡ Some image) (distinct : HasNoCollisions (IsIn among)) (all : (segment : List ℕ) → IsSegmentOf given segment → IsIn among segment)
+      (is : IsOf (IsIn among) m image) where
+    abbrev first : Starts (IsIn among) m image (state old)
+    first = starts C state v w old new was (IsIn among) m image told is
+
+    -- no write failed: a store of the map is left
+    runs_on : ¬ (refusal ≡ DiskWrite) → RunsOn given refusal (state new)
+    runs_on other =
+        refused_on C state among name given distinct ran.steps refusal first.store m old new other was.opened.stop_is first.is_at
+        (run C state v w old new was name given few (Err refusal) ran among m image told distinct all is) ran.each ran.ends
+
+    at_end : ¬ (refusal ≡ DiskWrite) → (t : Store) × IsAt (IsIn among) t m (state new)
+    at_end other =
+        let end = reached C state v w old new was name given few (Err refusal) ran among m image told distinct all is (runs_on other).runs in
+        (end.store, subst (λ (stored : Stored). IsAt (IsIn among) end.store stored (state new)) (maps_after (IsIn among) name given m ran.steps (Err refusal) ran.each ran.ends) end.is_at)
+
+    by_map_left : ¬ (refusal ≡ DiskWrite) → IsLeftWith m w.content (λ store. Refuses (Ingest name) given (room_of (Ingest name) m store) refusal)
+    by_map_left other =
+        let end = at_end other in
+        let at : IsAt (IsIn among) end.0 m (state new) = end.1 in
+        let left : List ℕ = at.stands.known.0 in
+        let here = at.stands.known.1 in
+        let holds : IsStoreOf end.0 m.files left = (stands_content (standing.Stands (IsIn among) end.0 m.files) (state new).disk at.stands left here).holds in
+        let room = same_room end.0 m left holds (last_at (IsIn among) end.0 m (state new) at) name in
+        (end.0, (left, was.last.only.content_is ∙ here, holds), refuses_by name given m end.0 (state new) refusal at.represents room at.valid (at.invariant left here).reserve_holds why)
+
+    by_map : IsRefusedBy (Ingest name) given m w.content refusal × ¬ (ClashesByData given refusal)
+    by_map = elim (by_write refusal) [
+      | inl write ↦ subst (λ (r : Refusal). IsRefusedBy (Ingest name) given m w.content r × ¬ (ClashesByData given r)) (sym write) (tt, λ clash. clash)
+      | inr other ↦ (refused_left name given m w.content refusal (by_map_left other), (runs_on other).free)
+    ]
+
+    refused_keeps : (sink : SinkView) → KeepsMap (IsIn among) (Ingest name) given (Some (Refused refusal)) m v w sink sink
+    refused_keeps sink = keeps C state v w old new was name given few (Err refusal) ran among m image told distinct all is (Some (Refused refusal)) sink sink by_map refl (λ c left. left) (λ c left. left)
+
+  -- It is refused as the map has it, and leaves the map.
+  pub refused_map : (sink : SinkView) → KeepsEachMap (Ingest name) given (Some (Refused refusal)) v w sink sink
+  refused_map sink image told among m distinct all is = refused_keeps among m image told distinct all is sink
+
+-- ---- a put that was done
+
+-- the reply was written, or the sink failed
+abbrev pub IsDone : Option Ending → Type 0
+IsDone None = Unit {0}
+IsDone (Some Sink) = Unit {0}
+IsDone (Some ending) = ⊥
+
+module _ (C : Type 0) (state : C → CoreState) (v w : DiskView) (old new : C) (was : Called C state v w old new) (name given : List ℕ) (few : length given ≤ most_bytes) (u : Unit {0}) (ran : PutRun C state name given (Ok u) old new) where
+  module _ (among : ByteSet) (m : Stored) (image : List ℕ) (told : v.content ≡ Some image) (distinct : HasNoCollisions (IsIn among)) (all : (segment : List ℕ) → IsSegmentOf given segment → IsIn among segment)
+      (is : IsOf (IsIn among) m image) where
+    good_name : IsName name
+    good_name =
+        done_name C state among name given distinct ran.steps u old new was.opened.stop_is (run C state v w old new was name given few (Ok u) ran among m image told distinct all is) ran.each ran.ends
+
+    done_keeps : (ending : Option Ending) (sink sink_now : SinkView) → IsDone ending → WroteReply (stored_line name (root_of given)) ending sink sink_now → KeepsMap (IsIn among) (Ingest name) given ending m v w sink sink_now
+    done_keeps None sink sink_now done wrote = keeps C state v w old new was name given few (Ok u) ran among m image told distinct all is None sink sink_now (good_name, few) wrote (λ c left. left) (λ c left. left)
+    done_keeps (Some Sink) sink sink_now done wrote =
+        keeps C state v w old new was name given few (Ok u) ran among m image told distinct all is (Some Sink) sink sink_now (good_name, few) wrote (λ c left. left) (λ c left. left)
+    done_keeps (Some ending) sink sink_now done wrote = absurd done
+
+  is_done : (ending : Option Ending) → (ending ≡ None) ⊎ (ending ≡ Some Sink) → IsDone ending
+  is_done ending (inl done) = subst IsDone (sym done) tt
+  is_done ending (inr done) = subst IsDone (sym done) tt
+
+  -- It is done as the map has it, and leaves the map after it.
+  pub done_map : (ending : Option Ending) (sink sink_now : SinkView) → (ending ≡ None) ⊎ (ending ≡ Some Sink) → WroteReply (stored_line name (root_of given)) ending sink sink_now
+      → KeepsEachMap (Ingest name) given ending v w sink sink_now
+  done_map ending sink sink_now done wrote image told among m distinct all is = done_keeps among m image told distinct all is ending sink sink_now (is_done ending done) wrote

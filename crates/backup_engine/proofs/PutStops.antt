@@ -1,0 +1,126 @@
+-- A put that is refused for another reason than a write that failed stops no core, and one that is done has a good name.
+use Rattle.std.proofs.Common.{◌≡◌, ◌<◌, inl, inr, ℕ, List, [], ◌∷◌, length, Option, None, Result, Ok, Err, IfErr, refl, sym, ◌∙◌, subst, arith}
+use Rattle.store_model.specs.Files.{Stored}
+use Rattle.std.specs.List.{AllByRecursion}
+use Rattle.disk_format.specs.Cells.{IsName}
+use Rattle.dd_disk.specs.View.{IsLater}
+use Rattle.dd_disk.proofs.Later.{later_here, later_on}
+use Rattle.container_meta.specs.declared.kind.Kind.{Kind}
+use Rattle.container_meta.specs.declared.kind.Kind.TheVariants.{Leaf, Tree}
+use Rattle.container_meta.specs.Segments.{Segment}
+use Rattle.actor_parts.specs.declared.step.Answer.{Answer}
+use Rattle.actor_parts.specs.declared.step.Answer.TheVariants as answers
+use Rattle.actor_parts.specs.StepValue as asked
+use Rattle.actor_parts.specs.StepValue.{StepValue}
+use Rattle.refusals.specs.declared.refusal.Refusal.{Refusal}
+use Rattle.refusals.specs.declared.refusal.Refusal.TheVariants as refusals
+use Rattle.store_model.specs.Commands.{HasNoCollisions}
+use Rattle.store_model.specs.Image.{Store}
+use Rattle.store_model.specs.Standing.{ByteSet, IsIn}
+use Rattle.store_core.specs.declared.stop.Stop.{Stop}
+use Rattle.store_core.specs.Core.{CoreStep, Row, StepsOr, Steps, StopsAfter}
+use Rattle.store_core.specs.Runs.{FileEvent, FileStep, FileRun, IsAt, stored_by}
+use Rattle.store_core.specs.Sound.{MayClash, IsHarmless}
+use Rattle.store_core.specs.State.{CoreState, Event}
+use Rattle.store_core.proofs.Damage.{never_damaged}
+use Rattle.store_core.proofs.KeepingFiles.{file_step}
+use Rattle.store_core.proofs.Stepping.{step_later}
+use Rattle.backup_engine.specs.AnyDisk.{IsPieceOf}
+use Rattle.backup_engine.specs.Promise.{ClashesByData}
+use Rattle.backup_engine.specs.Running.{IsAskedFor, IsPutStep, IsLastPut, IsOk, IsDoneBefore, EndsPut}
+
+-- ---- what stops a core
+
+-- a step that was done doesn't
+ok_runs : (step : StepValue) (answer : Result Answer Refusal) (count : ℕ) (stop : Option Stop) → IsOk answer → StopsAfter step answer count stop → stop ≡ None
+ok_runs step (Ok answer) count stop ok stops = stops
+ok_runs step (Err refusal) count stop ok stops = absurd ok
+
+-- nor one that was refused, but for a write that failed, and damage
+refused_runs : (step : StepValue) (refusal : Refusal) (count : ℕ) (stop : Option Stop) (clash : Type 0) → ¬ (refusal ≡ refusals.DiskWrite) → IsHarmless clash refusal → StopsAfter step (Err refusal) count stop → stop ≡ None
+refused_runs step refusals.DiskWrite count stop clash other harmless stops = absurd (other refl)
+refused_runs step (refusals.Damaged at why) count stop clash other harmless stops = absurd harmless
+refused_runs step refusal count stop clash other harmless stops = stops
+
+-- a step of a core that runs
+step_of : (old new : CoreState) (e : Event) → old.stop ≡ None → CoreStep old e new → Steps e old new
+step_of old new e runs step = subst (λ (stop : Option Stop). StepsOr stop e old new) runs step
+
+goes_on : (old new : CoreState) (e : Event) → old.stop ≡ None → CoreStep old e new → IsDoneBefore e → new.stop ≡ None
+goes_on old new e runs step goes = ok_runs e.step e.answer old.acknowledged new.stop goes.1 (step_of old new e runs step).stops
+
+-- ---- what clashes
+
+pieces_data : (given : List ℕ) (kind : Kind) (segments : List Segment) (number : ℕ) → number < length segments → AllByRecursion (λ s. IsPieceOf given kind s) segments → kind ≡ Leaf
+pieces_data given kind [] number within each = absurd (omega (arith, within))
+pieces_data given kind (s ∷ ss) number within each = each.0.0
+
+data_no_tree : (kind : Kind) → kind ≡ Leaf → kind ≡ Tree → ⊥
+data_no_tree kind leaf tree = let both = sym leaf ∙ tree in cc
+
+-- no step of a put does
+no_twin : (name given bytes : List ℕ) (step : StepValue) → IsAskedFor name given step bytes → MayClash step → ⊥
+no_twin name given bytes (asked.Claim seg) is clash = data_no_tree seg.kind is.0 clash.0
+no_twin name given bytes (asked.Seal filled) is clash = data_no_tree filled.kind (pieces_data given filled.kind filled.segments clash.number clash.within is) clash.is_twin.0
+no_twin name given bytes step is clash = absurd clash
+
+no_data : (given : List ℕ) (refusal : Refusal) (clash : Type 0) → IsHarmless clash refusal → (clash → ⊥) → ¬ (ClashesByData given refusal)
+no_data given (refusals.Clash key at) clash harmless free is = free harmless
+no_data given refusal clash harmless free is = absurd is
+
+-- ---- a run
+
+-- the core runs on, and the refusal is no clash of data
+pub record RunsOn (given : List ℕ) (refusal : Refusal) (c : CoreState) : Type 0 where
+  pub runs : c.stop ≡ None
+  pub free : ¬ (ClashesByData given refusal)
+
+memory_runs : (given : List ℕ) (refusal : Refusal) (c : CoreState) → refusal ≡ refusals.Memory → c.stop ≡ None → RunsOn given refusal c
+memory_runs given refusal c is runs = record { runs = runs; free = λ clash. subst (ClashesByData given) is clash }
+
+module _ (C : Type 0) (state : C → CoreState) (among : ByteSet) (name given : List ℕ) (distinct : HasNoCollisions (IsIn among)) where
+  last_runs : (f : FileEvent) (refusal : Refusal) (s : Store) (m : Stored) (old new : C) → ¬ (refusal ≡ refusals.DiskWrite) → (state old).stop ≡ None → IsAt (IsIn among) s m (state old)
+      → FileStep (IsIn among) f (state old) (state new) → IsPutStep name given f → EndsPut (f ∷ []) (Err refusal) → RunsOn given refusal (state new)
+  last_runs f refusal s m old new other runs at step put (inl is) =
+      let harmless : IsHarmless (MayClash f.event.step) refusal =
+      subst (λ (answer : Result Answer Refusal). IfErr answer (λ r. IsHarmless (MayClash f.event.step) r)) is (never_damaged C state among [] f s m old old new distinct at refl step) in
+      let stops = (step_of (state old) (state new) f.event runs step.made).stops in
+      record {
+        runs = refused_runs f.event.step refusal (state old).acknowledged (state new).stop (MayClash f.event.step) other harmless
+            (subst (λ (answer : Result Answer Refusal). StopsAfter f.event.step answer (state old).acknowledged (state new).stop) is stops);
+        free = no_data given refusal (MayClash f.event.step) harmless (no_twin name given f.bytes f.event.step put.asked_for);
+      }
+  last_runs f refusal s m old new other runs at step put (inr is) = memory_runs given refusal (state new) is.1 (goes_on (state old) (state new) f.event runs step.made is.0)
+
+  -- where no write failed
+  pub refused_on : (fs : List FileEvent) (refusal : Refusal) (s : Store) (m : Stored) (old new : C) → ¬ (refusal ≡ refusals.DiskWrite) → (state old).stop ≡ None → IsAt (IsIn among) s m (state old)
+      → FileRun C state (IsIn among) fs old new → AllByRecursion (IsPutStep name given) fs → EndsPut fs (Err refusal) → RunsOn given refusal (state new)
+  refused_on [] refusal s m old new other runs at run each ends = memory_runs given refusal (state new) ends (subst (λ (c : C). (state c).stop ≡ None) (sym run) runs)
+  refused_on (f ∷ []) refusal s m old new other runs at run each ends =
+      subst (λ (c : C). RunsOn given refusal (state c)) (sym run.1.1) (last_runs f refusal s m old run.0 other runs at run.1.0 each.0 ends)
+  refused_on (f ∷ g ∷ fs) refusal s m old new other runs at run each ends =
+      let mid = goes_on (state old) (state run.0) f.event runs run.1.0.made ends.0 in
+      let next = file_step among distinct f s m (state old) (state run.0) run.1.0 at mid in
+      refused_on (g ∷ fs) refusal next.store (stored_by f m) run.0 new other mid next.is_at run.1.1 each.1 ends.1
+
+  -- ---- a put that is done
+
+  last_name : (step : StepValue) (answer : Result Answer Refusal) (actor : ℕ) (buf bytes : List ℕ) (old new : CoreState) → IsAskedFor name given step bytes → IsLastPut step answer → Row step actor answer buf old new → IsName name
+  last_name (asked.Commit n root) (Ok (answers.Committed sequence)) actor buf bytes old new is last row = subst IsName is.0 row.0.may_name.named
+  last_name (asked.Commit n root) (Ok answer) actor buf bytes old new is last row = absurd row
+  last_name (asked.Commit n root) (Err refusal) actor buf bytes old new is last row = absurd last
+  last_name step answer actor buf bytes old new is last row = absurd last
+
+  pub done_name : (fs : List FileEvent) (u : Unit {0}) (old new : C) → (state old).stop ≡ None → FileRun C state (IsIn among) fs old new → AllByRecursion (IsPutStep name given) fs → EndsPut fs (Ok u) → IsName name
+  done_name [] u old new runs run each ends = absurd ends
+  done_name (f ∷ []) u old new runs run each ends =
+      last_name f.event.step f.event.answer f.event.actor f.event.buf f.bytes (state old) (state run.0) each.0.asked_for ends (step_of (state old) (state run.0) f.event runs run.1.0.made).made.row
+  done_name (f ∷ g ∷ fs) u old new runs run each ends = done_name (g ∷ fs) u run.0 new (goes_on (state old) (state run.0) f.event runs run.1.0.made ends.0) run.1.1 each.1 ends.1
+
+  -- ---- the disk
+
+  -- it is the same disk, later
+  pub run_later : (fs : List FileEvent) (old new : C) → FileRun C state (IsIn among) fs old new → IsLater (state old).disk (state new).disk
+  run_later [] old new run = subst (λ (c : C). IsLater (state old).disk (state c).disk) (sym run) (later_here (state old).disk)
+  run_later (f ∷ fs) old new run =
+      later_on (state old).disk (state run.0).disk (state new).disk (step_later (state old) (state run.0) f.event (state old).stop run.1.0.made) (run_later fs run.0 new run.1.1)

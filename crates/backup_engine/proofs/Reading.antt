@@ -1,0 +1,104 @@
+-- What a command leaves that did no more than read.
+use Rattle.std.proofs.Common.{◌≡◌, ◌⊎◌, inl, inr, ◌<◌, ◌≤◌, ◌++◌, take, ℕ, List, [], length, IsTrue, false, true, Option, Some, None, Err, refl, sym, ◌∙◌, ap, subst, arith}
+use Rattle.std.proofs.lemmas.List.{append-nil}
+use Rattle.std.specs.FinMap as finite
+use Rattle.base_model.specs.Known.{Known, KnownWith, Appended}
+use Rattle.dd_disk.specs.View.{DiskView, OnlyReads, IsDurable}
+use Rattle.dd_io.specs.Flow.{SinkView, AppendedPart}
+use Rattle.refusals.specs.declared.refusal.Refusal.{Refusal}
+use Rattle.refusals.specs.declared.refusal.Refusal.TheVariants.{DiskWrite}
+use Rattle.reply_text.specs.declared.ending.Ending.{Ending}
+use Rattle.reply_text.specs.declared.ending.Ending.TheVariants.{Words, Source, Sink, Refused}
+use Rattle.store_model.specs.Commands.{HasNoCollisions}
+use Rattle.store_model.specs.Files.{Stored}
+use Rattle.store_model.specs.Standing.{ByteSet, IsIn, IsSegmentOf}
+use Rattle.store_core.specs.Runs.{IsOf}
+use Rattle.backup_engine.specs.Line.{CommandLine, Format, Ingest, Restore}
+use Rattle.backup_engine.specs.Promise as promise
+use Rattle.backup_engine.specs.Promise.{EndsBy, WroteFile, IsLeftAs, SinceStart, NothingWritten, KeepsMap, KeepsEachMap}
+use Rattle.backup_engine.specs.Frame.{KeepsRest, KeepsOthers}
+
+-- ---- what stays
+
+kept : (command : CommandLine) (ending : Option Ending) (old : List ℕ) → KeepsRest command ending old old
+kept (Format slots) ending old = λ gate. refl
+kept (Ingest name) ending old = inl refl
+kept (Restore name) ending old = refl
+
+-- a crash since the start leaves what one might have left before
+pub since_start : (v w : DiskView) → OnlyReads v w → (c : List ℕ) → SinceStart v w c → v.images c
+since_start v w reads c (inl now) = reads.images_are c now
+since_start v w reads c (inr before) =
+    elim (reads.since_are v.clock c (omega arith) before.1) [ inl past ↦ v.only_now c before.0 past | inr here ↦ here ]
+
+pub reads_frame : (command : CommandLine) (ending : Option Ending) (v w : DiskView) → OnlyReads v w → KeepsOthers command ending v w
+reads_frame command ending v w reads = record {
+  content = λ old known. (old, reads.content_is ∙ known, kept command ending old);
+  crash = λ old known c since. inl (since_start v w reads c since);
+}
+
+-- ---- over a map
+
+-- What the plain map says of how a command ended, and of what it wrote.
+pub record Answers (command : CommandLine) (given : List ℕ) (ending : Option Ending) (m : Stored) (content : Option (List ℕ)) (sink sink_now : SinkView) : Type 0 where
+  pub by_map : EndsBy command given m content ending
+  pub wrote : promise.Wrote command given m ending sink sink_now
+
+-- so it is of each map that the content stands for
+abbrev pub AnswersEach : CommandLine → List ℕ → Option Ending → DiskView → DiskView → SinkView → SinkView → Type 0
+AnswersEach command given ending v w sink sink_now =
+    Known v.content (λ old. (among : ByteSet) (m : Stored) → HasNoCollisions (IsIn among) → ((bytes : List ℕ) → IsSegmentOf given bytes → IsIn among bytes) → IsOf (IsIn among) m old
+    → Answers command given ending m w.content sink sink_now)
+
+-- what was not done, and only read
+pub reads_map : (command : CommandLine) (given : List ℕ) (ending : Ending) (v w : DiskView) (sink sink_now : SinkView) → OnlyReads v w → ¬ (ending ≡ Sink) → AnswersEach command given (Some ending) v w sink sink_now
+    → KeepsEachMap command given (Some ending) v w sink sink_now
+reads_map command given ending v w sink sink_now reads not answers old known among m distinct right is =
+    let answer = answers old known among m distinct right is in
+    record {
+      by_map = answer.by_map;
+      wrote = answer.wrote;
+      left = inr (record { not_done = (ending, refl, not); content = reads.content_is; images = reads.images_are });
+      crash = λ c since. inl (since_start v w reads c since);
+    }
+
+-- the map after a `restore` is what it was, however it ended
+restored : (S : List ℕ → Type 0) (name given : List ℕ) (m : Stored) (ending : Option Ending) (image : List ℕ) → IsOf S m image → IsLeftAs S (Restore name) given m ending image
+restored S name given m None image is = is
+restored S name given m (Some Sink) image is = is
+restored S name given m (Some (Refused DiskWrite)) image is = inl is
+restored S name given m (Some ending) image is = is
+
+-- A `restore` only reads; once the disk is durable, each image is its content.
+pub reads_restore : (name given : List ℕ) (ending : Option Ending) (v w : DiskView) (sink sink_now : SinkView) → OnlyReads v w → IsDurable w → AnswersEach (Restore name) given ending v w sink sink_now
+    → KeepsEachMap (Restore name) given ending v w sink sink_now
+reads_restore name given ending v w sink sink_now reads durable answers old known among m distinct right is =
+    let answer = answers old known among m distinct right is in
+    let told : w.content ≡ Some old = reads.content_is ∙ known in
+    let left : IsLeftAs (IsIn among) (Restore name) given m ending old = restored (IsIn among) name given m ending old is in
+    record {
+      by_map = answer.by_map;
+      wrote = answer.wrote;
+      left = inl ((old, told, left), λ c image. subst (λ (b : List ℕ). IsLeftAs (IsIn among) (Restore name) given m ending b) (sym (durable old told c image)) left);
+      crash = λ c since. inl (since_start v w reads c since);
+    }
+
+-- ---- nothing is written
+
+pub append_nothing : (before : Option (List ℕ)) → Appended before before []
+append_nothing before = record { is = λ old known. known ∙ ap (λ (b : List ℕ). Some b) (sym (append-nil old)) }
+
+-- a sink as it was has taken none of some bytes
+pub wrote_none : (sink : SinkView) (bytes : List ℕ) → AppendedPart sink.written sink.written bytes
+wrote_none sink bytes = record { count = 0; fits = omega arith; is = append_nothing sink.written }
+
+wrote_no_file : (file : Option (List ℕ)) (ending : Ending) (sink : SinkView) → WroteFile file (Some ending) sink sink
+wrote_no_file None ending sink = refl
+wrote_no_file (Some bytes) ending sink = wrote_none sink bytes
+
+-- A command that was not done wrote nothing.
+pub wrote_nothing : (command : CommandLine) (given : List ℕ) (m : Stored) (ending : Ending) (sink : SinkView) → ¬ (ending ≡ Sink) → promise.Wrote command given m (Some ending) sink sink
+wrote_nothing (Format slots) given m ending sink not = refl
+wrote_nothing (Ingest name) given m Sink sink not = absurd (not refl)
+wrote_nothing (Ingest name) given m ending sink not = refl
+wrote_nothing (Restore name) given m ending sink not = wrote_no_file (finite.get m.files name) ending sink

@@ -1,0 +1,34 @@
+-- What the top call promises, from what a command keeps.
+use Rattle.std.proofs.Common.{◌≡◌, refl, sym, ◌∙◌, ap, subst, ℕ, List, [], Option, Some, None, Result, Ok, Err}
+use Rattle.dd_disk.specs.View.{DiskView}
+use Rattle.dd_disk.proofs.Later.{reads_here}
+use Rattle.dd_io.specs.Flow.{SourceView, SinkView}
+use Rattle.reply_text.specs.declared.ending.Ending.{Ending}
+use Rattle.reply_text.specs.declared.ending.Ending.TheVariants.{Words}
+use Rattle.reply_text.specs.Table.{status_of}
+use Rattle.backup_engine.specs.Line.{CommandLine}
+use Rattle.backup_engine.specs.TopCall.{Keeps, Does, Promise, IsNoted, AreNoted, ending_in, status_by}
+
+-- words that are no line
+pub words_promise : (line : Option CommandLine) (status : ℕ) (v : DiskView) (source : SourceView) (sink notes notes_now : SinkView) → line ≡ None → status ≡ status_of Words → IsNoted notes notes_now Words
+    → Promise line status v v source source sink sink notes notes_now
+words_promise line status v source sink notes notes_now none is noted = record {
+  ending = Some Words;
+  given = [];
+  status_is = is;
+  noted = noted;
+  does = subst (λ (l : Option CommandLine). Does l [] (Some Words) v v source source sink sink) (sym none)
+      (record { why = refl; disk_is = record { only = reads_here v; faults_are = refl }; source_is = refl; sink_is = refl });
+}
+
+-- a line, as it ended
+pub line_promise : (line : Option CommandLine) (command : CommandLine) (status : ℕ) (ending : Option Ending) (v w : DiskView) (source source_now : SourceView) (sink sink_now notes notes_now : SinkView) → line ≡ Some command
+    → status ≡ status_by ending → AreNoted notes notes_now ending → ((given : List ℕ) × Keeps command given ending v w source source_now sink sink_now)
+    → Promise line status v w source source_now sink sink_now notes notes_now
+line_promise line command status ending v w source source_now sink sink_now notes notes_now some is noted kept = record {
+  ending = ending;
+  given = kept.0;
+  status_is = is;
+  noted = noted;
+  does = subst (λ (l : Option CommandLine). Does l kept.0 ending v w source source_now sink sink_now) (sym some) kept.1;
+}

@@ -1,0 +1,250 @@
+-- What is so of a disk that is lent is so of the lender's: the two are known by the same, but for who holds them.
+use Rattle.std.proofs.Common.{◌⊎◌, inl, inr, List, [], ◌∷◌, ℕ, Option, Some, None}
+use Rattle.sha2.specs.Sha256.{sha256}
+use Rattle.disk_format.specs.declared.why.Why.{Why}
+use Rattle.disk_format.specs.declared.why.Why.TheVariants as why
+use Rattle.dd_disk.specs.View.{DiskView}
+use Rattle.dd_disk.specs.Shows.{Shows}
+use Rattle.dd_io.specs.Flow.{SourceView, SinkView}
+use Rattle.container_meta.specs.Places.{PlaceMap}
+use Rattle.merkle_file.specs.declared.top.Top.{Top}
+use Rattle.refusals.specs.declared.refusal.Refusal.{Refusal}
+use Rattle.refusals.specs.declared.refusal.Refusal.TheVariants.{Memory, DiskRead, DiskWrite, Corrupt, Missing, Damaged, WrongSize, NotAStore, Version, Full}
+use Rattle.reply_text.specs.declared.ending.Ending.{Ending}
+use Rattle.reply_text.specs.declared.ending.Ending.TheVariants.{Words, Source, Sink, Refused}
+use Rattle.store_model.specs.Files.{Stored}
+use Rattle.store_model.specs.Refusals.{WereFound}
+use Rattle.journal_cells.specs.declared.fault.CellFault.{CellFault}
+use Rattle.recovery.specs.Opening.{IsOpenRefusal, IsSized, BreaksFormat, BreaksJournal, BreaksSlots, HasWrongSize, HasTooFew}
+use Rattle.recovery.specs.Slots.{IsDamagedSlot}
+use Rattle.read_steps.specs.Walking.{IsCopyAt, WasRead, IsCorrupt, IsMisnamed, IsNextRefusal, IsTopRefusal, IsCopyRefusal, IsDamage, top_key}
+use Rattle.backup_engine.specs.AnyDisk.{Holds, HasAdded, GivesBack, IsStuck, IsRefused, IsStored, IsCaused, WroteOnAny, EndsDurable, OnAnyDisk}
+use Rattle.backup_engine.specs.Frame.{KeepsOthers}
+use Rattle.backup_engine.specs.Line.{CommandLine, Ingest, Restore}
+use Rattle.store_model.specs.Standing.{ByteSet, IsIn}
+use Rattle.backup_engine.specs.Promise.{KeepsMap, KeepsEachMap, IsLeftAs, Stands, NothingWritten}
+use Rattle.backup_engine.specs.TopCall.{Keeps}
+
+module _ (loans : List ℕ) (v w : DiskView) where
+  abbrev v' : DiskView
+  v' = record v { loans = loans }
+
+  abbrev w' : DiskView
+  w' = record w { loans = loans }
+
+  pub shows : (P : List ℕ → Type 0) → Shows v' w' P → Shows v w P
+  shows P seen = record { parts = seen.parts; returned = seen.returned; known = seen.known; shows = seen.shows }
+
+  found : (at count : ℕ) (digest : List ℕ) → WereFound (Shows v' w') at count digest → WereFound (Shows v w) at count digest
+  found at count digest is = record { bytes = is.bytes; long = is.long; digest_is = is.digest_is; there = shows _ is.there }
+
+-- ---- why a store is not opened, where what one thing shows another shows
+
+module _ (shown other : (List ℕ → Type 0) → Type 0) (each : (P : List ℕ → Type 0) → shown P → other P) (size : ℕ) where
+  breaks_format : (fault : CellFault) → BreaksFormat shown size fault → BreaksFormat other size fault
+  breaks_format fault is = record { least = is.least; kind = is.kind; shows = each _ is.shows }
+
+  sized : (slots : ℕ) → IsSized shown size slots → IsSized other size slots
+  sized slots is = record { count = is.count; size_is = is.size_is; format = each _ is.format }
+
+  breaks_journal : (fault : CellFault) → BreaksJournal shown size fault → BreaksJournal other size fault
+  breaks_journal fault is = record { slots = is.slots; sized = sized is.slots is.sized; kind = is.kind; shows = each _ is.shows }
+
+  damaged_slot : (slots at : ℕ) (why : Why) → IsDamagedSlot shown slots at why → IsDamagedSlot other slots at why
+  damaged_slot slots at why is = record {
+    before = is.before;
+    within = is.within;
+    place = is.place;
+    right = is.right;
+    different = is.different;
+    holds = each _ is.holds;
+    damage = record { bytes = is.damage.bytes; gate = is.damage.gate; damage_is = is.damage.damage_is; read_as = each _ is.damage.read_as };
+  }
+
+  breaks_slots : (at : ℕ) (why : Why) → BreaksSlots shown size at why → BreaksSlots other size at why
+  breaks_slots at why is = record {
+    slots = is.slots;
+    sized = sized is.slots is.sized;
+    selector = is.selector;
+    records = is.records;
+    journal = each _ is.journal;
+    damage = damaged_slot is.slots at why is.damage;
+  }
+
+  wrong_size : (want : ℕ) → HasWrongSize shown size want → HasWrongSize other size want
+  wrong_size want (inl least) = inl least
+  wrong_size want (inr is) = inr (is.0, is.1, is.2, is.3, is.4, each _ is.5)
+
+  pub open_refusal : (refusal : Refusal) → IsOpenRefusal shown size refusal → IsOpenRefusal other size refusal
+  open_refusal Memory is = is
+  open_refusal DiskRead is = is
+  open_refusal DiskWrite is = is
+  open_refusal (WrongSize want got) is = (is.0, wrong_size want is.1)
+  open_refusal (NotAStore gate magic) is = breaks_format _ is
+  open_refusal (Version n) (inl is) = inl (breaks_format _ is)
+  open_refusal (Version n) (inr is) = inr (breaks_journal _ is)
+  open_refusal (Damaged at why) (inl is) = inl (breaks_format _ is)
+  open_refusal (Damaged at why) (inr (inl is)) = inr (inl (breaks_journal _ is))
+  open_refusal (Damaged at why) (inr (inr is)) = inr (inr (breaks_slots at why is))
+  open_refusal (Full free) is = record { store = is.store; valid = is.valid; free_is = is.free_is; few = is.few; right = each _ is.right }
+  open_refusal refusal is = absurd is
+
+-- ---- what a command keeps
+
+module _ (loans : List ℕ) (v w : DiskView) where
+  abbrev lent : DiskView
+  lent = record v { loans = loans }
+
+  abbrev lent_now : DiskView
+  lent_now = record w { loans = loans }
+
+  on : (P : List ℕ → Type 0) → Shows lent lent_now P → Shows v w P
+  on = shows loans v w
+
+  abbrev holds : Holds lent lent_now → Holds v w
+  holds is = record { store = is.store; right = on _ is.right; reserve = is.reserve }
+
+  abbrev added : (given : List ℕ) → HasAdded given lent lent_now → HasAdded given v w
+  added given is = record { holds = holds is.holds; changes = is.changes; after = is.after; chain = is.chain; adds = is.adds }
+
+  -- ---- a walk that is stuck
+
+  module _ (known : Option PlaceMap) where
+    abbrev read : (key bytes : List ℕ) → WasRead known lent lent_now key bytes → WasRead known v w key bytes
+    read key bytes is = record {
+      place = is.place;
+      copy = record { place_is = is.copy.place_is; right = is.copy.right; long = is.copy.long; there = on _ is.copy.there };
+    }
+
+    abbrev breaks : ℕ → Why → List ℕ → Type 0
+    breaks at why image = ⊥
+
+    copy_refusal : (key digest : List ℕ) (refusal : Refusal) → IsCopyRefusal known breaks lent lent_now key digest refusal → IsCopyRefusal known breaks v w key digest refusal
+    copy_refusal key digest (Corrupt slot offset count want got) is =
+        record { want_is = is.want_is; differ = is.differ; placed = is.placed; found = found loans v w _ count got is.found }
+    copy_refusal key digest DiskRead is = is
+    copy_refusal key digest (Missing k) is = is
+    copy_refusal key digest (Damaged at why) is = record { unknown = is.unknown; there = on _ is.there }
+    copy_refusal key digest refusal is = absurd is
+
+    top_refusal : (t : Top) (refusal : Refusal) → IsTopRefusal known breaks lent lent_now t refusal → IsTopRefusal known breaks v w t refusal
+    top_refusal t (Damaged at why) (inl is) = inl (record { unknown = is.unknown; there = on _ is.there })
+    top_refusal t (Damaged at why) (inr is) =
+        inr (record { bytes = is.bytes; was_read = read _ is.bytes is.was_read; at_is = is.at_is; digest = is.digest; wrong = is.wrong })
+    top_refusal t refusal is = copy_refusal (top_key t) t.digest refusal is
+
+    next_refusal : (ahead : List Top) (refusal : Refusal) → IsNextRefusal known breaks lent lent_now ahead refusal → IsNextRefusal known breaks v w ahead refusal
+    next_refusal [] refusal is = absurd is
+    next_refusal (t ∷ ts) refusal is = top_refusal t refusal is
+
+  module _ (sink sink_now : SinkView) (name : List ℕ) (ending : Option Ending) where
+    abbrev given_back : GivesBack name ending lent lent_now sink sink_now → GivesBack name ending v w sink sink_now
+    given_back is = record {
+      holds = holds is.holds;
+      root = is.root;
+      has_root = is.has_root;
+      segments = is.segments;
+      ahead = is.ahead;
+      given = is.given;
+      whole = is.whole;
+      wrote = is.wrote;
+    }
+
+    stuck : (is : GivesBack name ending lent lent_now sink sink_now) (refusal : Refusal) → IsStuck is refusal → IsStuck (given_back is) refusal
+    stuck is refusal why = (why.0, why.1, next_refusal (Some why.0) is.ahead refusal why.2)
+
+  -- ---- the records of the promise
+
+  module _ (source source_now : SourceView) (sink sink_now : SinkView) (given name : List ℕ) where
+    opens : (refusal : Refusal) → IsOpenRefusal (Shows lent lent_now) v.size refusal → IsOpenRefusal (Shows v w) v.size refusal
+    opens = open_refusal (Shows lent lent_now) (Shows v w) on v.size
+
+    ingest_refused : (refusal : Refusal) → IsRefused (Ingest name) given lent lent_now source source_now sink sink_now refusal → IsRefused (Ingest name) given v w source source_now sink sink_now refusal
+    ingest_refused DiskRead is = is
+    ingest_refused DiskWrite is = is
+    ingest_refused refusal (inl is) = inl (opens refusal is.0, is.1)
+    ingest_refused refusal (inr is) = inr (added given is.0, is.1)
+
+    ingest_done : IsStored name given lent lent_now → IsStored name given v w
+    ingest_done is = record { added = added given is.added; all = is.all; can = is.can }
+
+    ingest_caused : (ending : Option Ending) → IsCaused (Ingest name) given lent lent_now source source_now sink sink_now ending → IsCaused (Ingest name) given v w source source_now sink sink_now ending
+    ingest_caused None is = ingest_done is
+    ingest_caused (Some Words) is = absurd is
+    ingest_caused (Some Source) is = (is.0, holds is.1, is.2)
+    ingest_caused (Some Sink) is = (ingest_done is.0, is.1)
+    ingest_caused (Some (Refused Memory)) is = is
+    ingest_caused (Some (Refused refusal)) is = ingest_refused refusal is
+
+    ingest_durable : (ending : Option Ending) → EndsDurable (Ingest name) ending lent_now → EndsDurable (Ingest name) ending w
+    ingest_durable None is = is
+    ingest_durable (Some Sink) is = is
+    ingest_durable (Some ending) is = tt
+
+    restore_refused : (refusal : Refusal) → IsRefused (Restore name) given lent lent_now source source_now sink sink_now refusal → IsRefused (Restore name) given v w source source_now sink sink_now refusal
+    restore_refused DiskRead is = is
+    restore_refused DiskWrite is = is
+    restore_refused refusal (inl is) = inl (opens refusal is)
+    restore_refused refusal (inr (inl is)) = inr (inl (holds is.0, is.1))
+    restore_refused refusal (inr (inr is)) =
+        inr (inr (given_back sink sink_now name (Some (Refused refusal)) is.0, stuck sink sink_now name (Some (Refused refusal)) is.0 refusal is.1))
+
+    restore_caused : (ending : Option Ending) → IsCaused (Restore name) given lent lent_now source source_now sink sink_now ending → IsCaused (Restore name) given v w source source_now sink sink_now ending
+    restore_caused None is = is
+    restore_caused (Some Words) is = absurd is
+    restore_caused (Some Source) is = (is.0, holds is.1, is.2)
+    restore_caused (Some Sink) is = is
+    restore_caused (Some (Refused Memory)) is = is
+    restore_caused (Some (Refused refusal)) is = restore_refused refusal is
+
+    restore_wrote : (ending : Option Ending) → WroteOnAny (Restore name) given ending lent lent_now sink sink_now → WroteOnAny (Restore name) given ending v w sink sink_now
+    restore_wrote None is = given_back sink sink_now name None is
+    restore_wrote (Some ending) (inl is) = inl is
+    restore_wrote (Some ending) (inr is) = inr (given_back sink sink_now name (Some ending) is)
+
+    kept_left : (command : CommandLine) (ending : Option Ending) (among : ByteSet) (m : Stored) → Stands (IsLeftAs (IsIn among) command given m ending) lent_now ⊎ NothingWritten ending lent lent_now
+        → Stands (IsLeftAs (IsIn among) command given m ending) w ⊎ NothingWritten ending v w
+    kept_left command ending among m (inl is) = inl is
+    kept_left command ending among m (inr is) = inr (record { not_done = is.not_done; content = is.content; images = is.images })
+
+    map_kept : (command : CommandLine) (ending : Option Ending) → KeepsEachMap command given ending lent lent_now sink sink_now → KeepsEachMap command given ending v w sink sink_now
+    map_kept command ending each = λ old told among m apart segments is.
+        let kept = each old told among m apart segments is in
+        record { by_map = kept.by_map; wrote = kept.wrote; left = kept_left command ending among m kept.left; crash = kept.crash }
+
+    frame_kept : (command : CommandLine) (ending : Option Ending) → KeepsOthers command ending lent lent_now → KeepsOthers command ending v w
+    frame_kept command ending is = record { content = is.content; crash = is.crash }
+
+    pub ingest_kept : (ending : Option Ending) → Keeps (Ingest name) given ending lent lent_now source source_now sink sink_now → Keeps (Ingest name) given ending v w source source_now sink sink_now
+    ingest_kept ending is = record {
+      map = map_kept (Ingest name) ending is.map;
+      any = record {
+        took = is.any.took;
+        caused = ingest_caused ending is.any.caused;
+        wrote = is.any.wrote;
+        faults_are = is.any.faults_are;
+        durable = ingest_durable ending is.any.durable;
+        source_faults = is.any.source_faults;
+        sink_faults = is.any.sink_faults;
+      };
+      frame = frame_kept (Ingest name) ending is.frame;
+      blank = is.blank;
+      untouched = is.untouched;
+    }
+
+    pub restore_kept : (ending : Option Ending) → Keeps (Restore name) given ending lent lent_now source source_now sink sink_now → Keeps (Restore name) given ending v w source source_now sink sink_now
+    restore_kept ending is = record {
+      map = map_kept (Restore name) ending is.map;
+      any = record {
+        took = is.any.took;
+        caused = restore_caused ending is.any.caused;
+        wrote = restore_wrote ending is.any.wrote;
+        faults_are = is.any.faults_are;
+        durable = is.any.durable;
+        source_faults = is.any.source_faults;
+        sink_faults = is.any.sink_faults;
+      };
+      frame = frame_kept (Restore name) ending is.frame;
+      blank = is.blank;
+      untouched = is.untouched;
+    }

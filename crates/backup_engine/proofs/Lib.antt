@@ -21,6 +21,5 @@ pub mod SameRoom
 pub mod SinkWrites
 pub mod SourceRuns
 pub mod Taking
-
 pub mod TopCall
 pub mod Unlent

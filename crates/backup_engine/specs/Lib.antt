@@ -8,5 +8,4 @@ pub mod Promise
 pub mod Putting
 pub mod Running
 pub mod Storing
-
 pub mod TopCall

@@ -8,6 +8,7 @@ pub mod GivenOrder
 pub mod Giving
 pub mod HeldFile
 pub mod Holding
+pub mod Ingesting
 pub mod KeptBytes
 pub mod NotDone
 pub mod NotOpened

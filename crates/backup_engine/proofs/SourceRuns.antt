@@ -5,13 +5,13 @@ use Rattle.base_model.specs.Known.{Known}
 use Rattle.dd_io.specs.Flow.{SourceView, SinkView}
 use Rattle.refusals.specs.declared.refusal.Refusal.{Refusal}
 use Rattle.reply_text.specs.declared.ending.Ending.{Ending}
-use Rattle.reply_text.specs.declared.ending.Ending.TheVariants.{Refused}
+use Rattle.reply_text.specs.declared.ending.Ending.TheVariants.{Words, Source, Sink, Refused}
 use Rattle.reply_text.specs.Text.{stored_line}
 use Rattle.store_model.specs.Trees.{root_of}
 use Rattle.store_core.specs.State.{CoreState}
 use Rattle.backup_engine.specs.PlainMap.{most_bytes}
 use Rattle.backup_engine.specs.Running.{PutRun, IsPutRefusal}
-use Rattle.backup_engine.specs.Storing.{TakesIn, IsSourceFault, Sent, IngestRun}
+use Rattle.backup_engine.specs.Storing.{TakesIn, IsSourceFault, IsHeard, Sent, IngestRun}
 
 -- What a source gave that wasn't taken in: what it had left; where it doesn't tell that, more than a file has.
 given_of : Option (List ℕ) → List ℕ
@@ -29,10 +29,22 @@ given_long None long = omega (arith, length-replicate 2049 (let zero : ℕ = 0 i
 given_long (Some bytes) long = long bytes refl
 
 module _ (C : Type 0) (state : C → CoreState) (name : List ℕ) (source source_now : SourceView) where
-  pub not_taken : (ending : Ending) (core : C) (sink : SinkView) → IsSourceFault source source_now ending → IngestRun C state name (Err ending) core core source source_now sink sink
-  not_taken ending core sink cause = record {
+  heard_of : {T : Type 0} (ending : Ending) → IsHeard {T} (Err ending) source source_now → IsHeard {Unit} (Err ending) source source_now
+  heard_of Source heard = tt
+  heard_of Words heard = heard
+  heard_of Sink heard = heard
+  heard_of (Refused refusal) heard = heard
+
+  heard_sent : (reply : List ℕ) (result : Result Unit Ending) (sink sink_now : SinkView) → source_now.faults ≡ source.faults → Sent reply result sink sink_now → IsHeard result source source_now
+  heard_sent reply (Ok u) sink sink_now same sent = same
+  heard_sent reply (Err Sink) sink sink_now same sent = same
+  heard_sent reply (Err ending) sink sink_now same sent = absurd sent
+
+  pub not_taken : {T : Type 0} (ending : Ending) (core : C) (sink : SinkView) → IsSourceFault source source_now ending → IsHeard {T} (Err ending) source source_now → IngestRun C state name (Err ending) core core source source_now sink sink
+  not_taken ending core sink cause heard = record {
     given = given_of source.left;
     took = given_told source.left;
+    heard = heard_of ending heard;
     way = inl (record {
       ending = ending;
       result_is = refl;
@@ -43,12 +55,13 @@ module _ (C : Type 0) (state : C → CoreState) (name : List ℕ) (source source
     });
   }
 
-  module _ (bytes : List ℕ) (taken : TakesIn source.left bytes) (old new : C) where
+  module _ (bytes : List ℕ) (taken : TakesIn source.left bytes) (same : source_now.faults ≡ source.faults) (old new : C) where
     pub not_stored : (refusal : Refusal) (sink : SinkView) → PutRun C state name bytes (Err refusal) old new → IsPutRefusal name bytes (state new) refusal
         → IngestRun C state name (Err (Refused refusal)) old new source source_now sink sink
     not_stored refusal sink ran refused = record {
       given = bytes;
       took = taken.all;
+      heard = same;
       way = inr (record { few = taken.at_most; put = Err refusal; ran = ran; refused = refused; replies = (refl, refl) });
     }
 
@@ -57,5 +70,6 @@ module _ (C : Type 0) (state : C → CoreState) (name : List ℕ) (source source
     stored result sink sink_now ran sent = record {
       given = bytes;
       took = taken.all;
+      heard = heard_sent (stored_line name (root_of bytes)) result sink sink_now same sent;
       way = inr (record { few = taken.at_most; put = Ok tt; ran = ran; refused = tt; replies = sent });
     }

@@ -31,6 +31,12 @@ IsSourceFault source source_now (Refused Memory) = Unit {0}
 IsSourceFault source source_now (Refused TooLong) = Known source.left (λ bytes. most_bytes < length bytes)
 IsSourceFault source source_now _ = ⊥
 
+-- the count of its faults stays, but where a fault of it ended the call
+abbrev pub IsHeard : {T : Type 0} → Result T Ending → SourceView → SourceView → Type 0
+IsHeard (Ok x) source source_now = source_now.faults ≡ source.faults
+IsHeard (Err Source) source source_now = Unit {0}
+IsHeard (Err ending) source source_now = source_now.faults ≡ source.faults
+
 -- ---- the reply
 
 -- a reply was written, or the sink failed
@@ -70,4 +76,5 @@ pub record IngestRun (C : Type 0) (state : C → CoreState) (name : List ℕ) (r
     (source source_now : SourceView) (sink sink_now : SinkView) : Type 0 where
   pub given : List ℕ
   pub took : Known source.left (λ all. given ≡ all)
+  pub heard : IsHeard result source source_now
   pub way : IsNotTaken C given result old new source source_now sink sink_now ⊎ IsTaken C state name given result old new sink sink_now

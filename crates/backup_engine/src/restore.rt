@@ -10,6 +10,7 @@ use crate::lent::handed_back;
 use actor_parts::SegBuf;
 use dd_disk::Disk;
 use dd_io::Sink;
+use refusals::Refusal;
 use reply_text::Ending;
 use std::alloc::Global;
 use store_core::Core;
@@ -26,7 +27,9 @@ pub(crate) fn restore<D: Disk, K: Sink>(
         source source (K.view sink.old) (K.view sink.new) }
     ensures later { IsLater (D.view disk.old) (D.view disk.new) }
 {
-    let mut buf = SegBuf::new(alloc)?;
+    let Ok(mut buf) = SegBuf::new(alloc) else {
+        return Err(Ending::Refused(Refusal::Memory));
+    };
     let mut core = match Core::open(alloc, disk, NoSummary) {
         Ok(core) => core,
         Err(refused) => {

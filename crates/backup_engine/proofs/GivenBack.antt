@@ -23,7 +23,7 @@ use Rattle.backup_engine.specs.Promise.{EndsBy, WroteFile}
 use Rattle.backup_engine.specs.Running.{IsRead, EndsGiving, IsGivenOut, GiveRun}
 use Rattle.backup_engine.specs.TopCall.{Keeps, ending_in}
 use Rattle.backup_engine.proofs.Called.{Called, starts}
-use Rattle.backup_engine.proofs.Giving.{alone, given_on_any, of_call, of_core, some_actors, way}
+use Rattle.backup_engine.proofs.GivenOut.{alone, given_on_any, of_call, of_core, some_actors, way}
 use Rattle.backup_engine.proofs.GivenOrder.{IsLeftBy, gave, wrote_file}
 use Rattle.backup_engine.proofs.NotDone.{restore_failed}
 use Rattle.backup_engine.proofs.NotOpened.{not_opened}

@@ -5,7 +5,7 @@ pub mod Formatting
 pub mod GiveRuns
 pub mod GivenBack
 pub mod GivenOrder
-pub mod Giving
+pub mod GivenOut
 pub mod HeldFile
 pub mod Holding
 pub mod Ingesting

@@ -1,5 +1,6 @@
 pub mod Called
 pub mod Formatting
+pub mod Lists
 pub mod Numbers
 pub mod PutEnds
 pub mod PutMaps

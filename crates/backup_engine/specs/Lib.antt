@@ -2,6 +2,7 @@ pub mod AnyDisk
 pub mod Frame
 pub mod Line
 pub mod LineValue
+pub mod Lists
 pub mod PlainMap
 pub mod Promise
 pub mod Running

@@ -16,7 +16,7 @@ use Rattle.store_model.specs.Collisions.{HasNoCollisions, ByteSet, IsIn}
 use Rattle.store_model.specs.Image.{Store, IsValidFor}
 use Rattle.store_model.specs.Slots.{free_slots}
 use Rattle.store_model.specs.Standing.{IsStoreOf, IsSegmentOf}
-use Rattle.store_model.specs.Standing as standing
+use Rattle.store_model.specs.Collisions as collisions
 use Rattle.store_model.specs.Trees.{root_of}
 use Rattle.store_state.specs.Tables.{Represents}
 use Rattle.store_core.specs.Runs.{FileRun, IsAt, IsOf, IsOnTheWay, Reaches, stored_after}
@@ -148,7 +148,7 @@ module _ (C : Type 0) (state : C → CoreState) (v w : DiskView) (old new : C) (
         let at : IsAt (IsIn among) end.0 m (state new) = end.1 in
         let left : List ℕ = at.stands.known.0 in
         let here = at.stands.known.1 in
-        let holds : IsStoreOf end.0 m.files left = (stands_content (standing.Stands (IsIn among) end.0 m.files) (state new).disk at.stands left here).holds in
+        let holds : IsStoreOf end.0 m.files left = (stands_content (collisions.Stands (IsIn among) end.0 m.files) (state new).disk at.stands left here).holds in
         let room = same_room end.0 m left holds (last_at (IsIn among) end.0 m (state new) at) name in
         (end.0, (left, was.last.only.content_is ∙ here, holds), refuses_by name given m end.0 (state new) refusal at.represents room at.valid (at.invariant left here).reserve_holds why)
 

@@ -1,14 +1,13 @@
 -- What a command leaves that did no more than read.
-use Rattle.std.proofs.Common.{◌≡◌, ◌⊎◌, inl, inr, ◌<◌, ◌≤◌, ◌++◌, take, ℕ, List, [], length, IsTrue, false, true, Option, Some, None, Err, refl, sym, ◌∙◌, ap, subst, arith}
+use Rattle.std.proofs.Common.{◌≡◌, inl, inr, ℕ, List, [], Option, Some, None, refl, sym, ◌∙◌, ap, subst, arith}
 use Rattle.std.proofs.lemmas.List.{append-nil}
 use Rattle.std.specs.FinMap as finite
-use Rattle.base_model.specs.Known.{Known, KnownWith, Appended}
+use Rattle.base_model.specs.Known.{Known, Appended}
 use Rattle.dd_disk.specs.View.{DiskView, OnlyReads, IsDurable}
 use Rattle.dd_io.specs.Flow.{SinkView, AppendedPart}
-use Rattle.refusals.specs.declared.refusal.Refusal.{Refusal}
 use Rattle.refusals.specs.declared.refusal.Refusal.TheVariants.{DiskWrite}
 use Rattle.reply_text.specs.declared.ending.Ending.{Ending}
-use Rattle.reply_text.specs.declared.ending.Ending.TheVariants.{Words, Source, Sink, Refused}
+use Rattle.reply_text.specs.declared.ending.Ending.TheVariants.{Sink, Refused}
 use Rattle.store_model.specs.Collisions.{HasNoCollisions, ByteSet, IsIn}
 use Rattle.store_model.specs.Files.{Stored}
 use Rattle.store_model.specs.Standing.{IsSegmentOf}

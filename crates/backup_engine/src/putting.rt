@@ -1,8 +1,11 @@
 //! The steps by which a file is stored.
-ghost use Rattle.std.specs.Prelude.{◌≡◌, ◌≤◌, length, IfErr};
+ghost use Rattle.std.specs.Prelude.{◌≡◌, ◌≢◌, ◌≤◌, ◌∷◌, [], ℕ, List, length, IfOk, IfErr};
+ghost use Rattle.disk_format.specs.declared.numbers.TheConstants.{MOST_SEGMENT};
+ghost use Rattle.container_meta.specs.declared.kind.Kind.TheVariants.{Leaf};
 ghost use Rattle.store_model.specs.Trees.{root_of};
 ghost use Rattle.store_core.specs.State.{IsRunning};
 ghost use Rattle.backup_engine.specs.PlainMap.{most_bytes};
+ghost use Rattle.backup_engine.specs.Putting.{IsStoring, Holds};
 ghost use Rattle.backup_engine.specs.Running.{IsFresh, PutRun, IsPutRefusal};
 
 use actor_parts::{Actor, Answer, SegBuf, Step};
@@ -35,7 +38,13 @@ pub(crate) fn root_of(bytes: &[u8]) -> Root
 }
 
 // A container of one segment.
-fn container_of(alloc: Global, seg: &Seg) -> Result<OpenContainer, AllocError> {
+fn container_of(alloc: Global, seg: &Seg) -> Result<OpenContainer, AllocError>
+    requires kind { seg.now.kind ≡ Leaf }
+    requires level { seg.now.segment.level ≡ 0 }
+    requires some { 1 ≤ length seg.now.segment.bytes }
+    requires few { length seg.now.segment.bytes ≤ MOST_SEGMENT }
+    ensures { IfOk result (λ c. c ≡ record { kind = Leaf; segments = seg.now.segment ∷ [] }) }
+{
     let mut container = OpenContainer::new(alloc, Kind::Leaf)?;
     let _added = container.try_add(seg);
     Ok(container)
@@ -47,7 +56,13 @@ fn hold<C: HasState>(
     core: &mut C,
     bytes: &[u8],
     buf: &mut SegBuf,
-) -> Result<(), Refusal> {
+) -> Result<(), Refusal>
+    requires storing { IsStoring (C.state core.old) }
+    requires some { bytes.now ≢ [] }
+    requires few { length bytes.now ≤ most_bytes }
+    ensures holds { (name : List ℕ) → Holds C C.state name bytes.now result core.old core.new }
+    ensures running { IsRunning (C.state core.new) }
+{
     let seg = Seg::leaf(alloc, bytes)?;
     if let Answer::Absent = core.make_step(first(), Step::Claim { seg: &seg }, buf)? {
         let filled = container_of(alloc, &seg)?;

@@ -7,8 +7,7 @@ ghost use Rattle.backup_engine.specs.Storing.{TakesIn, IsSourceFault, IngestRun}
 
 use crate::putting::{put_in, root_of};
 use crate::reply::send;
-use dd_io::Source;
-use dd_io::Sink;
+use dd_io::{Sink, Source};
 use refusals::Refusal;
 use reply_text::{Ending, stored_line};
 use std::alloc::Global;

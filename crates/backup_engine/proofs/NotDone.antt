@@ -1,0 +1,274 @@
+-- Commands that end before anything is asked of a core.
+use Rattle.std.proofs.Common.{◌≡◌, inl, inr, ◌<◌, ◌≤◌, ℕ, List, [], length, IsTrue, false, true, Option, Some, Err, refl, ◌∙◌, subst, arith}
+use Rattle.base_model.specs.Fault.{Rose}
+use Rattle.base_model.specs.Known.{Known}
+use Rattle.dd_disk.specs.View.{DiskView, IsLater, OnlyReads}
+use Rattle.dd_disk.specs.Ending.{Reads, Done, Refused as NoFault, ending_of}
+use Rattle.dd_disk.specs.Shows.{Shows}
+use Rattle.dd_disk.proofs.Ended.{reads_on, reads_then, reads_refused}
+use Rattle.dd_disk.proofs.Shows.{until, shown_content}
+use Rattle.dd_io.specs.Flow.{SourceView, SinkView}
+use Rattle.refusals.specs.declared.refusal.Refusal.{Refusal}
+use Rattle.refusals.specs.declared.refusal.Refusal.TheVariants.{Memory, TooLong, Full, DiskRead, DiskWrite}
+use Rattle.reply_text.specs.declared.ending.Ending.{Ending}
+use Rattle.reply_text.specs.declared.ending.Ending.TheVariants.{Source, Sink, Refused}
+use Rattle.store_model.specs.Files.{Stored}
+use Rattle.store_model.specs.Image.{Store}
+use Rattle.store_model.specs.Slots.{free_slots}
+use Rattle.store_model.specs.Collisions.{IsIn}
+use Rattle.store_state.specs.Refused.{blames, fails}
+use Rattle.recovery.specs.Opening.{IsOpenRefusal, Opens}
+use Rattle.store_core.specs.Opening.{IsGivenUp}
+use Rattle.store_core.specs.Runs.{IsOf}
+use Rattle.store_core.specs.State.{CoreState}
+use Rattle.backup_engine.specs.Line.{CommandLine, Format, Ingest, Restore}
+use Rattle.backup_engine.specs.PlainMap.{most_bytes}
+use Rattle.backup_engine.specs.Promise.{EndsBy, IsRefusedBy, IsLeftWith}
+use Rattle.backup_engine.specs.AnyDisk.{Holds, HasAdded, IsCaused, Took, WroteOnAny, EndsDurable}
+use Rattle.backup_engine.specs.Storing.{IsSourceFault}
+use Rattle.backup_engine.specs.TopCall.{Keeps, IsLeftBlank, IsUntouched}
+use Rattle.backup_engine.proofs.Called.{Called}
+use Rattle.backup_engine.proofs.Reading.{AnswersEach, since_start, reads_frame, reads_map, wrote_nothing}
+
+-- ---- over a map
+
+pub not_sink : (refusal : Refusal) → ¬ (Refused refusal ≡ Sink)
+not_sink refusal is = cc
+
+-- the content is a store of the map's files
+pub left_with : (S : List ℕ → Type 0) (m : Stored) (old : List ℕ) (content : Option (List ℕ)) (P : Store → Type 0) → content ≡ Some old → (is : IsOf S m old) → P is.0 → IsLeftWith m content P
+left_with S m old content P told is holds = (is.0, (old, told, is.1.0.holds), holds)
+
+-- want of memory, whatever the map is
+no_memory : (command : CommandLine) (given : List ℕ) (S : List ℕ → Type 0) (m : Stored) (old : List ℕ) (content : Option (List ℕ)) → content ≡ Some old → IsOf S m old → IsRefusedBy command given m content Memory
+no_memory (Format slots) given S m old content told is = left_with S m old content (λ store. Unit {0}) told is tt
+no_memory (Ingest name) given S m old content told is = left_with S m old content (λ store. Unit {0}) told is tt
+no_memory (Restore name) given S m old content told is = left_with S m old content (λ store. Unit {0}) told is tt
+
+-- and whatever the command is
+memory_answers : (command : CommandLine) (given : List ℕ) (v w : DiskView) (sink : SinkView) → OnlyReads v w → AnswersEach command given (Some (Refused Memory)) v w sink sink
+memory_answers command given v w sink reads old known among m distinct right is = record {
+  by_map = (no_memory command given (IsIn among) m old w.content (reads.content_is ∙ known) is, λ clashes. clashes);
+  wrote = wrote_nothing command given m (Refused Memory) sink (not_sink Memory);
+}
+
+false_not_true : false ≡ true → ⊥
+false_not_true wrong = cc
+
+-- memory or the disk failed, whatever the map is
+ingest_failed : (name given : List ℕ) (S : List ℕ → Type 0) (m : Stored) (old : List ℕ) (content : Option (List ℕ)) → content ≡ Some old → IsOf S m old → (refusal : Refusal) → IsTrue (fails refusal)
+    → EndsBy (Ingest name) given m content (Some (Refused refusal))
+ingest_failed name given S m old content told is Memory fails = (left_with S m old content (λ store. Unit {0}) told is tt, λ clashes. clashes)
+ingest_failed name given S m old content told is DiskRead fails = (left_with S m old content (λ store. Unit {0}) told is tt, λ clashes. clashes)
+ingest_failed name given S m old content told is DiskWrite fails = (tt, λ clashes. clashes)
+ingest_failed name given S m old content told is refusal fails = absurd (false_not_true fails)
+
+pub restore_failed : (name given : List ℕ) (S : List ℕ → Type 0) (m : Stored) (old : List ℕ) (content : Option (List ℕ)) → content ≡ Some old → IsOf S m old → (refusal : Refusal) → IsTrue (fails refusal)
+    → EndsBy (Restore name) given m content (Some (Refused refusal))
+restore_failed name given S m old content told is Memory fails = (left_with S m old content (λ store. Unit {0}) told is tt, λ clashes. clashes)
+restore_failed name given S m old content told is DiskRead fails = (left_with S m old content (λ store. Unit {0}) told is tt, λ clashes. clashes)
+restore_failed name given S m old content told is DiskWrite fails = (left_with S m old content (λ store. Unit {0}) told is tt, λ clashes. clashes)
+restore_failed name given S m old content told is refusal fails = absurd (false_not_true fails)
+
+-- ---- a store that was not opened
+
+-- a store that has two free slots is refused as memory or the disk failed, and for nothing else
+fails_alone : (store : Store) (refusal : Refusal) → 2 ≤ free_slots store.held → Opens store (Err refusal) → IsTrue (fails refusal)
+fails_alone store (Full free) reserve opens = absurd (omega (arith, reserve, opens.0, opens.1))
+fails_alone store refusal reserve opens = opens
+
+-- what the opening of a disk promises where it refuses
+pub record IsUnopened (v w : DiskView) (refusal : Refusal) : Type 0 where
+  pub cause : IsOpenRefusal (Shows v w) v.size refusal
+  pub given_up : Shows v w (IsGivenUp refusal)
+  pub reads : Reads (ending_of (blames refusal)) v w
+
+module _ (v w : DiskView) (refusal : Refusal) (is : IsUnopened v w refusal) (name : List ℕ) (source : SourceView) (sink : SinkView) where
+  map_fails : (S : List ℕ → Type 0) (m : Stored) (old : List ℕ) → v.content ≡ Some old → IsOf S m old → IsTrue (fails refusal)
+  map_fails S m old known stands =
+      let holds = stands.1.0.holds in
+      fails_alone stands.0 refusal holds.reserve (shown_content v w (IsGivenUp refusal) old is.given_up known stands.0 holds.right)
+
+  ingest_answers : (given : List ℕ) → AnswersEach (Ingest name) given (Some (Refused refusal)) v w sink sink
+  ingest_answers given old known among m distinct right stands = record {
+    by_map = ingest_failed name given (IsIn among) m old w.content (is.reads.only.content_is ∙ known) stands refusal (map_fails (IsIn among) m old known stands);
+    wrote = wrote_nothing (Ingest name) given m (Refused refusal) sink (not_sink refusal);
+  }
+
+  restore_answers : (given : List ℕ) → AnswersEach (Restore name) given (Some (Refused refusal)) v w sink sink
+  restore_answers given old known among m distinct right stands = record {
+    by_map = restore_failed name given (IsIn among) m old w.content (is.reads.only.content_is ∙ known) stands refusal (map_fails (IsIn among) m old known stands);
+    wrote = wrote_nothing (Restore name) given m (Refused refusal) sink (not_sink refusal);
+  }
+
+ingest_caused : (v w : DiskView) (name given : List ℕ) (source : SourceView) (sink : SinkView) (refusal : Refusal) → IsOpenRefusal (Shows v w) v.size refusal
+    → IsCaused (Ingest name) given v w source source sink sink (Some (Refused refusal))
+ingest_caused v w name given source sink Memory cause = tt
+ingest_caused v w name given source sink DiskRead cause = tt
+ingest_caused v w name given source sink DiskWrite cause = tt
+ingest_caused v w name given source sink refusal cause = inl (cause, refl)
+
+restore_caused : (v w : DiskView) (name given : List ℕ) (source : SourceView) (sink : SinkView) (refusal : Refusal) → IsOpenRefusal (Shows v w) v.size refusal
+    → IsCaused (Restore name) given v w source source sink sink (Some (Refused refusal))
+restore_caused v w name given source sink Memory cause = tt
+restore_caused v w name given source sink DiskRead cause = tt
+restore_caused v w name given source sink DiskWrite cause = tt
+restore_caused v w name given source sink refusal cause = inl cause
+
+pub unopened_ingest : (v w : DiskView) (refusal : Refusal) → IsUnopened v w refusal → (name given : List ℕ) (source : SourceView) (sink : SinkView) → Known source.left (λ all. given ≡ all)
+    → Keeps (Ingest name) given (Some (Refused refusal)) v w source source sink sink
+unopened_ingest v w refusal is name given source sink took = record {
+  map = reads_map (Ingest name) given (Refused refusal) v w sink sink is.reads.only (not_sink refusal) (ingest_answers v w refusal is name source sink given);
+  any = record {
+    took = took;
+    caused = ingest_caused v w name given source sink refusal is.cause;
+    wrote = refl;
+    faults_are = is.reads.faults_are;
+    durable = tt;
+    source_faults = λ other. refl;
+    sink_faults = λ other. refl;
+  };
+  frame = reads_frame (Ingest name) (Some (Refused refusal)) v w is.reads.only;
+  blank = tt;
+  untouched = tt;
+}
+
+pub unopened_restore : (v w : DiskView) (refusal : Refusal) → IsUnopened v w refusal → (name : List ℕ) (source : SourceView) (sink : SinkView)
+    → Keeps (Restore name) [] (Some (Refused refusal)) v w source source sink sink
+unopened_restore v w refusal is name source sink = record {
+  map = reads_map (Restore name) [] (Refused refusal) v w sink sink is.reads.only (not_sink refusal) (restore_answers v w refusal is name source sink []);
+  any = record {
+    took = (refl, refl);
+    caused = restore_caused v w name [] source sink refusal is.cause;
+    wrote = inl refl;
+    faults_are = is.reads.faults_are;
+    durable = tt;
+    source_faults = λ other. refl;
+    sink_faults = λ other. refl;
+  };
+  frame = reads_frame (Restore name) (Some (Refused refusal)) v w is.reads.only;
+  blank = tt;
+  untouched = tt;
+}
+
+-- ---- no memory before the disk was called
+
+left_blank : (command : CommandLine) (v w : DiskView) → OnlyReads v w → IsLeftBlank command v w
+left_blank (Format slots) v w reads = λ old known. ((old, reads.content_is ∙ known, inl refl), λ c since. inl (since_start v w reads c since))
+left_blank (Ingest name) v w reads = tt
+left_blank (Restore name) v w reads = tt
+
+memory_untouched : (command : CommandLine) (v w : DiskView) → OnlyReads v w → IsUntouched command (Some (Refused Memory)) v w
+memory_untouched (Format slots) v w reads = (reads.content_is, λ old known. reads.images_are)
+memory_untouched (Ingest name) v w reads = tt
+memory_untouched (Restore name) v w reads = tt
+
+memory_wrote : (command : CommandLine) (given : List ℕ) (v w : DiskView) (sink : SinkView) → WroteOnAny command given (Some (Refused Memory)) v w sink sink
+memory_wrote (Format slots) given v w sink = refl
+memory_wrote (Ingest name) given v w sink = refl
+memory_wrote (Restore name) given v w sink = inl refl
+
+memory_durable : (command : CommandLine) (w : DiskView) → EndsDurable command (Some (Refused Memory)) w
+memory_durable (Format slots) w = tt
+memory_durable (Ingest name) w = tt
+memory_durable (Restore name) w = tt
+
+-- There was no memory, and the disk was read at most.
+pub without_memory : (command : CommandLine) (given : List ℕ) (v w : DiskView) (source source_now : SourceView) (sink : SinkView) → Reads NoFault v w → Took command given source source_now → source_now.faults ≡ source.faults
+    → Keeps command given (Some (Refused Memory)) v w source source_now sink sink
+without_memory command given v w source source_now sink reads took faults = record {
+  map = reads_map command given (Refused Memory) v w sink sink reads.only (not_sink Memory) (memory_answers command given v w sink reads.only);
+  any = record {
+    took = took;
+    caused = tt;
+    wrote = memory_wrote command given v w sink;
+    faults_are = reads.faults_are;
+    durable = memory_durable command w;
+    source_faults = λ other. faults;
+    sink_faults = λ other. refl;
+  };
+  frame = reads_frame command (Some (Refused Memory)) v w reads.only;
+  blank = left_blank command v w reads.only;
+  untouched = memory_untouched command v w reads.only;
+}
+
+pub not_begun : (command : CommandLine) (given : List ℕ) (v : DiskView) (source : SourceView) (sink : SinkView) → Took command given source source → Keeps command given (Some (Refused Memory)) v v source source sink sink
+not_begun command given v source sink took = without_memory command given v v source source sink (reads_refused v) took refl
+
+-- ---- the source was not taken in
+
+refused_no_source : (refusal : Refusal) → ¬ (Refused refusal ≡ Source)
+refused_no_source refusal is = cc
+
+not_sink_source : ¬ (Source ≡ Sink)
+not_sink_source is = cc
+
+source_answers : (name given : List ℕ) (v w : DiskView) (sink : SinkView) → AnswersEach (Ingest name) given (Some Source) v w sink sink
+source_answers name given v w sink old known among m distinct right is = record { by_map = (name, refl); wrote = refl }
+
+long_answers : (name given : List ℕ) (v w : DiskView) (sink : SinkView) → OnlyReads v w → most_bytes < length given → AnswersEach (Ingest name) given (Some (Refused TooLong)) v w sink sink
+long_answers name given v w sink reads long old known among m distinct right is = record {
+  by_map = (left_with (IsIn among) m old w.content (λ store. most_bytes < length given) (reads.content_is ∙ known) is long, λ clashes. clashes);
+  wrote = refl;
+}
+
+module _ (C : Type 0) (state : C → CoreState) (v w : DiskView) (old new : C) (was : Called C state v w old new) where
+  -- what the opening showed stays so
+  abbrev pub holds : IsLater (state old).disk w → Holds v w
+  holds later = record {
+    store = was.opened.store;
+    right = until v (state old).disk w was.opened.right was.first.only.later.clock_is later;
+    reserve = was.opened.reserve;
+  }
+
+  module _ (same : new ≡ old) (name given : List ℕ) (source source_now : SourceView) (sink : SinkView) (took : Known source.left (λ all. given ≡ all)) where
+    closed : Reads Done (state old).disk w
+    closed = subst (λ (c : C). Reads Done (state c).disk w) same was.last
+
+    whole : Reads NoFault v w
+    whole = reads_then v w (reads_on Done v (state old).disk w was.first closed)
+
+    nothing_added : HasAdded given v w
+    nothing_added = record { holds = holds closed.only.later; changes = []; after = was.opened.store; chain = refl; adds = tt }
+
+    by_source : Rose source.faults source_now.faults → Keeps (Ingest name) given (Some Source) v w source source_now sink sink
+    by_source rose = record {
+      map = reads_map (Ingest name) given Source v w sink sink whole.only not_sink_source (source_answers name given v w sink);
+      any = record {
+        took = took;
+        caused = ((name, refl), holds closed.only.later, rose);
+        wrote = refl;
+        faults_are = whole.faults_are;
+        durable = tt;
+        source_faults = λ other. absurd (other refl);
+        sink_faults = λ other. refl;
+      };
+      frame = reads_frame (Ingest name) (Some Source) v w whole.only;
+      blank = tt;
+      untouched = tt;
+    }
+
+    by_length : most_bytes < length given → source_now.faults ≡ source.faults → Keeps (Ingest name) given (Some (Refused TooLong)) v w source source_now sink sink
+    by_length long faults = record {
+      map = reads_map (Ingest name) given (Refused TooLong) v w sink sink whole.only (not_sink TooLong) (long_answers name given v w sink whole.only long);
+      any = record {
+        took = took;
+        caused = inr (nothing_added, long);
+        wrote = refl;
+        faults_are = whole.faults_are;
+        durable = tt;
+        source_faults = λ other. faults;
+        sink_faults = λ other. refl;
+      };
+      frame = reads_frame (Ingest name) (Some (Refused TooLong)) v w whole.only;
+      blank = tt;
+      untouched = tt;
+    }
+
+    -- nothing was asked of the core
+    pub not_taken : (ending : Ending) → IsSourceFault source source_now ending → (ending ≡ Refused TooLong → most_bytes < length given) → (¬ (ending ≡ Source) → source_now.faults ≡ source.faults)
+        → Keeps (Ingest name) given (Some ending) v w source source_now sink sink
+    not_taken Source cause long faults = by_source cause
+    not_taken (Refused Memory) cause long faults = without_memory (Ingest name) given v w source source_now sink whole took (faults (λ is. refused_no_source Memory is))
+    not_taken (Refused TooLong) cause long faults = by_length (long refl) (faults (λ is. refused_no_source TooLong is))
+    not_taken ending cause long faults = absurd cause

@@ -1,0 +1,128 @@
+-- A name that is not opened: what the promise says of it.
+use Rattle.std.proofs.Common.{◌≡◌, inl, inr, ℕ, false, List, [], is_some, Option, Some, None, Result, Err, refl, sym, ◌∙◌, ap, subst}
+use Rattle.std.specs.Prelude.{replicate}
+use Rattle.std.specs.FinMap as finite
+use Rattle.dd_disk.specs.View.{DiskView}
+use Rattle.dd_disk.specs.Ending.{Reads, ending_of}
+use Rattle.dd_disk.proofs.Ended.{reads_on}
+use Rattle.dd_io.specs.Flow.{SourceView, SinkView}
+use Rattle.actor_parts.specs.declared.actor.TheConstants.{ACTORS}
+use Rattle.actor_parts.specs.declared.part.Part.{Part}
+use Rattle.actor_parts.specs.declared.part.Part.TheVariants.{Idle}
+use Rattle.actor_parts.specs.Parts.{part_of}
+use Rattle.actor_parts.specs.StepValue as asked
+use Rattle.refusals.specs.declared.refusal.Refusal.{Refusal}
+use Rattle.refusals.specs.declared.refusal.Refusal.TheVariants.{Memory, NoFile, BadName, WrongPart}
+use Rattle.reply_text.specs.declared.ending.Ending.{Ending}
+use Rattle.reply_text.specs.declared.ending.Ending.TheVariants as endings
+use Rattle.disk_format.specs.Cells.{IsName}
+use Rattle.namespace.specs.Names.{NameMap}
+use Rattle.store_model.specs.Files.{Stored}
+use Rattle.store_model.specs.Image.{names_of}
+use Rattle.store_model.specs.Collisions.{IsIn}
+use Rattle.store_state.specs.Refused.{blames}
+use Rattle.read_steps.specs.Readers as readers
+use Rattle.store_core.specs.Core.{CoreStep, OpenRow}
+use Rattle.store_core.specs.Runs.{IsOf, FileEvent}
+use Rattle.store_core.specs.Sound.{FindsFile}
+use Rattle.store_core.specs.State.{CoreState, Event}
+use Rattle.store_core.proofs.Damage.{finds_files}
+use Rattle.backup_engine.specs.Line.{Restore}
+use Rattle.backup_engine.specs.Promise.{EndsBy}
+use Rattle.backup_engine.specs.AnyDisk.{IsCaused}
+use Rattle.backup_engine.specs.Running.{IsNotOpened}
+use Rattle.backup_engine.specs.TopCall.{Keeps, ending_in}
+use Rattle.backup_engine.proofs.Called.{Called, starts}
+use Rattle.backup_engine.proofs.Giving.{reads_closed}
+use Rattle.backup_engine.proofs.NotDone.{holds, not_sink, left_with, restore_failed}
+use Rattle.backup_engine.proofs.Reading.{AnswersEach, reads_frame, reads_map, wrote_nothing}
+use Rattle.backup_engine.proofs.ReadSteps.{LeavesAll, open_leaves, steps_of}
+
+-- no name has a file where its entry is none
+is_none : {A : Type 0} (o : Option A) → o ≡ None → is_some o ≡ false
+is_none o is = ap is_some is
+
+-- the actors of a core that was opened just now
+idle_first : part_of (replicate ACTORS Idle) 0 ≡ Idle
+unfolding part_of
+idle_first = refl
+
+module _ (C : Type 0) (state : C → CoreState) (v w : DiskView) (old new : C) (was : Called C state v w old new) (name : List ℕ) (source : SourceView) (sink : SinkView) (refusal : Refusal) (buf : List ℕ) where
+  abbrev asks : Event
+  asks = record { actor = 0; step = asked.OpenRead name; answer = Err refusal; buf = buf }
+
+  module _ (step : CoreStep (state old) asks (state new)) where
+    leaves : LeavesAll (Err refusal) (state old) (state new)
+    leaves = open_leaves name (Err refusal) buf (state old) (state new) was.opened.stop_is step
+
+    of_core : Reads (ending_of (blames refusal)) (state old).disk w
+    of_core = reads_closed (ending_of (blames refusal)) (state old).disk (state new).disk w leaves.reads was.last
+
+    of_call : Reads (ending_of (blames refusal)) v w
+    of_call = reads_on (ending_of (blames refusal)) v (state old).disk w was.first of_core
+
+    row : OpenRow name 0 (Err refusal) (state old) (state new)
+    row = (steps_of asks (state old) (state new) was.opened.stop_is step).made.row
+
+    idle : part_of (state old).parts 0 ≡ Idle
+    idle = ap (λ (parts : List Part). part_of parts 0) was.opened.parts_are ∙ idle_first
+
+    -- ---- over any disk
+
+    -- no reader has this name, since it is no name, or has no root; else there was no memory
+    caused_by : (r : Refusal) → readers.IsOpenRefusal (state old).tables.names name (part_of (state old).parts 0) r → IsCaused (Restore name) [] v w source source sink sink (Some (endings.Refused r))
+    caused_by Memory cause = tt
+    caused_by BadName cause = inr (inl (holds C state v w old new was of_core.only.later, cause.1))
+    caused_by NoFile cause =
+        inr (inl (holds C state v w old new was of_core.only.later, (cause.1.0, is_none (finite.get (names_of was.opened.store) name) (ap (λ (names : NameMap). finite.get names name) (sym was.opened.represents.names_are.names_are) ∙ cause.1.1))))
+    caused_by (WrongPart kind) cause = absurd (cause.0 idle)
+    caused_by r cause = absurd cause.1
+
+    -- ---- over a map
+
+    abbrev opening : FileEvent
+    opening = record { event = asks; bytes = [] }
+
+    by_map : (S : List ℕ → Type 0) (m : Stored) (image : List ℕ) → w.content ≡ Some image → IsOf S m image
+        → (r : Refusal) → readers.IsOpenRefusal (state old).tables.names name (part_of (state old).parts 0) r → FindsFile m.files (asked.OpenRead name) (Err r) → EndsBy (Restore name) [] m w.content (Some (endings.Refused r))
+    by_map S m image told is Memory cause finds = restore_failed name [] S m image w.content told is Memory refl
+    by_map S m image told is BadName cause finds = (left_with S m image w.content (λ store. ¬ (IsName name)) told is cause.1, λ clashes. clashes)
+    by_map S m image told is NoFile cause finds = (
+      left_with S m image w.content (λ store. IsName name × (is_some (finite.get m.files name) ≡ false)) told is (cause.1.0, is_none (finite.get m.files name) finds),
+      λ clashes. clashes,
+    )
+    by_map S m image told is (WrongPart kind) cause finds = absurd (cause.0 idle)
+    by_map S m image told is r cause finds = absurd cause.1
+
+    answers : AnswersEach (Restore name) [] (Some (endings.Refused refusal)) v w sink sink
+    answers image known among m distinct right is =
+        let start = starts C state v w old new was (IsIn among) m image known is in
+        let finds = finds_files C state among [] opening start.store m old old new distinct start.is_at refl (record { asked = tt; given = tt; made = step }) in
+        record {
+          by_map = by_map (IsIn among) m image (of_call.only.content_is ∙ known) is refusal row.0 finds;
+          wrote = wrote_nothing (Restore name) [] m (endings.Refused refusal) sink (not_sink refusal);
+        }
+
+    kept : Keeps (Restore name) [] (Some (endings.Refused refusal)) v w source source sink sink
+    kept = record {
+      map = reads_map (Restore name) [] (endings.Refused refusal) v w sink sink of_call.only (not_sink refusal) answers;
+      any = record {
+        took = (refl, refl);
+        caused = caused_by refusal row.0;
+        wrote = inl refl;
+        faults_are = of_call.faults_are;
+        durable = tt;
+        source_faults = λ other. refl;
+        sink_faults = λ other. refl;
+      };
+      frame = reads_frame (Restore name) (Some (endings.Refused refusal)) v w of_call.only;
+      blank = tt;
+      untouched = tt;
+    }
+
+pub not_opened : (C : Type 0) (state : C → CoreState) (v w : DiskView) (old new : C) → Called C state v w old new → (name : List ℕ) (result : Result Unit Ending) (source : SourceView) (sink sink_now : SinkView)
+    → IsNotOpened C state name result old new sink sink_now → Keeps (Restore name) [] (ending_in result) v w source source sink sink_now
+not_opened C state v w old new was name result source sink sink_now is =
+    subst (λ (r : Result Unit Ending). Keeps (Restore name) [] (ending_in r) v w source source sink sink_now) (sym is.result_is)
+    (subst (λ (s : SinkView). Keeps (Restore name) [] (Some (endings.Refused is.refusal)) v w source source sink s) (sym is.sink_is)
+    (kept C state v w old new was name source sink is.refusal is.buf is.asked))

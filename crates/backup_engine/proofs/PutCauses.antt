@@ -1,0 +1,305 @@
+-- What the top call promises of `ingest` over any disk: each ending has its cause.
+use Rattle.std.proofs.Common.{◌≡◌, inl, inr, ℕ, ◌<◌, ◌≤◌, List, [], ◌∷◌, length, Option, Some, None, false, Result, Ok, Err, OnOk, IfErr, refl, sym, ◌∙◌, ap, subst, arith}
+use Rattle.std.specs.Prelude.{is_some, IsSome}
+use Rattle.std.specs.FinMap as finite
+use Rattle.std.specs.List.{AllByRecursion}
+use Rattle.base_model.specs.Known.{Known}
+use Rattle.disk_format.specs.declared.numbers.TheConstants.{MOST_NAMES}
+use Rattle.dd_disk.specs.View.{DiskView, IsLater}
+use Rattle.dd_disk.specs.Ending.{Done, CountsFault, ending, ending_of}
+use Rattle.dd_disk.proofs.Ended.{counts_on}
+use Rattle.dd_disk.proofs.Later.{later_here, later_on, durable_reads}
+use Rattle.dd_disk.proofs.Shows.{until}
+use Rattle.dd_io.specs.Flow.{SourceView, SinkView}
+use Rattle.actor_parts.specs.declared.step.Answer.{Answer}
+use Rattle.actor_parts.specs.StepValue as asked
+use Rattle.actor_parts.specs.StepValue.{StepValue}
+use Rattle.namespace.specs.declared.record.Named.{Named}
+use Rattle.namespace.specs.Names.{NameMap, HasRoom}
+use Rattle.refusals.specs.declared.refusal.Refusal.{Refusal}
+use Rattle.refusals.specs.declared.refusal.Refusal.TheVariants.{Memory, DiskRead, DiskWrite, TooLong}
+use Rattle.reply_text.specs.declared.ending.Ending.{Ending}
+use Rattle.reply_text.specs.declared.ending.Ending.TheVariants.{Words, Source, Sink, Refused}
+use Rattle.reply_text.specs.Text.{stored_line}
+use Rattle.store_model.specs.Image.{Store, IsValidFor, names_of}
+use Rattle.store_model.specs.Steps.{StoreChange, CanPut, with_put}
+use Rattle.store_model.specs.Trees.{root_of}
+use Rattle.store_state.specs.Refused.{blames}
+use Rattle.store_state.specs.Tables.{OfEach}
+use Rattle.store_core.specs.declared.stop.Stop.{Stop}
+use Rattle.store_core.specs.Core.{Effect, StepsOr}
+use Rattle.store_core.specs.Runs.{ChangesTo, CoreRun, FileEvent, events_of}
+use Rattle.store_core.specs.State.{CoreState, Event}
+use Rattle.store_core.proofs.Stepping.{step_later}
+use Rattle.backup_engine.specs.AnyDisk.{Holds, HasAdded, AddsOnce, IsStored, IsCaused, OnAnyDisk}
+use Rattle.backup_engine.specs.Line.{Ingest}
+use Rattle.backup_engine.specs.PlainMap.{most_bytes, HasPieces, HasNoCell, room_in}
+use Rattle.backup_engine.specs.Running.{PutRun, IsPutRefusal, IsOk, IsLastPut, seals_of}
+use Rattle.backup_engine.specs.Storing.{Replies, Sent, IsNotTaken, IsTaken, IsSourceFault, IngestRun}
+use Rattle.backup_engine.specs.TopCall.{ending_in}
+use Rattle.backup_engine.proofs.Called.{Called}
+use Rattle.backup_engine.proofs.PutChanges.{IsOn, Puts, EndsBy, IsWayStep, AreUnless, ways_of, put_changes}
+
+-- ---- counts of faults
+
+module _ (old new : CoreState) where
+  effect_faults : (step : StepValue) (answer : Result Answer Refusal) → Effect step answer old new → CountsFault (ending blames answer) old.disk.faults new.disk.faults
+  effect_faults asked.Begin answer effect = effect.disk.faults_are
+  effect_faults (asked.Claim seg) answer effect = effect.disk.faults_are
+  effect_faults (asked.Seal filled) answer effect = effect.disk.faults_are
+  effect_faults (asked.Commit name root) answer effect = effect.disk.faults_are
+  effect_faults asked.Abort answer effect = effect.disk.faults_are
+  effect_faults (asked.OpenRead name) answer effect = effect.disk.faults_are
+  effect_faults asked.ReadNext answer effect = effect.disk.faults_are
+  effect_faults asked.EndRead answer effect = effect.disk.faults_are
+  effect_faults asked.Stat answer effect = effect.disk.faults_are
+
+  step_faults : (e : Event) (stop : Option Stop) → StepsOr stop e old new → CountsFault (ending blames e.answer) old.disk.faults new.disk.faults
+  step_faults e None steps = effect_faults e.step e.answer steps.made.effect
+  step_faults e (Some stop) steps =
+      subst (λ (answer : Result Answer Refusal). CountsFault (ending blames answer) old.disk.faults new.disk.faults) (sym steps.answer_is) steps.same.disk.faults_are
+
+done_faults : (answer : Result Answer Refusal) (before now : ℕ) → IsOk answer → CountsFault (ending blames answer) before now → now ≡ before
+done_faults (Err refusal) before now ok counts = absurd ok
+done_faults (Ok answer) before now ok counts = counts
+
+last_ok : (step : StepValue) (answer : Result Answer Refusal) → IsLastPut step answer → IsOk answer
+last_ok (asked.Commit name root) answer last = last
+last_ok asked.Begin answer last = absurd last
+last_ok (asked.Claim seg) answer last = absurd last
+last_ok (asked.Seal filled) answer last = absurd last
+last_ok asked.Abort answer last = absurd last
+last_ok (asked.OpenRead name) answer last = absurd last
+last_ok asked.ReadNext answer last = absurd last
+last_ok asked.EndRead answer last = absurd last
+last_ok asked.Stat answer last = absurd last
+
+module _ (C : Type 0) (state : C → CoreState) where
+  abbrev faults : C → ℕ
+  faults c = (state c).disk.faults
+
+  -- the same disk, later
+  pub run_later : (events : List Event) (old new : C) → CoreRun C state events old new → IsLater (state old).disk (state new).disk
+  run_later [] old new run = subst (λ (c : C). IsLater (state old).disk (state c).disk) (sym run) (later_here (state old).disk)
+  run_later (e ∷ es) old new run =
+      later_on (state old).disk (state run.0).disk (state new).disk (step_later (state old) (state run.0) e (state old).stop run.1.0) (run_later es run.0 new run.1.1)
+
+  way_faults : (name bytes : List ℕ) (way : List FileEvent) (old new : C) → CoreRun C state (events_of way) old new → AllByRecursion (IsWayStep name bytes) way → faults new ≡ faults old
+  way_faults name bytes [] old new run each = ap faults run
+  way_faults name bytes (f ∷ fs) old new run each =
+      way_faults name bytes fs run.0 new run.1.1 each.1
+      ∙ done_faults f.event.answer (faults old) (faults run.0) each.0.1.1 (step_faults (state old) (state run.0) f.event (state old).stop run.1.0)
+
+  last_faults : (name bytes : List ℕ) (result : Result Unit Refusal) (mid new : C) → EndsBy C state name bytes result mid new → CountsFault (ending blames result) (faults mid) (faults new)
+  last_faults name bytes (Ok u) mid new last =
+      let e = last.f.event in
+      done_faults e.answer (faults mid) (faults new) (last_ok e.step e.answer last.last) (step_faults (state mid) (state new) e (state mid).stop last.made)
+  last_faults name bytes (Err refusal) mid new (inl none) =
+      subst (λ (r : Refusal). CountsFault (ending_of (blames r)) (faults mid) (faults new)) (sym none.1) (ap faults none.0)
+  last_faults name bytes (Err refusal) mid new (inr last) =
+      subst (λ (answer : Result Answer Refusal). CountsFault (ending blames answer) (faults mid) (faults new)) last.answer_is
+      (step_faults (state mid) (state new) last.f.event (state mid).stop last.made)
+
+  pub put_faults : (name bytes : List ℕ) (result : Result Unit Refusal) (old new : C) → PutRun C state name bytes result old new → CountsFault (ending blames result) (faults old) (faults new)
+  put_faults name bytes result old new run =
+      let ways = ways_of C state name bytes result old new run in
+      counts_on (ending blames result) (faults old) (faults ways.mid) (faults new) (way_faults name bytes ways.way old ways.mid ways.ran ways.each) (last_faults name bytes result ways.mid new ways.last)
+
+-- ---- names
+
+no_some : (named : Option Named) → IsSome named → is_some named ≡ false → ⊥
+no_some None some none = absurd cc
+no_some (Some n) some none = absurd cc
+
+has_room : (names : NameMap) (name : List ℕ) → HasRoom names name → is_some (finite.get names name) ≡ false → MOST_NAMES ≤ finite.len names → ⊥
+has_room names name (inl some) none many = no_some (finite.get names name) some none
+has_room names name (inr below) none many = absurd (omega (arith, below, many))
+
+-- each piece of a file is held, by each store that the tables represent
+abbrev pub HoldsPieces : List ℕ → List ℕ → CoreState → Type 0
+HoldsPieces name given c = OfEach c.disk.size c.known c.tables (λ store. HasPieces given (room_in (Ingest name) store))
+
+-- ---- the call
+
+module _ (C : Type 0) (state : C → CoreState) (v w : DiskView) (old new : C) (called : Called C state v w old new) where
+  abbrev store : Store
+  store = called.opened.store
+
+  -- the core is on the store that was opened
+  pub opened_on : IsOn store (state old)
+  opened_on = record {
+    represents = called.opened.represents;
+    valid = subst (λ (size : ℕ). IsValidFor size store) (sym called.first.only.later.size_is) called.opened.valid;
+    reserve = called.opened.reserve;
+    told = called.opened.told;
+    runs = called.opened.stop_is;
+  }
+
+  abbrev pub holds : IsLater (state old).disk (state new).disk → Holds v w
+  holds later = record {
+    store = store;
+    right = until v (state old).disk w called.opened.right called.first.only.later.clock_is (later_on (state old).disk (state new).disk w later called.last.only.later);
+    reserve = called.opened.reserve;
+  }
+
+  abbrev has_added : (given : List ℕ) → IsLater (state old).disk (state new).disk → (changes : List StoreChange) (after : Store) → ChangesTo changes store after → AddsOnce given changes store
+      → HasAdded given v w
+  has_added given later changes after chain adds = record { holds = holds later; changes = changes; after = after; chain = chain; adds = adds }
+
+  all_faults : (e : _) → CountsFault e (state old).disk.faults (state new).disk.faults → CountsFault e v.faults w.faults
+  all_faults e counts =
+      subst (λ (n : ℕ). CountsFault e v.faults n) (sym called.last.faults_are) (counts_on e v.faults (state old).disk.faults (state new).disk.faults called.first.faults_are counts)
+
+  module _ (name given : List ℕ) (source source_now : SourceView) (sink sink_now : SinkView) where
+    abbrev Any : Option Ending → Type 0
+    Any ending = OnAnyDisk (Ingest name) given ending v w source source_now sink sink_now
+
+    cause_of : (refusal : Refusal) (added : HasAdded given v w) → AreUnless refusal added.after (state new) → IsPutRefusal name given (state new) refusal
+        → IsCaused (Ingest name) given v w source source_now sink sink_now (Some (Refused refusal))
+    cause_of Memory added are refuses = tt
+    cause_of DiskRead added are refuses = tt
+    cause_of DiskWrite added are refuses = tt
+    cause_of refusal added are refuses = inr (added, refuses.store_has added.after are.represents are.valid are.reserve)
+
+    -- a name that can be put has a cell
+    has_cell : (after : Store) → CanPut name after → HasNoCell (room_in (Ingest name) after) → ⊥
+    has_cell after can (inl full) = has_room (names_of after) name can.room full.0 full.1
+    has_cell after can (inr many) = absurd (omega (arith, many, can.cell))
+
+    module _ (took : Known source.left (λ all. given ≡ all)) where
+      abbrev Heard : Option Ending → Type 0
+      Heard ending = ¬ (ending ≡ Some Source) → source_now.faults ≡ source.faults
+
+      module _ (result : Result Unit Refusal) (run : PutRun C state name given result old new) where
+        abbrev puts : Puts name run.steps result store (state new)
+        puts = put_changes C state name given store result old new opened_on run
+
+        abbrev later : IsLater (state old).disk (state new).disk
+        later = run_later C state (events_of run.steps) old new run.ran
+
+        abbrev added : HasAdded given v w
+        added = has_added given later (seals_of run.steps) puts.after puts.chain (run.adds.store_has store called.opened.represents (opened_on).valid called.opened.reserve)
+
+      stored : (run : PutRun C state name given (Ok tt) old new) → length given ≤ most_bytes → HoldsPieces name given (state new) → IsStored name given v w
+      stored run few held =
+          let ends = (puts (Ok tt) run).ends in
+          record {
+            added = added (Ok tt) run;
+            all = record {
+              few = few;
+              pieces = held.store_has (with_put name ends.root (puts (Ok tt) run).after) ends.are.represents ends.are.valid ends.are.reserve;
+              named = ends.can.named;
+              cell = has_cell (puts (Ok tt) run).after ends.can;
+            };
+            can = ends.can;
+          }
+
+      -- the file was put in
+      was_put : PutRun C state name given (Ok tt) old new → length given ≤ most_bytes → HoldsPieces name given (state new) → (result : Result Unit Ending)
+          → Sent (stored_line name (root_of given)) result sink sink_now → Heard (ending_in result) → Any (ending_in result)
+      was_put run few held (Ok u) sent heard = record {
+        took = took;
+        caused = stored run few held;
+        wrote = sent.0;
+        faults_are = all_faults Done (put_faults C state name given (Ok tt) old new run);
+        durable = durable_reads (state new).disk w (puts (Ok tt) run).ends.durable called.last.only;
+        source_faults = heard;
+        sink_faults = λ other. sent.1;
+      }
+      was_put run few held (Err Sink) sent heard = record {
+        took = took;
+        caused = (stored run few held, sent.1);
+        wrote = sent.0;
+        faults_are = all_faults Done (put_faults C state name given (Ok tt) old new run);
+        durable = durable_reads (state new).disk w (puts (Ok tt) run).ends.durable called.last.only;
+        source_faults = heard;
+        sink_faults = λ other. absurd (other refl);
+      }
+      was_put run few held (Err Words) sent heard = absurd sent
+      was_put run few held (Err Source) sent heard = absurd sent
+      was_put run few held (Err (Refused refusal)) sent heard = absurd sent
+
+      -- it was refused
+      was_refused : (refusal : Refusal) → PutRun C state name given (Err refusal) old new → IsPutRefusal name given (state new) refusal → sink_now ≡ sink → Heard (Some (Refused refusal))
+          → Any (Some (Refused refusal))
+      was_refused refusal run refuses same heard = record {
+        took = took;
+        caused = cause_of refusal (added (Err refusal) run) (puts (Err refusal) run).ends refuses;
+        wrote = ap (λ (k : SinkView). k.written) same;
+        faults_are = all_faults (ending_of (blames refusal)) (put_faults C state name given (Err refusal) old new run);
+        durable = tt;
+        source_faults = heard;
+        sink_faults = λ other. ap (λ (k : SinkView). k.faults) same;
+      }
+
+      by_put : (put : Result Unit Refusal) → PutRun C state name given put old new → length given ≤ most_bytes → OnOk put (HoldsPieces name given (state new))
+          → IfErr put (IsPutRefusal name given (state new)) → (result : Result Unit Ending) → Replies (stored_line name (root_of given)) put result sink sink_now → Heard (ending_in result)
+          → Any (ending_in result)
+      by_put (Ok u) run few held refused result replies heard = was_put run few held result replies heard
+      by_put (Err refusal) run few held refused result replies heard =
+          subst (λ (r : Result Unit Ending). Any (ending_in r)) (sym replies.0)
+          (was_refused refusal run refused replies.1 (subst (λ (r : Result Unit Ending). Heard (ending_in r)) replies.0 heard))
+
+      pub taken_any : (result : Result Unit Ending) (taken : IsTaken C state name given result old new sink sink_now) → OnOk taken.put (HoldsPieces name given (state new)) → Heard (ending_in result)
+          → Any (ending_in result)
+      taken_any result taken held heard = by_put taken.put taken.ran taken.few held taken.refused result taken.replies heard
+
+      module _ (core : new ≡ old) (same : sink_now ≡ sink) where
+        still_later : IsLater (state old).disk (state new).disk
+        still_later = subst (λ (c : C). IsLater (state old).disk (state c).disk) (sym core) (later_here (state old).disk)
+
+        still_faults : w.faults ≡ v.faults
+        still_faults = all_faults Done (ap (λ (c : C). (state c).disk.faults) core)
+
+        abbrev sink_still : sink_now.faults ≡ sink.faults
+        sink_still = ap (λ (k : SinkView). k.faults) same
+
+        -- nothing was asked of the core
+        untaken : (ending : Ending) → IsSourceFault source source_now ending → (ending ≡ Refused TooLong → most_bytes < length given) → Heard (Some ending) → Any (Some ending)
+        untaken Words cause long heard = absurd cause
+        untaken Sink cause long heard = absurd cause
+        untaken Source cause long heard = record {
+          took = took;
+          caused = ((name, refl), holds still_later, cause);
+          wrote = ap (λ (k : SinkView). k.written) same;
+          faults_are = still_faults;
+          durable = tt;
+          source_faults = heard;
+          sink_faults = λ other. sink_still;
+        }
+        untaken (Refused Memory) cause long heard = record {
+          took = took;
+          caused = tt;
+          wrote = ap (λ (k : SinkView). k.written) same;
+          faults_are = still_faults;
+          durable = tt;
+          source_faults = heard;
+          sink_faults = λ other. sink_still;
+        }
+        untaken (Refused TooLong) cause long heard = record {
+          took = took;
+          caused = inr (has_added given still_later [] store refl tt, long refl);
+          wrote = ap (λ (k : SinkView). k.written) same;
+          faults_are = still_faults;
+          durable = tt;
+          source_faults = heard;
+          sink_faults = λ other. sink_still;
+        }
+        untaken (Refused refusal) cause long heard = absurd cause
+
+      pub untaken_any : (result : Result Unit Ending) → IsNotTaken C given result old new source source_now sink sink_now → Heard (ending_in result) → Any (ending_in result)
+      untaken_any result is heard =
+          subst (λ (r : Result Unit Ending). Any (ending_in r)) (sym is.result_is)
+          (untaken is.core_is is.sink_is is.ending is.cause is.long (subst (λ (r : Result Unit Ending). Heard (ending_in r)) is.result_is heard))
+
+-- Over any disk each ending of a run of `ingest` has its cause, where each piece of a file that was put in is held, and no
+-- fault of the source is passed over.
+pub ingest_any : (C : Type 0) (state : C → CoreState) (v w : DiskView) (old new : C) → Called C state v w old new → (name : List ℕ) (result : Result Unit Ending)
+    (source source_now : SourceView) (sink sink_now : SinkView) (run : IngestRun C state name result old new source source_now sink sink_now)
+    → ((taken : IsTaken C state name run.given result old new sink sink_now) → OnOk taken.put (HoldsPieces name run.given (state new)))
+    → (¬ (ending_in result ≡ Some Source) → source_now.faults ≡ source.faults)
+    → OnAnyDisk (Ingest name) run.given (ending_in result) v w source source_now sink sink_now
+ingest_any C state v w old new called name result source source_now sink sink_now run held heard = elim run.way [
+  | inl none ↦ untaken_any C state v w old new called name run.given source source_now sink sink_now run.took result none heard
+  | inr taken ↦ taken_any C state v w old new called name run.given source source_now sink sink_now run.took result taken (held taken) heard
+]

@@ -1,0 +1,381 @@
+-- What `ingest` never changes, whatever the disk holds.
+use Rattle.std.proofs.Common.{◌≡◌, ◌⊎◌, inl, inr, ℕ, ◌-◌, ◌^◌, ◌<◌, ◌≤◌, List, [], ◌∷◌, Option, Some, None, Result, Ok, Err, sym, ◌∙◌, subst, arith}
+use Rattle.std.specs.List.{AllByRecursion}
+use Rattle.base_model.specs.Frames.{SameOutside}
+use Rattle.base_model.specs.Known.{KnownWith}
+use Rattle.disk_format.specs.declared.numbers.TheConstants.{CELL_BYTES, RESERVE}
+use Rattle.disk_format.specs.Cells.{Root}
+use Rattle.disk_format.specs.Layout.{half_cells, cell_at, slot_at}
+use Rattle.dd_disk.specs.View.{DiskView, IsLater, OnlyReads, CrashLeaves, SteppedFrom}
+use Rattle.dd_disk.proofs.Later.{later_here, reads_here, reads_leave, leaves_on, leaves_weaker}
+use Rattle.dd_disk.proofs.Shows.{shown_content}
+use Rattle.dd_io.specs.Flow.{SourceView, SinkView}
+use Rattle.container_meta.specs.Segments.{Contents}
+use Rattle.actor_parts.specs.declared.step.Answer.{Answer}
+use Rattle.actor_parts.specs.declared.step.Answer.TheVariants as answers
+use Rattle.actor_parts.specs.StepValue as asked
+use Rattle.actor_parts.specs.StepValue.{StepValue}
+use Rattle.refusals.specs.declared.refusal.Refusal.{Refusal}
+use Rattle.refusals.specs.declared.refusal.Refusal.TheVariants.{DiskRead, DiskWrite}
+use Rattle.reply_text.specs.declared.ending.Ending.{Ending}
+use Rattle.reply_text.specs.declared.ending.Ending.TheVariants.{Words, Source, Sink, Refused}
+use Rattle.reply_text.specs.Text.{stored_line}
+use Rattle.segment_index.specs.Changes.{SameBefore}
+use Rattle.store_model.specs.Image.{Store, Encodes}
+use Rattle.store_model.specs.Slots.{free_slots, first_free}
+use Rattle.store_model.specs.Trees.{root_of}
+use Rattle.store_model.proofs.Free.{some_free}
+use Rattle.store_state.specs.Settled.{IsSettled}
+use Rattle.ingest_steps.specs.Sealing.{ChangesSlotAlone, SameButSlotOf}
+use Rattle.store_core.specs.Core.{CoreStep, Row, Effect, SealsOne, PutsOne}
+use Rattle.store_core.specs.Runs.{CoreRun, FileEvent, events_of}
+use Rattle.store_core.specs.State.{CoreState}
+use Rattle.store_core.proofs.Stepping.{effect_later}
+use Rattle.backup_engine.specs.Frame.{KeepsOpen, KeepsRest, KeepsOthers}
+use Rattle.backup_engine.specs.Line.{Ingest}
+use Rattle.backup_engine.specs.Promise.{MayChange, SinceStart}
+use Rattle.backup_engine.specs.Running.{PutRun, IsAskedFor, IsNoCommit, IsOk, IsLastPut, seal_by}
+use Rattle.backup_engine.specs.Storing.{Replies, IngestRun}
+use Rattle.backup_engine.specs.TopCall.{ending_in}
+use Rattle.backup_engine.proofs.Called.{Called}
+use Rattle.backup_engine.proofs.KeptBytes.{IsFreeIn, KeepsSlots, free_held, free_sealed, first_is_shut, slots_here, same_here, slots_settled, slots_sealed, open_kept, open_next}
+use Rattle.backup_engine.proofs.PutCauses.{opened_on, run_later}
+use Rattle.backup_engine.proofs.PutChanges.{IsOn, EndsBy, IsPutLast, IsStepRefused, IsWayStep, way_step, running_step, ways_of}
+
+-- ---- one step
+
+-- at the end, and in each image from the start on, of this P
+pub record Leaves (P : List ℕ → Type 0) (old new : DiskView) : Type 0 where
+  pub content : KnownWith new.content P
+  pub images : CrashLeaves P old new
+
+-- the disk of a core that is on a store: all is as in the base but what the store leaves free there
+pub record IsHeldBy (first : Store) (base : List ℕ) (store : Store) (v : DiskView) : Type 0 where
+  pub free : IsFreeIn first base store
+  pub content : KnownWith v.content (KeepsSlots first.slots base)
+  pub settled : IsSettled first.slots v
+
+module _ (first : Store) (base : List ℕ) (t : Store) (old new : CoreState) (on : IsOn t old) (held : IsHeldBy first base t old.disk) where
+  abbrev slots : ℕ
+  slots = first.slots
+
+  abbrev given : List ℕ
+  given = held.content.0
+
+  abbrev known : old.disk.content ≡ Some given
+  known = held.content.1
+
+  abbrev keeps : KeepsSlots slots base given
+  keeps = held.content.2
+
+  abbrev Slots : List ℕ → Type 0
+  Slots = KeepsSlots slots base
+
+  image_keeps : (c : List ℕ) → old.disk.images c → KeepsSlots slots base c
+  image_keeps c image = slots_settled slots base given keeps c (held.settled given known c image)
+
+  -- nothing was written
+  by_reads : OnlyReads old.disk new.disk → Leaves Slots old.disk new.disk
+  by_reads reads = record { content = (given, reads.content_is ∙ known, keeps); images = reads_leave Slots old.disk new.disk image_keeps reads }
+
+  still_settled : OnlyReads old.disk new.disk → IsSettled slots new.disk
+  still_settled reads bytes is c image = held.settled bytes (sym reads.content_is ∙ is) c (reads.images_are c image)
+
+  tables_slots : old.tables.slots ≡ slots
+  tables_slots = on.represents.slots_are ∙ held.free.slots_are
+
+  -- a container was written, or in part
+  by_seal : (filled : Contents) (answer : Result Answer Refusal) → SealsOne filled answer old new → Leaves Slots old.disk new.disk
+  by_seal filled answer effect =
+      let frame : ChangesSlotAlone slots (first_free t.held) old.disk new.disk =
+      subst (λ (n : ℕ). ChangesSlotAlone n (first_free t.held) old.disk new.disk) tables_slots (effect.moves.frame.store_has t on.represents on.valid on.reserve) in
+      let shut = first_is_shut first base t held.free (some_free t.held (omega (arith, on.reserve))) in
+      let left = frame.settled held.settled given known in
+      let each = λ (c : List ℕ) (same : SameButSlotOf slots (first_free t.held) given c). slots_sealed slots base given keeps (first_free t.held) c shut same in
+      record {
+        content = (left.0.0, left.0.1, each left.0.0 left.0.2);
+        images = leaves_weaker (SameButSlotOf slots (first_free t.held) given) Slots old.disk new.disk each left.1;
+      }
+
+  seal_settled : (filled : Contents) (answer : Answer) → SealsOne filled (Ok answer) old new → IsSettled slots new.disk
+  seal_settled filled answer effect =
+      subst (λ (n : ℕ). IsSettled n new.disk) tables_slots (effect.disk.left (subst (λ (n : ℕ). IsSettled n old.disk) (sym tables_slots) held.settled))
+
+  -- a record was written, or in part
+  module _ (ending : Option Ending) (right : Encodes base first) (reserve : RESERVE ≤ free_slots first.held) where
+    abbrev Open : List ℕ → Type 0
+    Open = KeepsOpen ending base
+
+    slots_open : (c : List ℕ) → KeepsSlots slots base c → KeepsOpen ending base c
+    slots_open c keeps_there = open_kept first base right reserve c keeps_there ending
+
+    pub slots_leave : Leaves Slots old.disk new.disk → Leaves Open old.disk new.disk
+    slots_leave leaves = record {
+      content = (leaves.content.0, leaves.content.1, slots_open leaves.content.0 leaves.content.2);
+      images = leaves_weaker Slots Open old.disk new.disk slots_open leaves.images;
+    }
+
+    module _ (may : MayChange ending) (room : old.tables.journal.count < half_cells) where
+      -- all but the cell after the journal's records
+      abbrev SameButNext : List ℕ → List ℕ → Type 0
+      SameButNext before after = SameOutside (cell_at old.tables.journal.half old.tables.journal.count) CELL_BYTES before after
+
+      next_open : (d c : List ℕ) → KeepsSlots slots base d → SameButNext d c → KeepsOpen ending base c
+      next_open d c keeps_there same =
+          open_next first base right reserve d keeps_there ending may old.tables.journal.half old.tables.journal.count (on.represents.names_are.half ∙ held.free.half_is)
+          (on.represents.names_are.count ∙ held.free.count_is) room c same
+
+      by_commit : (name : List ℕ) (root : Root) (answer : Result Answer Refusal) → PutsOne name root answer old new → Leaves Open old.disk new.disk
+      by_commit name root answer effect =
+          let images = leaves_weaker (SteppedFrom SameButNext old.disk) Open old.disk new.disk (λ c from. elim from [
+            | inl image ↦ slots_open c (image_keeps c image)
+            | inr step ↦ next_open step.0 c (image_keeps step.0 step.1) step.2
+          ]) (effect.frame.leaves given known) in
+          let now = effect.disk.later.tells given known in
+          record { content = (now.0, now.1, images.now now.0 (new.disk.as_read now.0 now.1)); images = images }
+
+-- ---- the steps on the way
+
+-- a core on a store, whose disk holds it, and what a crash left since the start
+pub record IsFramed (first : Store) (base : List ℕ) (start : DiskView) (c : CoreState) : Type 0 where
+  pub store : Store
+  pub on : IsOn store c
+  pub held : IsHeldBy first base store c.disk
+  pub clock : start.clock ≤ c.disk.clock
+  pub images : CrashLeaves (KeepsSlots first.slots base) start c.disk
+
+module _ (first : Store) (base : List ℕ) where
+  abbrev All : List ℕ → Type 0
+  All = KeepsSlots first.slots base
+
+  module _ (t : Store) (old new : CoreState) (on : IsOn t old) (held : IsHeldBy first base t old.disk) where
+    reads_held : OnlyReads old.disk new.disk → Leaves All old.disk new.disk × IsSettled first.slots new.disk
+    reads_held reads = (by_reads first base t old new on held reads, still_settled first base t old new on held reads)
+
+    step_held : (name bytes put : List ℕ) (step : StepValue) (answer : Result Answer Refusal) → IsAskedFor name bytes step put → IsNoCommit step → IsOk answer → Effect step answer old new
+        → Leaves All old.disk new.disk × IsSettled first.slots new.disk
+    step_held name bytes put step (Err refusal) asks other ok effect = absurd ok
+    step_held name bytes put asked.Begin (Ok answer) asks other ok effect = reads_held effect.disk.only
+    step_held name bytes put (asked.Claim seg) (Ok answer) asks other ok effect = reads_held effect.disk.only
+    step_held name bytes put (asked.Seal filled) (Ok answer) asks other ok effect =
+        (by_seal first base t old new on held filled (Ok answer) effect, seal_settled first base t old new on held filled answer effect)
+    step_held name bytes put (asked.Commit n root) (Ok answer) asks other ok effect = absurd other
+    step_held name bytes put asked.Abort (Ok answer) asks other ok effect = absurd asks
+    step_held name bytes put (asked.OpenRead n) (Ok answer) asks other ok effect = absurd asks
+    step_held name bytes put asked.ReadNext (Ok answer) asks other ok effect = absurd asks
+    step_held name bytes put asked.EndRead (Ok answer) asks other ok effect = absurd asks
+    step_held name bytes put asked.Stat (Ok answer) asks other ok effect = absurd asks
+
+  module _ (name bytes : List ℕ) (start : DiskView) where
+    framed_step : (f : FileEvent) (old new : CoreState) → IsFramed first base start old → CoreStep old f.event new → IsWayStep name bytes f → IsFramed first base start new
+    framed_step f old new framed made is =
+        let effect = (running_step old new f.event framed.on.runs made).made.effect in
+        let here = way_step name bytes f framed.store old new framed.on made is in
+        let disk = step_held framed.store old new framed.on framed.held name bytes f.bytes f.event.step f.event.answer is.0.asked_for is.1.0 is.1.1 effect in
+        record {
+          store = here.after;
+          on = here.on;
+          held = record {
+            free = free_sealed first base (seal_by f.event.step f.event.answer) framed.store here.after here.chain here.seals framed.held.free;
+            content = disk.0.content;
+            settled = disk.1;
+          };
+          clock = omega (arith, framed.clock, (effect_later old new f.event.step f.event.answer effect).clock_is);
+          images = leaves_on All All All start old.disk new.disk framed.clock framed.images disk.0.images (λ c keeps_it. keeps_it) (λ c keeps_it. keeps_it);
+        }
+
+    framed_way : (C : Type 0) (state : C → CoreState) (way : List FileEvent) (old new : C) → IsFramed first base start (state old) → CoreRun C state (events_of way) old new
+        → AllByRecursion (IsWayStep name bytes) way → IsFramed first base start (state new)
+    framed_way C state [] old new framed run each = subst (λ (c : C). IsFramed first base start (state c)) (sym run) framed
+    framed_way C state (f ∷ fs) old new framed run each =
+        framed_way C state fs run.0 new (framed_step f (state old) (state run.0) framed run.1.0 each.0) run.1.1 each.1
+
+-- ---- the last step
+
+commit_room : (old new : CoreState) (name : List ℕ) (root : Root) (actor : ℕ) (buf : List ℕ) (answer : Answer) → Row (asked.Commit name root) actor (Ok answer) buf old new → old.tables.journal.count < half_cells
+commit_room old new name root actor buf (answers.Committed sequence) row = row.0.may_name.cell
+commit_room old new name root actor buf answer row = absurd row
+
+module _ (first : Store) (base : List ℕ) (right : Encodes base first) (reserve : RESERVE ≤ free_slots first.held) (start : DiskView) where
+  module _ (old new : CoreState) (framed : IsFramed first base start old) where
+    abbrev t : Store
+    t = framed.store
+
+    abbrev EndsSo : Option Ending → Type 0
+    EndsSo ending = Leaves (KeepsOpen ending base) old.disk new.disk
+
+    here_open : (ending : Option Ending) → Leaves (KeepsSlots first.slots base) old.disk new.disk → EndsSo ending
+    here_open ending leaves = slots_leave first base t old new framed.on framed.held ending right reserve leaves
+
+    reads_open : (ending : Option Ending) → OnlyReads old.disk new.disk → EndsSo ending
+    reads_open ending reads = here_open ending (by_reads first base t old new framed.on framed.held reads)
+
+    put_open : (ending : Option Ending) → MayChange ending → (actor : ℕ) (buf : List ℕ) (step : StepValue) (answer : Result Answer Refusal) → IsLastPut step answer → Row step actor answer buf old new
+        → Effect step answer old new → EndsSo ending
+    put_open ending may actor buf (asked.Commit name root) (Err refusal) last row effect = absurd last
+    put_open ending may actor buf (asked.Commit name root) (Ok answer) last row effect =
+        by_commit first base t old new framed.on framed.held ending right reserve may (commit_room old new name root actor buf answer row) name root (Ok answer) effect
+    put_open ending may actor buf asked.Begin answer last row effect = absurd last
+    put_open ending may actor buf (asked.Claim seg) answer last row effect = absurd last
+    put_open ending may actor buf (asked.Seal filled) answer last row effect = absurd last
+    put_open ending may actor buf asked.Abort answer last row effect = absurd last
+    put_open ending may actor buf (asked.OpenRead name) answer last row effect = absurd last
+    put_open ending may actor buf asked.ReadNext answer last row effect = absurd last
+    put_open ending may actor buf asked.EndRead answer last row effect = absurd last
+    put_open ending may actor buf asked.Stat answer last row effect = absurd last
+
+    -- a commit that was refused wrote nothing, but where a write failed
+    uncommitted : (name : List ℕ) (root : Root) (actor : ℕ) (buf : List ℕ) (refusal : Refusal) → Row (asked.Commit name root) actor (Err refusal) buf old new → PutsOne name root (Err refusal) old new
+        → EndsSo (Some (Refused refusal))
+    uncommitted name root actor buf DiskWrite row effect =
+        by_commit first base t old new framed.on framed.held (Some (Refused DiskWrite)) right reserve tt row.0.0.may_name.cell name root (Err DiskWrite) effect
+    uncommitted name root actor buf DiskRead row effect = reads_open (Some (Refused DiskRead)) effect.disk.ends
+    uncommitted name root actor buf refusal row effect = reads_open (Some (Refused refusal)) effect.disk.ends
+
+    refused_open : (actor : ℕ) (buf : List ℕ) (refusal : Refusal) (step : StepValue) → Row step actor (Err refusal) buf old new → Effect step (Err refusal) old new → EndsSo (Some (Refused refusal))
+    refused_open actor buf refusal asked.Begin row effect = reads_open (Some (Refused refusal)) effect.disk.only
+    refused_open actor buf refusal (asked.Claim seg) row effect = reads_open (Some (Refused refusal)) effect.disk.only
+    refused_open actor buf refusal (asked.Seal filled) row effect = here_open (Some (Refused refusal)) (by_seal first base t old new framed.on framed.held filled (Err refusal) effect)
+    refused_open actor buf refusal (asked.Commit name root) row effect = uncommitted name root actor buf refusal row effect
+    refused_open actor buf refusal asked.Abort row effect = reads_open (Some (Refused refusal)) effect.disk.only
+    refused_open actor buf refusal (asked.OpenRead name) row effect = reads_open (Some (Refused refusal)) effect.disk.only
+    refused_open actor buf refusal asked.ReadNext row effect = reads_open (Some (Refused refusal)) effect.disk.only
+    refused_open actor buf refusal asked.EndRead row effect = reads_open (Some (Refused refusal)) effect.disk.only
+    refused_open actor buf refusal asked.Stat row effect = reads_open (Some (Refused refusal)) effect.disk.only
+
+    -- and what was left before
+    since_start : (ending : Option Ending) → EndsSo ending → Leaves (KeepsOpen ending base) start new.disk
+    since_start ending leaves = record {
+      content = leaves.content;
+      images = leaves_on (KeepsSlots first.slots base) (KeepsOpen ending base) (KeepsOpen ending base) start old.disk new.disk framed.clock framed.images leaves.images
+          (λ c keeps_it. open_kept first base right reserve c keeps_it ending) (λ c keeps_it. keeps_it);
+    }
+
+  -- the core is as it was
+  framed_open : (c : CoreState) (ending : Option Ending) → IsFramed first base start c → Leaves (KeepsOpen ending base) start c.disk
+  framed_open c ending framed = since_start c c framed ending (reads_open c c framed ending (reads_here c.disk))
+
+  pub last_put : (name bytes : List ℕ) (ending : Option Ending) → MayChange ending → (mid new : CoreState) → IsFramed first base start mid → IsPutLast name bytes mid new
+      → Leaves (KeepsOpen ending base) start new.disk
+  last_put name bytes ending may mid new framed last =
+      let e = last.f.event in
+      let steps = running_step mid new e framed.on.runs last.made in
+      since_start mid new framed ending (put_open mid new framed ending may e.actor e.buf e.step e.answer last.last steps.made.row steps.made.effect)
+
+  pub last_refused : (name bytes : List ℕ) (refusal : Refusal) (mid new : CoreState) → IsFramed first base start mid → IsStepRefused name bytes refusal mid new
+      → Leaves (KeepsOpen (Some (Refused refusal)) base) start new.disk
+  last_refused name bytes refusal mid new framed last =
+      let e = last.f.event in
+      let steps = running_step mid new e framed.on.runs last.made in
+      since_start mid new framed (Some (Refused refusal))
+      (refused_open mid new framed e.actor e.buf refusal e.step (subst (λ (answer : Result Answer Refusal). Row e.step e.actor answer e.buf mid new) last.answer_is steps.made.row)
+      (subst (λ (answer : Result Answer Refusal). Effect e.step answer mid new) last.answer_is steps.made.effect))
+
+-- ---- the call
+
+module _ (C : Type 0) (state : C → CoreState) (v w : DiskView) (old new : C) (called : Called C state v w old new) where
+  abbrev store : Store
+  store = called.opened.store
+
+  abbrev Left : List ℕ → Option Ending → Type 0
+  Left base ending = Leaves (KeepsOpen ending base) (state old).disk (state new).disk
+
+  module _ (base : List ℕ) (known : v.content ≡ Some base) where
+    encodes : Encodes base store
+    encodes = shown_content v (state old).disk (λ image. Encodes image store) base called.opened.right known
+
+    reserve : RESERVE ≤ free_slots store.held
+    reserve = called.opened.reserve
+
+    told : (state old).disk.content ≡ Some base
+    told = called.first.only.content_is ∙ known
+
+    framed : IsFramed store base (state old).disk (state old)
+    framed = record {
+      store = store;
+      on = opened_on C state v w old new called;
+      held = record {
+        free = free_held base store encodes;
+        content = (base, told, slots_here store.slots base);
+        settled = λ bytes is c image. subst (SameBefore (slot_at store.slots) bytes) (sym (called.durable bytes is c image)) (same_here (slot_at store.slots) bytes);
+      };
+      clock = omega arith;
+      images = reads_leave (KeepsSlots store.slots base) (state old).disk (state old).disk
+          (λ c image. subst (KeepsSlots store.slots base) (sym (called.durable base told c image)) (slots_here store.slots base)) (reads_here (state old).disk);
+    }
+
+    put_left : (name bytes : List ℕ) (ending : Option Ending) → MayChange ending → PutRun C state name bytes (Ok tt) old new → Left base ending
+    put_left name bytes ending may run =
+        let ways = ways_of C state name bytes (Ok tt) old new run in
+        let there = framed_way store base name bytes (state old).disk C state ways.way old ways.mid framed ways.ran ways.each in
+        last_put store base encodes reserve (state old).disk name bytes ending may (state ways.mid) (state new) there ways.last
+
+    ended : (name bytes : List ℕ) (refusal : Refusal) (mid : C) → IsFramed store base (state old).disk (state mid) → EndsBy C state name bytes (Err refusal) mid new → Left base (Some (Refused refusal))
+    ended name bytes refusal mid there (inl none) =
+        framed_open store base encodes reserve (state old).disk (state new) (Some (Refused refusal)) (subst (λ (c : C). IsFramed store base (state old).disk (state c)) (sym none.0) there)
+    ended name bytes refusal mid there (inr last) = last_refused store base encodes reserve (state old).disk name bytes refusal (state mid) (state new) there last
+
+    refused_left : (name bytes : List ℕ) (refusal : Refusal) → PutRun C state name bytes (Err refusal) old new → Left base (Some (Refused refusal))
+    refused_left name bytes refusal run =
+        let ways = ways_of C state name bytes (Err refusal) old new run in
+        ended name bytes refusal ways.mid (framed_way store base name bytes (state old).disk C state ways.way old ways.mid framed ways.ran ways.each) ways.last
+
+    still_left : (ending : Option Ending) → new ≡ old → Left base ending
+    still_left ending core = framed_open store base encodes reserve (state old).disk (state new) ending (subst (λ (c : C). IsFramed store base (state old).disk (state c)) (sym core) framed)
+
+    taken_left : (name bytes : List ℕ) (put : Result Unit Refusal) → PutRun C state name bytes put old new → (reply : List ℕ) (result : Result Unit Ending) (sink sink_now : SinkView)
+        → Replies reply put result sink sink_now → Left base (ending_in result)
+    taken_left name bytes (Ok u) run reply (Ok done) sink sink_now sent = put_left name bytes None tt run
+    taken_left name bytes (Ok u) run reply (Err Sink) sink sink_now sent = put_left name bytes (Some Sink) tt run
+    taken_left name bytes (Ok u) run reply (Err Words) sink sink_now sent = absurd sent
+    taken_left name bytes (Ok u) run reply (Err Source) sink sink_now sent = absurd sent
+    taken_left name bytes (Ok u) run reply (Err (Refused refusal)) sink sink_now sent = absurd sent
+    taken_left name bytes (Err refusal) run reply result sink sink_now replies =
+        subst (λ (r : Result Unit Ending). Left base (ending_in r)) (sym replies.0) (refused_left name bytes refusal run)
+
+  -- what is so of the core's disk is so of the one that was handed in
+  module _ (name : List ℕ) (ending : Option Ending) (left : (base : List ℕ) → v.content ≡ Some base → Left base ending) where
+    at_end : (base : List ℕ) → v.content ≡ Some base → (c : List ℕ) → w.images c → KeepsOpen ending base c
+    at_end base known c image = (left base known).images.now c (called.last.only.images_are c image)
+
+    earlier : (c : List ℕ) → v.clock < 2 ^ 64 - 1 → (state old).disk.images_since v.clock c → v.images c
+    earlier c below since = elim (called.first.only.since_are v.clock c (omega arith) since) [
+      | inl was ↦ v.only_now c below was
+      | inr image ↦ image
+    ]
+
+    since_call : (base : List ℕ) → v.content ≡ Some base → (c : List ℕ) → v.clock < 2 ^ 64 - 1 → (state new).disk.images_since v.clock c → v.images c ⊎ KeepsOpen ending base c
+    since_call base known c below since = elim ((left base known).images.since v.clock c called.first.only.later.clock_is since) [
+      | inl was ↦ inl (earlier c below was)
+      | inr kept ↦ inr kept
+    ]
+
+    -- the end of the core's run is not before the call
+    abbrev clocks : v.clock ≤ (state old).disk.clock
+    clocks = called.first.only.later.clock_is
+
+    crashed : (base : List ℕ) → v.content ≡ Some base → IsLater (state old).disk (state new).disk → (c : List ℕ) → SinceStart v w c → v.images c ⊎ KeepsRest (Ingest name) ending base c
+    crashed base known later c (inl image) = inr (inr (at_end base known c image))
+    crashed base known later c (inr since) =
+        elim (called.last.only.since_are v.clock c (omega (arith, called.first.only.later.clock_is, later.clock_is)) since.1) [
+          | inl was ↦ elim (since_call base known c since.0 was) [ inl image ↦ inl image | inr kept ↦ inr (inr kept) ]
+          | inr image ↦ inr (inr ((left base known).images.now c image))
+        ]
+
+    pub others_kept : IsLater (state old).disk (state new).disk → KeepsOthers (Ingest name) ending v w
+    others_kept later = record {
+      content = λ base known. let there = (left base known).content in (there.0, called.last.only.content_is ∙ there.1, inr there.2);
+      crash = λ base known. crashed base known later;
+    }
+
+-- Whatever the disk holds, `ingest` keeps what was open.
+pub ingest_frame : (C : Type 0) (state : C → CoreState) (v w : DiskView) (old new : C) → Called C state v w old new → (name : List ℕ) (result : Result Unit Ending)
+    (source source_now : SourceView) (sink sink_now : SinkView) (run : IngestRun C state name result old new source source_now sink sink_now)
+    → KeepsOthers (Ingest name) (ending_in result) v w
+ingest_frame C state v w old new called name result source source_now sink sink_now run = elim run.way [
+  | inl none ↦ others_kept C state v w old new called name (ending_in result) (λ base known. still_left C state v w old new called base known (ending_in result) none.core_is)
+      (subst (λ (c : C). IsLater (state old).disk (state c).disk) (sym none.core_is) (later_here (state old).disk))
+  | inr taken ↦ others_kept C state v w old new called name (ending_in result)
+      (λ base known. taken_left C state v w old new called base known name run.given taken.put taken.ran (stored_line name (root_of run.given)) result sink sink_now taken.replies)
+      (run_later C state (events_of taken.ran.steps) old new taken.ran.ran)
+]

@@ -1,0 +1,30 @@
+-- Taking a source in, piece by piece.
+use Rattle.std.proofs.Common.{◌≡◌, ℕ, ◌≤◌, List, [], ◌++◌, length, take, drop, Option, refl, sym, ◌∙◌, ap, arith, append_assoc, length-append, take-append-drop}
+use Rattle.std.proofs.lemmas.List.{append-nil}
+use Rattle.dd_io.specs.Flow.{Takes}
+use Rattle.base_model.specs.Known.{Known}
+use Rattle.backup_engine.specs.Storing.{TakesIn, TakenSoFar}
+
+pub none_taken : (first : Option (List ℕ)) → TakenSoFar first first []
+none_taken first = record { rest = λ all told. (all, refl, told) }
+
+pub more_taken : (first mid now : Option (List ℕ)) (bytes piece : List ℕ) (n : ℕ) → TakenSoFar first mid bytes → Known mid (λ left. Takes n left piece now) → TakenSoFar first now (bytes ++ take n piece)
+more_taken first mid now bytes piece n so_far takes = record {
+  rest = λ all told.
+      let before = so_far.rest all told in
+      let more = takes before.0 before.2 in
+      (drop n before.0, before.1 ∙ ap (λ (l : List ℕ). bytes ++ l) (sym (take-append-drop n before.0) ∙ ap (λ (l : List ℕ). l ++ drop n before.0) (sym more.bytes)) ∙ sym (append_assoc bytes (take n piece) (drop n before.0)), more.rest);
+}
+
+pub all_taken : (first now : Option (List ℕ)) (bytes : List ℕ) → length bytes ≤ 2048 → TakenSoFar first now bytes → Known now (λ left. left ≡ []) → TakesIn first bytes
+all_taken first now bytes few so_far end = record {
+  at_most = few;
+  all = λ all told.
+      let before = so_far.rest all told in
+      sym (before.1 ∙ ap (λ (l : List ℕ). bytes ++ l) (end before.0 before.2) ∙ append-nil bytes);
+}
+
+pub too_many : (first now : Option (List ℕ)) (bytes : List ℕ) → 2049 ≤ length bytes → TakenSoFar first now bytes → Known first (λ all. 2049 ≤ length all)
+too_many first now bytes many so_far = λ all told.
+    let before = so_far.rest all told in
+    omega (arith, ap length before.1, length-append bytes before.0, many)

@@ -1,0 +1,36 @@
+-- What is so on the way of giving a file back (docs/MODEL.md, 'Commands').
+use Rattle.std.specs.Prelude.{◌≡◌, ℕ, List, None}
+use Rattle.std.specs.List.{AllByRecursion, concat}
+use Rattle.base_model.specs.Known.{Appended}
+use Rattle.dd_io.specs.Flow.{SinkView}
+use Rattle.actor_parts.specs.declared.part.Part.{Part}
+use Rattle.actor_parts.specs.declared.part.Part.TheVariants.{Reading}
+use Rattle.actor_parts.specs.Parts.{part_of}
+use Rattle.read_steps.specs.Walking.{bytes_ahead}
+use Rattle.store_core.specs.Core.{CoreStep}
+use Rattle.store_core.specs.Runs.{CoreRun, opens, given_to}
+use Rattle.store_core.specs.State.{CoreState, Event, IsUp}
+use Rattle.backup_engine.specs.Running.{IsRead, IsGiven}
+
+-- The name was opened, and each segment that was read since then was written.
+pub record GivenSoFar (C : Type 0) (state : C → CoreState) (name : List ℕ) (old now : C) (sink sink_now : SinkView) : Type 0 where
+  pub count : ℕ
+  pub buf : List ℕ
+  pub mid : C
+  pub opened : CoreStep (state old) (opens 0 name count buf) (state mid)
+  pub reads : List Event
+  pub ran : CoreRun C state reads mid now
+  pub each : AllByRecursion IsRead reads
+  pub given : AllByRecursion (λ e. IsGiven e.answer) reads
+  pub wrote : Appended sink.written sink_now.written (concat (given_to 0 reads))
+  pub faults_are : sink_now.faults ≡ sink.faults
+  pub up : IsUp (state now)
+  pub runs : (state now).stop ≡ None
+
+-- how many bytes of the file are to come to the first actor
+abbrev pub bytes_of_part : Part → ℕ
+bytes_of_part (Reading reader) = bytes_ahead reader.cursor
+bytes_of_part part = 0
+
+abbrev pub bytes_to_come : CoreState → ℕ
+bytes_to_come c = bytes_of_part (part_of c.parts 0)

@@ -10,6 +10,7 @@ pub mod HeldFile
 pub mod Holding
 pub mod Ingesting
 pub mod KeptBytes
+pub mod Lists
 pub mod NotDone
 pub mod NotOpened
 pub mod Numbers

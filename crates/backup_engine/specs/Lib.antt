@@ -3,6 +3,7 @@ pub mod Frame
 pub mod Giving
 pub mod Line
 pub mod LineValue
+pub mod Lists
 pub mod PlainMap
 pub mod Promise
 pub mod Putting

@@ -4,6 +4,7 @@
 mod format;
 mod giving;
 mod ingest;
+mod laws;
 mod lent;
 mod putting;
 mod reply;
@@ -12,4 +13,5 @@ mod storing;
 mod top_call;
 mod words;
 
+pub use laws::commands_follow_the_map;
 pub use top_call::{backup, backup_alone, size_of_format};

@@ -1,5 +1,5 @@
 -- What `ingest` keeps: by the map, over any disk, and of the rest.
-use Rattle.std.proofs.Common.{◌≡◌, ◌⊎◌, inl, inr, ◌≤◌, List, ℕ, length, Some, None, Result, Ok, Err, refl, sym, subst}
+use Rattle.std.proofs.Common.{◌≡◌, ◌⊎◌, inl, inr, ◌≤◌, List, ℕ, length, Some, None, Result, Ok, Err, IfErr, refl, sym, subst}
 use Rattle.dd_disk.specs.View.{DiskView}
 use Rattle.dd_io.specs.Flow.{SourceView, SinkView}
 use Rattle.refusals.specs.declared.refusal.Refusal.{Refusal}

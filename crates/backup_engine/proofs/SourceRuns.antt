@@ -29,7 +29,7 @@ given_long None long = omega (arith, length-replicate 2049 (let zero : ℕ = 0 i
 given_long (Some bytes) long = long bytes refl
 
 module _ (C : Type 0) (state : C → CoreState) (name : List ℕ) (source source_now : SourceView) where
-  heard_of : {T : Type 0} (ending : Ending) → IsHeard {T} (Err ending) source source_now → IsHeard {Unit} (Err ending) source source_now
+  heard_of : {T : Type 0} (ending : Ending) → IsHeard {T = T} (Err ending) source source_now → IsHeard {T = Unit} (Err ending) source source_now
   heard_of Source heard = tt
   heard_of Words heard = heard
   heard_of Sink heard = heard
@@ -40,7 +40,7 @@ module _ (C : Type 0) (state : C → CoreState) (name : List ℕ) (source source
   heard_sent reply (Err Sink) sink sink_now same sent = same
   heard_sent reply (Err ending) sink sink_now same sent = absurd sent
 
-  pub not_taken : {T : Type 0} (ending : Ending) (core : C) (sink : SinkView) → IsSourceFault source source_now ending → IsHeard {T} (Err ending) source source_now → IngestRun C state name (Err ending) core core source source_now sink sink
+  pub not_taken : {T : Type 0} (ending : Ending) (core : C) (sink : SinkView) → IsSourceFault source source_now ending → IsHeard {T = T} (Err ending) source source_now → IngestRun C state name (Err ending) core core source source_now sink sink
   not_taken ending core sink cause heard = record {
     given = given_of source.left;
     took = given_told source.left;

@@ -2,6 +2,7 @@ pub mod Called
 pub mod FewBytes
 pub mod FirstActor
 pub mod Formatting
+pub mod Fresh
 pub mod GiveRuns
 pub mod GivenBack
 pub mod GivenOrder
@@ -9,6 +10,7 @@ pub mod GivenOut
 pub mod HeldFile
 pub mod Holding
 pub mod Ingesting
+pub mod Kept
 pub mod KeptBytes
 pub mod Lists
 pub mod NotDone
@@ -28,6 +30,7 @@ pub mod PutStops
 pub mod ReadSteps
 pub mod Reading
 pub mod Replied
+pub mod Returned
 pub mod RightPuts
 pub mod RightRoots
 pub mod SameRoom

@@ -14,11 +14,11 @@ use Rattle.backup_engine.specs.Running.{PutRun, IsPutRefusal}
 use Rattle.backup_engine.specs.Storing.{TakesIn, IsSourceFault, IsHeard, Sent, IngestRun}
 
 -- What a source gave that wasn't taken in: what it had left; where it doesn't tell that, more than a file has.
-given_of : Option (List ℕ) → List ℕ
+pub given_of : Option (List ℕ) → List ℕ
 given_of None = replicate 2049 0
 given_of (Some bytes) = bytes
 
-given_told : (left : Option (List ℕ)) → Known left (λ all. given_of left ≡ all)
+pub given_told : (left : Option (List ℕ)) → Known left (λ all. given_of left ≡ all)
 unfolding given_of
 given_told None all is = absurd cc
 given_told (Some bytes) all is = cc

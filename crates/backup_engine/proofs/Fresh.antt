@@ -1,0 +1,35 @@
+-- A core that was opened is fresh.
+use Rattle.std.proofs.Common.{◌≡◌, ℕ, List, [], ◌∷◌, max, Option, Some, None, refl, sym, ◌∙◌, ap, subst, arith}
+use Rattle.dd_disk.specs.View.{DiskView}
+use Rattle.dd_disk.specs.Shows.{Shows}
+use Rattle.container_meta.specs.Spelling.{HeaderValue}
+use Rattle.store_model.specs.Slots.{last_id, ids_of}
+use Rattle.store_core.specs.declared.stop.Stop.{Stop}
+use Rattle.store_core.specs.Opening.{IsNew}
+use Rattle.store_core.specs.State.{CoreState, IsUp, IsRunning, UnlessStopped}
+use Rattle.backup_engine.specs.Running.{IsFresh}
+
+-- the greatest id is told by the ids, 0 where a slot is closed
+abbrev greatest : List ℕ → ℕ
+greatest [] = 0
+greatest (n ∷ ns) = max n (greatest ns)
+
+last_of_ids : (held : List (Option HeaderValue)) → greatest (ids_of held) ≡ last_id held
+last_of_ids [] = refl
+last_of_ids (None ∷ cs) = omega (arith, last_of_ids cs)
+last_of_ids (Some h ∷ cs) = ap (max h.id) (last_of_ids cs)
+
+same_last : (a b : List (Option HeaderValue)) → ids_of a ≡ ids_of b → last_id a ≡ last_id b
+same_last a b same = sym (last_of_ids a) ∙ ap greatest same ∙ last_of_ids b
+
+pub fresh : (v : DiskView) (c : CoreState) → IsNew (Shows v c.disk) v.size c → IsRunning c → IsFresh c
+fresh v c new running = record {
+  up = subst (λ (stop : Option Stop). UnlessStopped stop (IsUp c)) new.stop_is running;
+  runs = new.stop_is;
+  idle = new.parts_are;
+  told = new.told;
+  ids = record {
+    store_has = λ store represents valid reserve.
+        new.last_id_is ∙ same_last new.store.held store.held (sym new.represents.slots_hold.ids_are ∙ represents.slots_hold.ids_are);
+  };
+}

@@ -1,0 +1,60 @@
+use Rattle.std.proofs.Common.{rules, refl, sym, [], Some}
+use Rattle.dd_disk.specs.View.{IsLater}
+use Rattle.reply_text.specs.declared.ending.Ending.TheVariants.{Refused}
+use Rattle.backup_engine.specs.Line.{Restore}
+use Rattle.backup_engine.specs.TopCall.{Keeps, ending_in}
+use Rattle.backup_engine.proofs.Called.{Called}
+use Rattle.backup_engine.proofs.Fresh.{fresh}
+use Rattle.backup_engine.proofs.GivenBack.{gives}
+use Rattle.backup_engine.proofs.Kept.{by_same, later_back, restore_back}
+use Rattle.backup_engine.proofs.NotDone.{not_begun, unopened_restore}
+use Rattle.backup_engine.proofs.Returned.{first_same, rest_same, given_later}
+use Rattle.backup_engine.proofs.restore.restore.Goals as goal
+
+pub returns-in_default-clause-keeps : goal.returns-in_default-clause-keeps
+returns-in_default-clause-keeps g c = λ source.
+    not_begun (Restore c.args.name.now) [] (g.D.Disk.view c.args.disk.now) source (g.K.Sink.view c.args.sink.now) (refl, refl)
+
+pub returns-in-Err-clause-keeps : goal.returns-in-Err-clause-keeps
+returns-in-Err-clause-keeps g c = λ source.
+    let view = g.D.Disk.view in
+    let is = c.in-Err.ensures in
+    let name = c.args.name.now in
+    let refusal = c.in-Err.refused.1 in
+    let sink = g.K.Sink.view c.args.sink.now in
+    by_same (λ d. Keeps (Restore name) [] (Some (Refused refusal)) (view c.args.disk.now) (view d) source source sink sink) _ c.in-Err.refused.0.now (search rules)
+    (restore_back _ _ is.back.only.later.loans_are (view c.args.disk.now) (view c.in-Err.refused.0.now) name [] (Some (Refused refusal)) source source sink sink
+    (unopened_restore _ _ refusal (record { cause = is.refused; given_up = is.only; reads = is.back }) name source sink))
+
+pub give_out-given-requires : goal.give_out-given-requires
+give_out-given-requires g c = record { fresh = fresh _ _ c.in-Ok-open.ensures.opened c.in-Ok-open.ensures.running }
+
+pub returns-clause-keeps : goal.returns-clause-keeps
+returns-clause-keeps g c = λ source.
+    let view = g.D.Disk.view in
+    let is = c.in-Ok-open.ensures in
+    let name = c.args.name.now in
+    let result = c.give_out-given.result in
+    let sink = g.K.Sink.view c.args.sink.now in
+    let sink_now = g.K.Sink.view c.give_out-given.new.sink in
+    let closed = c.close-disk.ensures in
+    let ran = c.give_out-given.ensures.ran in
+    let called : Called _ _ _ _ c.in-Ok-open.core c.give_out-given.new.core =
+    record { opened = is.opened; running = is.running; durable = is.durable; first = is.reads; last = closed.disk; clock = closed.moment } in
+    let loans = (given_later _ _ _ _ _ _ called name result sink sink_now ran).loans_are in
+    let named = first_same c.close-disk.result.ghost_name _ _ _ loans in
+    by_same (λ d. Keeps (Restore name) [] (ending_in result) (view c.args.disk.now) (view d) source source sink sink_now) _ c.close-disk.result.now (search (rules, named))
+    (restore_back _ _ loans (view c.args.disk.now) (view c.close-disk.result.now) name [] (ending_in result) source source sink sink_now
+    (gives _ _ _ _ _ _ called name result sink sink_now ran source))
+
+pub returns-clause-later : goal.returns-clause-later
+returns-clause-later g c =
+    let view = g.D.Disk.view in
+    let is = c.in-Ok-open.ensures in
+    let closed = c.close-disk.ensures in
+    let called : Called _ _ _ _ c.in-Ok-open.core c.give_out-given.new.core =
+    record { opened = is.opened; running = is.running; durable = is.durable; first = is.reads; last = closed.disk; clock = closed.moment } in
+    let later = given_later _ _ _ _ _ _ called c.args.name.now c.give_out-given.result _ _ c.give_out-given.ensures.ran in
+    let named = first_same c.close-disk.result.ghost_name _ _ _ later.loans_are in
+    by_same (λ d. IsLater (view c.args.disk.now) (view d)) _ c.close-disk.result.now (search (rules, named))
+    (later_back _ _ later.loans_are (view c.args.disk.now) (view c.close-disk.result.now) (sym (rest_same _ _ _ _ later.loans_are)) later)

@@ -5,13 +5,13 @@ use Rattle.base_model.specs.Known.{Known}
 use Rattle.dd_io.specs.Flow.{SourceView, SinkView}
 use Rattle.refusals.specs.declared.refusal.Refusal.{Refusal}
 use Rattle.reply_text.specs.declared.ending.Ending.{Ending}
-use Rattle.reply_text.specs.declared.ending.Ending.TheVariants.{Words, Source, Sink, Refused}
+use Rattle.reply_text.specs.declared.ending.Ending.TheVariants.{Sink, Refused}
 use Rattle.reply_text.specs.Text.{stored_line}
 use Rattle.store_model.specs.Trees.{root_of}
 use Rattle.store_core.specs.State.{CoreState}
 use Rattle.backup_engine.specs.PlainMap.{most_bytes}
 use Rattle.backup_engine.specs.Running.{PutRun, IsPutRefusal}
-use Rattle.backup_engine.specs.Storing.{TakesIn, IsSourceFault, IsHeard, Sent, IngestRun}
+use Rattle.backup_engine.specs.Storing.{TakesIn, IsSourceFault, IsHeard, IsHeardAt, Sent, IngestRun}
 
 -- What a source gave that wasn't taken in: what it had left; where it doesn't tell that, more than a file has.
 pub given_of : Option (List ℕ) → List ℕ
@@ -29,22 +29,16 @@ given_long None long = omega (arith, length-replicate 2049 (let zero : ℕ = 0 i
 given_long (Some bytes) long = long bytes refl
 
 module _ (C : Type 0) (state : C → CoreState) (name : List ℕ) (source source_now : SourceView) where
-  heard_of : {T : Type 0} (ending : Ending) → IsHeard {T = T} (Err ending) source source_now → IsHeard {T = Unit} (Err ending) source source_now
-  heard_of Source heard = tt
-  heard_of Words heard = heard
-  heard_of Sink heard = heard
-  heard_of (Refused refusal) heard = heard
-
   heard_sent : (reply : List ℕ) (result : Result Unit Ending) (sink sink_now : SinkView) → source_now.faults ≡ source.faults → Sent reply result sink sink_now → IsHeard result source source_now
   heard_sent reply (Ok u) sink sink_now same sent = same
   heard_sent reply (Err Sink) sink sink_now same sent = same
   heard_sent reply (Err ending) sink sink_now same sent = absurd sent
 
-  pub not_taken : {T : Type 0} (ending : Ending) (core : C) (sink : SinkView) → IsSourceFault source source_now ending → IsHeard {T = T} (Err ending) source source_now → IngestRun C state name (Err ending) core core source source_now sink sink
+  pub not_taken : (ending : Ending) (core : C) (sink : SinkView) → IsSourceFault source source_now ending → IsHeardAt source source_now ending → IngestRun C state name (Err ending) core core source source_now sink sink
   not_taken ending core sink cause heard = record {
     given = given_of source.left;
     took = given_told source.left;
-    heard = heard_of ending heard;
+    heard = heard;
     way = inl (record {
       ending = ending;
       result_is = refl;

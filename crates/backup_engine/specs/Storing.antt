@@ -32,10 +32,13 @@ IsSourceFault source source_now (Refused TooLong) = Known source.left (λ bytes.
 IsSourceFault source source_now _ = ⊥
 
 -- the count of its faults stays, but where a fault of it ended the call
-abbrev pub IsHeard : {T : Type 0} → Result T Ending → SourceView → SourceView → Type 0
-IsHeard (Ok x) source source_now = source_now.faults ≡ source.faults
-IsHeard (Err Source) source source_now = Unit {0}
-IsHeard (Err ending) source source_now = source_now.faults ≡ source.faults
+abbrev pub IsHeardAt : SourceView → SourceView → Ending → Type 0
+IsHeardAt source source_now Source = Unit {0}
+IsHeardAt source source_now ending = source_now.faults ≡ source.faults
+
+abbrev pub IsHeard : Result Unit Ending → SourceView → SourceView → Type 0
+IsHeard (Ok u) source source_now = source_now.faults ≡ source.faults
+IsHeard (Err ending) source source_now = IsHeardAt source source_now ending
 
 -- ---- the reply
 

@@ -1,9 +1,9 @@
 //! Taking a source in, and storing it.
-ghost use Rattle.std.specs.Prelude.{◌≡◌, IfOk, IfErr};
+ghost use Rattle.std.specs.Prelude.{◌≡◌, IfOk, IfErr, OnOk};
 ghost use Rattle.store_core.specs.State.{IsRunning};
 ghost use Rattle.backup_engine.specs.PlainMap.{most_bytes};
 ghost use Rattle.backup_engine.specs.Running.{IsFresh};
-ghost use Rattle.backup_engine.specs.Storing.{TakesIn, IsSourceFault, IsHeard, IngestRun};
+ghost use Rattle.backup_engine.specs.Storing.{TakesIn, IsSourceFault, IsHeardAt, IngestRun};
 
 use crate::putting::{put_in, root_of};
 use crate::reply::send;
@@ -20,7 +20,8 @@ const MOST_BYTES: usize = 2_048;
 fn take_in<S: Source>(alloc: Global, source: &mut S) -> Result<Vec<u8>, Ending>
     ensures taken { IfOk result (λ bytes. TakesIn (S.view source.old).left bytes.items) }
     ensures fault { IfErr result (IsSourceFault (S.view source.old) (S.view source.new)) }
-    ensures heard { IsHeard result (S.view source.old) (S.view source.new) }
+    ensures heard { OnOk result ((S.view source.new).faults ≡ (S.view source.old).faults) }
+    ensures missed { IfErr result (IsHeardAt (S.view source.old) (S.view source.new)) }
 {
     let mut bytes = Vec::new(alloc);
     let mut piece = [0u8; 512];

@@ -20,7 +20,7 @@ returns-in_err-bytes-clause-ran g c =
     let sink = g.K.Sink.view c.args.sink.now in
     let e = c.in_err-bytes.field-0.0 in
     by_error (λ (r : Result Unit Ending). IngestRun _ state name r core core source source_now sink sink) c.from_residual.result e c.from_residual.ensures.1
-    (not_taken _ state name source source_now e core sink c.in_err-bytes.ensures.fault c.in_err-bytes.ensures.heard)
+    (not_taken _ state name source source_now e core sink c.in_err-bytes.ensures.fault c.in_err-bytes.ensures.missed)
 
 pub returns-in_err-put_in-clause-ran : goal.returns-in_err-put_in-clause-ran
 returns-in_err-put_in-clause-ran g c =

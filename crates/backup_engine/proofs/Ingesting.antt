@@ -13,7 +13,7 @@ use Rattle.base_model.specs.Known.{Known}
 use Rattle.backup_engine.specs.PlainMap.{most_bytes}
 use Rattle.backup_engine.specs.Promise.{KeepsEachMap}
 use Rattle.backup_engine.specs.Running.{PutRun, IsPutRefusal}
-use Rattle.backup_engine.specs.Storing.{IsHeard, Sent, Replies, IsTaken, IsNotTaken, IngestRun}
+use Rattle.backup_engine.specs.Storing.{IsHeard, Sent, Replies, IsNotTaken, IngestRun}
 use Rattle.backup_engine.specs.TopCall.{Keeps, ending_in}
 use Rattle.backup_engine.proofs.Called.{Called}
 use Rattle.backup_engine.proofs.NotDone.{not_taken}
@@ -65,11 +65,11 @@ module _ (C : Type 0) (state : C → CoreState) (v w : DiskView) (old new : C) (
     elim run.way [
       | inl none ↦ untaken run.given result source source_now sink sink_now run.took run.heard none
       | inr taken ↦ record {
-          map = put_map run.given taken.few sink sink_now taken.put result taken.ran taken.refused taken.replies;
-          any = ingest_caused C state v w old new called name result source source_now sink sink_now run (heard_in result source source_now run.heard);
-          frame = ingest_frame C state v w old new called name result source source_now sink sink_now run;
-          blank = tt;
-          untouched = tt;
-        }
+        map = put_map run.given taken.few sink sink_now taken.put result taken.ran taken.refused taken.replies;
+        any = ingest_caused C state v w old new called name result source source_now sink sink_now run (heard_in result source source_now run.heard);
+        frame = ingest_frame C state v w old new called name result source source_now sink sink_now run;
+        blank = tt;
+        untouched = tt;
+      }
     ],
   )

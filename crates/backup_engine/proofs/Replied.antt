@@ -1,5 +1,5 @@
 -- A command that was done up to its reply, and what became of that.
-use Rattle.std.proofs.Common.{◌≡◌, refl, sym, ◌∙◌, Option, Some, None, Result, Ok, Err, List, ℕ}
+use Rattle.std.proofs.Common.{◌≡◌, refl, Option, Some, None, Result, Ok, Err, List, ℕ}
 use Rattle.base_model.specs.Fault.{Rose}
 use Rattle.dd_io.specs.Flow.{SinkView}
 use Rattle.reply_text.specs.declared.ending.Ending.{Ending}

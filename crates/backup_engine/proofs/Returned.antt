@@ -1,11 +1,11 @@
 -- A disk that was lent to a core comes back: it is the same one, later.
-use Rattle.std.proofs.Common.{◌≡◌, inl, inr, ◌∷◌, [], List, ℕ, Result, refl, sym, ◌∙◌, subst}
+use Rattle.std.proofs.Common.{◌≡◌, inl, inr, ◌∷◌, [], List, ℕ, Result, refl, sym, subst}
 use Rattle.dd_disk.specs.View.{DiskView, IsLater}
 use Rattle.dd_disk.proofs.Later.{later_here, later_on}
 use Rattle.dd_io.specs.Flow.{SourceView, SinkView}
 use Rattle.reply_text.specs.declared.ending.Ending.{Ending}
 use Rattle.store_core.specs.Core.{CoreStep}
-use Rattle.store_core.specs.Runs.{CoreRun, events_of}
+use Rattle.store_core.specs.Runs.{events_of}
 use Rattle.store_core.specs.State.{CoreState, Event}
 use Rattle.backup_engine.specs.Running.{GiveRun}
 use Rattle.backup_engine.specs.Storing.{IngestRun}

@@ -1,5 +1,5 @@
 -- What the top call promises, from what a command keeps.
-use Rattle.std.proofs.Common.{◌≡◌, refl, sym, ◌∙◌, ap, subst, ℕ, List, [], Option, Some, None, Result, Ok, Err}
+use Rattle.std.proofs.Common.{◌≡◌, refl, sym, subst, ℕ, List, [], Option, Some, None}
 use Rattle.dd_disk.specs.View.{DiskView}
 use Rattle.dd_disk.proofs.Later.{reads_here}
 use Rattle.dd_io.specs.Flow.{SourceView, SinkView}
@@ -7,7 +7,7 @@ use Rattle.reply_text.specs.declared.ending.Ending.{Ending}
 use Rattle.reply_text.specs.declared.ending.Ending.TheVariants.{Words}
 use Rattle.reply_text.specs.Table.{status_of}
 use Rattle.backup_engine.specs.Line.{CommandLine}
-use Rattle.backup_engine.specs.TopCall.{Keeps, Does, Promise, IsNoted, AreNoted, ending_in, status_by}
+use Rattle.backup_engine.specs.TopCall.{Keeps, Does, Promise, IsNoted, AreNoted, status_by}
 
 -- words that are no line
 pub words_promise : (line : Option CommandLine) (status : ℕ) (v : DiskView) (source : SourceView) (sink notes notes_now : SinkView) → line ≡ None → status ≡ status_of Words → IsNoted notes notes_now Words

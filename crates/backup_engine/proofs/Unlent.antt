@@ -1,8 +1,6 @@
 -- What is so of a disk that is lent is so of the lender's: the two are known by the same, but for who holds them.
 use Rattle.std.proofs.Common.{◌⊎◌, inl, inr, List, [], ◌∷◌, ℕ, Option, Some, None}
-use Rattle.sha2.specs.Sha256.{sha256}
 use Rattle.disk_format.specs.declared.why.Why.{Why}
-use Rattle.disk_format.specs.declared.why.Why.TheVariants as why
 use Rattle.dd_disk.specs.View.{DiskView}
 use Rattle.dd_disk.specs.Shows.{Shows}
 use Rattle.dd_io.specs.Flow.{SourceView, SinkView}
@@ -15,14 +13,14 @@ use Rattle.reply_text.specs.declared.ending.Ending.TheVariants.{Words, Source, S
 use Rattle.store_model.specs.Files.{Stored}
 use Rattle.store_model.specs.Refusals.{WereFound}
 use Rattle.journal_cells.specs.declared.fault.CellFault.{CellFault}
-use Rattle.recovery.specs.Opening.{IsOpenRefusal, IsSized, BreaksFormat, BreaksJournal, BreaksSlots, HasWrongSize, HasTooFew}
+use Rattle.recovery.specs.Opening.{IsOpenRefusal, IsSized, BreaksFormat, BreaksJournal, BreaksSlots, HasWrongSize}
 use Rattle.recovery.specs.Slots.{IsDamagedSlot}
-use Rattle.read_steps.specs.Walking.{IsCopyAt, WasRead, IsCorrupt, IsMisnamed, IsNextRefusal, IsTopRefusal, IsCopyRefusal, IsDamage, top_key}
-use Rattle.backup_engine.specs.AnyDisk.{Holds, HasAdded, GivesBack, IsStuck, IsRefused, IsStored, IsCaused, WroteOnAny, EndsDurable, OnAnyDisk}
+use Rattle.read_steps.specs.Walking.{WasRead, IsNextRefusal, IsTopRefusal, IsCopyRefusal, top_key}
+use Rattle.backup_engine.specs.AnyDisk.{Holds, HasAdded, GivesBack, IsStuck, IsRefused, IsStored, IsCaused, WroteOnAny, EndsDurable}
 use Rattle.backup_engine.specs.Frame.{KeepsOthers}
 use Rattle.backup_engine.specs.Line.{CommandLine, Ingest, Restore}
 use Rattle.store_model.specs.Collisions.{ByteSet, IsIn}
-use Rattle.backup_engine.specs.Promise.{KeepsMap, KeepsEachMap, IsLeftAs, Stands, NothingWritten}
+use Rattle.backup_engine.specs.Promise.{KeepsEachMap, IsLeftAs, Stands, NothingWritten}
 use Rattle.backup_engine.specs.TopCall.{Keeps}
 
 module _ (loans : List ℕ) (v w : DiskView) where

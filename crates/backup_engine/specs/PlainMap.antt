@@ -8,7 +8,7 @@ use Rattle.disk_format.specs.Layout.{half_cells, size_of}
 use Rattle.refusals.specs.declared.refusal.Difference.TheVariants.{Length}
 use Rattle.refusals.specs.declared.refusal.Refusal.{Refusal}
 use Rattle.refusals.specs.declared.refusal.Refusal.TheVariants.{Memory, NoFile, BadName, TooMany, TooLong, Full, Clash, DiskRead, DiskWrite, Numbers, AlreadyStore, WrongSize}
-use Rattle.store_model.specs.Files.{Files, Stored, with_stored}
+use Rattle.store_model.specs.Files.{Stored, with_stored}
 use Rattle.store_model.specs.Image.{Store, names_of, last_sequence}
 use Rattle.store_model.specs.Slots.{newest, free_slots, last_id}
 use Rattle.store_model.specs.Standing.{IsSegmentOf}

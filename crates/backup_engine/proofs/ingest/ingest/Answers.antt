@@ -1,5 +1,4 @@
-use Rattle.std.proofs.Common.{rules, sym, List, ℕ, Option, Some}
-use Rattle.base_model.specs.Known.{Known}
+use Rattle.std.proofs.Common.{rules, sym, List, ℕ, Some}
 use Rattle.dd_disk.specs.View.{IsLater}
 use Rattle.reply_text.specs.declared.ending.Ending.TheVariants.{Refused}
 use Rattle.backup_engine.specs.Line.{Ingest}
@@ -23,9 +22,11 @@ returns-in-Err-clause-keeps g c =
     let source = g.S.Source.view c.args.source.now in
     let sink = g.K.Sink.view c.args.sink.now in
     let given = given_of source.left in
-    by_same (λ d. (given : List ℕ) × Keeps (Ingest name) given (Some (Refused refusal)) (view c.args.disk.now) (view d) source source sink sink) _ c.in-Err.refused.0.now (search rules)
-    (given, ingest_back _ _ is.back.only.later.loans_are (view c.args.disk.now) (view c.in-Err.refused.0.now) name given (Some (Refused refusal)) source source sink sink
-    (unopened_ingest _ _ refusal (record { cause = is.refused; given_up = is.only; reads = is.back }) name given source sink (given_told source.left)))
+    by_same (λ d. (given : List ℕ) × Keeps (Ingest name) given (Some (Refused refusal)) (view c.args.disk.now) (view d) source source sink sink) _ c.in-Err.refused.0.now (search rules) (
+      given,
+      ingest_back _ _ is.back.only.later.loans_are (view c.args.disk.now) (view c.in-Err.refused.0.now) name given (Some (Refused refusal)) source source sink sink
+          (unopened_ingest _ _ refusal (record { cause = is.refused; given_up = is.only; reads = is.back }) name given source sink (given_told source.left)),
+    )
 
 pub store_source-stored-requires : goal.store_source-stored-requires
 store_source-stored-requires g c = record { fresh = fresh _ _ c.in-Ok.ensures.opened c.in-Ok.ensures.running }

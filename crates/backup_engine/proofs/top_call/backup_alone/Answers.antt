@@ -1,4 +1,4 @@
-use Rattle.std.proofs.Common.{refl, sym, Some}
+use Rattle.std.proofs.Common.{sym, Some}
 use Rattle.backup_engine.specs.LineValue.{line_value}
 use Rattle.backup_engine.proofs.TopCall.{words_promise, line_promise}
 use Rattle.backup_engine.proofs.top_call.backup_alone.Goals as goal

@@ -1,3 +1,4 @@
+pub mod Added
 pub mod Called
 pub mod FewBytes
 pub mod FirstActor

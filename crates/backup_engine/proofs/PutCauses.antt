@@ -31,7 +31,8 @@ use Rattle.store_core.specs.Core.{Effect, StepsOr}
 use Rattle.store_core.specs.Runs.{ChangesTo, CoreRun, FileEvent, events_of}
 use Rattle.store_core.specs.State.{CoreState, Event}
 use Rattle.store_core.proofs.Stepping.{step_later}
-use Rattle.backup_engine.specs.AnyDisk.{Holds, HasAdded, AddsOnce, IsStored, IsCaused, OnAnyDisk}
+use Rattle.backup_engine.specs.Adding.{AddsOnce}
+use Rattle.backup_engine.specs.AnyDisk.{Holds, HasAdded, IsStored, IsCaused, OnAnyDisk}
 use Rattle.backup_engine.specs.Line.{Ingest}
 use Rattle.backup_engine.specs.PlainMap.{most_bytes, HasPieces, HasNoCell, room_in}
 use Rattle.backup_engine.specs.Running.{PutRun, IsPutRefusal, IsOk, IsLastPut, seals_of}

@@ -60,7 +60,7 @@ pub record Ways (C : Type 0) (state : C → CoreState) (name bytes : List ℕ) (
   pub last : EndsBy C state name bytes result mid new
 
 -- the commit seals nothing, and neither does a step that is refused
-put_seals : (step : StepValue) (answer : Result Answer Refusal) → IsLastPut step answer → seal_by step answer ≡ []
+pub put_seals : (step : StepValue) (answer : Result Answer Refusal) → IsLastPut step answer → seal_by step answer ≡ []
 put_seals (asked.Commit name root) answer last = refl
 put_seals asked.Begin answer last = absurd last
 put_seals (asked.Claim seg) answer last = absurd last
@@ -71,7 +71,7 @@ put_seals asked.ReadNext answer last = absurd last
 put_seals asked.EndRead answer last = absurd last
 put_seals asked.Stat answer last = absurd last
 
-refused_seals : (step : StepValue) (refusal : Refusal) → seal_by step (Err refusal) ≡ []
+pub refused_seals : (step : StepValue) (refusal : Refusal) → seal_by step (Err refusal) ≡ []
 refused_seals asked.Begin refusal = refl
 refused_seals (asked.Claim seg) refusal = refl
 refused_seals (asked.Seal filled) refusal = refl

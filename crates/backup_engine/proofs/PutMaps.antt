@@ -13,24 +13,28 @@ use Rattle.reply_text.specs.declared.ending.Ending.{Ending}
 use Rattle.reply_text.specs.declared.ending.Ending.TheVariants.{Sink, Refused}
 use Rattle.reply_text.specs.Text.{stored_line}
 use Rattle.store_model.specs.Collisions.{HasNoCollisions, ByteSet, IsIn}
-use Rattle.store_model.specs.Image.{Store, IsValidFor}
+use Rattle.store_model.specs.Image.{Store, Encodes, IsValidFor}
 use Rattle.store_model.specs.Slots.{free_slots}
 use Rattle.store_model.specs.Standing.{IsStoreOf, IsSegmentOf}
 use Rattle.store_model.specs.Collisions as collisions
+use Rattle.store_model.specs.Steps.{with_put}
+use Rattle.store_model.proofs.Once.{store_once}
 use Rattle.store_model.specs.Trees.{root_of}
 use Rattle.store_state.specs.Tables.{Represents}
 use Rattle.store_core.specs.Runs.{FileRun, IsAt, IsOf, IsOnTheWay, Reaches, stored_after}
 use Rattle.store_core.specs.State.{CoreState}
 use Rattle.store_core.proofs.Crashes.{last_at, leaves, ends_with_all}
 use Rattle.store_core.proofs.KeepingFiles.{keeps_files}
+use Rattle.backup_engine.specs.Adding.{Adds, AddsTo, AddsOnce}
 use Rattle.backup_engine.specs.Line.{Ingest}
 use Rattle.backup_engine.specs.PlainMap.{most_bytes, Room, room_of, room_in, Refuses, RefusesIngest}
 use Rattle.backup_engine.specs.Promise.{ClashesByData, KeepsMap, KeepsEachMap, IsRefusedBy, IsLeftWith, IsLeftAs, EndsBy, WroteReply, SinceStart, MayBeMeanwhile}
-use Rattle.backup_engine.specs.Running.{PutRun, IsPutRefusal}
+use Rattle.backup_engine.specs.Running.{PutRun, IsPutRefusal, seals_of}
+use Rattle.backup_engine.proofs.Added.{adds_to, put_in}
 use Rattle.backup_engine.proofs.Called.{Called, Starts, starts}
 use Rattle.backup_engine.proofs.PutEnds.{Left, LeftMeanwhile, meanwhile, maps_after, left_at_end, left_on_the_way}
 use Rattle.backup_engine.proofs.RightPuts.{file_run}
-use Rattle.backup_engine.proofs.PutStops.{RunsOn, refused_on, done_name, run_later}
+use Rattle.backup_engine.proofs.PutStops.{RunsOn, refused_on, done_name, done_on, run_later}
 use Rattle.backup_engine.proofs.SameRoom.{same_room}
 
 -- ---- refusals
@@ -56,6 +60,14 @@ refuses_by name given m t c refusal represents same valid reserve is = subst (λ
 refused_left : (name given : List ℕ) (m : Stored) (content : Option (List ℕ)) (refusal : Refusal) → IsLeftWith m content (λ store. Refuses (Ingest name) given (room_of (Ingest name) m store) refusal) → IsRefusedBy (Ingest name) given m content refusal
 refused_left name given m content DiskWrite left = tt
 refused_left name given m content refusal left = left
+
+one_image : (a b : List ℕ) → Some a ≡ Some b → a ≡ b
+one_image a b is = cc
+
+-- after a write that failed nothing is said of what was added
+refused_adds : (name given : List ℕ) (refusal : Refusal) (store : Store) (content : Option (List ℕ)) → (¬ (refusal ≡ DiskWrite) → AddsTo given (λ after. after) store content) → Adds (Ingest name) given (Some (Refused refusal)) store content
+refused_adds name given DiskWrite store content adds = tt
+refused_adds name given refusal store content adds = adds (λ is. subst IsWrite (sym is) tt)
 
 -- ---- a run over a map
 
@@ -109,11 +121,13 @@ module _ (C : Type 0) (state : C → CoreState) (v w : DiskView) (old new : C) (
 
   -- A command that ended so, and left what the put left.
   keeps : (ending : Option Ending) (sink sink_now : SinkView) → EndsBy (Ingest name) given m w.content ending → WroteReply (stored_line name (root_of given)) ending sink sink_now
+      → ((store : Store) → Encodes image store → Adds (Ingest name) given ending store w.content)
       → ((c : List ℕ) → Left S name given m put c → IsLeftAs S (Ingest name) given m ending c) → ((c : List ℕ) → LeftMeanwhile S name given m put c → MayBeMeanwhile S (Ingest name) given m ending c)
       → KeepsMap S (Ingest name) given ending m v w sink sink_now
-  keeps ending sink sink_now by_map wrote at_end between = record {
+  keeps ending sink sink_now by_map wrote adds at_end between = record {
     by_map = by_map;
     wrote = wrote;
+    added = λ first known store right. adds store (subst (λ (bytes : List ℕ). Encodes bytes store) (one_image first image (sym known ∙ told)) right);
     left = inl ((content_left.0, content_left.1, at_end content_left.0 content_left.2), λ c there. at_end c (images_left c there));
     crash = λ c since. elim (left_meanwhile c since) [ inl first ↦ inl first | inr left ↦ inr (between c left) ];
   }
@@ -121,6 +135,18 @@ module _ (C : Type 0) (state : C → CoreState) (v w : DiskView) (old new : C) (
   -- where the core runs on
   reached : (state new).stop ≡ None → Reaches S start.store (stored_after ran.steps m) ran.steps (state new)
   reached runs = keeps_files C state among ran.steps start.store m old new distinct start.is_at run runs
+
+  -- and so the steps added to the store that the content was
+  adds : (state new).stop ≡ None → (store : Store) → Encodes image store → AddsTo given (put_in name given put) store w.content
+  adds runs store right =
+      let first = start.store in
+      let end = reached runs in
+      let left : List ℕ = end.is_at.stands.known.0 in
+      let here = end.is_at.stands.known.1 in
+      let holds = (stands_content (collisions.Stands S end.store (stored_after ran.steps m).files) (state new).disk end.is_at.stands left here).holds in
+      let once : AddsOnce given (seals_of ran.steps) first = ran.adds.store_has first start.is_at.represents start.is_at.valid start.stands.holds.reserve in
+      subst (λ (s : Store). AddsTo given (put_in name given put) s w.content) (store_once image first store start.stands.holds.right right)
+      (adds_to name given ran.steps put first end.store w.content ran.each ran.ends end.chain once (left, was.last.only.content_is ∙ here, holds.right))
 
 -- ---- a put that was refused
 
@@ -159,7 +185,9 @@ module _ (C : Type 0) (state : C → CoreState) (v w : DiskView) (old new : C) (
     ]
 
     refused_keeps : (sink : SinkView) → KeepsMap (IsIn among) (Ingest name) given (Some (Refused refusal)) m v w sink sink
-    refused_keeps sink = keeps C state v w old new was name given few (Err refusal) ran among m image told distinct all is (Some (Refused refusal)) sink sink by_map refl (λ c left. left) (λ c left. left)
+    refused_keeps sink = keeps C state v w old new was name given few (Err refusal) ran among m image told distinct all is (Some (Refused refusal)) sink sink by_map refl
+        (λ store right. refused_adds name given refusal store w.content (λ other. adds C state v w old new was name given few (Err refusal) ran among m image told distinct all is (runs_on other).runs store right))
+        (λ c left. left) (λ c left. left)
 
   -- It is refused as the map has it, and leaves the map.
   pub refused_map : (sink : SinkView) → KeepsEachMap (Ingest name) given (Some (Refused refusal)) v w sink sink
@@ -180,10 +208,16 @@ module _ (C : Type 0) (state : C → CoreState) (v w : DiskView) (old new : C) (
     good_name =
         done_name C state among name given distinct ran.steps u old new was.opened.stop_is (run C state v w old new was name given few (Ok u) ran among m image told distinct all is) ran.each ran.ends
 
+    -- it runs on
+    done_adds : (store : Store) → Encodes image store → AddsTo given (with_put name (root_of given)) store w.content
+    done_adds store right =
+        let runs = done_on C state among name given distinct ran.steps u old new was.opened.stop_is (run C state v w old new was name given few (Ok u) ran among m image told distinct all is) ran.each ran.ends in
+        adds C state v w old new was name given few (Ok u) ran among m image told distinct all is runs store right
+
     done_keeps : (ending : Option Ending) (sink sink_now : SinkView) → IsDone ending → WroteReply (stored_line name (root_of given)) ending sink sink_now → KeepsMap (IsIn among) (Ingest name) given ending m v w sink sink_now
-    done_keeps None sink sink_now done wrote = keeps C state v w old new was name given few (Ok u) ran among m image told distinct all is None sink sink_now (good_name, few) wrote (λ c left. left) (λ c left. left)
+    done_keeps None sink sink_now done wrote = keeps C state v w old new was name given few (Ok u) ran among m image told distinct all is None sink sink_now (good_name, few) wrote done_adds (λ c left. left) (λ c left. left)
     done_keeps (Some Sink) sink sink_now done wrote =
-        keeps C state v w old new was name given few (Ok u) ran among m image told distinct all is (Some Sink) sink sink_now (good_name, few) wrote (λ c left. left) (λ c left. left)
+        keeps C state v w old new was name given few (Ok u) ran among m image told distinct all is (Some Sink) sink sink_now (good_name, few) wrote done_adds (λ c left. left) (λ c left. left)
     done_keeps (Some ending) sink sink_now done wrote = absurd done
 
   is_done : (ending : Option Ending) → (ending ≡ None) ⊎ (ending ≡ Some Sink) → IsDone ending

@@ -46,7 +46,8 @@ use Rattle.store_core.specs.Runs.{CoreRun, FileEvent, events_of}
 use Rattle.store_core.specs.State.{CoreState, IsRunning}
 use Rattle.store_core.proofs.Making.{up_of}
 use Rattle.store_core.proofs.RunningOn.{step_runs}
-use Rattle.backup_engine.specs.AnyDisk.{IsPieceOf, OnAnyDisk}
+use Rattle.backup_engine.specs.Adding.{IsPieceOf}
+use Rattle.backup_engine.specs.AnyDisk.{OnAnyDisk}
 use Rattle.backup_engine.specs.Line.{Ingest}
 use Rattle.backup_engine.specs.PlainMap.{most_bytes, HasPieces, room_in}
 use Rattle.backup_engine.specs.Running.{PutRun, IsAskedFor, IsNoCommit, IsOk, IsLastPut}

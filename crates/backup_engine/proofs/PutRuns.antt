@@ -8,7 +8,7 @@ use Rattle.store_state.specs.Tables.{OfEach}
 use Rattle.store_core.specs.Core.{CoreStep}
 use Rattle.store_core.specs.Runs.{CoreRun, FileEvent, events_of}
 use Rattle.store_core.specs.State.{CoreState, Event}
-use Rattle.backup_engine.specs.AnyDisk.{AddsOnce}
+use Rattle.backup_engine.specs.Adding.{AddsOnce}
 use Rattle.backup_engine.specs.Putting.{PutSoFar}
 use Rattle.backup_engine.specs.Running.{PutRun, IsPutStep, IsDoneBefore, IsLastPut, EndsPut, seal_by, seals_of}
 use Rattle.backup_engine.proofs.FirstActor.{Rested, each_before}

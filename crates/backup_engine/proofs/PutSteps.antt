@@ -32,7 +32,7 @@ use Rattle.ingest_steps.specs.Claiming.{IsClaimRefusal, DiffersFrom}
 use Rattle.ingest_steps.specs.SealStep.{IsStepRefusal}
 use Rattle.store_core.specs.Core.{CoreStep, KeepsTables, KeepsUnlessBroken, IsDamage, Makes, next_id}
 use Rattle.store_core.specs.State.{CoreState, Event, IsRunning}
-use Rattle.backup_engine.specs.AnyDisk.{AddsOnce}
+use Rattle.backup_engine.specs.Adding.{AddsOnce}
 use Rattle.backup_engine.specs.PlainMap.{most_bytes}
 use Rattle.backup_engine.specs.Putting.{IsStoring, IsKept, held_length}
 use Rattle.backup_engine.specs.Running.{IsPutRefusal, seal_by}

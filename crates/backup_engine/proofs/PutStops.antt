@@ -24,7 +24,7 @@ use Rattle.store_core.specs.State.{CoreState, Event}
 use Rattle.store_core.proofs.Damage.{never_damaged}
 use Rattle.store_core.proofs.KeepingFiles.{file_step}
 use Rattle.store_core.proofs.Stepping.{step_later}
-use Rattle.backup_engine.specs.AnyDisk.{IsPieceOf}
+use Rattle.backup_engine.specs.Adding.{IsPieceOf}
 use Rattle.backup_engine.specs.Promise.{ClashesByData}
 use Rattle.backup_engine.specs.Running.{IsAskedFor, IsPutStep, IsLastPut, IsOk, IsDoneBefore, EndsPut}
 
@@ -115,6 +115,18 @@ module _ (C : Type 0) (state : C → CoreState) (among : ByteSet) (name given : 
   done_name (f ∷ []) u old new runs run each ends =
       last_name f.event.step f.event.answer f.event.actor f.event.buf f.bytes (state old) (state run.0) each.0.asked_for ends (step_of (state old) (state run.0) f.event runs run.1.0.made).made.row
   done_name (f ∷ g ∷ fs) u old new runs run each ends = done_name (g ∷ fs) u run.0 new (goes_on (state old) (state run.0) f.event runs run.1.0.made ends.0) run.1.1 each.1 ends.1
+
+  put_ok : (step : StepValue) (answer : Result Answer Refusal) → IsLastPut step answer → IsOk answer
+  put_ok (asked.Commit n root) answer last = last
+  put_ok step answer last = absurd last
+
+  -- it stops no core
+  pub done_on : (fs : List FileEvent) (u : Unit {0}) (old new : C) → (state old).stop ≡ None → FileRun C state (IsIn among) fs old new → AllByRecursion (IsPutStep name given) fs → EndsPut fs (Ok u) → (state new).stop ≡ None
+  done_on [] u old new runs run each ends = absurd ends
+  done_on (f ∷ []) u old new runs run each ends =
+      let steps = step_of (state old) (state run.0) f.event runs run.1.0.made in
+      subst (λ (c : C). (state c).stop ≡ None) (sym run.1.1) (ok_runs f.event.step f.event.answer (state old).acknowledged (state run.0).stop (put_ok f.event.step f.event.answer ends) steps.stops)
+  done_on (f ∷ g ∷ fs) u old new runs run each ends = done_on (g ∷ fs) u run.0 new (goes_on (state old) (state run.0) f.event runs run.1.0.made ends.0) run.1.1 each.1 ends.1
 
   -- ---- the disk
 

@@ -10,8 +10,10 @@ use Rattle.reply_text.specs.declared.ending.Ending.{Ending}
 use Rattle.reply_text.specs.declared.ending.Ending.TheVariants.{Sink, Refused}
 use Rattle.store_model.specs.Collisions.{HasNoCollisions, ByteSet, IsIn}
 use Rattle.store_model.specs.Files.{Stored}
+use Rattle.store_model.specs.Image.{Store, Encodes}
 use Rattle.store_model.specs.Standing.{IsSegmentOf}
 use Rattle.store_core.specs.Runs.{IsOf}
+use Rattle.backup_engine.specs.Adding.{Adds}
 use Rattle.backup_engine.specs.Line.{CommandLine, Format, Ingest, Restore}
 use Rattle.backup_engine.specs.Promise as promise
 use Rattle.backup_engine.specs.Promise.{EndsBy, WroteFile, IsLeftAs, SinceStart, NothingWritten, KeepsMap, KeepsEachMap}
@@ -49,6 +51,14 @@ AnswersEach command given ending v w sink sink_now =
     Known v.content (λ old. (among : ByteSet) (m : Stored) → HasNoCollisions (IsIn among) → ((bytes : List ℕ) → IsSegmentOf given bytes → IsIn among bytes) → IsOf (IsIn among) m old
     → Answers command given ending m w.content sink sink_now)
 
+-- what was not done adds nothing to a content that stays
+pub added_none : (command : CommandLine) (given : List ℕ) (ending : Ending) (store : Store) (old : List ℕ) (content : Option (List ℕ)) → ¬ (ending ≡ Sink) → content ≡ Some old → Encodes old store → Adds command given (Some ending) store content
+added_none (Format slots) given ending store old content not told right = tt
+added_none (Restore name) given ending store old content not told right = tt
+added_none (Ingest name) given Sink store old content not told right = absurd (not refl)
+added_none (Ingest name) given (Refused DiskWrite) store old content not told right = tt
+added_none (Ingest name) given ending store old content not told right = record { changes = []; after = store; chain = refl; once = tt; content_is = (old, told, right) }
+
 -- what was not done, and only read
 pub reads_map : (command : CommandLine) (given : List ℕ) (ending : Ending) (v w : DiskView) (sink sink_now : SinkView) → OnlyReads v w → ¬ (ending ≡ Sink) → AnswersEach command given (Some ending) v w sink sink_now
     → KeepsEachMap command given (Some ending) v w sink sink_now
@@ -57,6 +67,7 @@ reads_map command given ending v w sink sink_now reads not answers old known amo
     record {
       by_map = answer.by_map;
       wrote = answer.wrote;
+      added = λ first told store right. added_none command given ending store first w.content not (reads.content_is ∙ told) right;
       left = inr (record { not_done = (ending, refl, not); content = reads.content_is; images = reads.images_are });
       crash = λ c since. inl (since_start v w reads c since);
     }
@@ -78,6 +89,7 @@ reads_restore name given ending v w sink sink_now reads durable answers old know
     record {
       by_map = answer.by_map;
       wrote = answer.wrote;
+      added = λ first first_is store right. tt;
       left = inl ((old, told, left), λ c image. subst (λ (b : List ℕ). IsLeftAs (IsIn among) (Restore name) given m ending b) (sym (durable old told c image)) left);
       crash = λ c since. inl (since_start v w reads c since);
     }

@@ -24,7 +24,7 @@ use Rattle.store_core.specs.Runs.{CoreRun, FileEvent, FileStep, FileRun, IsAt, I
 use Rattle.store_core.specs.State.{CoreState}
 use Rattle.store_core.proofs.KeepingFiles.{file_step, run_running}
 use Rattle.backup_engine.specs.PlainMap.{most_bytes}
-use Rattle.backup_engine.specs.AnyDisk.{IsPieceOf}
+use Rattle.backup_engine.specs.Adding.{IsPieceOf}
 use Rattle.backup_engine.specs.Running.{IsAskedFor, IsPutStep}
 use Rattle.backup_engine.proofs.RightRoots.{right_root}
 

@@ -208,7 +208,7 @@ module _ (loans : List ℕ) (v w : DiskView) where
     map_kept : (command : CommandLine) (ending : Option Ending) → KeepsEachMap command given ending lent lent_now sink sink_now → KeepsEachMap command given ending v w sink sink_now
     map_kept command ending each = λ old told among m apart segments is.
         let kept = each old told among m apart segments is in
-        record { by_map = kept.by_map; wrote = kept.wrote; left = kept_left command ending among m kept.left; crash = kept.crash }
+        record { by_map = kept.by_map; wrote = kept.wrote; added = kept.added; left = kept_left command ending among m kept.left; crash = kept.crash }
 
     frame_kept : (command : CommandLine) (ending : Option Ending) → KeepsOthers command ending lent lent_now → KeepsOthers command ending v w
     frame_kept command ending is = record { content = is.content; crash = is.crash }

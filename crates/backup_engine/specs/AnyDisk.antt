@@ -1,6 +1,6 @@
 -- What the top call promises over any disk, also one that tells nothing, or lies (docs/MODEL.md, 'The promise').
-use Rattle.std.specs.Prelude.{◌≡◌, ◌≢◌, ◌⊎◌, ℕ, suc, ◌≤◌, List, [], ◌∷◌, length, sum_by, Option, None, Some}
-use Rattle.std.specs.List.{AllByRecursion, concat}
+use Rattle.std.specs.Prelude.{◌≡◌, ◌≢◌, ◌⊎◌, ℕ, ◌≤◌, List, [], length, sum_by, Option, None, Some}
+use Rattle.std.specs.List.{concat}
 use Rattle.base_model.specs.Bytes.{byte_at}
 use Rattle.base_model.specs.Fault.{Rose}
 use Rattle.base_model.specs.Known.{Known, KnownWith, Appended}
@@ -12,10 +12,7 @@ use Rattle.dd_disk.specs.Ending.{NoCall, Done, CountsFault, ending_of}
 use Rattle.dd_disk.specs.Ending as device
 use Rattle.dd_disk.specs.Shows.{Shows}
 use Rattle.dd_io.specs.Flow.{SourceView, SinkView, AppendedPart}
-use Rattle.container_meta.specs.declared.kind.Kind.{Kind}
-use Rattle.container_meta.specs.declared.kind.Kind.TheVariants.{Leaf}
 use Rattle.container_meta.specs.Places.{PlaceMap}
-use Rattle.container_meta.specs.Segments.{Segment, segment_key}
 use Rattle.merkle_file.specs.declared.top.Top.{Top}
 use Rattle.merkle_file.specs.Walk.{start_of}
 use Rattle.refusals.specs.declared.refusal.Refusal.{Refusal}
@@ -24,9 +21,9 @@ use Rattle.reply_text.specs.declared.ending.Ending.{Ending}
 use Rattle.reply_text.specs.declared.ending.Ending.TheVariants.{Words, Source, Sink, Refused}
 use Rattle.reply_text.specs.Text.{formatted_line, stored_line}
 use Rattle.store_model.specs.Image.{Store, Encodes, names_of}
-use Rattle.store_model.specs.Slots.{IsIndexOf, free_slots, last_id, newest}
-use Rattle.store_model.specs.Standing.{IsSegmentOf, IsFormatted}
-use Rattle.store_model.specs.Steps.{StoreChange, SealContainer, PutName, CanPut, with_sealed}
+use Rattle.store_model.specs.Slots.{IsIndexOf, free_slots}
+use Rattle.store_model.specs.Standing.{IsFormatted}
+use Rattle.store_model.specs.Steps.{StoreChange, CanPut}
 use Rattle.store_model.specs.Trees.{root_of}
 use Rattle.store_state.specs.Refused.{blames}
 use Rattle.recovery.specs.Opening.{IsOpenRefusal}
@@ -34,6 +31,7 @@ use Rattle.recovery.specs.Formatting.{IsFormatRefusal}
 use Rattle.read_steps.specs.Opening.{HasRoot, top_of}
 use Rattle.read_steps.specs.Walking.{GivesAll, IsNextRefusal}
 use Rattle.store_core.specs.Runs.{ChangesTo}
+use Rattle.backup_engine.specs.Adding.{AddsOnce}
 use Rattle.backup_engine.specs.Line.{CommandLine, Format, Ingest, Restore}
 use Rattle.backup_engine.specs.PlainMap.{RefusesIngest, RefusesRestore, HasAll, room_in}
 use Rattle.backup_engine.specs.Promise.{WroteReply}
@@ -46,20 +44,7 @@ pub record Holds (disk disk_now : DiskView) : Type 0 where
   pub right : Shows disk disk_now (λ image. Encodes image store)
   pub reserve : RESERVE ≤ free_slots store.held
 
--- a segment that is stored is one of the file's
-abbrev pub IsPieceOf : List ℕ → Kind → Segment → Type 0
-IsPieceOf given kind segment = (kind ≡ Leaf) × IsSegmentOf given segment.bytes
-
--- Containers are added, each under the next id, with pieces of the file that no container before it holds.
-abbrev pub AddsOnce : List ℕ → List StoreChange → Store → Type 0
-AddsOnce given [] store = Unit {0}
-AddsOnce given (SealContainer id kind segments ∷ rest) store =
-    (id ≡ suc (last_id store.held))
-    × AllByRecursion (λ s. IsPieceOf given kind s × (newest 0 store.held (segment_key kind s) ≡ None)) segments
-    × AddsOnce given rest (with_sealed id kind segments store)
-AddsOnce given (PutName name root ∷ rest) store = ⊥
-
--- and some containers were added
+-- and, by the tables of the core, containers were added
 pub record HasAdded (given : List ℕ) (disk disk_now : DiskView) : Type 0 where
   pub holds : Holds disk disk_now
   pub changes : List StoreChange

@@ -1,3 +1,4 @@
+pub mod Adding
 pub mod AnyDisk
 pub mod Frame
 pub mod Giving

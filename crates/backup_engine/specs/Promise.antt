@@ -11,10 +11,11 @@ use Rattle.reply_text.specs.declared.ending.Ending.TheVariants.{Words, Source, S
 use Rattle.reply_text.specs.Text.{stored_line}
 use Rattle.store_model.specs.Collisions.{HasNoCollisions, ByteSet, IsIn}
 use Rattle.store_model.specs.Files.{Stored}
-use Rattle.store_model.specs.Image.{Store}
+use Rattle.store_model.specs.Image.{Store, Encodes}
 use Rattle.store_model.specs.Standing.{IsStoreOf, IsSegmentOf}
 use Rattle.store_model.specs.Trees.{root_of, leaf_key}
 use Rattle.store_core.specs.Runs.{IsOf}
+use Rattle.backup_engine.specs.Adding.{Adds}
 use Rattle.backup_engine.specs.Line.{CommandLine, Format, Ingest, Restore}
 use Rattle.backup_engine.specs.PlainMap.{map_after, CanBeDone, Refuses, room_of}
 
@@ -102,6 +103,7 @@ pub record KeepsMap (S : List ℕ → Type 0) (command : CommandLine) (given : L
     (disk disk_now : DiskView) (sink sink_now : SinkView) : Type 0 where
   pub by_map : EndsBy command given m disk_now.content ending
   pub wrote : Wrote command given m ending sink sink_now
+  pub added : Known disk.content (λ old. (store : Store) → Encodes old store → Adds command given ending store disk_now.content)
   pub left : Stands (IsLeftAs S command given m ending) disk_now ⊎ NothingWritten ending disk disk_now
   pub crash : (c : List ℕ) → SinceStart disk disk_now c → disk.images c ⊎ MayBeMeanwhile S command given m ending c
 

@@ -13,7 +13,7 @@ use Rattle.store_state.specs.Tables.{Represents, OfEach}
 use Rattle.ingest_steps.specs.Writers.{IsStored}
 use Rattle.store_core.specs.Runs.{CoreRun, FileEvent, events_of}
 use Rattle.store_core.specs.State.{CoreState, IsUp}
-use Rattle.backup_engine.specs.AnyDisk.{AddsOnce}
+use Rattle.backup_engine.specs.Adding.{AddsOnce}
 use Rattle.backup_engine.specs.Running.{PutRun, IsPutStep, IsDoneBefore, IsPutRefusal, seals_of}
 
 -- The first actor stores a file; the map of the index is known, and the last container id is the greatest of the store.

@@ -22,7 +22,7 @@ use Rattle.store_state.specs.Tables.{OfEach}
 use Rattle.store_core.specs.Core.{CoreStep}
 use Rattle.store_core.specs.Runs.{CoreRun, FileEvent, events_of, opens, given_to}
 use Rattle.store_core.specs.State.{CoreState, Event, IsUp}
-use Rattle.backup_engine.specs.AnyDisk.{IsPieceOf, AddsOnce}
+use Rattle.backup_engine.specs.Adding.{IsPieceOf, AddsOnce}
 use Rattle.backup_engine.specs.Line.{Ingest}
 use Rattle.backup_engine.specs.PlainMap.{RefusesIngest, room_in}
 

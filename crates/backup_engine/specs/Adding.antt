@@ -1,0 +1,48 @@
+-- What an `ingest` adds to a store: pieces of its file, each of them once, and then the name (docs/MODEL.md, 'The promise').
+use Rattle.std.specs.Prelude.{◌≡◌, ℕ, suc, List, [], ◌∷◌, Option, None, Some}
+use Rattle.std.specs.List.{AllByRecursion}
+use Rattle.base_model.specs.Known.{KnownWith}
+use Rattle.container_meta.specs.declared.kind.Kind.{Kind}
+use Rattle.container_meta.specs.declared.kind.Kind.TheVariants.{Leaf}
+use Rattle.container_meta.specs.Segments.{Segment, segment_key}
+use Rattle.refusals.specs.declared.refusal.Refusal.TheVariants.{DiskWrite}
+use Rattle.reply_text.specs.declared.ending.Ending.{Ending}
+use Rattle.reply_text.specs.declared.ending.Ending.TheVariants.{Sink, Refused}
+use Rattle.store_model.specs.Image.{Store, Encodes}
+use Rattle.store_model.specs.Slots.{last_id, newest}
+use Rattle.store_model.specs.Standing.{IsSegmentOf}
+use Rattle.store_model.specs.Steps.{StoreChange, SealContainer, PutName, with_sealed, with_put}
+use Rattle.store_model.specs.Trees.{root_of}
+use Rattle.store_core.specs.Runs.{ChangesTo}
+use Rattle.backup_engine.specs.Line.{CommandLine, Format, Ingest, Restore}
+
+-- a segment that is stored is one of the file's
+abbrev pub IsPieceOf : List ℕ → Kind → Segment → Type 0
+IsPieceOf given kind segment = (kind ≡ Leaf) × IsSegmentOf given segment.bytes
+
+-- Containers are added, each under the next id, with pieces of the file that no container before it holds.
+abbrev pub AddsOnce : List ℕ → List StoreChange → Store → Type 0
+AddsOnce given [] store = Unit {0}
+AddsOnce given (SealContainer id kind segments ∷ rest) store =
+    (id ≡ suc (last_id store.held))
+    × AllByRecursion (λ s. IsPieceOf given kind s × (newest 0 store.held (segment_key kind s) ≡ None)) segments
+    × AddsOnce given rest (with_sealed id kind segments store)
+AddsOnce given (PutName name root ∷ rest) store = ⊥
+
+-- The content is the store to which these containers lead, with what was put in it then: so all else of the store is as it was.
+pub record AddsTo (given : List ℕ) (put : Store → Store) (store : Store) (content : Option (List ℕ)) : Type 0 where
+  pub changes : List StoreChange
+  pub after : Store
+  pub chain : ChangesTo changes store after
+  pub once : AddsOnce given changes store
+  pub content_is : KnownWith content (λ image. Encodes image (put after))
+
+-- What a command adds to the store that the content was: an `ingest` some pieces, and its name where it was done, but perhaps
+-- for its reply. Of a write or a sync that failed it says nothing.
+abbrev pub Adds : CommandLine → List ℕ → Option Ending → Store → Option (List ℕ) → Type 0
+Adds (Format slots) given ending store content = Unit {0}
+Adds (Ingest name) given None store content = AddsTo given (with_put name (root_of given)) store content
+Adds (Ingest name) given (Some Sink) store content = AddsTo given (with_put name (root_of given)) store content
+Adds (Ingest name) given (Some (Refused DiskWrite)) store content = Unit {0}
+Adds (Ingest name) given (Some ending) store content = AddsTo given (λ after. after) store content
+Adds (Restore name) given ending store content = Unit {0}

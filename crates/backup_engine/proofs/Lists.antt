@@ -42,16 +42,16 @@ module _ (S : List ℕ → Type 0) where
   leads_left command given None m image left = (map_after command given m, (refl, left))
   leads_left command given (Some Sink) m image left = (map_after command given m, (refl, left))
   leads_left command given (Some (Refused DiskWrite)) m image (inl left) = (m, (inl refl, left))
-  leads_left command given (Some (Refused DiskWrite)) m image (inr left) = (map_after command given m, (inr refl, left))
+  leads_left command given (Some (Refused DiskWrite)) m image (inr left) = (map_after command given m, (inr refl, left.1))
   leads_left command given (Some ending) m image left = (m, (refl, left))
 
   -- and so is what a crash leaves meanwhile, but for the map as it was
   leads_meanwhile : (command : CommandLine) (given : List ℕ) (ending : Option Ending) (m : Stored) (image : List ℕ) → MayBeMeanwhile S command given m ending image
       → IsOf S m image ⊎ OfSome S (LeadsBy ending (map_after command given m) m) image
   leads_meanwhile command given ending m image (inl was) = inl was
-  leads_meanwhile command given None m image (inr done) = inr (map_after command given m, (refl, done.1))
-  leads_meanwhile command given (Some Sink) m image (inr done) = inr (map_after command given m, (refl, done.1))
-  leads_meanwhile command given (Some (Refused DiskWrite)) m image (inr done) = inr (map_after command given m, (inr refl, done.1))
+  leads_meanwhile command given None m image (inr done) = inr (map_after command given m, (refl, done.2))
+  leads_meanwhile command given (Some Sink) m image (inr done) = inr (map_after command given m, (refl, done.2))
+  leads_meanwhile command given (Some (Refused DiskWrite)) m image (inr done) = inr (map_after command given m, (inr refl, done.2))
   leads_meanwhile command given (Some ending) m image (inr done) = absurd done.0
 
 module _ (S : List ℕ → Type 0) (P : Stored → Type 0) where

@@ -1,6 +1,7 @@
 -- Over a disk that stands for a map an `ingest` keeps the map.
 use Rattle.std.proofs.Common.{◌≡◌, ◌⊎◌, inl, inr, ℕ, ◌-◌, ◌^◌, ◌<◌, ◌≤◌, List, length, Option, Some, None, Result, Ok, Err, refl, sym, ◌∙◌, subst, arith}
 use Rattle.store_model.specs.Files.{Stored}
+use Rattle.std.specs.List.{AllByRecursion}
 use Rattle.base_model.specs.Known.{KnownWith}
 use Rattle.disk_format.specs.Cells.{IsName}
 use Rattle.disk_format.specs.declared.numbers.TheConstants.{RESERVE}
@@ -29,12 +30,12 @@ use Rattle.backup_engine.specs.Adding.{Adds, AddsTo, AddsOnce}
 use Rattle.backup_engine.specs.Line.{Ingest}
 use Rattle.backup_engine.specs.PlainMap.{most_bytes, Room, room_of, room_in, Refuses, RefusesIngest}
 use Rattle.backup_engine.specs.Promise.{ClashesByData, KeepsMap, KeepsEachMap, IsRefusedBy, IsLeftWith, IsLeftAs, EndsBy, WroteReply, SinceStart, MayBeMeanwhile}
-use Rattle.backup_engine.specs.Running.{PutRun, IsPutRefusal, seals_of}
+use Rattle.backup_engine.specs.Running.{EndsPut, PutRun, IsPutRefusal, seals_of}
 use Rattle.backup_engine.proofs.Added.{adds_to, put_in}
 use Rattle.backup_engine.proofs.Called.{Called, Starts, starts}
-use Rattle.backup_engine.proofs.PutEnds.{Left, LeftMeanwhile, meanwhile, maps_after, left_at_end, left_on_the_way}
+use Rattle.backup_engine.proofs.PutEnds.{CanBe, CanTryBy, Left, LeftMeanwhile, meanwhile, maps_after, left_at_end, left_on_the_way}
 use Rattle.backup_engine.proofs.RightPuts.{file_run}
-use Rattle.backup_engine.proofs.PutStops.{RunsOn, refused_on, done_name, done_on, run_later}
+use Rattle.backup_engine.proofs.PutStops.{RunsOn, refused_on, done_name, done_on, run_later, run_tries}
 use Rattle.backup_engine.proofs.SameRoom.{same_room}
 
 -- ---- refusals
@@ -86,9 +87,16 @@ module _ (C : Type 0) (state : C → CoreState) (v w : DiskView) (old new : C) (
   crashes : CrashLeaves (IsOnTheWay S ran.steps m) (state old).disk (state new).disk
   crashes = leaves C state among distinct ran.steps start.store m old new start.is_at run
 
+  can_try : AllByRecursion (CanTryBy S name given m) ran.steps
+  can_try = run_tries C state among name given distinct ran.steps old new m few run ran.each
+
+  can_be : (p : Result Unit Refusal) → EndsPut ran.steps p → CanBe S name given m p
+  can_be (Ok u) ends = (done_name C state among name given distinct ran.steps u old new was.opened.stop_is run ran.each ends, few)
+  can_be (Err refusal) ends = tt
+
   -- at the end
   image_left : (c : List ℕ) → (state new).disk.images c → Left S name given m put c
-  image_left c there = left_at_end S name given m ran.steps put c ran.each ran.ends (ends_with_all C state among ran.steps start.store m old new distinct start.is_at run c there)
+  image_left c there = left_at_end S name given m ran.steps put c ran.each ran.ends can_try (ends_with_all C state among ran.steps start.store m old new distinct start.is_at run c there)
 
   images_left : (c : List ℕ) → w.images c → Left S name given m put c
   images_left c there = image_left c (was.last.only.images_are c there)
@@ -103,7 +111,7 @@ module _ (C : Type 0) (state : C → CoreState) (v w : DiskView) (old new : C) (
   left_since : (c : List ℕ) → v.clock < 2 ^ 64 - 1 → (state new).disk.images_since v.clock c → v.images c ⊎ LeftMeanwhile S name given m put c
   left_since c below since =
       elim (crashes.since v.clock c was.first.only.later.clock_is since) [
-        | inr on ↦ inr (left_on_the_way S name given m ran.steps put c ran.each ran.ends on)
+        | inr on ↦ inr (left_on_the_way S name given m ran.steps put c ran.each ran.ends (can_be put ran.ends) can_try on)
         | inl before ↦ elim (was.first.only.since_are v.clock c (omega arith) before) [
           | inl first ↦ inl (v.only_now c below first)
           | inr there ↦ inl there
@@ -111,12 +119,12 @@ module _ (C : Type 0) (state : C → CoreState) (v w : DiskView) (old new : C) (
       ]
 
   left_meanwhile : (c : List ℕ) → SinceStart v w c → v.images c ⊎ LeftMeanwhile S name given m put c
-  left_meanwhile c (inl there) = inr (meanwhile S name given m put c (images_left c there))
+  left_meanwhile c (inl there) = inr (meanwhile S name given m put c (can_be put ran.ends) (images_left c there))
   left_meanwhile c (inr since) =
       let within : v.clock ≤ (state new).disk.clock = omega (arith, was.first.only.later.clock_is, (run_later C state among name given distinct ran.steps old new run).clock_is) in
       elim (was.last.only.since_are v.clock c within since.1) [
         | inl before ↦ left_since c since.0 before
-        | inr there ↦ inr (meanwhile S name given m put c (image_left c there))
+        | inr there ↦ inr (meanwhile S name given m put c (can_be put ran.ends) (image_left c there))
       ]
 
   -- A command that ended so, and left what the put left.

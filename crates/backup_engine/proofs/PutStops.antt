@@ -1,5 +1,5 @@
 -- A put that is refused for another reason than a write that failed stops no core, and one that is done has a good name.
-use Rattle.std.proofs.Common.{◌≡◌, ◌<◌, inl, inr, ℕ, List, [], ◌∷◌, length, Option, None, Result, Ok, Err, IfErr, refl, sym, ◌∙◌, subst, arith}
+use Rattle.std.proofs.Common.{◌≡◌, ◌<◌, ◌≤◌, inl, inr, ℕ, List, [], ◌∷◌, length, Option, Some, None, Result, Ok, Err, IfErr, refl, sym, ◌∙◌, subst, arith}
 use Rattle.store_model.specs.Files.{Stored}
 use Rattle.std.specs.List.{AllByRecursion}
 use Rattle.disk_format.specs.Cells.{IsName}
@@ -24,7 +24,9 @@ use Rattle.store_core.specs.State.{CoreState, Event}
 use Rattle.store_core.proofs.Damage.{never_damaged}
 use Rattle.store_core.proofs.KeepingFiles.{file_step}
 use Rattle.store_core.proofs.Stepping.{step_later}
+use Rattle.backup_engine.proofs.PutEnds.{CanTry, CanTryBy}
 use Rattle.backup_engine.specs.Adding.{IsPieceOf}
+use Rattle.backup_engine.specs.PlainMap.{most_bytes}
 use Rattle.backup_engine.specs.Promise.{ClashesByData}
 use Rattle.backup_engine.specs.Running.{IsAskedFor, IsPutStep, IsLastPut, IsOk, IsDoneBefore, EndsPut}
 
@@ -101,6 +103,29 @@ module _ (C : Type 0) (state : C → CoreState) (among : ByteSet) (name given : 
       let mid = goes_on (state old) (state run.0) f.event runs run.1.0.made ends.0 in
       let next = file_step among distinct f s m (state old) (state run.0) run.1.0 at mid in
       refused_on (g ∷ fs) refusal next.store (stored_by f m) run.0 new other mid next.is_at run.1.1 each.1 ends.1
+
+  -- ---- a put that comes to a write which fails
+
+  tries : (step : StepValue) (answer : Result Answer Refusal) (actor : ℕ) (buf bytes : List ℕ) (old new : CoreState) (m : Stored) → length given ≤ most_bytes → IsAskedFor name given step bytes → Row step actor answer buf old new
+      → CanTry (IsIn among) name given m step answer
+  tries (asked.Commit n root) (Err refusals.DiskWrite) actor buf bytes old new m few is row = (subst IsName is.0 row.0.0.may_name.named, few)
+  tries (asked.Commit n root) (Err refusal) actor buf bytes old new m few is row = tt
+  tries (asked.Commit n root) (Ok answer) actor buf bytes old new m few is row = tt
+  tries step answer actor buf bytes old new m few is row = tt
+
+  -- a core that is stopped comes to none
+  stopped_tries : (step : StepValue) (m : Stored) (at : ℕ) → CanTry (IsIn among) name given m step (Err (refusals.Stopped at))
+  stopped_tries (asked.Commit n root) m at = tt
+  stopped_tries step m at = tt
+
+  step_tries : (stop : Option Stop) (f : FileEvent) (old new : CoreState) (m : Stored) → length given ≤ most_bytes → IsPutStep name given f → StepsOr stop f.event old new → CanTryBy (IsIn among) name given m f
+  step_tries None f old new m few put steps = tries f.event.step f.event.answer f.event.actor f.event.buf f.bytes old new m few put.asked_for steps.made.row
+  step_tries (Some stop) f old new m few put steps = subst (CanTry (IsIn among) name given m f.event.step) (sym steps.answer_is) (stopped_tries f.event.step m stop.at)
+
+  -- each commit of a run that comes to one has a good name
+  pub run_tries : (fs : List FileEvent) (old new : C) (m : Stored) → length given ≤ most_bytes → FileRun C state (IsIn among) fs old new → AllByRecursion (IsPutStep name given) fs → AllByRecursion (CanTryBy (IsIn among) name given m) fs
+  run_tries [] old new m few run each = tt
+  run_tries (f ∷ fs) old new m few run each = (step_tries (state old).stop f (state old) (state run.0) m few each.0 run.1.0.made, run_tries fs run.0 new m few run.1.1 each.1)
 
   -- ---- a put that is done
 

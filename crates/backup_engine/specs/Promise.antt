@@ -72,16 +72,19 @@ Wrote (Restore name) given m ending sink sink_now = WroteFile (finite.get m.file
 
 -- ---- what is left
 
--- at the end, in what reads give and in each image that a crash leaves then: the map as it was, or as it is after the command
+-- at the end, in what reads give and in each image that a crash leaves then: the map as it was, or as it is after the command,
+-- where that could be done
 abbrev pub IsLeftAs : (List ℕ → Type 0) → CommandLine → List ℕ → Stored → Option Ending → List ℕ → Type 0
 IsLeftAs S command given m None image = IsOf S (map_after command given m) image
 IsLeftAs S command given m (Some Sink) image = IsOf S (map_after command given m) image
-IsLeftAs S command given m (Some (Refused DiskWrite)) image = IsOf S m image ⊎ IsOf S (map_after command given m) image
+IsLeftAs S command given m (Some (Refused DiskWrite)) image =
+    IsOf S m image ⊎ (CanBeDone command given m × IsOf S (map_after command given m) image)
 IsLeftAs S command given m (Some ending) image = IsOf S m image
 
 -- what a crash may leave at any moment of the command
 abbrev pub MayBeMeanwhile : (List ℕ → Type 0) → CommandLine → List ℕ → Stored → Option Ending → List ℕ → Type 0
-MayBeMeanwhile S command given m ending image = IsOf S m image ⊎ (MayChange ending × IsOf S (map_after command given m) image)
+MayBeMeanwhile S command given m ending image =
+    IsOf S m image ⊎ (MayChange ending × CanBeDone command given m × IsOf S (map_after command given m) image)
 
 -- what a crash at the end may leave, or might have left at a moment since the call began
 abbrev pub SinceStart : DiskView → DiskView → List ℕ → Type 0

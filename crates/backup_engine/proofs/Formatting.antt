@@ -26,8 +26,9 @@ use Rattle.backup_engine.specs.AnyDisk.{Formats, IsCaused, EndsDurable, disk_end
 use Rattle.backup_engine.specs.Frame.{KeepsRest, KeepsOthers}
 use Rattle.backup_engine.specs.Line.{Format}
 use Rattle.backup_engine.specs.PlainMap.{Refuses, room_of}
-use Rattle.backup_engine.specs.Promise.{ClashesByData, WroteReply, SinceStart}
+use Rattle.backup_engine.specs.Promise.{WroteReply, SinceStart}
 use Rattle.backup_engine.specs.TopCall.{Keeps, IsLeftBlank, IsUntouched}
+use Rattle.backup_engine.proofs.NoClash.{ClashesByData, ends_by}
 use Rattle.backup_engine.proofs.Replied.{IsReplied, replied_faults}
 use Rattle.backup_engine.proofs.Reading.{reads_map, AnswersEach, since_start}
 
@@ -72,7 +73,7 @@ module _ (slots : ℕ) (v w : DiskView) where
   refused_by : (refusal : Refusal) (sink : SinkView) → IsFormatRefusal shown v.size slots refusal → OnlyReads v w
       → AnswersEach (Format slots) [] (Some (Refused refusal)) v w sink sink
   refused_by refusal sink wrong reads old known among m distinct right is = record {
-    by_map = ((is.0, (old, reads.content_is ∙ known, is.1.0.holds), refuses old known m is.0 is.1.0.holds.right refusal wrong), never_clashes refusal wrong);
+    by_map = ends_by (Format slots) [] m w.content refusal (is.0, (old, reads.content_is ∙ known, is.1.0.holds), refuses old known m is.0 is.1.0.holds.right refusal wrong) (never_clashes refusal wrong);
     wrote = refl;
   }
 

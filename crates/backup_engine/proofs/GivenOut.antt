@@ -215,7 +215,7 @@ module _ (C : Type 0) (state : C → CoreState) (v w : DiskView) (old new : C) (
 
     written : (r : Result Unit Ending) → EndsGiving (way.event ∷ []) r → WroteGiven r (concat segments) sink sink_now → WroteOnAny (Restore name) [] (ending_in r) v w sink sink_now
     written (Ok u) ends wrote = given_back None (none_ahead ends, wrote.0)
-    written (Err endings.Sink) ends wrote = inr (given_back (Some endings.Sink) wrote.0)
+    written (Err endings.Sink) ends wrote = given_back (Some endings.Sink) wrote.0
     written (Err ending) ends wrote = inr (given_back (Some ending) wrote.0)
 
     faultless : (r : Result Unit Ending) → WroteGiven r (concat segments) sink sink_now → ¬ (ending_in r ≡ Some endings.Sink) → sink_now.faults ≡ sink.faults

@@ -16,7 +16,8 @@ use Rattle.store_model.proofs.Indexing.{tied}
 use Rattle.store_model.proofs.Lookups.{lacks, finds}
 use Rattle.ingest_steps.specs.Writers.{IsStored, is_pinned}
 use Rattle.backup_engine.specs.Line.{Ingest}
-use Rattle.backup_engine.specs.PlainMap.{most_bytes, HasPieces, LacksPiece, room_in}
+use Rattle.backup_engine.specs.AnyDisk.{room_in}
+use Rattle.backup_engine.specs.PlainMap.{most_bytes, HasPieces, LacksPiece}
 use Rattle.backup_engine.specs.Putting.{held_length, HasSegment}
 use Rattle.backup_engine.proofs.FewBytes.{root_of_few, is_its_segment, no_segment, one_segment}
 

@@ -14,6 +14,7 @@ pub mod Ingesting
 pub mod Kept
 pub mod KeptBytes
 pub mod Lists
+pub mod NoClash
 pub mod NotDone
 pub mod NotOpened
 pub mod Numbers

@@ -48,7 +48,7 @@ no_memory (Restore name) given S m old content told is = left_with S m old conte
 -- and whatever the command is
 memory_answers : (command : CommandLine) (given : List ℕ) (v w : DiskView) (sink : SinkView) → OnlyReads v w → AnswersEach command given (Some (Refused Memory)) v w sink sink
 memory_answers command given v w sink reads old known among m distinct right is = record {
-  by_map = (no_memory command given (IsIn among) m old w.content (reads.content_is ∙ known) is, λ clashes. clashes);
+  by_map = no_memory command given (IsIn among) m old w.content (reads.content_is ∙ known) is;
   wrote = wrote_nothing command given m (Refused Memory) sink (not_sink Memory);
 }
 
@@ -58,16 +58,16 @@ false_not_true wrong = cc
 -- memory or the disk failed, whatever the map is
 ingest_failed : (name given : List ℕ) (S : List ℕ → Type 0) (m : Stored) (old : List ℕ) (content : Option (List ℕ)) → content ≡ Some old → IsOf S m old → (refusal : Refusal) → IsTrue (fails refusal)
     → EndsBy (Ingest name) given m content (Some (Refused refusal))
-ingest_failed name given S m old content told is Memory fails = (left_with S m old content (λ store. Unit {0}) told is tt, λ clashes. clashes)
-ingest_failed name given S m old content told is DiskRead fails = (left_with S m old content (λ store. Unit {0}) told is tt, λ clashes. clashes)
-ingest_failed name given S m old content told is DiskWrite fails = (tt, λ clashes. clashes)
+ingest_failed name given S m old content told is Memory fails = left_with S m old content (λ store. Unit {0}) told is tt
+ingest_failed name given S m old content told is DiskRead fails = left_with S m old content (λ store. Unit {0}) told is tt
+ingest_failed name given S m old content told is DiskWrite fails = tt
 ingest_failed name given S m old content told is refusal fails = absurd (false_not_true fails)
 
 pub restore_failed : (name given : List ℕ) (S : List ℕ → Type 0) (m : Stored) (old : List ℕ) (content : Option (List ℕ)) → content ≡ Some old → IsOf S m old → (refusal : Refusal) → IsTrue (fails refusal)
     → EndsBy (Restore name) given m content (Some (Refused refusal))
-restore_failed name given S m old content told is Memory fails = (left_with S m old content (λ store. Unit {0}) told is tt, λ clashes. clashes)
-restore_failed name given S m old content told is DiskRead fails = (left_with S m old content (λ store. Unit {0}) told is tt, λ clashes. clashes)
-restore_failed name given S m old content told is DiskWrite fails = (left_with S m old content (λ store. Unit {0}) told is tt, λ clashes. clashes)
+restore_failed name given S m old content told is Memory fails = left_with S m old content (λ store. Unit {0}) told is tt
+restore_failed name given S m old content told is DiskRead fails = left_with S m old content (λ store. Unit {0}) told is tt
+restore_failed name given S m old content told is DiskWrite fails = left_with S m old content (λ store. Unit {0}) told is tt
 restore_failed name given S m old content told is refusal fails = absurd (false_not_true fails)
 
 -- ---- a store that was not opened
@@ -208,7 +208,7 @@ source_answers name given v w sink old known among m distinct right is = record 
 
 long_answers : (name given : List ℕ) (v w : DiskView) (sink : SinkView) → OnlyReads v w → most_bytes < length given → AnswersEach (Ingest name) given (Some (Refused TooLong)) v w sink sink
 long_answers name given v w sink reads long old known among m distinct right is = record {
-  by_map = (left_with (IsIn among) m old w.content (λ store. most_bytes < length given) (reads.content_is ∙ known) is long, λ clashes. clashes);
+  by_map = left_with (IsIn among) m old w.content (λ store. most_bytes < length given) (reads.content_is ∙ known) is long;
   wrote = refl;
 }
 

@@ -86,11 +86,9 @@ module _ (C : Type 0) (state : C → CoreState) (v w : DiskView) (old new : C) (
     by_map : (S : List ℕ → Type 0) (m : Stored) (image : List ℕ) → w.content ≡ Some image → IsOf S m image
         → (r : Refusal) → readers.IsOpenRefusal (state old).tables.names name (part_of (state old).parts 0) r → FindsFile m.files (asked.OpenRead name) (Err r) → EndsBy (Restore name) [] m w.content (Some (endings.Refused r))
     by_map S m image told is Memory cause finds = restore_failed name [] S m image w.content told is Memory refl
-    by_map S m image told is BadName cause finds = (left_with S m image w.content (λ store. ¬ (IsName name)) told is cause.1, λ clashes. clashes)
-    by_map S m image told is NoFile cause finds = (
-      left_with S m image w.content (λ store. IsName name × (is_some (finite.get m.files name) ≡ false)) told is (cause.1.0, is_none (finite.get m.files name) finds),
-      λ clashes. clashes,
-    )
+    by_map S m image told is BadName cause finds = left_with S m image w.content (λ store. ¬ (IsName name)) told is cause.1
+    by_map S m image told is NoFile cause finds =
+        left_with S m image w.content (λ store. IsName name × (is_some (finite.get m.files name) ≡ false)) told is (cause.1.0, is_none (finite.get m.files name) finds)
     by_map S m image told is (WrongPart kind) cause finds = absurd (cause.0 idle)
     by_map S m image told is r cause finds = absurd cause.1
 

@@ -32,9 +32,9 @@ use Rattle.store_core.specs.Runs.{ChangesTo, CoreRun, FileEvent, events_of}
 use Rattle.store_core.specs.State.{CoreState, Event}
 use Rattle.store_core.proofs.Stepping.{step_later}
 use Rattle.backup_engine.specs.Adding.{AddsOnce}
-use Rattle.backup_engine.specs.AnyDisk.{Holds, HasAdded, IsStored, IsCaused, OnAnyDisk}
+use Rattle.backup_engine.specs.AnyDisk.{Holds, HasAdded, IsStored, IsCaused, OnAnyDisk, room_in}
 use Rattle.backup_engine.specs.Line.{Ingest}
-use Rattle.backup_engine.specs.PlainMap.{most_bytes, HasPieces, HasNoCell, room_in}
+use Rattle.backup_engine.specs.PlainMap.{most_bytes, HasPieces, HasNoRoomForName}
 use Rattle.backup_engine.specs.Running.{PutRun, IsPutRefusal, IsOk, IsLastPut, seals_of}
 use Rattle.backup_engine.specs.Storing.{Replies, Sent, IsNotTaken, IsTaken, IsSourceFault, IngestRun}
 use Rattle.backup_engine.specs.TopCall.{ending_in}
@@ -163,7 +163,7 @@ module _ (C : Type 0) (state : C → CoreState) (v w : DiskView) (old new : C) (
     cause_of refusal added are refuses = inr (added, refuses.store_has added.after are.represents are.valid are.reserve)
 
     -- a name that can be put has a cell
-    has_cell : (after : Store) → CanPut name after → HasNoCell (room_in (Ingest name) after) → ⊥
+    has_cell : (after : Store) → CanPut name after → HasNoRoomForName (room_in (Ingest name) after) → ⊥
     has_cell after can (inl full) = has_room (names_of after) name can.room full.0 full.1
     has_cell after can (inr many) = absurd (omega (arith, many, can.cell))
 

@@ -23,7 +23,8 @@ use Rattle.ingest_steps.specs.Writers.{IsStored, IsNotStored, IsCommitRefusal}
 use Rattle.store_core.specs.Core.{CoreStep, KeepsTables}
 use Rattle.store_core.specs.State.{CoreState, Event}
 use Rattle.backup_engine.specs.Line.{Ingest}
-use Rattle.backup_engine.specs.PlainMap.{most_bytes, HasNoCell, HasPieces, room_in}
+use Rattle.backup_engine.specs.AnyDisk.{room_in}
+use Rattle.backup_engine.specs.PlainMap.{most_bytes, HasNoRoomForName, HasPieces}
 use Rattle.backup_engine.specs.Putting.{IsKept}
 use Rattle.backup_engine.specs.Running.{IsPutRefusal}
 use Rattle.backup_engine.proofs.FirstActor.{by_first, steps_of, kept_represents, no_other}
@@ -68,11 +69,11 @@ module _ (old new : CoreState) (name bytes buf : List ℕ) (kept : IsKept bytes 
     names_are = before.names_are.names_are
 
     -- a name that may be put has a cell
-    has_cell : HasRoom old.tables.names name → old.tables.journal.count < half_cells → HasNoCell (room_in (Ingest name) store) → ⊥
+    has_cell : HasRoom old.tables.names name → old.tables.journal.count < half_cells → HasNoRoomForName (room_in (Ingest name) store) → ⊥
     has_cell room cell (inl full) = has_room (names_of store) name (subst (λ (names : NameMap). HasRoom names name) names_are room) full.0 full.1
     has_cell room cell (inr many) = absurd (omega (arith, cell, many, before.names_are.count))
 
-    no_cell : IsFull old.tables.names name ⊎ (HasRoom old.tables.names name × (half_cells ≤ old.tables.journal.count)) → HasNoCell (room_in (Ingest name) store)
+    no_cell : IsFull old.tables.names name ⊎ (HasRoom old.tables.names name × (half_cells ≤ old.tables.journal.count)) → HasNoRoomForName (room_in (Ingest name) store)
     no_cell (inl full) =
         let here = subst (λ (names : NameMap). IsFull names name) names_are full in
         inl (ap is_some here.0, here.1)

@@ -28,11 +28,13 @@ use Rattle.store_core.proofs.Crashes.{last_at, leaves, ends_with_all}
 use Rattle.store_core.proofs.KeepingFiles.{keeps_files}
 use Rattle.backup_engine.specs.Adding.{Adds, AddsTo, AddsOnce}
 use Rattle.backup_engine.specs.Line.{Ingest}
-use Rattle.backup_engine.specs.PlainMap.{most_bytes, Room, room_of, room_in, Refuses, RefusesIngest}
-use Rattle.backup_engine.specs.Promise.{ClashesByData, KeepsMap, KeepsEachMap, IsRefusedBy, IsLeftWith, IsLeftAs, EndsBy, WroteReply, SinceStart, MayBeMeanwhile}
+use Rattle.backup_engine.specs.AnyDisk.{room_in}
+use Rattle.backup_engine.specs.PlainMap.{most_bytes, Room, room_of, Refuses, RefusesIngest}
+use Rattle.backup_engine.specs.Promise.{KeepsMap, KeepsEachMap, IsRefusedBy, IsLeftWith, IsLeftAs, EndsBy, WroteReply, SinceStart, MayBeMeanwhile}
 use Rattle.backup_engine.specs.Running.{EndsPut, PutRun, IsPutRefusal, seals_of}
 use Rattle.backup_engine.proofs.Added.{adds_to, put_in}
 use Rattle.backup_engine.proofs.Called.{Called, Starts, starts}
+use Rattle.backup_engine.proofs.NoClash.{ends_by}
 use Rattle.backup_engine.proofs.PutEnds.{CanBe, CanTryBy, Left, LeftMeanwhile, meanwhile, maps_after, left_at_end, left_on_the_way}
 use Rattle.backup_engine.proofs.RightPuts.{file_run}
 use Rattle.backup_engine.proofs.PutStops.{RunsOn, refused_on, done_name, done_on, run_later, run_tries}
@@ -186,10 +188,10 @@ module _ (C : Type 0) (state : C → CoreState) (v w : DiskView) (old new : C) (
         let room = same_room end.0 m left holds (last_at (IsIn among) end.0 m (state new) at) name in
         (end.0, (left, was.last.only.content_is ∙ here, holds), refuses_by name given m end.0 (state new) refusal at.represents room at.valid (at.invariant left here).reserve_holds why)
 
-    by_map : IsRefusedBy (Ingest name) given m w.content refusal × ¬ (ClashesByData given refusal)
+    by_map : EndsBy (Ingest name) given m w.content (Some (Refused refusal))
     by_map = elim (by_write refusal) [
-      | inl write ↦ subst (λ (r : Refusal). IsRefusedBy (Ingest name) given m w.content r × ¬ (ClashesByData given r)) (sym write) (tt, λ clash. clash)
-      | inr other ↦ (refused_left name given m w.content refusal (by_map_left other), (runs_on other).free)
+      | inl write ↦ subst (λ (r : Refusal). EndsBy (Ingest name) given m w.content (Some (Refused r))) (sym write) tt
+      | inr other ↦ ends_by (Ingest name) given m w.content refusal (refused_left name given m w.content refusal (by_map_left other)) (runs_on other).free
     ]
 
     refused_keeps : (sink : SinkView) → KeepsMap (IsIn among) (Ingest name) given (Some (Refused refusal)) m v w sink sink

@@ -47,9 +47,9 @@ use Rattle.store_core.specs.State.{CoreState, IsRunning}
 use Rattle.store_core.proofs.Making.{up_of}
 use Rattle.store_core.proofs.RunningOn.{step_runs}
 use Rattle.backup_engine.specs.Adding.{IsPieceOf}
-use Rattle.backup_engine.specs.AnyDisk.{OnAnyDisk}
+use Rattle.backup_engine.specs.AnyDisk.{OnAnyDisk, room_in}
 use Rattle.backup_engine.specs.Line.{Ingest}
-use Rattle.backup_engine.specs.PlainMap.{most_bytes, HasPieces, room_in}
+use Rattle.backup_engine.specs.PlainMap.{most_bytes, HasPieces}
 use Rattle.backup_engine.specs.Running.{PutRun, IsAskedFor, IsNoCommit, IsOk, IsLastPut}
 use Rattle.backup_engine.specs.Storing.{IngestRun}
 use Rattle.backup_engine.specs.TopCall.{ending_in}

@@ -24,10 +24,10 @@ use Rattle.store_core.specs.State.{CoreState, Event}
 use Rattle.store_core.proofs.Damage.{never_damaged}
 use Rattle.store_core.proofs.KeepingFiles.{file_step}
 use Rattle.store_core.proofs.Stepping.{step_later}
+use Rattle.backup_engine.proofs.NoClash.{ClashesByData}
 use Rattle.backup_engine.proofs.PutEnds.{CanTry, CanTryBy}
 use Rattle.backup_engine.specs.Adding.{IsPieceOf}
 use Rattle.backup_engine.specs.PlainMap.{most_bytes}
-use Rattle.backup_engine.specs.Promise.{ClashesByData}
 use Rattle.backup_engine.specs.Running.{IsAskedFor, IsPutStep, IsLastPut, IsOk, IsDoneBefore, EndsPut}
 
 -- ---- what stops a core

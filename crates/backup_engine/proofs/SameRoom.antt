@@ -12,7 +12,8 @@ use Rattle.namespace.specs.declared.record.Named.{Named}
 use Rattle.store_model.specs.Image.{Store, names_of, last_sequence}
 use Rattle.store_model.specs.Standing.{IsFileOf, IsStoreOf}
 use Rattle.backup_engine.specs.Line.{Ingest}
-use Rattle.backup_engine.specs.PlainMap.{room, room_of, room_in}
+use Rattle.backup_engine.specs.AnyDisk.{room_in}
+use Rattle.backup_engine.specs.PlainMap.{room, room_of}
 
 -- ---- maps of the same keys
 

@@ -1,13 +1,24 @@
 -- What the top call promises, from what a command keeps.
 use Rattle.std.proofs.Common.{◌≡◌, refl, sym, subst, ℕ, List, [], Option, Some, None}
 use Rattle.dd_disk.specs.View.{DiskView}
-use Rattle.dd_disk.proofs.Later.{reads_here}
 use Rattle.dd_io.specs.Flow.{SourceView, SinkView}
 use Rattle.reply_text.specs.declared.ending.Ending.{Ending}
 use Rattle.reply_text.specs.declared.ending.Ending.TheVariants.{Words}
 use Rattle.reply_text.specs.Table.{status_of}
 use Rattle.backup_engine.specs.Line.{CommandLine}
-use Rattle.backup_engine.specs.TopCall.{Keeps, Does, Promise, IsNoted, AreNoted, status_by}
+use Rattle.backup_engine.specs.TopCall.{IsSameDisk, Keeps, Does, Promise, IsNoted, AreNoted, status_by}
+
+same_disk : (v : DiskView) → IsSameDisk v v
+same_disk v = record {
+  size_is = refl;
+  content_is = refl;
+  clock_is = refl;
+  faults_are = refl;
+  loans_are = refl;
+  images_are = λ c. (λ image. image, λ image. image);
+  since_are = λ t c. (λ image. image, λ image. image);
+  returned_are = λ t at b. (λ returned. returned, λ returned. returned);
+}
 
 -- words that are no line
 pub words_promise : (line : Option CommandLine) (status : ℕ) (v : DiskView) (source : SourceView) (sink notes notes_now : SinkView) → line ≡ None → status ≡ status_of Words → IsNoted notes notes_now Words
@@ -18,7 +29,7 @@ words_promise line status v source sink notes notes_now none is noted = record {
   status_is = is;
   noted = noted;
   does = subst (λ (l : Option CommandLine). Does l [] (Some Words) v v source source sink sink) (sym none)
-      (record { why = refl; disk_is = record { only = reads_here v; faults_are = refl }; source_is = refl; sink_is = refl });
+      (record { why = refl; disk_is = same_disk v; source_is = refl; sink_is = refl });
 }
 
 -- a line, as it ended

@@ -197,6 +197,7 @@ module _ (loans : List ℕ) (v w : DiskView) where
 
     restore_wrote : (ending : Option Ending) → WroteOnAny (Restore name) given ending lent lent_now sink sink_now → WroteOnAny (Restore name) given ending v w sink sink_now
     restore_wrote None is = given_back sink sink_now name None is
+    restore_wrote (Some Sink) is = given_back sink sink_now name (Some Sink) is
     restore_wrote (Some ending) (inl is) = inl is
     restore_wrote (Some ending) (inr is) = inr (given_back sink sink_now name (Some ending) is)
 

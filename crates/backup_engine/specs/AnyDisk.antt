@@ -1,5 +1,6 @@
 -- What the top call promises over any disk, also one that tells nothing, or lies (docs/MODEL.md, 'The promise').
-use Rattle.std.specs.Prelude.{◌≡◌, ◌≢◌, ◌⊎◌, ℕ, ◌≤◌, List, [], length, sum_by, Option, None, Some}
+use Rattle.std.specs.Prelude.{◌≡◌, ◌≢◌, ◌⊎◌, ℕ, ◌≤◌, List, [], length, sum_by, is_some, Option, None, Some}
+use Rattle.std.specs.FinMap as finite
 use Rattle.std.specs.List.{concat}
 use Rattle.base_model.specs.Bytes.{byte_at}
 use Rattle.base_model.specs.Fault.{Rose}
@@ -20,7 +21,7 @@ use Rattle.refusals.specs.declared.refusal.Refusal.TheVariants.{Memory, DiskRead
 use Rattle.reply_text.specs.declared.ending.Ending.{Ending}
 use Rattle.reply_text.specs.declared.ending.Ending.TheVariants.{Words, Source, Sink, Refused}
 use Rattle.reply_text.specs.Text.{formatted_line, stored_line}
-use Rattle.store_model.specs.Image.{Store, Encodes, names_of}
+use Rattle.store_model.specs.Image.{Store, Encodes, names_of, last_sequence}
 use Rattle.store_model.specs.Slots.{IsIndexOf, free_slots}
 use Rattle.store_model.specs.Standing.{IsFormatted}
 use Rattle.store_model.specs.Steps.{StoreChange, CanPut}
@@ -33,10 +34,15 @@ use Rattle.read_steps.specs.Walking.{GivesAll, IsNextRefusal}
 use Rattle.store_core.specs.Runs.{ChangesTo}
 use Rattle.backup_engine.specs.Adding.{AddsOnce}
 use Rattle.backup_engine.specs.Line.{CommandLine, Format, Ingest, Restore}
-use Rattle.backup_engine.specs.PlainMap.{RefusesIngest, RefusesRestore, HasAll, room_in}
+use Rattle.backup_engine.specs.PlainMap.{Room, room, name_of, RefusesIngest, RefusesRestore, HasAll}
 use Rattle.backup_engine.specs.Promise.{WroteReply}
 
 -- ---- what reads showed
+
+-- what refusals go by, of a store alone, whatever its names stand for
+abbrev pub room_in : CommandLine → Store → Room
+room_in command store =
+    room (is_some (finite.get (names_of store) (name_of command))) (finite.len (names_of store)) (last_sequence store) store
 
 -- the disk holds a store, with two free slots or more
 pub record Holds (disk disk_now : DiskView) : Type 0 where
@@ -133,6 +139,7 @@ abbrev pub WroteOnAny : CommandLine → List ℕ → Option Ending → DiskView 
 WroteOnAny (Format slots) given ending disk disk_now sink sink_now = WroteReply (formatted_line slots) ending sink sink_now
 WroteOnAny (Ingest name) given ending disk disk_now sink sink_now = WroteReply (stored_line name (root_of given)) ending sink sink_now
 WroteOnAny (Restore name) given None disk disk_now sink sink_now = GivesBack name None disk disk_now sink sink_now
+WroteOnAny (Restore name) given (Some Sink) disk disk_now sink sink_now = GivesBack name (Some Sink) disk disk_now sink sink_now
 WroteOnAny (Restore name) given (Some ending) disk disk_now sink sink_now =
     (sink_now.written ≡ sink.written) ⊎ GivesBack name (Some ending) disk disk_now sink sink_now
 

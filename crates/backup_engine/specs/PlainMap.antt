@@ -9,7 +9,7 @@ use Rattle.refusals.specs.declared.refusal.Difference.TheVariants.{Length}
 use Rattle.refusals.specs.declared.refusal.Refusal.{Refusal}
 use Rattle.refusals.specs.declared.refusal.Refusal.TheVariants.{Memory, NoFile, BadName, TooMany, TooLong, Full, Clash, DiskRead, DiskWrite, Numbers, AlreadyStore, WrongSize}
 use Rattle.store_model.specs.Files.{Stored, with_stored}
-use Rattle.store_model.specs.Image.{Store, names_of, last_sequence}
+use Rattle.store_model.specs.Image.{Store}
 use Rattle.store_model.specs.Slots.{newest, free_slots, last_id}
 use Rattle.store_model.specs.Standing.{IsSegmentOf}
 use Rattle.store_model.specs.Trees.{leaf_key}
@@ -18,8 +18,6 @@ use Rattle.backup_engine.specs.Line.{CommandLine, Format, Ingest, Restore}
 -- how many bytes a file has at most, for now
 abbrev pub most_bytes : ℕ
 most_bytes = 2048
-
--- ---- what is done
 
 -- The map after a command that is done: names to byte lists, and the last sequence number. `given` is what the source gave.
 abbrev pub map_after : CommandLine → List ℕ → Stored → Stored
@@ -32,8 +30,6 @@ abbrev pub CanBeDone : CommandLine → List ℕ → Stored → Type 0
 CanBeDone (Format slots) given m = ⊥
 CanBeDone (Ingest name) given m = IsName name × (length given ≤ most_bytes)
 CanBeDone (Restore name) given m = is_some (finite.get m.files name) ≡ true
-
--- ---- what is refused
 
 -- What refusals go by: whether the name has a file, how many names have one, the last sequence number; and of the disk its
 -- size, how many slots are free, the last container id, how many records the journal has, and how long a segment is that
@@ -71,41 +67,37 @@ room knows names last store = record {
 abbrev pub room_of : CommandLine → Stored → Store → Room
 room_of command m store = room (is_some (finite.get m.files (name_of command))) (finite.len m.files) m.last store
 
--- of a store alone, whatever its names stand for
-abbrev pub room_in : CommandLine → Store → Room
-room_in command store =
-    room (is_some (finite.get (names_of store) (name_of command))) (finite.len (names_of store)) (last_sequence store) store
-
 -- a piece of a file: a segment, by its key and its length
 abbrev pub IsPiece : List ℕ → List ℕ → ℕ → Type 0
 IsPiece given key count = (segment : List ℕ) × IsSegmentOf given segment × (key ≡ leaf_key segment) × (count ≡ length segment)
 
--- each is held, or one is not
+-- each is held
 abbrev pub HasPieces : List ℕ → Room → Type 0
 HasPieces given room = (key : List ℕ) (count : ℕ) → IsPiece given key count → room.held key ≡ Some count
 
+-- one is not
 abbrev pub LacksPiece : List ℕ → Room → Type 0
 LacksPiece given room = (key : List ℕ) × ((count : ℕ) × IsPiece given key count × (room.held key ≡ None))
 
 -- there are as many names as there may be, and this one is new; or the journal has no cell left
-abbrev pub HasNoCell : Room → Type 0
-HasNoCell room = ((room.knows ≡ false) × (MOST_NAMES ≤ room.names)) ⊎ (half_cells ≤ room.records)
+abbrev pub HasNoRoomForName : Room → Type 0
+HasNoRoomForName room = ((room.knows ≡ false) × (MOST_NAMES ≤ room.names)) ⊎ (half_cells ≤ room.records)
 
 -- The file is not too long, each piece of it is held, and the name is good and has a cell.
 pub record HasAll (name given : List ℕ) (room : Room) : Type 0 where
   pub few : length given ≤ most_bytes
   pub pieces : HasPieces given room
   pub named : IsName name
-  pub cell : ¬ (HasNoCell room)
+  pub cell : ¬ (HasNoRoomForName room)
 
--- Why an `ingest` is refused, in order: the source; a piece; and, once all are held, the name.
+-- Why an `ingest` is refused, in the order of the steps: the source and its pieces as they come; once all are held, the name.
 abbrev pub RefusesIngest : List ℕ → List ℕ → Room → Refusal → Type 0
 RefusesIngest name given room TooLong = most_bytes < length given
 RefusesIngest name given room (Clash key (Length offered held)) =
     IsPiece given key offered × (room.held key ≡ Some held) × (offered ≢ held)
 RefusesIngest name given room (Full free) = LacksPiece given room × (free ≡ room.free) × (free ≤ RESERVE)
 RefusesIngest name given room BadName = (length given ≤ most_bytes) × HasPieces given room × ¬ (IsName name)
-RefusesIngest name given room TooMany = (length given ≤ most_bytes) × HasPieces given room × IsName name × HasNoCell room
+RefusesIngest name given room TooMany = (length given ≤ most_bytes) × HasPieces given room × IsName name × HasNoRoomForName room
 RefusesIngest name given room Numbers =
     (LacksPiece given room × (RESERVE < room.free) × (room.last_id ≡ LAST_ID))
     ⊎ (HasAll name given room × (room.last ≡ 2 ^ 64 - 1))

@@ -13,7 +13,7 @@ use Rattle.store_model.specs.Collisions.{HasNoCollisions, ByteSet, IsIn}
 use Rattle.store_model.specs.Files.{Stored}
 use Rattle.store_model.specs.Image.{Store, Encodes}
 use Rattle.store_model.specs.Standing.{IsStoreOf, IsSegmentOf}
-use Rattle.store_model.specs.Trees.{root_of, leaf_key}
+use Rattle.store_model.specs.Trees.{root_of}
 use Rattle.store_core.specs.Runs.{IsOf}
 use Rattle.backup_engine.specs.Adding.{Adds}
 use Rattle.backup_engine.specs.Line.{CommandLine, Format, Ingest, Restore}
@@ -37,19 +37,15 @@ abbrev pub IsRefusedBy : CommandLine → List ℕ → Stored → Option (List �
 IsRefusedBy (Ingest name) given m content DiskWrite = Unit {0}
 IsRefusedBy command given m content refusal = IsLeftWith m content (λ store. Refuses command given (room_of command m store) refusal)
 
--- data clashes with what is held: never, since no two different segments have one digest
-abbrev pub ClashesByData : List ℕ → Refusal → Type 0
-ClashesByData given (Clash key at) = (segment : List ℕ) × IsSegmentOf given segment × (key ≡ leaf_key segment)
-ClashesByData given refusal = ⊥
-
--- why it ended so, of the map; a source and a sink that failed are told by their counts of faults
+-- Why it ended so, of the map: data never clashes with what is held, since no two different segments have one digest. A source
+-- and a sink that failed are told by their counts of faults.
 abbrev pub EndsBy : CommandLine → List ℕ → Stored → Option (List ℕ) → Option Ending → Type 0
 EndsBy command given m content None = CanBeDone command given m
 EndsBy command given m content (Some Words) = ⊥
 EndsBy command given m content (Some Source) = (name : List ℕ) × (command ≡ Ingest name)
 EndsBy command given m content (Some Sink) = CanBeDone command given m
-EndsBy command given m content (Some (Refused refusal)) =
-    IsRefusedBy command given m content refusal × ¬ (ClashesByData given refusal)
+EndsBy command given m content (Some (Refused (Clash key at))) = ⊥
+EndsBy command given m content (Some (Refused refusal)) = IsRefusedBy command given m content refusal
 
 -- ---- what was written
 

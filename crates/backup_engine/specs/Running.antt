@@ -23,8 +23,9 @@ use Rattle.store_core.specs.Core.{CoreStep}
 use Rattle.store_core.specs.Runs.{CoreRun, FileEvent, events_of, opens, given_to}
 use Rattle.store_core.specs.State.{CoreState, Event, IsUp}
 use Rattle.backup_engine.specs.Adding.{IsPieceOf, AddsOnce}
+use Rattle.backup_engine.specs.AnyDisk.{room_in}
 use Rattle.backup_engine.specs.Line.{Ingest}
-use Rattle.backup_engine.specs.PlainMap.{RefusesIngest, room_in}
+use Rattle.backup_engine.specs.PlainMap.{RefusesIngest}
 
 -- A core that was opened just now: it runs, each actor is idle, the map of its index is known, and its last container id is the
 -- greatest of its store.

@@ -6,7 +6,6 @@ use Rattle.std.specs.Prelude.{◌≡◌, ◌⊎◌, ℕ, List, Option, Some, Non
 use Rattle.base_model.specs.Fault.{Rose}
 use Rattle.base_model.specs.Known.{Known, KnownWith, Appended}
 use Rattle.dd_disk.specs.View.{DiskView}
-use Rattle.dd_disk.specs.Ending.{Refused as NoFault, Reads}
 use Rattle.dd_io.specs.Flow.{SourceView, SinkView, AppendedPart}
 use Rattle.refusals.specs.declared.refusal.Refusal.TheVariants.{DiskWrite}
 use Rattle.reply_text.specs.declared.ending.Ending.{Ending}
@@ -67,11 +66,24 @@ pub record Keeps (command : CommandLine) (given : List ℕ) (ending : Option End
   pub blank : IsLeftBlank command disk disk_now
   pub untouched : IsUntouched command ending disk disk_now
 
+-- No call of the disk was made: all that is known of it is what was. (A view is too large a type for ≡.)
+pub record IsSameDisk (disk disk_now : DiskView) : Type 0 where
+  pub size_is : disk_now.size ≡ disk.size
+  pub content_is : disk_now.content ≡ disk.content
+  pub clock_is : disk_now.clock ≡ disk.clock
+  pub faults_are : disk_now.faults ≡ disk.faults
+  pub loans_are : disk_now.loans ≡ disk.loans
+  pub images_are : (c : List ℕ) → (disk_now.images c → disk.images c) × (disk.images c → disk_now.images c)
+  pub since_are : (t : ℕ) (c : List ℕ)
+      → (disk_now.images_since t c → disk.images_since t c) × (disk.images_since t c → disk_now.images_since t c)
+  pub returned_are : (t at : ℕ) (b : List ℕ)
+      → (disk_now.read_returned t at b → disk.read_returned t at b) × (disk.read_returned t at b → disk_now.read_returned t at b)
+
 -- Words that are no line of the table: nothing is done.
 pub record DoesNothing (ending : Option Ending) (disk disk_now : DiskView) (source source_now : SourceView) (sink sink_now : SinkView)
     : Type 0 where
   pub why : ending ≡ Some Words
-  pub disk_is : Reads NoFault disk disk_now
+  pub disk_is : IsSameDisk disk disk_now
   pub source_is : source_now ≡ source
   pub sink_is : sink_now ≡ sink
 

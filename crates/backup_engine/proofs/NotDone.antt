@@ -23,7 +23,7 @@ use Rattle.store_core.specs.Runs.{IsOf}
 use Rattle.store_core.specs.State.{CoreState}
 use Rattle.backup_engine.specs.Line.{CommandLine, Format, Ingest, Restore}
 use Rattle.backup_engine.specs.PlainMap.{most_bytes}
-use Rattle.backup_engine.specs.Promise.{EndsBy, IsRefusedBy, IsLeftWith}
+use Rattle.backup_engine.specs.Promise.{EndsBy, IsLeftWith}
 use Rattle.backup_engine.specs.AnyDisk.{Holds, HasAdded, IsCaused, Took, WroteOnAny, EndsDurable}
 use Rattle.backup_engine.specs.Storing.{IsSourceFault}
 use Rattle.backup_engine.specs.TopCall.{Keeps, IsLeftBlank, IsUntouched}
@@ -40,7 +40,7 @@ pub left_with : (S : List ℕ → Type 0) (m : Stored) (old : List ℕ) (content
 left_with S m old content P told is holds = (is.0, (old, told, is.1.0.holds), holds)
 
 -- want of memory, whatever the map is
-no_memory : (command : CommandLine) (given : List ℕ) (S : List ℕ → Type 0) (m : Stored) (old : List ℕ) (content : Option (List ℕ)) → content ≡ Some old → IsOf S m old → IsRefusedBy command given m content Memory
+no_memory : (command : CommandLine) (given : List ℕ) (S : List ℕ → Type 0) (m : Stored) (old : List ℕ) (content : Option (List ℕ)) → content ≡ Some old → IsOf S m old → EndsBy command given m content (Some (Refused Memory))
 no_memory (Format slots) given S m old content told is = left_with S m old content (λ store. Unit {0}) told is tt
 no_memory (Ingest name) given S m old content told is = left_with S m old content (λ store. Unit {0}) told is tt
 no_memory (Restore name) given S m old content told is = left_with S m old content (λ store. Unit {0}) told is tt

@@ -30,7 +30,7 @@ use Rattle.backup_engine.specs.Adding.{Adds, AddsTo, AddsOnce}
 use Rattle.backup_engine.specs.Line.{Ingest}
 use Rattle.backup_engine.specs.AnyDisk.{room_in}
 use Rattle.backup_engine.specs.PlainMap.{most_bytes, Room, room_of, Refuses, RefusesIngest}
-use Rattle.backup_engine.specs.Promise.{KeepsMap, KeepsEachMap, IsRefusedBy, IsLeftWith, IsLeftAs, EndsBy, WroteReply, SinceStart, MayBeMeanwhile}
+use Rattle.backup_engine.specs.Promise.{KeepsMap, KeepsEachMap, IsLeftWith, IsLeftAs, EndsBy, WroteReply, SinceStart, MayBeMeanwhile}
 use Rattle.backup_engine.specs.Running.{EndsPut, PutRun, IsPutRefusal, seals_of}
 use Rattle.backup_engine.proofs.Added.{adds_to, put_in}
 use Rattle.backup_engine.proofs.Called.{Called, Starts, starts}
@@ -58,11 +58,6 @@ refuses_by name given m t c Memory represents same valid reserve is = tt
 refuses_by name given m t c DiskRead represents same valid reserve is = tt
 refuses_by name given m t c DiskWrite represents same valid reserve is = tt
 refuses_by name given m t c refusal represents same valid reserve is = subst (λ (room : Room). RefusesIngest name given room refusal) same (is.store_has t represents valid reserve)
-
--- after a write that failed either map may be
-refused_left : (name given : List ℕ) (m : Stored) (content : Option (List ℕ)) (refusal : Refusal) → IsLeftWith m content (λ store. Refuses (Ingest name) given (room_of (Ingest name) m store) refusal) → IsRefusedBy (Ingest name) given m content refusal
-refused_left name given m content DiskWrite left = tt
-refused_left name given m content refusal left = left
 
 one_image : (a b : List ℕ) → Some a ≡ Some b → a ≡ b
 one_image a b is = cc
@@ -191,7 +186,7 @@ module _ (C : Type 0) (state : C → CoreState) (v w : DiskView) (old new : C) (
     by_map : EndsBy (Ingest name) given m w.content (Some (Refused refusal))
     by_map = elim (by_write refusal) [
       | inl write ↦ subst (λ (r : Refusal). EndsBy (Ingest name) given m w.content (Some (Refused r))) (sym write) tt
-      | inr other ↦ ends_by (Ingest name) given m w.content refusal (refused_left name given m w.content refusal (by_map_left other)) (runs_on other).free
+      | inr other ↦ ends_by (Ingest name) given m w.content refusal (by_map_left other) (runs_on other).free
     ]
 
     refused_keeps : (sink : SinkView) → KeepsMap (IsIn among) (Ingest name) given (Some (Refused refusal)) m v w sink sink

@@ -33,8 +33,8 @@ use Rattle.read_steps.specs.Opening.{HasRoot, top_of}
 use Rattle.read_steps.specs.Walking.{GivesAll, IsNextRefusal}
 use Rattle.store_core.specs.Runs.{ChangesTo}
 use Rattle.backup_engine.specs.Adding.{AddsOnce}
-use Rattle.backup_engine.specs.Line.{CommandLine, Format, Ingest, Restore}
-use Rattle.backup_engine.specs.PlainMap.{Room, room, name_of, RefusesIngest, RefusesRestore, HasAll}
+use Rattle.backup_engine.specs.Line.{CommandLine, Format, Ingest, Restore, name_of}
+use Rattle.backup_engine.specs.PlainMap.{Room, room, RefusesIngest, RefusesRestore, HasAll}
 use Rattle.backup_engine.specs.Promise.{WroteReply}
 
 -- ---- what reads showed

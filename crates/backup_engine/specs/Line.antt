@@ -11,6 +11,12 @@ pub data CommandLine : Type 0 where
   Ingest : (name : List ℕ) → CommandLine
   Restore : (name : List ℕ) → CommandLine
 
+-- the name of a command, where it has one
+abbrev pub name_of : CommandLine → List ℕ
+name_of (Format slots) = []
+name_of (Ingest name) = name
+name_of (Restore name) = name
+
 -- `--` and each longer word that begins with a dash; a dash alone is a word like others
 abbrev pub is_dashed : List ℕ → Bool
 is_dashed [] = false

@@ -13,7 +13,7 @@ use Rattle.store_model.specs.Image.{Store}
 use Rattle.store_model.specs.Slots.{newest, free_slots, last_id}
 use Rattle.store_model.specs.Standing.{IsSegmentOf}
 use Rattle.store_model.specs.Trees.{leaf_key}
-use Rattle.backup_engine.specs.Line.{CommandLine, Format, Ingest, Restore}
+use Rattle.backup_engine.specs.Line.{CommandLine, Format, Ingest, Restore, name_of}
 
 -- how many bytes a file has at most, for now
 abbrev pub most_bytes : ℕ
@@ -43,12 +43,6 @@ pub record Room : Type 0 where
   pub last_id : ℕ
   pub records : ℕ
   pub held : List ℕ → Option ℕ
-
--- the name of a command, where it has one
-abbrev pub name_of : CommandLine → List ℕ
-name_of (Format slots) = []
-name_of (Ingest name) = name
-name_of (Restore name) = name
 
 -- those of a store, by what has a file
 abbrev pub room : Bool → ℕ → ℕ → Store → Room

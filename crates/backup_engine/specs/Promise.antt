@@ -32,20 +32,17 @@ MayChange (Some ending) = ⊥
 abbrev pub IsLeftWith : Stored → Option (List ℕ) → (Store → Type 0) → Type 0
 IsLeftWith m content P = (store : Store) × KnownWith content (IsStoreOf store m.files) × P store
 
--- It was refused so, by the map, and by the store that is left. After a write that failed either map may be.
-abbrev pub IsRefusedBy : CommandLine → List ℕ → Stored → Option (List ℕ) → Refusal → Type 0
-IsRefusedBy (Ingest name) given m content DiskWrite = Unit {0}
-IsRefusedBy command given m content refusal = IsLeftWith m content (λ store. Refuses command given (room_of command m store) refusal)
-
--- Why it ended so, of the map: data never clashes with what is held, since no two different segments have one digest. A source
--- and a sink that failed are told by their counts of faults.
+-- Why it ended so, of the map, and of the store that is left. Data never clashes with what is held, since no two different
+-- segments have one digest; a source, a sink and a write that failed are told by counts of faults.
 abbrev pub EndsBy : CommandLine → List ℕ → Stored → Option (List ℕ) → Option Ending → Type 0
 EndsBy command given m content None = CanBeDone command given m
 EndsBy command given m content (Some Words) = ⊥
 EndsBy command given m content (Some Source) = (name : List ℕ) × (command ≡ Ingest name)
 EndsBy command given m content (Some Sink) = CanBeDone command given m
+EndsBy (Ingest name) given m content (Some (Refused DiskWrite)) = Unit {0}
 EndsBy command given m content (Some (Refused (Clash key at))) = ⊥
-EndsBy command given m content (Some (Refused refusal)) = IsRefusedBy command given m content refusal
+EndsBy command given m content (Some (Refused refusal)) =
+    IsLeftWith m content (λ store. Refuses command given (room_of command m store) refusal)
 
 -- ---- what was written
 

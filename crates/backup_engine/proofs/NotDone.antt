@@ -120,7 +120,7 @@ pub unopened_ingest : (v w : DiskView) (refusal : Refusal) → IsUnopened v w re
 unopened_ingest v w refusal is name given source sink took = record {
   map = reads_map (Ingest name) given (Refused refusal) v w sink sink is.reads.only (not_sink refusal) (ingest_answers v w refusal is name source sink given);
   any = record {
-    took = took;
+    took = λ all told. (took all told, tt);
     caused = ingest_caused v w name given source sink refusal is.cause;
     wrote = refl;
     faults_are = is.reads.faults_are;
@@ -174,7 +174,7 @@ memory_durable (Ingest name) w = tt
 memory_durable (Restore name) w = tt
 
 -- There was no memory, and the disk was read at most.
-pub without_memory : (command : CommandLine) (given : List ℕ) (v w : DiskView) (source source_now : SourceView) (sink : SinkView) → Reads NoFault v w → Took command given source source_now → source_now.faults ≡ source.faults
+pub without_memory : (command : CommandLine) (given : List ℕ) (v w : DiskView) (source source_now : SourceView) (sink : SinkView) → Reads NoFault v w → Took command given (Some (Refused Memory)) source source_now → source_now.faults ≡ source.faults
     → Keeps command given (Some (Refused Memory)) v w source source_now sink sink
 without_memory command given v w source source_now sink reads took faults = record {
   map = reads_map command given (Refused Memory) v w sink sink reads.only (not_sink Memory) (memory_answers command given v w sink reads.only);
@@ -192,7 +192,7 @@ without_memory command given v w source source_now sink reads took faults = reco
   untouched = memory_untouched command v w reads.only;
 }
 
-pub not_begun : (command : CommandLine) (given : List ℕ) (v : DiskView) (source : SourceView) (sink : SinkView) → Took command given source source → Keeps command given (Some (Refused Memory)) v v source source sink sink
+pub not_begun : (command : CommandLine) (given : List ℕ) (v : DiskView) (source : SourceView) (sink : SinkView) → Took command given (Some (Refused Memory)) source source → Keeps command given (Some (Refused Memory)) v v source source sink sink
 not_begun command given v source sink took = without_memory command given v v source source sink (reads_refused v) took refl
 
 -- ---- the source was not taken in
@@ -235,7 +235,7 @@ module _ (C : Type 0) (state : C → CoreState) (v w : DiskView) (old new : C) (
     by_source rose = record {
       map = reads_map (Ingest name) given Source v w sink sink whole.only not_sink_source (source_answers name given v w sink);
       any = record {
-        took = took;
+        took = λ all told. (took all told, tt);
         caused = ((name, refl), holds closed.only.later, rose);
         wrote = refl;
         faults_are = whole.faults_are;
@@ -252,7 +252,7 @@ module _ (C : Type 0) (state : C → CoreState) (v w : DiskView) (old new : C) (
     by_length long faults = record {
       map = reads_map (Ingest name) given (Refused TooLong) v w sink sink whole.only (not_sink TooLong) (long_answers name given v w sink whole.only long);
       any = record {
-        took = took;
+        took = λ all told. (took all told, tt);
         caused = inr (nothing_added, long);
         wrote = refl;
         faults_are = whole.faults_are;
@@ -269,6 +269,6 @@ module _ (C : Type 0) (state : C → CoreState) (v w : DiskView) (old new : C) (
     pub not_taken : (ending : Ending) → IsSourceFault source source_now ending → (ending ≡ Refused TooLong → most_bytes < length given) → (¬ (ending ≡ Source) → source_now.faults ≡ source.faults)
         → Keeps (Ingest name) given (Some ending) v w source source_now sink sink
     not_taken Source cause long faults = by_source cause
-    not_taken (Refused Memory) cause long faults = without_memory (Ingest name) given v w source source_now sink whole took (faults (λ is. refused_no_source Memory is))
+    not_taken (Refused Memory) cause long faults = without_memory (Ingest name) given v w source source_now sink whole (λ all told. (took all told, tt)) (faults (λ is. refused_no_source Memory is))
     not_taken (Refused TooLong) cause long faults = by_length (long refl) (faults (λ is. refused_no_source TooLong is))
     not_taken ending cause long faults = absurd cause

@@ -36,7 +36,7 @@ use Rattle.backup_engine.specs.AnyDisk.{Holds, HasAdded, IsStored, IsCaused, OnA
 use Rattle.backup_engine.specs.Line.{Ingest}
 use Rattle.backup_engine.specs.PlainMap.{most_bytes, HasPieces, HasNoRoomForName}
 use Rattle.backup_engine.specs.Running.{PutRun, IsPutRefusal, IsOk, IsLastPut, seals_of}
-use Rattle.backup_engine.specs.Storing.{Replies, Sent, IsNotTaken, IsTaken, IsSourceFault, IngestRun}
+use Rattle.backup_engine.specs.Storing.{IsReadOut, Replies, Sent, IsNotTaken, IsTaken, IsSourceFault, IngestRun}
 use Rattle.backup_engine.specs.TopCall.{ending_in}
 use Rattle.backup_engine.proofs.Called.{Called}
 use Rattle.backup_engine.proofs.PutChanges.{IsOn, Puts, EndsBy, IsWayStep, AreUnless, ways_of, put_changes}
@@ -168,6 +168,9 @@ module _ (C : Type 0) (state : C → CoreState) (v w : DiskView) (old new : C) (
     has_cell after can (inr many) = absurd (omega (arith, many, can.cell))
 
     module _ (took : Known source.left (λ all. given ≡ all)) where
+      refused_took : Known source.left (λ all. (given ≡ all) × Unit {0})
+      refused_took all told = (took all told, tt)
+
       abbrev Heard : Option Ending → Type 0
       Heard ending = ¬ (ending ≡ Some Source) → source_now.faults ≡ source.faults
 
@@ -197,9 +200,9 @@ module _ (C : Type 0) (state : C → CoreState) (v w : DiskView) (old new : C) (
 
       -- the file was put in
       was_put : PutRun C state name given (Ok tt) old new → length given ≤ most_bytes → HoldsPieces name given (state new) → (result : Result Unit Ending)
-          → Sent (stored_line name (root_of given)) result sink sink_now → Heard (ending_in result) → Any (ending_in result)
-      was_put run few held (Ok u) sent heard = record {
-        took = took;
+          → Sent (stored_line name (root_of given)) result sink sink_now → IsReadOut result source.left source_now.left → Heard (ending_in result) → Any (ending_in result)
+      was_put run few held (Ok u) sent out heard = record {
+        took = λ all told. (took all told, out all told);
         caused = stored run few held;
         wrote = sent.0;
         faults_are = all_faults Done (put_faults C state name given (Ok tt) old new run);
@@ -207,8 +210,8 @@ module _ (C : Type 0) (state : C → CoreState) (v w : DiskView) (old new : C) (
         source_faults = heard;
         sink_faults = λ other. sent.1;
       }
-      was_put run few held (Err Sink) sent heard = record {
-        took = took;
+      was_put run few held (Err Sink) sent out heard = record {
+        took = λ all told. (took all told, out all told);
         caused = (stored run few held, sent.1);
         wrote = sent.0;
         faults_are = all_faults Done (put_faults C state name given (Ok tt) old new run);
@@ -216,15 +219,15 @@ module _ (C : Type 0) (state : C → CoreState) (v w : DiskView) (old new : C) (
         source_faults = heard;
         sink_faults = λ other. absurd (other refl);
       }
-      was_put run few held (Err Words) sent heard = absurd sent
-      was_put run few held (Err Source) sent heard = absurd sent
-      was_put run few held (Err (Refused refusal)) sent heard = absurd sent
+      was_put run few held (Err Words) sent out heard = absurd sent
+      was_put run few held (Err Source) sent out heard = absurd sent
+      was_put run few held (Err (Refused refusal)) sent out heard = absurd sent
 
       -- it was refused
       was_refused : (refusal : Refusal) → PutRun C state name given (Err refusal) old new → IsPutRefusal name given (state new) refusal → sink_now ≡ sink → Heard (Some (Refused refusal))
           → Any (Some (Refused refusal))
       was_refused refusal run refuses same heard = record {
-        took = took;
+        took = refused_took;
         caused = cause_of refusal (added (Err refusal) run) (puts (Err refusal) run).ends refuses;
         wrote = ap (λ (k : SinkView). k.written) same;
         faults_are = all_faults (ending_of (blames refusal)) (put_faults C state name given (Err refusal) old new run);
@@ -234,16 +237,16 @@ module _ (C : Type 0) (state : C → CoreState) (v w : DiskView) (old new : C) (
       }
 
       by_put : (put : Result Unit Refusal) → PutRun C state name given put old new → length given ≤ most_bytes → OnOk put (HoldsPieces name given (state new))
-          → IfErr put (IsPutRefusal name given (state new)) → (result : Result Unit Ending) → Replies (stored_line name (root_of given)) put result sink sink_now → Heard (ending_in result)
+          → IfErr put (IsPutRefusal name given (state new)) → (result : Result Unit Ending) → Replies (stored_line name (root_of given)) put result sink sink_now → IsReadOut result source.left source_now.left → Heard (ending_in result)
           → Any (ending_in result)
-      by_put (Ok u) run few held refused result replies heard = was_put run few held result replies heard
-      by_put (Err refusal) run few held refused result replies heard =
+      by_put (Ok u) run few held refused result replies out heard = was_put run few held result replies out heard
+      by_put (Err refusal) run few held refused result replies out heard =
           subst (λ (r : Result Unit Ending). Any (ending_in r)) (sym replies.0)
           (was_refused refusal run refused replies.1 (subst (λ (r : Result Unit Ending). Heard (ending_in r)) replies.0 heard))
 
-      pub taken_any : (result : Result Unit Ending) (taken : IsTaken C state name given result old new sink sink_now) → OnOk taken.put (HoldsPieces name given (state new)) → Heard (ending_in result)
+      pub taken_any : (result : Result Unit Ending) (taken : IsTaken C state name given result old new sink sink_now) → OnOk taken.put (HoldsPieces name given (state new)) → IsReadOut result source.left source_now.left → Heard (ending_in result)
           → Any (ending_in result)
-      taken_any result taken held heard = by_put taken.put taken.ran taken.few held taken.refused result taken.replies heard
+      taken_any result taken held out heard = by_put taken.put taken.ran taken.few held taken.refused result taken.replies out heard
 
       module _ (core : new ≡ old) (same : sink_now ≡ sink) where
         still_later : IsLater (state old).disk (state new).disk
@@ -260,7 +263,7 @@ module _ (C : Type 0) (state : C → CoreState) (v w : DiskView) (old new : C) (
         untaken Words cause long heard = absurd cause
         untaken Sink cause long heard = absurd cause
         untaken Source cause long heard = record {
-          took = took;
+          took = refused_took;
           caused = ((name, refl), holds still_later, cause);
           wrote = ap (λ (k : SinkView). k.written) same;
           faults_are = still_faults;
@@ -269,7 +272,7 @@ module _ (C : Type 0) (state : C → CoreState) (v w : DiskView) (old new : C) (
           sink_faults = λ other. sink_still;
         }
         untaken (Refused Memory) cause long heard = record {
-          took = took;
+          took = refused_took;
           caused = tt;
           wrote = ap (λ (k : SinkView). k.written) same;
           faults_are = still_faults;
@@ -278,7 +281,7 @@ module _ (C : Type 0) (state : C → CoreState) (v w : DiskView) (old new : C) (
           sink_faults = λ other. sink_still;
         }
         untaken (Refused TooLong) cause long heard = record {
-          took = took;
+          took = refused_took;
           caused = inr (has_added given still_later [] store refl tt, long refl);
           wrote = ap (λ (k : SinkView). k.written) same;
           faults_are = still_faults;
@@ -302,5 +305,5 @@ pub ingest_any : (C : Type 0) (state : C → CoreState) (v w : DiskView) (old ne
     → OnAnyDisk (Ingest name) run.given (ending_in result) v w source source_now sink sink_now
 ingest_any C state v w old new called name result source source_now sink sink_now run held heard = elim run.way [
   | inl none ↦ untaken_any C state v w old new called name run.given source source_now sink sink_now run.took result none heard
-  | inr taken ↦ taken_any C state v w old new called name run.given source source_now sink sink_now run.took result taken (held taken) heard
+  | inr taken ↦ taken_any C state v w old new called name run.given source source_now sink sink_now run.took result taken (held taken) run.to_end heard
 ]

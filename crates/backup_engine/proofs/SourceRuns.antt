@@ -1,17 +1,17 @@
 -- A source that is taken in and stored, or not.
-use Rattle.std.proofs.Common.{◌≡◌, inl, inr, ◌<◌, ℕ, List, length, replicate, Option, Some, None, Result, Ok, Err, refl, subst, arith}
+use Rattle.std.proofs.Common.{◌≡◌, inl, inr, ◌<◌, ℕ, List, [], length, replicate, Option, Some, None, Result, Ok, Err, refl, subst, arith}
 use Rattle.std.proofs.lemmas.List.{length-replicate}
 use Rattle.base_model.specs.Known.{Known}
 use Rattle.dd_io.specs.Flow.{SourceView, SinkView}
 use Rattle.refusals.specs.declared.refusal.Refusal.{Refusal}
 use Rattle.reply_text.specs.declared.ending.Ending.{Ending}
-use Rattle.reply_text.specs.declared.ending.Ending.TheVariants.{Sink, Refused}
+use Rattle.reply_text.specs.declared.ending.Ending.TheVariants.{Source, Sink, Refused}
 use Rattle.reply_text.specs.Text.{stored_line}
 use Rattle.store_model.specs.Trees.{root_of}
 use Rattle.store_core.specs.State.{CoreState}
 use Rattle.backup_engine.specs.PlainMap.{most_bytes}
 use Rattle.backup_engine.specs.Running.{PutRun, IsPutRefusal}
-use Rattle.backup_engine.specs.Storing.{TakesIn, IsSourceFault, IsHeard, IsHeardAt, Sent, IngestRun}
+use Rattle.backup_engine.specs.Storing.{TakesIn, IsSourceFault, IsHeard, IsHeardAt, IsReadOut, Sent, IngestRun}
 
 -- What a source gave that wasn't taken in: what it had left; where it doesn't tell that, more than a file has.
 pub given_of : Option (List ℕ) → List ℕ
@@ -34,10 +34,21 @@ module _ (C : Type 0) (state : C → CoreState) (name : List ℕ) (source source
   heard_sent reply (Err Sink) sink sink_now same sent = same
   heard_sent reply (Err ending) sink sink_now same sent = absurd sent
 
+  failed_out : (ending : Ending) → IsSourceFault source source_now ending → IsReadOut (Err ending) source.left source_now.left
+  failed_out Source cause = tt
+  failed_out (Refused refusal) cause = tt
+  failed_out ending cause = absurd cause
+
+  sent_out : (reply : List ℕ) (result : Result Unit Ending) (sink sink_now : SinkView) → Known source.left (λ all. source_now.left ≡ Some []) → Sent reply result sink sink_now → IsReadOut result source.left source_now.left
+  sent_out reply (Ok u) sink sink_now out sent = out
+  sent_out reply (Err Sink) sink sink_now out sent = out
+  sent_out reply (Err ending) sink sink_now out sent = absurd sent
+
   pub not_taken : (ending : Ending) (core : C) (sink : SinkView) → IsSourceFault source source_now ending → IsHeardAt source source_now ending → IngestRun C state name (Err ending) core core source source_now sink sink
   not_taken ending core sink cause heard = record {
     given = given_of source.left;
     took = given_told source.left;
+    to_end = failed_out ending cause;
     heard = heard;
     way = inl (record {
       ending = ending;
@@ -49,12 +60,13 @@ module _ (C : Type 0) (state : C → CoreState) (name : List ℕ) (source source
     });
   }
 
-  module _ (bytes : List ℕ) (taken : TakesIn source.left bytes) (same : source_now.faults ≡ source.faults) (old new : C) where
+  module _ (bytes : List ℕ) (taken : TakesIn source.left source_now.left bytes) (same : source_now.faults ≡ source.faults) (old new : C) where
     pub not_stored : (refusal : Refusal) (sink : SinkView) → PutRun C state name bytes (Err refusal) old new → IsPutRefusal name bytes (state new) refusal
         → IngestRun C state name (Err (Refused refusal)) old new source source_now sink sink
     not_stored refusal sink ran refused = record {
       given = bytes;
       took = taken.all;
+      to_end = tt;
       heard = same;
       way = inr (record { few = taken.at_most; put = Err refusal; ran = ran; refused = refused; replies = (refl, refl) });
     }
@@ -64,6 +76,7 @@ module _ (C : Type 0) (state : C → CoreState) (name : List ℕ) (source source
     stored result sink sink_now ran sent = record {
       given = bytes;
       took = taken.all;
+      to_end = sent_out (stored_line name (root_of bytes)) result sink sink_now taken.to_end sent;
       heard = heard_sent (stored_line name (root_of bytes)) result sink sink_now same sent;
       way = inr (record { few = taken.at_most; put = Ok tt; ran = ran; refused = tt; replies = sent });
     }

@@ -143,11 +143,17 @@ WroteOnAny (Restore name) given (Some Sink) disk disk_now sink sink_now = GivesB
 WroteOnAny (Restore name) given (Some ending) disk disk_now sink sink_now =
     (sink_now.written ≡ sink.written) ⊎ GivesBack name (Some ending) disk disk_now sink sink_now
 
+-- it was read to its end, where the command was done, but perhaps for its reply
+abbrev pub IsReadToEnd : Option Ending → SourceView → Type 0
+IsReadToEnd None source_now = source_now.left ≡ Some []
+IsReadToEnd (Some Sink) source_now = source_now.left ≡ Some []
+IsReadToEnd (Some ending) source_now = Unit {0}
+
 -- What the source gave: for `ingest` all that it had left, where it tells. No other command reads it.
-abbrev pub Took : CommandLine → List ℕ → SourceView → SourceView → Type 0
-Took (Format slots) given source source_now = (given ≡ []) × (source_now.left ≡ source.left)
-Took (Ingest name) given source source_now = Known source.left (λ all. given ≡ all)
-Took (Restore name) given source source_now = (given ≡ []) × (source_now.left ≡ source.left)
+abbrev pub Took : CommandLine → List ℕ → Option Ending → SourceView → SourceView → Type 0
+Took (Format slots) given ending source source_now = (given ≡ []) × (source_now.left ≡ source.left)
+Took (Ingest name) given ending source source_now = Known source.left (λ all. (given ≡ all) × IsReadToEnd ending source_now)
+Took (Restore name) given ending source source_now = (given ≡ []) × (source_now.left ≡ source.left)
 
 -- ---- all of it
 
@@ -168,7 +174,7 @@ EndsDurable command (Some ending) disk_now = Unit {0}
 -- Each ending has its cause; the disk's count of faults rose where a call of it is blamed, and else is as it was.
 pub record OnAnyDisk (command : CommandLine) (given : List ℕ) (ending : Option Ending) (disk disk_now : DiskView)
     (source source_now : SourceView) (sink sink_now : SinkView) : Type 0 where
-  pub took : Took command given source source_now
+  pub took : Took command given ending source source_now
   pub caused : IsCaused command given disk disk_now source source_now sink sink_now ending
   pub wrote : WroteOnAny command given ending disk disk_now sink sink_now
   pub faults_are : CountsFault (disk_ending ending) disk.faults disk_now.faults

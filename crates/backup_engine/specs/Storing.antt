@@ -1,5 +1,5 @@
 -- Taking a source in, and storing it (docs/MODEL.md, 'Commands').
-use Rattle.std.specs.Prelude.{◌≡◌, ◌⊎◌, ◌<◌, ◌≤◌, List, ℕ, ◌++◌, length, Option, Some, Result, Ok, Err, IfErr}
+use Rattle.std.specs.Prelude.{◌≡◌, ◌⊎◌, ◌<◌, ◌≤◌, List, [], ℕ, ◌++◌, length, Option, Some, Result, Ok, Err, IfErr}
 use Rattle.base_model.specs.Fault.{Rose}
 use Rattle.base_model.specs.Known.{Known, Appended}
 use Rattle.dd_io.specs.Flow.{SourceView, SinkView, AppendedPart}
@@ -15,10 +15,11 @@ use Rattle.backup_engine.specs.Running.{PutRun, IsPutRefusal}
 
 -- ---- the source
 
--- all that it had left, at most as many bytes as a file has
-pub record TakesIn (left : Option (List ℕ)) (bytes : List ℕ) : Type 0 where
+-- all that it had left, at most as many bytes as a file has; now it has nothing left
+pub record TakesIn (left now : Option (List ℕ)) (bytes : List ℕ) : Type 0 where
   pub at_most : length bytes ≤ most_bytes
   pub all : Known left (λ all. bytes ≡ all)
+  pub to_end : Known left (λ all. now ≡ Some [])
 
 -- the bytes taken so far, and the rest that the source has left
 pub record TakenSoFar (first now : Option (List ℕ)) (bytes : List ℕ) : Type 0 where
@@ -39,6 +40,12 @@ IsHeardAt source source_now ending = source_now.faults ≡ source.faults
 abbrev pub IsHeard : Result Unit Ending → SourceView → SourceView → Type 0
 IsHeard (Ok u) source source_now = source_now.faults ≡ source.faults
 IsHeard (Err ending) source source_now = IsHeardAt source source_now ending
+
+-- it was read to its end, where the file was stored
+abbrev pub IsReadOut : Result Unit Ending → Option (List ℕ) → Option (List ℕ) → Type 0
+IsReadOut (Ok u) left now = Known left (λ all. now ≡ Some [])
+IsReadOut (Err Sink) left now = Known left (λ all. now ≡ Some [])
+IsReadOut (Err ending) left now = Unit {0}
 
 -- ---- the reply
 
@@ -79,5 +86,6 @@ pub record IngestRun (C : Type 0) (state : C → CoreState) (name : List ℕ) (r
     (source source_now : SourceView) (sink sink_now : SinkView) : Type 0 where
   pub given : List ℕ
   pub took : Known source.left (λ all. given ≡ all)
+  pub to_end : IsReadOut result source.left source_now.left
   pub heard : IsHeard result source source_now
   pub way : IsNotTaken C given result old new source source_now sink sink_now ⊎ IsTaken C state name given result old new sink sink_now

@@ -18,7 +18,7 @@ const MOST_BYTES: usize = 2_048;
 
 // All that the source has left.
 fn take_in<S: Source>(alloc: Global, source: &mut S) -> Result<Vec<u8>, Ending>
-    ensures taken { IfOk result (λ bytes. TakesIn (S.view source.old).left bytes.items) }
+    ensures taken { IfOk result (λ bytes. TakesIn (S.view source.old).left (S.view source.new).left bytes.items) }
     ensures fault { IfErr result (IsSourceFault (S.view source.old) (S.view source.new)) }
     ensures heard { OnOk result ((S.view source.new).faults ≡ (S.view source.old).faults) }
     ensures missed { IfErr result (IsHeardAt (S.view source.old) (S.view source.new)) }

@@ -18,6 +18,7 @@ use Rattle.backup_engine.specs.Line.{CommandLine, Format, Ingest, Restore}
 use Rattle.backup_engine.specs.Promise as promise
 use Rattle.backup_engine.specs.Promise.{EndsBy, WroteFile, IsLeftAs, SinceStart, NothingWritten, KeepsMap, KeepsEachMap}
 use Rattle.backup_engine.specs.Frame.{KeepsRest, KeepsOthers}
+use Rattle.backup_engine.specs.TopCall.{IsSameDisk}
 
 -- ---- what stays
 
@@ -25,6 +26,23 @@ kept : (command : CommandLine) (ending : Option Ending) (old : List ℕ) → Kee
 kept (Format slots) ending old = λ gate. refl
 kept (Ingest name) ending old = inl refl
 kept (Restore name) ending old = refl
+
+-- of a disk of which all is as it was there was no more than reads
+pub same_reads : (v w : DiskView) → IsSameDisk v w → OnlyReads v w
+same_reads v w same = record {
+  later = record {
+    size_is = same.size_is;
+    loans_are = same.loans_are;
+    clock_is = omega (arith, same.clock_is);
+    faults_are = omega (arith, same.faults_are);
+    tells = λ old told. (old, same.content_is ∙ told, tt);
+    returned = λ t at bytes within was. (same.returned_are t at bytes).1 was;
+    images_were = λ t c within was. (same.since_are t c).1 was;
+  };
+  content_is = same.content_is;
+  images_are = λ c image. (same.images_are c).0 image;
+  since_are = λ t c within image. inl ((same.since_are t c).0 image);
+}
 
 -- a crash since the start leaves what one might have left before
 pub since_start : (v w : DiskView) → OnlyReads v w → (c : List ℕ) → SinceStart v w c → v.images c

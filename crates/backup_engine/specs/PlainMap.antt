@@ -1,6 +1,6 @@
 -- The plain map that the program is measured by: what each command makes of it, and when it is refused
 -- (docs/MODEL.md, 'The plain map').
-use Rattle.std.specs.Prelude.{◌≡◌, ◌≢◌, ◌⊎◌, ℕ, ◌-◌, ◌^◌, ◌<◌, ◌≤◌, List, [], length, Bool, true, false, is_some, option_map, Option, None, Some}
+use Rattle.std.specs.Prelude.{◌≡◌, ◌≢◌, ◌⊎◌, ℕ, ◌-◌, ◌^◌, ◌<◌, ◌≤◌, List, length, Bool, true, false, is_some, option_map, Option, None, Some}
 use Rattle.std.specs.FinMap as finite
 use Rattle.disk_format.specs.declared.numbers.TheConstants.{MOST_NAMES, RESERVE, LAST_ID}
 use Rattle.disk_format.specs.Cells.{IsName}

@@ -4,7 +4,6 @@ use Rattle.std.specs.FinMap as finite
 use Rattle.base_model.specs.Known.{Known, KnownWith, Appended}
 use Rattle.dd_disk.specs.View.{DiskView}
 use Rattle.dd_io.specs.Flow.{SinkView, AppendedPart}
-use Rattle.refusals.specs.declared.refusal.Refusal.{Refusal}
 use Rattle.refusals.specs.declared.refusal.Refusal.TheVariants.{DiskWrite, Clash}
 use Rattle.reply_text.specs.declared.ending.Ending.{Ending}
 use Rattle.reply_text.specs.declared.ending.Ending.TheVariants.{Words, Source, Sink, Refused}

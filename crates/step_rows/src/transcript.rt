@@ -44,6 +44,11 @@ impl Suite {
         if line.is_empty() || line.starts_with('#') {
             return Ok(());
         }
+        self.follow(rt, line)
+    }
+
+    // Does what a line says: a row, or what is to be done before rows.
+    fn follow(&mut self, rt: &HostRuntime, line: &str) -> io::Result<()> {
         if let Some((row, wanted)) = line.split_once(" => ") {
             return self.run_rows(rt, row, wanted);
         }
@@ -95,11 +100,11 @@ impl Suite {
             Ok(found) => found,
             Err(fault) => fault.text().to_string(rt.alloc())?,
         };
-        if found.as_str() != wanted {
-            self.failed = self.failed.saturating_add(1);
-            println!(rt; "FAILED {row}\n  wanted {wanted}\n  found  {found}")?;
+        if found.as_str() == wanted {
+            return Ok(());
         }
-        Ok(())
+        self.failed = self.failed.saturating_add(1);
+        println!(rt; "FAILED {row}\n  wanted {wanted}\n  found  {found}")
     }
 }
 

@@ -36,8 +36,7 @@ fn done_text(alloc: Global, answer: &Answer, buf: &[u8]) -> Result<String, Alloc
             bytes,
             used,
             free,
-        } => format!(
-            in alloc;
+        } => format!(in alloc;
             "stat files {files} segments {segments} bytes {bytes} used {used} free {free}"
         ),
     }

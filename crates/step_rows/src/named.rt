@@ -110,12 +110,7 @@ fn length_of(names: &[Named], children: &[&str]) -> Result<u64, Fault> {
     Ok(length)
 }
 
-fn spelled(
-    alloc: Global,
-    names: &[Named],
-    level: u8,
-    children: &[&str],
-) -> Result<Vec<u8>, Fault> {
+fn spelled(alloc: Global, names: &[Named], level: u8, children: &[&str]) -> Result<Vec<u8>, Fault> {
     let count = u8::try_from(children.len()).unwrap_or(0);
     let mut bytes = vec![in alloc; level, 1, 0, count]?;
     for child in children {

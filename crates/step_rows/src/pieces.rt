@@ -17,12 +17,7 @@ pub(crate) fn piece_of(alloc: Global, names: &[Named], word: &str) -> Result<Vec
     bytes_of(alloc, names, &[word])
 }
 
-fn add_piece(
-    alloc: Global,
-    names: &[Named],
-    word: &str,
-    bytes: &mut Vec<u8>,
-) -> Result<(), Fault> {
+fn add_piece(alloc: Global, names: &[Named], word: &str, bytes: &mut Vec<u8>) -> Result<(), Fault> {
     let (piece, count) = match word.split_once('*') {
         Some((piece, count)) => (piece, number(count)?),
         None => (word, 1),
@@ -39,11 +34,12 @@ fn once(alloc: Global, names: &[Named], piece: &str) -> Result<Vec<u8>, Fault> {
         return Ok(find(names, name)?.bytes.clone()?);
     }
     match piece.strip_prefix('"') {
-        Some(text) => Ok(text
-            .strip_suffix('"')
-            .ok_or(Fault::Line)?
-            .as_bytes()
-            .to_vec(alloc)?),
+        Some(text) => Ok(
+            text.strip_suffix('"')
+                .ok_or(Fault::Line)?
+                .as_bytes()
+                .to_vec(alloc)?,
+        ),
         None => decoded(alloc, piece),
     }
 }

@@ -1,106 +1,153 @@
--- What holds of commands one after the other, from what each keeps of the map that it finds.
-use Rattle.std.proofs.Common.{◌≡◌, ◌⊎◌, inl, inr, ℕ, List, [], ◌∷◌, ◌++◌, Option, Some, None, refl, sym, ◌∙◌, subst}
+-- What holds of calls one after the other, from what each keeps of the map that it finds.
+use Rattle.std.proofs.Common.{◌≡◌, ◌⊎◌, inl, inr, ℕ, zero, suc, ◌+◌, List, [], ◌∷◌, ◌++◌, replicate, Option, Some, None, refl, sym, ◌∙◌, subst}
 use Rattle.std.specs.List.{AllByRecursion}
 use Rattle.base_model.specs.Known.{KnownWith}
-use Rattle.dd_disk.specs.View.{DiskView}
-use Rattle.refusals.specs.declared.refusal.Refusal.TheVariants.{DiskWrite}
+use Rattle.dd_disk.specs.View.{DiskView, IsDurable}
+use Rattle.refusals.specs.declared.refusal.Refusal.{Refusal}
+use Rattle.refusals.specs.declared.refusal.Refusal.TheVariants.{Memory, NoFile, BadName, TooMany, TooLong, Full, Clash, WrongPart, DiskRead, DiskWrite, Stopped, Corrupt, Missing, Numbers, NotAStore, Version, Damaged, Unpinned, AlreadyStore, WrongSize}
 use Rattle.reply_text.specs.declared.ending.Ending.{Ending}
-use Rattle.reply_text.specs.declared.ending.Ending.TheVariants.{Sink, Refused}
-use Rattle.store_model.specs.Collisions.{HasNoCollisions, ByteSet, IsIn}
-use Rattle.store_model.specs.Files.{Stored}
+use Rattle.reply_text.specs.declared.ending.Ending.TheVariants.{Words, Source, Sink, Refused}
+use Rattle.reply_text.specs.Table.{status_of_refusal}
+use Rattle.store_model.specs.Collisions.{HasNoCollisions, ByteSet, IsIn, AreAmong}
+use Rattle.store_model.specs.Files.{Stored, no_files}
+use Rattle.store_model.specs.Image.{empty_store}
+use Rattle.store_model.specs.Standing.{IsSegmentOf, IsFormatted}
 use Rattle.store_core.specs.Runs.{IsOf}
-use Rattle.backup_engine.specs.Line.{CommandLine}
+use Rattle.backup_engine.specs.AnyDisk.{Formats}
+use Rattle.backup_engine.specs.Line.{CommandLine, Format}
 use Rattle.backup_engine.specs.PlainMap.{map_after}
-use Rattle.backup_engine.specs.Promise.{KeepsMap, IsLeftAs, MayBeMeanwhile, NothingWritten, Stands}
-use Rattle.backup_engine.specs.Lists.{Call, KeepsCall, CallRun, LeadsBy, MayLead, LeadsTo, Possible, IsGivenAmong, LeavesPossible, AnswersByTheMap, SurvivesACrash}
+use Rattle.backup_engine.specs.Promise.{KeepsMap, IsLeftAs, MayBeMeanwhile, SinceStart, NothingWritten, Stands}
+use Rattle.backup_engine.specs.TopCall.{Does, DoesNothing, status_by}
+use Rattle.backup_engine.specs.Lists.{Call, KeepsCall, CallRun, IsPromised, BeginsOfMap, LeadsBy, MayLead, LeadsTo, Possible, StandsEmpty, FormatBegins, LeavesPossible, AnswersByTheMap, SurvivesACrash}
+use Rattle.backup_engine.proofs.Reading.{same_reads, since_start}
 
--- ---- the maps that one call leads to
+-- ---- one call
+
+-- a promise is what the call keeps, with the ending and the bytes that it names
+pub promised : (D : Type 0) (view : D → DiskView) → IsPromised D view
+promised D view c old new promise = (promise.ending, (promise.given, record { status_is = promise.status_is; noted = promise.noted; does = promise.does }))
 
 -- the image is of a map that has P
 abbrev pub OfSome : (List ℕ → Type 0) → (Stored → Type 0) → List ℕ → Type 0
 OfSome S P image = (next : Stored) × (P next × IsOf S next image)
 
--- the maps after a call, from those that have P
-abbrev pub After : (Stored → Type 0) → Call → Stored → Type 0
-After P c next = (m : Stored) × (P m × MayLead c m next)
-
--- and after calls
-abbrev pub AfterAll : (Stored → Type 0) → List Call → Stored → Type 0
-AfterAll P calls next = (m : Stored) × (P m × LeadsTo calls m next)
-
--- a command that wrote nothing may leave any map as it was
+-- a line that wrote nothing may leave any map as it was
 leads_nowhere : (ending : Option Ending) (done m : Stored) → ((e : Ending) × (ending ≡ Some e) × ¬ (e ≡ Sink)) → LeadsBy ending done m m
 leads_nowhere None done m (e, is, other) = cc
 leads_nowhere (Some Sink) done m (e, is, other) = absurd (other cc)
 leads_nowhere (Some (Refused DiskWrite)) done m not_done = inl refl
 leads_nowhere (Some ending) done m not_done = refl
 
-module _ (S : List ℕ → Type 0) where
-  -- what is left of a map is one that the call may lead to
-  leads_left : (command : CommandLine) (given : List ℕ) (ending : Option Ending) (m : Stored) (image : List ℕ) → IsLeftAs S command given m ending image
-      → OfSome S (LeadsBy ending (map_after command given m) m) image
-  leads_left command given None m image left = (map_after command given m, (refl, left))
-  leads_left command given (Some Sink) m image left = (map_after command given m, (refl, left))
-  leads_left command given (Some (Refused DiskWrite)) m image (inl left) = (m, (inl refl, left))
-  leads_left command given (Some (Refused DiskWrite)) m image (inr left) = (map_after command given m, (inr refl, left.1))
-  leads_left command given (Some ending) m image left = (m, (refl, left))
+-- What the promise says of images is read here alone.
+module _ (S : List ℕ → Type 0) (command : CommandLine) (given : List ℕ) where
+  -- what is left of a map is one that the line may lead to
+  leads_left : (ending : Option Ending) (m : Stored) (image : List ℕ) → IsLeftAs S command given m ending image → OfSome S (LeadsBy ending (map_after command given m) m) image
+  leads_left None m image left = (map_after command given m, (refl, assumption left))
+  leads_left (Some Sink) m image left = (map_after command given m, (refl, assumption left))
+  leads_left (Some (Refused DiskWrite)) m image (inl left) = (m, (inl refl, assumption left))
+  leads_left (Some (Refused DiskWrite)) m image (inr left) = (map_after command given m, (inr refl, assumption left))
+  leads_left (Some ending) m image left = (m, (refl, assumption left))
 
   -- and so is what a crash leaves meanwhile, but for the map as it was
-  leads_meanwhile : (command : CommandLine) (given : List ℕ) (ending : Option Ending) (m : Stored) (image : List ℕ) → MayBeMeanwhile S command given m ending image
+  leads_meanwhile : (ending : Option Ending) (m : Stored) (image : List ℕ) → MayBeMeanwhile S command given m ending image
       → IsOf S m image ⊎ OfSome S (LeadsBy ending (map_after command given m) m) image
-  leads_meanwhile command given ending m image (inl was) = inl was
-  leads_meanwhile command given None m image (inr done) = inr (map_after command given m, (refl, done.2))
-  leads_meanwhile command given (Some Sink) m image (inr done) = inr (map_after command given m, (refl, done.2))
-  leads_meanwhile command given (Some (Refused DiskWrite)) m image (inr done) = inr (map_after command given m, (inr refl, done.2))
-  leads_meanwhile command given (Some ending) m image (inr done) = absurd done.0
+  leads_meanwhile ending m image (inl was) = inl was
+  leads_meanwhile None m image (inr done) = inr (map_after command given m, (refl, assumption done))
+  leads_meanwhile (Some Sink) m image (inr done) = inr (map_after command given m, (refl, assumption done))
+  leads_meanwhile (Some (Refused DiskWrite)) m image (inr done) = inr (map_after command given m, (inr refl, assumption done))
+  leads_meanwhile (Some ending) m image (inr done) = absurd (assumption done)
 
-module _ (S : List ℕ → Type 0) (P : Stored → Type 0) where
-  -- from a map that has P
-  from_one : (c : Call) (m : Stored) (image : List ℕ) → P m → OfSome S (MayLead c m) image → OfSome S (After P c) image
-  from_one c m image has (next, (leads, of)) = (next, ((m, (has, leads)), of))
+-- what a call answers to a map that it finds: words that are no line do nothing
+abbrev pub Answers : Option CommandLine → (List ℕ → Type 0) → Call → Stored → DiskView → DiskView → Type 0
+Answers None S c m v w = DoesNothing c.ending v w c.source c.source_now c.sink c.sink_now
+Answers (Some command) S c m v w = KeepsMap S command c.given c.ending m v w c.sink c.sink_now
 
-  from_same : (c : Call) (image : List ℕ) → ((e : Ending) × (c.ending ≡ Some e) × ¬ (e ≡ Sink)) → OfSome S P image → OfSome S (After P c) image
-  from_same c image not_done (next, (has, of)) = (next, ((next, (has, leads_nowhere c.ending (map_after c.command c.given next) next not_done)), of))
+-- the maps after a call, from those that have P
+abbrev pub After : (Stored → Type 0) → Option CommandLine → Call → Stored → Type 0
+After P line c next = (m : Stored) × (P m × MayLead line c.given c.ending m next)
 
-  -- what one call leaves
-  module _ (c : Call) (m : Stored) (v w : DiskView) (has : P m) (stands : Stands (OfSome S P) v) where
-    left_of : (image : List ℕ) → IsLeftAs S c.command c.given m c.ending image → OfSome S (After P c) image
-    left_of image left = from_one c m image has (leads_left S c.command c.given c.ending m image left)
+module _ (S : List ℕ → Type 0) (P : Stored → Type 0) (c : Call) where
+  words_lead : (image : List ℕ) → OfSome S P image → OfSome S (After P None c) image
+  words_lead image (next, (has, of)) = (next, ((next, (has, refl)), of))
 
-    leaves : Stands (IsLeftAs S c.command c.given m c.ending) w ⊎ NothingWritten c.ending v w → Stands (OfSome S (After P c)) w
-    leaves (inl left) = ((left.0.0, left.0.1, left_of left.0.0 left.0.2), λ d is. left_of d (left.1 d is))
-    leaves (inr none) =
-        ((stands.0.0, none.content ∙ stands.0.1, from_same c stands.0.0 none.not_done stands.0.2), λ d is. from_same c d none.not_done (stands.1 d (none.images d is)))
+  same_leads : (command : CommandLine) (image : List ℕ) → ((e : Ending) × (c.ending ≡ Some e) × ¬ (e ≡ Sink)) → OfSome S P image → OfSome S (After P (Some command) c) image
+  same_leads command image not_done (next, (has, of)) = (next, ((next, (has, leads_nowhere c.ending (map_after command c.given next) next not_done)), of))
+
+  module _ (m : Stored) (v w : DiskView) (has : P m) (stands : Stands (OfSome S P) v) where
+    line_leads : (command : CommandLine) (image : List ℕ) → IsLeftAs S command c.given m c.ending image → OfSome S (After P (Some command) c) image
+    line_leads command image left = let one = leads_left S command c.given c.ending m image left in (one.0, ((m, (has, one.1.0)), one.1.1))
+
+    line_leaves : (command : CommandLine) → Stands (IsLeftAs S command c.given m c.ending) w ⊎ NothingWritten c.ending v w → Stands (OfSome S (After P (Some command) c)) w
+    line_leaves command (inl left) = ((left.0.0, left.0.1, line_leads command left.0.0 left.0.2), λ d is. line_leads command d (left.1 d is))
+    line_leaves command (inr none) =
+        ((stands.0.0, none.content ∙ stands.0.1, same_leads command stands.0.0 none.not_done stands.0.2), λ d is. same_leads command d none.not_done (stands.1 d (none.images d is)))
+
+    -- what it leaves
+    leaves : (line : Option CommandLine) → Answers line S c m v w → Stands (OfSome S (After P line c)) w
+    leaves None nothing =
+        let reads = same_reads v w nothing.disk_is in
+        ((stands.0.0, reads.content_is ∙ stands.0.1, words_lead stands.0.0 stands.0.2), λ d is. words_lead d (stands.1 d (reads.images_are d is)))
+    leaves (Some command) keeps = line_leaves command keeps.left
+
+    line_crash : (command : CommandLine) (image : List ℕ) → v.images image ⊎ MayBeMeanwhile S command c.given m c.ending image
+        → OfSome S P image ⊎ OfSome S (MayLead (Some command) c.given c.ending m) image
+    line_crash command image (inl before) = inl (stands.1 image before)
+    line_crash command image (inr meanwhile) = elim (leads_meanwhile S command c.given c.ending m image meanwhile) [ inl was ↦ inl (m, (has, was)) | inr led ↦ inr led ]
+
+    -- and what a crash since it began leaves
+    crash_leaves : (line : Option CommandLine) → Answers line S c m v w → (image : List ℕ) → SinceStart v w image → OfSome S P image ⊎ OfSome S (MayLead line c.given c.ending m) image
+    crash_leaves None nothing image since = inl (stands.1 image (since_start v w (same_reads v w nothing.disk_is) image since))
+    crash_leaves (Some command) keeps image since = line_crash command image (keeps.crash image since)
 
 -- ---- calls, one after the other
+
+abbrev pub IsGivenAmong : (List ℕ → Type 0) → Call → Type 0
+IsGivenAmong S c = (bytes : List ℕ) → IsSegmentOf c.given bytes → S bytes
+
+-- the maps after calls, from those that have P
+abbrev pub AfterAll : (Stored → Type 0) → List Call → Stored → Type 0
+AfterAll P calls next = (m : Stored) × (P m × LeadsTo calls m next)
 
 weaker : (S : List ℕ → Type 0) (P Q : Stored → Type 0) (v : DiskView) → ((m : Stored) → P m → Q m) → Stands (OfSome S P) v → Stands (OfSome S Q) v
 weaker S P Q v goes ((image, told, (next, (has, of))), each) =
     ((image, told, (next, (goes next has, of))), λ d is. let one = each d is in (one.0, (goes one.0 one.1.0, one.1.1)))
 
-leads_on : (calls : List Call) (last : Call) (m mid next : Stored) → LeadsTo calls m mid → MayLead last mid next → LeadsTo (calls ++ last ∷ []) m next
-leads_on [] last m mid next is leads = (next, (subst (λ (s : Stored). MayLead last s next) is leads, refl))
+leads_on : (calls : List Call) (last : Call) (m mid next : Stored) → LeadsTo calls m mid → MayLead last.line last.given last.ending mid next → LeadsTo (calls ++ last ∷ []) m next
+leads_on [] last m mid next is leads = (next, (subst (λ (s : Stored). MayLead last.line last.given last.ending s next) is leads, refl))
 leads_on (c ∷ cs) last m mid next (one, (first, rest)) leads = (one, (first, leads_on cs last one mid next rest leads))
 
+given_before : (S : List ℕ → Type 0) (calls : List Call) (last : Call) → AllByRecursion (IsGivenAmong S) (calls ++ last ∷ []) → AllByRecursion (IsGivenAmong S) calls
+given_before S [] last given = tt
+given_before S (c ∷ cs) last given = (given.0, given_before S cs last given.1)
+
+given_last : (S : List ℕ → Type 0) (calls : List Call) (last : Call) → AllByRecursion (IsGivenAmong S) (calls ++ last ∷ []) → IsGivenAmong S last
+given_last S [] last given = given.0
+given_last S (c ∷ cs) last given = given_last S cs last given.1
+
 module _ (among : ByteSet) (apart : HasNoCollisions (IsIn among)) where
+  answers_line : (line : Option CommandLine) (c : Call) (m : Stored) (v w : DiskView) (image : List ℕ) → IsGivenAmong (IsIn among) c → v.content ≡ Some image → IsOf (IsIn among) m image
+      → Does line c.given c.ending v w c.source c.source_now c.sink c.sink_now → Answers line (IsIn among) c m v w
+  answers_line None c m v w image given told of does = does
+  answers_line (Some command) c m v w image given told of does = does.map image told among m apart given of
+
   -- the map that a call finds in the content
   found : (P : Stored → Type 0) (c : Call) (v w : DiskView) → IsGivenAmong (IsIn among) c → Stands (OfSome (IsIn among) P) v → KeepsCall c v w
-      → (m : Stored) × (P m × KnownWith v.content (IsOf (IsIn among) m) × KeepsMap (IsIn among) c.command c.given c.ending m v w c.sink c.sink_now)
-  found P c v w given ((image, told, (m, (has, of))), each) keeps = (m, (has, (image, told, of), keeps image told among m apart given of))
+      → (m : Stored) × (P m × KnownWith v.content (IsOf (IsIn among) m) × Answers c.line (IsIn among) c m v w)
+  found P c v w given ((image, told, (m, (has, of))), each) keeps = (m, (has, (image, told, of), answers_line c.line c m v w image given told of keeps.does))
 
   one_call : (P : Stored → Type 0) (c : Call) (v w : DiskView) → IsGivenAmong (IsIn among) c → Stands (OfSome (IsIn among) P) v → KeepsCall c v w
-      → Stands (OfSome (IsIn among) (After P c)) w
+      → Stands (OfSome (IsIn among) (After P c.line c)) w
   one_call P c v w given stands keeps =
       let one = found P c v w given stands keeps in
-      leaves (IsIn among) P c one.0 v w one.1.0 stands one.1.2.left
+      leaves (IsIn among) P c one.0 v w one.1.0 stands c.line one.1.2
 
   all_calls : (D : Type 0) (view : D → DiskView) (P : Stored → Type 0) (calls : List Call) (old new : D) → AllByRecursion (IsGivenAmong (IsIn among)) calls
       → Stands (OfSome (IsIn among) P) (view old) → CallRun D view calls old new → Stands (OfSome (IsIn among) (AfterAll P calls)) (view new)
   all_calls D view P [] old new given stands run =
       subst (λ (d : D). Stands (OfSome (IsIn among) (AfterAll P [])) (view d)) (sym run) (weaker (IsIn among) P (AfterAll P []) (view old) (λ m has. (m, (has, refl))) stands)
   all_calls D view P (c ∷ cs) old new given stands (mid, (keeps, rest)) =
-      weaker (IsIn among) (AfterAll (After P c) cs) (AfterAll P (c ∷ cs)) (view new) (λ next all. (all.1.0.0, (all.1.0.1.0, (all.0, (all.1.0.1.1, all.1.1)))))
-      (all_calls D view (After P c) cs mid new given.1 (one_call P c (view old) (view mid) given.0 stands keeps) rest)
+      weaker (IsIn among) (AfterAll (After P c.line c) cs) (AfterAll P (c ∷ cs)) (view new) (λ next all. (all.1.0.0, (all.1.0.1.0, (all.0, (all.1.0.1.1, all.1.1)))))
+      (all_calls D view (After P c.line c) cs mid new given.1 (one_call P c (view old) (view mid) given.0 stands keeps) rest)
 
 -- ---- the theorem
 
@@ -112,20 +159,89 @@ leaves_possible D view among m calls old new begins run =
     weaker (IsIn among) (AfterAll (λ s. s ≡ m) calls) (LeadsTo calls m) (view new) (λ next all. subst (λ (s : Stored). LeadsTo calls s next) all.1.0 all.1.1)
     (all_calls among begins.apart D view (λ s. s ≡ m) calls old new begins.given (only_one (IsIn among) m (view old) begins.stands) run)
 
+module _ (D : Type 0) (view : D → DiskView) (among : ByteSet) (m : Stored) (calls : List Call) (last : Call) (old mid new : D) (begins : BeginsOfMap (IsIn among) (calls ++ last ∷ []) m (view old))
+    (run : CallRun D view calls old mid) (keeps : KeepsCall last (view mid) (view new)) where
+  before : Stands (Possible (IsIn among) calls m) (view mid)
+  before = leaves_possible D view among m calls old mid (record { apart = begins.apart; given = given_before (IsIn among) calls last begins.given; stands = begins.stands }) run
+
+  last_finds : (now : Stored) × (LeadsTo calls m now × KnownWith (view mid).content (IsOf (IsIn among) now) × Answers last.line (IsIn among) last now (view mid) (view new))
+  last_finds = found among begins.apart (LeadsTo calls m) last (view mid) (view new) (given_last (IsIn among) calls last begins.given) before keeps
+
+  by_led : (now : Stored) → LeadsTo calls m now → (c : List ℕ) → Possible (IsIn among) calls m c ⊎ OfSome (IsIn among) (MayLead last.line last.given last.ending now) c
+      → Possible (IsIn among) calls m c ⊎ Possible (IsIn among) (calls ++ last ∷ []) m c
+  by_led now leads c (inl possible) = inl possible
+  by_led now leads c (inr led) = inr (led.0, (leads_on calls last m now led.0 leads led.1.0, led.1.1))
+
 pub answers_by_the_map : (D : Type 0) (view : D → DiskView) → AnswersByTheMap D view
-answers_by_the_map D view among m calls last old mid new begins given run keeps =
-    found among begins.apart (LeadsTo calls m) last (view mid) (view new) given (leaves_possible D view among m calls old mid begins run) keeps
-
-module _ (S : List ℕ → Type 0) (calls : List Call) (last : Call) (m now : Stored) (leads : LeadsTo calls m now) (v : DiskView) (before : Stands (Possible S calls m) v) where
-  by_led : (c : List ℕ) → IsOf S now c ⊎ OfSome S (MayLead last now) c → Possible S calls m c ⊎ Possible S (calls ++ last ∷ []) m c
-  by_led c (inl was) = inl (now, (leads, was))
-  by_led c (inr some) = inr (some.0, (leads_on calls last m now some.0 leads some.1.0, some.1.1))
-
-  by_crash : (c : List ℕ) → v.images c ⊎ MayBeMeanwhile S last.command last.given now last.ending c → Possible S calls m c ⊎ Possible S (calls ++ last ∷ []) m c
-  by_crash c (inl image) = inl (before.1 c image)
-  by_crash c (inr meanwhile) = by_led c (leads_meanwhile S last.command last.given last.ending now c meanwhile)
+answers_by_the_map D view among m calls last command old mid new begins run keeps line_is =
+    let one = last_finds D view among m calls last old mid new begins run keeps in
+    (one.0, (one.1.0, one.1.1, subst (λ (l : Option CommandLine). Answers l (IsIn among) last one.0 (view mid) (view new)) line_is one.1.2))
 
 pub survives_a_crash : (D : Type 0) (view : D → DiskView) → SurvivesACrash D view
-survives_a_crash D view among m calls last old mid new begins given run keeps c since =
-    let one = answers_by_the_map D view among m calls last old mid new begins given run keeps in
-    by_crash (IsIn among) calls last m one.0 one.1.0 (view mid) (leaves_possible D view among m calls old mid begins run) c (one.1.2.crash c since)
+survives_a_crash D view among m calls last old mid new begins run keeps c since =
+    let one = last_finds D view among m calls last old mid new begins run keeps in
+    by_led D view among m calls last old mid new begins run keeps one.0 one.1.0 c
+    (crash_leaves (IsIn among) (LeadsTo calls m) last one.0 (view mid) (view new) one.1.0 (before D view among m calls last old mid new begins run keeps) last.line one.1.2 c since)
+
+-- ---- the empty map
+
+abbrev pub empty_map : Stored
+empty_map = record { files = no_files; last = 0 }
+
+module _ (S : List ℕ → Type 0) (image : List ℕ) where
+  none_among : (slot count : ℕ) → AreAmong S slot (replicate count None) image
+  none_among slot zero = tt
+  none_among slot (suc count) = none_among (slot + 1) count
+
+  of_empty : (slots : ℕ) → IsFormatted slots image → IsOf S empty_map image
+  of_empty slots formatted = (empty_store slots, (record { holds = formatted; among = none_among 0 slots }, refl))
+
+pub stands_empty : (D : Type 0) (view : D → DiskView) → StandsEmpty D view
+stands_empty D view among slots old new (bytes, told, u) formats durable =
+    let there = formats.stands bytes told in
+    let of = of_empty (IsIn among) there.0 slots there.2 in
+    ((there.0, there.1, of), λ c is. subst (IsOf (IsIn among) empty_map) (sym (durable there.0 there.1 c is)) of)
+
+-- no refusal has the status 0
+refused : (refusal : Refusal) → ¬ (status_of_refusal refusal ≡ 0)
+refused Memory = λ is. cc
+refused NoFile = λ is. cc
+refused BadName = λ is. cc
+refused TooMany = λ is. cc
+refused TooLong = λ is. cc
+refused (Full free) = λ is. cc
+refused (Clash key at) = λ is. cc
+refused (WrongPart part) = λ is. cc
+refused DiskRead = λ is. cc
+refused DiskWrite = λ is. cc
+refused (Stopped at) = λ is. cc
+refused (Corrupt slot offset length want got) = λ is. cc
+refused (Missing key) = λ is. cc
+refused Numbers = λ is. cc
+refused (NotAStore gate magic) = λ is. cc
+refused (Version n) = λ is. cc
+refused (Damaged at why) = λ is. cc
+refused (Unpinned key) = λ is. cc
+refused AlreadyStore = λ is. cc
+refused (WrongSize want got) = λ is. cc
+
+done_at_zero : (ending : Option Ending) → status_by ending ≡ 0 → ending ≡ None
+done_at_zero None is = refl
+done_at_zero (Some Words) is = cc
+done_at_zero (Some Source) is = cc
+done_at_zero (Some Sink) is = cc
+done_at_zero (Some (Refused refusal)) is = absurd (refused refusal is)
+
+module _ (slots : ℕ) (c : Call) (v w : DiskView) where
+  abbrev DoesBy : Option CommandLine → Option Ending → Type 0
+  DoesBy line ending = Does line c.given ending v w c.source c.source_now c.sink c.sink_now
+
+  format_done : KeepsCall c v w → c.line ≡ Some (Format slots) → c.status ≡ 0 → Formats slots v w × IsDurable w
+  format_done keeps line_is zero_is =
+      let done : DoesBy (Some (Format slots)) None = subst (DoesBy (Some (Format slots))) (done_at_zero c.ending (sym keeps.status_is ∙ zero_is)) (subst (λ (l : Option CommandLine). DoesBy l c.ending) line_is keeps.does) in
+      (done.any.caused, done.any.durable)
+
+pub format_begins : (D : Type 0) (view : D → DiskView) → FormatBegins D view
+format_begins D view among slots c old new told keeps line_is zero_is =
+    let done = format_done slots c (view old) (view new) keeps line_is zero_is in
+    stands_empty D view among slots old new told done.0 done.1

@@ -1,5 +1,14 @@
-use Rattle.backup_engine.proofs.Lists.{leaves_possible, answers_by_the_map, survives_a_crash}
+use Rattle.backup_engine.proofs.Lists.{promised, stands_empty, format_begins, leaves_possible, answers_by_the_map, survives_a_crash}
 use Rattle.backup_engine.proofs.laws.commands_follow_the_map.Goals as goal
+
+pub returns-clause-promised : goal.returns-clause-promised
+returns-clause-promised g c = promised _ g.D.Disk.view
+
+pub returns-clause-begins : goal.returns-clause-begins
+returns-clause-begins g c = stands_empty _ g.D.Disk.view
+
+pub returns-clause-formatted : goal.returns-clause-formatted
+returns-clause-formatted g c = format_begins _ g.D.Disk.view
 
 pub returns-clause-left : goal.returns-clause-left
 returns-clause-left g c = leaves_possible _ g.D.Disk.view

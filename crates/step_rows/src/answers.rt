@@ -1,0 +1,72 @@
+//! The texts of answers and refusals.
+use actor_parts::Answer;
+use container_meta::digest_of;
+use dd_io::MemSink;
+use refusals::{PartKind, Refusal};
+use reply_text::{Ending, write_fault};
+use std::alloc::{AllocError, Global};
+
+/// What a step answered, with what the buffer then holds.
+pub(crate) fn answer_text(
+    alloc: Global,
+    answer: &Result<Answer, Refusal>,
+    buf: &[u8],
+) -> Result<String, AllocError> {
+    match answer {
+        Ok(answer) => done_text(alloc, answer, buf),
+        Err(refusal) => refusal_text(alloc, refusal),
+    }
+}
+
+fn done_text(alloc: Global, answer: &Answer, buf: &[u8]) -> Result<String, AllocError> {
+    match answer {
+        Answer::Begun => "begun".to_string(alloc),
+        Answer::Held => "held".to_string(alloc),
+        Answer::Absent => "absent".to_string(alloc),
+        Answer::Sealed { id } => format!(in alloc; "sealed {id}"),
+        Answer::Committed { sequence } => format!(in alloc; "committed {sequence}"),
+        Answer::Aborted => "aborted".to_string(alloc),
+        Answer::Opened { length } => format!(in alloc; "opened {length}"),
+        Answer::Bytes { count } => bytes_text(alloc, buf.get(..*count as usize).unwrap_or(&[])),
+        Answer::End => "end".to_string(alloc),
+        Answer::Dropped => "dropped".to_string(alloc),
+        Answer::Stat {
+            files,
+            segments,
+            bytes,
+            used,
+            free,
+        } => format!(in alloc;
+            "stat files {files} segments {segments} bytes {bytes} used {used} free {free}"
+        ),
+    }
+}
+
+// Where they are more than 64, their number and digest.
+fn bytes_text(alloc: Global, bytes: &[u8]) -> Result<String, AllocError> {
+    if bytes.len() > 64 {
+        let digest = hex::encode(alloc, digest_of(bytes).as_slice())?;
+        return format!(in alloc; "bytes {} of {digest}", bytes.len());
+    }
+    let digits = hex::encode(alloc, bytes)?;
+    format!(in alloc; "bytes {digits}")
+}
+
+/// The text of a refusal, as docs/FORMAT.md, 'Refusals', has it.
+pub(crate) fn refusal_text(alloc: Global, refusal: &Refusal) -> Result<String, AllocError> {
+    let mut sink = MemSink::new(alloc, Vec::new(alloc));
+    let _written = write_fault(&mut sink, &Ending::Refused(*refusal));
+    let line = std::str::from_utf8(sink.bytes()).unwrap_or("fault ?");
+    let text = line.strip_prefix("fault ").unwrap_or(line).trim();
+    format!(in alloc; "refused {text}")
+}
+
+/// What an actor is at.
+pub(crate) fn kind_text(kind: PartKind) -> &'static str {
+    match kind {
+        PartKind::Idle => "idle",
+        PartKind::Writing => "writing",
+        PartKind::Finished => "finished",
+        PartKind::Reading => "reading",
+    }
+}

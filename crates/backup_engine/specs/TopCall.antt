@@ -66,7 +66,8 @@ pub record Keeps (command : CommandLine) (given : List ℕ) (ending : Option End
   pub blank : IsLeftBlank command disk disk_now
   pub untouched : IsUntouched command ending disk disk_now
 
--- No call of the disk was made: all that is known of it is what was. (A view is too large a type for ≡.)
+-- All that is known of the disk is what was: also the moment, which each read, write and sync makes rise. (A view is too large a
+-- type for ≡.)
 pub record IsSameDisk (disk disk_now : DiskView) : Type 0 where
   pub size_is : disk_now.size ≡ disk.size
   pub content_is : disk_now.content ≡ disk.content

@@ -1,1 +1,4 @@
 pub mod Lists
+pub mod Rests
+pub mod Taking
+pub mod Takes

@@ -31,6 +31,11 @@ long_more : (ended : Bool) (rest : List (List ℕ)) (x : List ℕ) → ended ≡
 long_more false rest x on long one = long_and_one rest x long one
 long_more true rest x on long one = absurd (cc)
 
+not_last_and_one : (ended : Bool) (queue : List (List ℕ)) (x : List ℕ) → is_last ended (queue ++ x ∷ []) ≡ true → ⊥
+not_last_and_one false queue x last = cc
+not_last_and_one true [] x last = cc
+not_last_and_one true (y ∷ ys) x last = cc
+
 module _ (s : SessionState) (bytes : List ℕ) (taken : Taken) (hand : Hand) (is : IsSession s) (ongoing : s.ended ≡ false) where
   pub cut_off_is_session : s.count + length bytes ≤ MOST_FILE → length s.queue + s.unseen < QUEUE → Takes s.hand bytes taken hand → taken.whole ≡ true
       → LEAST_SEGMENT ≤ length hand.bytes → IsOne hand.bytes → IsSession (cut_off s taken.taken hand.bytes)
@@ -56,6 +61,9 @@ module _ (s : SessionState) (bytes : List ℕ) (taken : Taken) (hand : Hand) (is
           counted = λ on _. is.building.counted on (ongoing_is_not_last (rest_of s) s.ended ongoing);
         };
         whole = never_whole s.top (is_last s.ended (rest_of s)) _ is.whole (ongoing_is_not_last (rest_of s) s.ended ongoing);
+        closed = λ last. absurd (not_last_and_one s.ended s.queue hand.bytes last);
+        next = is.next;
+        nodes_right = is.nodes_right;
         waits = is.waits;
       }
 

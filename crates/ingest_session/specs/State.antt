@@ -1,5 +1,5 @@
 -- What a session holds, and what holds of it at every moment.
-use Rattle.std.specs.Prelude.{◌≡◌, ◌≤◌, ℕ, ◌+◌, ◌*◌, Bool, true, false, List, [], ◌∷◌, drop, length, sum_by, Option, Some, None}
+use Rattle.std.specs.Prelude.{◌≡◌, ◌≤◌, ℕ, ◌+◌, ◌*◌, Bool, true, false, List, [], ◌∷◌, drop, length, sum_by, Option, Some, None, IsSome}
 use Rattle.std.specs.List.{AllByRecursion}
 use Rattle.disk_format.specs.declared.numbers.TheConstants.{LEAST_SEGMENT, MOST_FILE, MOST_SEGMENT}
 use Rattle.container_meta.specs.declared.kind.Kind.TheVariants.{Leaf, Tree}
@@ -8,7 +8,7 @@ use Rattle.segmenter.specs.Cutting.{Hand}
 use Rattle.merkle_file.specs.Node as node
 use Rattle.merkle_file.specs.declared.top.Top.{Top}
 use Rattle.merkle_file.specs.Building.{Progress, count_of, total_of}
-use Rattle.actor_parts.specs.Segments.{node_segment}
+use Rattle.actor_parts.specs.Segments.{AreStepSegments, IsStepSegment, node_segment}
 use Rattle.ingest_session.specs.declared.queue.TheConstants.{QUEUE, BUFFERS}
 
 -- What a session holds.
@@ -61,7 +61,7 @@ IsAhead (Some seg) (x ∷ xs) = seg ≡ leaf_segment x
 abbrev pub IsSpelled : Option KindSegment → Option node.Contents → Type 0
 IsSpelled None n = Unit {0}
 IsSpelled (Some seg) None = ⊥
-IsSpelled (Some seg) (Some n) = seg ≡ node_segment n
+IsSpelled (Some seg) (Some n) = (seg ≡ node_segment n) × IsStepSegment seg
 
 -- nothing is to come after these segments
 abbrev pub is_last : Bool → List (List ℕ) → Bool
@@ -87,7 +87,7 @@ pub record IsBuilding (s : SessionState) : Type 0 where
   pub long : AreLong s.ended (rest_of s)
   pub counted : s.top ≡ None → is_last s.ended (rest_of s) ≡ false → LEAST_SEGMENT * count_of s.built.rows ≤ total_of s.built.rows
 
--- the tree is whole exactly where nothing is to come and the builder has all segments
+-- the tree is whole only where nothing is to come and the builder has all segments
 abbrev pub IsWhole : Option Top → Bool → Type 0
 IsWhole None last = Unit {0}
 IsWhole (Some top) last = last ≡ true
@@ -105,4 +105,7 @@ pub record IsSession (s : SessionState) : Type 0 where
   pub spelled : IsSpelled s.spelled s.node
   pub building : IsBuilding s
   pub whole : IsWhole s.top (is_last s.ended (rest_of s))
+  pub closed : is_last s.ended s.queue ≡ true → IsSome s.top
+  pub next : s.node ≡ None → s.ahead ≡ None → s.built.finished ≡ []
+  pub nodes_right : AreStepSegments Tree s.nodes.segments
   pub waits : s.waits ≡ true → HasItem s.node s.spelled s.ahead

@@ -1,7 +1,9 @@
 //! Sessions: the bytes of a file as they come, cut into segments, and the steps that have them held.
 #![tactic(auto)]
 
+mod asking;
 mod due;
+mod placing;
 mod queue;
 mod session;
 

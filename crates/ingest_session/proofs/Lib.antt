@@ -3,3 +3,5 @@ pub mod Rests
 pub mod Taking
 pub mod Takes
 pub mod Placed
+pub mod Settled
+pub mod Fitting

@@ -64,7 +64,8 @@ module _ (s : SessionState) (bytes : List ℕ) (taken : Taken) (hand : Hand) (is
         closed = λ last. absurd (not_last_and_one s.ended s.queue hand.bytes last);
         next = is.next;
         nodes_right = is.nodes_right;
-        waits = is.waits;
+        alone = is.alone;
+        waits = λ on. ((is.waits on).0, λ _ last. absurd (not_last_and_one s.ended (rest_of s) hand.bytes (ap (is_last s.ended) (sym grows) ∙ last)));
       }
 
   cut_more : (ended : Bool) (given more x : List ℕ) (segments : List (List ℕ)) → ended ≡ false →

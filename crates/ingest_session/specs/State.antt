@@ -92,6 +92,10 @@ abbrev pub IsWhole : Option Top → Bool → Type 0
 IsWhole None last = Unit {0}
 IsWhole (Some top) last = last ≡ true
 
+-- Where the first segment of the queue has its turn and is the last, the tree is whole.
+abbrev pub IsClosed : SessionState → Type 0
+IsClosed s = s.node ≡ None → is_last s.ended (rest_of s) ≡ true → IsSome s.top
+
 -- what holds of every session
 pub record IsSession (s : SessionState) : Type 0 where
   pub data_kind : s.leaves.kind ≡ Leaf
@@ -108,4 +112,5 @@ pub record IsSession (s : SessionState) : Type 0 where
   pub closed : is_last s.ended s.queue ≡ true → IsSome s.top
   pub next : s.node ≡ None → s.ahead ≡ None → s.built.finished ≡ []
   pub nodes_right : AreStepSegments Tree s.nodes.segments
-  pub waits : s.waits ≡ true → HasItem s.node s.spelled s.ahead
+  pub alone : IsSome s.node → s.ahead ≡ None
+  pub waits : s.waits ≡ true → HasItem s.node s.spelled s.ahead × IsClosed s

@@ -1,17 +1,16 @@
 -- What an answer does to a session.
 use Rattle.std.specs.Prelude.{◌≡◌, ℕ, ◌+◌, Bool, true, false, if◌then◌else◌, List, [], ◌∷◌, ◌++◌, drop, length, Option, Some, None}
-use Rattle.disk_format.specs.declared.numbers.TheConstants.{MOST_FILE}
 use Rattle.container_meta.specs.declared.kind.Kind.{Kind}
 use Rattle.container_meta.specs.declared.kind.Kind.TheVariants.{Leaf, Tree}
 use Rattle.container_meta.specs.Segments.{Contents, KindSegment, Segment, has_room}
 use Rattle.merkle_file.specs.Node as node
-use Rattle.merkle_file.specs.Building.{Progress}
 use Rattle.actor_parts.specs.Segments.{node_segment}
 use Rattle.actor_parts.specs.declared.step.Answer.{Answer}
 use Rattle.actor_parts.specs.declared.step.Answer.TheVariants.{Held, Absent, Sealed}
 use Rattle.ingest_session.specs.declared.due.Due.{Due}
 use Rattle.ingest_session.specs.declared.due.Due.TheVariants.{Claim, Seal}
-use Rattle.ingest_session.specs.State.{SessionState, HasItem, is_last, leaf_segment, rest_of}
+use Rattle.ingest_session.specs.State.{SessionState, HasItem, IsClosed, leaf_segment}
+use Rattle.ingest_session.specs.Filling.{with_segment}
 use Rattle.ingest_session.specs.Finished.{first_node, without_first}
 use Rattle.ingest_session.specs.Due.{due_in, item_kind, needs_no_step, open_of}
 
@@ -35,9 +34,6 @@ front_segment (x ∷ xs) = (leaf_segment x).segment
 abbrev pub item_of : Option node.Contents → List (List ℕ) → Segment
 item_of (Some n) queue = (node_segment n).segment
 item_of None queue = front_segment queue
-
-abbrev pub with_segment : Contents → Segment → Contents
-with_segment filled segment = record filled { segments = filled.segments ++ segment ∷ [] }
 
 -- a container with another in its place
 abbrev pub with_open : Kind → Contents → SessionState → SessionState
@@ -78,7 +74,7 @@ told_by other s = s
 pub record IsSettled (s : SessionState) : Type 0 where
   pub none : needs_no_step s ≡ false
   pub item : due_in s ≡ Claim → HasItem s.node s.spelled s.ahead
-  pub closed : s.node ≡ None → is_last s.ended (rest_of s) ≡ true → s.top ≡ None → s.queue ≡ []
+  pub closed : IsClosed s
 
 -- an answer that the step which is due can have
 abbrev pub IsAnswerFor : Answer → Due → Type 0

@@ -6,6 +6,8 @@ mod due;
 mod placing;
 mod queue;
 mod session;
+mod settling;
+mod telling;
 
 pub use due::Due;
 pub use session::Session;

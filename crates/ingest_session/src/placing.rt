@@ -37,15 +37,17 @@ impl Session {
         Ok(())
     }
 
-    /// Gives the builder the first segment of the queue. Where there is no memory, nothing changes.
+    /// Gives the builder the first segment of the queue, if it doesn't have it yet. Where there is no memory, nothing changes.
     pub(crate) fn advance(&mut self) -> Result<(), AllocError>
         requires some { 0 < length self.old.queue }
-        requires none { self.old.ahead ≡ None }
         requires node { self.old.node ≡ None }
         ensures ok { OnOk result (IsAdvanced self.old self.new) }
         ensures err { OnErr result (self.new ≡ self.old) }
         ensures bytes { (given : List ℕ) → HasTaken self.old given → HasTaken self.new given }
     {
+        if self.ahead.is_some() {
+            return Ok(());
+        }
         let seg = Seg::leaf(self.alloc, self.queue.front())?;
         let child = Child {
             digest: seg.digest(),
@@ -60,7 +62,6 @@ impl Session {
     pub(crate) fn place_node(&mut self)
         requires node { IsSome self.old.node }
         requires waits { self.old.waits ≡ false }
-        requires ahead { self.old.ahead ≡ None }
         ensures placed { self.new ≡ placed_node self.old }
         ensures bytes { (given : List ℕ) → HasTaken self.old given → HasTaken self.new given }
     {

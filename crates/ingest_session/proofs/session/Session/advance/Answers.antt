@@ -12,7 +12,7 @@ use Rattle.ingest_session.proofs.session.Session.advance.Goals as goal
 
 pub returns-clause-bytes : goal.returns-clause-bytes
 returns-clause-bytes c = λ given has.
-    let none = ap (λ (s : SessionState). s.ahead) c.self.view_is ∙ c.requires.none in
+    let none : c.self.inside.ahead ≡ None = search rules in
     let bytes = ap (λ (s : KindSegment). s.segment.bytes) c.in_ok-seg.ensures in
     let child : of_segment c.front.result.now ≡ record { digest = c.digest.result; length = length c.bytes.result.now } =
     search rules in

@@ -5,3 +5,4 @@ pub mod Takes
 pub mod Placed
 pub mod Settled
 pub mod Fitting
+pub mod AtEnd

@@ -25,7 +25,7 @@ parted : {X : Type 0} (xs : List X) → option_to_list (first_of xs) ++ drop 1 x
 parted [] = refl
 parted (x ∷ xs) = search
 
-taken_on : (taken finished : List node.Contents) → (taken ++ option_to_list (first_of finished)) ++ drop 1 finished ≡ taken ++ finished
+pub taken_on : (taken finished : List node.Contents) → (taken ++ option_to_list (first_of finished)) ++ drop 1 finished ≡ taken ++ finished
 taken_on taken finished =
     append_assoc taken (option_to_list (first_of finished)) (drop 1 finished) ∙ ap (λ (ns : List node.Contents). taken ++ ns) (parted finished)
 

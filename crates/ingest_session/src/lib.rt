@@ -3,6 +3,7 @@
 
 mod asking;
 mod due;
+mod ending;
 mod placing;
 mod queue;
 mod session;

@@ -10,11 +10,20 @@ use Rattle.merkle_file.specs.declared.top.Top.{Top}
 use Rattle.ingest_session.specs.declared.due.Due.{Due}
 use Rattle.ingest_session.specs.declared.due.Due.TheVariants.{Nothing}
 use Rattle.ingest_session.specs.Due.{due_in}
+use Rattle.ingest_session.specs.Items.{item_of}
 use Rattle.ingest_session.specs.State.{SessionState}
 
--- So many bytes were taken: what is in hand and in the queue may have changed, and nothing else.
+-- An item that waits is the same item afterwards.
+abbrev pub KeepsItem : SessionState → SessionState → Type 0
+KeepsItem old new = old.waits ≡ true → item_of new.node new.queue ≡ item_of old.node old.queue
+
+-- So many bytes were taken: what is in hand may have changed, and segments may wait after those that waited. Nothing else
+-- changed.
 pub record IsTaking (taken : ℕ) (old new : SessionState) : Type 0 where
   pub count : new.count ≡ old.count + taken
+  pub more : List (List ℕ)
+  pub queue : new.queue ≡ old.queue ++ more
+  pub item : KeepsItem old new
   pub others : new ≡ record old { count = new.count; hand = new.hand; queue = new.queue }
 
 -- why a push of so many bytes is refused, if it is
@@ -42,6 +51,7 @@ pub record IsEnding (old new : SessionState) : Type 0 where
   pub ended : new.ended ≡ true
   pub queue : new.queue ≡ old.queue ++ (if nat_lt 0 (length old.hand.bytes) then old.hand.bytes ∷ [] else [])
   pub node : IsSome old.node → new.node ≡ old.node
+  pub item : KeepsItem old new
   pub others : new ≡ record old { ended = true; hand = empty_hand; queue = new.queue; node = new.node; built = new.built; top = new.top }
 
 abbrev pub root_by : ℕ → Option Top → Option Root

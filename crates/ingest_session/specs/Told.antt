@@ -12,6 +12,7 @@ use Rattle.ingest_session.specs.declared.due.Due.TheVariants.{Claim, Seal}
 use Rattle.ingest_session.specs.State.{SessionState, HasItem, IsClosed, leaf_segment}
 use Rattle.ingest_session.specs.Filling.{with_segment}
 use Rattle.ingest_session.specs.Finished.{first_node, without_first}
+use Rattle.ingest_session.specs.Items.{item_of}
 use Rattle.ingest_session.specs.Due.{due_in, item_kind, needs_no_step, open_of}
 
 -- the node whose turn it is goes to its place, and the next finished node has its turn
@@ -25,15 +26,6 @@ placed_front more s = record (placed_node s) { queue = drop 1 s.queue; ahead = N
 abbrev pub placed_item : Option node.Contents → SessionState → SessionState
 placed_item (Some n) s = placed_node s
 placed_item None s = placed_front 0 s
-
--- the item whose turn it is, with what its container holds of it
-abbrev pub front_segment : List (List ℕ) → Segment
-front_segment [] = (leaf_segment []).segment
-front_segment (x ∷ xs) = (leaf_segment x).segment
-
-abbrev pub item_of : Option node.Contents → List (List ℕ) → Segment
-item_of (Some n) queue = (node_segment n).segment
-item_of None queue = front_segment queue
 
 -- a container with another in its place
 abbrev pub with_open : Kind → Contents → SessionState → SessionState

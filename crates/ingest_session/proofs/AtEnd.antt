@@ -15,11 +15,12 @@ use Rattle.merkle_file.specs.Tree.{SegmentsAlike, itself, nodes_of, of_segment, 
 use Rattle.merkle_file.specs.Building.{Progress, Holds}
 use Rattle.store_model.specs.Trees.{file_tree, root_of}
 use Rattle.ingest_session.specs.declared.queue.TheConstants.{QUEUE, BUFFERS}
-use Rattle.ingest_session.specs.State.{SessionState, IsSession, IsWhole, AreLong, IsClosed, is_last, rest_after, rest_of}
+use Rattle.ingest_session.specs.Sound.{IsSession}
+use Rattle.ingest_session.specs.State.{SessionState, IsWhole, AreLong, IsClosed, is_last, rest_after, rest_of}
 use Rattle.ingest_session.specs.Finished.{first_of, first_node, without_first}
 use Rattle.ingest_session.specs.Stream.{HasTaken, IsBuiltOver, IsCutInto}
 use Rattle.ingest_session.proofs.Lists.{all_and_one}
-use Rattle.ingest_session.proofs.Rests.{rest_grows, ahead_stays}
+use Rattle.ingest_session.proofs.Rests.{rest_grows, ahead_stays, full_stays}
 use Rattle.ingest_session.proofs.Placed.{taken_on}
 
 -- ---- the segments that are still to come
@@ -84,6 +85,7 @@ module _ (s : SessionState) (is : IsSession s) (ongoing : s.ended ≡ false) whe
         closed = λ at_end. absurd (not_last_and_one s.queue x at_end);
         next = is.next;
         nodes_right = is.nodes_right;
+        full = λ on. full_stays s x (is.waits on).0 is.ahead (is.full on);
         alone = is.alone;
         waits = λ on. ((is.waits on).0, λ _ at_end. absurd (not_last_and_one (rest_of s) x (ap (is_last true) (sym grows) ∙ at_end)));
       }
@@ -110,6 +112,7 @@ module _ (s : SessionState) (is : IsSession s) (ongoing : s.ended ≡ false) whe
         closed = λ at_end. absurd (yes_and_no _ (empty_has_no_rest s.ahead s.queue at_end) not_last);
         next = is.next;
         nodes_right = is.nodes_right;
+        full = is.full;
         alone = is.alone;
         waits = λ on. ((is.waits on).0, λ _ at_end. absurd (yes_and_no _ at_end not_last));
       }

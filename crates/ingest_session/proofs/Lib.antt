@@ -6,3 +6,4 @@ pub mod Placed
 pub mod Settled
 pub mod Fitting
 pub mod AtEnd
+pub mod SealsSome

@@ -8,7 +8,8 @@ use Rattle.merkle_file.specs.declared.top.Top.{Top}
 use Rattle.merkle_file.specs.Node as node
 use Rattle.merkle_file.specs.Tree.{itself, nodes_of, of_segment, tree_of}
 use Rattle.merkle_file.specs.Building.{Progress, Holds, open_trees, whole_from, rest_from, nodes_in_rows, open_over}
-use Rattle.ingest_session.specs.State.{SessionState, IsSession, IsWhole, is_last, rest_after, rest_of}
+use Rattle.ingest_session.specs.Sound.{IsSession}
+use Rattle.ingest_session.specs.State.{SessionState, IsWhole, is_last, rest_after, rest_of}
 use Rattle.ingest_session.specs.Finished.{first_of, first_node, without_first}
 use Rattle.ingest_session.specs.Stream.{HasTaken, IsBuiltOver, IsCutInto}
 use Rattle.ingest_session.specs.Told.{placed_node, placed_front}

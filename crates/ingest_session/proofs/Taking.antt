@@ -7,10 +7,11 @@ use Rattle.segmenter.specs.declared.cutting.Taken.{Taken}
 use Rattle.segmenter.specs.Cutting.{Hand, Takes, Ends, IsOne, HasCut, whole_segments, empty_hand}
 use Rattle.merkle_file.specs.declared.top.Top.{Top}
 use Rattle.ingest_session.specs.declared.queue.TheConstants.{QUEUE, BUFFERS}
-use Rattle.ingest_session.specs.State.{SessionState, IsSession, IsBuilding, IsWhole, rest_of, rest_after, is_last, AreLong}
+use Rattle.ingest_session.specs.Sound.{IsSession}
+use Rattle.ingest_session.specs.State.{SessionState, IsBuilding, IsWhole, rest_of, rest_after, is_last, AreLong}
 use Rattle.ingest_session.specs.Stream.{HasTaken, IsCutInto}
 use Rattle.ingest_session.proofs.Lists.{all_and_one}
-use Rattle.ingest_session.proofs.Rests.{rest_grows, ahead_stays, long_and_one}
+use Rattle.ingest_session.proofs.Rests.{rest_grows, ahead_stays, full_stays, long_and_one}
 
 -- a segment was cut off, and waits
 abbrev pub cut_off : SessionState → ℕ → List ℕ → SessionState
@@ -65,6 +66,7 @@ module _ (s : SessionState) (bytes : List ℕ) (taken : Taken) (hand : Hand) (is
         next = is.next;
         nodes_right = is.nodes_right;
         alone = is.alone;
+        full = λ on. full_stays s hand.bytes (is.waits on).0 is.ahead (is.full on);
         waits = λ on. ((is.waits on).0, λ _ last. absurd (not_last_and_one s.ended (rest_of s) hand.bytes (ap (is_last s.ended) (sym grows) ∙ last)));
       }
 

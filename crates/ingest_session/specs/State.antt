@@ -95,22 +95,3 @@ IsWhole (Some top) last = last ≡ true
 -- Where the first segment of the queue has its turn and is the last, the tree is whole.
 abbrev pub IsClosed : SessionState → Type 0
 IsClosed s = s.node ≡ None → is_last s.ended (rest_of s) ≡ true → IsSome s.top
-
--- what holds of every session
-pub record IsSession (s : SessionState) : Type 0 where
-  pub data_kind : s.leaves.kind ≡ Leaf
-  pub tree_kind : s.nodes.kind ≡ Tree
-  pub few : s.count ≤ MOST_FILE
-  pub hand : s.hand.whole ≡ false
-  pub room : s.ended ≡ false → length s.queue + s.unseen ≤ QUEUE
-  pub most : length s.queue + s.unseen ≤ BUFFERS
-  pub sized : AllByRecursion IsSized s.queue
-  pub ahead : IsAhead s.ahead s.queue
-  pub spelled : IsSpelled s.spelled s.node
-  pub building : IsBuilding s
-  pub whole : IsWhole s.top (is_last s.ended (rest_of s))
-  pub closed : is_last s.ended s.queue ≡ true → IsSome s.top
-  pub next : s.node ≡ None → s.ahead ≡ None → s.built.finished ≡ []
-  pub nodes_right : AreStepSegments Tree s.nodes.segments
-  pub alone : IsSome s.node → s.ahead ≡ None
-  pub waits : s.waits ≡ true → HasItem s.node s.spelled s.ahead × IsClosed s

@@ -12,7 +12,7 @@ use Rattle.ingest_session.specs.declared.due.Due.TheVariants.{Claim, Seal}
 use Rattle.ingest_session.specs.State.{SessionState, HasItem, IsClosed, leaf_segment}
 use Rattle.ingest_session.specs.Filling.{with_segment}
 use Rattle.ingest_session.specs.Finished.{first_node, without_first}
-use Rattle.ingest_session.specs.Items.{item_of}
+use Rattle.ingest_session.specs.Items.{fits, item_of}
 use Rattle.ingest_session.specs.Due.{due_in, item_kind, needs_no_step, open_of}
 
 -- the node whose turn it is goes to its place, and the next finished node has its turn
@@ -34,9 +34,6 @@ with_open Tree filled s = record s { nodes = filled }
 
 abbrev pub added_item : SessionState → SessionState
 added_item s = with_open (item_kind s.node) (with_segment (open_of s (item_kind s.node)) (item_of s.node s.queue)) s
-
-abbrev pub fits : SessionState → Bool
-fits s = has_room (open_of s (item_kind s.node)) (length (item_of s.node s.queue).bytes)
 
 -- An item that was answered Absent goes into its container and to its place, or waits where there is no room.
 abbrev pub absent_item : SessionState → SessionState

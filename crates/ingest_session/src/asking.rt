@@ -1,5 +1,5 @@
 //! Which step is due, and for what.
-ghost use Rattle.std.specs.Prelude.{◌≡◌, ◌<◌, Bool, true, false, length};
+ghost use Rattle.std.specs.Prelude.{◌≡◌, ◌<◌, ◌≤◌, Bool, true, false, length};
 ghost use Rattle.container_meta.specs.declared.kind.Kind.TheVariants.{Leaf, Tree};
 
 use crate::due::{Due, child_kind, has_child};
@@ -7,13 +7,18 @@ use crate::session::Session;
 use container_meta::{Kind, OpenContainer, Seg, key_of};
 
 impl Session {
+    ghost use Rattle.actor_parts.specs.Segments.{AreStepSegments};
     ghost use Rattle.ingest_session.specs.State.{HasItem};
     ghost use Rattle.ingest_session.specs.Due.{due_in, end_due, item_due, item_is_there, item_kind, needs_no_step, open_of};
     ghost use Rattle.ingest_session.specs.Moving.{IsOffered};
 
     /// The open container of a kind.
     pub fn filled(&self, kind: Kind) -> &OpenContainer
-        ensures { result.now ≡ open_of self.now kind }
+        ensures value { result.now ≡ open_of self.now kind }
+        // What a seal asks for: a segment at least, where the seal is due, and each may stand in a step.
+        ensures some { due_in self.now ≡ Due.Seal kind → 1 ≤ length (open_of self.now kind).segments }
+        ensures kind { (open_of self.now kind).kind ≡ kind }
+        ensures right { AreStepSegments kind (open_of self.now kind).segments }
     {
         match kind {
             Kind::Leaf => &self.leaves,

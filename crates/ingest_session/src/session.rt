@@ -40,7 +40,8 @@ pub struct Session {
 }
 
 impl Model for Session {
-    ghost use Rattle.ingest_session.specs.State.{SessionState, IsSession};
+    ghost use Rattle.ingest_session.specs.State.{SessionState};
+    ghost use Rattle.ingest_session.specs.Sound.{IsSession};
 
     ghost Value = { SessionState };
 

@@ -88,26 +88,16 @@ impl Session {
         }
     }
 
-    /// Empties the open container of a kind, which was sealed.
+    /// Empties the open container of a kind, which was sealed: no item waits for it any more.
     fn empty(&mut self, kind: Kind)
-        ensures emptied { self.new ≡ emptied kind self.old }
+        ensures emptied { self.new ≡ record (emptied kind self.old) { waits = false } }
         ensures bytes { (given : List ℕ) → HasTaken self.old given → HasTaken self.new given }
     {
+        self.waits = false;
         match kind {
             Kind::Leaf => self.leaves.clear(),
             Kind::Tree => self.nodes.clear(),
         }
-    }
-
-    /// Ends the wait of an item whose container is empty now.
-    fn add_waiting(&mut self)
-        requires waits { self.old.waits ≡ true }
-        requires new { item_is_held self.old self.old.node ≡ false }
-        ensures told { self.new ≡ absent_item (record self.old { waits = false }) }
-        ensures bytes { (given : List ℕ) → HasTaken self.old given → HasTaken self.new given }
-    {
-        self.waits = false;
-        self.add();
     }
 
     /// The container of a kind was sealed: it is empty, and an item that waited for it is added.
@@ -116,9 +106,10 @@ impl Session {
         ensures told { self.new ≡ sealed kind self.old }
         ensures bytes { (given : List ℕ) → HasTaken self.old given → HasTaken self.new given }
     {
+        let waits = self.waits;
         self.empty(kind);
-        if self.waits {
-            self.add_waiting();
+        if waits {
+            self.add();
         }
     }
 

@@ -1,12 +1,12 @@
 -- The end of a file.
-use Rattle.std.proofs.Common.{◌≡◌, ◌≤◌, ◌<◌, ◌+◌, ◌∙◌, ℕ, Bool, true, false, List, [], ◌∷◌, ◌++◌, Option, Some, None, IsSome, drop, length, map, refl, sym, ap, subst, arith, sum_by, append-nil, length-append, zero-add}
+use Rattle.std.proofs.Common.{◌≡◌, ◌≤◌, ◌+◌, ◌∙◌, ℕ, Bool, true, false, List, [], ◌∷◌, ◌++◌, Option, Some, None, length, map, refl, sym, ap, subst, arith, sum_by, append-nil, length-append, zero-add}
 use Rattle.std.proofs.lemmas.List.Sums.{sum_by-append}
 use Rattle.std.specs.Option.{option_to_list}
-use Rattle.disk_format.specs.declared.numbers.TheConstants.{LEAST_SEGMENT, MOST_SEGMENT}
+use Rattle.disk_format.specs.declared.numbers.TheConstants.{MOST_SEGMENT}
 use Rattle.disk_format.specs.Cells.{Root}
 use Rattle.container_meta.specs.Segments.{KindSegment}
 use Rattle.segmenter.specs.Segments.{segments_of}
-use Rattle.segmenter.specs.Cutting.{Hand, HasCut, empty_hand, whole_segments}
+use Rattle.segmenter.specs.Cutting.{Hand, HasCut, empty_hand}
 use Rattle.merkle_file.specs.declared.node.Child.{Child}
 use Rattle.merkle_file.specs.declared.top.Top.{Top}
 use Rattle.merkle_file.specs.Node as node
@@ -14,10 +14,9 @@ use Rattle.merkle_file.specs.Tree as tree
 use Rattle.merkle_file.specs.Tree.{SegmentsAlike, itself, nodes_of, of_segment, tree_of}
 use Rattle.merkle_file.specs.Building.{Progress, Holds}
 use Rattle.store_model.specs.Trees.{file_tree, root_of}
-use Rattle.ingest_session.specs.declared.queue.TheConstants.{QUEUE, BUFFERS}
 use Rattle.ingest_session.specs.Sound.{IsSession}
-use Rattle.ingest_session.specs.State.{SessionState, IsWhole, AreLong, IsClosed, is_last, rest_after, rest_of}
-use Rattle.ingest_session.specs.Finished.{first_of, first_node, without_first}
+use Rattle.ingest_session.specs.State.{SessionState, IsWhole, AreLong, is_last, rest_after, rest_of}
+use Rattle.ingest_session.specs.Finished.{first_node, without_first}
 use Rattle.ingest_session.specs.Stream.{HasTaken, IsBuiltOver, IsCutInto}
 use Rattle.ingest_session.proofs.Lists.{all_and_one}
 use Rattle.ingest_session.proofs.Rests.{rest_grows, ahead_stays, full_stays}
@@ -132,7 +131,7 @@ holds_before s (Some top) segments taken is built = absurd (cc)
 pub ended_has_taken : (s : SessionState) (given : List ℕ) (top : Top) (b : Progress) → s.ended ≡ false → s.top ≡ None →
     ((segments : List (List ℕ)) → HasCut given segments s.hand → segments_of given ≡ segments) →
     ((pushed : List Child) (taken : List node.Contents) → Holds s.built pushed taken →
-        (top ≡ tree.root_of itself (tree_of pushed)) × (taken ++ b.finished ≡ nodes_of itself (tree_of pushed))) →
+    (top ≡ tree.root_of itself (tree_of pushed)) × (taken ++ b.finished ≡ nodes_of itself (tree_of pushed))) →
     HasTaken s given →
     HasTaken (record s { ended = true; hand = empty_hand; top = Some top; node = first_node b; built = without_first b }) given
 ended_has_taken s given top b ongoing none all built has =

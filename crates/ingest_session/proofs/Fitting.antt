@@ -1,5 +1,5 @@
 -- A node may be added to the open container of nodes.
-use Rattle.std.proofs.Common.{◌≡◌, ◌≤◌, ◌+◌, ◌-◌, ◌*◌, ◌/◌, ◌==◌, ◌&&◌, ◌∙◌, ℕ, Bool, true, false, Option, Some, None, IsSome, IfSome, length, refl, sym, ap, subst, arith, rules, nat_le}
+use Rattle.std.proofs.Common.{◌≡◌, ◌≤◌, ◌+◌, ◌*◌, ◌∙◌, ℕ, true, false, Option, Some, None, IfSome, length, refl, sym, ap, subst, rules}
 use Rattle.disk_format.specs.declared.numbers.TheConstants.{MOST_CHILDREN, MOST_LEVEL}
 use Rattle.container_meta.specs.declared.kind.Kind.TheVariants.{Tree}
 use Rattle.container_meta.specs.Format.{child_count, is_length, is_level}
@@ -10,7 +10,7 @@ use Rattle.merkle_file.specs.Reading.{contents_in}
 use Rattle.merkle_file.proofs.InPlace.{length_spelling}
 use Rattle.actor_parts.specs.Segments.{IsStepSegment, node_segment}
 use Rattle.store_model.specs.Trees.{node_key}
-use Rattle.ingest_session.specs.State.{HasItem, IsSpelled}
+use Rattle.ingest_session.specs.State.{IsSpelled}
 
 count_is : (k : ℕ) → child_count (4 + 40 * k) ≡ k
 count_is k = search rules

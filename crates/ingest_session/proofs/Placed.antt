@@ -1,12 +1,12 @@
 -- What a session was given stays while its segments and nodes go to their places.
-use Rattle.std.proofs.Common.{◌≡◌, ◌∙◌, ℕ, Bool, true, false, List, [], ◌∷◌, ◌++◌, Option, Some, None, IsSome, drop, length, map, refl, sym, ap, subst, append_assoc}
+use Rattle.std.proofs.Common.{◌≡◌, ◌∙◌, ℕ, Bool, true, false, List, [], ◌∷◌, ◌++◌, Option, Some, None, IsSome, drop, map, refl, sym, ap, subst, append_assoc}
 use Rattle.std.specs.Option.{option_to_list}
 use Rattle.std.proofs.lemmas.List.{map-append}
 use Rattle.container_meta.specs.Segments.{KindSegment}
 use Rattle.merkle_file.specs.declared.node.Child.{Child}
 use Rattle.merkle_file.specs.declared.top.Top.{Top}
 use Rattle.merkle_file.specs.Node as node
-use Rattle.merkle_file.specs.Tree.{itself, nodes_of, of_segment, tree_of}
+use Rattle.merkle_file.specs.Tree.{itself, of_segment}
 use Rattle.merkle_file.specs.Building.{Progress, Holds, open_trees, whole_from, rest_from, nodes_in_rows, open_over}
 use Rattle.ingest_session.specs.Sound.{IsSession}
 use Rattle.ingest_session.specs.State.{SessionState, IsWhole, is_last, rest_after, rest_of}

@@ -1,11 +1,11 @@
 -- What the builder of a tree is still to be given.
-use Rattle.std.proofs.Common.{◌≡◌, ◌≤◌, ◌+◌, ℕ, Bool, true, false, List, [], ◌∷◌, ◌++◌, Option, Some, None, drop, length, refl, ap, ◌∙◌}
+use Rattle.std.proofs.Common.{◌≡◌, ◌≤◌, ℕ, false, List, [], ◌∷◌, ◌++◌, Option, Some, None, length, refl, ap, ◌∙◌}
 use Rattle.disk_format.specs.declared.numbers.TheConstants.{LEAST_SEGMENT}
 use Rattle.container_meta.specs.Segments.{KindSegment, Segment, has_room}
 use Rattle.merkle_file.specs.Node as node
 use Rattle.ingest_session.specs.Due.{item_kind, open_of}
 use Rattle.ingest_session.specs.Items.{fits, item_of}
-use Rattle.ingest_session.specs.State.{SessionState, HasItem, rest_after, IsAhead, AreLong, is_last}
+use Rattle.ingest_session.specs.State.{SessionState, HasItem, rest_after, IsAhead, AreLong}
 
 pub rest_grows : (ahead : Option KindSegment) (queue : List (List ℕ)) (x : List ℕ) → IsAhead ahead queue →
     rest_after ahead (queue ++ x ∷ []) ≡ rest_after ahead queue ++ x ∷ []

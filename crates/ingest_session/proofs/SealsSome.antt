@@ -1,8 +1,8 @@
 -- A container that is to be sealed holds a segment at least.
-use Rattle.std.proofs.Common.{◌≡◌, ◌≤◌, ◌<◌, ◌+◌, ◌*◌, ◌∙◌, ℕ, Bool, true, false, ◌&&◌, not, ◌==◌, if◌then◌else◌, List, [], ◌∷◌, Option, Some, None, length, refl, sym, ap, subst, arith, rules}
+use Rattle.std.proofs.Common.{◌≡◌, ◌≤◌, ◌∙◌, ℕ, Bool, true, false, if◌then◌else◌, List, [], ◌∷◌, Option, Some, None, length, refl, ap, subst, arith, rules}
 use Rattle.std.specs.List.{AllByRecursion, list_any}
 use Rattle.base_model.specs.Bytes.{key_of}
-use Rattle.disk_format.specs.declared.numbers.TheConstants.{DATA_BYTES, MOST_SEGMENT}
+use Rattle.disk_format.specs.declared.numbers.TheConstants.{DATA_BYTES}
 use Rattle.container_meta.specs.declared.kind.Kind.{Kind}
 use Rattle.container_meta.specs.declared.kind.Kind.TheVariants.{Leaf, Tree}
 use Rattle.container_meta.specs.Format.{kind_byte}
@@ -13,11 +13,10 @@ use Rattle.merkle_file.specs.Node.{spelling}
 use Rattle.merkle_file.specs.Reading.{contents_in}
 use Rattle.merkle_file.proofs.InPlace.{length_spelling}
 use Rattle.actor_parts.specs.Segments.{AreStepSegments, IsStepSegment, child_kind, node_segment}
-use Rattle.ingest_session.specs.declared.due.Due.{Due}
-use Rattle.ingest_session.specs.declared.due.Due.TheVariants.{Claim, Seal, Nothing}
+use Rattle.ingest_session.specs.declared.due.Due.TheVariants.{Claim, Seal}
 use Rattle.ingest_session.specs.Child.{has_child_of}
-use Rattle.ingest_session.specs.Due.{due_in, end_due, item_due, item_kind, node_due, open_of, queue_due}
-use Rattle.ingest_session.specs.Items.{fits, item_of}
+use Rattle.ingest_session.specs.Due.{due_in, end_due, item_due, item_kind, open_of, queue_due}
+use Rattle.ingest_session.specs.Items.{item_of}
 use Rattle.ingest_session.specs.Sound.{IsSession}
 use Rattle.ingest_session.specs.State.{SessionState, HasItem, IsSized, IsSpelled}
 

@@ -1,5 +1,4 @@
 -- Settling goes on.
-use Rattle.std.proofs.Common.{◌≡◌, Bool, refl}
 use Rattle.ingest_session.specs.State.{SessionState}
 use Rattle.ingest_session.specs.Settling.{Settles, SettleStep, Stays, Then}
 

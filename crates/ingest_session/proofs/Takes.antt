@@ -1,5 +1,5 @@
 -- Bytes that are taken piece by piece.
-use Rattle.std.proofs.Common.{◌≡◌, ◌+◌, ◌∙◌, ◌++◌, ℕ, List, ap, append_assoc, arith}
+use Rattle.std.proofs.Common.{◌+◌, ◌∙◌, ◌++◌, ℕ, List, ap, append_assoc, arith}
 use Rattle.ingest_session.specs.State.{SessionState}
 use Rattle.ingest_session.specs.Calls.{IsTaking}
 

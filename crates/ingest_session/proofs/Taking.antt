@@ -1,14 +1,14 @@
 -- A segment that is whole is put into the queue.
-use Rattle.std.proofs.Common.{◌≡◌, ◌≤◌, ◌<◌, ◌+◌, ◌∙◌, ℕ, Bool, true, false, List, [], ◌∷◌, ◌++◌, Option, Some, None, drop, length, take, refl, sym, ap, subst, arith, sum_by, append_assoc, length-append, zero-add}
+use Rattle.std.proofs.Common.{◌≡◌, ◌≤◌, ◌<◌, ◌+◌, ◌∙◌, ℕ, Bool, true, false, List, [], ◌∷◌, ◌++◌, Option, Some, None, length, take, refl, sym, ap, subst, arith, sum_by, append_assoc, length-append, zero-add}
 use Rattle.std.proofs.lemmas.List.{length-take-le}
 use Rattle.std.proofs.lemmas.List.Sums.{sum_by-append}
 use Rattle.disk_format.specs.declared.numbers.TheConstants.{LEAST_SEGMENT, MOST_FILE}
 use Rattle.segmenter.specs.declared.cutting.Taken.{Taken}
-use Rattle.segmenter.specs.Cutting.{Hand, Takes, Ends, IsOne, HasCut, whole_segments, empty_hand}
+use Rattle.segmenter.specs.Cutting.{Hand, Takes, IsOne, HasCut, empty_hand}
 use Rattle.merkle_file.specs.declared.top.Top.{Top}
-use Rattle.ingest_session.specs.declared.queue.TheConstants.{QUEUE, BUFFERS}
+use Rattle.ingest_session.specs.declared.queue.TheConstants.{QUEUE}
 use Rattle.ingest_session.specs.Sound.{IsSession}
-use Rattle.ingest_session.specs.State.{SessionState, IsBuilding, IsWhole, rest_of, rest_after, is_last, AreLong}
+use Rattle.ingest_session.specs.State.{SessionState, IsWhole, rest_of, rest_after, is_last, AreLong}
 use Rattle.ingest_session.specs.Stream.{HasTaken, IsCutInto}
 use Rattle.ingest_session.proofs.Lists.{all_and_one}
 use Rattle.ingest_session.proofs.Rests.{rest_grows, ahead_stays, full_stays, long_and_one}

@@ -1,5 +1,5 @@
 -- The memory of a queue: buffers for all segments that may wait at once.
-use Rattle.std.specs.Prelude.{◌≡◌, ℕ, ◌+◌, ◌≤◌, List, length, vec_len, vec_capacity}
+use Rattle.std.specs.Prelude.{◌≡◌, ℕ, ◌+◌, ◌≤◌, List, length, vec_capacity}
 use Rattle.std.specs.Global.{Vec}
 use Rattle.std.specs.List.{AllByRecursion}
 use Rattle.disk_format.specs.declared.numbers.TheConstants.{MOST_SEGMENT}

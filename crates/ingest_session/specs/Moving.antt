@@ -1,8 +1,7 @@
 -- What happens to an item before its step.
-use Rattle.std.specs.Prelude.{◌≡◌, ◌+◌, ℕ, List, [], ◌∷◌, length, Option, Some, None}
+use Rattle.std.specs.Prelude.{◌≡◌, ℕ, List, [], ◌∷◌, Option, Some, None}
 use Rattle.container_meta.specs.Segments.{KindSegment}
 use Rattle.merkle_file.specs.Node as node
-use Rattle.merkle_file.specs.Building.{count_of, total_of}
 use Rattle.actor_parts.specs.Segments.{IsStepSegment, node_segment}
 use Rattle.ingest_session.specs.State.{SessionState, leaf_segment}
 

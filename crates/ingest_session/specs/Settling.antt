@@ -1,7 +1,7 @@
 -- Items that need no step go to their place, and those whose turn it is get their segments.
-use Rattle.std.specs.Prelude.{◌≡◌, ◌+◌, ◌<◌, ℕ, Bool, true, false, List, length, Option, Some, None, IsSome}
+use Rattle.std.specs.Prelude.{◌≡◌, ◌+◌, ◌<◌, ℕ, Bool, true, false, length, None, IsSome}
 use Rattle.std.specs.Option.{option_to_list}
-use Rattle.ingest_session.specs.State.{SessionState, HasItem, IsClosed}
+use Rattle.ingest_session.specs.State.{SessionState, HasItem}
 use Rattle.ingest_session.specs.Due.{item_is_there, needs_no_step}
 use Rattle.ingest_session.specs.Told.{IsSettled, placed_node, placed_front}
 use Rattle.ingest_session.specs.Moving.{IsAdvanced, IsSpelledOut}
@@ -16,8 +16,10 @@ pub data SettleStep : SessionState → SessionState → Type 0 where
   Spelled : (old new : SessionState) → IsSpelledOut old new → SettleStep old new
   Advanced : (old new : SessionState) → IsAdvanced old new → SettleStep old new
   Closed : (old new : SessionState) → IsClosing old new → SettleStep old new
-  PlacedNode : (old new : SessionState) → needs_no_step old ≡ true → IsSome old.node → new ≡ placed_node old → SettleStep old new
-  PlacedFront : (old new : SessionState) → needs_no_step old ≡ true → old.node ≡ None → new ≡ placed_front 1 old → SettleStep old new
+  PlacedNode : (old new : SessionState) → needs_no_step old ≡ true → IsSome old.node → new ≡ placed_node old
+      → SettleStep old new
+  PlacedFront : (old new : SessionState) → needs_no_step old ≡ true → old.node ≡ None → new ≡ placed_front 1 old
+      → SettleStep old new
 
 pub data Settles : SessionState → SessionState → Type 0 where
   Stays : (s : SessionState) → Settles s s
@@ -36,7 +38,8 @@ pub record IsBeside (old new : SessionState) : Type 0 where
 -- What trying to pass a node does: it is in its place, or it needs a step and has its segment.
 abbrev pub PassesNode : Bool → SessionState → SessionState → Type 0
 PassesNode true old new = (nodes_left new < nodes_left old) × IsBeside old new
-PassesNode false old new = HasItem new.node new.spelled new.ahead × (item_is_there new new.node ≡ false) × IsSome new.node × IsBeside old new
+PassesNode false old new =
+    HasItem new.node new.spelled new.ahead × (item_is_there new new.node ≡ false) × IsSome new.node × IsBeside old new
 
 -- the node whose turn it is, if there is one, needs a step and has its segment
 abbrev pub NeedsStep : SessionState → Type 0

@@ -1,15 +1,13 @@
 -- What a session holds, and what holds of it at every moment.
 use Rattle.std.specs.Prelude.{◌≡◌, ◌≤◌, ℕ, ◌+◌, ◌*◌, Bool, true, false, List, [], ◌∷◌, drop, length, sum_by, Option, Some, None, IsSome}
-use Rattle.std.specs.List.{AllByRecursion}
-use Rattle.disk_format.specs.declared.numbers.TheConstants.{LEAST_SEGMENT, MOST_FILE, MOST_SEGMENT}
-use Rattle.container_meta.specs.declared.kind.Kind.TheVariants.{Leaf, Tree}
+use Rattle.disk_format.specs.declared.numbers.TheConstants.{LEAST_SEGMENT, MOST_SEGMENT}
+use Rattle.container_meta.specs.declared.kind.Kind.TheVariants.{Leaf}
 use Rattle.container_meta.specs.Segments.{KindSegment, Contents}
 use Rattle.segmenter.specs.Cutting.{Hand}
 use Rattle.merkle_file.specs.Node as node
 use Rattle.merkle_file.specs.declared.top.Top.{Top}
 use Rattle.merkle_file.specs.Building.{Progress, count_of, total_of}
-use Rattle.actor_parts.specs.Segments.{AreStepSegments, IsStepSegment, node_segment}
-use Rattle.ingest_session.specs.declared.queue.TheConstants.{QUEUE, BUFFERS}
+use Rattle.actor_parts.specs.Segments.{IsStepSegment, node_segment}
 
 -- What a session holds.
 pub record SessionState : Type 0 where

@@ -1,5 +1,5 @@
 -- Which bytes a session was given.
-use Rattle.std.specs.Prelude.{◌≡◌, ℕ, ◌+◌, Bool, true, false, List, [], ◌++◌, length, map, IfSome, Option, Some, None}
+use Rattle.std.specs.Prelude.{◌≡◌, ℕ, Bool, true, false, List, ◌++◌, length, map, Option, Some, None}
 use Rattle.segmenter.specs.Segments.{segments_of}
 use Rattle.segmenter.specs.Cutting.{Hand, HasCut, empty_hand}
 use Rattle.merkle_file.specs.declared.top.Top.{Top}

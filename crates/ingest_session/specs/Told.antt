@@ -1,15 +1,14 @@
 -- What an answer does to a session.
-use Rattle.std.specs.Prelude.{◌≡◌, ℕ, ◌+◌, Bool, true, false, if◌then◌else◌, List, [], ◌∷◌, ◌++◌, drop, length, Option, Some, None}
+use Rattle.std.specs.Prelude.{◌≡◌, ℕ, ◌+◌, true, false, if◌then◌else◌, [], drop, Option, Some, None}
 use Rattle.container_meta.specs.declared.kind.Kind.{Kind}
 use Rattle.container_meta.specs.declared.kind.Kind.TheVariants.{Leaf, Tree}
-use Rattle.container_meta.specs.Segments.{Contents, KindSegment, Segment, has_room}
+use Rattle.container_meta.specs.Segments.{Contents}
 use Rattle.merkle_file.specs.Node as node
-use Rattle.actor_parts.specs.Segments.{node_segment}
 use Rattle.actor_parts.specs.declared.step.Answer.{Answer}
 use Rattle.actor_parts.specs.declared.step.Answer.TheVariants.{Held, Absent, Sealed}
 use Rattle.ingest_session.specs.declared.due.Due.{Due}
 use Rattle.ingest_session.specs.declared.due.Due.TheVariants.{Claim, Seal}
-use Rattle.ingest_session.specs.State.{SessionState, HasItem, IsClosed, leaf_segment}
+use Rattle.ingest_session.specs.State.{SessionState, HasItem, IsClosed}
 use Rattle.ingest_session.specs.Filling.{with_segment}
 use Rattle.ingest_session.specs.Finished.{first_node, without_first}
 use Rattle.ingest_session.specs.Items.{fits, item_of}

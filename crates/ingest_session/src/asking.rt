@@ -1,6 +1,5 @@
 //! Which step is due, and for what.
-ghost use Rattle.std.specs.Prelude.{◌≡◌, ◌<◌, ◌≤◌, Bool, true, false, length};
-ghost use Rattle.container_meta.specs.declared.kind.Kind.TheVariants.{Leaf, Tree};
+ghost use Rattle.std.specs.Prelude.{◌≡◌, ◌≤◌, length};
 
 use crate::due::{Due, child_kind, has_child};
 use crate::session::Session;
@@ -9,7 +8,7 @@ use container_meta::{Kind, OpenContainer, Seg, key_of};
 impl Session {
     ghost use Rattle.actor_parts.specs.Segments.{AreStepSegments};
     ghost use Rattle.ingest_session.specs.State.{HasItem};
-    ghost use Rattle.ingest_session.specs.Due.{due_in, end_due, item_due, item_is_there, item_kind, needs_no_step, open_of};
+    ghost use Rattle.ingest_session.specs.Due.{due_in, end_due, item_due, item_is_there, item_kind, open_of};
     ghost use Rattle.ingest_session.specs.Moving.{IsOffered};
 
     /// The open container of a kind.

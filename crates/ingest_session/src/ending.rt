@@ -1,13 +1,11 @@
 //! The end of a file, and its root.
-ghost use Rattle.std.specs.Prelude.{◌≡◌, ℕ, List, Bool, true, false, ◌&&◌, ◌==◌, if◌then◌else◌, IsSome, IfSome, OnErr, OnOk, None, length};
+ghost use Rattle.std.specs.Prelude.{◌≡◌, ℕ, List, Bool, true, false, IfSome, OnErr, OnOk};
 ghost use Rattle.store_model.specs.Trees.{root_of};
 
 use crate::due::Due;
 use crate::placing::next_node;
-use crate::queue::Queue;
 use crate::session::Session;
-use container_meta::Seg;
-use merkle_file::{Node, Top, TreeBuilder, tree_of_segments};
+use merkle_file::tree_of_segments;
 use namespace::Root;
 use refusals::{PartKind, Refusal};
 

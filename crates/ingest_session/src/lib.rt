@@ -1,4 +1,12 @@
-//! Sessions: the bytes of a file as they come, cut into segments, and the steps that have them held.
+//! Sessions: the bytes of a file of any length as they come, outside the store, and the steps of the store that have the
+//! file held.
+//!
+//! A session cuts the bytes into segments, which wait in a queue, builds the tree over them, and fills a container of
+//! segments and one of nodes. `due` says which step is next, a claim or a seal; `told` takes what the store answered. After
+//! `finish`, where nothing is due, `ready` has the root of the file.
+//!
+//! Proved: which step is due, what each answer makes of the session, what each call is refused by, and that the root is that
+//! of all bytes that were taken, in any order of calls. docs/PROOFS.md, 'Steps', says what isn't proved yet.
 #![tactic(auto)]
 
 mod asking;

@@ -1,5 +1,5 @@
 //! Segments and nodes that go to their place in the tree.
-ghost use Rattle.std.specs.Prelude.{◌≡◌, ◌+◌, ◌<◌, ◌≤◌, ℕ, List, Bool, true, false, IfOk, IfSome, IsSome, IsTrue, OnErr, OnOk, length, None, Some};
+ghost use Rattle.std.specs.Prelude.{◌≡◌, ◌<◌, ◌≤◌, ℕ, List, true, false, IsSome, OnErr, OnOk, length, None};
 ghost use Rattle.ingest_session.specs.Finished.{first_node, without_first};
 
 use crate::session::Session;
@@ -17,9 +17,7 @@ pub(crate) fn next_node(builder: &mut TreeBuilder) -> Option<Node>
 }
 
 impl Session {
-    ghost use Rattle.actor_parts.specs.Segments.{node_segment};
-    ghost use Rattle.merkle_file.specs.Node.{Contents};
-    ghost use Rattle.ingest_session.specs.State.{HasItem, is_last, leaf_segment, rest_of};
+    ghost use Rattle.ingest_session.specs.State.{is_last, rest_of};
     ghost use Rattle.ingest_session.specs.Stream.{HasTaken};
     ghost use Rattle.ingest_session.specs.Told.{placed_node, placed_front};
     ghost use Rattle.ingest_session.specs.Moving.{IsAdvanced, IsSpelledOut};

@@ -1,5 +1,5 @@
 //! A session: the bytes of a file as they come.
-ghost use Rattle.std.specs.Prelude.{◌≡◌, ◌+◌, ◌<◌, ◌≤◌, ℕ, Bool, false, true, List, [], ◌++◌, IfOk, OnErr, OnOk, length, take, None};
+ghost use Rattle.std.specs.Prelude.{◌≡◌, ◌+◌, ◌<◌, ◌≤◌, ℕ, false, List, [], ◌++◌, IfOk, OnErr, length, take};
 
 use crate::queue::{QUEUE, Queue};
 use container_meta::{Kind, OpenContainer, Seg};
@@ -87,6 +87,8 @@ impl Session {
         ensures nothing { IfOk result (λ s. HasTaken s []) }
         ensures ongoing { IfOk result (λ s. s.ended ≡ false) }
         ensures queue { IfOk result (λ s. s.queue ≡ []) }
+        ensures open { IfOk result (λ s. (s.leaves.segments ≡ []) × (s.nodes.segments ≡ [])) }
+        ensures waits { IfOk result (λ s. s.waits ≡ false) }
     {
         Ok(Session {
             alloc,

@@ -1,13 +1,13 @@
 //! Items that need no step are put in their place.
-ghost use Rattle.std.specs.Prelude.{◌≡◌, ◌<◌, ◌+◌, ℕ, List, Bool, true, false, IfOk, IsSome, IsTrue, OnErr, OnOk, length, None};
+ghost use Rattle.std.specs.Prelude.{◌≡◌, ◌<◌, ℕ, List, false, IfOk, IsSome, OnErr, OnOk, length, None};
 
 use crate::due::Due;
 use crate::session::Session;
 use std::alloc::AllocError;
 
 impl Session {
-    ghost use Rattle.ingest_session.specs.State.{HasItem, IsClosed, SessionState};
-    ghost use Rattle.ingest_session.specs.Due.{due_in, item_is_there};
+    ghost use Rattle.ingest_session.specs.State.{IsClosed, SessionState};
+    ghost use Rattle.ingest_session.specs.Due.{due_in};
     ghost use Rattle.ingest_session.specs.Stream.{HasTaken};
     ghost use Rattle.ingest_session.specs.Settling.{IsBeside, IsClosing, NeedsStep, PassesFront, PassesNode, Settles, seen};
     ghost use Rattle.ingest_session.specs.Told.{IsSettled};

@@ -1,5 +1,5 @@
 //! What the store answered to the step that was due.
-ghost use Rattle.std.specs.Prelude.{◌≡◌, ℕ, List, Bool, true, false, length, None, IsSome, IfSome, if◌then◌else◌};
+ghost use Rattle.std.specs.Prelude.{◌≡◌, ℕ, List, false, length, None, IsSome, IfSome, if◌then◌else◌};
 ghost use Rattle.container_meta.specs.Segments.{CanAdd, has_room};
 ghost use Rattle.ingest_session.specs.Filling.{with_segment};
 
@@ -23,9 +23,8 @@ fn add_to(filled: &mut OpenContainer, seg: &Option<Seg>) -> Fit
 }
 
 impl Session {
-    ghost use Rattle.store_model.specs.Trees.{leaf_key, node_key};
     ghost use Rattle.ingest_session.specs.State.{HasItem, IsClosed};
-    ghost use Rattle.ingest_session.specs.Due.{due_in, item_is_held, item_kind};
+    ghost use Rattle.ingest_session.specs.Due.{due_in, item_is_held};
     ghost use Rattle.ingest_session.specs.Stream.{HasTaken};
     ghost use Rattle.ingest_session.specs.Told.{IsAnswerFor, IsSettled, absent_item, emptied, placed_item, sealed, told_by};
 

@@ -1,6 +1,4 @@
-use Rattle.std.proofs.Common.{◌≡◌, false, Some, sym, ap, ◌∙◌, rules}
-use Rattle.container_meta.specs.Segments.{has_key}
-use Rattle.store_model.specs.Trees.{node_key}
+use Rattle.std.proofs.Common.{rules}
 use Rattle.ingest_session.proofs.Fitting.{can_add_node}
 use Rattle.ingest_session.proofs.session.Session.add_node.Goals as goal
 

@@ -1,9 +1,6 @@
-use Rattle.std.proofs.Common.{◌≡◌, ◌∙◌, ◌∷◌, ◌++◌, ℕ, List, [], None, drop, length, sym, subst, ap, refl, rules}
-use Rattle.sha2.specs.Sha256.{sha256}
+use Rattle.std.proofs.Common.{◌≡◌, None, length, sym, subst, ap, rules}
 use Rattle.container_meta.specs.Segments.{KindSegment}
-use Rattle.merkle_file.specs.declared.node.Child.{Child}
 use Rattle.merkle_file.specs.Tree.{of_segment}
-use Rattle.merkle_file.specs.Building.{Holds}
 use Rattle.ingest_session.specs.contracts.session.Session.{the_view}
 use Rattle.ingest_session.specs.State.{SessionState}
 use Rattle.ingest_session.specs.Stream.{HasTaken}

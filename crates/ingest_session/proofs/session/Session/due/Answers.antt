@@ -1,4 +1,4 @@
-use Rattle.std.proofs.Common.{◌≡◌, ap, ◌∙◌, sym}
+use Rattle.std.proofs.Common.{ap}
 use Rattle.ingest_session.specs.State.{SessionState}
 use Rattle.ingest_session.proofs.session.Session.due.Goals as goal
 

@@ -1,10 +1,5 @@
-use Rattle.std.proofs.Common.{◌≡◌, ◌≤◌, length, sym, subst, rules}
-use Rattle.container_meta.specs.declared.kind.Kind.{Kind}
-use Rattle.actor_parts.specs.Segments.{AreStepSegments}
-use Rattle.ingest_session.specs.contracts.session.Session.{the_view}
-use Rattle.ingest_session.specs.Due.{open_of}
+use Rattle.std.proofs.Common.{subst}
 use Rattle.ingest_session.specs.Sound.{IsSession}
-use Rattle.ingest_session.specs.State.{SessionState}
 use Rattle.ingest_session.proofs.SealsSome.{leaves_are_right, seal_holds_some}
 use Rattle.ingest_session.proofs.session.Session.filled.Goals as goal
 

@@ -1,8 +1,7 @@
-use Rattle.std.proofs.Common.{◌≡◌, ◌≤◌, ◌∙◌, List, ℕ, true, false, None, [], length, sym, subst, ap, append-nil, rules}
-use Rattle.segmenter.specs.Cutting.{Hand, whole_segments, empty_hand}
-use Rattle.segmenter.specs.Segments.{segments_of}
+use Rattle.std.proofs.Common.{◌≡◌, ◌≤◌, ◌∙◌, true, false, None, length, sym, subst, ap, append-nil, rules}
+use Rattle.segmenter.specs.Cutting.{Hand, empty_hand}
 use Rattle.ingest_session.specs.contracts.session.Session.{the_view}
-use Rattle.ingest_session.specs.State.{SessionState, is_last, rest_of}
+use Rattle.ingest_session.specs.State.{SessionState}
 use Rattle.ingest_session.specs.Stream.{HasTaken}
 use Rattle.ingest_session.proofs.AtEnd.{ended_before_last, ended_has_taken, ended_with_rest}
 use Rattle.ingest_session.proofs.session.Session.finish.Goals as goal

@@ -1,6 +1,6 @@
 use Rattle.std.proofs.Common.{◌≡◌, true, None, rules}
 use Rattle.ingest_session.specs.Due.{needs_no_step}
-use Rattle.ingest_session.specs.Settling.{Settles, Stays, Then, Advanced, Closed, PlacedFront}
+use Rattle.ingest_session.specs.Settling.{Stays, Then, Advanced, Closed, PlacedFront}
 use Rattle.ingest_session.proofs.session.Session.pass_front.Goals as goal
 
 pub returns-in_err-advance-clause-settles : goal.returns-in_err-advance-clause-settles

@@ -1,6 +1,6 @@
 use Rattle.std.proofs.Common.{◌≡◌, true, IsSome, rules}
 use Rattle.ingest_session.specs.Due.{needs_no_step}
-use Rattle.ingest_session.specs.Settling.{Settles, Stays, Then, Spelled, PlacedNode}
+use Rattle.ingest_session.specs.Settling.{Stays, Then, Spelled, PlacedNode}
 use Rattle.ingest_session.proofs.session.Session.pass_node.Goals as goal
 
 pub returns-in_err-spell-clause-settles : goal.returns-in_err-spell-clause-settles

@@ -1,5 +1,5 @@
-use Rattle.std.proofs.Common.{◌≡◌, false, refl, rules}
-use Rattle.ingest_session.specs.Settling.{IsBeside, Stays}
+use Rattle.std.proofs.Common.{refl, rules}
+use Rattle.ingest_session.specs.Settling.{Stays}
 use Rattle.ingest_session.proofs.Settled.{settles_on}
 use Rattle.ingest_session.proofs.session.Session.pass_nodes.Goals as goal
 

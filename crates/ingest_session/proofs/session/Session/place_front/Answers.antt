@@ -1,4 +1,4 @@
-use Rattle.std.proofs.Common.{◌≡◌, ℕ, List, sym, subst, ap, IsSome, Option, rules}
+use Rattle.std.proofs.Common.{sym, subst, IsSome}
 use Rattle.ingest_session.specs.contracts.session.Session.{the_view}
 use Rattle.ingest_session.specs.State.{SessionState}
 use Rattle.ingest_session.specs.Stream.{HasTaken}

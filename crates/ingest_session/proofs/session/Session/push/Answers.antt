@@ -1,6 +1,5 @@
-use Rattle.std.proofs.Common.{◌≡◌, ◌≤◌, ◌++◌, ◌+◌, ◌∙◌, length, take, drop, arith, sym, ap, append_assoc, rules}
+use Rattle.std.proofs.Common.{take, drop, append_assoc, rules}
 use Rattle.std.proofs.Math.Seq.{take-add}
-use Rattle.ingest_session.specs.Stream.{HasTaken}
 use Rattle.ingest_session.proofs.Takes.{takes_more}
 use Rattle.ingest_session.proofs.session.Session.push.Goals as goal
 

@@ -1,4 +1,4 @@
-use Rattle.std.proofs.Common.{◌≡◌, List, ℕ, true, sym, subst, rules}
+use Rattle.std.proofs.Common.{◌≡◌, true, sym, subst, rules}
 use Rattle.ingest_session.specs.contracts.session.Session.{the_view}
 use Rattle.ingest_session.specs.State.{SessionState}
 use Rattle.ingest_session.specs.Stream.{HasTaken}

@@ -1,6 +1,4 @@
-use Rattle.std.proofs.Common.{◌≡◌, ◌++◌, ◌∷◌, ◌≤◌, ℕ, [], true, List, length, sym, subst, ap, ◌∙◌, take, rules, false, refl}
-use Rattle.disk_format.specs.declared.numbers.TheConstants.{LEAST_SEGMENT}
-use Rattle.segmenter.specs.Cutting.{Hand, HasCut, whole_segments, empty_hand}
+use Rattle.std.proofs.Common.{◌≡◌, true, sym, subst, ◌∙◌, rules, false, refl}
 use Rattle.segmenter.proofs.RunLemmas.{shown_more}
 use Rattle.ingest_session.specs.contracts.session.Session.{the_view}
 use Rattle.ingest_session.specs.State.{SessionState}

@@ -7,3 +7,4 @@ pub mod Settled
 pub mod Fitting
 pub mod AtEnd
 pub mod SealsSome
+pub mod Sealing

@@ -15,7 +15,7 @@ use Rattle.ingest_session.specs.State.{SessionState}
 
 -- An item that waits is the same item afterwards.
 abbrev pub KeepsItem : SessionState → SessionState → Type 0
-KeepsItem old new = old.waits ≡ true → item_of new.node new.queue ≡ item_of old.node old.queue
+KeepsItem old new = old.waits ≡ true → (new.node ≡ old.node) × (item_of new.node new.queue ≡ item_of old.node old.queue)
 
 -- So many bytes were taken: what is in hand may have changed, and segments may wait after those that waited. Nothing else
 -- changed.

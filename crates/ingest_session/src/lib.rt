@@ -12,6 +12,7 @@
 mod asking;
 mod due;
 mod ending;
+mod laws;
 mod placing;
 mod queue;
 mod session;
@@ -19,4 +20,5 @@ mod settling;
 mod telling;
 
 pub use due::Due;
+pub use laws::seals_were_absent;
 pub use session::Session;

@@ -1,0 +1,8 @@
+//! Laws of many calls, for those who stand on them. Their functions do nothing.
+ghost use Rattle.ingest_session.specs.Runs.{SealsWereAbsent};
+
+/// What was sealed, what lies in an open container and what waits for it are the segments whose claims were answered Absent,
+/// each once and in order, after calls in any order.
+pub fn seals_were_absent()
+    ensures { SealsWereAbsent }
+{}

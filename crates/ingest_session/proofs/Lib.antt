@@ -8,3 +8,4 @@ pub mod Fitting
 pub mod AtEnd
 pub mod SealsSome
 pub mod Sealing
+pub mod Claims

@@ -1,13 +1,11 @@
 -- A node is claimed after the containers of its children were sealed.
-use Rattle.std.proofs.Common.{◌≡◌, ◌∙◌, Bool, true, false, if◌then◌else◌, Option, Some, None, ap, refl, sym}
+use Rattle.std.proofs.Common.{◌≡◌, ◌∙◌, Bool, true, false, if◌then◌else◌, ap, refl, sym}
 use Rattle.container_meta.specs.declared.kind.Kind.{Kind}
-use Rattle.merkle_file.specs.Node as node
 use Rattle.actor_parts.specs.Segments.{child_kind}
 use Rattle.ingest_session.specs.declared.due.Due.{Due}
 use Rattle.ingest_session.specs.declared.due.Due.TheVariants.{Claim, Seal}
 use Rattle.ingest_session.specs.Child.{has_child_of}
-use Rattle.ingest_session.specs.Due.{due_in, item_due, item_kind, open_of}
-use Rattle.ingest_session.specs.State.{SessionState}
+use Rattle.ingest_session.specs.Due.{item_due, item_kind, open_of}
 use Rattle.ingest_session.specs.Children.{ClaimsHaveNoOpenChild}
 
 unsealed : (b : Bool) (k : Kind) (due : Due) → (if b then Seal k else due) ≡ Claim → (b ≡ false) × (due ≡ Claim)

@@ -9,3 +9,4 @@ pub mod AtEnd
 pub mod SealsSome
 pub mod Sealing
 pub mod Claims
+pub mod Counts

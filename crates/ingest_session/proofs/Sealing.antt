@@ -1,5 +1,5 @@
 -- What was sealed was answered Absent.
-use Rattle.std.proofs.Common.{◌≡◌, ◌∙◌, ℕ, Bool, true, false, ◌&&◌, not, if◌then◌else◌, List, [], ◌∷◌, ◌++◌, Option, Some, None, IsSome, refl, sym, ap, subst, append_assoc, append-nil}
+use Rattle.std.proofs.Common.{◌≡◌, ◌∙◌, ℕ, Bool, true, false, ◌&&◌, not, if◌then◌else◌, List, [], ◌∷◌, ◌++◌, Option, Some, None, refl, sym, ap, append_assoc, append-nil}
 use Rattle.container_meta.specs.declared.kind.Kind.{Kind}
 use Rattle.container_meta.specs.declared.kind.Kind.TheVariants.{Leaf, Tree}
 use Rattle.container_meta.specs.Segments.{Contents, Segment}
@@ -9,14 +9,13 @@ use Rattle.actor_parts.specs.declared.step.Answer.TheVariants.{Held, Absent, Sea
 use Rattle.ingest_session.specs.declared.due.Due.{Due}
 use Rattle.ingest_session.specs.declared.due.Due.TheVariants.{Claim, Seal}
 use Rattle.ingest_session.specs.Calls.{IsEnding, IsTaking, KeepsItem}
-use Rattle.ingest_session.specs.Due.{due_in, item_due, item_is_there, item_kind, needs_no_step, open_of}
+use Rattle.ingest_session.specs.Due.{due_in, item_due, item_is_there, item_kind, open_of}
 use Rattle.ingest_session.specs.Filling.{with_segment}
 use Rattle.ingest_session.specs.Items.{fits, item_of}
-use Rattle.ingest_session.specs.Moving.{IsAdvanced, IsSpelledOut}
-use Rattle.ingest_session.specs.Settling.{Settles, SettleStep, Stays, Then, Spelled, Advanced, Closed, PlacedNode, PlacedFront, IsClosing}
+use Rattle.ingest_session.specs.Settling.{Settles, SettleStep, Stays, Then, Spelled, Advanced, Closed, PlacedNode, PlacedFront}
 use Rattle.ingest_session.specs.State.{SessionState}
 use Rattle.ingest_session.specs.Told.{IsAnswerFor, absent_item, added_item, emptied, placed_front, placed_item, placed_node, sealed, told_by, with_open}
-use Rattle.ingest_session.specs.Runs.{Ran, Begun, Pushed, Ended, Asked, Told, SealsWereAbsent, absent_by, item_if, same_kind, sealed_for, sealed_of, waiting}
+use Rattle.ingest_session.specs.Runs.{Ran, Begun, Pushed, Ended, Asked, Told, SealsWereAbsent, absent_by, item_if, same_kind, sealed_of, waiting}
 
 -- what a container holds and what waits for it
 abbrev pub kept : Kind → SessionState → List Segment
@@ -27,13 +26,13 @@ waits_not kind s off = ap (λ (b : Bool). if b then item_if kind s else []) off
 
 -- ---- an item in its place
 
-open_placed : (n : Option node.Contents) (s : SessionState) (kind : Kind) → open_of (placed_item n s) kind ≡ open_of s kind
+pub open_placed : (n : Option node.Contents) (s : SessionState) (kind : Kind) → open_of (placed_item n s) kind ≡ open_of s kind
 open_placed None s Leaf = refl
 open_placed None s Tree = refl
 open_placed (Some n) s Leaf = refl
 open_placed (Some n) s Tree = refl
 
-waits_placed : (n : Option node.Contents) (s : SessionState) → (placed_item n s).waits ≡ s.waits
+pub waits_placed : (n : Option node.Contents) (s : SessionState) → (placed_item n s).waits ≡ s.waits
 waits_placed None s = refl
 waits_placed (Some n) s = refl
 
@@ -53,7 +52,7 @@ with_item s Leaf Tree item = sym (append-nil s.leaves.segments)
 with_item s Tree Leaf item = sym (append-nil s.nodes.segments)
 with_item s Tree Tree item = refl
 
-waits_with : (s : SessionState) (kind : Kind) (c : Contents) → (with_open kind c s).waits ≡ s.waits
+pub waits_with : (s : SessionState) (kind : Kind) (c : Contents) → (with_open kind c s).waits ≡ s.waits
 waits_with s Leaf c = refl
 waits_with s Tree c = refl
 
@@ -109,7 +108,7 @@ claim_off : (waits : Bool) (k : Kind) (due : Due) → (if waits then Seal k else
 claim_off false k due is = refl
 claim_off true k due is = absurd (cc)
 
-claims_off : (s : SessionState) → due_in s ≡ Claim → s.waits ≡ false
+pub claims_off : (s : SessionState) → due_in s ≡ Claim → s.waits ≡ false
 claims_off s is = claim_off s.waits (item_kind s.node) (item_due s s.node) is
 
 pub told_kept : (kind : Kind) (answer : Answer) (s : SessionState) → IsAnswerFor answer (due_in s) →

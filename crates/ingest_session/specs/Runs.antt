@@ -46,8 +46,10 @@ sealed_of kind other s = []
 -- that were sealed, each in order.
 pub data Ran (kind : Kind) : SessionState → List Segment → List Segment → Type 0 where
   Begun : (s : SessionState) → s.waits ≡ false → (open_of s kind).segments ≡ [] → Ran kind s [] []
-  Pushed : (s t : SessionState) (absent sealed : List Segment) (n : ℕ) → Ran kind s absent sealed → IsTaking n s t → Ran kind t absent sealed
-  Ended : (s t : SessionState) (absent sealed : List Segment) → Ran kind s absent sealed → IsEnding s t → Ran kind t absent sealed
+  Pushed : (s t : SessionState) (absent sealed : List Segment) (n : ℕ) → Ran kind s absent sealed → IsTaking n s t
+      → Ran kind t absent sealed
+  Ended : (s t : SessionState) (absent sealed : List Segment) → Ran kind s absent sealed → IsEnding s t
+      → Ran kind t absent sealed
   Asked : (s t u : SessionState) (absent sealed : List Segment) → Ran kind s absent sealed → Settles s t
       → u ≡ record t { unseen = u.unseen } → Ran kind u absent sealed
   Told : (s : SessionState) (answer : Answer) (absent sealed : List Segment) → Ran kind s absent sealed → IsAnswerFor answer (due_in s)

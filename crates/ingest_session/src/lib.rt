@@ -20,5 +20,5 @@ mod settling;
 mod telling;
 
 pub use due::Due;
-pub use laws::{claims_have_no_open_child, seals_were_absent};
+pub use laws::{claims_have_no_open_child, seals_were_absent, steps_are_few};
 pub use session::Session;

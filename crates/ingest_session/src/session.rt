@@ -136,7 +136,8 @@ impl Session {
         ensures err { OnErr result (self.new ≡ self.old) }
         ensures all { IfOk result (λ n. n < length bytes.now → QUEUE ≤ length self.new.queue + self.new.unseen) }
         ensures takes { IfOk result (λ n. IsTaking n self.old self.new) }
-        ensures bytes { IfOk result (λ n. (given : List ℕ) → HasTaken self.old given → HasTaken self.new (given ++ take n bytes.now)) }
+        ensures bytes { IfOk result (λ n. (given : List ℕ) → HasTaken self.old given
+            → HasTaken self.new (given ++ take n bytes.now)) }
     {
         if self.ended {
             return Err(Refusal::WrongPart {

@@ -113,7 +113,7 @@ impl Session {
     }
 
     /// The step of the store that is due. Items that need none are put in their place before. It fails for want of memory
-    /// alone, and the session then answers all that follows as before.
+    /// alone; some of those items may be in their place then, and `queued` answers as before.
     pub fn due(&mut self) -> Result<Due, AllocError>
         ensures due { IfOk result (λ due. due ≡ due_in self.new) }
         ensures ok { OnOk result (IsSettled self.new) }

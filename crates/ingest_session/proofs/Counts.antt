@@ -1,0 +1,122 @@
+-- There are at most two steps for each item.
+use Rattle.std.proofs.Common.{◌≡◌, ◌≤◌, ℕ, ◌+◌, ◌*◌, Bool, true, false, if◌then◌else◌, List, [], ◌∷◌, Option, Some, None, length, refl, ap, arith, rules}
+use Rattle.container_meta.specs.declared.kind.Kind.{Kind}
+use Rattle.container_meta.specs.declared.kind.Kind.TheVariants.{Leaf, Tree}
+use Rattle.container_meta.specs.Segments.{Contents, Segment}
+use Rattle.merkle_file.specs.Node as node
+use Rattle.actor_parts.specs.declared.step.Answer.{Answer}
+use Rattle.actor_parts.specs.declared.step.Answer.TheVariants.{Held, Absent, Sealed}
+use Rattle.ingest_session.specs.declared.due.Due.TheVariants.{Seal}
+use Rattle.ingest_session.specs.Due.{due_in, item_kind, open_of}
+use Rattle.ingest_session.specs.Filling.{with_segment}
+use Rattle.ingest_session.specs.Items.{fits, item_of}
+use Rattle.ingest_session.specs.Settling.{SettleStep, Spelled, Advanced, Closed, PlacedNode, PlacedFront}
+use Rattle.ingest_session.specs.State.{SessionState}
+use Rattle.ingest_session.specs.Told.{IsAnswerFor, absent_item, added_item, emptied, placed_item, told_by, with_open}
+use Rattle.ingest_session.specs.Counting.{Counted, Begun, Pushed, Ended, Moved, Refused, Told, StepsAreFew, moved, one_if, placed_by}
+use Rattle.ingest_session.proofs.Sealing.{claims_off}
+
+-- one, where a container isn't empty
+some_in : List Segment → ℕ
+some_in [] = 0
+some_in (s ∷ ss) = 1
+
+filled_in : SessionState → ℕ
+filled_in s = some_in s.leaves.segments + some_in s.nodes.segments
+
+at_most_one : (ss : List Segment) → some_in ss ≤ 1
+unfolding some_in
+at_most_one [] = search rules
+at_most_one (s ∷ ss) = search rules
+
+one_there : (ss : List Segment) → 1 ≤ length ss → some_in ss ≡ 1
+unfolding some_in
+one_there [] some = absurd (omega (arith, some))
+one_there (s ∷ ss) some = refl
+
+-- an item is put in its place: the open containers and what waits stay
+filled_placed : (n : Option node.Contents) (s : SessionState) → filled_in (placed_item n s) ≡ filled_in s
+unfolding filled_in
+filled_placed None s = refl
+filled_placed (Some n) s = refl
+
+filled_with : (s : SessionState) (kind : Kind) (c : Contents) → filled_in (with_open kind c s) ≤ filled_in s + 1
+unfolding filled_in
+filled_with s Leaf c = let most = at_most_one c.segments in omega (arith, most)
+filled_with s Tree c = let most = at_most_one c.segments in omega (arith, most)
+
+filled_emptied : (s : SessionState) (kind : Kind) → 1 ≤ length (open_of s kind).segments →
+    filled_in (record (emptied kind s) { waits = false }) + 1 ≡ filled_in s
+unfolding filled_in some_in
+filled_emptied s Leaf some = let one = one_there s.leaves.segments some in omega (arith, one)
+filled_emptied s Tree some = let one = one_there s.nodes.segments some in omega (arith, one)
+
+unwaited : (s : SessionState) (kind : Kind) → filled_in (record (emptied kind s) { waits = false }) ≡ filled_in (emptied kind s)
+unfolding filled_in
+unwaited s Leaf = refl
+unwaited s Tree = refl
+
+filled_waiting : (s : SessionState) → filled_in (record s { waits = true }) ≡ filled_in s
+unfolding filled_in
+filled_waiting s = refl
+
+after_absent : SessionState → Bool → SessionState
+after_absent s fit = if fit then placed_item s.node (added_item s) else record s { waits = true }
+
+absent_few : (s : SessionState) (fit : Bool) → s.waits ≡ false →
+    filled_in (after_absent s fit) + 1 ≤ filled_in s + 2 * one_if fit + one_if (after_absent s fit).waits
+unfolding after_absent
+absent_few s true off =
+    let same = filled_placed s.node (added_item s) in
+    let more = filled_with s (item_kind s.node) (with_segment (open_of s (item_kind s.node)) (item_of s.node s.queue)) in omega (arith, same, more)
+absent_few s false off = let same = filled_waiting s in omega (arith, same)
+
+sealed_few : (s : SessionState) (kind : Kind) (waits : Bool) → s.waits ≡ waits → 1 ≤ length (open_of s kind).segments →
+    let t : SessionState = if waits then absent_item (record (emptied kind s) { waits = false }) else emptied kind s in
+    filled_in t + 1 + one_if waits
+    ≤ filled_in s + 2 * (if waits then one_if (fits (record (emptied kind s) { waits = false })) else 0) + one_if t.waits
+unfolding after_absent
+sealed_few s kind true on some =
+    let gone = filled_emptied s kind some in
+    let few = absent_few (record (emptied kind s) { waits = false }) (fits (record (emptied kind s) { waits = false })) refl in
+    omega (arith, gone, few)
+sealed_few s kind false off some =
+    let gone = filled_emptied s kind some in
+    let same = unwaited s kind in omega (arith, gone, same)
+
+told_few : (answer : Answer) (s : SessionState) → IsAnswerFor answer (due_in s) →
+    ((kind : Kind) → due_in s ≡ Seal kind → 1 ≤ length (open_of s kind).segments) →
+    filled_in (told_by answer s) + 1 + one_if s.waits ≤ filled_in s + 2 * placed_by answer s + one_if (told_by answer s).waits
+unfolding after_absent
+told_few Held s is some =
+    let same = filled_placed s.node s in
+    let off = ap one_if (claims_off s is) in omega (arith, same, off)
+told_few Absent s is some =
+    let few = absent_few s (fits s) (claims_off s is) in
+    let off = ap one_if (claims_off s is) in omega (arith, few, off)
+told_few (Sealed id) s is some = rw is.1 (sealed_few s is.0 s.waits refl (some is.0 is.1))
+told_few other s is some = absurd is
+
+moved_few : (s t : SessionState) (step : SettleStep s t) → filled_in t + one_if s.waits ≤ filled_in s + 2 * moved step + one_if t.waits
+unfolding filled_in
+moved_few s t (Spelled _ _ is) = rw is (search rules)
+moved_few s t (Advanced _ _ is) = rw is.others (search rules)
+moved_few s t (Closed _ _ is) = rw is (search rules)
+moved_few s t (PlacedNode _ _ none some is) = rw is (search rules)
+moved_few s t (PlacedFront _ _ none empty is) = rw is (search rules)
+
+all_few : (s : SessionState) (steps placed : ℕ) → Counted s steps placed → steps + filled_in s ≤ 2 * placed + one_if s.waits
+unfolding filled_in some_in
+all_few s steps placed (Begun _ off leaves nodes) = rw (leaves, nodes, off) (search rules)
+all_few t steps placed (Pushed s _ _ _ n counted is) = rw is.others (all_few s steps placed counted)
+all_few t steps placed (Ended s _ _ _ counted is) = rw is.others (all_few s steps placed counted)
+all_few t steps placed (Refused s _ _ _ counted is) = rw is (all_few s steps placed counted)
+all_few t steps more (Moved s _ _ placed counted step) =
+    let before = all_few s steps placed counted in
+    let step_is = moved_few s t step in omega (arith, before, step_is)
+all_few _ _ _ (Told s answer steps placed counted is some) =
+    let before = all_few s steps placed counted in
+    let few = told_few answer s is some in omega (arith, before, few)
+
+pub steps_are_few : StepsAreFew
+steps_are_few s steps placed counted = let few = all_few s steps placed counted in omega (arith, few)

@@ -1,0 +1,12 @@
+pub mod Lists
+pub mod Rests
+pub mod Taking
+pub mod Takes
+pub mod Placed
+pub mod Settled
+pub mod Fitting
+pub mod AtEnd
+pub mod SealsSome
+pub mod Sealing
+pub mod Claims
+pub mod Counts

@@ -1,0 +1,36 @@
+-- What the builder of a tree is still to be given.
+use Rattle.std.proofs.Common.{◌≡◌, ◌≤◌, ℕ, false, List, [], ◌∷◌, ◌++◌, Option, Some, None, length, refl, ap, ◌∙◌}
+use Rattle.disk_format.specs.declared.numbers.TheConstants.{LEAST_SEGMENT}
+use Rattle.container_meta.specs.Segments.{KindSegment, Segment, has_room}
+use Rattle.merkle_file.specs.Node as node
+use Rattle.ingest_session.specs.Due.{item_kind, open_of}
+use Rattle.ingest_session.specs.Items.{fits, item_of}
+use Rattle.ingest_session.specs.State.{SessionState, HasItem, rest_after, IsAhead, AreLong}
+
+pub rest_grows : (ahead : Option KindSegment) (queue : List (List ℕ)) (x : List ℕ) → IsAhead ahead queue →
+    rest_after ahead (queue ++ x ∷ []) ≡ rest_after ahead queue ++ x ∷ []
+rest_grows None queue x is = refl
+rest_grows (Some seg) [] x is = absurd is
+rest_grows (Some seg) (y ∷ ys) x is = search
+
+pub ahead_stays : (ahead : Option KindSegment) (queue : List (List ℕ)) (x : List ℕ) → IsAhead ahead queue → IsAhead ahead (queue ++ x ∷ [])
+ahead_stays None queue x is = tt
+ahead_stays (Some seg) [] x is = absurd is
+ahead_stays (Some seg) (y ∷ ys) x is = is
+
+pub long_and_one : (rest : List (List ℕ)) (x : List ℕ) → AreLong false rest → LEAST_SEGMENT ≤ length x → AreLong false (rest ++ x ∷ [])
+long_and_one [] x long one = (λ _. one, tt)
+long_and_one (y ∷ ys) x long one = (λ _. long.0 refl, long_and_one ys x long.1 one)
+
+-- an item that waits stays the same
+pub item_stays : (n : Option node.Contents) (spelled ahead : Option KindSegment) (queue : List (List ℕ)) (x : List ℕ) → HasItem n spelled ahead →
+    IsAhead ahead queue → item_of n (queue ++ x ∷ []) ≡ item_of n queue
+item_stays (Some n) spelled ahead queue x has is = refl
+item_stays None spelled None queue x has is = absurd has
+item_stays None spelled (Some seg) [] x has is = absurd is
+item_stays None spelled (Some seg) (y ∷ ys) x has is = refl
+
+pub full_stays : (s : SessionState) (x : List ℕ) → HasItem s.node s.spelled s.ahead → IsAhead s.ahead s.queue → fits s ≡ false →
+    fits (record s { queue = s.queue ++ x ∷ [] }) ≡ false
+full_stays s x has is full =
+    ap (λ (i : Segment). has_room (open_of s (item_kind s.node)) (length i.bytes)) (item_stays s.node s.spelled s.ahead s.queue x has is) ∙ full

@@ -1,0 +1,95 @@
+-- A container that is to be sealed holds a segment at least.
+use Rattle.std.proofs.Common.{◌≡◌, ◌≤◌, ◌∙◌, ℕ, Bool, true, false, if◌then◌else◌, List, [], ◌∷◌, Option, Some, None, length, refl, ap, subst, arith, rules}
+use Rattle.std.specs.List.{AllByRecursion, list_any}
+use Rattle.base_model.specs.Bytes.{key_of}
+use Rattle.disk_format.specs.declared.numbers.TheConstants.{DATA_BYTES}
+use Rattle.container_meta.specs.declared.kind.Kind.{Kind}
+use Rattle.container_meta.specs.declared.kind.Kind.TheVariants.{Leaf, Tree}
+use Rattle.container_meta.specs.Format.{kind_byte}
+use Rattle.container_meta.specs.Segments.{Contents, KindSegment, Segment, has_key, has_room}
+use Rattle.merkle_file.specs.declared.node.Child.{Child}
+use Rattle.merkle_file.specs.Node as node
+use Rattle.merkle_file.specs.Node.{spelling}
+use Rattle.merkle_file.specs.Reading.{contents_in}
+use Rattle.merkle_file.proofs.InPlace.{length_spelling}
+use Rattle.actor_parts.specs.Segments.{AreStepSegments, IsStepSegment, child_kind, node_segment}
+use Rattle.ingest_session.specs.declared.due.Due.TheVariants.{Claim, Seal}
+use Rattle.ingest_session.specs.Child.{has_child_of}
+use Rattle.ingest_session.specs.Due.{due_in, end_due, item_due, item_kind, open_of, queue_due}
+use Rattle.ingest_session.specs.Items.{item_of}
+use Rattle.ingest_session.specs.Sound.{IsSession}
+use Rattle.ingest_session.specs.State.{SessionState, HasItem, IsSized, IsSpelled}
+
+-- data may always stand in a step
+pub leaves_are_right : (segments : List Segment) → AreStepSegments Leaf segments
+leaves_are_right [] = tt
+leaves_are_right (s ∷ ss) = (tt, leaves_are_right ss)
+
+-- ---- a container that an item doesn't fit into
+
+empty_has_room : (filled : Contents) (n : ℕ) → n ≤ DATA_BYTES → has_room filled n ≡ false → filled.segments ≡ [] → ⊥
+empty_has_room filled n few full none =
+    let all : has_room (record filled { segments = [] }) n ≡ true = search rules in
+    let same = ap (λ (ss : List Segment). has_room (record filled { segments = ss }) n) none in search rules
+
+some_or_none : (segments : List Segment) → (segments ≡ [] → ⊥) → 1 ≤ length segments
+some_or_none [] none = absurd (none refl)
+some_or_none (s ∷ ss) none = search rules
+
+item_is_small : (n : Option node.Contents) (spelled ahead : Option KindSegment) (queue : List (List ℕ)) → HasItem n spelled ahead →
+    IsSpelled spelled n → AllByRecursion IsSized queue → length (item_of n queue).bytes ≤ DATA_BYTES
+item_is_small None spelled ahead [] has is sized = search rules
+item_is_small None spelled ahead (x ∷ xs) has is sized = let few = sized.0.1 in omega (arith, few)
+item_is_small (Some n) None ahead queue has is sized = absurd has
+item_is_small (Some n) (Some seg) ahead queue has is sized =
+    let here : IsStepSegment (node_segment n) = subst IsStepSegment is.0 is.1 in
+    let long = ap length here.bytes.spelled ∙ length_spelling (contents_in (spelling n)) here.bytes.node in
+    let few = here.bytes.node.most in omega (arith, long, few)
+
+-- ---- a container that has a child
+
+no_key : (filled : Contents) (key : List ℕ) → filled.segments ≡ [] → has_key filled key ≡ false
+no_key filled key none = rw none refl
+
+no_child : (filled : Contents) (kind : Kind) (cs : List Child) → filled.segments ≡ [] →
+    list_any (λ (c : Child). has_key filled (key_of (kind_byte kind) c.digest)) cs ≡ false
+no_child filled kind [] none = refl
+no_child filled kind (c ∷ cs) none =
+    let this = no_key filled (key_of (kind_byte kind) c.digest) none in
+    let others = no_child filled kind cs none in search rules
+
+seal_is : (k l : Kind) → Seal k ≡ Seal l → k ≡ l
+seal_is k l is = cc
+
+node_some : (s : SessionState) (n : node.Contents) (b : Bool) (kind : Kind) → has_child_of (open_of s (child_kind n.level)) n ≡ b →
+    (if b then Seal (child_kind n.level) else Claim) ≡ Seal kind → 1 ≤ length (open_of s kind).segments
+node_some s n true kind is due =
+    subst (λ (k : Kind). 1 ≤ length (open_of s k).segments) (seal_is _ _ due)
+    (some_or_none _ (λ none. let no_one = no_child (open_of s (child_kind n.level)) (child_kind n.level) n.children none in search rules))
+node_some s n false kind is due = absurd (cc)
+
+end_some : (s : SessionState) (kind : Kind) → end_due s ≡ Seal kind → 1 ≤ length (open_of s kind).segments
+end_some s Leaf due = search rules
+end_some s Tree due = search rules
+
+queue_some : (s : SessionState) (queue : List (List ℕ)) (kind : Kind) → queue_due s queue ≡ Seal kind → 1 ≤ length (open_of s kind).segments
+queue_some s [] kind due = end_some s kind due
+queue_some s (x ∷ xs) kind due = absurd (cc)
+
+item_some : (s : SessionState) (n : Option node.Contents) (kind : Kind) → item_due s n ≡ Seal kind → 1 ≤ length (open_of s kind).segments
+item_some s (Some n) kind due = node_some s n _ kind refl due
+item_some s None kind due = queue_some s s.queue kind due
+
+waiting_some : (s : SessionState) (kind : Kind) → IsSession s → s.waits ≡ true → item_kind s.node ≡ kind → 1 ≤ length (open_of s kind).segments
+waiting_some s kind is on same =
+    subst (λ (k : Kind). 1 ≤ length (open_of s k).segments) same
+    (some_or_none _ (empty_has_room (open_of s (item_kind s.node)) (length (item_of s.node s.queue).bytes)
+    (item_is_small s.node s.spelled s.ahead s.queue (is.waits on).0 is.spelled is.sized) (is.full on)))
+
+due_some : (s : SessionState) (waits : Bool) (kind : Kind) → IsSession s → s.waits ≡ waits →
+    (if waits then Seal (item_kind s.node) else item_due s s.node) ≡ Seal kind → 1 ≤ length (open_of s kind).segments
+due_some s true kind is on due = waiting_some s kind is on (seal_is _ _ due)
+due_some s false kind is on due = item_some s s.node kind due
+
+pub seal_holds_some : (s : SessionState) (kind : Kind) → IsSession s → due_in s ≡ Seal kind → 1 ≤ length (open_of s kind).segments
+seal_holds_some s kind is due = due_some s s.waits kind is refl due

@@ -1,0 +1,92 @@
+-- A segment that is whole is put into the queue.
+use Rattle.std.proofs.Common.{◌≡◌, ◌≤◌, ◌<◌, ◌+◌, ◌∙◌, ℕ, Bool, true, false, List, [], ◌∷◌, ◌++◌, Option, Some, None, length, take, refl, sym, ap, subst, arith, sum_by, append_assoc, length-append, zero-add}
+use Rattle.std.proofs.lemmas.List.{length-take-le}
+use Rattle.std.proofs.lemmas.List.Sums.{sum_by-append}
+use Rattle.disk_format.specs.declared.numbers.TheConstants.{LEAST_SEGMENT, MOST_FILE}
+use Rattle.segmenter.specs.declared.cutting.Taken.{Taken}
+use Rattle.segmenter.specs.Cutting.{Hand, Takes, IsOne, HasCut, empty_hand}
+use Rattle.merkle_file.specs.declared.top.Top.{Top}
+use Rattle.ingest_session.specs.declared.queue.TheConstants.{QUEUE}
+use Rattle.ingest_session.specs.Sound.{IsSession}
+use Rattle.ingest_session.specs.State.{SessionState, IsWhole, rest_of, rest_after, is_last, AreLong}
+use Rattle.ingest_session.specs.Stream.{HasTaken, IsCutInto}
+use Rattle.ingest_session.proofs.Lists.{all_and_one}
+use Rattle.ingest_session.proofs.Rests.{rest_grows, ahead_stays, full_stays, long_and_one}
+
+-- a segment was cut off, and waits
+abbrev pub cut_off : SessionState → ℕ → List ℕ → SessionState
+cut_off s n x = record s { count = s.count + n; hand = empty_hand; queue = s.queue ++ x ∷ [] }
+
+sum_and_one : (rest : List (List ℕ)) (x : List ℕ) → sum_by length (rest ++ x ∷ []) ≡ sum_by length rest + length x
+sum_and_one rest x = sum_by-append length rest (x ∷ []) ∙ ap (λ n. sum_by length rest + n) (zero-add (length x))
+
+never_whole : (top : Option Top) (last other : Bool) → IsWhole top last → last ≡ false → IsWhole top other
+never_whole None last other whole lasts = tt
+never_whole (Some top) last other whole lasts = absurd (cc)
+
+ongoing_is_not_last : (rest : List (List ℕ)) (ended : Bool) → ended ≡ false → is_last ended rest ≡ false
+ongoing_is_not_last rest false on = refl
+ongoing_is_not_last rest true on = absurd (cc)
+
+long_more : (ended : Bool) (rest : List (List ℕ)) (x : List ℕ) → ended ≡ false → AreLong ended rest → LEAST_SEGMENT ≤ length x → AreLong ended (rest ++ x ∷ [])
+long_more false rest x on long one = long_and_one rest x long one
+long_more true rest x on long one = absurd (cc)
+
+not_last_and_one : (ended : Bool) (queue : List (List ℕ)) (x : List ℕ) → is_last ended (queue ++ x ∷ []) ≡ true → ⊥
+not_last_and_one false queue x last = cc
+not_last_and_one true [] x last = cc
+not_last_and_one true (y ∷ ys) x last = cc
+
+module _ (s : SessionState) (bytes : List ℕ) (taken : Taken) (hand : Hand) (is : IsSession s) (ongoing : s.ended ≡ false) where
+  pub cut_off_is_session : s.count + length bytes ≤ MOST_FILE → length s.queue + s.unseen < QUEUE → Takes s.hand bytes taken hand → taken.whole ≡ true
+      → LEAST_SEGMENT ≤ length hand.bytes → IsOne hand.bytes → IsSession (cut_off s taken.taken hand.bytes)
+  cut_off_is_session few room takes whole least one =
+      let grows = rest_grows s.ahead s.queue hand.bytes is.ahead in
+      let long : length hand.bytes ≡ length s.hand.bytes + taken.taken =
+      ap length takes.bytes ∙ length-append s.hand.bytes (take taken.taken bytes) ∙ ap (λ n. length s.hand.bytes + n) (length-take-le taken.taken bytes takes.within) in
+      let more : length (s.queue ++ hand.bytes ∷ []) ≡ length s.queue + 1 = length-append s.queue (hand.bytes ∷ []) in
+      record {
+        data_kind = is.data_kind;
+        tree_kind = is.tree_kind;
+        few = omega (arith, few, takes.within);
+        hand = refl;
+        room = λ _. omega (arith, more, room);
+        most = omega (arith, more, room);
+        sized = all_and_one _ s.queue hand.bytes is.sized (omega (arith, least), one.at_most);
+        ahead = ahead_stays s.ahead s.queue hand.bytes is.ahead;
+        spelled = is.spelled;
+        building = record {
+          bytes = λ on. let before = is.building.bytes on in
+              let sum = ap (sum_by length) grows ∙ sum_and_one (rest_of s) hand.bytes in omega (arith, before, sum, long);
+          long = subst (λ (r : List (List ℕ)). AreLong s.ended r) (sym grows) (long_more s.ended (rest_of s) hand.bytes ongoing is.building.long least);
+          counted = λ on _. is.building.counted on (ongoing_is_not_last (rest_of s) s.ended ongoing);
+        };
+        whole = never_whole s.top (is_last s.ended (rest_of s)) _ is.whole (ongoing_is_not_last (rest_of s) s.ended ongoing);
+        closed = λ last. absurd (not_last_and_one s.ended s.queue hand.bytes last);
+        next = is.next;
+        nodes_right = is.nodes_right;
+        alone = is.alone;
+        full = λ on. full_stays s hand.bytes (is.waits on).0 is.ahead (is.full on);
+        waits = λ on. ((is.waits on).0, λ _ last. absurd (not_last_and_one s.ended (rest_of s) hand.bytes (ap (is_last s.ended) (sym grows) ∙ last)));
+      }
+
+  cut_more : (ended : Bool) (given more x : List ℕ) (segments : List (List ℕ)) → ended ≡ false →
+      (HasCut given (segments ++ rest_of s) s.hand → HasCut more ((segments ++ rest_of s) ++ x ∷ []) empty_hand) →
+      IsCutInto ended given (segments ++ rest_of s) s.hand → IsCutInto ended more (segments ++ rest_after s.ahead (s.queue ++ x ∷ [])) empty_hand
+  cut_more true given more x segments on step cut = absurd (cc)
+  cut_more false given more x segments on step cut =
+      subst (λ (r : List (List ℕ)). HasCut more r empty_hand)
+      (append_assoc segments (rest_of s) (x ∷ []) ∙ ap (λ (r : List (List ℕ)). segments ++ r) (sym (rest_grows s.ahead s.queue x is.ahead)))
+      (step cut)
+
+  pub cut_off_has_taken : (given : List ℕ) → taken.taken ≤ length bytes →
+      ((segments : List (List ℕ)) → HasCut given segments s.hand → HasCut (given ++ take taken.taken bytes) (segments ++ hand.bytes ∷ []) empty_hand) →
+      HasTaken s given → HasTaken (cut_off s taken.taken hand.bytes) (given ++ take taken.taken bytes)
+  cut_off_has_taken given within step has = record {
+    segments = has.segments;
+    taken = has.taken;
+    cut = cut_more s.ended given (given ++ take taken.taken bytes) hand.bytes has.segments ongoing (step (has.segments ++ rest_of s)) has.cut;
+    built = has.built;
+    counted = ap (λ n. n + taken.taken) has.counted
+        ∙ sym (length-append given (take taken.taken bytes) ∙ ap (λ n. length given + n) (length-take-le taken.taken bytes within));
+  }

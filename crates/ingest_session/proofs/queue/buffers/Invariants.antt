@@ -1,0 +1,8 @@
+use Rattle.std.proofs.Common.{◌≡◌, ◌≤◌, length, vec_capacity}
+use Rattle.std.specs.List.{AllByRecursion}
+use Rattle.ingest_session.specs.declared.queue.TheConstants.{BUFFERS}
+use Rattle.ingest_session.specs.Buffers.{IsBuffer}
+use Rattle.ingest_session.proofs.queue.buffers.Given as goal
+
+abbrev pub invariant-loop : goal.invariant-loop
+invariant-loop l = (length l.spare.items ≡ l.counter) × (BUFFERS ≤ vec_capacity l.spare) × AllByRecursion IsBuffer l.spare.items

@@ -1,0 +1,8 @@
+use Rattle.std.proofs.Common.{rules}
+use Rattle.ingest_session.proofs.Fitting.{can_add_node}
+use Rattle.ingest_session.proofs.session.Session.add_node.Goals as goal
+
+pub add_to-requires-clause-can : goal.add_to-requires-clause-can
+add_to-requires-clause-can c =
+    can_add_node c.self.inside.nodes c.self.inside.spelled c.self.inside.ahead c.self.inside.node c.self.invariant.tree_kind c.self.invariant.spelled
+    (λ m is. search rules)

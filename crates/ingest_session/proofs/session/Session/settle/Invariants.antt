@@ -1,0 +1,15 @@
+use Rattle.std.proofs.Common.{◌≡◌, ℕ, List, false, length}
+use Rattle.ingest_session.specs.Stream.{HasTaken}
+use Rattle.ingest_session.specs.Settling.{Settles, seen}
+use Rattle.ingest_session.proofs.session.Session.settle.Given as goal
+
+abbrev pub invariant-loop : goal.invariant-loop
+invariant-loop l = record {
+  waits : l.self.waits ≡ false;
+  settles : Settles l.initial.self l.self;
+  seen_is : seen l.self ≡ seen l.initial.self;
+  bytes : (given : List ℕ) → HasTaken l.initial.self given → HasTaken l.self given;
+}
+
+abbrev pub decreases-loop : goal.decreases-loop
+decreases-loop l = length l.self.queue

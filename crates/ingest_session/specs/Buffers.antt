@@ -1,0 +1,26 @@
+-- The memory of a queue: buffers for all segments that may wait at once.
+use Rattle.std.specs.Prelude.{◌≡◌, ℕ, ◌+◌, ◌≤◌, List, length, vec_capacity}
+use Rattle.std.specs.Global.{Vec}
+use Rattle.std.specs.List.{AllByRecursion}
+use Rattle.disk_format.specs.declared.numbers.TheConstants.{MOST_SEGMENT}
+use Rattle.ingest_session.specs.declared.queue.TheConstants.{BUFFERS}
+
+-- a buffer has room for a segment
+abbrev pub IsBuffer : Vec ℕ → Type 0
+IsBuffer buffer = MOST_SEGMENT ≤ vec_capacity buffer
+
+-- a buffer that a segment is in
+abbrev pub IsFilled : Vec ℕ → Type 0
+IsFilled buffer = IsBuffer buffer × (length buffer.items ≤ MOST_SEGMENT)
+
+-- all buffers are spare
+abbrev pub AreSpare : Vec (Vec ℕ) → Type 0
+AreSpare spare = (length spare.items ≡ BUFFERS) × (BUFFERS ≤ vec_capacity spare) × AllByRecursion IsBuffer spare.items
+
+-- each buffer is spare or has a segment that waits, and there is room for all of them on both sides
+pub record IsQueue (waiting : List (Vec ℕ)) (capacity : ℕ) (spare : Vec (Vec ℕ)) : Type 0 where
+  pub all : length waiting + length spare.items ≡ BUFFERS
+  pub room_waiting : BUFFERS ≤ capacity
+  pub room_spare : BUFFERS ≤ vec_capacity spare
+  pub filled : AllByRecursion IsFilled waiting
+  pub empty : AllByRecursion IsBuffer spare.items

@@ -1,0 +1,67 @@
+-- What the calls of a session do to it.
+use Rattle.std.specs.Prelude.{◌≡◌, ◌≤◌, ℕ, ◌+◌, Bool, true, false, nat_lt, if◌then◌else◌, List, [], ◌∷◌, ◌++◌, length, Option, Some, None, IsSome, Result, Ok, Err}
+use Rattle.disk_format.specs.declared.numbers.TheConstants.{MOST_FILE}
+use Rattle.refusals.specs.declared.refusal.Refusal.{Refusal}
+use Rattle.refusals.specs.declared.refusal.Refusal.TheVariants.{Memory, TooLong, WrongPart}
+use Rattle.refusals.specs.declared.refusal.PartKind.TheVariants.{Finished}
+use Rattle.disk_format.specs.Cells.{Root}
+use Rattle.segmenter.specs.Cutting.{empty_hand}
+use Rattle.merkle_file.specs.declared.top.Top.{Top}
+use Rattle.ingest_session.specs.declared.due.Due.{Due}
+use Rattle.ingest_session.specs.declared.due.Due.TheVariants.{Nothing}
+use Rattle.ingest_session.specs.Due.{due_in}
+use Rattle.ingest_session.specs.Items.{item_of}
+use Rattle.ingest_session.specs.State.{SessionState}
+
+-- An item that waits is the same item afterwards.
+abbrev pub KeepsItem : SessionState → SessionState → Type 0
+KeepsItem old new = old.waits ≡ true → (new.node ≡ old.node) × (item_of new.node new.queue ≡ item_of old.node old.queue)
+
+-- So many bytes were taken: what is in hand may have changed, and segments may wait after those that waited. Nothing else
+-- changed.
+pub record IsTaking (taken : ℕ) (old new : SessionState) : Type 0 where
+  pub count : new.count ≡ old.count + taken
+  pub more : List (List ℕ)
+  pub queue : new.queue ≡ old.queue ++ more
+  pub item : KeepsItem old new
+  pub others : new ≡ record old { count = new.count; hand = new.hand; queue = new.queue }
+
+-- why a push of so many bytes is refused, if it is
+abbrev pub push_refusal : SessionState → ℕ → Option Refusal
+push_refusal s bytes =
+    if s.ended then Some (WrongPart Finished)
+    else if nat_lt MOST_FILE (s.count + bytes) then Some TooLong
+    else None
+
+-- A push answers how many bytes it took, or is refused exactly so.
+abbrev pub IsPushAnswer : SessionState → ℕ → Result ℕ Refusal → Type 0
+IsPushAnswer s bytes (Ok n) = (push_refusal s bytes ≡ None) × (n ≤ bytes)
+IsPushAnswer s bytes (Err refusal) = push_refusal s bytes ≡ Some refusal
+
+-- A finish is refused exactly after one, or for want of memory.
+abbrev pub IsFinishAnswer : SessionState → Result (Unit {0}) Refusal → Type 0
+IsFinishAnswer s (Ok u) = s.ended ≡ false
+IsFinishAnswer s (Err Memory) = s.ended ≡ false
+IsFinishAnswer s (Err (WrongPart Finished)) = s.ended ≡ true
+IsFinishAnswer s (Err refusal) = ⊥
+
+-- What the end of the file changes: what is in hand is in the queue. Where the builder has all segments, the tree is whole,
+-- and its next node has its turn.
+pub record IsEnding (old new : SessionState) : Type 0 where
+  pub ended : new.ended ≡ true
+  pub queue : new.queue ≡ old.queue ++ (if nat_lt 0 (length old.hand.bytes) then old.hand.bytes ∷ [] else [])
+  pub node : IsSome old.node → new.node ≡ old.node
+  pub item : KeepsItem old new
+  pub others : new ≡ record old { ended = true; hand = empty_hand; queue = new.queue; node = new.node; built = new.built; top = new.top }
+
+abbrev pub root_by : ℕ → Option Top → Option Root
+root_by count None = None
+root_by count (Some top) = Some (record { length = count; level = top.level; digest = top.digest })
+
+abbrev pub ready_by : Bool → Due → ℕ → Option Top → Option Root
+ready_by true Nothing count top = root_by count top
+ready_by ended due count top = None
+
+-- the root, where the file has ended and nothing is due
+abbrev pub ready_in : SessionState → Option Root
+ready_in s = ready_by s.ended (due_in s) s.count s.top

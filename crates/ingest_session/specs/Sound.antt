@@ -1,0 +1,28 @@
+-- What holds of every session.
+use Rattle.std.specs.Prelude.{◌≡◌, ◌≤◌, ◌+◌, true, false, [], length, None, IsSome}
+use Rattle.std.specs.List.{AllByRecursion}
+use Rattle.disk_format.specs.declared.numbers.TheConstants.{MOST_FILE}
+use Rattle.container_meta.specs.declared.kind.Kind.TheVariants.{Leaf, Tree}
+use Rattle.actor_parts.specs.Segments.{AreStepSegments}
+use Rattle.ingest_session.specs.declared.queue.TheConstants.{QUEUE, BUFFERS}
+use Rattle.ingest_session.specs.Items.{fits}
+use Rattle.ingest_session.specs.State.{SessionState, HasItem, IsAhead, IsBuilding, IsClosed, IsSized, IsSpelled, IsWhole, is_last, rest_of}
+
+pub record IsSession (s : SessionState) : Type 0 where
+  pub data_kind : s.leaves.kind ≡ Leaf
+  pub tree_kind : s.nodes.kind ≡ Tree
+  pub few : s.count ≤ MOST_FILE
+  pub hand : s.hand.whole ≡ false
+  pub room : s.ended ≡ false → length s.queue + s.unseen ≤ QUEUE
+  pub most : length s.queue + s.unseen ≤ BUFFERS
+  pub sized : AllByRecursion IsSized s.queue
+  pub ahead : IsAhead s.ahead s.queue
+  pub spelled : IsSpelled s.spelled s.node
+  pub building : IsBuilding s
+  pub whole : IsWhole s.top (is_last s.ended (rest_of s))
+  pub closed : is_last s.ended s.queue ≡ true → IsSome s.top
+  pub next : s.node ≡ None → s.ahead ≡ None → s.built.finished ≡ []
+  pub nodes_right : AreStepSegments Tree s.nodes.segments
+  pub alone : IsSome s.node → s.ahead ≡ None
+  pub waits : s.waits ≡ true → HasItem s.node s.spelled s.ahead × IsClosed s
+  pub full : s.waits ≡ true → fits s ≡ false

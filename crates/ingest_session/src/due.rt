@@ -1,0 +1,35 @@
+//! Which step of the store is due.
+ghost use Rattle.std.specs.Prelude.{◌≡◌, ◌≤◌};
+ghost use Rattle.actor_parts.specs.Segments.{child_kind as kind_below};
+ghost use Rattle.ingest_session.specs.Child.{has_child_of};
+
+use container_meta::{Kind, OpenContainer, key_of};
+use merkle_file::Node;
+
+/// The step of the store that a session needs next.
+#[derive(Clone, Copy)]
+pub enum Due {
+    /// A claim of the segment whose turn it is: `Session::offered`.
+    Claim,
+    /// A seal of the open container of a kind: `Session::filled`.
+    Seal(Kind),
+    /// None, until more is pushed. After `finish` the file is held.
+    Nothing,
+}
+
+/// The kind of the children of a node of a level.
+pub(crate) fn child_kind(level: u8) -> Kind
+    ensures { result ≡ kind_below level }
+{
+    if level == 1 { Kind::Leaf } else { Kind::Tree }
+}
+
+/// Whether a child of the node lies in the container.
+pub(crate) fn has_child(filled: &OpenContainer, node: &Node) -> bool
+    ensures { result ≡ has_child_of filled.now node.now }
+{
+    let kind = child_kind(node.level());
+    node.children()
+        .iter()
+        .any(|child| filled.has(&key_of(kind, &child.digest)))
+}

@@ -1,0 +1,81 @@
+//! The end of a file, and its root.
+ghost use Rattle.std.specs.Prelude.{◌≡◌, ℕ, List, Bool, true, false, IfSome, OnErr, OnOk};
+ghost use Rattle.store_model.specs.Trees.{root_of};
+
+use crate::due::Due;
+use crate::placing::next_node;
+use crate::session::Session;
+use merkle_file::tree_of_segments;
+use namespace::Root;
+use refusals::{PartKind, Refusal};
+
+impl Session {
+    ghost use Rattle.ingest_session.specs.State.{is_last, rest_of};
+    ghost use Rattle.ingest_session.specs.Stream.{HasTaken};
+    ghost use Rattle.ingest_session.specs.Calls.{IsFinishAnswer, IsEnding, ready_in};
+
+    /// Whether the builder has all segments of the queue.
+    fn has_all(&self) -> bool
+        ensures { result ≡ is_last true (rest_of self.now) }
+    {
+        match &self.ahead {
+            Some(_) => self.queue.len() == 1,
+            None => self.queue.len() == 0,
+        }
+    }
+
+    /// Ends the bytes of the file: what is in hand is the last segment. It refuses after it was called, and for want of
+    /// memory, and changes nothing then.
+    pub fn finish(&mut self) -> Result<(), Refusal>
+        ensures refusal { IsFinishAnswer self.old result }
+        ensures err { OnErr result (self.new ≡ self.old) }
+        ensures ok { OnOk result (IsEnding self.old self.new) }
+        ensures bytes { (given : List ℕ) → HasTaken self.old given → HasTaken self.new given }
+    {
+        if self.ended {
+            return Err(Refusal::WrongPart {
+                part: PartKind::Finished,
+            });
+        }
+        if self.cutter.finish() {
+            self.queue.push(self.cutter.segment());
+            self.cutter.next();
+            self.ended = true;
+            return Ok(());
+        }
+        if !self.has_all() {
+            self.ended = true;
+            return Ok(());
+        }
+        let top = self.builder.finish()?;
+        self.top = Some(top);
+        self.ended = true;
+        if self.ahead.is_some() || self.node.is_some() {
+            return Ok(());
+        }
+        self.node = next_node(&mut self.builder);
+        Ok(())
+    }
+
+    /// The root of the file, where all bytes were given and nothing is due.
+    pub fn ready(&self) -> Option<Root>
+        ensures ready { result ≡ ready_in self.now }
+        ensures root { (given : List ℕ) → HasTaken self.now given → IfSome result (λ root. root ≡ root_of given) }
+    {
+        tree_of_segments();
+        if !self.ended {
+            return None;
+        }
+        match self.due_now() {
+            Due::Nothing => match &self.top {
+                Some(top) => Some(Root {
+                    length: self.count,
+                    level: top.level,
+                    digest: top.digest,
+                }),
+                None => None,
+            },
+            _ => None,
+        }
+    }
+}

@@ -1,0 +1,86 @@
+//! Segments and nodes that go to their place in the tree.
+ghost use Rattle.std.specs.Prelude.{◌≡◌, ◌<◌, ◌≤◌, ℕ, List, true, false, IsSome, OnErr, OnOk, length, None};
+ghost use Rattle.ingest_session.specs.Finished.{first_node, without_first};
+
+use crate::session::Session;
+use actor_parts::node_seg;
+use container_meta::Seg;
+use merkle_file::{Child, Node, TreeBuilder};
+use std::alloc::AllocError;
+
+/// Takes the first finished node.
+pub(crate) fn next_node(builder: &mut TreeBuilder) -> Option<Node>
+    ensures node { result ≡ first_node builder.old }
+    ensures rest { builder.new ≡ without_first builder.old }
+{
+    builder.take()
+}
+
+impl Session {
+    ghost use Rattle.ingest_session.specs.State.{is_last, rest_of};
+    ghost use Rattle.ingest_session.specs.Stream.{HasTaken};
+    ghost use Rattle.ingest_session.specs.Told.{placed_node, placed_front};
+    ghost use Rattle.ingest_session.specs.Moving.{IsAdvanced, IsSpelledOut};
+
+    /// Makes the segment of the node whose turn it is. Where there is no memory, nothing changes.
+    pub(crate) fn spell(&mut self) -> Result<(), AllocError>
+        ensures ok { OnOk result (IsSpelledOut self.old self.new) }
+        ensures err { OnErr result (self.new ≡ self.old) }
+    {
+        if let Some(node) = &self.node {
+            if self.spelled.is_none() {
+                self.spelled = Some(node_seg(self.alloc, node)?);
+            }
+        }
+        Ok(())
+    }
+
+    /// Gives the builder the first segment of the queue, if it doesn't have it yet. Where there is no memory, nothing changes.
+    pub(crate) fn advance(&mut self) -> Result<(), AllocError>
+        requires some { 0 < length self.old.queue }
+        requires node { self.old.node ≡ None }
+        ensures ok { OnOk result (IsAdvanced self.old self.new) }
+        ensures err { OnErr result (self.new ≡ self.old) }
+        ensures bytes { (given : List ℕ) → HasTaken self.old given → HasTaken self.new given }
+    {
+        if self.ahead.is_some() {
+            return Ok(());
+        }
+        let seg = Seg::leaf(self.alloc, self.queue.front())?;
+        let child = Child {
+            digest: seg.digest(),
+            length: seg.bytes().len() as u64,
+        };
+        self.builder.push(child)?;
+        self.ahead = Some(seg);
+        Ok(())
+    }
+
+    /// Puts the node whose turn it is in its place.
+    pub(crate) fn place_node(&mut self)
+        requires node { IsSome self.old.node }
+        requires waits { self.old.waits ≡ false }
+        ensures placed { self.new ≡ placed_node self.old }
+        ensures bytes { (given : List ℕ) → HasTaken self.old given → HasTaken self.new given }
+    {
+        self.node = next_node(&mut self.builder);
+        self.spelled = None;
+    }
+
+    /// Puts the first segment of the queue in its place. `more` is 1 in a call that may still be refused.
+    pub(crate) fn place_front(&mut self, more: usize)
+        requires more { more ≤ 1 }
+        requires ahead { IsSome self.old.ahead }
+        requires node { self.old.node ≡ None }
+        requires waits { self.old.waits ≡ false }
+        requires closed { is_last self.old.ended (rest_of self.old) ≡ true → IsSome self.old.top }
+        ensures placed { self.new ≡ placed_front more self.old }
+        ensures bytes { (given : List ℕ) → HasTaken self.old given → HasTaken self.new given }
+    {
+        self.queue.pop();
+        self.ahead = None;
+        self.node = next_node(&mut self.builder);
+        self.spelled = None;
+        self.unseen += more;
+    }
+}

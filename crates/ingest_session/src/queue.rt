@@ -1,0 +1,112 @@
+//! The segments of a session that wait for their turn.
+ghost use Rattle.std.specs.Prelude.{◌≡◌, ◌+◌, ◌<◌, ◌≤◌, [], ◌∷◌, ◌++◌, IfOk, drop, length, map, vec_len, vec_capacity};
+ghost use Rattle.std.specs.List.{AllByRecursion};
+ghost use Rattle.ingest_session.specs.Buffers.{IsBuffer, AreSpare};
+
+use disk_format::MOST_SEGMENT;
+use std::alloc::{AllocError, Global};
+use std::collections::VecDeque;
+use std::marker::Model;
+
+/// How many segments wait at most while the file goes on.
+pub const QUEUE: usize = 64;
+/// The same with the rest of the file, which its end adds.
+pub(crate) const BUFFERS: usize = 65;
+
+/// Segments in the order in which they came. It takes the memory for all of them when it is made.
+#[derive(Drop)]
+pub struct Queue {
+    waiting: VecDeque<Vec<u8>>,
+    spare: Vec<Vec<u8>>,
+}
+
+impl Model for Queue {
+    ghost use Rattle.std.specs.Prelude.{ℕ, List, map};
+
+    ghost Value = { List (List ℕ) };
+
+    ghost view = { λ q. map (λ b. b.items) q.waiting.items };
+
+    ghost use Rattle.std.specs.VecDeque.{deque_capacity};
+    ghost use Rattle.ingest_session.specs.Buffers.{IsQueue};
+
+    ghost invariant = { λ q. IsQueue q.waiting.items (deque_capacity q.waiting) q.spare };
+}
+
+/// So many buffers, each with room for a segment.
+fn buffers(alloc: Global) -> Result<Vec<Vec<u8>>, AllocError>
+    ensures spare { IfOk result AreSpare }
+{
+    let mut spare = Vec::with_capacity(alloc, BUFFERS)?;
+    for _ in 0..BUFFERS {
+        spare.push_reserved(Vec::with_capacity(alloc, MOST_SEGMENT as usize)?);
+    }
+    Ok(spare)
+}
+
+/// Puts bytes in a buffer, which has room for them, in place of those that it has.
+fn refill(buffer: &mut Vec<u8>, bytes: &[u8])
+    requires buffer { MOST_SEGMENT ≤ vec_capacity buffer.old }
+    requires at_most { length bytes.now ≤ MOST_SEGMENT }
+    ensures items { buffer.new.items ≡ bytes.now }
+    ensures capacity { MOST_SEGMENT ≤ vec_capacity buffer.new }
+{
+    buffer.clear();
+    buffer.extend_from_slice(bytes).unwrap();
+}
+
+impl Queue {
+    /// No segments. It fails for want of memory alone, and no later call takes any.
+    pub fn new(alloc: Global) -> Result<Queue, AllocError>
+        ensures { IfOk result (λ q. q ≡ []) }
+    {
+        Ok(Queue {
+            waiting: VecDeque::with_capacity(alloc, BUFFERS)?,
+            spare: buffers(alloc)?,
+        })
+    }
+
+    /// How many segments wait.
+    pub fn len(&self) -> usize
+        ensures value { result ≡ length self.now }
+        ensures at_most { length self.now ≤ BUFFERS }
+    {
+        self.waiting.len()
+    }
+
+    /// Adds a segment at the end.
+    pub fn push(&mut self, segment: &[u8])
+        requires room { length self.old < BUFFERS }
+        requires at_most { length segment.now ≤ MOST_SEGMENT }
+        ensures { self.new ≡ self.old ++ segment.now ∷ [] }
+    {
+        match self.spare.pop() {
+            Some(buffer) => {
+                let mut buffer = buffer;
+                refill(&mut buffer, segment);
+                self.waiting.push_back_reserved(buffer);
+            }
+            None => unreachable!(),
+        }
+    }
+
+    /// The bytes of the first segment.
+    pub fn front(&self) -> &[u8]
+        requires { 0 < length self.now }
+        ensures first { self.now ≡ result.now ∷ drop 1 self.now }
+        ensures at_most { length result.now ≤ MOST_SEGMENT }
+    {
+        self.waiting[0].as_slice()
+    }
+
+    /// Takes the first segment away.
+    pub fn pop(&mut self)
+        requires { 0 < length self.old }
+        ensures { self.new ≡ drop 1 self.old }
+    {
+        match self.waiting.pop_front() {
+            Some(buffer) => self.spare.push_reserved(buffer),
+            None => unreachable!(),
+        }
+    }
+}

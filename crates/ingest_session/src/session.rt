@@ -1,0 +1,164 @@
+//! A session: the bytes of a file as they come.
+ghost use Rattle.std.specs.Prelude.{◌≡◌, ◌+◌, ◌<◌, ◌≤◌, ℕ, false, List, [], ◌++◌, IfOk, OnErr, length, take};
+
+use crate::queue::{QUEUE, Queue};
+use container_meta::{Kind, OpenContainer, Seg};
+use disk_format::MOST_FILE;
+use merkle_file::{Node, Top, TreeBuilder};
+use refusals::{PartKind, Refusal};
+use segmenter::Cutter;
+use std::alloc::{AllocError, Global};
+use std::marker::Model;
+
+/// The bytes of a file as they come, and what of them the store is still to hold.
+///
+/// It takes the memory of its queue and of two open containers when it is made.
+#[derive(Drop)]
+pub struct Session {
+    pub(crate) alloc: Global,
+    /// How many bytes were taken.
+    pub(crate) count: u64,
+    /// No more bytes are to come.
+    pub(crate) ended: bool,
+    pub(crate) cutter: Cutter,
+    pub(crate) queue: Queue,
+    /// The first segment of the queue, where the builder has it already.
+    pub(crate) ahead: Option<Seg>,
+    /// The first finished node that isn't in its place.
+    pub(crate) node: Option<Node>,
+    /// The same as a segment, where that was made.
+    pub(crate) spelled: Option<Seg>,
+    pub(crate) builder: TreeBuilder,
+    /// The root, where the tree is whole.
+    pub(crate) top: Option<Top>,
+    pub(crate) leaves: OpenContainer,
+    pub(crate) nodes: OpenContainer,
+    /// The item whose turn it is was answered Absent and didn't fit.
+    pub(crate) waits: bool,
+    /// How many segments were put in their place by a call that was refused after it.
+    pub(crate) unseen: usize,
+}
+
+impl Model for Session {
+    ghost use Rattle.ingest_session.specs.State.{SessionState};
+    ghost use Rattle.ingest_session.specs.Sound.{IsSession};
+
+    ghost Value = { SessionState };
+
+    ghost view = { λ s. record {
+      count = s.count;
+      ended = s.ended;
+      hand = s.cutter;
+      queue = s.queue;
+      ahead = s.ahead;
+      node = s.node;
+      spelled = s.spelled;
+      built = s.builder;
+      top = s.top;
+      leaves = s.leaves;
+      nodes = s.nodes;
+      waits = s.waits;
+      unseen = s.unseen;
+    } };
+
+    ghost invariant = { λ s. IsSession (record {
+      count = s.count;
+      ended = s.ended;
+      hand = s.cutter;
+      queue = s.queue;
+      ahead = s.ahead;
+      node = s.node;
+      spelled = s.spelled;
+      built = s.builder;
+      top = s.top;
+      leaves = s.leaves;
+      nodes = s.nodes;
+      waits = s.waits;
+      unseen = s.unseen;
+    }) };
+}
+
+impl Session {
+    ghost use Rattle.ingest_session.specs.Stream.{HasTaken};
+    ghost use Rattle.ingest_session.specs.Calls.{IsTaking, IsPushAnswer};
+
+    /// A session that was given nothing. It fails for want of memory alone.
+    pub fn new(alloc: Global) -> Result<Session, AllocError>
+        ensures nothing { IfOk result (λ s. HasTaken s []) }
+        ensures ongoing { IfOk result (λ s. s.ended ≡ false) }
+        ensures queue { IfOk result (λ s. s.queue ≡ []) }
+        ensures open { IfOk result (λ s. (s.leaves.segments ≡ []) × (s.nodes.segments ≡ [])) }
+        ensures waits { IfOk result (λ s. s.waits ≡ false) }
+    {
+        Ok(Session {
+            alloc,
+            count: 0,
+            ended: false,
+            cutter: Cutter::new(alloc)?,
+            queue: Queue::new(alloc)?,
+            ahead: None,
+            node: None,
+            spelled: None,
+            builder: TreeBuilder::new(alloc)?,
+            top: None,
+            leaves: OpenContainer::new(alloc, Kind::Leaf)?,
+            nodes: OpenContainer::new(alloc, Kind::Tree)?,
+            waits: false,
+            unseen: 0,
+        })
+    }
+
+    /// Takes bytes up to the end of the segment in hand, which then waits for its turn, and says how many.
+    fn take_piece(&mut self, bytes: &[u8]) -> usize
+        requires ongoing { self.old.ended ≡ false }
+        requires room { length self.old.queue + self.old.unseen < QUEUE }
+        requires some { 0 < length bytes.now }
+        requires few { self.old.count + length bytes.now ≤ MOST_FILE }
+        ensures some { 0 < result }
+        ensures within { result ≤ length bytes.now }
+        ensures takes { IsTaking result self.old self.new }
+        ensures bytes { (given : List ℕ) → HasTaken self.old given → HasTaken self.new (given ++ take result bytes.now) }
+    {
+        let step = self.cutter.push(bytes);
+        self.count += step.taken as u64;
+        if !step.whole {
+            return step.taken;
+        }
+        self.queue.push(self.cutter.segment());
+        self.cutter.next();
+        step.taken
+    }
+
+    /// Takes the next bytes of the file, and says how many of them. These are fewer than all only where the queue holds 64
+    /// segments. It takes no memory, and refuses after `finish`, and where the file would be longer than a file may be.
+    pub fn push(&mut self, bytes: &[u8]) -> Result<usize, Refusal>
+        ensures refusal { IsPushAnswer self.old (length bytes.now) result }
+        ensures err { OnErr result (self.new ≡ self.old) }
+        ensures all { IfOk result (λ n. n < length bytes.now → QUEUE ≤ length self.new.queue + self.new.unseen) }
+        ensures takes { IfOk result (λ n. IsTaking n self.old self.new) }
+        ensures bytes { IfOk result (λ n. (given : List ℕ) → HasTaken self.old given
+            → HasTaken self.new (given ++ take n bytes.now)) }
+    {
+        if self.ended {
+            return Err(Refusal::WrongPart {
+                part: PartKind::Finished,
+            });
+        }
+        if bytes.len() as u64 > MOST_FILE - self.count {
+            return Err(Refusal::TooLong);
+        }
+        let mut taken = 0;
+        while taken < bytes.len() && self.queued() < QUEUE {
+            let (_, rest) = bytes.split_at(taken);
+            taken += self.take_piece(rest);
+        }
+        Ok(taken)
+    }
+
+    /// How many segments the queue holds.
+    pub fn queued(&self) -> usize
+        ensures { result ≡ length self.now.queue + self.now.unseen }
+    {
+        self.queue.len() + self.unseen
+    }
+}

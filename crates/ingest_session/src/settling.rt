@@ -1,0 +1,129 @@
+//! Items that need no step are put in their place.
+ghost use Rattle.std.specs.Prelude.{◌≡◌, ◌<◌, ℕ, List, false, IfOk, IsSome, OnErr, OnOk, length, None};
+
+use crate::due::Due;
+use crate::session::Session;
+use std::alloc::AllocError;
+
+impl Session {
+    ghost use Rattle.ingest_session.specs.State.{IsClosed, SessionState};
+    ghost use Rattle.ingest_session.specs.Due.{due_in};
+    ghost use Rattle.ingest_session.specs.Stream.{HasTaken};
+    ghost use Rattle.ingest_session.specs.Settling.{IsBeside, IsClosing, NeedsStep, PassesFront, PassesNode, Settles, seen};
+    ghost use Rattle.ingest_session.specs.Told.{IsSettled};
+
+    /// Makes the tree whole, where the first segment of the queue is the last. Where there is no memory, nothing changes.
+    fn close(&mut self) -> Result<(), AllocError>
+        requires ahead { IsSome self.old.ahead }
+        requires node { self.old.node ≡ None }
+        ensures ok { OnOk result (IsClosing self.old self.new) }
+        ensures closed { OnOk result (IsClosed self.new) }
+        ensures err { OnErr result (self.new ≡ self.old) }
+        ensures bytes { (given : List ℕ) → HasTaken self.old given → HasTaken self.new given }
+    {
+        if !self.ended || self.queue.len() != 1 || self.top.is_some() {
+            return Ok(());
+        }
+        let top = self.builder.finish()?;
+        self.top = Some(top);
+        Ok(())
+    }
+
+    /// Tries to put the node whose turn it is in its place. Where there is no memory, nothing changes.
+    fn pass_node(&mut self) -> Result<bool, AllocError>
+        requires node { IsSome self.old.node }
+        requires waits { self.old.waits ≡ false }
+        ensures ok { IfOk result (λ passed. PassesNode passed self.old self.new) }
+        ensures settles { Settles self.old self.new }
+        ensures err { OnErr result (self.new ≡ self.old) }
+        ensures seen { seen self.new ≡ seen self.old }
+        ensures bytes { (given : List ℕ) → HasTaken self.old given → HasTaken self.new given }
+    {
+        self.spell()?;
+        if !self.item_is_there() {
+            return Ok(false);
+        }
+        self.place_node();
+        Ok(true)
+    }
+
+    /// Puts finished nodes in their place, up to one that needs a step.
+    fn pass_nodes(&mut self) -> Result<(), AllocError>
+        requires waits { self.old.waits ≡ false }
+        ensures ok { OnOk result (NeedsStep self.new) }
+        ensures beside { OnOk result (IsBeside self.old self.new) }
+        ensures settles { Settles self.old self.new }
+        ensures seen { seen self.new ≡ seen self.old }
+        ensures bytes { (given : List ℕ) → HasTaken self.old given → HasTaken self.new given }
+    {
+        while self.node.is_some() {
+            if !self.pass_node()? {
+                return Ok(());
+            }
+        }
+        Ok(())
+    }
+
+    /// Tries to put the first segment of the queue in its place.
+    fn pass_front(&mut self) -> Result<bool, AllocError>
+        requires some { 0 < length self.old.queue }
+        requires node { self.old.node ≡ None }
+        requires waits { self.old.waits ≡ false }
+        ensures ok { IfOk result (λ passed. PassesFront passed self.old self.new) }
+        ensures settles { Settles self.old self.new }
+        ensures seen { seen self.new ≡ seen self.old }
+        ensures bytes { (given : List ℕ) → HasTaken self.old given → HasTaken self.new given }
+    {
+        self.advance()?;
+        self.close()?;
+        if !self.item_is_there() {
+            return Ok(false);
+        }
+        self.place_front(1);
+        Ok(true)
+    }
+
+    /// Puts items in their place, up to one that needs a step. Where an item waits, none is.
+    fn settle(&mut self) -> Result<(), AllocError>
+        ensures ok { OnOk result (IsSettled self.new) }
+        ensures settles { Settles self.old self.new }
+        ensures seen { seen self.new ≡ seen self.old }
+        ensures bytes { (given : List ℕ) → HasTaken self.old given → HasTaken self.new given }
+    {
+        if self.waits {
+            return Ok(());
+        }
+        while self.pass_one()? {}
+        Ok(())
+    }
+
+    /// Puts finished nodes in their place, and then tries to put the first segment of the queue in its place.
+    fn pass_one(&mut self) -> Result<bool, AllocError>
+        requires waits { self.old.waits ≡ false }
+        ensures ok { IfOk result (λ passed. PassesFront passed self.old self.new) }
+        ensures settles { Settles self.old self.new }
+        ensures seen { seen self.new ≡ seen self.old }
+        ensures bytes { (given : List ℕ) → HasTaken self.old given → HasTaken self.new given }
+    {
+        self.pass_nodes()?;
+        if self.node.is_some() || self.queue.len() == 0 {
+            return Ok(false);
+        }
+        self.pass_front()
+    }
+
+    /// The step of the store that is due. Items that need none are put in their place before. It fails for want of memory
+    /// alone; some of those items may be in their place then, and `queued` answers as before.
+    pub fn due(&mut self) -> Result<Due, AllocError>
+        ensures due { IfOk result (λ due. due ≡ due_in self.new) }
+        ensures ok { OnOk result (IsSettled self.new) }
+        ensures settles { (t : SessionState) × Settles self.old t × (self.new ≡ record t { unseen = self.new.unseen }) }
+        ensures seen { OnErr result (seen self.new ≡ seen self.old) }
+        ensures unseen { OnOk result (self.new.unseen ≡ 0) }
+        ensures bytes { (given : List ℕ) → HasTaken self.old given → HasTaken self.new given }
+    {
+        self.settle()?;
+        self.unseen = 0;
+        Ok(self.due_now())
+    }
+}

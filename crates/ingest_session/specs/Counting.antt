@@ -36,7 +36,7 @@ placed_by Absent s = one_if (fits s)
 placed_by (Sealed id) s = placed_after_seal (due_in s) s
 placed_by other s = 0
 
--- A session after calls in any order, since it was new: how many steps were asked of the store, and how many items are in
+-- A session after calls in any order, since one with nothing in its containers: how many steps were asked of the store, and how many items are in
 -- their place. A container that was sealed held a segment (`Session::filled`).
 pub data Counted : SessionState → ℕ → ℕ → Type 0 where
   Begun : (s : SessionState) → s.waits ≡ false → s.leaves.segments ≡ [] → s.nodes.segments ≡ [] → Counted s 0 0

@@ -64,10 +64,6 @@ abbrev pub needs_no_step : SessionState → Bool
 needs_no_step s = not s.waits && item_is_there s s.node
 
 -- the item whose turn it is lies in its open container
-abbrev pub queue_is_held : SessionState → List (List ℕ) → Bool
-queue_is_held s [] = false
-queue_is_held s (x ∷ xs) = has_key s.leaves (leaf_key x)
-
 abbrev pub item_is_held : SessionState → Option node.Contents → Bool
 item_is_held s (Some n) = has_key s.nodes (node_key n)
-item_is_held s None = queue_is_held s s.queue
+item_is_held s None = queue_is_there s s.queue

@@ -18,7 +18,8 @@ abbrev pub front_of : List (List ℕ) → Option KindSegment
 front_of [] = None
 front_of (x ∷ xs) = Some (leaf_segment x)
 
--- the builder has the first segment of the queue
+-- The first segment of the queue has its turn, and may have finished a node. Of what the builder has it says nothing
+-- (`HasTaken` does).
 pub record IsAdvanced (old new : SessionState) : Type 0 where
   pub ahead : new.ahead ≡ front_of old.queue
   pub others : new ≡ record old { ahead = new.ahead; built = new.built }

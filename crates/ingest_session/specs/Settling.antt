@@ -6,7 +6,7 @@ use Rattle.ingest_session.specs.Due.{item_is_there, needs_no_step}
 use Rattle.ingest_session.specs.Told.{IsSettled, placed_node, placed_front}
 use Rattle.ingest_session.specs.Moving.{IsAdvanced, IsSpelledOut}
 
--- the tree is whole now, and nothing else changed
+-- the builder, and the root of the tree, may be others, and nothing else
 abbrev pub IsClosing : SessionState → SessionState → Type 0
 IsClosing old new = new ≡ record old { built = new.built; top = new.top }
 

@@ -13,7 +13,7 @@ pub enum Due {
     Claim,
     /// A seal of the open container of a kind: `Session::filled`.
     Seal(Kind),
-    /// None, until more is pushed. After `finish` the file is held.
+    /// No step. Before `finish` more bytes are to come; after it the steps of the file are made.
     Nothing,
 }
 

@@ -1,5 +1,5 @@
 -- What the calls of a session do to it.
-use Rattle.std.specs.Prelude.{◌≡◌, ◌≤◌, ℕ, ◌+◌, Bool, true, false, nat_lt, if◌then◌else◌, List, [], ◌∷◌, ◌++◌, length, Option, Some, None, IsSome, Result, Ok, Err}
+use Rattle.std.specs.Prelude.{◌≡◌, ◌≤◌, ℕ, ◌+◌, Bool, true, false, nat_lt, if◌then◌else◌, List, [], ◌∷◌, ◌++◌, length, Option, Some, None, IsSome, Result, Ok, Err, ◌⊎◌}
 use Rattle.disk_format.specs.declared.numbers.TheConstants.{MOST_FILE}
 use Rattle.refusals.specs.declared.refusal.Refusal.{Refusal}
 use Rattle.refusals.specs.declared.refusal.Refusal.TheVariants.{Memory, TooLong, WrongPart}
@@ -65,3 +65,7 @@ ready_by ended due count top = None
 -- the root, where the file has ended and nothing is due
 abbrev pub ready_in : SessionState → Option Root
 ready_in s = ready_by s.ended (due_in s) s.count s.top
+
+-- the file has not ended, or something is due
+abbrev pub IsUnready : SessionState → Type 0
+IsUnready s = (s.ended ≡ false) ⊎ ¬ (due_in s ≡ Nothing)

@@ -1,5 +1,5 @@
 //! The end of a file, and its root.
-ghost use Rattle.std.specs.Prelude.{◌≡◌, ℕ, List, Bool, true, false, IfSome, OnErr, OnOk};
+ghost use Rattle.std.specs.Prelude.{◌≡◌, ℕ, List, Bool, true, false, IfSome, IfNone, OnErr, OnOk};
 ghost use Rattle.store_model.specs.Trees.{root_of};
 
 use crate::due::Due;
@@ -12,7 +12,7 @@ use refusals::{PartKind, Refusal};
 impl Session {
     ghost use Rattle.ingest_session.specs.State.{is_last, rest_of};
     ghost use Rattle.ingest_session.specs.Stream.{HasTaken};
-    ghost use Rattle.ingest_session.specs.Calls.{IsFinishAnswer, IsEnding, ready_in};
+    ghost use Rattle.ingest_session.specs.Calls.{IsFinishAnswer, IsEnding, IsUnready, ready_in};
 
     /// Whether the builder has all segments of the queue.
     fn has_all(&self) -> bool
@@ -60,6 +60,7 @@ impl Session {
     /// The root of the file, where all bytes were given and nothing is due.
     pub fn ready(&self) -> Option<Root>
         ensures ready { result ≡ ready_in self.now }
+        ensures none { IfNone result (IsUnready self.now) }
         ensures root { (given : List ℕ) → HasTaken self.now given → IfSome result (λ root. root ≡ root_of given) }
     {
         tree_of_segments();

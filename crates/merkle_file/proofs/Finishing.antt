@@ -9,61 +9,63 @@ use Rattle.std.proofs.lemmas.Grind.{flat_map-append}
 use Rattle.std.proofs.lemmas.List.Concat.{flat_map-cons}
 use Rattle.merkle_file.specs.declared.node.Child.{Child}
 use Rattle.disk_format.specs.declared.numbers.TheConstants.{MOST_CHILDREN}
+use Rattle.merkle_file.specs.Form.{Form, ByCount, is_whole}
 use Rattle.merkle_file.specs.Node.{Contents}
-use Rattle.merkle_file.specs.Tree.{Tree, joined, child_of, nodes_of, level_of, root_of, parent, grouped, tree_over}
-use Rattle.merkle_file.specs.Building.{open_trees, nodes_in_rows, is_whole, whole_from, rest_from, whole, rest}
+use Rattle.merkle_file.specs.Tree.{Tree, joined, child_of, nodes_of, level_of, root_of, parent, grouped, last_group, tree_over}
+use Rattle.merkle_file.specs.Building.{open_trees, nodes_in_rows, whole_from, rest_from, whole, rest}
 use Rattle.merkle_file.specs.Steps.{are_empty, top_of, close, Closed}
 use Rattle.merkle_file.proofs.Closing.{node_of, close_last, close_none, close_some}
 use Rattle.merkle_file.proofs.Pushing.{whole_push, rest_push, counted, child_of-joined, nodes_of-joined, said, child_rows, length-children, length-joined}
-use Rattle.merkle_file.proofs.Groups.{last_group, groups, grouped_is}
+use Rattle.merkle_file.proofs.Groups.{grouped_is}
 
 -- ---- what is left after whole groups
 
 -- where there is no whole group, all is left
-left_all : {X : Type 0} (begun xs : List X) → whole_from begun xs ≡ [] → rest_from begun xs ≡ begun ++ xs
+left_all : {X : Type 0} (form : Form) (says : X → Child) (begun xs : List X) → whole_from form says begun xs ≡ [] → rest_from form says begun xs ≡ begun ++ xs
 unfolding whole_from rest_from
-left_all begun [] e = sym (append-nil begun)
-left_all begun (x ∷ xs) e =
-    elim (cases_Bool (is_whole (begun ++ x ∷ []))) [
+left_all form says begun [] e = sym (append-nil begun)
+left_all form says begun (x ∷ xs) e =
+    elim (cases_Bool (is_whole form says (begun ++ x ∷ []))) [
       | inl full ↦ absurd (not_nil (rw full at e))
-      | inr few ↦ rw few (left_all (begun ++ x ∷ []) xs (rw few at e) ∙ append_assoc begun (x ∷ []) xs)
+      | inr few ↦ rw few (left_all form says (begun ++ x ∷ []) xs (rw few at e) ∙ append_assoc begun (x ∷ []) xs)
     ]
   where
     not_nil : {Y : Type 0} {y : Y} {ys : List Y} → y ∷ ys ≡ [] → ⊥
     not_nil e = cc
 
 -- the groups of a list with one more, or none
-grouped_with : {X : Type 0} (xs carried : List X) → length carried ≤ 1 → grouped (xs ++ carried) ≡ whole xs ++ last_group (rest xs ++ carried)
-grouped_with xs [] le = ap grouped (append-nil xs) ∙ grouped_is xs ∙ ap (λ left. whole xs ++ last_group left) (sym (append-nil (rest xs)))
-grouped_with xs (x ∷ []) le =
-    grouped_is (xs ++ x ∷ [])
-    ∙ elim (cases_Bool (is_whole (rest xs ++ x ∷ []))) [
-      | inl full ↦ (let g = whole_push [] xs x full in rw (g.0, g.1) (append-nil (whole xs ++ (rest xs ++ x ∷ []) ∷ []) ∙ ap (λ gs. whole xs ++ gs) (sym (last_some (rest xs) x))))
-      | inr few ↦ (let g = rest_push [] xs x few in rw (g.0, g.1) refl)
+grouped_with : {X : Type 0} (form : Form) (says : X → Child) (xs carried : List X) → length carried ≤ 1 → grouped form says (xs ++ carried) ≡ whole form says xs ++ last_group (rest form says xs ++ carried)
+grouped_with form says xs [] le =
+    ap (grouped form says) (append-nil xs) ∙ grouped_is form says xs ∙ ap (λ left. whole form says xs ++ last_group left) (sym (append-nil (rest form says xs)))
+grouped_with form says xs (x ∷ []) le =
+    grouped_is form says (xs ++ x ∷ [])
+    ∙ elim (cases_Bool (is_whole form says (rest form says xs ++ x ∷ []))) [
+      | inl full ↦ (let g = whole_push form says [] xs x full in rw (g.0, g.1) (append-nil (whole form says xs ++ (rest form says xs ++ x ∷ []) ∷ []) ∙ ap (λ gs. whole form says xs ++ gs) (sym (last_some (rest form says xs) x))))
+      | inr few ↦ (let g = rest_push form says [] xs x few in rw (g.0, g.1) refl)
     ]
   where
     last_some : {Y : Type 0} (ys : List Y) (y : Y) → last_group (ys ++ y ∷ []) ≡ (ys ++ y ∷ []) ∷ []
     last_some [] y = refl
     last_some (z ∷ zs) y = refl
-grouped_with xs (x ∷ y ∷ ys) le = absurd (omega arith)
+grouped_with form says xs (x ∷ y ∷ ys) le = absurd (omega arith)
 
 -- ---- empty rows
 
 -- Where all rows are empty, there is no tree.
-none_where_empty : {A : Type 0} (leaf : A → Child) (levels level : ℕ) (ts : List (Tree A)) → length ts < MOST_CHILDREN ^ levels → are_empty (child_rows leaf (open_trees levels level ts)) ≡ true → ts ≡ []
+none_where_empty : {A : Type 0} (leaf : A → Child) (levels level : ℕ) (ts : List (Tree A)) → length ts < MOST_CHILDREN ^ levels → are_empty (child_rows leaf (open_trees ByCount leaf levels level ts)) ≡ true → ts ≡ []
 unfolding open_trees
 none_where_empty leaf zero level ts room e = nil_from_length ts (omega arith)
 none_where_empty leaf (suc levels) level ts room e =
-    let both = and_parts (eqb (length (map (child_of leaf) (rest ts))) 0) (are_empty (child_rows leaf (open_trees levels (level + 1) (map (joined (level + 1)) (whole ts))))) e in
-    let count = counted [] ts (omega arith) in
-    let none : length (map (child_of leaf) (rest ts)) ≡ 0 = eqb-true _ _ both.0 in
-    let row : length (rest ts) ≡ 0 = omega (arith, length-children leaf (rest ts), none) in
-    let above = none_where_empty leaf levels (level + 1) (map (joined (level + 1)) (whole ts))
-    (omega (arith, room, count.sum, pow-suc MOST_CHILDREN levels, length-joined (level + 1) (whole ts))) both.1 in
-    nil_from_length ts (omega (arith, count.sum, row, length-joined (level + 1) (whole ts), ap length above))
+    let both = and_parts (eqb (length (map (child_of leaf) (rest ByCount (child_of leaf) ts))) 0) (are_empty (child_rows leaf (open_trees ByCount leaf levels (level + 1) (map (joined (level + 1)) (whole ByCount (child_of leaf) ts))))) e in
+    let count = counted (child_of leaf) [] ts (omega arith) in
+    let none : length (map (child_of leaf) (rest ByCount (child_of leaf) ts)) ≡ 0 = eqb-true _ _ both.0 in
+    let row : length (rest ByCount (child_of leaf) ts) ≡ 0 = omega (arith, length-children leaf (rest ByCount (child_of leaf) ts), none) in
+    let above = none_where_empty leaf levels (level + 1) (map (joined (level + 1)) (whole ByCount (child_of leaf) ts))
+    (omega (arith, room, count.sum, pow-suc MOST_CHILDREN levels, length-joined (level + 1) (whole ByCount (child_of leaf) ts))) both.1 in
+    nil_from_length ts (omega (arith, count.sum, row, length-joined (level + 1) (whole ByCount (child_of leaf) ts), ap length above))
 
 -- where there is no tree, all rows are empty, and no node is in them
-pub empty_where_none : {A : Type 0} (leaf : A → Child) (levels level : ℕ) → (are_empty (child_rows leaf (open_trees {A = A} levels level [])) ≡ true) × (nodes_in_rows leaf (open_trees {A = A} levels level []) ≡ [])
+pub empty_where_none : {A : Type 0} (leaf : A → Child) (levels level : ℕ) → (are_empty (child_rows leaf (open_trees {A = A} ByCount leaf levels level [])) ≡ true) × (nodes_in_rows leaf (open_trees {A = A} ByCount leaf levels level []) ≡ [])
 unfolding open_trees whole_from rest_from
 empty_where_none leaf zero level = (refl, refl)
 empty_where_none leaf (suc levels) level =
@@ -94,7 +96,7 @@ root_is leaf level t at = rw (← at) refl
 
 -- at most one tree is left
 only_tree : {A : Type 0} (leaf : A → Child) (levels level : ℕ) (ts : List (Tree A)) → length ts ≤ 1 → AtLevel level ts
-    → (top_of level (map (child_of leaf) ts) ≡ root_of leaf (tree_over levels level ts)) × (flat_map (nodes_of leaf) ts ≡ nodes_of leaf (tree_over levels level ts))
+    → (top_of level (map (child_of leaf) ts) ≡ root_of leaf (tree_over ByCount leaf levels level ts)) × (flat_map (nodes_of leaf) ts ≡ nodes_of leaf (tree_over ByCount leaf levels level ts))
 unfolding tree_over
 only_tree leaf zero level [] le at = (refl, refl)
 only_tree leaf (suc levels) level [] le at = (refl, refl)
@@ -104,7 +106,7 @@ only_tree leaf levels level (t ∷ u ∷ ts) le at = absurd (omega arith)
 
 finish_last : {A : Type 0} (leaf : A → Child) (levels level : ℕ) (r : List (Tree A)) (rows : List (List (Tree A))) (carried : List (Tree A))
     → are_empty (child_rows leaf rows) ≡ true → nodes_in_rows leaf rows ≡ [] → length (r ++ carried) ≤ 1 → AtLevel level (r ++ carried)
-    → IsFinished leaf level (r ∷ rows) carried (tree_over levels level (r ++ carried))
+    → IsFinished leaf level (r ∷ rows) carried (tree_over ByCount leaf levels level (r ++ carried))
 finish_last leaf levels level r rows carried empty none le at =
     let same : map (child_of leaf) (r ++ carried) ≡ map (child_of leaf) r ++ map (child_of leaf) carried = map-append (child_of leaf) r carried in
     let few : length (map (child_of leaf) r ++ map (child_of leaf) carried) ≤ 1 = rw (← same) (omega (arith, length-children leaf (r ++ carried))) in
@@ -157,11 +159,12 @@ finish_up leaf level r rows carried tree test some above =
 -- ---- all rows
 
 -- the first group of a list that isn't one tree
-more_levels : {A : Type 0} (levels level : ℕ) (ts : List (Tree A)) → 2 ≤ length ts → tree_over (suc levels) level ts ≡ tree_over levels (level + 1) (map (joined (level + 1)) (grouped ts))
+pub more_levels : {A : Type 0} (form : Form) (leaf : A → Child) (levels level : ℕ) (ts : List (Tree A)) → 2 ≤ length ts
+    → tree_over form leaf (suc levels) level ts ≡ tree_over form leaf levels (level + 1) (map (joined (level + 1)) (grouped form (child_of leaf) ts))
 unfolding tree_over
-more_levels levels level [] le = absurd (omega arith)
-more_levels levels level (t ∷ []) le = absurd (omega arith)
-more_levels levels level (t ∷ u ∷ ts) le = refl
+more_levels form leaf levels level [] le = absurd (omega arith)
+more_levels form leaf levels level (t ∷ []) le = absurd (omega arith)
+more_levels form leaf levels level (t ∷ u ∷ ts) le = refl
 
 room_some : (levels groups left carried : ℕ) → 0 < levels → MOST_CHILDREN * ((MOST_CHILDREN * groups + left) + carried) ≤ MOST_CHILDREN ^ suc levels → 1 ≤ left + carried
     → MOST_CHILDREN * (groups + 1) ≤ MOST_CHILDREN ^ levels
@@ -179,23 +182,23 @@ last_cases (x ∷ xs) = inr (omega arith, refl)
 -- the test for the root, over trees
 abbrev is_only : {A : Type 0} → (A → Child) → ℕ → ℕ → List (Tree A) → List (Tree A) → Bool
 is_only leaf levels level ts carried =
-    are_empty (child_rows leaf (open_trees levels (level + 1) (map (joined (level + 1)) (whole ts)))) && nat_le (length (map (child_of leaf) (rest ts) ++ map (child_of leaf) carried)) 1
+    are_empty (child_rows leaf (open_trees ByCount leaf levels (level + 1) (map (joined (level + 1)) (whole ByCount (child_of leaf) ts)))) && nat_le (length (map (child_of leaf) (rest ByCount (child_of leaf) ts) ++ map (child_of leaf) carried)) 1
 
 length-both : {A : Type 0} (leaf : A → Child) (xs ys : List (Tree A)) → length (map (child_of leaf) xs ++ map (child_of leaf) ys) ≡ length xs + length ys
 length-both leaf xs ys = omega (arith, length-append (map (child_of leaf) xs) (map (child_of leaf) ys), length-children leaf xs, length-children leaf ys)
 
 -- with no whole group, the test is on the length
-only_by_length : {A : Type 0} (leaf : A → Child) (levels level : ℕ) (ts carried : List (Tree A)) → whole ts ≡ [] → is_only leaf levels level ts carried ≡ false → 2 ≤ length (rest ts) + length carried
+only_by_length : {A : Type 0} (leaf : A → Child) (levels level : ℕ) (ts carried : List (Tree A)) → whole ByCount (child_of leaf) ts ≡ [] → is_only leaf levels level ts carried ≡ false → 2 ≤ length (rest ByCount (child_of leaf) ts) + length carried
 only_by_length leaf levels level ts carried none test =
-    let both = length-both leaf (rest ts) carried in
-    let more : 1 < length (map (child_of leaf) (rest ts) ++ map (child_of leaf) carried) =
+    let both = length-both leaf (rest ByCount (child_of leaf) ts) carried in
+    let more : 1 < length (map (child_of leaf) (rest ByCount (child_of leaf) ts) ++ map (child_of leaf) carried) =
     leb-false _ 1 (rw (none, (empty_where_none leaf levels (level + 1)).0) at test) in
     omega (arith, both, more)
 
 two_trees : {A : Type 0} (leaf : A → Child) (levels level : ℕ) (ts carried : List (Tree A)) → is_only leaf levels level ts carried ≡ false → 2 ≤ length ts + length carried
 two_trees leaf levels level ts carried test =
-    let count = counted [] ts (omega arith) in
-    elim (last_cases (whole ts)) [
+    let count = counted (child_of leaf) [] ts (omega arith) in
+    elim (last_cases (whole ByCount (child_of leaf) ts)) [
       | inl none ↦ omega (arith, only_by_length leaf levels level ts carried none test, count.sum, count.few)
       | inr some ↦ omega (arith, some.0, count.sum)
     ]
@@ -208,52 +211,52 @@ level_above leaf (suc levels) level ts carried test room = omega arith
 -- the last row
 finish_here : {A : Type 0} (leaf : A → Child) (levels level : ℕ) (ts carried : List (Tree A)) → AtLevel level ts → AtLevel level carried
     → MOST_CHILDREN * (length ts + length carried) ≤ MOST_CHILDREN ^ suc levels → is_only leaf levels level ts carried ≡ true
-    → IsFinished leaf level (rest ts ∷ open_trees levels (level + 1) (map (joined (level + 1)) (whole ts))) carried (tree_over (suc levels) level (ts ++ carried))
+    → IsFinished leaf level (rest ByCount (child_of leaf) ts ∷ open_trees ByCount leaf levels (level + 1) (map (joined (level + 1)) (whole ByCount (child_of leaf) ts))) carried (tree_over ByCount leaf (suc levels) level (ts ++ carried))
 finish_here leaf levels level ts carried at ct room test =
-    let r : List (Tree _) = rest ts in
-    let ups : List (Tree _) = map (joined (level + 1)) (whole ts) in
-    let rows : List (List (Tree _)) = open_trees levels (level + 1) ups in
-    let count = counted [] ts (omega arith) in
+    let r : List (Tree _) = rest ByCount (child_of leaf) ts in
+    let ups : List (Tree _) = map (joined (level + 1)) (whole ByCount (child_of leaf) ts) in
+    let rows : List (List (Tree _)) = open_trees ByCount leaf levels (level + 1) ups in
+    let count = counted (child_of leaf) [] ts (omega arith) in
     let both = and_parts (are_empty (child_rows leaf rows)) (nat_le (length (map (child_of leaf) r ++ map (child_of leaf) carried)) 1) test in
     let few : length (map (child_of leaf) r ++ map (child_of leaf) carried) ≤ 1 = leb-true _ 1 both.1 in
     let none : ups ≡ [] = none_where_empty leaf levels (level + 1) ups
-    (omega (arith, room, count.sum, pow-suc MOST_CHILDREN levels, pow_positive levels, length-joined (level + 1) (whole ts))) both.0 in
-    let no_group : whole ts ≡ [] = nil_from_length (whole ts) (omega (arith, length-joined (level + 1) (whole ts), ap length none)) in
-    let all : r ≡ ts = left_all [] ts no_group in
-    let no_node : nodes_in_rows leaf rows ≡ [] = ap (λ (us : List (Tree _)). nodes_in_rows leaf (open_trees levels (level + 1) us)) none ∙ (empty_where_none leaf levels (level + 1)).1 in
-    subst (λ (xs : List (Tree _)). IsFinished leaf level (r ∷ rows) carried (tree_over (suc levels) level (xs ++ carried))) all
+    (omega (arith, room, count.sum, pow-suc MOST_CHILDREN levels, pow_positive levels, length-joined (level + 1) (whole ByCount (child_of leaf) ts))) both.0 in
+    let no_group : whole ByCount (child_of leaf) ts ≡ [] = nil_from_length (whole ByCount (child_of leaf) ts) (omega (arith, length-joined (level + 1) (whole ByCount (child_of leaf) ts), ap length none)) in
+    let all : r ≡ ts = left_all ByCount (child_of leaf) [] ts no_group in
+    let no_node : nodes_in_rows leaf rows ≡ [] = ap (λ (us : List (Tree _)). nodes_in_rows leaf (open_trees ByCount leaf levels (level + 1) us)) none ∙ (empty_where_none leaf levels (level + 1)).1 in
+    subst (λ (xs : List (Tree _)). IsFinished leaf level (r ∷ rows) carried (tree_over ByCount leaf (suc levels) level (xs ++ carried))) all
     (finish_last leaf (suc levels) level r rows carried both.0 no_node (omega (arith, few, length-both leaf r carried, length-append r carried))
     (subst (λ (xs : List (Tree _)). AtLevel level (xs ++ carried)) (sym all) (all_both level ts carried at ct)))
 
 pub finish_law : {A : Type 0} (leaf : A → Child) (levels level : ℕ) (ts carried : List (Tree A)) → length carried ≤ 1 → 0 < levels → AtLevel level ts → AtLevel level carried
     → MOST_CHILDREN * (length ts + length carried) ≤ MOST_CHILDREN ^ levels
-    → IsFinished leaf level (open_trees levels level ts) carried (tree_over levels level (ts ++ carried))
+    → IsFinished leaf level (open_trees ByCount leaf levels level ts) carried (tree_over ByCount leaf levels level (ts ++ carried))
 unfolding open_trees
 finish_law leaf zero level ts carried le lt at ct room = absurd (omega arith)
 finish_law leaf (suc levels) level ts carried le lt at ct room =
-    let r : List (Tree _) = rest ts in
-    let ups : List (Tree _) = map (joined (level + 1)) (whole ts) in
-    let rows : List (List (Tree _)) = open_trees levels (level + 1) ups in
-    let count = counted [] ts (omega arith) in
-    let counted_ups = length-joined (level + 1) (whole ts) in
+    let r : List (Tree _) = rest ByCount (child_of leaf) ts in
+    let ups : List (Tree _) = map (joined (level + 1)) (whole ByCount (child_of leaf) ts) in
+    let rows : List (List (Tree _)) = open_trees ByCount leaf levels (level + 1) ups in
+    let count = counted (child_of leaf) [] ts (omega arith) in
+    let counted_ups = length-joined (level + 1) (whole ByCount (child_of leaf) ts) in
     elim (cases_Bool (is_only leaf levels level ts carried)) [
       | inl only ↦ finish_here leaf levels level ts carried at ct room only
       | inr more ↦
           (let above = level_above leaf levels level ts carried more room in
           let two : 2 ≤ length (ts ++ carried) = omega (arith, two_trees leaf levels level ts carried more, length-append ts carried) in
-          let tree : tree_over (suc levels) level (ts ++ carried) ≡ tree_over levels (level + 1) (ups ++ map (joined (level + 1)) (last_group (r ++ carried))) =
-          more_levels levels level (ts ++ carried) two ∙ ap (tree_over levels (level + 1)) (ap (map (joined (level + 1))) (grouped_with ts carried le) ∙ map-append (joined (level + 1)) (whole ts) (last_group (r ++ carried))) in
+          let tree : tree_over ByCount leaf (suc levels) level (ts ++ carried) ≡ tree_over ByCount leaf levels (level + 1) (ups ++ map (joined (level + 1)) (last_group (r ++ carried))) =
+          more_levels ByCount leaf levels level (ts ++ carried) two ∙ ap (tree_over ByCount leaf levels (level + 1)) (ap (map (joined (level + 1))) (grouped_with ByCount (child_of leaf) ts carried le) ∙ map-append (joined (level + 1)) (whole ByCount (child_of leaf) ts) (last_group (r ++ carried))) in
           elim (last_cases (r ++ carried)) [
             | inl none ↦
-                (let ih = finish_law leaf levels (level + 1) ups [] (omega arith) above (at_joined (level + 1) (whole ts)) tt
+                (let ih = finish_law leaf levels (level + 1) ups [] (omega arith) above (at_joined (level + 1) (whole ByCount (child_of leaf) ts)) tt
                 (omega (arith, room, count.sum, pow-suc MOST_CHILDREN levels, counted_ups)) in
-                let same : tree_over (suc levels) level (ts ++ carried) ≡ tree_over levels (level + 1) (ups ++ []) = tree ∙ rw none refl in
+                let same : tree_over ByCount leaf (suc levels) level (ts ++ carried) ≡ tree_over ByCount leaf levels (level + 1) (ups ++ []) = tree ∙ rw none refl in
                 rw same (finish_skip leaf level r rows carried _ more none ih))
             | inr some ↦
                 (let up : Tree _ = joined (level + 1) (r ++ carried) in
-                let ih = finish_law leaf levels (level + 1) ups (up ∷ []) (omega arith) above (at_joined (level + 1) (whole ts)) (refl, tt)
-                (omega (arith, room_some levels (length (whole ts)) (length r) (length carried) above (omega (arith, room, count.sum)) (omega (arith, some.0, length-append r carried)), counted_ups)) in
-                let same : tree_over (suc levels) level (ts ++ carried) ≡ tree_over levels (level + 1) (ups ++ up ∷ []) = tree ∙ rw some.1 refl in
+                let ih = finish_law leaf levels (level + 1) ups (up ∷ []) (omega arith) above (at_joined (level + 1) (whole ByCount (child_of leaf) ts)) (refl, tt)
+                (omega (arith, room_some levels (length (whole ByCount (child_of leaf) ts)) (length r) (length carried) above (omega (arith, room, count.sum)) (omega (arith, some.0, length-append r carried)), counted_ups)) in
+                let same : tree_over ByCount leaf (suc levels) level (ts ++ carried) ≡ tree_over ByCount leaf levels (level + 1) (ups ++ up ∷ []) = tree ∙ rw some.1 refl in
                 rw same (finish_up leaf level r rows carried _ more some.0 ih))
           ])
     ]

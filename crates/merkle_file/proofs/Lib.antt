@@ -10,5 +10,8 @@ pub mod Walking
 pub mod TreeLaws
 pub mod RightTrees
 pub mod RootLaws
+pub mod Added
+pub mod InOrder
+pub mod ChildrenFirst
 pub mod Unfolding
 pub mod InPlace

@@ -8,33 +8,34 @@ use Rattle.std.proofs.lemmas.Grind.{flat_map-append}
 use Rattle.std.proofs.lemmas.List.Concat.{flat_map-cons}
 use Rattle.merkle_file.specs.declared.node.Child.{Child}
 use Rattle.disk_format.specs.declared.numbers.TheConstants.{MOST_CHILDREN}
+use Rattle.merkle_file.specs.Form.{Form, ByCount, is_whole}
 use Rattle.merkle_file.specs.Node.{Contents}
 use Rattle.merkle_file.specs.Tree.{Tree, trees, joined, child_of, children_of, nodes_of, nodes_below, parent}
-use Rattle.merkle_file.specs.Building.{open_trees, nodes_in_rows, is_whole, whole_from, rest_from, whole, rest}
+use Rattle.merkle_file.specs.Building.{open_trees, nodes_in_rows, whole_from, rest_from, whole, rest}
 use Rattle.merkle_file.specs.Steps.{place, Placed}
 use Rattle.merkle_file.proofs.Placing.{place_next, place_here, node_over}
 
 -- ---- groups
 
 -- one more element makes the group whole that was begun, or joins it
-pub whole_push : {X : Type 0} (begun xs : List X) (x : X) → is_whole (rest_from begun xs ++ x ∷ []) ≡ true
-    → (whole_from begun (xs ++ x ∷ []) ≡ whole_from begun xs ++ (rest_from begun xs ++ x ∷ []) ∷ []) × (rest_from begun (xs ++ x ∷ []) ≡ [])
+pub whole_push : {X : Type 0} (form : Form) (says : X → Child) (begun xs : List X) (x : X) → is_whole form says (rest_from form says begun xs ++ x ∷ []) ≡ true
+    → (whole_from form says begun (xs ++ x ∷ []) ≡ whole_from form says begun xs ++ (rest_from form says begun xs ++ x ∷ []) ∷ []) × (rest_from form says begun (xs ++ x ∷ []) ≡ [])
 unfolding whole_from rest_from
-whole_push begun [] x e = (rw e refl, rw e refl)
-whole_push begun (y ∷ ys) x e =
-    elim (cases_Bool (is_whole (begun ++ y ∷ []))) [
-      | inl full ↦ (let ih = whole_push [] ys x (rw full at e) in (rw full (ap (λ gs. (begun ++ y ∷ []) ∷ gs) ih.0), rw full ih.1))
-      | inr few ↦ (let ih = whole_push (begun ++ y ∷ []) ys x (rw few at e) in (rw few ih.0, rw few ih.1))
+whole_push form says begun [] x e = (rw e refl, rw e refl)
+whole_push form says begun (y ∷ ys) x e =
+    elim (cases_Bool (is_whole form says (begun ++ y ∷ []))) [
+      | inl full ↦ (let ih = whole_push form says [] ys x (rw full at e) in (rw full (ap (λ gs. (begun ++ y ∷ []) ∷ gs) ih.0), rw full ih.1))
+      | inr few ↦ (let ih = whole_push form says (begun ++ y ∷ []) ys x (rw few at e) in (rw few ih.0, rw few ih.1))
     ]
 
-pub rest_push : {X : Type 0} (begun xs : List X) (x : X) → is_whole (rest_from begun xs ++ x ∷ []) ≡ false
-    → (whole_from begun (xs ++ x ∷ []) ≡ whole_from begun xs) × (rest_from begun (xs ++ x ∷ []) ≡ rest_from begun xs ++ x ∷ [])
+pub rest_push : {X : Type 0} (form : Form) (says : X → Child) (begun xs : List X) (x : X) → is_whole form says (rest_from form says begun xs ++ x ∷ []) ≡ false
+    → (whole_from form says begun (xs ++ x ∷ []) ≡ whole_from form says begun xs) × (rest_from form says begun (xs ++ x ∷ []) ≡ rest_from form says begun xs ++ x ∷ [])
 unfolding whole_from rest_from
-rest_push begun [] x e = (rw e refl, rw e refl)
-rest_push begun (y ∷ ys) x e =
-    elim (cases_Bool (is_whole (begun ++ y ∷ []))) [
-      | inl full ↦ (let ih = rest_push [] ys x (rw full at e) in (rw full (ap (λ gs. (begun ++ y ∷ []) ∷ gs) ih.0), rw full ih.1))
-      | inr few ↦ (let ih = rest_push (begun ++ y ∷ []) ys x (rw few at e) in (rw few ih.0, rw few ih.1))
+rest_push form says begun [] x e = (rw e refl, rw e refl)
+rest_push form says begun (y ∷ ys) x e =
+    elim (cases_Bool (is_whole form says (begun ++ y ∷ []))) [
+      | inl full ↦ (let ih = rest_push form says [] ys x (rw full at e) in (rw full (ap (λ gs. (begun ++ y ∷ []) ∷ gs) ih.0), rw full ih.1))
+      | inr few ↦ (let ih = rest_push form says (begun ++ y ∷ []) ys x (rw few at e) in (rw few ih.0, rw few ih.1))
     ]
 
 -- how many groups, and how many elements are left
@@ -42,16 +43,17 @@ pub record IsCounted (begun all groups left : ℕ) : Type 0 where
   pub sum : begun + all ≡ MOST_CHILDREN * groups + left
   pub few : left < MOST_CHILDREN
 
-pub counted : {X : Type 0} (begun xs : List X) → length begun < MOST_CHILDREN → IsCounted (length begun) (length xs) (length (whole_from begun xs)) (length (rest_from begun xs))
+pub counted : {X : Type 0} (says : X → Child) (begun xs : List X) → length begun < MOST_CHILDREN
+    → IsCounted (length begun) (length xs) (length (whole_from ByCount says begun xs)) (length (rest_from ByCount says begun xs))
 unfolding whole_from rest_from
-counted begun [] lt = record { sum = omega arith; few = lt }
-counted begun (y ∷ ys) lt =
+counted says begun [] lt = record { sum = omega arith; few = lt }
+counted says begun (y ∷ ys) lt =
     let one : length (begun ++ y ∷ []) ≡ length begun + 1 = length-append begun (y ∷ []) in
-    elim (cases_Bool (is_whole (begun ++ y ∷ []))) [
-      | inl full ↦ (let ih = counted [] ys (omega arith) in let is : length (begun ++ y ∷ []) ≡ MOST_CHILDREN = eqb-true _ _ full in
+    elim (cases_Bool (is_whole ByCount says (begun ++ y ∷ []))) [
+      | inl full ↦ (let ih = counted says [] ys (omega arith) in let is : length (begun ++ y ∷ []) ≡ MOST_CHILDREN = eqb-true _ _ full in
           rw full (record { sum = omega (arith, ih.sum, is, one); few = ih.few }))
       | inr few ↦ (let isnt : length (begun ++ y ∷ []) ≡ MOST_CHILDREN → ⊥ = eqb-false _ _ few in
-          let ih = counted (begun ++ y ∷ []) ys (omega (arith, one, isnt)) in
+          let ih = counted says (begun ++ y ∷ []) ys (omega (arith, one, isnt)) in
           rw few (record { sum = omega (arith, ih.sum, one); few = ih.few }))
     ]
 
@@ -137,26 +139,26 @@ push_up leaf level r rows rows' t full up =
     }
 
 pub push_law : {A : Type 0} (leaf : A → Child) (levels level : ℕ) (ts : List (Tree A)) (t : Tree A) → length ts + 1 < MOST_CHILDREN ^ levels
-    → IsPushed leaf level (open_trees levels level ts) (open_trees levels level (ts ++ t ∷ [])) t
+    → IsPushed leaf level (open_trees ByCount leaf levels level ts) (open_trees ByCount leaf levels level (ts ++ t ∷ [])) t
 unfolding open_trees
 push_law leaf zero level ts t room = absurd (omega arith)
 push_law leaf (suc levels) level ts t room =
-    let r : List (Tree _) = rest ts in
-    let above : List (Tree _) = map (joined (level + 1)) (whole ts) in
-    let rows : List (List (Tree _)) = open_trees levels (level + 1) above in
-    let count = counted [] ts (omega arith) in
-    elim (cases_Bool (is_whole (r ++ t ∷ []))) [
+    let r : List (Tree _) = rest ByCount (child_of leaf) ts in
+    let above : List (Tree _) = map (joined (level + 1)) (whole ByCount (child_of leaf) ts) in
+    let rows : List (List (Tree _)) = open_trees ByCount leaf levels (level + 1) above in
+    let count = counted (child_of leaf) [] ts (omega arith) in
+    elim (cases_Bool (is_whole ByCount (child_of leaf) (r ++ t ∷ []))) [
       | inl full ↦
-          (let groups = whole_push [] ts t full in
+          (let groups = whole_push ByCount (child_of leaf) [] ts t full in
           let is : length r + 1 ≡ MOST_CHILDREN = omega (arith, length-append r (t ∷ []), eqb-true _ _ full) in
           let up : Tree _ = joined (level + 1) (r ++ t ∷ []) in
-          let ih = push_law leaf levels (level + 1) above up (omega (arith, room, count.sum, pow-suc MOST_CHILDREN levels, length-joined (level + 1) (whole ts), is)) in
-          let later : [] ∷ open_trees levels (level + 1) (above ++ up ∷ []) ≡ open_trees (suc levels) level (ts ++ t ∷ []) =
+          let ih = push_law leaf levels (level + 1) above up (omega (arith, room, count.sum, pow-suc MOST_CHILDREN levels, length-joined (level + 1) (whole ByCount (child_of leaf) ts), is)) in
+          let later : [] ∷ open_trees ByCount leaf levels (level + 1) (above ++ up ∷ []) ≡ open_trees ByCount leaf (suc levels) level (ts ++ t ∷ []) =
           rw (groups.0, groups.1, map-append) refl in
-          subst (λ (after : List (List (Tree _))). IsPushed leaf level (r ∷ rows) after t) later (push_up leaf level r rows (open_trees levels (level + 1) (above ++ up ∷ [])) t is ih))
+          subst (λ (after : List (List (Tree _))). IsPushed leaf level (r ∷ rows) after t) later (push_up leaf level r rows (open_trees ByCount leaf levels (level + 1) (above ++ up ∷ [])) t is ih))
       | inr few ↦
-          (let groups = rest_push [] ts t few in
+          (let groups = rest_push ByCount (child_of leaf) [] ts t few in
           let isnt : length r + 1 ≡ MOST_CHILDREN → ⊥ = λ e. eqb-false _ _ few (length-append r (t ∷ []) ∙ e) in
-          let later : (r ++ t ∷ []) ∷ rows ≡ open_trees (suc levels) level (ts ++ t ∷ []) = rw (groups.0, groups.1) refl in
+          let later : (r ++ t ∷ []) ∷ rows ≡ open_trees ByCount leaf (suc levels) level (ts ++ t ∷ []) = rw (groups.0, groups.1) refl in
           subst (λ (after : List (List (Tree _))). IsPushed leaf level (r ∷ rows) after t) later (push_here leaf level r rows t (omega (arith, isnt, count.few))))
     ]

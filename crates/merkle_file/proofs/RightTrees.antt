@@ -7,12 +7,11 @@ use Rattle.std.proofs.lemmas.List.{length-append}
 use Rattle.std.proofs.lemmas.List.Sums.{sum_by-append, sum_by-cons}
 use Rattle.merkle_file.specs.declared.node.Child.{Child}
 use Rattle.disk_format.specs.declared.numbers.TheConstants.{MOST_CHILDREN, MOST_FILE, MOST_LEVEL, MOST_SEGMENT}
+use Rattle.merkle_file.specs.Form.{Form, ByCount, is_whole}
 use Rattle.merkle_file.specs.Node.{IsChild, spelling, total}
-use Rattle.merkle_file.specs.Tree.{Tree, Empty, Leaf, Node, trees, joined, child_of, children_of, level_of, of_segment, grouped, tree_over}
-use Rattle.merkle_file.specs.Building.{is_whole, whole_from, rest_from, whole, rest}
+use Rattle.merkle_file.specs.Tree.{Tree, Empty, Leaf, Node, trees, joined, child_of, children_of, level_of, of_segment, grouped, grouped_from, last_group, tree_over}
 use Rattle.merkle_file.specs.Walk.{AreBelow, IsTree, TreesAreRight, contents_of, trees_in}
 use Rattle.merkle_file.proofs.Placing.{all_push, length-sha256}
-use Rattle.merkle_file.proofs.Groups.{last_group, grouped_is}
 
 abbrev pub Segments : Type 0
 Segments = Tree (List ℕ)
@@ -35,55 +34,43 @@ pub record IsGroup (level : ℕ) (g : List Segments) : Type 0 where
 push_group : (level : ℕ) (begun : List Segments) (t : Segments) → length begun < MOST_CHILDREN → AllByRecursion (IsRightAt level) begun → IsRightAt level t → IsGroup level (begun ++ t ∷ [])
 push_group level begun t lt all right = record { each = all_push (IsRightAt level) begun t all right; some = omega (arith, length-append begun (t ∷ [])); few = omega (arith, length-append begun (t ∷ [])) }
 
--- whole groups are groups, and what is left is less than one
-groups_right : (level : ℕ) (begun ts : List Segments) → length begun < MOST_CHILDREN → AllByRecursion (IsRightAt level) begun → AllByRecursion (IsRightAt level) ts
-    → AllByRecursion (IsGroup level) (whole_from begun ts) × AllByRecursion (IsRightAt level) (rest_from begun ts) × (length (rest_from begun ts) < MOST_CHILDREN)
-unfolding whole_from rest_from
-groups_right level begun [] lt all right = (tt, all, lt)
-groups_right level begun (t ∷ ts) lt all right =
-    let group = push_group level begun t lt all right.0 in
-    elim (cases_Bool (is_whole (begun ++ t ∷ []))) [
-      | inl full ↦ (let others = groups_right level [] ts (omega arith) tt right.1 in rw full ((group, others.0), others.1, others.2))
-      | inr few ↦
-          (let isnt : length (begun ++ t ∷ []) ≡ MOST_CHILDREN → ⊥ = eqb-false _ _ few in
-          rw few (groups_right level (begun ++ t ∷ []) ts (omega (arith, isnt, group.few)) group.each right.1))
-    ]
-
 last_right : (level : ℕ) (ts : List Segments) → AllByRecursion (IsRightAt level) ts → length ts < MOST_CHILDREN → AllByRecursion (IsGroup level) (last_group ts)
 last_right level [] all lt = tt
 last_right level (t ∷ ts) all lt = (record { each = all; some = omega arith; few = omega arith }, tt)
 
-all_append : (level : ℕ) (gs hs : List (List Segments)) → AllByRecursion (IsGroup level) gs → AllByRecursion (IsGroup level) hs → AllByRecursion (IsGroup level) (gs ++ hs)
-all_append level [] hs a b = b
-all_append level (g ∷ gs) hs a b = (a.0, all_append level gs hs a.1 b)
-
-pub grouped_right : (level : ℕ) (ts : List Segments) → AllByRecursion (IsRightAt level) ts → AllByRecursion (IsGroup level) (grouped ts)
-grouped_right level ts all =
-    let parts = groups_right level [] ts (omega arith) tt all in
-    rw (grouped_is ts) (all_append level (whole ts) (last_group (rest ts)) parts.0 (last_right level (rest ts) parts.1 parts.2))
+-- the groups of right trees, where right ones are begun
+pub grouped_right : (level : ℕ) (begun ts : List Segments) → length begun < MOST_CHILDREN → AllByRecursion (IsRightAt level) begun → AllByRecursion (IsRightAt level) ts
+    → AllByRecursion (IsGroup level) (grouped_from ByCount (child_of of_segment) begun ts)
+unfolding grouped_from
+grouped_right level begun [] lt all right = last_right level begun all lt
+grouped_right level begun (t ∷ ts) lt all right =
+    let group = push_group level begun t lt all right.0 in
+    elim (cases_Bool (is_whole ByCount (child_of of_segment) (begun ++ t ∷ []))) [
+      | inl full ↦ rw full (group, grouped_right level [] ts (omega arith) tt right.1)
+      | inr few ↦
+          (let isnt : length (begun ++ t ∷ []) ≡ MOST_CHILDREN → ⊥ = eqb-false _ _ few in
+          rw few (grouped_right level (begun ++ t ∷ []) ts (omega (arith, isnt, group.few)) group.each right.1))
+    ]
 
 -- ---- sizes
 
 abbrev pub sizes : List Segments → ℕ
 sizes ts = sum_by size ts
 
-sizes_join : (begun ts : List Segments) → sum_by sizes (whole_from begun ts) + sizes (rest_from begun ts) ≡ sizes begun + sizes ts
-unfolding whole_from rest_from
-sizes_join begun [] = omega arith
-sizes_join begun (t ∷ ts) =
-    let one : sizes (begun ++ t ∷ []) ≡ sizes begun + size t = omega (arith, sum_by-append size begun (t ∷ [])) in
-    let more : sizes (t ∷ ts) ≡ size t + sizes ts = sum_by-cons size t ts in
-    elim (cases_Bool (is_whole (begun ++ t ∷ []))) [
-      | inl full ↦ rw full (omega (arith, sum_by-cons sizes (begun ++ t ∷ []) (whole_from [] ts), sizes_join [] ts, one, more))
-      | inr few ↦ rw few (omega (arith, sizes_join (begun ++ t ∷ []) ts, one, more))
-    ]
-
 last_size : (ts : List Segments) → sum_by sizes (last_group ts) ≡ sizes ts
 last_size [] = refl
 last_size (t ∷ ts) = omega (arith, sum_by-cons sizes (t ∷ ts) [])
 
-pub grouped_sizes : (ts : List Segments) → sum_by sizes (grouped ts) ≡ sizes ts
-grouped_sizes ts = omega (arith, ap (sum_by sizes) (grouped_is ts), sum_by-append sizes (whole ts) (last_group (rest ts)), last_size (rest ts), sizes_join [] ts)
+pub grouped_sizes : (form : Form) (says : Segments → Child) (begun ts : List Segments) → sum_by sizes (grouped_from form says begun ts) ≡ sizes begun + sizes ts
+unfolding grouped_from
+grouped_sizes form says begun [] = omega (arith, last_size begun)
+grouped_sizes form says begun (t ∷ ts) =
+    let one : sizes (begun ++ t ∷ []) ≡ sizes begun + size t = omega (arith, sum_by-append size begun (t ∷ [])) in
+    let more : sizes (t ∷ ts) ≡ size t + sizes ts = sum_by-cons size t ts in
+    elim (cases_Bool (is_whole form says (begun ++ t ∷ []))) [
+      | inl full ↦ rw full (omega (arith, sum_by-cons sizes (begun ++ t ∷ []) (grouped_from form says [] ts), grouped_sizes form says [] ts, one, more))
+      | inr few ↦ rw few (omega (arith, grouped_sizes form says (begun ++ t ∷ []) ts, one, more))
+    ]
 
 -- ---- a node over a group
 
@@ -146,7 +133,7 @@ one_tree level Empty right = tt
 one_tree level (Leaf segment) right = (right.tree, tt)
 one_tree level (Node l ts) right = (right.tree, tt)
 
-tree_right : (levels level : ℕ) (ts : List Segments) → level + levels ≡ MOST_LEVEL → AllByRecursion (IsRightAt level) ts → sizes ts ≤ MOST_FILE → AllByRecursion IsTree (trees_in (tree_over levels level ts))
+tree_right : (levels level : ℕ) (ts : List Segments) → level + levels ≡ MOST_LEVEL → AllByRecursion (IsRightAt level) ts → sizes ts ≤ MOST_FILE → AllByRecursion IsTree (trees_in (tree_over ByCount of_segment levels level ts))
 unfolding tree_over
 tree_right zero level [] e all few = tt
 tree_right (suc levels) level [] e all few = tt
@@ -154,9 +141,9 @@ tree_right zero level (t ∷ []) e all few = one_tree level t all.0
 tree_right (suc levels) level (t ∷ []) e all few = one_tree level t all.0
 tree_right zero level (t ∷ u ∷ ts) e all few = tt
 tree_right (suc levels) level (t ∷ u ∷ ts) e all few =
-    let gs : List (List Segments) = grouped (t ∷ u ∷ ts) in
-    let sum : sum_by sizes gs ≤ MOST_FILE = omega (arith, grouped_sizes (t ∷ u ∷ ts), few) in
-    let row = row_right level gs (omega (arith, e)) (grouped_right level (t ∷ u ∷ ts) all) sum in
+    let gs : List (List Segments) = grouped ByCount (child_of of_segment) (t ∷ u ∷ ts) in
+    let sum : sum_by sizes gs ≤ MOST_FILE = omega (arith, grouped_sizes ByCount (child_of of_segment) [] (t ∷ u ∷ ts), few) in
+    let row = row_right level gs (omega (arith, e)) (grouped_right level [] (t ∷ u ∷ ts) (omega arith) tt all) sum in
     tree_right levels (level + 1) (map (joined (level + 1)) gs) (omega (arith, e)) row.0 (omega (arith, row.1, sum))
 
 pub leaves_right : (segments : List (List ℕ)) → AllByRecursion (λ segment. (1 ≤ length segment) × (length segment ≤ MOST_SEGMENT)) segments
@@ -169,6 +156,6 @@ leaves_right (s ∷ ss) all =
     )
 
 pub trees_are_right : TreesAreRight
-trees_are_right segments all few =
+trees_are_right ByCount segments all few =
     let right = leaves_right segments all in
     tree_right MOST_LEVEL 0 (map Leaf segments) refl right.0 (omega (arith, right.1, few))

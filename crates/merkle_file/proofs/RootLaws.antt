@@ -1,13 +1,15 @@
 -- What the root of a tree over segments says, its nodes, and the one spelling of a node.
 use Rattle.std.proofs.Common.{◌≡◌, ℕ, zero, suc, ◌+◌, ◌^◌, ◌≤◌, List, [], ◌∷◌, ◌++◌, length, map, refl, sym, ap, ◌∙◌, arith}
+use Rattle.std.specs.Prelude.{sum_by}
 use Rattle.std.specs.List.{AllByRecursion, concat}
 use Rattle.std.proofs.lemmas.List.{append-nil}
 use Rattle.std.proofs.lemmas.List.Sums.{sum_by-cons}
 use Rattle.sha2.specs.Sha256.{sha256}
 use Rattle.disk_format.specs.declared.numbers.TheConstants.{MOST_CHILDREN, MOST_FILE, MOST_LEVEL}
+use Rattle.merkle_file.specs.Form.{Form, ByCount, most_level}
 use Rattle.merkle_file.specs.Node.{Contents, IsNode, SpellingsTellNodes, spelling}
 use Rattle.merkle_file.specs.Reading.{IsWithin, any_node, contents_in}
-use Rattle.merkle_file.specs.Tree.{Tree, Trees, Empty, Leaf, Node, NoTree, Then, joined, level_of, nodes_of, nodes_below, of_segment, root_of, grouped, tree_over, tree_of, BytesAreSegments, NoneIsEmpty, OneIsLeaf}
+use Rattle.merkle_file.specs.Tree.{Tree, Trees, Empty, Leaf, Node, NoTree, Then, child_of, joined, level_of, nodes_of, nodes_below, of_segment, root_of, grouped, tree_over, tree_of, BytesAreSegments, NoneIsEmpty, OneIsLeaf}
 use Rattle.merkle_file.specs.Walk.{AreBelow, IsTree, trees_in}
 use Rattle.merkle_file.specs.Roots.{MayBeFile, IsRootOf, RootsAreRight, NodesAreRight}
 use Rattle.merkle_file.proofs.Nodes.{node_again}
@@ -29,18 +31,26 @@ spellings_tell_nodes n m right right' same = sym (read_again n right) ∙ ap con
 
 -- ---- small trees
 
-pub none_is_empty : NoneIsEmpty
+over_none : (form : Form) (levels : ℕ) → tree_over form of_segment levels 0 [] ≡ Empty
 unfolding tree_over
-none_is_empty = refl
+over_none form zero = refl
+over_none form (suc levels) = refl
+
+over_leaf : (form : Form) (levels : ℕ) (segment : List ℕ) → tree_over form of_segment levels 0 (Leaf segment ∷ []) ≡ Leaf segment
+unfolding tree_over
+over_leaf form zero segment = refl
+over_leaf form (suc levels) segment = refl
+
+pub none_is_empty : NoneIsEmpty
+none_is_empty form = over_none form (most_level form)
 
 pub one_is_leaf : OneIsLeaf
-unfolding tree_over
-one_is_leaf segment = refl
+one_is_leaf form segment = over_leaf form (most_level form) segment
 
 -- ---- bytes
 
 pub bytes_are_segments : BytesAreSegments
-bytes_are_segments segments few = ap concat (leaves_are_segments segments few)
+bytes_are_segments form segments few = ap concat (leaves_are_segments form segments few)
 
 -- ---- nodes
 
@@ -64,7 +74,7 @@ nodes_in (Leaf segment) right = tt
 nodes_in (Node level ts) right = nodes_right (Node level ts) right.0
 
 pub nodes_are_right : NodesAreRight
-nodes_are_right segments may = nodes_in (tree_of segments) (trees_are_right segments may.each may.most)
+nodes_are_right form segments may = nodes_in (tree_of form of_segment segments) (trees_are_right form segments may.each may.most)
 
 -- ---- the root
 
@@ -100,30 +110,30 @@ over_next level ts up t same next = record {
 }
 
 tree_over_right : (levels level : ℕ) (ts : List Segments) → level + levels ≡ MOST_LEVEL → 1 ≤ length ts → AllByRecursion (IsRightAt level) ts →
-    sizes ts ≤ MOST_FILE → length ts ≤ MOST_CHILDREN ^ levels → IsOver level ts (tree_over levels level ts)
+    sizes ts ≤ MOST_FILE → length ts ≤ MOST_CHILDREN ^ levels → IsOver level ts (tree_over ByCount of_segment levels level ts)
 unfolding tree_over
 tree_over_right levels level [] e some all most few = absurd (omega arith)
 tree_over_right zero level (t ∷ []) e some all most few = over_one level t (omega (arith, e)) all.0
 tree_over_right (suc levels) level (t ∷ []) e some all most few = over_one level t (omega (arith, e)) all.0
 tree_over_right zero level (t ∷ u ∷ ts) e some all most few = absurd (omega (arith, few))
 tree_over_right (suc levels) level (t ∷ u ∷ ts) e some all most few =
-    let groups : List (List Segments) = grouped (t ∷ u ∷ ts) in
+    let groups : List (List Segments) = grouped ByCount (child_of of_segment) (t ∷ u ∷ ts) in
     let up : List Segments = map (joined (level + 1)) groups in
-    let sum = grouped_sizes (t ∷ u ∷ ts) in
-    let row = row_right level groups (omega (arith, e)) (grouped_right level (t ∷ u ∷ ts) all) (omega (arith, sum, most)) in
+    let sum : sum_by sizes groups ≡ sizes (t ∷ u ∷ ts) = omega (arith, grouped_sizes ByCount (child_of of_segment) [] (t ∷ u ∷ ts)) in
+    let row = row_right level groups (omega (arith, e)) (grouped_right level [] (t ∷ u ∷ ts) (omega arith) tt all) (omega (arith, sum, most)) in
     let same : sizes up ≡ sizes (t ∷ u ∷ ts) = row.1 ∙ sum in
     let there : 1 ≤ length up = some_trees up (omega (arith, same, some_size level (t ∷ u ∷ ts) some all)) in
-    over_next level (t ∷ u ∷ ts) up (tree_over levels (level + 1) up) same
-    (tree_over_right levels (level + 1) up (omega (arith, e)) there row.0 (omega (arith, same, most)) (groups_few levels (level + 1) (t ∷ u ∷ ts) few))
+    over_next level (t ∷ u ∷ ts) up (tree_over ByCount of_segment levels (level + 1) up) same
+    (tree_over_right levels (level + 1) up (omega (arith, e)) there row.0 (omega (arith, same, most)) (groups_few of_segment levels (level + 1) (t ∷ u ∷ ts) few))
 
 -- a tree over two segments or more is a node
-root_of_many : (segments : List (List ℕ)) → 2 ≤ length segments → MayBeFile segments → IsRootOf segments (root_of of_segment (tree_of segments))
+root_of_many : (segments : List (List ℕ)) → 2 ≤ length segments → MayBeFile ByCount segments → IsRootOf ByCount segments (root_of of_segment (tree_of ByCount of_segment segments))
 root_of_many segments two may =
     let right = leaves_right segments may.each in
     let count = length_map {Y = Segments} Leaf segments in
     let over = tree_over_right MOST_LEVEL 0 (map Leaf segments) refl (omega (arith, count, two)) right.0
     (omega (arith, right.1, may.most)) (omega (arith, count, may.few)) in
-    let node : 1 ≤ level_of (tree_of segments) = above_zero (level_of (tree_of segments)) (λ none. omega (arith, over.one none, count, two)) in
+    let node : 1 ≤ level_of (tree_of ByCount of_segment segments) = above_zero (level_of (tree_of ByCount of_segment segments)) (λ none. omega (arith, over.one none, count, two)) in
     record {
       size = over.all ∙ right.1;
       level = over.low;
@@ -141,7 +151,7 @@ root_of_many segments two may =
 
 pub roots_are_right : RootsAreRight
 unfolding tree_over
-roots_are_right [] may = record {
+roots_are_right ByCount [] may = record {
   size = refl;
   level = omega arith;
   digest = length-sha256 [];
@@ -152,7 +162,7 @@ roots_are_right [] may = record {
   some = λ h. absurd (omega arith);
   empty = λ _. refl;
 }
-roots_are_right (s ∷ []) may = record {
+roots_are_right ByCount (s ∷ []) may = record {
   size = omega (arith, sum_by-cons length s []);
   level = omega arith;
   digest = length-sha256 s;
@@ -163,4 +173,4 @@ roots_are_right (s ∷ []) may = record {
   some = λ h. absurd (omega arith);
   empty = λ none. absurd (omega (arith, may.each.0.0, none));
 }
-roots_are_right (s ∷ u ∷ ss) may = root_of_many (s ∷ u ∷ ss) (omega arith) may
+roots_are_right ByCount (s ∷ u ∷ ss) may = root_of_many (s ∷ u ∷ ss) (omega arith) may

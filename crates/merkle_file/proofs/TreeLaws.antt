@@ -9,11 +9,12 @@ use Rattle.std.proofs.lemmas.List.Concat.{flat_map-cons}
 use Rattle.merkle_file.specs.declared.node.Child.{Child}
 use Rattle.merkle_file.specs.declared.top.Top.{Top}
 use Rattle.disk_format.specs.declared.numbers.TheConstants.{MOST_CHILDREN, MOST_LEVEL}
+use Rattle.merkle_file.specs.Form.{Form, ByCount, is_whole, most_level}
 use Rattle.merkle_file.specs.Node.{Contents}
-use Rattle.merkle_file.specs.Tree.{Tree, Trees, Empty, Leaf, Node, NoTree, Then, trees, joined, leaves, leaves_below, child_of, children_of, nodes_of, nodes_below, level_of, root_of, of_segment, itself, parent, grouped, tree_over, tree_of, SegmentsAlike, LeavesAreSegments}
-use Rattle.merkle_file.specs.Building.{is_whole, whole_from, rest_from, whole, rest}
+use Rattle.merkle_file.specs.Tree.{Tree, Trees, Empty, Leaf, Node, NoTree, Then, trees, joined, leaves, leaves_below, child_of, children_of, nodes_of, nodes_below, level_of, root_of, of_segment, itself, parent, grouped, grouped_from, last_group, tree_over, tree_of, SegmentsAlike, LeavesAreSegments}
+use Rattle.merkle_file.specs.Building.{whole, rest}
 use Rattle.merkle_file.proofs.Pushing.{counted}
-use Rattle.merkle_file.proofs.Groups.{last_group, grouped_is}
+use Rattle.merkle_file.proofs.Groups.{grouped_is}
 
 -- ---- a tree with other leaves
 
@@ -65,38 +66,32 @@ pub length_map : {X Y : Type 0} (h : X → Y) (xs : List X) → length (map h xs
 length_map h [] = refl
 length_map h (x ∷ xs) = ap suc (length_map h xs)
 
-same_whole : {X Y : Type 0} (h : X → Y) (begun : List X) (x : X) → is_whole (map h begun ++ h x ∷ []) ≡ is_whole (begun ++ x ∷ [])
-same_whole h begun x = ap (λ (n : ℕ). eqb n MOST_CHILDREN) (omega (arith, length-append (map h begun) (h x ∷ []), length-append begun (x ∷ []), length_map h begun))
+-- A function tells of other elements what is said of these.
+abbrev pub SaysSame : {X Y : Type 0} → (X → Y) → (X → Child) → (Y → Child) → Type 0
+SaysSame {X} h says tells = (x : X) → tells (h x) ≡ says x
 
-whole-map : {X Y : Type 0} (h : X → Y) (begun xs : List X) → whole_from (map h begun) (map h xs) ≡ map (map h) (whole_from begun xs)
-unfolding whole_from
-whole-map h begun [] = refl
-whole-map h begun (x ∷ xs) =
-    let more : map h (begun ++ x ∷ []) ≡ map h begun ++ h x ∷ [] = map-append h begun (x ∷ []) in
-    elim (cases_Bool (is_whole (begun ++ x ∷ []))) [
-      | inl full ↦ rw (same_whole h begun x, full, ← more) (ap (λ gs. map h (begun ++ x ∷ []) ∷ gs) (whole-map h [] xs))
-      | inr few ↦ rw (same_whole h begun x, few, ← more) (whole-map h (begun ++ x ∷ []) xs)
-    ]
+same_whole : {X Y : Type 0} (form : Form) (h : X → Y) (says : X → Child) (tells : Y → Child) → SaysSame h says tells → (group : List X) → is_whole form tells (map h group) ≡ is_whole form says group
+same_whole ByCount h says tells same group = ap (λ (n : ℕ). eqb n MOST_CHILDREN) (length_map h group)
 
-rest-map : {X Y : Type 0} (h : X → Y) (begun xs : List X) → rest_from (map h begun) (map h xs) ≡ map h (rest_from begun xs)
-unfolding rest_from
-rest-map h begun [] = refl
-rest-map h begun (x ∷ xs) =
-    let more : map h (begun ++ x ∷ []) ≡ map h begun ++ h x ∷ [] = map-append h begun (x ∷ []) in
-    elim (cases_Bool (is_whole (begun ++ x ∷ []))) [
-      | inl full ↦ rw (same_whole h begun x, full) (rest-map h [] xs)
-      | inr few ↦ rw (same_whole h begun x, few, ← more) (rest-map h (begun ++ x ∷ []) xs)
-    ]
+-- one element more
+whole_one : {X Y : Type 0} (form : Form) (h : X → Y) (says : X → Child) (tells : Y → Child) → SaysSame h says tells → (begun : List X) (x : X)
+    → is_whole form tells (map h begun ++ h x ∷ []) ≡ is_whole form says (begun ++ x ∷ [])
+whole_one form h says tells same begun x = ap (λ group. is_whole form tells group) (sym (map-append h begun (x ∷ []))) ∙ same_whole form h says tells same (begun ++ x ∷ [])
 
 last_group-map : {X Y : Type 0} (h : X → Y) (xs : List X) → last_group (map h xs) ≡ map (map h) (last_group xs)
 last_group-map h [] = refl
 last_group-map h (x ∷ xs) = refl
 
-grouped-map : {X Y : Type 0} (h : X → Y) (xs : List X) → grouped (map h xs) ≡ map (map h) (grouped xs)
-grouped-map h xs =
-    grouped_is (map h xs)
-    ∙ rw (whole-map h [] xs, rest-map h [] xs, last_group-map h (rest xs)) (sym (map-append (map h) (whole xs) (last_group (rest xs))))
-    ∙ ap (map (map h)) (sym (grouped_is xs))
+grouped-map : {X Y : Type 0} (form : Form) (h : X → Y) (says : X → Child) (tells : Y → Child) → SaysSame h says tells → (begun xs : List X)
+    → grouped_from form tells (map h begun) (map h xs) ≡ map (map h) (grouped_from form says begun xs)
+unfolding grouped_from
+grouped-map form h says tells same begun [] = last_group-map h begun
+grouped-map form h says tells same begun (x ∷ xs) =
+    let more : map h (begun ++ x ∷ []) ≡ map h begun ++ h x ∷ [] = map-append h begun (x ∷ []) in
+    elim (cases_Bool (is_whole form says (begun ++ x ∷ []))) [
+      | inl full ↦ rw (whole_one form h says tells same begun x, full, ← more) (ap (λ gs. map h (begun ++ x ∷ []) ∷ gs) (grouped-map form h says tells same [] xs))
+      | inr few ↦ rw (whole_one form h says tells same begun x, few, ← more) (grouped-map form h says tells same (begun ++ x ∷ []) xs)
+    ]
 
 -- ---- the tree over other leaves
 
@@ -108,27 +103,29 @@ joined-map : {A B : Type 0} (f : A → B) (level : ℕ) (groups : List (List (Tr
 joined-map f level [] = refl
 joined-map f level (g ∷ gs) = ap (λ (ts : Trees _). Node level ts ∷ map (joined level) (map (map (with_leaves f)) gs)) (trees-map f g) ∙ ap (λ (us : List (Tree _)). Node level (with_leaves_below f (trees g)) ∷ us) (joined-map f level gs)
 
-tree_over-map : {A B : Type 0} (f : A → B) (levels level : ℕ) (ts : List (Tree A)) → tree_over levels level (map (with_leaves f) ts) ≡ with_leaves f (tree_over levels level ts)
+tree_over-map : {A : Type 0} (form : Form) (leaf : A → Child) (levels level : ℕ) (ts : List (Tree A)) → tree_over form itself levels level (map (with_leaves leaf) ts) ≡ with_leaves leaf (tree_over form leaf levels level ts)
 unfolding tree_over
-tree_over-map f zero level [] = refl
-tree_over-map f (suc levels) level [] = refl
-tree_over-map f zero level (t ∷ []) = refl
-tree_over-map f (suc levels) level (t ∷ []) = refl
-tree_over-map f zero level (t ∷ u ∷ ts) = refl
-tree_over-map f (suc levels) level (t ∷ u ∷ ts) =
-    ap (λ (gs : List (List (Tree _))). tree_over levels (level + 1) (map (joined (level + 1)) gs)) (grouped-map (with_leaves f) (t ∷ u ∷ ts))
-    ∙ ap (tree_over levels (level + 1)) (joined-map f (level + 1) (grouped (t ∷ u ∷ ts)))
-    ∙ tree_over-map f levels (level + 1) (map (joined (level + 1)) (grouped (t ∷ u ∷ ts)))
+tree_over-map form leaf zero level [] = refl
+tree_over-map form leaf (suc levels) level [] = refl
+tree_over-map form leaf zero level (t ∷ []) = refl
+tree_over-map form leaf (suc levels) level (t ∷ []) = refl
+tree_over-map form leaf zero level (t ∷ u ∷ ts) = refl
+tree_over-map form leaf (suc levels) level (t ∷ u ∷ ts) =
+    let groups : List (List (Tree _)) = grouped form (child_of leaf) (t ∷ u ∷ ts) in
+    ap (λ (gs : List (List (Tree Child))). tree_over form itself levels (level + 1) (map (joined (level + 1)) gs))
+    (grouped-map form (with_leaves leaf) (child_of leaf) (child_of itself) (same_child leaf) [] (t ∷ u ∷ ts))
+    ∙ ap (tree_over form itself levels (level + 1)) (joined-map leaf (level + 1) groups)
+    ∙ tree_over-map form leaf levels (level + 1) (map (joined (level + 1)) groups)
 
 leaves-map : {A B : Type 0} (f : A → B) (xs : List A) → map Leaf (map f xs) ≡ map (with_leaves f) (map Leaf xs)
 leaves-map f [] = refl
 leaves-map f (x ∷ xs) = ap (λ (ts : List (Tree _)). Leaf (f x) ∷ ts) (leaves-map f xs)
 
 pub segments_alike : SegmentsAlike
-segments_alike segments =
-    let same : tree_of (map of_segment segments) ≡ with_leaves of_segment (tree_of segments) =
-    ap (tree_over MOST_LEVEL 0) (leaves-map of_segment segments) ∙ tree_over-map of_segment MOST_LEVEL 0 (map Leaf segments) in
-    (ap (root_of itself) same ∙ same_root of_segment (tree_of segments), ap (nodes_of itself) same ∙ same_nodes of_segment (tree_of segments))
+segments_alike form segments =
+    let same : tree_of form itself (map of_segment segments) ≡ with_leaves of_segment (tree_of form of_segment segments) =
+    ap (tree_over form itself (most_level form) 0) (leaves-map of_segment segments) ∙ tree_over-map form of_segment (most_level form) 0 (map Leaf segments) in
+    (ap (root_of itself) same ∙ same_root of_segment (tree_of form of_segment segments), ap (nodes_of itself) same ∙ same_nodes of_segment (tree_of form of_segment segments))
 
 -- ---- the leaves of a tree
 
@@ -138,29 +135,23 @@ flat ts = flat_map leaves ts
 flat_one : {A : Type 0} (begun : List (Tree A)) (x : Tree A) → flat (begun ++ x ∷ []) ≡ flat begun ++ leaves x
 flat_one begun x = flat_map-append leaves begun (x ∷ []) ∙ ap (λ (out : List _). flat begun ++ out) (flat_map-cons leaves x [] ∙ append-nil (leaves x))
 
--- groups, one after the other, are the list
-groups_join : {A : Type 0} (begun xs : List (Tree A)) → flat_map flat (whole_from begun xs) ++ flat (rest_from begun xs) ≡ flat begun ++ flat xs
-unfolding whole_from rest_from
-groups_join begun [] = sym (append-nil (flat begun))
-groups_join begun (x ∷ xs) =
-    let apart : flat (begun ++ x ∷ []) ++ flat xs ≡ flat begun ++ flat (x ∷ xs) =
-    ap (λ (out : List _). out ++ flat xs) (flat_one begun x) ∙ append_assoc (flat begun) (leaves x) (flat xs) ∙ ap (λ (out : List _). flat begun ++ out) (sym (flat_map-cons leaves x xs)) in
-    elim (cases_Bool (is_whole (begun ++ x ∷ []))) [
-      | inl full ↦
-          (let first : flat_map flat ((begun ++ x ∷ []) ∷ whole_from [] xs) ≡ flat (begun ++ x ∷ []) ++ flat_map flat (whole_from [] xs) = flat_map-cons flat (begun ++ x ∷ []) (whole_from [] xs) in
-          rw full (ap (λ (out : List _). out ++ flat (rest_from [] xs)) first ∙ append_assoc (flat (begun ++ x ∷ [])) (flat_map flat (whole_from [] xs)) (flat (rest_from [] xs))
-          ∙ ap (λ (out : List _). flat (begun ++ x ∷ []) ++ out) (groups_join [] xs) ∙ apart))
-      | inr few ↦ rw few (groups_join (begun ++ x ∷ []) xs ∙ apart)
-    ]
-
 last_join : {A : Type 0} (ts : List (Tree A)) → flat_map flat (last_group ts) ≡ flat ts
 last_join [] = refl
 last_join (t ∷ ts) = flat_map-cons flat (t ∷ ts) [] ∙ append-nil (flat (t ∷ ts))
 
-grouped_join : {A : Type 0} (ts : List (Tree A)) → flat_map flat (grouped ts) ≡ flat ts
-grouped_join ts =
-    ap (flat_map flat) (grouped_is ts)
-    ∙ flat_map-append flat (whole ts) (last_group (rest ts)) ∙ ap (λ (out : List _). flat_map flat (whole ts) ++ out) (last_join (rest ts)) ∙ groups_join [] ts
+-- groups, one after the other, are the list
+grouped_join : {A : Type 0} (form : Form) (says : Tree A → Child) (begun xs : List (Tree A)) → flat_map flat (grouped_from form says begun xs) ≡ flat begun ++ flat xs
+unfolding grouped_from
+grouped_join form says begun [] = last_join begun ∙ sym (append-nil (flat begun))
+grouped_join form says begun (x ∷ xs) =
+    let apart : flat (begun ++ x ∷ []) ++ flat xs ≡ flat begun ++ flat (x ∷ xs) =
+    ap (λ (out : List _). out ++ flat xs) (flat_one begun x) ∙ append_assoc (flat begun) (leaves x) (flat xs) ∙ ap (λ (out : List _). flat begun ++ out) (sym (flat_map-cons leaves x xs)) in
+    elim (cases_Bool (is_whole form says (begun ++ x ∷ []))) [
+      | inl full ↦
+          rw full (flat_map-cons flat (begun ++ x ∷ []) (grouped_from form says [] xs)
+          ∙ ap (λ (out : List _). flat (begun ++ x ∷ []) ++ out) (grouped_join form says [] xs) ∙ apart)
+      | inr few ↦ rw few (grouped_join form says (begun ++ x ∷ []) xs ∙ apart)
+    ]
 
 leaves-trees : {A : Type 0} (ts : List (Tree A)) → leaves_below (trees ts) ≡ flat ts
 leaves-trees [] = refl
@@ -183,26 +174,40 @@ last_few [] = omega arith
 last_few (x ∷ xs) = omega arith
 
 -- there are few enough groups for one level less
-pub groups_few : {A : Type 0} (levels level : ℕ) (ts : List (Tree A)) → length ts ≤ MOST_CHILDREN ^ suc levels → length (map (joined level) (grouped ts)) ≤ MOST_CHILDREN ^ levels
-groups_few levels level ts few =
-    let count = counted [] ts (omega arith) in
-    omega (arith, few, count.sum, pow-suc MOST_CHILDREN levels, length_map (joined level) (grouped ts), ap length (grouped_is ts), length-append (whole ts) (last_group (rest ts)), length-last (rest ts), last_few (rest ts))
+pub groups_few : {A : Type 0} (leaf : A → Child) (levels level : ℕ) (ts : List (Tree A)) → length ts ≤ MOST_CHILDREN ^ suc levels
+    → length (map (joined level) (grouped ByCount (child_of leaf) ts)) ≤ MOST_CHILDREN ^ levels
+groups_few leaf levels level ts few =
+    let says : Tree _ → Child = child_of leaf in
+    let count = counted says [] ts (omega arith) in
+    let left = rest ByCount says ts in
+    omega (
+      arith,
+      few,
+      count.sum,
+      pow-suc MOST_CHILDREN levels,
+      length_map (joined level) (grouped ByCount says ts),
+      ap length (grouped_is ByCount says ts),
+      length-append (whole ByCount says ts) (last_group left),
+      length-last left,
+      last_few left,
+    )
 
-leaves_over : {A : Type 0} (levels level : ℕ) (ts : List (Tree A)) → length ts ≤ MOST_CHILDREN ^ levels → leaves (tree_over levels level ts) ≡ flat ts
+leaves_over : {A : Type 0} (leaf : A → Child) (levels level : ℕ) (ts : List (Tree A)) → length ts ≤ MOST_CHILDREN ^ levels → leaves (tree_over ByCount leaf levels level ts) ≡ flat ts
 unfolding tree_over
-leaves_over zero level [] few = refl
-leaves_over (suc levels) level [] few = refl
-leaves_over zero level (t ∷ []) few = sym (flat_map-cons leaves t [] ∙ append-nil (leaves t))
-leaves_over (suc levels) level (t ∷ []) few = sym (flat_map-cons leaves t [] ∙ append-nil (leaves t))
-leaves_over zero level (t ∷ u ∷ ts) few = absurd (omega arith)
-leaves_over (suc levels) level (t ∷ u ∷ ts) few =
-    leaves_over levels (level + 1) (map (joined (level + 1)) (grouped (t ∷ u ∷ ts))) (groups_few levels (level + 1) (t ∷ u ∷ ts) few)
-    ∙ flat-joined (level + 1) (grouped (t ∷ u ∷ ts)) ∙ grouped_join (t ∷ u ∷ ts)
+leaves_over leaf zero level [] few = refl
+leaves_over leaf (suc levels) level [] few = refl
+leaves_over leaf zero level (t ∷ []) few = sym (flat_map-cons leaves t [] ∙ append-nil (leaves t))
+leaves_over leaf (suc levels) level (t ∷ []) few = sym (flat_map-cons leaves t [] ∙ append-nil (leaves t))
+leaves_over leaf zero level (t ∷ u ∷ ts) few = absurd (omega arith)
+leaves_over leaf (suc levels) level (t ∷ u ∷ ts) few =
+    let groups : List (List (Tree _)) = grouped ByCount (child_of leaf) (t ∷ u ∷ ts) in
+    leaves_over leaf levels (level + 1) (map (joined (level + 1)) groups) (groups_few leaf levels (level + 1) (t ∷ u ∷ ts) few)
+    ∙ flat-joined (level + 1) groups ∙ grouped_join ByCount (child_of leaf) [] (t ∷ u ∷ ts)
 
 flat-leaves : {A : Type 0} (xs : List A) → flat (map Leaf xs) ≡ xs
 flat-leaves [] = refl
 flat-leaves (x ∷ xs) = flat_map-cons leaves (Leaf x) (map Leaf xs) ∙ ap (λ (out : List _). x ∷ out) (flat-leaves xs)
 
 pub leaves_are_segments : LeavesAreSegments
-leaves_are_segments segments few =
-    leaves_over MOST_LEVEL 0 (map Leaf segments) (omega (arith, few, length_map {Y = Tree (List ℕ)} Leaf segments)) ∙ flat-leaves segments
+leaves_are_segments ByCount segments few =
+    leaves_over of_segment MOST_LEVEL 0 (map Leaf segments) (omega (arith, few, length_map {Y = Tree (List ℕ)} Leaf segments)) ∙ flat-leaves segments

@@ -1,3 +1,4 @@
+pub mod Form
 pub mod Node
 pub mod Reading
 pub mod Tree
@@ -7,3 +8,4 @@ pub mod Walk
 pub mod Roots
 pub mod Steps
 pub mod Laws
+pub mod Order

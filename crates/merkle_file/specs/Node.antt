@@ -4,12 +4,17 @@ use Rattle.std.specs.List.{flat_map, AllByRecursion}
 use Rattle.std.specs.Int.{w16, w64, to_be_bytes}
 use Rattle.sha2.specs.Sha256.{sha256}
 use Rattle.merkle_file.specs.declared.node.Child.{Child}
-use Rattle.disk_format.specs.declared.numbers.TheConstants.{NODE_FORM, MOST_CHILDREN, MOST_FILE, MOST_LEVEL, MOST_SEGMENT}
+use Rattle.disk_format.specs.declared.numbers.TheConstants.{MOST_FILE, MOST_SEGMENT}
+use Rattle.merkle_file.specs.Form.{Form, ByCount, form_byte, most_children, most_level}
 
 -- what a node says: its level, and of each child the digest and the length of its subtree
 pub record Contents : Type 0 where
   pub level : ℕ
   pub children : List Child
+
+-- the form of the tree that a node is of: there is one
+abbrev pub form_of : Contents → Form
+form_of n = ByCount
 
 -- how many bytes of the file lie below these children
 abbrev pub total : List Child → ℕ
@@ -21,7 +26,7 @@ entry c = c.digest ++ to_be_bytes w64 c.length
 
 -- the one spelling of a node: its level, the form, the number of children, and of each its entry
 unfoldable pub spelling : Contents → List ℕ
-spelling n = (n.level ∷ NODE_FORM ∷ to_be_bytes w16 (length n.children)) ++ flat_map entry n.children
+spelling n = (n.level ∷ form_byte (form_of n) ∷ to_be_bytes w16 (length n.children)) ++ flat_map entry n.children
 
 -- the digest of a node is that of its spelling
 abbrev pub node_digest : Contents → List ℕ
@@ -40,9 +45,9 @@ pub record IsChild (level : ℕ) (c : Child) : Type 0 where
 -- the rules of a node
 pub record IsNode (n : Contents) : Type 0 where
   pub above : 1 ≤ n.level
-  pub level : n.level ≤ MOST_LEVEL
+  pub level : n.level ≤ most_level (form_of n)
   pub some : 1 ≤ length n.children
-  pub most : length n.children ≤ MOST_CHILDREN
+  pub most : length n.children ≤ most_children (form_of n)
   pub each : AllByRecursion (IsChild n.level) n.children
   pub total : total n.children ≤ MOST_FILE
 

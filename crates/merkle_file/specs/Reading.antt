@@ -6,7 +6,8 @@ use Rattle.merkle_file.specs.declared.fault.FieldFault.{FieldFault}
 use Rattle.merkle_file.specs.declared.fault.NodeFault.{NodeFault}
 use Rattle.merkle_file.specs.declared.fault.NodeFault.TheVariants.{Field, Memory}
 use Rattle.merkle_file.specs.declared.reading.Asked.{Asked}
-use Rattle.disk_format.specs.declared.numbers.TheConstants.{NODE_FORM, MOST_CHILDREN, MOST_FILE, MOST_LEVEL}
+use Rattle.disk_format.specs.declared.numbers.TheConstants.{MOST_FILE, MOST_LEVEL}
+use Rattle.merkle_file.specs.Form.{ByCount, form_byte, most_children}
 use Rattle.merkle_file.specs.Node.{Contents, IsNode, spelling, total, greatest_child}
 
 -- a field that stands at a place and was got so
@@ -43,7 +44,7 @@ pub record IsNodeBytes (bytes : List ℕ) : Type 0 where
 
 -- Whether so many children may stand in so many bytes: there are some, not too many, and the bytes are as many as they take.
 unfoldable pub is_right_count : ℕ → ℕ → Bool
-is_right_count count size = nat_le 1 count && nat_le count MOST_CHILDREN && (size == 4 + 40 * count)
+is_right_count count size = nat_le 1 count && nat_le count (most_children ByCount) && (size == 4 + 40 * count)
 
 -- The first wrong field of what comes before the entries. One that isn't there whole is wrong, and got as 0. Where the
 -- number of bytes isn't that of so many entries, the number of children is wrong.
@@ -52,7 +53,7 @@ head_fault asked bytes =
     if length bytes == 0 then wrong 0 0
     else if nat_lt (slice_index bytes 0) asked.lowest || nat_lt asked.greatest (slice_index bytes 0) then wrong 0 (slice_index bytes 0)
     else if length bytes == 1 then wrong 1 0
-    else if slice_index bytes 1 == NODE_FORM then
+    else if slice_index bytes 1 == form_byte ByCount then
     if nat_lt (length bytes) 4 then wrong 2 0
     else if is_right_count (short_number (drop 2 bytes)) (length bytes) then None
     else wrong 2 (short_number (drop 2 bytes))

@@ -4,6 +4,7 @@ use Rattle.std.specs.Global.{Vec}
 use Rattle.std.specs.List.{AllByRecursion}
 use Rattle.merkle_file.specs.declared.node.Child.{Child}
 use Rattle.disk_format.specs.declared.numbers.TheConstants.{MOST_CHILDREN, MOST_FILE, MOST_LEVEL}
+use Rattle.merkle_file.specs.Form.{ByCount}
 use Rattle.merkle_file.specs.Node.{Contents, total, IsChild, IsNode}
 use Rattle.merkle_file.specs.Building.{count_of, total_of, AreRows}
 use Rattle.merkle_file.specs.Steps.{place}
@@ -23,7 +24,7 @@ pub record CanTake (level : ℕ) (row : List Child) (c : Child) : Type 0 where
 -- a child may be placed in the first of these rows, which go from a level to the last
 pub record CanPlace (level : ℕ) (c : Child) (rows : List (List Child)) : Type 0 where
   pub levels : level + length rows ≡ MOST_LEVEL
-  pub right : AreRows level rows
+  pub right : AreRows ByCount level rows
   pub child : IsChild (level + 1) c
   pub room : count_of rows + 1 < MOST_CHILDREN ^ length rows
   pub total : total_of rows + c.length ≤ MOST_FILE
@@ -32,7 +33,7 @@ pub record CanPlace (level : ℕ) (c : Child) (rows : List (List Child)) : Type 
 pub record CanClose (level : ℕ) (carried : List Child) (rows : List (List Child)) : Type 0 where
   pub levels : level + length rows ≡ MOST_LEVEL
   pub some : 0 < length rows
-  pub right : AreRows level rows
+  pub right : AreRows ByCount level rows
   pub one : length carried ≤ 1
   pub each : AllByRecursion (IsChild (level + 1)) carried
   pub room : MOST_CHILDREN * (count_of rows + length carried) ≤ MOST_CHILDREN ^ length rows

@@ -1,10 +1,10 @@
 -- Merkle trees: leaves are grouped from the left, level by level, until one tree is left (docs/FORMAT.md, "Nodes").
-use Rattle.std.specs.Prelude.{◌≡◌, ◌≤◌, ◌^◌, ℕ, zero, suc, ◌+◌, List, [], ◌∷◌, ◌++◌, length, take, drop, map}
+use Rattle.std.specs.Prelude.{◌≡◌, ◌≤◌, ℕ, zero, suc, ◌+◌, if◌then◌else◌, List, [], ◌∷◌, ◌++◌, length, take, drop, map}
 use Rattle.std.specs.List.{concat, flat_map}
 use Rattle.sha2.specs.Sha256.{sha256}
 use Rattle.merkle_file.specs.declared.node.Child.{Child}
 use Rattle.merkle_file.specs.declared.top.Top.{Top}
-use Rattle.disk_format.specs.declared.numbers.TheConstants.{MOST_CHILDREN, MOST_LEVEL}
+use Rattle.merkle_file.specs.Form.{Form, ByCount, Fits, is_whole, most_children, most_level}
 use Rattle.merkle_file.specs.Node.{Contents, total, node_digest}
 
 -- A tree over leaves: nothing, a leaf, or a node of a level over its children in order. Where the leaves are
@@ -89,49 +89,63 @@ itself c = c
 
 -- ---- grouping
 
--- The first groups of a list, at most so many: MOST_CHILDREN elements, or those that are left, and then the groups of
--- what follows.
-unfoldable pub grouped_up_to : {X : Type 0} → ℕ → List X → List (List X)
-grouped_up_to zero xs = []
-grouped_up_to (suc most) [] = []
-grouped_up_to (suc most) (x ∷ xs) = take MOST_CHILDREN (x ∷ xs) ∷ grouped_up_to most (drop MOST_CHILDREN (x ∷ xs))
+-- what is left at the end of a list, as a group, if anything is
+abbrev pub last_group : {X : Type 0} → List X → List (List X)
+last_group [] = []
+last_group (x ∷ xs) = (x ∷ xs) ∷ []
 
--- all groups: there are never more of them than elements, since none is empty
-unfoldable pub grouped : {X : Type 0} → List X → List (List X)
-grouped xs = grouped_up_to (length xs) xs
+-- The groups of a list from the left, where a group is begun already: it takes elements up to the first that makes it
+-- whole, and what follows is grouped so in turn.
+unfoldable pub grouped_from : {X : Type 0} → Form → (X → Child) → List X → List X → List (List X)
+grouped_from form says begun [] = last_group begun
+grouped_from form says begun (x ∷ xs) =
+    if is_whole form says (begun ++ x ∷ []) then (begun ++ x ∷ []) ∷ grouped_from form says [] xs
+    else grouped_from form says (begun ++ x ∷ []) xs
+
+-- all groups of a list, by what a node says of each element
+abbrev pub grouped : {X : Type 0} → Form → (X → Child) → List X → List (List X)
+grouped form says xs = grouped_from form says [] xs
 
 -- ---- the tree over leaves
 
--- The tree over trees that have a level: level by level until one is left, at most so many levels up.
-unfoldable pub tree_over : {A : Type 0} → ℕ → ℕ → List (Tree A) → Tree A
-tree_over levels level [] = Empty
-tree_over levels level (t ∷ []) = t
-tree_over zero level (t ∷ u ∷ ts) = Empty
-tree_over (suc levels) level (t ∷ u ∷ ts) = tree_over levels (level + 1) (map (joined (level + 1)) (grouped (t ∷ u ∷ ts)))
+-- The tree of a form over trees that have a level: level by level until one is left, at most so many levels up. A node
+-- says of a leaf what the function does.
+unfoldable pub tree_over : {A : Type 0} → Form → (A → Child) → ℕ → ℕ → List (Tree A) → Tree A
+tree_over form leaf levels level [] = Empty
+tree_over form leaf levels level (t ∷ []) = t
+tree_over form leaf zero level (t ∷ u ∷ ts) = Empty
+tree_over form leaf (suc levels) level (t ∷ u ∷ ts) =
+    tree_over form leaf levels (level + 1) (map (joined (level + 1)) (grouped form (child_of leaf) (t ∷ u ∷ ts)))
 
--- the tree over leaves, of which there are at most MOST_CHILDREN ^ MOST_LEVEL
-abbrev pub tree_of : {A : Type 0} → List A → Tree A
-tree_of xs = tree_over MOST_LEVEL 0 (map Leaf xs)
+-- the tree of a form over leaves, where it fits
+abbrev pub tree_of : {A : Type 0} → Form → (A → Child) → List A → Tree A
+tree_of form leaf xs = tree_over form leaf (most_level form) 0 (map Leaf xs)
 
 -- ---- the laws of trees
 
 -- The tree over segments and the tree over what a node says of them have one root and the same nodes.
 abbrev pub SegmentsAlike : Type 0
-SegmentsAlike = (segments : List (List ℕ)) →
-    (root_of itself (tree_of (map of_segment segments)) ≡ root_of of_segment (tree_of segments))
-    × (nodes_of itself (tree_of (map of_segment segments)) ≡ nodes_of of_segment (tree_of segments))
+SegmentsAlike = (form : Form) (segments : List (List ℕ)) →
+    (root_of itself (tree_of form itself (map of_segment segments)) ≡ root_of of_segment (tree_of form of_segment segments))
+    × (nodes_of itself (tree_of form itself (map of_segment segments)) ≡ nodes_of of_segment (tree_of form of_segment segments))
 
--- The leaves of the tree over a list are the list, in order, if it is not too long for six levels.
+-- The leaves of the tree over a list are the list, in order, if it fits.
 abbrev pub LeavesAreSegments : Type 0
-LeavesAreSegments = (segments : List (List ℕ)) → length segments ≤ MOST_CHILDREN ^ MOST_LEVEL → leaves (tree_of segments) ≡ segments
+LeavesAreSegments = (form : Form) (segments : List (List ℕ)) → Fits form of_segment segments → leaves (tree_of form of_segment segments) ≡ segments
 
 -- So its bytes are those of the segments, one after the other.
 abbrev pub BytesAreSegments : Type 0
-BytesAreSegments = (segments : List (List ℕ)) → length segments ≤ MOST_CHILDREN ^ MOST_LEVEL → bytes_of (tree_of segments) ≡ concat segments
+BytesAreSegments = (form : Form) (segments : List (List ℕ)) → Fits form of_segment segments → bytes_of (tree_of form of_segment segments) ≡ concat segments
 
 -- Over no segment there is no tree, and over one there is no node.
 abbrev pub NoneIsEmpty : Type 0
-NoneIsEmpty = tree_of {A = List ℕ} [] ≡ Empty
+NoneIsEmpty = (form : Form) → tree_of form of_segment [] ≡ Empty
 
 abbrev pub OneIsLeaf : Type 0
-OneIsLeaf = (segment : List ℕ) → tree_of (segment ∷ []) ≡ Leaf segment
+OneIsLeaf = (form : Form) (segment : List ℕ) → tree_of form of_segment (segment ∷ []) ≡ Leaf segment
+
+-- Where a node ends by the number of its children, a group is the first so many trees of a level, or all that are left,
+-- and then come the groups of the rest.
+abbrev pub GroupsAreTaken : Type 0
+GroupsAreTaken = (ts : List (Tree (List ℕ))) → 1 ≤ length ts → grouped ByCount (child_of of_segment) ts
+    ≡ take (most_children ByCount) ts ∷ grouped ByCount (child_of of_segment) (drop (most_children ByCount) ts)

@@ -8,6 +8,7 @@ use Rattle.merkle_file.specs.declared.want.Want.{Want}
 use Rattle.merkle_file.specs.declared.want.Want.TheVariants as wants
 use Rattle.disk_format.specs.declared.numbers.TheConstants.{MOST_CHILDREN, MOST_FILE, MOST_LEVEL, MOST_SEGMENT}
 use Rattle.merkle_file.specs.declared.stack.TheConstants.{STACK}
+use Rattle.merkle_file.specs.Form.{Form}
 use Rattle.merkle_file.specs.Node.{Contents, IsNode, spelling, total}
 use Rattle.std.specs.List.{flat_map, AllByRecursion}
 use Rattle.merkle_file.specs.Tree.{Tree, Trees, Empty, Leaf, Node, NoTree, Then, leaves, level_of, children_of, root_of, of_segment, tree_of}
@@ -112,5 +113,5 @@ segments_in ts = flat_map leaves ts
 
 -- The tree over segments of right lengths, no more of them than a file has bytes, has right nodes alone.
 abbrev pub TreesAreRight : Type 0
-TreesAreRight = (segments : List (List ℕ)) → AllByRecursion (λ segment. (1 ≤ length segment) × (length segment ≤ MOST_SEGMENT)) segments
-    → sum_by length segments ≤ MOST_FILE → AllByRecursion IsTree (trees_in (tree_of segments))
+TreesAreRight = (form : Form) (segments : List (List ℕ)) → AllByRecursion (λ segment. (1 ≤ length segment) × (length segment ≤ MOST_SEGMENT)) segments
+    → sum_by length segments ≤ MOST_FILE → AllByRecursion IsTree (trees_in (tree_of form of_segment segments))

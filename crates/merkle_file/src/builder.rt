@@ -8,7 +8,7 @@ use std::marker::Model;
 
 /// Builds the tree over the segments of a file as they come (docs/FORMAT.md, "Nodes"), and gives its nodes, children
 /// before parents.
-/// It keeps less than one node's children for each level, and the nodes that were not taken.
+/// It keeps less than one node's children for each level, the nodes that were not taken, and the number of segments.
 ///
 /// A call that finds no memory leaves it as it was.
 #[derive(Drop)]
@@ -16,6 +16,7 @@ pub struct TreeBuilder {
     alloc: Global,
     rows: Vec<Vec<Child>>,
     finished: VecDeque<Node>,
+    leaves: usize,
 }
 
 impl Model for TreeBuilder {
@@ -24,18 +25,18 @@ impl Model for TreeBuilder {
 
     ghost Value = { Progress };
 
-    ghost view = { λ b. record { rows = items_of b.rows.items; finished = b.finished.items } };
+    ghost view = { λ b. record { rows = items_of b.rows.items; finished = b.finished.items; leaves = b.leaves } };
 
-    ghost invariant = { λ b. IsProgress (record { rows = items_of b.rows.items; finished = b.finished.items }) };
+    ghost invariant = { λ b. IsProgress (record { rows = items_of b.rows.items; finished = b.finished.items; leaves = b.leaves }) };
 }
 
 impl TreeBuilder {
-    ghost use Rattle.std.specs.Prelude.{◌≡◌, ◌+◌, [], ◌∷◌, ◌++◌, List, IfNone, IfOk, OnErr, OnOk, replicate};
+    ghost use Rattle.std.specs.Prelude.{◌≡◌, ◌≤◌, ◌+◌, [], ◌∷◌, ◌++◌, List, IfNone, IfOk, OnErr, OnOk, length, replicate};
     ghost use Rattle.std.specs.Option.{option_to_list};
     ghost use Rattle.merkle_file.specs.declared.node.Child.{Child};
     ghost use Rattle.merkle_file.specs.Node.{Contents};
     ghost use Rattle.merkle_file.specs.Tree.{itself, nodes_of, root_of, tree_of};
-    ghost use Rattle.merkle_file.specs.Building.{Holds, IsProgress, MayPush, count_of, total_of};
+    ghost use Rattle.merkle_file.specs.Building.{Holds, IsProgress, MayPush, built_form, total_of};
 
     /// A builder that was pushed nothing. It fails for want of memory alone.
     pub fn new(alloc: Global) -> Result<TreeBuilder, AllocError>
@@ -45,6 +46,7 @@ impl TreeBuilder {
             alloc,
             rows: empty_rows(alloc)?,
             finished: VecDeque::new(alloc),
+            leaves: 0,
         })
     }
 
@@ -55,12 +57,16 @@ impl TreeBuilder {
         requires { MayPush self.old child }
         ensures pushed { OnOk result ((pushed : List Child) (taken : List Contents) →
             Holds self.old pushed taken → Holds self.new (pushed ++ child ∷ []) taken) }
-        ensures count { OnOk result (count_of self.new.rows ≡ count_of self.old.rows + 1) }
+        ensures count { OnOk result (self.new.leaves ≡ self.old.leaves + 1) }
         ensures length { OnOk result (total_of self.new.rows ≡ total_of self.old.rows + child.length) }
         ensures few { IsProgress self.new }
+        // At most one node of each level is finished.
+        ensures added { OnOk result (length self.new.finished ≤ length self.old.finished + MOST_LEVEL) }
         ensures err { OnErr result (self.new ≡ self.old) }
     {
-        place_leaf(self.alloc, &mut self.rows, &mut self.finished, child)
+        place_leaf(self.alloc, &mut self.rows, &mut self.finished, child)?;
+        self.leaves += 1;
+        Ok(())
     }
 
     /// Takes the first finished node that was not taken, if there is one.
@@ -68,6 +74,7 @@ impl TreeBuilder {
         ensures first { self.old.finished ≡ option_to_list result ++ self.new.finished }
         ensures none { IfNone result (self.old.finished ≡ []) }
         ensures rows { self.new.rows ≡ self.old.rows }
+        ensures leaves { self.new.leaves ≡ self.old.leaves }
         ensures taken { (pushed : List Child) (taken : List Contents) →
             Holds self.old pushed taken → Holds self.new pushed (taken ++ option_to_list result) }
     {
@@ -79,15 +86,19 @@ impl TreeBuilder {
     /// tree. It fails for want of memory alone, and changes nothing then.
     pub fn finish(&mut self) -> Result<Top, AllocError>
         ensures top { IfOk result (λ top. (pushed : List Child) (taken : List Contents) →
-            Holds self.old pushed taken → top ≡ root_of itself (tree_of pushed)) }
+            Holds self.old pushed taken → top ≡ root_of itself (tree_of (built_form self.old) itself pushed)) }
         ensures nodes { OnOk result ((pushed : List Child) (taken : List Contents) →
-            Holds self.old pushed taken → taken ++ self.new.finished ≡ nodes_of itself (tree_of pushed)) }
+            Holds self.old pushed taken → taken ++ self.new.finished ≡ nodes_of itself (tree_of (built_form self.old) itself pushed)) }
         ensures rows { OnOk result (self.new.rows ≡ replicate MOST_LEVEL []) }
+        ensures leaves { OnOk result (self.new.leaves ≡ 0) }
+        // At most one node of each level is finished.
+        ensures added { OnOk result (length self.new.finished ≤ length self.old.finished + MOST_LEVEL) }
         ensures err { OnErr result (self.new ≡ self.old) }
     {
         let mut closed = close(self.alloc, &self.rows)?;
         self.finished.append(&mut closed.nodes)?;
         clear(&mut self.rows);
+        self.leaves = 0;
         Ok(closed.top)
     }
 }

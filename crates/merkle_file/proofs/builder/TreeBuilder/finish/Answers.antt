@@ -7,6 +7,7 @@ use Rattle.merkle_file.specs.Building.{Progress, Holds}
 use Rattle.merkle_file.specs.Steps.{close}
 use Rattle.merkle_file.specs.Rows.{items_of}
 use Rattle.merkle_file.proofs.Placing.{length-items}
+use Rattle.merkle_file.proofs.Added.{added_closed}
 use Rattle.merkle_file.proofs.Progress.{cleared, fresh_progress, finished_holds}
 use Rattle.merkle_file.proofs.builder.TreeBuilder.finish.Goals as goal
 
@@ -21,11 +22,24 @@ pub returns-clause-top : goal.returns-clause-top
 returns-clause-top c = λ pushed taken holds.
     c.in_ok-closed.ensures.top
     ∙ ap (λ (rs : List (Vec Child)). (close 0 [] (items_of rs)).top) c.deref.ensures.value
-    ∙ (finished_holds (items_of c.self.inside.rows.items) c.self.inside.finished.items pushed taken c.self.invariant (subst (λ (b : Progress). Holds b pushed taken) (sym c.self.view_is) holds)).0
+    ∙ (finished_holds (items_of c.self.inside.rows.items) c.self.inside.finished.items c.self.inside.leaves pushed taken c.self.invariant (subst (λ (b : Progress). Holds b pushed taken) (sym c.self.view_is) holds)).0
 
 pub returns-clause-nodes : goal.returns-clause-nodes
 returns-clause-nodes c = λ pushed taken holds.
     ap (λ (ns : List Contents). taken ++ ns) (c.in_ok-append.ensures.items
     ∙ ap (λ (ns : List Contents). c.self.inside.finished.items ++ ns)
     (c.in_ok-closed.ensures.nodes ∙ ap (λ (rs : List (Vec Child)). (close 0 [] (items_of rs)).nodes) c.deref.ensures.value))
-    ∙ (finished_holds (items_of c.self.inside.rows.items) c.self.inside.finished.items pushed taken c.self.invariant (subst (λ (b : Progress). Holds b pushed taken) (sym c.self.view_is) holds)).1
+    ∙ (finished_holds (items_of c.self.inside.rows.items) c.self.inside.finished.items c.self.inside.leaves pushed taken c.self.invariant (subst (λ (b : Progress). Holds b pushed taken) (sym c.self.view_is) holds)).1
+
+pub returns-clause-added : goal.returns-clause-added
+returns-clause-added c =
+    let finished : List Contents = c.self.inside.finished.items in
+    let same : length finished ≡ length c.args.self.now.finished = ap (λ (b : Progress). length b.finished) c.self.view_is in
+    omega (
+      arith,
+      same,
+      added_closed (items_of c.self.inside.rows.items) finished c.append.new.self.items c.self.invariant.levels
+          (c.in_ok-append.ensures.items
+          ∙ ap (λ (ns : List Contents). finished ++ ns)
+          (c.in_ok-closed.ensures.nodes ∙ ap (λ (rs : List (Vec Child)). (close 0 [] (items_of rs)).nodes) c.deref.ensures.value)),
+    )

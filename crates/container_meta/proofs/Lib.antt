@@ -6,6 +6,7 @@ pub mod Parts
 pub mod Found
 pub mod Again
 pub mod Packing
+pub mod Compared
 pub mod Cut
 pub mod Encoded
 pub mod Stored

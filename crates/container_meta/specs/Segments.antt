@@ -1,5 +1,5 @@
 -- What an open container holds, and which header it has.
-use Rattle.std.specs.Prelude.{◌≡◌, ℕ, ◌+◌, List, [], ◌∷◌, length, take, drop, get_or, map, sum_by, Bool, true, false, nat_lt, nat_le, ◌&&◌}
+use Rattle.std.specs.Prelude.{◌≡◌, ℕ, ◌+◌, List, [], ◌∷◌, length, take, drop, get_or, map, sum_by, Bool, true, false, nat_lt, nat_le, ◌&&◌, ◌==◌}
 use Rattle.std.specs.List.{flat_map, list_any}
 use Rattle.std.specs.Str.{bytes_eq}
 use Rattle.sha2.specs.Sha256.{sha256}
@@ -33,6 +33,14 @@ keys_of contents = map (segment_key contents.kind) contents.segments
 
 abbrev pub has_key : Contents → List ℕ → Bool
 has_key contents key = list_any (λ k. bytes_eq k key) (keys_of contents)
+
+-- a segment of this level, with these bytes
+abbrev pub is_segment : Segment → Segment → Bool
+is_segment segment s = (s.level == segment.level) && bytes_eq s.bytes segment.bytes
+
+-- such a segment is in it
+abbrev pub has_segment : Contents → Segment → Bool
+has_segment contents segment = list_any (is_segment segment) contents.segments
 
 -- how many bytes of data segments have together
 abbrev pub bytes_in : List Segment → ℕ

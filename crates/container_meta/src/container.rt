@@ -72,7 +72,7 @@ impl Model for OpenContainer {
 impl OpenContainer {
     ghost use Rattle.base_model.specs.Bytes.{range};
     ghost use Rattle.container_meta.specs.Format.{is_id};
-    ghost use Rattle.container_meta.specs.Segments.{CanAdd, StandFrom, entries_from, segment_at, has_key, has_room as room_for};
+    ghost use Rattle.container_meta.specs.Segments.{CanAdd, StandFrom, entries_from, segment_at, has_key, has_room as room_for, has_segment, is_segment};
     ghost use Rattle.container_meta.specs.Spelling.{IsHeader, header_of, header_spelling, container_spelling};
 
     /// An empty container, with all the memory that it will need. It fails for want of memory alone.
@@ -130,6 +130,31 @@ impl OpenContainer {
         ensures { result ≡ has_key self.now key.now }
     {
         byte_of(self.kind) == key[0] && stands_in(&self.entries, &key[1..])
+    }
+
+    /// Whether the segment of a number has the level and the bytes of this one. Equal bytes have equal digests, so bytes
+    /// are compared only where digests are equal.
+    fn is_at(&self, i: usize, seg: &Seg) -> bool
+        requires { i < length self.now.segments }
+        ensures { result ≡ is_segment seg.now.segment (segment_at self.now.segments i) }
+    {
+        let entry = self.entries[i];
+        entry.level == seg.level()
+            && entry.digest == seg.digest()
+            && self.bytes_of(i) == seg.bytes()
+    }
+
+    /// Whether this segment, of this level and these bytes, is in it, and not only one of its digest. The kind is not
+    /// looked at.
+    pub fn holds(&self, seg: &Seg) -> bool
+        ensures { result ≡ has_segment self.now seg.now.segment }
+    {
+        for i in 0..self.len() {
+            if self.is_at(i, seg) {
+                return true;
+            }
+        }
+        false
     }
 
     /// Whether a segment of so many bytes fits: `try_add` then adds it.

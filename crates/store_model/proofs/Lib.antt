@@ -7,6 +7,7 @@ pub mod Frames
 pub mod Free
 pub mod HeldKept
 pub mod HeldSlots
+pub mod HeldTrees
 pub mod IndexSize
 pub mod Indexing
 pub mod Kept

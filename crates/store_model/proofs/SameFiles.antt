@@ -9,6 +9,7 @@ use Rattle.disk_format.specs.declared.numbers.TheConstants.{LEAST_SEGMENT, MOST_
 use Rattle.disk_format.specs.Cells.{Root, IsRoot}
 use Rattle.container_meta.specs.Spelling.{HeaderValue}
 use Rattle.namespace.specs.declared.record.Named.{Named}
+use Rattle.merkle_file.specs.Form.{ByCount}
 use Rattle.merkle_file.specs.Tree as tree
 use Rattle.merkle_file.specs.Tree.{Tree, Empty, Leaf, of_segment, tree_of}
 use Rattle.segmenter.proofs.SegmentLemmas.{segments_of-none}
@@ -129,11 +130,11 @@ not_filed name s t files image right none holds =
 -- a file of one segment is its tree's leaf, and the empty file has the empty tree
 pub tree_of_short : (bytes : List ℕ) → 0 < length bytes → length bytes ≤ LEAST_SEGMENT → file_tree bytes ≡ Leaf bytes
 unfolding file_tree
-tree_of_short bytes some few = ap tree_of (short_is_one bytes some few) ∙ one_is_leaf bytes
+tree_of_short bytes some few = ap (tree_of ByCount of_segment) (short_is_one bytes some few) ∙ one_is_leaf ByCount bytes
 
 pub tree_of_none : file_tree [] ≡ Empty
 unfolding file_tree
-tree_of_none = ap tree_of segments_of-none ∙ none_is_empty
+tree_of_none = ap (tree_of ByCount of_segment) segments_of-none ∙ none_is_empty ByCount
 
 root_by : (bytes : List ℕ) (t : Tree (List ℕ)) → file_tree bytes ≡ t
     → root_of bytes ≡ (let top = tree.root_of of_segment t in record { length = length bytes; level = top.level; digest = top.digest })

@@ -9,6 +9,7 @@ use Rattle.disk_format.specs.Cells.{Root}
 use Rattle.container_meta.specs.Spelling.{HeaderValue}
 use Rattle.merkle_file.specs.declared.node.Child.{Child}
 use Rattle.merkle_file.specs.declared.top.Top.{Top}
+use Rattle.merkle_file.specs.Form.{ByCount}
 use Rattle.merkle_file.specs.Node.{Contents, IsNode, spelling, node_digest, total}
 use Rattle.merkle_file.specs.Tree as tree
 use Rattle.merkle_file.specs.Tree.{Tree, Trees, Empty, Leaf, Node, NoTree, Then, leaves, leaves_below, child_of, children_of, level_of, of_segment, tree_of}
@@ -117,11 +118,11 @@ mutual
 -- the leaves of the tree of a file are its segments
 pub leaves_of_file : (bytes : List ℕ) → length bytes ≤ MOST_FILE → leaves (file_tree bytes) ≡ segments_of bytes
 unfolding file_tree
-leaves_of_file bytes few = leaves_are_segments (segments_of bytes) (are_few bytes few)
+leaves_of_file bytes few = leaves_are_segments ByCount (segments_of bytes) (are_few bytes few)
 
 pub right_file : (bytes : List ℕ) → length bytes ≤ MOST_FILE → IsRightTree (file_tree bytes)
 unfolding file_tree
-right_file bytes few = trees_are_right (segments_of bytes) (have_right_lengths bytes) (omega (arith, lengths_add_up bytes, few))
+right_file bytes few = trees_are_right ByCount (segments_of bytes) (have_right_lengths bytes) (omega (arith, lengths_add_up bytes, few))
 
 -- the tree of a file says how many bytes it has
 pub length_of_file : (bytes : List ℕ) → length bytes ≤ MOST_FILE → (child_of of_segment (file_tree bytes)).length ≡ length bytes

@@ -6,5 +6,6 @@ pub mod Journal
 pub mod Refusals
 pub mod Slots
 pub mod Standing
+pub mod Pieces
 pub mod Steps
 pub mod Trees

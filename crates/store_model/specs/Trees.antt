@@ -6,6 +6,7 @@ use Rattle.disk_format.specs.Cells.{Root}
 use Rattle.disk_format.specs.Layout.{data_at}
 use Rattle.container_meta.specs.declared.place.Place.{Place}
 use Rattle.container_meta.specs.Spelling.{HeaderValue}
+use Rattle.merkle_file.specs.Form.{ByCount}
 use Rattle.merkle_file.specs.Node.{Contents, IsNode, spelling, node_digest}
 use Rattle.merkle_file.specs.Tree as tree
 use Rattle.merkle_file.specs.Tree.{Tree, Trees, of_segment, tree_of}
@@ -15,7 +16,7 @@ use Rattle.store_model.specs.Slots.{Copy, newest}
 
 -- the tree of a file: that over the segments of its bytes
 unfoldable pub file_tree : List ℕ → Tree (List ℕ)
-file_tree bytes = tree_of (segments_of bytes)
+file_tree bytes = tree_of ByCount of_segment (segments_of bytes)
 
 -- the root of a file: how many bytes it has, and the level and the digest of its tree
 abbrev pub root_of : List ℕ → Root

@@ -231,7 +231,7 @@ module _ (among : ByteSet) (s : Store) (stored : Stored) (old new : CoreState) (
       → Moved (sealing_indexed (IsIn among) (next_id old) filled s stored.files) (ending blames answer) old.disk new.disk
   seal_moves filled answer effect right given = effect.moves.moves among s stored.files at.index at.index_known at.represents distinct (may_seal_all (IsIn among) filled.kind filled.segments right.1 given) at.stands
 
-  seal_holds : (filled : Contents) (answer : Result Answer Refusal) (after : List ℕ) → new.disk.content ≡ Some after → SealsOne filled answer old new → IsStep (asked.Seal filled) → IsGivenRight (IsIn among) (asked.Seal filled) answer bytes old
+  pub seal_holds : (filled : Contents) (answer : Result Answer Refusal) (after : List ℕ) → new.disk.content ≡ Some after → SealsOne filled answer old new → IsStep (asked.Seal filled) → IsGivenRight (IsIn among) (asked.Seal filled) answer bytes old
       → KeepsHeld (ending blames answer) (next_id old) filled s image after
   seal_holds filled answer after is effect right given = effect.moves.holds among s stored.files at.index image after at.index_known at.represents here is stands_here distinct (may_seal_all (IsIn among) filled.kind filled.segments right.1 given)
 

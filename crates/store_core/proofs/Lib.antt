@@ -4,6 +4,7 @@ pub mod Crashes
 pub mod Damage
 pub mod GivingFiles
 pub mod KeepingFiles
+pub mod KeepingSegments
 pub mod Making
 pub mod Opened
 pub mod OwnParts

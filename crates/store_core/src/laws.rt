@@ -1,4 +1,5 @@
 //! Laws of steps of a core, one after the other (docs/MODEL.md, 'The core').
+ghost use Rattle.store_core.specs.Keeping.{KeepsSegments};
 ghost use Rattle.store_core.specs.Runs.{RunsOn, KeepsFiles, GivesTheFile, ReadsAreChecked, EndsAreWhole, SurvivesCrashes, SurvivesSince, KeepsAcknowledged, EndsWithAll};
 ghost use Rattle.store_core.specs.Sound.{NeverDamaged, FindsFiles};
 
@@ -9,10 +10,16 @@ pub fn a_core_runs_on<C: HasState>()
     ensures { RunsOn C C.state }
 {}
 
-/// A core that isn't stopped has made exactly the commits and the seals that it acknowledged, and its invariant holds. The
-/// function does nothing.
+/// Over data without collisions, a core that began at a store and isn't stopped has made exactly the commits and the seals that
+/// it acknowledged, and its invariant holds. The function does nothing.
 pub fn a_core_keeps_files<C: HasState>()
     ensures { KeepsFiles C C.state }
+{}
+
+/// Over data without collisions, and of a core that began settled at a store and isn't stopped at the end: the segments that the
+/// steps of a run kept, claimed and held or sealed, are held then, bytes and all, in each image. The function does nothing.
+pub fn a_core_keeps_segments<C: HasState>()
+    ensures { KeepsSegments C C.state }
 {}
 
 /// A file that was opened is given as it was then, whatever steps others make. The function does nothing.
@@ -37,8 +44,8 @@ pub fn a_core_survives_crashes<C: HasState>()
     ensures end { EndsWithAll C C.state }
 {}
 
-/// No step of a run finds damage or misses a segment, and data never clashes; a name is found exactly where it has a file. The
-/// function does nothing.
+/// Over data without collisions, of a core that began at a store: no step of a run finds damage or misses a segment, and data
+/// never clashes; a name is found exactly where it has a file. The function does nothing.
 pub fn a_core_finds_no_damage<C: HasState>()
     ensures harmless { NeverDamaged C C.state }
     ensures names { FindsFiles C C.state }

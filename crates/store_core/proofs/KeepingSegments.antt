@@ -1,0 +1,269 @@
+-- The segments that the steps of a run kept are held at its end.
+use Rattle.std.proofs.Common.{◌≡◌, inl, inr, ℕ, List, [], ◌∷◌, ◌++◌, map, Option, Some, None, option_map, Result, Ok, Err, refl, sym, ◌∙◌, ap, subst}
+use Rattle.std.proofs.lemmas.Bool.{eqb-true}
+use Rattle.std.proofs.lemmas.List.{append-nil, append_assoc}
+use Rattle.std.specs.List.{AllByRecursion}
+use Rattle.sha2.specs.Sha256.{sha256}
+use Rattle.disk_format.specs.Layout.{slot_at}
+use Rattle.dd_disk.specs.Ending.{ending_of}
+use Rattle.dd_disk.specs.View.{OnlyReads, IsDurable}
+use Rattle.dd_disk.proofs.Shows.{shown_content}
+use Rattle.container_meta.specs.declared.kind.Kind.{Kind}
+use Rattle.container_meta.specs.declared.kind.Kind.TheVariants.{Leaf, Tree}
+use Rattle.container_meta.specs.declared.place.Place.{Place}
+use Rattle.container_meta.specs.Segments.{Segment, KindSegment, Contents, segment_key}
+use Rattle.segment_index.specs.Changes.{SameBefore}
+use Rattle.actor_parts.specs.declared.step.Answer.{Answer}
+use Rattle.actor_parts.specs.declared.step.Answer.TheVariants as answers
+use Rattle.actor_parts.specs.Segments.{IsOfKind, pin_of}
+use Rattle.actor_parts.specs.StepValue as asked
+use Rattle.actor_parts.specs.StepValue.{StepValue, IsStep}
+use Rattle.refusals.specs.declared.refusal.Refusal.{Refusal}
+use Rattle.refusals.specs.declared.refusal.Refusal.TheVariants as refusals
+use Rattle.store_model.specs.Collisions.{HasNoCollisions, ByteSet, IsIn, IsAmong, Stands}
+use Rattle.store_model.specs.Files.{Files, Stored}
+use Rattle.store_model.specs.Image.{Store}
+use Rattle.store_model.specs.Slots.{Copy, newest}
+use Rattle.store_model.specs.Steps.{StoreChange, SealContainer, PutName, with_sealed, with_put}
+use Rattle.store_model.specs.Trees.{HasNewest, bytes_at}
+use Rattle.store_model.proofs.Copies.{copy_digest, headers_of_right}
+use Rattle.store_model.proofs.FramedTrees.{newest_framed}
+use Rattle.store_model.proofs.HeldSlots.{HasLevel, IsAmongThese, IsNodeEntry, among_so, levels_so, newest_so, nodes_so}
+use Rattle.store_model.proofs.Lookups.{finds}
+use Rattle.store_model.proofs.OneNode.{one_level}
+use Rattle.store_state.specs.Comparing.{FitsBytes}
+use Rattle.store_state.specs.Refused.{blames}
+use Rattle.store_state.specs.Settled.{IsSettled, KeepsWhatCounts, Left}
+use Rattle.store_state.specs.Tables.{Represents}
+use Rattle.ingest_steps.proofs.HeldPins.{node_of}
+use Rattle.store_core.specs.declared.stop.Stop.{Stop}
+use Rattle.store_core.specs.Core.{Row, ClaimRow, SealRow, Effect, Steps, StepsOr, StopsAfter, next_id}
+use Rattle.store_core.specs.Keeping.{kept_by, kept_of, IsHeldIn, KeepsSegments}
+use Rattle.store_core.specs.Runs.{FileEvent, FileStep, FileRun, IsAt, IsGivenRight, ChangesTo, changes_by, stored_by}
+use Rattle.store_core.specs.State.{CoreState, Event}
+use Rattle.store_core.proofs.KeepingFiles.{Next, file_step, run_running, only_reads, seal_holds}
+
+-- ---- lists
+
+all_on : {A : Type 0} (P : A → Type 0) (xs ys : List A) → AllByRecursion P xs → AllByRecursion P ys → AllByRecursion P (xs ++ ys)
+all_on P [] ys first second = second
+all_on P (x ∷ xs) ys first second = (first.0, all_on P xs ys first.1 second)
+
+all_map : {A B : Type 0} (P : A → Type 0) (Q : B → Type 0) (f : A → B) (xs : List A) → ((x : A) → P x → Q (f x)) → AllByRecursion P xs → AllByRecursion Q (map f xs)
+all_map P Q f [] each all = tt
+all_map P Q f (x ∷ xs) each all = (each x all.0, all_map P Q f xs each all.1)
+
+all_weaker : {A : Type 0} (P Q : A → Type 0) (xs : List A) → ((x : A) → P x → Q x) → AllByRecursion P xs → AllByRecursion Q xs
+all_weaker P Q [] each all = tt
+all_weaker P Q (x ∷ xs) each all = (each x all.0, all_weaker P Q xs each all.1)
+
+-- ---- a segment, beside what an image holds
+
+-- the newest copy of its key is the segment
+abbrev HoldsSegment : Store → List ℕ → KindSegment → Type 0
+HoldsSegment store image seg = HasNewest store.held (segment_key seg.kind seg.segment) (pin_of seg).level seg.segment.bytes image
+
+module _ (S : List ℕ → Type 0) (store : Store) (files : Files) (image : List ℕ) (stands : Stands S store files image) where
+  -- data has level 0
+  data_level : (x : Segment) (copy : Copy) → newest 0 store.held (segment_key Leaf x) ≡ Some copy → copy.place.level ≡ 0
+  data_level x copy is =
+      let so = newest_so HasLevel store.held Leaf (sha256 x.bytes) image copy (levels_so 0 store.held image (headers_of_right image store stands.holds.right)) is in
+      so.level_is ∙ eqb-true so.entry.level 0 so.so
+
+  -- data of its digest is the segment
+  data_bytes : HasNoCollisions S → (x : Segment) (copy : Copy) → S x.bytes → newest 0 store.held (segment_key Leaf x) ≡ Some copy → bytes_at copy.place image ≡ x.bytes
+  data_bytes distinct x copy mine is =
+      let so = newest_so (IsAmongThese S) store.held Leaf (sha256 x.bytes) image copy (among_so S 0 store.held image stands.among) is in
+      distinct (bytes_at copy.place image) x.bytes so.so mine (copy_digest store.held 0 (sha256 x.bytes) image copy stands.holds.copies is)
+
+  -- of a node the copy's bytes are read, and they have one level
+  node_level : (x : Segment) (copy : Copy) → IsOfKind Tree x → newest 0 store.held (segment_key Tree x) ≡ Some copy → bytes_at copy.place image ≡ x.bytes → copy.place.level ≡ x.level
+  node_level x copy right is same =
+      let so = newest_so IsNodeEntry store.held Tree (sha256 x.bytes) image copy (nodes_so 0 store.held image stands.holds.nodes) is in
+      so.level_is ∙ one_level so.entry.level x.level (bytes_at copy.place image) x.bytes so.so (node_of x right) same
+
+  -- a copy that fits a segment is the segment
+  fits_held : HasNoCollisions S → (kind : Kind) (x : Segment) (copy : Copy) → IsOfKind kind x → IsAmong S kind x.bytes → newest 0 store.held (segment_key kind x) ≡ Some copy → FitsBytes kind x.bytes copy.place image
+      → HoldsSegment store image (record { kind = kind; segment = x })
+  fits_held distinct Leaf x copy right mine is fits = record { copy = copy; copy_is = is; level_is = data_level x copy is; bytes_are = data_bytes distinct x copy mine is }
+  fits_held distinct Tree x copy right mine is fits = record { copy = copy; copy_is = is; level_is = node_level x copy right is fits; bytes_are = fits }
+
+  -- one that has the level of a container's segment has that of the pin
+  sealed_held : (kind : Kind) (x : Segment) → HasNewest store.held (segment_key kind x) x.level x.bytes image → HoldsSegment store image (record { kind = kind; segment = x })
+  sealed_held Leaf x has = record { copy = has.copy; copy_is = has.copy_is; level_is = data_level x has.copy has.copy_is; bytes_are = has.bytes_are }
+  sealed_held Tree x has = has
+
+-- ---- a disk that is settled
+
+module _ (old new : CoreState) (stays : new.stop ≡ None) (given : List ℕ) (here : old.disk.content ≡ Some given) (settled : IsSettled old.tables.slots old.disk) where
+  abbrev Settled : Type 0
+  Settled = IsSettled old.tables.slots new.disk
+
+  reads_settled : OnlyReads old.disk new.disk → Settled
+  reads_settled reads bytes is c image = settled bytes (sym reads.content_is ∙ is) c (reads.images_are c image)
+
+  durable_settled : IsDurable new.disk → Settled
+  durable_settled durable bytes is c image = subst (SameBefore (slot_at old.tables.slots) bytes) (sym (durable bytes is c image)) (record { size = refl; before = λ p n within. refl })
+
+  -- each image is, in what counts, as the content was
+  counts_given : KeepsWhatCounts old.tables.slots old.disk new.disk → (c : List ℕ) → new.disk.images c → SameBefore (slot_at old.tables.slots) given c
+  counts_given keeps c image = elim (keeps.leaves.now c image) [
+    | inl before ↦ settled given here c before
+    | inr step ↦ let first = settled given here step.0 step.1 in
+        record { size = step.2.size ∙ first.size; before = λ p n within. step.2.before p n within ∙ first.before p n within }
+  ]
+
+  counts_settled : KeepsWhatCounts old.tables.slots old.disk new.disk → Settled
+  counts_settled keeps bytes is c image =
+      let mine = counts_given keeps bytes (new.disk.as_read bytes is) in
+      let other = counts_given keeps c image in
+      record { size = other.size ∙ sym mine.size; before = λ p n within. other.before p n within ∙ sym (mine.before p n within) }
+
+  seal_settled : (filled : Contents) (refusal : Refusal) → StopsAfter (asked.Seal filled) (Err refusal) old.acknowledged new.stop → Left old.tables.slots (ending_of (blames refusal)) old.disk new.disk → Settled
+  seal_settled filled refusals.DiskWrite stops left = absurd (let both = sym stays ∙ stops in cc)
+  seal_settled filled refusals.DiskRead stops left = counts_settled left
+  seal_settled filled refusal stops left = counts_settled left
+
+  effect_settled : (step : StepValue) (answer : Result Answer Refusal) → StopsAfter step answer old.acknowledged new.stop → Effect step answer old new → Settled
+  effect_settled asked.Begin answer stops effect = reads_settled effect.disk.only
+  effect_settled (asked.Claim seg) answer stops effect = reads_settled effect.disk.only
+  effect_settled (asked.Seal filled) (Ok answer) stops effect = effect.disk.left settled
+  effect_settled (asked.Seal filled) (Err refusal) stops effect = seal_settled filled refusal stops effect.disk.left
+  effect_settled (asked.Commit name root) (Ok answer) stops effect = durable_settled effect.durable
+  effect_settled (asked.Commit name root) (Err refusal) stops effect = reads_settled (only_reads old new stays (asked.Commit name root) refusal stops effect.disk.ends)
+  effect_settled asked.Abort answer stops effect = reads_settled effect.disk.only
+  effect_settled (asked.OpenRead name) answer stops effect = reads_settled effect.disk.only
+  effect_settled asked.ReadNext answer stops effect = reads_settled effect.disk.only
+  effect_settled asked.EndRead answer stops effect = reads_settled effect.disk.only
+  effect_settled asked.Stat answer stops effect = reads_settled effect.disk.only
+
+-- changes leave the number of slots
+same_slots : (changes : List StoreChange) (s t : Store) → ChangesTo changes s t → t.slots ≡ s.slots
+same_slots [] s t chain = ap (λ (store : Store). store.slots) chain
+same_slots (SealContainer id kind segments ∷ rest) s t chain = same_slots rest (with_sealed id kind segments s) t chain.1
+same_slots (PutName name root ∷ rest) s t chain = same_slots rest (with_put name root s) t chain.1
+
+-- ---- along a run
+
+-- A core is at a store, of which the content holds these segments, and its disk is settled.
+record Keeps (S : List ℕ → Type 0) (s : Store) (stored : Stored) (segs : List KindSegment) (c : CoreState) : Type 0 where
+  pub is_at : IsAt S s stored c
+  pub settled : IsSettled c.tables.slots c.disk
+  pub held : (image : List ℕ) → c.disk.content ≡ Some image → AllByRecursion (HoldsSegment s image) segs
+
+module _ (among : ByteSet) (s : Store) (stored later : Stored) (old new : CoreState) (actor : ℕ) (buf bytes : List ℕ) (distinct : HasNoCollisions (IsIn among)) (at : IsAt (IsIn among) s stored old) (stays : new.stop ≡ None) where
+  abbrev image : List ℕ
+  image = at.stands.known.0
+
+  abbrev here : old.disk.content ≡ Some image
+  here = at.stands.known.1
+
+  abbrev stands_here : Stands (IsIn among) s stored.files image
+  stands_here = at.stands.each image (old.disk.as_read image here)
+
+  -- what a step kept, by the store that it leads to
+  abbrev Kept : StepValue → Result Answer Refusal → Type 0
+  Kept step answer = (next : Next (IsIn among) s (changes_by step answer) later old new) → (after : List ℕ) → new.disk.content ≡ Some after → Effect step answer old new
+      → IsStep step → IsGivenRight (IsIn among) step answer bytes old → AllByRecursion (HoldsSegment next.store after) (kept_by step answer)
+
+  claim_kept : (seg : KindSegment) (answer : Result Answer Refusal) → ClaimRow seg actor answer old new → Kept (asked.Claim seg) answer
+  claim_kept seg (Ok answers.Held) row next after is effect right given =
+      let was = row.claimed.looked_up in
+      let found = finds s at.index (segment_key seg.kind seg.segment) was.place (at.represents.index_is_newest at.index at.index_known) (was.found at.index at.index_known) in
+      let fits = shown_content old.disk new.disk (FitsBytes seg.kind seg.segment.bytes was.place) image was.same here in
+      let has = fits_held (IsIn among) s stored.files image stands_here distinct seg.kind seg.segment found.0 right given found.1
+      (subst (λ (place : Place). FitsBytes seg.kind seg.segment.bytes place image) (sym found.2) fits) in
+      (next.copies image after here is (segment_key seg.kind seg.segment) (pin_of seg).level seg.segment.bytes has, tt)
+  claim_kept seg (Ok answers.Absent) row next after is effect right given = tt
+  claim_kept seg (Err refusal) row next after is effect right given = tt
+  claim_kept seg answer row next after is effect right given = absurd row
+
+  seal_kept : (filled : Contents) (answer : Result Answer Refusal) → SealRow filled actor answer old new → Kept (asked.Seal filled) answer
+  seal_kept filled (Ok (answers.Sealed id)) row next after is effect right given =
+      let holds = (seal_holds among s stored old new actor buf bytes distinct at stays filled (Ok (answers.Sealed id)) after is effect right given).1 in
+      let store : next.store ≡ with_sealed (next_id old) filled.kind filled.segments s = next.chain.1 ∙ ap (λ (n : ℕ). with_sealed n filled.kind filled.segments s) row.id_is in
+      let there = subst (λ (t : Store). AllByRecursion (λ x. HasNewest t.held (segment_key filled.kind x) x.level x.bytes after) filled.segments) (sym store) holds in
+      all_map (λ x. HasNewest next.store.held (segment_key filled.kind x) x.level x.bytes after) (HoldsSegment next.store after) (λ x. record { kind = filled.kind; segment = x }) filled.segments
+      (sealed_held (IsIn among) next.store later.files after (next.is_at.stands.each after (new.disk.as_read after is)) filled.kind) there
+  seal_kept filled (Err refusal) row next after is effect right given = tt
+  seal_kept filled answer row next after is effect right given = absurd row
+
+  step_kept : (step : StepValue) (answer : Result Answer Refusal) → Row step actor answer buf old new → Kept step answer
+  step_kept (asked.Claim seg) answer row = claim_kept seg answer row
+  step_kept (asked.Seal filled) answer row = seal_kept filled answer row
+  step_kept step answer row = λ next after is effect right given. tt
+
+module _ (among : ByteSet) (distinct : HasNoCollisions (IsIn among)) where
+  running_step : (stop : Option Stop) (e : Event) (old new : CoreState) → stop ≡ None → StepsOr stop e old new → Steps e old new
+  running_step None e old new runs step = step
+  running_step (Some stop) e old new runs step = absurd cc
+
+  -- a step more
+  keeps_step : (f : FileEvent) (s : Store) (stored : Stored) (segs : List KindSegment) (old new : CoreState) → Keeps (IsIn among) s stored segs old → FileStep (IsIn among) f old new → old.stop ≡ None → new.stop ≡ None
+      → (t : Store) × Keeps (IsIn among) t (stored_by f stored) (segs ++ kept_by f.event.step f.event.answer) new
+  keeps_step f s stored segs old new keeps step runs stays =
+      let at = keeps.is_at in
+      let steps = running_step old.stop f.event old new runs step.made in
+      let next = file_step among distinct f s stored old new step at stays in
+      let slots : old.tables.slots ≡ new.tables.slots = at.represents.slots_are ∙ sym (same_slots (changes_by f.event.step f.event.answer) s next.store next.chain) ∙ sym next.is_at.represents.slots_are in (
+        next.store,
+        record {
+          is_at = next.is_at;
+          settled = subst (λ (n : ℕ). IsSettled n new.disk) slots (effect_settled old new stays at.stands.known.0 at.stands.known.1 keeps.settled f.event.step f.event.answer steps.stops steps.made.effect);
+          held = λ after is. all_on (HoldsSegment next.store after) segs (kept_by f.event.step f.event.answer)
+              (all_weaker (HoldsSegment s at.stands.known.0) (HoldsSegment next.store after) segs
+              (λ seg has. next.copies at.stands.known.0 after at.stands.known.1 is (segment_key seg.kind seg.segment) (pin_of seg).level seg.segment.bytes has) (keeps.held at.stands.known.0 at.stands.known.1))
+              (step_kept among s stored (stored_by f stored) old new f.event.actor f.event.buf f.bytes distinct at stays f.event.step f.event.answer steps.made.row next after is steps.made.effect step.asked step.given);
+        },
+      )
+
+-- ---- at the end
+
+module _ (S : List ℕ → Type 0) (s : Store) (stored : Stored) (c : CoreState) (at : IsAt S s stored c) (settled : IsSettled c.tables.slots c.disk) where
+  -- each store that the tables represent has the newest copy at the same place
+  newest_other : (t : Store) (key : List ℕ) (level : ℕ) (bytes left : List ℕ) → Represents t c.known c.tables → HasNewest s.held key level bytes left → HasNewest t.held key level bytes left
+  newest_other t key level bytes left represents has =
+      let place = at.represents.index_is_newest at.index at.index_known key ∙ ap (option_map (λ (x : Copy). x.place)) has.copy_is in
+      let found = finds t at.index key has.copy.place (represents.index_is_newest at.index at.index_known) place in
+      record {
+        copy = found.0;
+        copy_is = found.1;
+        level_is = ap (λ (p : Place). p.level) found.2 ∙ has.level_is;
+        bytes_are = ap (λ (p : Place). bytes_at p left) found.2 ∙ has.bytes_are;
+      }
+
+  -- what the content holds each image holds
+  held_in : (seg : KindSegment) → HoldsSegment s at.stands.known.0 seg → IsHeldIn seg c
+  held_in seg has t represents =
+      let image : List ℕ = at.stands.known.0 in
+      let here = at.stands.known.1 in
+      let right = (at.stands.each image (c.disk.as_read image here)).holds.right in
+      let key : List ℕ = segment_key seg.kind seg.segment in
+      record {
+        known = at.stands.known;
+        each = λ left leaves.
+            let same = subst (λ (n : ℕ). SameBefore (slot_at n) image left) at.represents.slots_are (settled image here left leaves) in
+            newest_other t key (pin_of seg).level seg.segment.bytes left represents (newest_framed s image left right same.before key (pin_of seg).level seg.segment.bytes has);
+      }
+
+module _ (C : Type 0) (state : C → CoreState) (among : ByteSet) (distinct : HasNoCollisions (IsIn among)) where
+  keeps_on : (steps : List FileEvent) (s : Store) (stored : Stored) (segs : List KindSegment) (old new : C) → Keeps (IsIn among) s stored segs (state old) → FileRun C state (IsIn among) steps old new → (state new).stop ≡ None
+      → AllByRecursion (λ seg. IsHeldIn seg (state new)) (segs ++ kept_of steps)
+  keeps_on [] s stored segs old new keeps run stays =
+      let at = keeps.is_at in
+      let all = all_weaker (HoldsSegment s at.stands.known.0) (λ seg. IsHeldIn seg (state old)) segs (held_in (IsIn among) s stored (state old) at keeps.settled) (keeps.held at.stands.known.0 at.stands.known.1) in
+      subst (λ (c : C). AllByRecursion (λ seg. IsHeldIn seg (state c)) (segs ++ [])) (sym run)
+      (subst (AllByRecursion (λ seg. IsHeldIn seg (state old))) (sym (append-nil segs)) all)
+  keeps_on (f ∷ fs) s stored segs old new keeps run stays =
+      let mid = run.0 in
+      let going = run_running C state among distinct fs mid new run.1.1 stays in
+      let runs = run_running C state among distinct (f ∷ fs) old new run stays in
+      let next = keeps_step among distinct f s stored segs (state old) (state mid) keeps run.1.0 runs going in
+      let more = kept_by f.event.step f.event.answer in
+      subst (AllByRecursion (λ seg. IsHeldIn seg (state new))) (append_assoc segs more (kept_of fs))
+      (keeps_on fs next.0 (stored_by f stored) (segs ++ more) mid new next.1 run.1.1 stays)
+
+module _ (C : Type 0) (state : C → CoreState) where
+  pub keeps_segments : KeepsSegments C state
+  keeps_segments among steps s stored old new distinct at settled run stays =
+      keeps_on C state among distinct steps s stored [] old new (record { is_at = at; settled = settled; held = λ image is. tt }) run stays

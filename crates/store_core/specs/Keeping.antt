@@ -1,0 +1,44 @@
+-- What the steps of a core keep of the segments that they were given (docs/MODEL.md, 'The core').
+use Rattle.std.specs.Prelude.{◌≡◌, List, [], ◌∷◌, ◌++◌, map, None, Result, Ok}
+use Rattle.std.specs.List.{AllByRecursion}
+use Rattle.dd_disk.specs.Moves.{StandsFor}
+use Rattle.container_meta.specs.Segments.{KindSegment, segment_key}
+use Rattle.actor_parts.specs.declared.step.Answer.{Answer}
+use Rattle.actor_parts.specs.declared.step.Answer.TheVariants as answers
+use Rattle.actor_parts.specs.Segments.{pin_of}
+use Rattle.actor_parts.specs.StepValue as asked
+use Rattle.actor_parts.specs.StepValue.{StepValue}
+use Rattle.refusals.specs.declared.refusal.Refusal.{Refusal}
+use Rattle.store_model.specs.Collisions.{HasNoCollisions, ByteSet, IsIn}
+use Rattle.store_model.specs.Files.{Stored}
+use Rattle.store_model.specs.Image.{Store}
+use Rattle.store_model.specs.Trees.{HasNewest}
+use Rattle.store_state.specs.Settled.{IsSettled}
+use Rattle.store_state.specs.Tables.{Represents}
+use Rattle.store_core.specs.Runs.{FileEvent, FileRun, IsAt}
+use Rattle.store_core.specs.State.{CoreState}
+
+-- what a step keeps: a segment that was claimed and is held, and those of a container that was sealed
+abbrev pub kept_by : StepValue → Result Answer Refusal → List KindSegment
+kept_by (asked.Claim seg) (Ok answers.Held) = seg ∷ []
+kept_by (asked.Seal filled) (Ok (answers.Sealed id)) = map (λ s. record { kind = filled.kind; segment = s }) filled.segments
+kept_by step answer = []
+
+-- and what steps keep, the first of them first
+abbrev pub kept_of : List FileEvent → List KindSegment
+kept_of [] = []
+kept_of (f ∷ fs) = kept_by f.event.step f.event.answer ++ kept_of fs
+
+-- each image holds a segment: the newest copy of its key has its level and its bytes
+abbrev pub IsHeldIn : KindSegment → CoreState → Type 0
+IsHeldIn seg c =
+    (store : Store) → Represents store c.known c.tables
+    → StandsFor (λ image. HasNewest store.held (segment_key seg.kind seg.segment) (pin_of seg).level seg.segment.bytes image) c.disk
+
+-- What the steps of a run kept is held at its end, where no two different data segments have one digest.
+abbrev pub KeepsSegments : (C : Type 0) → (C → CoreState) → Type 0
+KeepsSegments C state = (among : ByteSet) (steps : List FileEvent) (s : Store) (stored : Stored) (old new : C)
+    → HasNoCollisions (IsIn among) → IsAt (IsIn among) s stored (state old)
+    → IsSettled (state old).tables.slots (state old).disk
+    → FileRun C state (IsIn among) steps old new → (state new).stop ≡ None
+    → AllByRecursion (λ seg. IsHeldIn seg (state new)) (kept_of steps)

@@ -1,26 +1,14 @@
 -- The end of a file.
-use Rattle.std.proofs.Common.{◌≡◌, ◌≤◌, ◌+◌, ◌∙◌, ℕ, Bool, true, false, List, [], ◌∷◌, ◌++◌, Option, Some, None, length, map, refl, sym, ap, subst, arith, sum_by, append-nil, length-append, zero-add}
+use Rattle.std.proofs.Common.{◌≡◌, ◌≤◌, ◌+◌, ◌∙◌, ℕ, Bool, true, false, List, [], ◌∷◌, ◌++◌, Option, Some, None, length, refl, sym, ap, subst, arith, sum_by, length-append, zero-add}
 use Rattle.std.proofs.lemmas.List.Sums.{sum_by-append}
-use Rattle.std.specs.Option.{option_to_list}
 use Rattle.disk_format.specs.declared.numbers.TheConstants.{MOST_SEGMENT}
-use Rattle.disk_format.specs.Cells.{Root}
 use Rattle.container_meta.specs.Segments.{KindSegment}
-use Rattle.segmenter.specs.Segments.{segments_of}
-use Rattle.segmenter.specs.Cutting.{Hand, HasCut, empty_hand}
-use Rattle.merkle_file.specs.declared.node.Child.{Child}
+use Rattle.segmenter.specs.Cutting.{empty_hand}
 use Rattle.merkle_file.specs.declared.top.Top.{Top}
-use Rattle.merkle_file.specs.Node as node
-use Rattle.merkle_file.specs.Tree as tree
-use Rattle.merkle_file.specs.Tree.{SegmentsAlike, itself, nodes_of, of_segment, tree_of}
-use Rattle.merkle_file.specs.Building.{Progress, Holds}
-use Rattle.store_model.specs.Trees.{file_tree, root_of}
 use Rattle.ingest_session.specs.Sound.{IsSession}
 use Rattle.ingest_session.specs.State.{SessionState, IsWhole, AreLong, is_last, rest_after, rest_of}
-use Rattle.ingest_session.specs.Finished.{first_node, without_first}
-use Rattle.ingest_session.specs.Stream.{HasTaken, IsBuiltOver, IsCutInto}
 use Rattle.ingest_session.proofs.Lists.{all_and_one}
 use Rattle.ingest_session.proofs.Rests.{rest_grows, ahead_stays, full_stays}
-use Rattle.ingest_session.proofs.Placed.{taken_on}
 
 -- ---- the segments that are still to come
 
@@ -115,69 +103,3 @@ module _ (s : SessionState) (is : IsSession s) (ongoing : s.ended ≡ false) whe
         alone = is.alone;
         waits = λ on. ((is.waits on).0, λ _ at_end. absurd (yes_and_no _ at_end not_last));
       }
-
--- ---- the tree is whole
-
-cut_at_end : (ended : Bool) (given : List ℕ) (segments : List (List ℕ)) (hand : Hand) → ended ≡ false →
-    (HasCut given segments hand → segments_of given ≡ segments) → IsCutInto ended given segments hand → segments_of given ≡ segments
-cut_at_end true given segments hand on step cut = absurd (cc)
-cut_at_end false given segments hand on step cut = step cut
-
-holds_before : (s : SessionState) (top : Option Top) (segments : List (List ℕ)) (taken : List node.Contents) → top ≡ None →
-    IsBuiltOver s top segments taken → Holds s.built (map of_segment segments) taken
-holds_before s None segments taken is built = built
-holds_before s (Some top) segments taken is built = absurd (cc)
-
-pub ended_has_taken : (s : SessionState) (given : List ℕ) (top : Top) (b : Progress) → s.ended ≡ false → s.top ≡ None →
-    ((segments : List (List ℕ)) → HasCut given segments s.hand → segments_of given ≡ segments) →
-    ((pushed : List Child) (taken : List node.Contents) → Holds s.built pushed taken →
-    (top ≡ tree.root_of itself (tree_of pushed)) × (taken ++ b.finished ≡ nodes_of itself (tree_of pushed))) →
-    HasTaken s given →
-    HasTaken (record s { ended = true; hand = empty_hand; top = Some top; node = first_node b; built = without_first b }) given
-ended_has_taken s given top b ongoing none all built has =
-    let now = built (map of_segment has.segments) has.taken (holds_before s s.top has.segments has.taken none has.built) in
-    record {
-      segments = has.segments;
-      taken = has.taken ++ option_to_list (first_node b);
-      cut = (cut_at_end s.ended given (has.segments ++ rest_of s) s.hand ongoing (all (has.segments ++ rest_of s)) has.cut, refl);
-      built = (now.0, taken_on has.taken b.finished ∙ now.1);
-      counted = has.counted;
-    }
-
--- ---- the root
-
-cut_after : (ended : Bool) (given : List ℕ) (segments : List (List ℕ)) (hand : Hand) → ended ≡ true → IsCutInto ended given segments hand →
-    segments_of given ≡ segments
-cut_after true given segments hand on cut = cut.0
-cut_after false given segments hand on cut = absurd (cc)
-
-no_rest : (ended : Bool) (rest : List (List ℕ)) → is_last ended rest ≡ true → rest ≡ []
-no_rest false rest last = absurd (cc)
-no_rest true [] last = refl
-no_rest true (x ∷ xs) last = absurd (cc)
-
-whole_last : (o : Option Top) (top : Top) (last : Bool) → o ≡ Some top → IsWhole o last → last ≡ true
-whole_last None top last is whole = absurd (cc)
-whole_last (Some t) top last is whole = whole
-
-top_over : (s : SessionState) (o : Option Top) (top : Top) (segments : List (List ℕ)) (taken : List node.Contents) → o ≡ Some top →
-    IsBuiltOver s o segments taken → Some top ≡ Some (tree.root_of itself (tree_of (map of_segment segments)))
-top_over s None top segments taken is built = absurd (cc)
-top_over s (Some t) top segments taken is built = sym is ∙ ap Some built.0
-
-some_is : (x y : Top) → Some x ≡ Some y → x ≡ y
-some_is x y is = cc
-
-pub ready_root : (s : SessionState) (top : Top) (given : List ℕ) → IsSession s → SegmentsAlike → s.ended ≡ true → s.top ≡ Some top → HasTaken s given →
-    ◌≡◌ {A = Root} (record { length = s.count; level = top.level; digest = top.digest }) (root_of given)
-unfolding file_tree
-ready_root s top given is alike ended whole has =
-    let rest = no_rest s.ended (rest_of s) (whole_last s.top top _ whole is.whole) in
-    let cut : segments_of given ≡ has.segments =
-    cut_after s.ended given (has.segments ++ rest_of s) s.hand ended has.cut ∙ ap (λ (r : List (List ℕ)). has.segments ++ r) rest ∙ append-nil has.segments in
-    let same : top ≡ tree.root_of of_segment (tree_of (segments_of given)) =
-    some_is _ _ (top_over s s.top top has.segments has.taken whole has.built)
-    ∙ (alike has.segments).0
-    ∙ ap (λ (ss : List (List ℕ)). tree.root_of of_segment (tree_of ss)) (sym cut) in
-    ap (λ (n : ℕ). record { length = n; level = top.level; digest = top.digest }) has.counted
-    ∙ ap (λ (t : Top). record { length = length given; level = t.level; digest = t.digest }) same

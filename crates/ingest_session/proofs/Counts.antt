@@ -1,20 +1,23 @@
 -- There are at most two steps for each item.
-use Rattle.std.proofs.Common.{◌≡◌, ◌≤◌, ℕ, ◌+◌, ◌*◌, Bool, true, false, if◌then◌else◌, List, [], ◌∷◌, Option, Some, None, length, refl, ap, arith, rules}
+use Rattle.std.proofs.Common.{◌≡◌, ◌≤◌, ℕ, ◌+◌, ◌*◌, Bool, true, false, if◌then◌else◌, List, [], ◌∷◌, Option, Some, None, length, refl, ap, subst, arith, rules, length-append}
 use Rattle.container_meta.specs.declared.kind.Kind.{Kind}
 use Rattle.container_meta.specs.declared.kind.Kind.TheVariants.{Leaf, Tree}
 use Rattle.container_meta.specs.Segments.{Contents, Segment}
 use Rattle.merkle_file.specs.Node as node
 use Rattle.actor_parts.specs.declared.step.Answer.{Answer}
 use Rattle.actor_parts.specs.declared.step.Answer.TheVariants.{Held, Absent, Sealed}
-use Rattle.ingest_session.specs.declared.due.Due.TheVariants.{Seal}
-use Rattle.ingest_session.specs.Due.{due_in, item_kind, open_of}
+use Rattle.ingest_session.specs.declared.due.Due.{Due}
+use Rattle.ingest_session.specs.Due.{HasTurn, due_in, item_kind, open_of}
+use Rattle.ingest_session.specs.Sound.{IsSession}
 use Rattle.ingest_session.specs.Filling.{with_segment}
 use Rattle.ingest_session.specs.Items.{fits, item_of}
 use Rattle.ingest_session.specs.Settling.{SettleStep, Spelled, Advanced, Closed, PlacedNode, PlacedFront}
 use Rattle.ingest_session.specs.State.{SessionState}
 use Rattle.ingest_session.specs.Told.{IsAnswerFor, absent_item, added_item, emptied, placed_item, told_by, with_open}
-use Rattle.ingest_session.specs.Counting.{Counted, Begun, Pushed, Ended, Moved, Refused, Told, StepsAreFew, moved, one_if, placed_by}
+use Rattle.ingest_session.specs.Facts.{StepsAreFew, one_if}
+use Rattle.ingest_session.specs.History.{History, HasHistory, Begun, Pushed, Ended, Moved, Asked, Told, SealsSome, moved, placed_by, placed_if, turn, turn_of}
 use Rattle.ingest_session.proofs.Sealing.{claims_off}
+use Rattle.ingest_session.proofs.Waiting.{claimed_has_turn, session_of, waiting_has_turn}
 
 -- one, where a container isn't empty
 some_in : List Segment → ℕ
@@ -63,60 +66,84 @@ filled_waiting s = refl
 after_absent : SessionState → Bool → SessionState
 after_absent s fit = if fit then placed_item s.node (added_item s) else record s { waits = true }
 
-absent_few : (s : SessionState) (fit : Bool) → s.waits ≡ false →
-    filled_in (after_absent s fit) + 1 ≤ filled_in s + 2 * one_if fit + one_if (after_absent s fit).waits
-unfolding after_absent
-absent_few s true off =
-    let same = filled_placed s.node (added_item s) in
-    let more = filled_with s (item_kind s.node) (with_segment (open_of s (item_kind s.node)) (item_of s.node s.queue)) in omega (arith, same, more)
-absent_few s false off = let same = filled_waiting s in omega (arith, same)
+-- an item whose turn it is, is one piece
+turn_is_one : (n : Option node.Contents) (queue : List (List ℕ)) → HasTurn n queue → length (turn_of n queue) ≡ 1
+turn_is_one (Some n) queue has = refl
+turn_is_one None [] has = absurd has
+turn_is_one None (x ∷ xs) has = refl
 
-sealed_few : (s : SessionState) (kind : Kind) (waits : Bool) → s.waits ≡ waits → 1 ≤ length (open_of s kind).segments →
+absent_few : (s : SessionState) (fit : Bool) → HasTurn s.node s.queue → s.waits ≡ false →
+    filled_in (after_absent s fit) + 1 ≤ filled_in s + 2 * length (placed_if fit s) + one_if (after_absent s fit).waits
+unfolding after_absent
+absent_few s true has off =
+    let one = turn_is_one s.node s.queue has in
+    let same = filled_placed s.node (added_item s) in
+    let more = filled_with s (item_kind s.node) (with_segment (open_of s (item_kind s.node)) (item_of s.node s.queue)) in omega (arith, one, same, more)
+absent_few s false has off = let same = filled_waiting s in omega (arith, same)
+
+turn_emptied : (s : SessionState) (kind : Kind) → turn (record (emptied kind s) { waits = false }) ≡ turn s
+turn_emptied s Leaf = refl
+turn_emptied s Tree = refl
+
+has_turn_emptied : (s : SessionState) (kind : Kind) → HasTurn s.node s.queue →
+    HasTurn (record (emptied kind s) { waits = false }).node (record (emptied kind s) { waits = false }).queue
+has_turn_emptied s Leaf has = has
+has_turn_emptied s Tree has = has
+
+placed_emptied : (s : SessionState) (kind : Kind) (fit : Bool) → placed_if fit (record (emptied kind s) { waits = false }) ≡ placed_if fit s
+placed_emptied s kind true = turn_emptied s kind
+placed_emptied s kind false = refl
+
+sealed_few : (s : SessionState) (kind : Kind) (waits : Bool) → s.waits ≡ waits → (waits ≡ true → HasTurn s.node s.queue) → 1 ≤ length (open_of s kind).segments →
     let t : SessionState = if waits then absent_item (record (emptied kind s) { waits = false }) else emptied kind s in
     filled_in t + 1 + one_if waits
-    ≤ filled_in s + 2 * (if waits then one_if (fits (record (emptied kind s) { waits = false })) else 0) + one_if t.waits
+    ≤ filled_in s + 2 * length (if waits then placed_if (fits (record (emptied kind s) { waits = false })) s else []) + one_if t.waits
 unfolding after_absent
-sealed_few s kind true on some =
+sealed_few s kind true on has some =
     let gone = filled_emptied s kind some in
-    let few = absent_few (record (emptied kind s) { waits = false }) (fits (record (emptied kind s) { waits = false })) refl in
-    omega (arith, gone, few)
-sealed_few s kind false off some =
+    let few = absent_few (record (emptied kind s) { waits = false }) (fits (record (emptied kind s) { waits = false })) (has_turn_emptied s kind (has refl)) refl in
+    let same = ap length (placed_emptied s kind (fits (record (emptied kind s) { waits = false }))) in
+    omega (arith, gone, few, same)
+sealed_few s kind false off has some =
     let gone = filled_emptied s kind some in
     let same = unwaited s kind in omega (arith, gone, same)
 
-told_few : (answer : Answer) (s : SessionState) → IsAnswerFor answer (due_in s) →
-    ((kind : Kind) → due_in s ≡ Seal kind → 1 ≤ length (open_of s kind).segments) →
-    filled_in (told_by answer s) + 1 + one_if s.waits ≤ filled_in s + 2 * placed_by answer s + one_if (told_by answer s).waits
+told_few : (answer : Answer) (s : SessionState) → IsSession s → IsAnswerFor answer (due_in s) → SealsSome (due_in s) s →
+    filled_in (told_by answer s) + 1 + one_if s.waits ≤ filled_in s + 2 * length (placed_by answer s) + one_if (told_by answer s).waits
 unfolding after_absent
-told_few Held s is some =
+told_few Held s session is some =
+    let one = turn_is_one s.node s.queue (claimed_has_turn s is) in
     let same = filled_placed s.node s in
-    let off = ap one_if (claims_off s is) in omega (arith, same, off)
-told_few Absent s is some =
-    let few = absent_few s (fits s) (claims_off s is) in
+    let off = ap one_if (claims_off s is) in omega (arith, one, same, off)
+told_few Absent s session is some =
+    let few = absent_few s (fits s) (claimed_has_turn s is) (claims_off s is) in
     let off = ap one_if (claims_off s is) in omega (arith, few, off)
-told_few (Sealed id) s is some = rw is.1 (sealed_few s is.0 s.waits refl (some is.0 is.1))
-told_few other s is some = absurd is
+told_few (Sealed id) s session is some =
+    rw is.1 (sealed_few s is.0 s.waits refl (λ on. waiting_has_turn s session on) (subst (λ (due : Due). SealsSome due s) is.1 some))
+told_few other s session is some = absurd is
 
-moved_few : (s t : SessionState) (step : SettleStep s t) → filled_in t + one_if s.waits ≤ filled_in s + 2 * moved step + one_if t.waits
+moved_few : (s t : SessionState) (step : SettleStep s t) → filled_in t + one_if s.waits ≤ filled_in s + 2 * length (moved step) + one_if t.waits
 unfolding filled_in
 moved_few s t (Spelled _ _ is) = rw is (search rules)
 moved_few s t (Advanced _ _ is) = rw is.others (search rules)
-moved_few s t (Closed _ _ is) = rw is (search rules)
+moved_few s t (Closed _ _ is) = rw is.others (search rules)
 moved_few s t (PlacedNode _ _ none some is) = rw is (search rules)
 moved_few s t (PlacedFront _ _ none empty is) = rw is (search rules)
 
-all_few : (s : SessionState) (steps placed : ℕ) → Counted s steps placed → steps + filled_in s ≤ 2 * placed + one_if s.waits
+all_few : (s : SessionState) (h : History) → HasHistory s h → h.steps + filled_in s ≤ 2 * length h.placed + one_if s.waits
 unfolding filled_in some_in
-all_few s steps placed (Begun _ off leaves nodes) = rw (leaves, nodes, off) (search rules)
-all_few t steps placed (Pushed s _ _ _ n counted is) = rw is.others (all_few s steps placed counted)
-all_few t steps placed (Ended s _ _ _ counted is) = rw is.others (all_few s steps placed counted)
-all_few t steps placed (Refused s _ _ _ counted is) = rw is (all_few s steps placed counted)
-all_few t steps more (Moved s _ _ placed counted step) =
-    let before = all_few s steps placed counted in
-    let step_is = moved_few s t step in omega (arith, before, step_is)
-all_few _ _ _ (Told s answer steps placed counted is some) =
-    let before = all_few s steps placed counted in
-    let few = told_few answer s is some in omega (arith, before, few)
+all_few s _ (Begun _ _ is) = rw (is.leaves, is.nodes, is.waits) (search rules)
+all_few t _ (Pushed s _ h bytes has _ is) = rw is.others (all_few s h has)
+all_few t h (Ended s _ _ has _ is) = rw is.others (all_few s h has)
+all_few t h (Asked s _ _ has _ is) = rw is (all_few s h has)
+all_few t _ (Moved s _ h has _ step) =
+    let before = all_few s h has in
+    let more = length-append h.placed (moved step) in
+    let step_is = moved_few s t step in omega (arith, before, more, step_is)
+all_few _ _ (Told s answer h has _ _ is some) =
+    let before = all_few s h has in
+    let more = length-append h.placed (placed_by answer s) in
+    let few = told_few answer s (session_of s h has) is some in omega (arith, before, more, few)
 
 pub steps_are_few : StepsAreFew
-steps_are_few s steps placed counted = let few = all_few s steps placed counted in omega (arith, few)
+steps_are_few s h has = let few = all_few s h has in omega (arith, few)

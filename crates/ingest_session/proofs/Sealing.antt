@@ -12,10 +12,11 @@ use Rattle.ingest_session.specs.Calls.{IsEnding, IsTaking, KeepsItem}
 use Rattle.ingest_session.specs.Due.{due_in, item_due, item_is_there, item_kind, open_of}
 use Rattle.ingest_session.specs.Filling.{with_segment}
 use Rattle.ingest_session.specs.Items.{fits, item_of}
-use Rattle.ingest_session.specs.Settling.{Settles, SettleStep, Stays, Then, Spelled, Advanced, Closed, PlacedNode, PlacedFront}
+use Rattle.ingest_session.specs.Settling.{SettleStep, Spelled, Advanced, Closed, PlacedNode, PlacedFront}
 use Rattle.ingest_session.specs.State.{SessionState}
-use Rattle.ingest_session.specs.Told.{IsAnswerFor, absent_item, added_item, emptied, placed_front, placed_item, placed_node, sealed, told_by, with_open}
-use Rattle.ingest_session.specs.Runs.{Ran, Begun, Pushed, Ended, Asked, Told, SealsWereAbsent, absent_by, item_if, same_kind, sealed_of, waiting}
+use Rattle.ingest_session.specs.Told.{IsAnswerFor, absent_item, added_item, emptied, placed_front, placed_item, placed_node, told_by, with_open}
+use Rattle.ingest_session.specs.Facts.{SealsWereAbsent}
+use Rattle.ingest_session.specs.History.{History, HasHistory, IsBegun, Begun, Pushed, Ended, Moved, Asked, Told, absent_by, item_if, same_kind, sealed_by, waiting}
 
 -- what a container holds and what waits for it
 abbrev pub kept : Kind → SessionState → List Segment
@@ -44,7 +45,7 @@ kept_placed kind n s off =
 
 -- ---- an item that was answered Absent
 
-with_item : (s : SessionState) (kind mine : Kind) (item : Segment) →
+pub with_item : (s : SessionState) (kind mine : Kind) (item : Segment) →
     (open_of (with_open mine (with_segment (open_of s mine) item) s) kind).segments
     ≡ (open_of s kind).segments ++ (if same_kind kind mine then item ∷ [] else [])
 with_item s Leaf Leaf item = refl
@@ -112,7 +113,7 @@ pub claims_off : (s : SessionState) → due_in s ≡ Claim → s.waits ≡ false
 claims_off s is = claim_off s.waits (item_kind s.node) (item_due s s.node) is
 
 pub told_kept : (kind : Kind) (answer : Answer) (s : SessionState) → IsAnswerFor answer (due_in s) →
-    sealed_of kind answer s ++ kept kind (told_by answer s) ≡ kept kind s ++ absent_by kind answer s
+    sealed_by kind answer s ++ kept kind (told_by answer s) ≡ kept kind s ++ absent_by kind answer s
 told_kept kind Held s is =
     let off = claims_off s is in
     kept_placed kind s.node s off
@@ -133,7 +134,7 @@ item_same kind s t turn item =
     ap (λ (n : Option node.Contents). if same_kind kind (item_kind n) then item_of t.node t.queue ∷ [] else []) turn
     ∙ ap (λ (i : Segment). if same_kind kind (item_kind s.node) then i ∷ [] else []) item
 
-waiting_keeps : (kind : Kind) (s t : SessionState) (waits : Bool) → s.waits ≡ waits → t.waits ≡ s.waits → KeepsItem s t → waiting kind t ≡ waiting kind s
+pub waiting_keeps : (kind : Kind) (s t : SessionState) (waits : Bool) → s.waits ≡ waits → t.waits ≡ s.waits → KeepsItem s t → waiting kind t ≡ waiting kind s
 waiting_keeps kind s t true on same item =
     ap (λ (b : Bool). if b then item_if kind t else []) (same ∙ on)
     ∙ item_same kind s t (item on).0 (item on).1
@@ -141,7 +142,7 @@ waiting_keeps kind s t true on same item =
 waiting_keeps kind s t false off same item = waits_not kind t (same ∙ off) ∙ sym (waits_not kind s off)
 
 -- what is kept is the same where the open containers and what waits are
-kept_same : (kind : Kind) (s t : SessionState) → t.leaves ≡ s.leaves → t.nodes ≡ s.nodes → waiting kind t ≡ waiting kind s → kept kind t ≡ kept kind s
+pub kept_same : (kind : Kind) (s t : SessionState) → t.leaves ≡ s.leaves → t.nodes ≡ s.nodes → waiting kind t ≡ waiting kind s → kept kind t ≡ kept kind s
 kept_same Leaf s t leaves nodes waits =
     ap (λ (c : Contents). c.segments ++ waiting Leaf t) leaves ∙ ap (λ (w : List Segment). s.leaves.segments ++ w) waits
 kept_same Tree s t leaves nodes waits =
@@ -150,14 +151,14 @@ kept_same Tree s t leaves nodes waits =
 both_off : (kind : Kind) (s t : SessionState) → s.waits ≡ false → t.waits ≡ s.waits → waiting kind t ≡ waiting kind s
 both_off kind s t off same = waits_not kind t (same ∙ off) ∙ sym (waits_not kind s off)
 
-no_step_off : (waits there : Bool) → (not waits && there) ≡ true → waits ≡ false
+pub no_step_off : (waits there : Bool) → (not waits && there) ≡ true → waits ≡ false
 no_step_off false there is = refl
 no_step_off true there is = absurd (cc)
 
 step_kept : (kind : Kind) (s t : SessionState) → SettleStep s t → kept kind t ≡ kept kind s
 step_kept kind s t (Spelled _ _ is) = ap (kept kind) is
 step_kept kind s t (Advanced _ _ is) = ap (kept kind) is.others
-step_kept kind s t (Closed _ _ is) = ap (kept kind) is
+step_kept kind s t (Closed _ _ is) = ap (kept kind) is.others
 step_kept kind s t (PlacedNode _ _ none some is) =
     ap (kept kind) is ∙ kept_same kind s (placed_node s) refl refl
     (both_off kind s (placed_node s) (no_step_off s.waits (item_is_there s s.node) none) refl)
@@ -165,12 +166,8 @@ step_kept kind s t (PlacedFront _ _ none empty is) =
     ap (kept kind) is ∙ kept_same kind s (placed_front 1 s) refl refl
     (both_off kind s (placed_front 1 s) (no_step_off s.waits (item_is_there s s.node) none) refl)
 
-settles_kept : (kind : Kind) (s t : SessionState) → Settles s t → kept kind t ≡ kept kind s
-settles_kept kind s t (Stays _) = refl
-settles_kept kind s t (Then _ u _ settles step) = step_kept kind u t step ∙ settles_kept kind s u settles
-
-taking_kept : (kind : Kind) (n : ℕ) (s t : SessionState) → IsTaking n s t → kept kind t ≡ kept kind s
-taking_kept kind n s t is =
+taking_kept : (kind : Kind) (bytes : List ℕ) (s t : SessionState) → IsTaking bytes s t → kept kind t ≡ kept kind s
+taking_kept kind bytes s t is =
     kept_same kind s t (ap (λ (x : SessionState). x.leaves) is.others) (ap (λ (x : SessionState). x.nodes) is.others)
     (waiting_keeps kind s t s.waits refl (ap (λ (x : SessionState). x.waits) is.others) is.item)
 
@@ -181,21 +178,26 @@ ending_kept kind s t is =
 
 -- ---- all calls
 
-run_kept : (kind : Kind) (s : SessionState) (absent sealed : List Segment) → Ran kind s absent sealed → sealed ++ kept kind s ≡ absent
-run_kept kind s absent sealed (Begun _ off none) =
-    ap (λ (x : List Segment). x ++ waiting kind s) none ∙ waits_not kind s off
-run_kept kind t absent sealed (Pushed s _ _ _ n ran is) =
-    ap (λ (x : List Segment). sealed ++ x) (taking_kept kind n s t is) ∙ run_kept kind s absent sealed ran
-run_kept kind t absent sealed (Ended s _ _ _ ran is) =
-    ap (λ (x : List Segment). sealed ++ x) (ending_kept kind s t is) ∙ run_kept kind s absent sealed ran
-run_kept kind u absent sealed (Asked s t _ _ _ ran settles is) =
-    ap (λ (x : List Segment). sealed ++ x) (ap (kept kind) is ∙ settles_kept kind s t settles) ∙ run_kept kind s absent sealed ran
-run_kept kind _ _ _ (Told s answer absent sealed ran is) =
-    append_assoc sealed (sealed_of kind answer s) (kept kind (told_by answer s))
-    ∙ ap (λ (x : List Segment). sealed ++ x) (told_kept kind answer s is)
-    ∙ sym (append_assoc sealed (kept kind s) (absent_by kind answer s))
-    ∙ ap (λ (x : List Segment). x ++ absent_by kind answer s) (run_kept kind s absent sealed ran)
+new_kept : (kind : Kind) (s : SessionState) → IsBegun s → kept kind s ≡ []
+new_kept Leaf s is = ap (λ (x : List Segment). x ++ waiting Leaf s) is.leaves ∙ waits_not Leaf s is.waits
+new_kept Tree s is = ap (λ (x : List Segment). x ++ waiting Tree s) is.nodes ∙ waits_not Tree s is.waits
+
+run_kept : (s : SessionState) (h : History) (kind : Kind) → HasHistory s h → h.sealed kind ++ kept kind s ≡ h.absent kind
+run_kept s h kind (Begun _ _ is) = new_kept kind s is
+run_kept t _ kind (Pushed s _ h bytes has _ is) =
+    ap (λ (x : List Segment). h.sealed kind ++ x) (taking_kept kind bytes s t is) ∙ run_kept s h kind has
+run_kept t h kind (Ended s _ _ has _ is) =
+    ap (λ (x : List Segment). h.sealed kind ++ x) (ending_kept kind s t is) ∙ run_kept s h kind has
+run_kept t _ kind (Moved s _ h has _ step) =
+    ap (λ (x : List Segment). h.sealed kind ++ x) (step_kept kind s t step) ∙ run_kept s h kind has
+run_kept t h kind (Asked s _ _ has _ is) =
+    ap (λ (x : List Segment). h.sealed kind ++ x) (ap (kept kind) is) ∙ run_kept s h kind has
+run_kept _ _ kind (Told s answer h has _ _ is _) =
+    append_assoc (h.sealed kind) (sealed_by kind answer s) (kept kind (told_by answer s))
+    ∙ ap (λ (x : List Segment). h.sealed kind ++ x) (told_kept kind answer s is)
+    ∙ sym (append_assoc (h.sealed kind) (kept kind s) (absent_by kind answer s))
+    ∙ ap (λ (x : List Segment). x ++ absent_by kind answer s) (run_kept s h kind has)
 
 pub seals_were_absent : SealsWereAbsent
-seals_were_absent kind s absent sealed ran =
-    append_assoc sealed (open_of s kind).segments (waiting kind s) ∙ run_kept kind s absent sealed ran
+seals_were_absent s h kind has =
+    append_assoc (h.sealed kind) (open_of s kind).segments (waiting kind s) ∙ run_kept s h kind has

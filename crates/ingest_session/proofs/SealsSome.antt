@@ -13,6 +13,7 @@ use Rattle.merkle_file.specs.Node.{spelling}
 use Rattle.merkle_file.specs.Reading.{contents_in}
 use Rattle.merkle_file.proofs.InPlace.{length_spelling}
 use Rattle.actor_parts.specs.Segments.{AreStepSegments, IsStepSegment, child_kind, node_segment}
+use Rattle.store_model.specs.Trees.{leaf_key, node_key}
 use Rattle.ingest_session.specs.declared.due.Due.TheVariants.{Claim, Seal}
 use Rattle.ingest_session.specs.Child.{has_child_of}
 use Rattle.ingest_session.specs.Due.{due_in, end_due, item_due, item_kind, open_of, queue_due}
@@ -61,12 +62,21 @@ no_child filled kind (c ∷ cs) none =
 seal_is : (k l : Kind) → Seal k ≡ Seal l → k ≡ l
 seal_is k l is = cc
 
+-- one that has another segment of the digest
+key_some : (s : SessionState) (k kind : Kind) (key : List ℕ) (b : Bool) → has_key (open_of s k) key ≡ b →
+    (if b then Seal k else Claim) ≡ Seal kind → 1 ≤ length (open_of s kind).segments
+key_some s k kind key true is due =
+    subst (λ (l : Kind). 1 ≤ length (open_of s l).segments) (seal_is _ _ due)
+    (some_or_none _ (λ none. let no_one = no_key (open_of s k) key none in search rules))
+key_some s k kind key false is due = absurd (cc)
+
 node_some : (s : SessionState) (n : node.Contents) (b : Bool) (kind : Kind) → has_child_of (open_of s (child_kind n.level)) n ≡ b →
-    (if b then Seal (child_kind n.level) else Claim) ≡ Seal kind → 1 ≤ length (open_of s kind).segments
+    (if b then Seal (child_kind n.level) else if has_key s.nodes (node_key n) then Seal Tree else Claim) ≡ Seal kind →
+    1 ≤ length (open_of s kind).segments
 node_some s n true kind is due =
     subst (λ (k : Kind). 1 ≤ length (open_of s k).segments) (seal_is _ _ due)
     (some_or_none _ (λ none. let no_one = no_child (open_of s (child_kind n.level)) (child_kind n.level) n.children none in search rules))
-node_some s n false kind is due = absurd (cc)
+node_some s n false kind is due = key_some s Tree kind (node_key n) _ refl due
 
 end_some : (s : SessionState) (kind : Kind) → end_due s ≡ Seal kind → 1 ≤ length (open_of s kind).segments
 end_some s Leaf due = search rules
@@ -74,7 +84,7 @@ end_some s Tree due = search rules
 
 queue_some : (s : SessionState) (queue : List (List ℕ)) (kind : Kind) → queue_due s queue ≡ Seal kind → 1 ≤ length (open_of s kind).segments
 queue_some s [] kind due = end_some s kind due
-queue_some s (x ∷ xs) kind due = absurd (cc)
+queue_some s (x ∷ xs) kind due = key_some s Leaf kind (leaf_key x) _ refl due
 
 item_some : (s : SessionState) (n : Option node.Contents) (kind : Kind) → item_due s n ≡ Seal kind → 1 ≤ length (open_of s kind).segments
 item_some s (Some n) kind due = node_some s n _ kind refl due

@@ -7,11 +7,12 @@ use Rattle.segmenter.specs.declared.cutting.Taken.{Taken}
 use Rattle.segmenter.specs.Cutting.{Hand, Takes, IsOne, HasCut, empty_hand}
 use Rattle.merkle_file.specs.declared.top.Top.{Top}
 use Rattle.ingest_session.specs.declared.queue.TheConstants.{QUEUE}
+use Rattle.ingest_session.specs.Calls.{IsTaking, KeepsItem}
 use Rattle.ingest_session.specs.Sound.{IsSession}
 use Rattle.ingest_session.specs.State.{SessionState, IsWhole, rest_of, rest_after, is_last, AreLong}
-use Rattle.ingest_session.specs.Stream.{HasTaken, IsCutInto}
+use Rattle.ingest_session.specs.Stream.{IsCutInto}
 use Rattle.ingest_session.proofs.Lists.{all_and_one}
-use Rattle.ingest_session.proofs.Rests.{rest_grows, ahead_stays, full_stays, long_and_one}
+use Rattle.ingest_session.proofs.Rests.{rest_grows, ahead_stays, full_stays, item_stays, long_and_one}
 
 -- a segment was cut off, and waits
 abbrev pub cut_off : SessionState → ℕ → List ℕ → SessionState
@@ -79,14 +80,20 @@ module _ (s : SessionState) (bytes : List ℕ) (taken : Taken) (hand : Hand) (is
       (append_assoc segments (rest_of s) (x ∷ []) ∙ ap (λ (r : List (List ℕ)). segments ++ r) (sym (rest_grows s.ahead s.queue x is.ahead)))
       (step cut)
 
-  pub cut_off_has_taken : (given : List ℕ) → taken.taken ≤ length bytes →
-      ((segments : List (List ℕ)) → HasCut given segments s.hand → HasCut (given ++ take taken.taken bytes) (segments ++ hand.bytes ∷ []) empty_hand) →
-      HasTaken s given → HasTaken (cut_off s taken.taken hand.bytes) (given ++ take taken.taken bytes)
-  cut_off_has_taken given within step has = record {
-    segments = has.segments;
-    taken = has.taken;
-    cut = cut_more s.ended given (given ++ take taken.taken bytes) hand.bytes has.segments ongoing (step (has.segments ++ rest_of s)) has.cut;
-    built = has.built;
-    counted = ap (λ n. n + taken.taken) has.counted
-        ∙ sym (length-append given (take taken.taken bytes) ∙ ap (λ n. length given + n) (length-take-le taken.taken bytes within));
+  -- an item that waits is not the last
+  item_waits : (x : List ℕ) → KeepsItem s (record s { queue = s.queue ++ x ∷ [] })
+  item_waits x on = (refl, item_stays s.node s.spelled s.ahead s.queue x (is.waits on).0 is.ahead)
+
+  pub cut_off_takes : taken.taken ≤ length bytes →
+      ((given : List ℕ) (segments : List (List ℕ)) → HasCut given segments s.hand
+      → HasCut (given ++ take taken.taken bytes) (segments ++ hand.bytes ∷ []) empty_hand) →
+      IsTaking (take taken.taken bytes) s (cut_off s taken.taken hand.bytes)
+  cut_off_takes within step = record {
+    count = ap (λ n. s.count + n) (sym (length-take-le taken.taken bytes within));
+    more = hand.bytes ∷ [];
+    queue = refl;
+    item = item_waits hand.bytes;
+    cut = λ given segments cut.
+        cut_more s.ended given (given ++ take taken.taken bytes) hand.bytes segments ongoing (step given (segments ++ rest_of s)) cut;
+    others = refl;
   }

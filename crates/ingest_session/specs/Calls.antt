@@ -1,29 +1,37 @@
 -- What the calls of a session do to it.
-use Rattle.std.specs.Prelude.{◌≡◌, ◌≤◌, ℕ, ◌+◌, Bool, true, false, nat_lt, if◌then◌else◌, List, [], ◌∷◌, ◌++◌, length, Option, Some, None, IsSome, Result, Ok, Err, ◌⊎◌}
+use Rattle.std.specs.Prelude.{◌≡◌, ◌≤◌, ℕ, ◌+◌, Bool, true, false, nat_lt, if◌then◌else◌, List, [], ◌∷◌, ◌++◌, length, Option, Some, None, Result, Ok, Err, ◌⊎◌}
 use Rattle.disk_format.specs.declared.numbers.TheConstants.{MOST_FILE}
 use Rattle.refusals.specs.declared.refusal.Refusal.{Refusal}
 use Rattle.refusals.specs.declared.refusal.Refusal.TheVariants.{Memory, TooLong, WrongPart}
 use Rattle.refusals.specs.declared.refusal.PartKind.TheVariants.{Finished}
 use Rattle.disk_format.specs.Cells.{Root}
+use Rattle.container_meta.specs.Segments.{KindSegment}
 use Rattle.segmenter.specs.Cutting.{empty_hand}
 use Rattle.merkle_file.specs.declared.top.Top.{Top}
+use Rattle.merkle_file.specs.Building.{Progress}
+use Rattle.merkle_file.specs.Node as node
 use Rattle.ingest_session.specs.declared.due.Due.{Due}
 use Rattle.ingest_session.specs.declared.due.Due.TheVariants.{Nothing}
 use Rattle.ingest_session.specs.Due.{due_in}
+use Rattle.ingest_session.specs.Finished.{first_node, without_first}
 use Rattle.ingest_session.specs.Items.{item_of}
-use Rattle.ingest_session.specs.State.{SessionState}
+use Rattle.ingest_session.specs.Moving.{Finishes}
+use Rattle.ingest_session.specs.State.{SessionState, rest_of}
+use Rattle.ingest_session.specs.Stream.{IsCutInto}
 
 -- An item that waits is the same item afterwards.
 abbrev pub KeepsItem : SessionState → SessionState → Type 0
 KeepsItem old new = old.waits ≡ true → (new.node ≡ old.node) × (item_of new.node new.queue ≡ item_of old.node old.queue)
 
--- So many bytes were taken: what is in hand may have changed, and segments may wait after those that waited. Nothing else
+-- These bytes were taken: what is in hand may have changed, and segments may wait after those that waited. Nothing else
 -- changed.
-pub record IsTaking (taken : ℕ) (old new : SessionState) : Type 0 where
-  pub count : new.count ≡ old.count + taken
+pub record IsTaking (bytes : List ℕ) (old new : SessionState) : Type 0 where
+  pub count : new.count ≡ old.count + length bytes
   pub more : List (List ℕ)
   pub queue : new.queue ≡ old.queue ++ more
   pub item : KeepsItem old new
+  pub cut : (given : List ℕ) (segments : List (List ℕ)) → IsCutInto old.ended given (segments ++ rest_of old) old.hand
+      → IsCutInto new.ended (given ++ bytes) (segments ++ rest_of new) new.hand
   pub others : new ≡ record old { count = new.count; hand = new.hand; queue = new.queue }
 
 -- why a push of so many bytes is refused, if it is
@@ -45,13 +53,37 @@ IsFinishAnswer s (Err Memory) = s.ended ≡ false
 IsFinishAnswer s (Err (WrongPart Finished)) = s.ended ≡ true
 IsFinishAnswer s (Err refusal) = ⊥
 
+-- the tree goes on
+pub record GoesOn (old new : SessionState) : Type 0 where
+  pub node : new.node ≡ old.node
+  pub built : new.built ≡ old.built
+  pub top : new.top ≡ old.top
+
+-- the next node has its turn, where no item has it
+abbrev pub TakesTurn : Option KindSegment → Option node.Contents → Progress → SessionState → Type 0
+TakesTurn None None built new = (new.node ≡ first_node built) × (new.built ≡ without_first built)
+TakesTurn ahead node built new = (new.node ≡ node) × (new.built ≡ built)
+
+-- the builder has all segments, and the tree is whole
+pub record EndsTree (old new : SessionState) : Type 0 where
+  pub none : old.top ≡ None
+  pub all : rest_of new ≡ []
+  pub root : Top
+  pub top : new.top ≡ Some root
+  pub built : Progress
+  pub finishes : Finishes root old.built built
+  pub turn : TakesTurn old.ahead old.node built new
+
 -- What the end of the file changes: what is in hand is in the queue. Where the builder has all segments, the tree is whole,
 -- and its next node has its turn.
 pub record IsEnding (old new : SessionState) : Type 0 where
+  pub ongoing : old.ended ≡ false
   pub ended : new.ended ≡ true
   pub queue : new.queue ≡ old.queue ++ (if nat_lt 0 (length old.hand.bytes) then old.hand.bytes ∷ [] else [])
-  pub node : IsSome old.node → new.node ≡ old.node
   pub item : KeepsItem old new
+  pub cut : (given : List ℕ) (segments : List (List ℕ)) → IsCutInto old.ended given (segments ++ rest_of old) old.hand
+      → IsCutInto new.ended given (segments ++ rest_of new) new.hand
+  pub tree : GoesOn old new ⊎ EndsTree old new
   pub others : new ≡ record old { ended = true; hand = empty_hand; queue = new.queue; node = new.node; built = new.built; top = new.top }
 
 abbrev pub root_by : ℕ → Option Top → Option Root

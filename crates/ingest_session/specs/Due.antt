@@ -2,23 +2,27 @@
 use Rattle.std.specs.Prelude.{ℕ, Bool, false, ◌&&◌, not, ◌==◌, if◌then◌else◌, List, [], ◌∷◌, length, Option, Some, None}
 use Rattle.container_meta.specs.declared.kind.Kind.{Kind}
 use Rattle.container_meta.specs.declared.kind.Kind.TheVariants.{Leaf, Tree}
-use Rattle.container_meta.specs.Segments.{Contents, has_key}
+use Rattle.container_meta.specs.Segments.{Contents, has_key, has_segment}
 use Rattle.merkle_file.specs.Node as node
-use Rattle.actor_parts.specs.Segments.{child_kind}
+use Rattle.actor_parts.specs.Segments.{child_kind, node_segment}
 use Rattle.store_model.specs.Trees.{leaf_key, node_key}
 use Rattle.ingest_session.specs.declared.due.Due.{Due}
 use Rattle.ingest_session.specs.declared.due.Due.TheVariants.{Claim, Seal, Nothing}
 use Rattle.ingest_session.specs.Child.{has_child_of}
-use Rattle.ingest_session.specs.State.{SessionState}
+use Rattle.ingest_session.specs.State.{SessionState, leaf_segment}
 
 -- the open container of a kind
 abbrev pub open_of : SessionState → Kind → Contents
 open_of s Leaf = s.leaves
 open_of s Tree = s.nodes
 
--- the step for a node whose turn it is: the container with its children is sealed before it is claimed
+-- The step for a node whose turn it is: the container with its children is sealed before it is claimed. So is the one that has
+-- a node of its key that is not in its place: another of its digest. A claim of it then finds that one in the store.
 abbrev pub node_due : SessionState → node.Contents → Due
-node_due s n = if has_child_of (open_of s (child_kind n.level)) n then Seal (child_kind n.level) else Claim
+node_due s n =
+    if has_child_of (open_of s (child_kind n.level)) n then Seal (child_kind n.level)
+    else if has_key s.nodes (node_key n) then Seal Tree
+    else Claim
 
 -- the steps at the end
 abbrev pub end_due : SessionState → Due
@@ -28,14 +32,21 @@ end_due s =
     else if not (length s.nodes.segments == 0) then Seal Tree
     else Nothing
 
+-- an item has its turn: a finished node, or else the first of the queue
+abbrev pub HasTurn : Option node.Contents → List (List ℕ) → Type 0
+HasTurn (Some n) queue = Unit {0}
+HasTurn None [] = ⊥
+HasTurn None (x ∷ xs) = Unit {0}
+
 -- the kind of the item whose turn it is: a finished node comes before the queue
 abbrev pub item_kind : Option node.Contents → Kind
 item_kind None = Leaf
 item_kind (Some n) = Tree
 
+-- The step for the segment at the front of the queue: a container that has another of its key is sealed before it is claimed.
 abbrev pub queue_due : SessionState → List (List ℕ) → Due
 queue_due s [] = end_due s
-queue_due s (x ∷ xs) = Claim
+queue_due s (x ∷ xs) = if has_key s.leaves (leaf_key x) then Seal Leaf else Claim
 
 abbrev pub item_due : SessionState → Option node.Contents → Due
 item_due s (Some n) = node_due s n
@@ -50,11 +61,11 @@ due_in s = if s.waits then Seal (item_kind s.node) else item_due s s.node
 
 abbrev pub queue_is_there : SessionState → List (List ℕ) → Bool
 queue_is_there s [] = false
-queue_is_there s (x ∷ xs) = has_key s.leaves (leaf_key x)
+queue_is_there s (x ∷ xs) = has_segment s.leaves (leaf_segment x).segment
 
 -- a finished node lies in the open tree container, and no child of it in an open container
 abbrev pub node_is_there : SessionState → node.Contents → Bool
-node_is_there s n = not (has_child_of (open_of s (child_kind n.level)) n) && has_key s.nodes (node_key n)
+node_is_there s n = not (has_child_of (open_of s (child_kind n.level)) n) && has_segment s.nodes (node_segment n).segment
 
 abbrev pub item_is_there : SessionState → Option node.Contents → Bool
 item_is_there s (Some n) = node_is_there s n
@@ -63,7 +74,11 @@ item_is_there s None = queue_is_there s s.queue
 abbrev pub needs_no_step : SessionState → Bool
 needs_no_step s = not s.waits && item_is_there s s.node
 
--- the item whose turn it is lies in its open container
+-- its open container has the key of the item whose turn it is
+abbrev pub queue_has_key : SessionState → List (List ℕ) → Bool
+queue_has_key s [] = false
+queue_has_key s (x ∷ xs) = has_key s.leaves (leaf_key x)
+
 abbrev pub item_is_held : SessionState → Option node.Contents → Bool
 item_is_held s (Some n) = has_key s.nodes (node_key n)
-item_is_held s None = queue_is_there s s.queue
+item_is_held s None = queue_has_key s s.queue

@@ -1,14 +1,12 @@
 -- Items that need no step go to their place, and those whose turn it is get their segments.
 use Rattle.std.specs.Prelude.{◌≡◌, ◌+◌, ◌<◌, ℕ, Bool, true, false, length, None, IsSome}
 use Rattle.std.specs.Option.{option_to_list}
+use Rattle.ingest_session.specs.Sound.{IsSession}
 use Rattle.ingest_session.specs.State.{SessionState, HasItem}
 use Rattle.ingest_session.specs.Due.{item_is_there, needs_no_step}
+use Rattle.ingest_session.specs.Calls.{KeepsItem}
 use Rattle.ingest_session.specs.Told.{IsSettled, placed_node, placed_front}
-use Rattle.ingest_session.specs.Moving.{IsAdvanced, IsSpelledOut}
-
--- the builder, and the root of the tree, may be others, and nothing else
-abbrev pub IsClosing : SessionState → SessionState → Type 0
-IsClosing old new = new ≡ record old { built = new.built; top = new.top }
+use Rattle.ingest_session.specs.Moving.{IsAdvanced, IsClosing, IsSpelledOut}
 
 -- What may happen before a step is due: the item whose turn it is gets its segment, and goes to its place where it needs
 -- no step; the tree is made whole where its last segment has its turn.
@@ -21,9 +19,20 @@ pub data SettleStep : SessionState → SessionState → Type 0 where
   PlacedFront : (old new : SessionState) → needs_no_step old ≡ true → old.node ≡ None → new ≡ placed_front 1 old
       → SettleStep old new
 
+-- Any number of these, one after the other.
 pub data Settles : SessionState → SessionState → Type 0 where
   Stays : (s : SessionState) → Settles s s
-  Then : (first second third : SessionState) → Settles first second → SettleStep second third → Settles first third
+  Then : (first second third : SessionState) → Settles first second → IsSession third → SettleStep second third → Settles first third
+
+-- What they leave as it is: how many bytes were taken, the open containers, whether the file has ended and whether an item
+-- waits, and that item.
+pub record KeepsOpen (old new : SessionState) : Type 0 where
+  pub count : new.count ≡ old.count
+  pub leaves : new.leaves ≡ old.leaves
+  pub nodes : new.nodes ≡ old.nodes
+  pub ended : new.ended ≡ old.ended
+  pub waits : new.waits ≡ old.waits
+  pub item : KeepsItem old new
 
 -- how many finished nodes are not in their place
 abbrev pub nodes_left : SessionState → ℕ

@@ -6,7 +6,7 @@ use Rattle.container_meta.specs.Segments.{KindSegment, Contents}
 use Rattle.segmenter.specs.Cutting.{Hand}
 use Rattle.merkle_file.specs.Node as node
 use Rattle.merkle_file.specs.declared.top.Top.{Top}
-use Rattle.merkle_file.specs.Building.{Progress, count_of, total_of}
+use Rattle.merkle_file.specs.Building.{Progress, total_of}
 use Rattle.actor_parts.specs.Segments.{IsStepSegment, node_segment}
 
 -- What a session holds.
@@ -83,7 +83,7 @@ HasItem (Some n) (Some seg) ahead = Unit {0}
 pub record IsBuilding (s : SessionState) : Type 0 where
   pub bytes : s.top ≡ None → total_of s.built.rows + sum_by length (rest_of s) + length s.hand.bytes ≡ s.count
   pub long : AreLong s.ended (rest_of s)
-  pub counted : s.top ≡ None → is_last s.ended (rest_of s) ≡ false → LEAST_SEGMENT * count_of s.built.rows ≤ total_of s.built.rows
+  pub counted : s.top ≡ None → is_last s.ended (rest_of s) ≡ false → LEAST_SEGMENT * s.built.leaves ≤ total_of s.built.rows
 
 -- the tree is whole only where nothing is to come and the builder has all segments
 abbrev pub IsWhole : Option Top → Bool → Type 0

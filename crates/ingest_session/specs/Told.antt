@@ -12,7 +12,7 @@ use Rattle.ingest_session.specs.State.{SessionState, HasItem, IsClosed}
 use Rattle.ingest_session.specs.Filling.{with_segment}
 use Rattle.ingest_session.specs.Finished.{first_node, without_first}
 use Rattle.ingest_session.specs.Items.{fits, item_of}
-use Rattle.ingest_session.specs.Due.{due_in, item_kind, needs_no_step, open_of}
+use Rattle.ingest_session.specs.Due.{HasTurn, due_in, item_kind, needs_no_step, open_of}
 
 -- the node whose turn it is goes to its place, and the next finished node has its turn
 abbrev pub placed_node : SessionState → SessionState
@@ -61,7 +61,8 @@ told_by other s = s
 -- Everything that needs no step is in its place, and the item whose turn it is has its segment.
 pub record IsSettled (s : SessionState) : Type 0 where
   pub none : needs_no_step s ≡ false
-  pub item : due_in s ≡ Claim → HasItem s.node s.spelled s.ahead
+  pub item : HasTurn s.node s.queue → HasItem s.node s.spelled s.ahead
+  pub claim : due_in s ≡ Claim → HasItem s.node s.spelled s.ahead
   pub closed : IsClosed s
 
 -- an answer that the step which is due can have

@@ -1,14 +1,14 @@
 //! Which step is due, and for what.
-ghost use Rattle.std.specs.Prelude.{◌≡◌, ◌≤◌, length};
+ghost use Rattle.std.specs.Prelude.{◌≡◌, ◌≤◌, ◌↔◌, IsTrue, length, if◌then◌else◌};
 
 use crate::due::{Due, child_kind, has_child};
 use crate::session::Session;
-use container_meta::{Kind, OpenContainer, Seg, key_of};
+use container_meta::{Kind, OpenContainer, Seg};
 
 impl Session {
     ghost use Rattle.actor_parts.specs.Segments.{AreStepSegments};
     ghost use Rattle.ingest_session.specs.State.{HasItem};
-    ghost use Rattle.ingest_session.specs.Due.{due_in, end_due, item_due, item_is_there, item_kind, open_of};
+    ghost use Rattle.ingest_session.specs.Due.{HasTurn, due_in, end_due, item_due, item_is_held, item_is_there, item_kind, open_of};
     ghost use Rattle.ingest_session.specs.Moving.{IsOffered};
 
     /// The open container of a kind.
@@ -66,7 +66,21 @@ impl Session {
         Due::Nothing
     }
 
+    /// A claim of the item whose turn it is; where its open container has another of its digest, first a seal of that one.
+    fn claim_due(&self) -> Due
+        requires { HasItem self.now.node self.now.spelled self.now.ahead }
+        ensures { result ≡ (if item_is_held self.now self.now.node then Due.Seal (item_kind self.now.node) else Due.Claim) }
+    {
+        let kind = self.item_kind();
+        if self.filled(kind).has(&self.offered().key()) {
+            Due::Seal(kind)
+        } else {
+            Due::Claim
+        }
+    }
+
     fn item_due(&self) -> Due
+        requires { HasTurn self.now.node self.now.queue → HasItem self.now.node self.now.spelled self.now.ahead }
         ensures { result ≡ item_due self.now self.now.node }
     {
         match &self.node {
@@ -75,12 +89,12 @@ impl Session {
                 if has_child(self.filled(kind), node) {
                     Due::Seal(kind)
                 } else {
-                    Due::Claim
+                    self.claim_due()
                 }
             }
             None => {
                 if self.queue.len() > 0 {
-                    Due::Claim
+                    self.claim_due()
                 } else {
                     self.end_due()
                 }
@@ -90,6 +104,7 @@ impl Session {
 
     /// The step that is due, where every item that needs none is in its place.
     pub(crate) fn due_now(&self) -> Due
+        requires { HasTurn self.now.node self.now.queue → HasItem self.now.node self.now.spelled self.now.ahead }
         ensures { result ≡ due_in self.now }
     {
         if self.waits {
@@ -97,6 +112,16 @@ impl Session {
         } else {
             self.item_due()
         }
+    }
+
+    /// Whether no step is due.
+    pub(crate) fn is_done(&self) -> bool
+        ensures { IsTrue result ↔ (due_in self.now ≡ Due.Nothing) }
+    {
+        if self.waits || self.node.is_some() || self.queue.len() > 0 {
+            return false;
+        }
+        matches!(self.end_due(), Due::Nothing)
     }
 
     /// Whether the item whose turn it is needs no step.
@@ -107,10 +132,9 @@ impl Session {
         let seg = self.offered();
         match &self.node {
             Some(node) => {
-                !has_child(self.filled(child_kind(node.level())), node)
-                    && self.nodes.has(&seg.key())
+                !has_child(self.filled(child_kind(node.level())), node) && self.nodes.holds(seg)
             }
-            None => self.leaves.has(&seg.key()),
+            None => self.leaves.holds(seg),
         }
     }
 }

@@ -1,17 +1,17 @@
 //! The end of a file, and its root.
-ghost use Rattle.std.specs.Prelude.{◌≡◌, ℕ, List, Bool, true, false, IfSome, IfNone, OnErr, OnOk};
+ghost use Rattle.std.specs.Prelude.{◌≡◌, Bool, true, false, IfSome, IfNone, OnErr, OnOk};
 ghost use Rattle.store_model.specs.Trees.{root_of};
 
-use crate::due::Due;
 use crate::placing::next_node;
 use crate::session::Session;
 use merkle_file::tree_of_segments;
 use namespace::Root;
 use refusals::{PartKind, Refusal};
+use std::alloc::AllocError;
 
 impl Session {
     ghost use Rattle.ingest_session.specs.State.{is_last, rest_of};
-    ghost use Rattle.ingest_session.specs.Stream.{HasTaken};
+    ghost use Rattle.ingest_session.specs.History.{History, HasHistory};
     ghost use Rattle.ingest_session.specs.Calls.{IsFinishAnswer, IsEnding, IsUnready, ready_in};
 
     /// Whether the builder has all segments of the queue.
@@ -24,19 +24,13 @@ impl Session {
         }
     }
 
-    /// Ends the bytes of the file: what is in hand is the last segment. It refuses after it was called, and for want of
-    /// memory, and changes nothing then.
-    pub fn finish(&mut self) -> Result<(), Refusal>
-        ensures refusal { IsFinishAnswer self.old result }
-        ensures err { OnErr result (self.new ≡ self.old) }
+    /// What is in hand becomes the last segment. Where the builder has all segments, the tree is whole, and its next node has
+    /// its turn. Where there is no memory, nothing changes.
+    fn end(&mut self) -> Result<(), AllocError>
+        requires ongoing { self.old.ended ≡ false }
         ensures ok { OnOk result (IsEnding self.old self.new) }
-        ensures bytes { (given : List ℕ) → HasTaken self.old given → HasTaken self.new given }
+        ensures err { OnErr result (self.new ≡ self.old) }
     {
-        if self.ended {
-            return Err(Refusal::WrongPart {
-                part: PartKind::Finished,
-            });
-        }
         if self.cutter.finish() {
             self.queue.push(self.cutter.segment());
             self.cutter.next();
@@ -57,26 +51,41 @@ impl Session {
         Ok(())
     }
 
+    /// Ends the bytes of the file: what is in hand is the last segment. It refuses after it was called, and for want of
+    /// memory, and changes nothing then.
+    pub fn finish(&mut self) -> Result<(), Refusal>
+        ensures refusal { IsFinishAnswer self.old result }
+        ensures err { OnErr result (self.new ≡ self.old) }
+        ensures ok { OnOk result (IsEnding self.old self.new) }
+        ensures history { OnOk result ((h : History) → HasHistory self.old h → HasHistory self.new h) }
+    {
+        if self.ended {
+            return Err(Refusal::WrongPart {
+                part: PartKind::Finished,
+            });
+        }
+        self.end()?;
+        self.sound();
+        Ok(())
+    }
+
     /// The root of the file, where all bytes were given and nothing is due.
     pub fn ready(&self) -> Option<Root>
         ensures ready { result ≡ ready_in self.now }
         ensures none { IfNone result (IsUnready self.now) }
-        ensures root { (given : List ℕ) → HasTaken self.now given → IfSome result (λ root. root ≡ root_of given) }
+        ensures root { (h : History) → HasHistory self.now h → IfSome result (λ root. root ≡ root_of h.given) }
     {
         tree_of_segments();
-        if !self.ended {
+        if !self.ended || !self.is_done() {
             return None;
         }
-        match self.due_now() {
-            Due::Nothing => match &self.top {
-                Some(top) => Some(Root {
-                    length: self.count,
-                    level: top.level,
-                    digest: top.digest,
-                }),
-                None => None,
-            },
-            _ => None,
+        match &self.top {
+            Some(top) => Some(Root {
+                length: self.count,
+                level: top.level,
+                digest: top.digest,
+            }),
+            None => None,
         }
     }
 }

@@ -1,20 +1,37 @@
-//! Laws of many calls, for those who stand on them. Their functions do nothing.
-ghost use Rattle.ingest_session.specs.Children.{ClaimsHaveNoOpenChild};
-ghost use Rattle.ingest_session.specs.Counting.{StepsAreFew};
-ghost use Rattle.ingest_session.specs.Runs.{SealsWereAbsent};
+//! Laws of sessions with a history, for those who stand on them (docs/MODEL.md, 'Sessions'). Their functions do nothing.
+ghost use Rattle.ingest_session.specs.Facts.{AllIsKept, BytesAreCounted, ChildrenComeFirst, OpenNodesHaveChildren, OpensArePieces, PlacedComeFirst, SealsWereAbsent, StepsAreFew, TurnsArePieces, WaitsForAnother};
+
+/// How many bytes were taken is counted.
+pub fn bytes_are_counted()
+    ensures { BytesAreCounted }
+{}
+
+/// However the file goes on, what is in its place is the first of it, and what is claimed and what is sealed are pieces of it.
+pub fn steps_have_pieces()
+    ensures first { PlacedComeFirst }
+    ensures turns { TurnsArePieces }
+    ensures opens { OpensArePieces }
+{}
+
+/// The children of each node that is claimed or sealed were answered Held, or sealed, before.
+pub fn children_come_first()
+    ensures claims { ChildrenComeFirst }
+    ensures seals { OpenNodesHaveChildren }
+{}
 
 /// What was sealed, what lies in an open container and what waits for it are the segments whose claims were answered Absent,
-/// each once and in order, after calls in any order.
+/// in order, each as often as it was answered so; what waits has a key that the container lacks.
 pub fn seals_were_absent()
-    ensures { SealsWereAbsent }
+    ensures absent { SealsWereAbsent }
+    ensures waits { WaitsForAnother }
 {}
 
-/// A node whose claim is due has no child in an open container.
-pub fn claims_have_no_open_child()
-    ensures { ClaimsHaveNoOpenChild }
-{}
-
-/// At most two steps are due for each segment and node that is in its place, and one for one that waits.
+/// At most two steps are due for each piece that is in its place, and one for one that waits.
 pub fn steps_are_few()
     ensures { StepsAreFew }
+{}
+
+/// When the file has ended and nothing is due, its pieces are in their place, and each was answered Held, or sealed.
+pub fn all_is_kept()
+    ensures { AllIsKept }
 {}

@@ -5,8 +5,11 @@
 //! segments and one of nodes. `due` says which step is next, a claim or a seal; `told` takes what the store answered. After
 //! `finish`, where nothing is due, `ready` has the root of the file.
 //!
-//! Proved: which step is due, what each answer makes of the session, what each call is refused by, and that the root is that
-//! of all bytes that were taken, in any order of calls. docs/PROOFS.md, 'Steps', says what isn't proved yet.
+//! Proved: which step is due, what each answer makes of the session, and what each call is refused by. After calls in any
+//! order, and for all answers that the steps can have: what is claimed and sealed are pieces of the file, children before
+//! their parents; what was sealed was answered Absent; each answer leaves less to do; and when the file has ended and nothing
+//! is due, each piece of it was answered Held, or sealed, and the root is that of all bytes that were taken. docs/PROOFS.md,
+//! 'Steps', says what isn't proved.
 #![tactic(auto)]
 
 mod asking;
@@ -20,5 +23,8 @@ mod settling;
 mod telling;
 
 pub use due::Due;
-pub use laws::{claims_have_no_open_child, seals_were_absent, steps_are_few};
+pub use laws::{
+    all_is_kept, bytes_are_counted, children_come_first, seals_were_absent, steps_are_few,
+    steps_have_pieces,
+};
 pub use session::Session;

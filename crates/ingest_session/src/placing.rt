@@ -1,5 +1,5 @@
 //! Segments and nodes that go to their place in the tree.
-ghost use Rattle.std.specs.Prelude.{◌≡◌, ◌<◌, ◌≤◌, ℕ, List, true, false, IsSome, OnErr, OnOk, length, None};
+ghost use Rattle.std.specs.Prelude.{◌≡◌, ◌<◌, ◌≤◌, true, false, IsSome, OnErr, OnOk, length, None};
 ghost use Rattle.ingest_session.specs.Finished.{first_node, without_first};
 
 use crate::session::Session;
@@ -18,7 +18,6 @@ pub(crate) fn next_node(builder: &mut TreeBuilder) -> Option<Node>
 
 impl Session {
     ghost use Rattle.ingest_session.specs.State.{is_last, rest_of};
-    ghost use Rattle.ingest_session.specs.Stream.{HasTaken};
     ghost use Rattle.ingest_session.specs.Told.{placed_node, placed_front};
     ghost use Rattle.ingest_session.specs.Moving.{IsAdvanced, IsSpelledOut};
 
@@ -35,17 +34,14 @@ impl Session {
         Ok(())
     }
 
-    /// Gives the builder the first segment of the queue, if it doesn't have it yet. Where there is no memory, nothing changes.
+    /// Gives the builder the first segment of the queue. Where there is no memory, nothing changes.
     pub(crate) fn advance(&mut self) -> Result<(), AllocError>
         requires some { 0 < length self.old.queue }
         requires node { self.old.node ≡ None }
+        requires none { self.old.ahead ≡ None }
         ensures ok { OnOk result (IsAdvanced self.old self.new) }
         ensures err { OnErr result (self.new ≡ self.old) }
-        ensures bytes { (given : List ℕ) → HasTaken self.old given → HasTaken self.new given }
     {
-        if self.ahead.is_some() {
-            return Ok(());
-        }
         let seg = Seg::leaf(self.alloc, self.queue.front())?;
         let child = Child {
             digest: seg.digest(),
@@ -61,7 +57,6 @@ impl Session {
         requires node { IsSome self.old.node }
         requires waits { self.old.waits ≡ false }
         ensures placed { self.new ≡ placed_node self.old }
-        ensures bytes { (given : List ℕ) → HasTaken self.old given → HasTaken self.new given }
     {
         self.node = next_node(&mut self.builder);
         self.spelled = None;
@@ -75,7 +70,6 @@ impl Session {
         requires waits { self.old.waits ≡ false }
         requires closed { is_last self.old.ended (rest_of self.old) ≡ true → IsSome self.old.top }
         ensures placed { self.new ≡ placed_front more self.old }
-        ensures bytes { (given : List ℕ) → HasTaken self.old given → HasTaken self.new given }
     {
         self.queue.pop();
         self.ahead = None;

@@ -79,18 +79,16 @@ impl Model for Session {
 }
 
 impl Session {
-    ghost use Rattle.ingest_session.specs.Stream.{HasTaken};
+    ghost use Rattle.ingest_session.specs.History.{History, HasHistory, IsBegun, no_history};
     ghost use Rattle.ingest_session.specs.Calls.{IsTaking, IsPushAnswer};
+    ghost use Rattle.ingest_session.specs.Sound.{IsSession};
 
     /// A session that was given nothing. It fails for want of memory alone.
     pub fn new(alloc: Global) -> Result<Session, AllocError>
-        ensures nothing { IfOk result (λ s. HasTaken s []) }
-        ensures ongoing { IfOk result (λ s. s.ended ≡ false) }
-        ensures queue { IfOk result (λ s. s.queue ≡ []) }
-        ensures open { IfOk result (λ s. (s.leaves.segments ≡ []) × (s.nodes.segments ≡ [])) }
-        ensures waits { IfOk result (λ s. s.waits ≡ false) }
+        ensures begun { IfOk result IsBegun }
+        ensures history { IfOk result (λ s. HasHistory s no_history) }
     {
-        Ok(Session {
+        let session = Session {
             alloc,
             count: 0,
             ended: false,
@@ -105,7 +103,16 @@ impl Session {
             nodes: OpenContainer::new(alloc, Kind::Tree)?,
             waits: false,
             unseen: 0,
-        })
+        };
+        session.sound();
+        Ok(session)
+    }
+
+    /// What holds of every session. It does nothing.
+    pub(crate) fn sound(&self)
+        ensures { IsSession self.now }
+    {
+        let _ = &self.count;
     }
 
     /// Takes bytes up to the end of the segment in hand, which then waits for its turn, and says how many.
@@ -116,8 +123,7 @@ impl Session {
         requires few { self.old.count + length bytes.now ≤ MOST_FILE }
         ensures some { 0 < result }
         ensures within { result ≤ length bytes.now }
-        ensures takes { IsTaking result self.old self.new }
-        ensures bytes { (given : List ℕ) → HasTaken self.old given → HasTaken self.new (given ++ take result bytes.now) }
+        ensures takes { IsTaking (take result bytes.now) self.old self.new }
     {
         let step = self.cutter.push(bytes);
         self.count += step.taken as u64;
@@ -129,15 +135,16 @@ impl Session {
         step.taken
     }
 
-    /// Takes the next bytes of the file, and says how many of them. These are fewer than all only where the queue holds 64
-    /// segments. It takes no memory, and refuses after `finish`, and where the file would be longer than a file may be.
+    /// Takes the next bytes of the file, and says how many of them. These are fewer than all only where `queued` is 64
+    /// then. It takes no memory, and refuses after `finish`, and where the file would be longer than a file may be.
     pub fn push(&mut self, bytes: &[u8]) -> Result<usize, Refusal>
         ensures refusal { IsPushAnswer self.old (length bytes.now) result }
         ensures err { OnErr result (self.new ≡ self.old) }
         ensures all { IfOk result (λ n. n < length bytes.now → QUEUE ≤ length self.new.queue + self.new.unseen) }
-        ensures takes { IfOk result (λ n. IsTaking n self.old self.new) }
-        ensures bytes { IfOk result (λ n. (given : List ℕ) → HasTaken self.old given
-            → HasTaken self.new (given ++ take n bytes.now)) }
+        ensures some { IfOk result (λ n. 0 < length bytes.now → length self.old.queue + self.old.unseen < QUEUE → 0 < n) }
+        ensures takes { IfOk result (λ n. IsTaking (take n bytes.now) self.old self.new) }
+        ensures history { IfOk result (λ n. (h : History) → HasHistory self.old h
+            → HasHistory self.new (record h { given = h.given ++ take n bytes.now })) }
     {
         if self.ended {
             return Err(Refusal::WrongPart {
@@ -152,10 +159,12 @@ impl Session {
             let (_, rest) = bytes.split_at(taken);
             taken += self.take_piece(rest);
         }
+        self.sound();
         Ok(taken)
     }
 
-    /// How many segments the queue holds.
+    /// How many segments the queue holds, and those which it no longer holds that a refused `due` put in their place: they
+    /// count until `due` answers.
     pub fn queued(&self) -> usize
         ensures { result ≡ length self.now.queue + self.now.unseen }
     {

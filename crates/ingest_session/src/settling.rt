@@ -1,25 +1,43 @@
 //! Items that need no step are put in their place.
-ghost use Rattle.std.specs.Prelude.{◌≡◌, ◌<◌, ℕ, List, false, IfOk, IsSome, OnErr, OnOk, length, None};
+ghost use Rattle.std.specs.Prelude.{◌≡◌, ◌⊎◌, ◌<◌, ◌≤◌, false, IfOk, IsSome, OnErr, OnOk, length, None};
 
 use crate::due::Due;
 use crate::session::Session;
 use std::alloc::AllocError;
 
 impl Session {
-    ghost use Rattle.ingest_session.specs.State.{IsClosed, SessionState};
+    ghost use Rattle.ingest_session.specs.State.{IsClosed};
     ghost use Rattle.ingest_session.specs.Due.{due_in};
-    ghost use Rattle.ingest_session.specs.Stream.{HasTaken};
-    ghost use Rattle.ingest_session.specs.Settling.{IsBeside, IsClosing, NeedsStep, PassesFront, PassesNode, Settles, seen};
+    ghost use Rattle.ingest_session.specs.History.{Places};
+    ghost use Rattle.ingest_session.specs.Moving.{IsClosing};
+    ghost use Rattle.ingest_session.specs.Settling.{IsBeside, KeepsOpen, NeedsStep, PassesFront, PassesNode, Settles, seen};
+    ghost use Rattle.ingest_session.specs.Work.{to_do};
     ghost use Rattle.ingest_session.specs.Told.{IsSettled};
+
+    /// Gives the builder the first segment of the queue, where it doesn't have it. Where there is no memory, nothing changes.
+    fn reach(&mut self) -> Result<(), AllocError>
+        requires some { 0 < length self.old.queue }
+        requires node { self.old.node ≡ None }
+        ensures ahead { OnOk result (IsSome self.new.ahead) }
+        ensures settles { Settles self.old self.new }
+        ensures err { OnErr result (self.new ≡ self.old) }
+        ensures others { self.new ≡ record self.old { ahead = self.new.ahead; built = self.new.built } }
+    {
+        if self.ahead.is_some() {
+            return Ok(());
+        }
+        self.advance()?;
+        self.sound();
+        Ok(())
+    }
 
     /// Makes the tree whole, where the first segment of the queue is the last. Where there is no memory, nothing changes.
     fn close(&mut self) -> Result<(), AllocError>
         requires ahead { IsSome self.old.ahead }
         requires node { self.old.node ≡ None }
-        ensures ok { OnOk result (IsClosing self.old self.new) }
+        ensures ok { OnOk result ((self.new ≡ self.old) ⊎ IsClosing self.old self.new) }
         ensures closed { OnOk result (IsClosed self.new) }
         ensures err { OnErr result (self.new ≡ self.old) }
-        ensures bytes { (given : List ℕ) → HasTaken self.old given → HasTaken self.new given }
     {
         if !self.ended || self.queue.len() != 1 || self.top.is_some() {
             return Ok(());
@@ -37,13 +55,14 @@ impl Session {
         ensures settles { Settles self.old self.new }
         ensures err { OnErr result (self.new ≡ self.old) }
         ensures seen { seen self.new ≡ seen self.old }
-        ensures bytes { (given : List ℕ) → HasTaken self.old given → HasTaken self.new given }
     {
         self.spell()?;
+        self.sound();
         if !self.item_is_there() {
             return Ok(false);
         }
         self.place_node();
+        self.sound();
         Ok(true)
     }
 
@@ -54,7 +73,6 @@ impl Session {
         ensures beside { OnOk result (IsBeside self.old self.new) }
         ensures settles { Settles self.old self.new }
         ensures seen { seen self.new ≡ seen self.old }
-        ensures bytes { (given : List ℕ) → HasTaken self.old given → HasTaken self.new given }
     {
         while self.node.is_some() {
             if !self.pass_node()? {
@@ -72,14 +90,15 @@ impl Session {
         ensures ok { IfOk result (λ passed. PassesFront passed self.old self.new) }
         ensures settles { Settles self.old self.new }
         ensures seen { seen self.new ≡ seen self.old }
-        ensures bytes { (given : List ℕ) → HasTaken self.old given → HasTaken self.new given }
     {
-        self.advance()?;
+        self.reach()?;
         self.close()?;
+        self.sound();
         if !self.item_is_there() {
             return Ok(false);
         }
         self.place_front(1);
+        self.sound();
         Ok(true)
     }
 
@@ -88,7 +107,6 @@ impl Session {
         ensures ok { OnOk result (IsSettled self.new) }
         ensures settles { Settles self.old self.new }
         ensures seen { seen self.new ≡ seen self.old }
-        ensures bytes { (given : List ℕ) → HasTaken self.old given → HasTaken self.new given }
     {
         if self.waits {
             return Ok(());
@@ -103,7 +121,6 @@ impl Session {
         ensures ok { IfOk result (λ passed. PassesFront passed self.old self.new) }
         ensures settles { Settles self.old self.new }
         ensures seen { seen self.new ≡ seen self.old }
-        ensures bytes { (given : List ℕ) → HasTaken self.old given → HasTaken self.new given }
     {
         self.pass_nodes()?;
         if self.node.is_some() || self.queue.len() == 0 {
@@ -117,13 +134,15 @@ impl Session {
     pub fn due(&mut self) -> Result<Due, AllocError>
         ensures due { IfOk result (λ due. due ≡ due_in self.new) }
         ensures ok { OnOk result (IsSettled self.new) }
-        ensures settles { (t : SessionState) × Settles self.old t × (self.new ≡ record t { unseen = self.new.unseen }) }
+        ensures places { Places self.old self.new }
+        ensures keeps { KeepsOpen self.old self.new }
+        ensures work { to_do self.new ≤ to_do self.old }
         ensures seen { OnErr result (seen self.new ≡ seen self.old) }
         ensures unseen { OnOk result (self.new.unseen ≡ 0) }
-        ensures bytes { (given : List ℕ) → HasTaken self.old given → HasTaken self.new given }
     {
         self.settle()?;
         self.unseen = 0;
+        self.sound();
         Ok(self.due_now())
     }
 }

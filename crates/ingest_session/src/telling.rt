@@ -1,5 +1,5 @@
 //! What the store answered to the step that was due.
-ghost use Rattle.std.specs.Prelude.{◌≡◌, ℕ, List, false, length, None, IsSome, IfSome, if◌then◌else◌};
+ghost use Rattle.std.specs.Prelude.{◌≡◌, ◌<◌, false, length, None, IsSome, IfSome, if◌then◌else◌};
 ghost use Rattle.container_meta.specs.Segments.{CanAdd, has_room};
 ghost use Rattle.ingest_session.specs.Filling.{with_segment};
 
@@ -25,7 +25,8 @@ fn add_to(filled: &mut OpenContainer, seg: &Option<Seg>) -> Fit
 impl Session {
     ghost use Rattle.ingest_session.specs.State.{HasItem, IsClosed};
     ghost use Rattle.ingest_session.specs.Due.{due_in, item_is_held};
-    ghost use Rattle.ingest_session.specs.Stream.{HasTaken};
+    ghost use Rattle.ingest_session.specs.History.{History, HasHistory, answered};
+    ghost use Rattle.ingest_session.specs.Work.{to_do};
     ghost use Rattle.ingest_session.specs.Told.{IsAnswerFor, IsSettled, absent_item, emptied, placed_item, sealed, told_by};
 
     /// Puts the item whose turn it is in its place.
@@ -34,7 +35,6 @@ impl Session {
         requires closed { IsClosed self.old }
         requires waits { self.old.waits ≡ false }
         ensures placed { self.new ≡ placed_item self.old.node self.old }
-        ensures bytes { (given : List ℕ) → HasTaken self.old given → HasTaken self.new given }
     {
         match self.node {
             Some(_) => self.place_node(),
@@ -49,7 +49,6 @@ impl Session {
         requires new { item_is_held self.old self.old.node ≡ false }
         requires closed { IsClosed self.old }
         ensures told { self.new ≡ absent_item self.old }
-        ensures bytes { (given : List ℕ) → HasTaken self.old given → HasTaken self.new given }
     {
         match add_to(&mut self.nodes, &self.spelled) {
             Fit::Added => self.place_node(),
@@ -64,7 +63,6 @@ impl Session {
         requires new { item_is_held self.old self.old.node ≡ false }
         requires closed { IsClosed self.old }
         ensures told { self.new ≡ absent_item self.old }
-        ensures bytes { (given : List ℕ) → HasTaken self.old given → HasTaken self.new given }
     {
         match add_to(&mut self.leaves, &self.ahead) {
             Fit::Added => self.place_front(0),
@@ -79,7 +77,6 @@ impl Session {
         requires new { item_is_held self.old self.old.node ≡ false }
         requires closed { IsClosed self.old }
         ensures told { self.new ≡ absent_item self.old }
-        ensures bytes { (given : List ℕ) → HasTaken self.old given → HasTaken self.new given }
     {
         match self.node {
             Some(_) => self.add_node(),
@@ -90,7 +87,6 @@ impl Session {
     /// Empties the open container of a kind, which was sealed: no item waits for it any more.
     fn empty(&mut self, kind: Kind)
         ensures emptied { self.new ≡ record (emptied kind self.old) { waits = false } }
-        ensures bytes { (given : List ℕ) → HasTaken self.old given → HasTaken self.new given }
     {
         self.waits = false;
         match kind {
@@ -103,7 +99,6 @@ impl Session {
     fn seal(&mut self, kind: Kind)
         requires due { due_in self.old ≡ Due.Seal kind }
         ensures told { self.new ≡ sealed kind self.old }
-        ensures bytes { (given : List ℕ) → HasTaken self.old given → HasTaken self.new given }
     {
         let waits = self.waits;
         self.empty(kind);
@@ -112,12 +107,10 @@ impl Session {
         }
     }
 
-    /// Takes the answer to the step that was due: `Held` or `Absent` to a claim, `Sealed` to a seal. It takes no memory.
-    pub fn told(&mut self, answer: &Answer)
+    fn take_answer(&mut self, answer: &Answer)
         requires settled { IsSettled self.old }
         requires answer { IsAnswerFor answer.now (due_in self.old) }
         ensures told { self.new ≡ told_by answer.now self.old }
-        ensures bytes { (given : List ℕ) → HasTaken self.old given → HasTaken self.new given }
     {
         match answer {
             Answer::Held => self.place(),
@@ -129,5 +122,18 @@ impl Session {
             }
             _ => unreachable!(),
         }
+    }
+
+    /// Takes the answer to the step that was due: `Held` or `Absent` to a claim, `Sealed` to a seal. It takes no memory.
+    pub fn told(&mut self, answer: &Answer)
+        requires settled { IsSettled self.old }
+        requires answer { IsAnswerFor answer.now (due_in self.old) }
+        ensures told { self.new ≡ told_by answer.now self.old }
+        ensures history { (h : History) → HasHistory self.old h → HasHistory self.new (answered answer.now self.old h) }
+        ensures work { to_do self.new < to_do self.old }
+    {
+        self.sound();
+        self.take_answer(answer);
+        self.sound();
     }
 }

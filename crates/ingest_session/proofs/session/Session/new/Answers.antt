@@ -1,7 +1,26 @@
-use Rattle.std.proofs.Common.{rules}
-use Rattle.ingest_session.proofs.Placed.{new_builder_has_no_node}
+use Rattle.std.proofs.Common.{refl, rules}
+use Rattle.ingest_session.specs.History.{Begun}
+use Rattle.ingest_session.proofs.Beginning.{new_builder_has_no_node}
 use Rattle.ingest_session.proofs.session.Session.new.Goals as goal
 
-pub invariant_of-result : goal.invariant_of-result
-invariant_of-result c =
+pub invariant_of-session : goal.invariant_of-session
+invariant_of-session c =
     let none = new_builder_has_no_node c.in_ok-new-3.field-0 c.in_ok-new-3.ensures in search rules
+
+pub returns-clause-begun : goal.returns-clause-begun
+returns-clause-begun c = record {
+  count = refl;
+  ongoing = refl;
+  cut = c.in_ok-new.ensures.so_far;
+  queue = c.in_ok-new-2.ensures;
+  ahead = refl;
+  node = refl;
+  built = c.in_ok-new-3.ensures;
+  top = refl;
+  leaves = search rules;
+  nodes = search rules;
+  waits = refl;
+}
+
+pub returns-clause-history : goal.returns-clause-history
+returns-clause-history c = Begun _ c.sound.ensures (returns-clause-begun c)

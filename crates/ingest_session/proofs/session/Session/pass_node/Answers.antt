@@ -1,6 +1,7 @@
 use Rattle.std.proofs.Common.{◌≡◌, true, IsSome, rules}
 use Rattle.ingest_session.specs.Due.{needs_no_step}
 use Rattle.ingest_session.specs.Settling.{Stays, Then, Spelled, PlacedNode}
+use Rattle.ingest_session.proofs.Settled.{settles_by}
 use Rattle.ingest_session.proofs.session.Session.pass_node.Goals as goal
 
 pub returns-in_err-spell-clause-settles : goal.returns-in_err-spell-clause-settles
@@ -9,12 +10,13 @@ returns-in_err-spell-clause-settles c = rw c.in_err-spell.ensures.err (Stays c.a
 pub returns-then-not-item_is_there-clause-settles :
     goal.returns-then-not-item_is_there-clause-settles
 returns-then-not-item_is_there-clause-settles c =
-    Then c.args.self.now c.args.self.now c.spell.new.self (Stays c.args.self.now) (Spelled c.args.self.now c.spell.new.self c.in_ok-spell.ensures.ok)
+    settles_by c.sound.ensures (Spelled c.args.self.now c.spell.new.self c.in_ok-spell.ensures.ok)
 
 pub returns-clause-settles : goal.returns-clause-settles
 returns-clause-settles c =
     let there : needs_no_step c.spell.new.self ≡ true = search rules in
     let some : IsSome c.spell.new.self.node = search rules in
     Then c.args.self.now c.spell.new.self c.place_node.new.self
-    (Then c.args.self.now c.args.self.now c.spell.new.self (Stays c.args.self.now) (Spelled c.args.self.now c.spell.new.self c.in_ok-spell.ensures.ok))
+    (settles_by c.sound.ensures (Spelled c.args.self.now c.spell.new.self c.in_ok-spell.ensures.ok))
+    c.sound-2.ensures
     (PlacedNode c.spell.new.self c.place_node.new.self there some c.place_node.ensures.placed)

@@ -9,7 +9,6 @@ loop-self-init c = record {
   beside = record { queue = refl; waits = refl; ahead = refl };
   settles = Stays c.args.self.now;
   seen_is = refl;
-  bytes = λ given has. has;
 }
 
 pub returns-then-not-branch-clause-settles : goal.returns-then-not-branch-clause-settles
@@ -23,5 +22,4 @@ loop-self-preserved c =
       beside = search rules;
       settles = settles_on before.settles c.pass_node.ensures.settles;
       seen_is = search rules;
-      bytes = λ given has. c.pass_node.ensures.bytes given (before.bytes given has);
     }

@@ -1,5 +1,4 @@
-use Rattle.std.proofs.Common.{◌≡◌, ℕ, List, false}
-use Rattle.ingest_session.specs.Stream.{HasTaken}
+use Rattle.std.proofs.Common.{◌≡◌, false}
 use Rattle.ingest_session.specs.Settling.{IsBeside, Settles, nodes_left, seen}
 use Rattle.ingest_session.proofs.session.Session.pass_nodes.Given as goal
 
@@ -9,7 +8,6 @@ invariant-loop-self l = record {
   beside : IsBeside l.initial.self l.self;
   settles : Settles l.initial.self l.self;
   seen_is : seen l.self ≡ seen l.initial.self;
-  bytes : (given : List ℕ) → HasTaken l.initial.self given → HasTaken l.self given;
 }
 
 abbrev pub decreases-loop-self : goal.decreases-loop-self

@@ -1,7 +1,17 @@
-use Rattle.std.proofs.Common.{take, drop, append_assoc, rules}
+use Rattle.std.proofs.Common.{take, refl, arith, rules}
 use Rattle.std.proofs.Math.Seq.{take-add}
-use Rattle.ingest_session.proofs.Takes.{takes_more}
+use Rattle.ingest_session.specs.History.{Pushed}
+use Rattle.ingest_session.proofs.Takes.{takes_more, takes_none}
 use Rattle.ingest_session.proofs.session.Session.push.Goals as goal
+
+pub loop-taken-init : goal.loop-taken-init
+loop-taken-init c = record {
+  within = search rules;
+  ongoing = search rules;
+  few = search rules;
+  none = λ zero. refl;
+  takes = takes_none c.args.self.now;
+}
 
 pub loop-taken-preserved : goal.loop-taken-preserved
 loop-taken-preserved c =
@@ -12,8 +22,13 @@ loop-taken-preserved c =
       within = search rules;
       ongoing = before.ongoing;
       few = before.few;
-      takes = takes_more n m c.args.self.now c.loop-taken.self c.take_piece-taken.new.self before.takes c.take_piece-taken.ensures.takes;
-      bytes = λ given has.
-          rw (take-add n m c.args.bytes.now, ← append_assoc given (take n c.args.bytes.now) (take m (drop n c.args.bytes.now)), ← c.split_at.ensures.back)
-          (c.take_piece-taken.ensures.bytes _ (before.bytes given has));
+      none = λ zero. absurd (omega (arith, c.take_piece-taken.ensures.some));
+      takes =
+          rw (take-add n m c.args.bytes.now, ← c.split_at.ensures.back)
+          (takes_more (take n c.args.bytes.now) (take m c.split_at.result.1.now) c.args.self.now c.loop-taken.self c.take_piece-taken.new.self
+          before.takes c.take_piece-taken.ensures.takes);
     }
+
+pub returns-clause-history : goal.returns-clause-history
+returns-clause-history c = λ h has.
+    Pushed c.args.self.now c.loop-taken.self h (take c.loop-taken.taken c.args.bytes.now) has c.sound.ensures c.loop-taken.invariant.takes

@@ -8,7 +8,6 @@ loop-init c = record {
   waits = search rules;
   settles = Stays c.args.self.now;
   seen_is = refl;
-  bytes = λ given has. has;
 }
 
 pub loop-preserved : goal.loop-preserved
@@ -18,7 +17,6 @@ loop-preserved c =
       waits = search rules;
       settles = settles_on before.settles c.pass_one.ensures.settles;
       seen_is = search rules;
-      bytes = λ given has. c.pass_one.ensures.bytes given (before.bytes given has);
     }
 
 pub returns-in_err-pass_one-clause-settles : goal.returns-in_err-pass_one-clause-settles

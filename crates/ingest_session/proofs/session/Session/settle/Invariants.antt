@@ -1,5 +1,4 @@
-use Rattle.std.proofs.Common.{◌≡◌, ℕ, List, false, length}
-use Rattle.ingest_session.specs.Stream.{HasTaken}
+use Rattle.std.proofs.Common.{◌≡◌, false, length}
 use Rattle.ingest_session.specs.Settling.{Settles, seen}
 use Rattle.ingest_session.proofs.session.Session.settle.Given as goal
 
@@ -8,7 +7,6 @@ invariant-loop l = record {
   waits : l.self.waits ≡ false;
   settles : Settles l.initial.self l.self;
   seen_is : seen l.self ≡ seen l.initial.self;
-  bytes : (given : List ℕ) → HasTaken l.initial.self given → HasTaken l.self given;
 }
 
 abbrev pub decreases-loop : goal.decreases-loop

@@ -1,9 +1,7 @@
-use Rattle.std.proofs.Common.{◌≡◌, true, sym, subst, ◌∙◌, rules, false, refl}
+use Rattle.std.proofs.Common.{◌≡◌, true, ◌∙◌, rules, false, refl}
 use Rattle.segmenter.proofs.RunLemmas.{shown_more}
 use Rattle.ingest_session.specs.contracts.session.Session.{the_view}
-use Rattle.ingest_session.specs.State.{SessionState}
-use Rattle.ingest_session.specs.Stream.{HasTaken}
-use Rattle.ingest_session.proofs.Taking.{cut_off_is_session, cut_off_has_taken}
+use Rattle.ingest_session.proofs.Taking.{cut_off_is_session, cut_off_takes}
 use Rattle.ingest_session.proofs.session.Session.take_piece.Goals as goal
 
 pub invariant_of-self-2 : goal.invariant_of-self-2
@@ -14,15 +12,13 @@ invariant_of-self-2 c =
     (cut_off_is_session (the_view c.self.inside) c.args.bytes.now c.push-step.result c.push-step.new.self c.self.invariant ongoing
     (search rules) (search rules) c.push-step.ensures.takes whole (search rules) c.push-step.ensures.one)
 
-pub returns-clause-bytes : goal.returns-clause-bytes
-returns-clause-bytes c = λ given has.
+pub returns-clause-takes : goal.returns-clause-takes
+returns-clause-takes c =
     let whole : c.push-step.result.whole ≡ true = search rules in
     let ongoing : c.self.inside.ended ≡ false = search rules in
     let shows = c.push-step.ensures.takes.whole ∙ whole in
-    let before : HasTaken (the_view c.self.inside) given = subst (λ (s : SessionState). HasTaken s given) (sym c.self.view_is) has in
-    rw (c.next.ensures.whole shows, c.push.ensures, c.segment.ensures.bytes)
-    (cut_off_has_taken (the_view c.self.inside) c.args.bytes.now c.push-step.result c.push-step.new.self c.self.invariant ongoing
-    given c.push-step.ensures.takes.within
-    (λ segments cut. rw (← c.next.ensures.whole shows, shown_more segments c.push-step.new.self.bytes c.push-step.new.self refl shows)
-    (c.next.ensures.so_far _ _ (c.push-step.ensures.so_far given segments cut)))
-    before)
+    rw (← c.self.view_is, c.next.ensures.whole shows, c.push.ensures, c.segment.ensures.bytes)
+    (cut_off_takes (the_view c.self.inside) c.args.bytes.now c.push-step.result c.push-step.new.self c.self.invariant ongoing
+    c.push-step.ensures.takes.within
+    (λ given segments cut. rw (← c.next.ensures.whole shows, shown_more segments c.push-step.new.self.bytes c.push-step.new.self refl shows)
+    (c.next.ensures.so_far _ _ (c.push-step.ensures.so_far given segments cut))))

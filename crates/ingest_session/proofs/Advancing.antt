@@ -1,0 +1,38 @@
+-- The builder gets the first segment of the queue, and is ended after the last.
+use Rattle.std.proofs.Common.{◌≡◌, ◌∙◌, ℕ, Bool, true, false, List, [], ◌∷◌, drop, length, Option, Some, None, IsSome, refl, sym, ap, subst}
+use Rattle.container_meta.specs.Segments.{KindSegment}
+use Rattle.merkle_file.specs.declared.top.Top.{Top}
+use Rattle.merkle_file.specs.Tree.{of_segment}
+use Rattle.merkle_file.specs.Building.{Progress}
+use Rattle.ingest_session.specs.Moving.{Builds, BuildsFront, Finishes, IsAdvanced, IsClosing, front_of}
+use Rattle.ingest_session.specs.State.{SessionState, is_last, leaf_segment, rest_after}
+
+pub is_advanced : (s : SessionState) (x : List ℕ) (seg : KindSegment) (b : Progress) → s.ahead ≡ None → s.queue ≡ x ∷ drop 1 s.queue →
+    seg ≡ leaf_segment x → Builds (of_segment x) s.built b → IsAdvanced s (record s { ahead = Some seg; built = b })
+is_advanced s x seg b none first is builds = record {
+  none = none;
+  ahead = ap Some is ∙ sym (ap front_of first);
+  builds = subst (λ (q : List (List ℕ)). BuildsFront q s.built b) (sym first) builds;
+  others = refl;
+}
+
+-- ---- the last segment
+
+one_is_last : (ended : Bool) (ahead : Option KindSegment) (queue : List (List ℕ)) → ended ≡ true → IsSome ahead → length queue ≡ 1 →
+    is_last ended (rest_after ahead queue) ≡ true
+one_is_last false ahead queue on some one = absurd (cc)
+one_is_last true None queue on some one = absurd (cc)
+one_is_last true (Some seg) [] on some one = absurd (cc)
+one_is_last true (Some seg) (x ∷ []) on some one = refl
+one_is_last true (Some seg) (x ∷ (y ∷ ys)) on some one = absurd (cc)
+
+pub is_closing : (s : SessionState) (top : Top) (b : Progress) → s.top ≡ None → s.ended ≡ true → IsSome s.ahead → length s.queue ≡ 1 →
+    Finishes top s.built b → IsClosing s (record s { built = b; top = Some top })
+is_closing s top b none ended some one finishes = record {
+  none = none;
+  last = one_is_last s.ended s.ahead s.queue ended some one;
+  root = top;
+  top = refl;
+  finishes = finishes;
+  others = refl;
+}

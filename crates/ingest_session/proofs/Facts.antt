@@ -1,0 +1,46 @@
+-- What is claimed and sealed are pieces of the file, and the children of each node are kept before it.
+use Rattle.std.proofs.Common.{◌++◌, ◌∙◌, append_assoc}
+use Rattle.std.specs.Option.{option_to_list}
+use Rattle.container_meta.specs.Segments.{Segment}
+use Rattle.store_model.specs.Pieces.{HasPieceOf}
+use Rattle.ingest_session.specs.Due.{open_of}
+use Rattle.ingest_session.specs.Facts.{ChildrenComeFirst, OpenNodesHaveChildren, OpensArePieces, PlacedComeFirst, TurnsArePieces, data_in, nodes_in}
+use Rattle.ingest_session.proofs.Answering.{known}
+use Rattle.ingest_session.proofs.Following.{taken_of}
+use Rattle.ingest_session.proofs.Growing as growing
+use Rattle.ingest_session.proofs.Knowing.{HasChildren, children_are_kept}
+use Rattle.ingest_session.proofs.Members.{all_of}
+use Rattle.ingest_session.proofs.Waiting.{claimed_children, session_of}
+
+pub placed_come_first : PlacedComeFirst
+placed_come_first s h more has follow =
+    let is = session_of s h has in
+    let follows = (known s h has).follows in
+    let segments = growing.segments_go_on s h.given h.placed is follows more follow in
+    let nodes = growing.nodes_go_on s h.given h.placed is follows more follow in
+    record {
+      segments = (s.queue ++ segments.0, segments.1 ∙ append_assoc (data_in h.placed) s.queue segments.0);
+      nodes = (
+        option_to_list s.node ++ (s.built.finished ++ nodes.0),
+        nodes.1
+            ∙ append_assoc (taken_of s h.placed) s.built.finished nodes.0
+            ∙ append_assoc (nodes_in h.placed) (option_to_list s.node) (s.built.finished ++ nodes.0),
+      );
+    }
+
+pub turns_are_pieces : TurnsArePieces
+turns_are_pieces s h more has follow =
+    growing.turns_are_pieces s h.given h.placed (session_of s h has) (known s h has).follows more follow
+
+pub opens_are_pieces : OpensArePieces
+opens_are_pieces s h more has follow kind =
+    all_of (λ (x : Segment). HasPieceOf (h.given ++ more) (record { kind = kind; segment = x })) (open_of s kind).segments
+    (λ x there.
+    let piece = (known s h has).opens kind x there in
+    (piece.0, growing.placed_are_pieces s h.given h.placed (session_of s h has) (known s h has).follows more follow piece.0 piece.1, piece.2))
+
+pub children_come_first : ChildrenComeFirst
+children_come_first s h n has turn due = children_are_kept s h (known s h has) (session_of s h has) n turn (claimed_children s n turn due)
+
+pub open_nodes_have_children : OpenNodesHaveChildren
+open_nodes_have_children s h has = all_of (HasChildren h) s.nodes.segments (known s h has).children

@@ -1,0 +1,289 @@
+-- A session follows a file: the pieces in their place are the first of it, and the builder has their segments.
+use Rattle.std.proofs.Common.{◌≡◌, ◌∙◌, ◌+◌, ℕ, Bool, true, false, List, [], ◌∷◌, ◌++◌, Option, Some, None, IsSome, length, map, take, drop, inl, inr, ◌⊎◌, refl, sym, ap, subst, append_assoc, append-nil, length-append}
+use Rattle.std.specs.Option.{option_to_list}
+use Rattle.std.proofs.lemmas.List.{map-append}
+use Rattle.container_meta.specs.declared.kind.Kind.{Kind}
+use Rattle.container_meta.specs.declared.kind.Kind.TheVariants.{Leaf, Tree}
+use Rattle.container_meta.specs.Segments.{Contents, KindSegment}
+use Rattle.merkle_file.specs.declared.node.Child.{Child}
+use Rattle.merkle_file.specs.declared.top.Top.{Top}
+use Rattle.merkle_file.specs.Form.{ByCount}
+use Rattle.merkle_file.specs.Node as node
+use Rattle.merkle_file.specs.Tree.{itself, nodes_of, of_segment, root_of, tree_of}
+use Rattle.merkle_file.specs.Building.{Progress, Holds}
+use Rattle.store_model.specs.Pieces.{Piece, Data, Node}
+use Rattle.ingest_session.specs.Facts.{data_in, nodes_in}
+use Rattle.ingest_session.specs.Calls.{IsEnding, IsTaking, GoesOn, EndsTree, TakesTurn}
+use Rattle.ingest_session.specs.Finished.{first_of, first_node, without_first}
+use Rattle.ingest_session.specs.History.{IsBegun, turn, turn_of}
+use Rattle.ingest_session.specs.Moving.{Finishes, BuildsFront, IsAdvanced, IsClosing, front_of}
+use Rattle.ingest_session.specs.State.{SessionState, HasItem, IsAhead, IsWhole, is_last, rest_after, rest_of}
+use Rattle.ingest_session.specs.Stream.{IsCutInto}
+use Rattle.ingest_session.specs.Told.{placed_front, placed_item, placed_node, with_open}
+use Rattle.ingest_session.proofs.Members.{data_append, nodes_append, turn_nodes}
+
+-- the segment that is ahead, if there is one
+abbrev pub begun : Option KindSegment → List (List ℕ) → List (List ℕ)
+begun None queue = []
+begun (Some seg) queue = take 1 queue
+
+-- The builder was pushed these segments; where the tree is whole, it is theirs.
+abbrev pub IsBuilt : Progress → Option Top → List (List ℕ) → List node.Contents → Type 0
+IsBuilt b None segments taken = Holds b (map of_segment segments) taken
+IsBuilt b (Some top) segments taken =
+    (top ≡ root_of itself (tree_of ByCount itself (map of_segment segments)))
+    × (taken ++ b.finished ≡ nodes_of itself (tree_of ByCount itself (map of_segment segments)))
+
+-- the segments that the builder has, and the nodes that were taken from it
+abbrev pub pushed_of : SessionState → List Piece → List (List ℕ)
+pushed_of s placed = data_in placed ++ begun s.ahead s.queue
+
+abbrev pub taken_of : SessionState → List Piece → List node.Contents
+taken_of s placed = nodes_in placed ++ option_to_list s.node
+
+-- The bytes are cut into the segments in their place, those that wait and what is in hand, and the tree is built over them.
+pub record Follows (s : SessionState) (given : List ℕ) (placed : List Piece) : Type 0 where
+  pub cut : IsCutInto s.ended given (data_in placed ++ s.queue) s.hand
+  pub built : IsBuilt s.built s.top (pushed_of s placed) (taken_of s placed)
+  pub counted : s.count ≡ length given
+
+-- ---- the segment that is ahead
+
+all_queued : (segments : List (List ℕ)) (ahead : Option KindSegment) (queue : List (List ℕ)) →
+    (segments ++ begun ahead queue) ++ rest_after ahead queue ≡ segments ++ queue
+all_queued segments None queue = ap (λ (ss : List (List ℕ)). ss ++ queue) (append-nil segments)
+all_queued segments (Some seg) [] = append-nil (segments ++ [])
+all_queued segments (Some seg) (x ∷ xs) = append_assoc segments (x ∷ []) xs
+
+begun_stays : (ahead : Option KindSegment) (queue more : List (List ℕ)) → IsAhead ahead queue → begun ahead (queue ++ more) ≡ begun ahead queue
+begun_stays None queue more is = refl
+begun_stays (Some seg) [] more is = absurd is
+begun_stays (Some seg) (x ∷ xs) more is = refl
+
+pub pushed_and_rest : (s : SessionState) (placed : List Piece) → pushed_of s placed ++ rest_of s ≡ data_in placed ++ s.queue
+pushed_and_rest s placed = all_queued (data_in placed) s.ahead s.queue
+
+-- ---- the builder
+
+built_same : (s t : SessionState) (placed : List Piece) → t.built ≡ s.built → t.top ≡ s.top → begun t.ahead t.queue ≡ begun s.ahead s.queue →
+    t.node ≡ s.node → IsBuilt s.built s.top (pushed_of s placed) (taken_of s placed) → IsBuilt t.built t.top (pushed_of t placed) (taken_of t placed)
+built_same s t placed built top ahead turn is = rw (built, top, ahead, turn) is
+
+-- the first of a list, and the others
+parted : {X : Type 0} (xs : List X) → option_to_list (first_of xs) ++ drop 1 xs ≡ xs
+parted [] = refl
+parted (x ∷ xs) = refl
+
+taken_on : (taken finished : List node.Contents) → (taken ++ option_to_list (first_of finished)) ++ drop 1 finished ≡ taken ++ finished
+taken_on taken finished =
+    append_assoc taken (option_to_list (first_of finished)) (drop 1 finished) ∙ ap (λ (ns : List node.Contents). taken ++ ns) (parted finished)
+
+-- the next finished node is taken
+built_on : (b : Progress) (top : Option Top) (segments : List (List ℕ)) (taken : List node.Contents) → IsBuilt b top segments taken →
+    IsBuilt (without_first b) top segments (taken ++ option_to_list (first_node b))
+built_on b None segments taken is = record { rows = is.rows; nodes = taken_on taken b.finished ∙ is.nodes; count = is.count; length = is.length }
+built_on b (Some top) segments taken is = (is.0, taken_on taken b.finished ∙ is.1)
+
+-- the tree is made whole
+built_whole : (b c : Progress) (old : Option Top) (top : Top) (segments : List (List ℕ)) (taken : List node.Contents) → old ≡ None → Finishes top b c →
+    IsBuilt b old segments taken → IsBuilt c (Some top) segments taken
+built_whole b c None top segments taken none ends is = ends.all (map of_segment segments) taken is
+built_whole b c (Some other) top segments taken none ends is = absurd (cc)
+
+-- ---- a new session
+
+pub begun_follows : (s : SessionState) → IsBegun s → Follows s [] []
+begun_follows s is = record {
+  cut = rw (is.ongoing, is.queue) is.cut;
+  built = rw (is.top, is.ahead, is.node) is.built;
+  counted = is.count;
+}
+
+-- ---- bytes are taken, and the file ends
+
+pub taking_follows : (s t : SessionState) (given bytes : List ℕ) (placed : List Piece) → IsAhead s.ahead s.queue → IsTaking bytes s t →
+    Follows s given placed → Follows t (given ++ bytes) placed
+taking_follows s t given bytes placed ahead is follows =
+    let same : begun t.ahead t.queue ≡ begun s.ahead s.queue =
+    ap (λ (u : SessionState). begun u.ahead t.queue) is.others ∙ ap (begun s.ahead) is.queue ∙ begun_stays s.ahead s.queue is.more ahead in
+    let pushed = ap (λ (ss : List (List ℕ)). data_in placed ++ ss) same in
+    record {
+      cut = subst (λ (ss : List (List ℕ)). IsCutInto t.ended (given ++ bytes) ss t.hand)
+          (ap (λ (ss : List (List ℕ)). ss ++ rest_of t) (sym pushed) ∙ pushed_and_rest t placed)
+          (is.cut given (pushed_of s placed)
+          (subst (λ (ss : List (List ℕ)). IsCutInto s.ended given ss s.hand) (sym (pushed_and_rest s placed)) follows.cut));
+      built = built_same s t placed (ap (λ (u : SessionState). u.built) is.others) (ap (λ (u : SessionState). u.top) is.others) same
+          (ap (λ (u : SessionState). u.node) is.others) follows.built;
+      counted = is.count ∙ ap (λ (n : ℕ). n + length bytes) follows.counted ∙ sym (length-append given bytes);
+    }
+
+turn_taken : (ahead : Option KindSegment) (n : Option node.Contents) (b : Progress) (top : Option Top) (t : SessionState) (segments : List (List ℕ)) (nodes : List node.Contents) →
+    TakesTurn ahead n b t → IsBuilt b top segments (nodes ++ option_to_list n) → IsBuilt t.built top segments (nodes ++ option_to_list t.node)
+turn_taken None None b top t segments nodes turn is =
+    rw (turn.0, turn.1) (built_on b top segments nodes (subst (λ (ns : List node.Contents). IsBuilt b top segments ns) (append-nil nodes) is))
+turn_taken None (Some n) b top t segments nodes turn is = rw (turn.0, turn.1) is
+turn_taken (Some seg) n b top t segments nodes turn is = rw (turn.0, turn.1) is
+
+ending_built : (s t : SessionState) (placed : List Piece) → GoesOn s t ⊎ EndsTree s t → begun t.ahead t.queue ≡ begun s.ahead s.queue →
+    IsBuilt s.built s.top (pushed_of s placed) (taken_of s placed) → IsBuilt t.built t.top (pushed_of t placed) (taken_of t placed)
+ending_built s t placed (inl on) same is = built_same s t placed on.built on.top same on.node is
+ending_built s t placed (inr ends) same is =
+    rw (same, ends.top)
+    (turn_taken s.ahead s.node ends.built (Some ends.root) t (pushed_of s placed) (nodes_in placed) ends.turn
+    (built_whole s.built ends.built s.top ends.root (pushed_of s placed) (taken_of s placed) ends.none ends.finishes is))
+
+pub ending_follows : (s t : SessionState) (given : List ℕ) (placed : List Piece) → IsAhead s.ahead s.queue → IsEnding s t →
+    Follows s given placed → Follows t given placed
+ending_follows s t given placed ahead is follows =
+    let same : begun t.ahead t.queue ≡ begun s.ahead s.queue =
+    ap (λ (u : SessionState). begun u.ahead t.queue) is.others ∙ ap (begun s.ahead) is.queue ∙ begun_stays s.ahead s.queue _ ahead in
+    let pushed = ap (λ (ss : List (List ℕ)). data_in placed ++ ss) same in
+    record {
+      cut = subst (λ (ss : List (List ℕ)). IsCutInto t.ended given ss t.hand)
+          (ap (λ (ss : List (List ℕ)). ss ++ rest_of t) (sym pushed) ∙ pushed_and_rest t placed)
+          (is.cut given (pushed_of s placed)
+          (subst (λ (ss : List (List ℕ)). IsCutInto s.ended given ss s.hand) (sym (pushed_and_rest s placed)) follows.cut));
+      built = ending_built s t placed is.tree same follows.built;
+      counted = ap (λ (u : SessionState). u.count) is.others ∙ follows.counted;
+    }
+
+-- ---- the first segment of the queue gets its turn
+
+pub not_whole : (top : Option Top) (ended : Bool) (x : List ℕ) (xs : List (List ℕ)) → IsWhole top (is_last ended (x ∷ xs)) → top ≡ None
+not_whole None ended x xs whole = refl
+not_whole (Some top) true x xs whole = absurd (cc)
+not_whole (Some top) false x xs whole = absurd (cc)
+
+advanced_built : (b c : Progress) (ended : Bool) (top : Option Top) (segments queue : List (List ℕ)) (taken : List node.Contents) →
+    IsWhole top (is_last ended queue) → BuildsFront queue b c → IsBuilt b top (segments ++ []) taken →
+    IsBuilt c top (segments ++ begun (front_of queue) queue) taken
+advanced_built b c ended top segments [] taken whole builds is = absurd builds
+advanced_built b c ended None segments (x ∷ xs) taken whole builds is =
+    subst (λ (cs : List Child). Holds c cs taken)
+    (ap (λ (ss : List (List ℕ)). map of_segment ss ++ of_segment x ∷ []) (append-nil segments) ∙ sym (map-append of_segment segments (x ∷ [])))
+    (builds.pushed (map of_segment (segments ++ [])) taken is)
+advanced_built b c ended (Some top) segments (x ∷ xs) taken whole builds is =
+    absurd (let none = not_whole (Some top) ended x xs whole in cc)
+
+none_is_ahead : (ahead : Option KindSegment) (queue : List (List ℕ)) → ahead ≡ None → rest_after ahead queue ≡ queue
+none_is_ahead None queue is = refl
+none_is_ahead (Some seg) queue is = absurd (cc)
+
+pub advanced_follows : (s t : SessionState) (given : List ℕ) (placed : List Piece) → IsWhole s.top (is_last s.ended (rest_of s)) → IsAdvanced s t →
+    Follows s given placed → Follows t given placed
+advanced_follows s t given placed whole is follows =
+    let ended = ap (λ (u : SessionState). u.ended) is.others in
+    let queue = ap (λ (u : SessionState). u.queue) is.others in
+    let hand = ap (λ (u : SessionState). u.hand) is.others in
+    let top = ap (λ (u : SessionState). u.top) is.others in
+    let turn = ap (λ (u : SessionState). u.node) is.others in
+    let count = ap (λ (u : SessionState). u.count) is.others in
+    let before : IsBuilt s.built s.top (data_in placed ++ []) (taken_of s placed) = rw is.none at follows.built in
+    record {
+      cut = rw (ended, queue, hand) follows.cut;
+      built = rw (top, is.ahead, queue, turn)
+          (advanced_built s.built t.built s.ended s.top (data_in placed) s.queue (taken_of s placed)
+          (subst (λ (ss : List (List ℕ)). IsWhole s.top (is_last s.ended ss)) (none_is_ahead s.ahead s.queue is.none) whole) is.builds before);
+      counted = count ∙ follows.counted;
+    }
+
+pub closing_follows : (s t : SessionState) (given : List ℕ) (placed : List Piece) → IsClosing s t → Follows s given placed → Follows t given placed
+closing_follows s t given placed is follows =
+    let ended = ap (λ (u : SessionState). u.ended) is.others in
+    let queue = ap (λ (u : SessionState). u.queue) is.others in
+    let hand = ap (λ (u : SessionState). u.hand) is.others in
+    let ahead = ap (λ (u : SessionState). u.ahead) is.others in
+    let turn = ap (λ (u : SessionState). u.node) is.others in
+    let count = ap (λ (u : SessionState). u.count) is.others in
+    record {
+      cut = rw (ended, queue, hand) follows.cut;
+      built = rw (is.top, ahead, queue, turn)
+          (built_whole s.built t.built s.top is.root (pushed_of s placed) (taken_of s placed) is.none is.finishes follows.built);
+      counted = count ∙ follows.counted;
+    }
+
+-- ---- an item goes to its place
+
+node_segments : (placed : List Piece) (n : node.Contents) → data_in (placed ++ Node n ∷ []) ≡ data_in placed
+node_segments placed n = data_append placed (Node n ∷ []) ∙ append-nil (data_in placed)
+
+turn_is_taken : (placed : List Piece) (n : Option node.Contents) (queue : List (List ℕ)) →
+    nodes_in (placed ++ turn_of n queue) ≡ nodes_in placed ++ option_to_list n
+turn_is_taken placed n queue = nodes_append placed (turn_of n queue) ∙ ap (λ (ns : List node.Contents). nodes_in placed ++ ns) (turn_nodes n queue)
+
+pub placed_node_follows : (s : SessionState) (n : node.Contents) (given : List ℕ) (placed : List Piece) → s.node ≡ Some n →
+    Follows s given placed → Follows (placed_node s) given (placed ++ Node n ∷ [])
+placed_node_follows s n given placed is follows =
+    let taken : nodes_in (placed ++ Node n ∷ []) ≡ taken_of s placed =
+    turn_is_taken placed (Some n) s.queue ∙ ap (λ (o : Option node.Contents). nodes_in placed ++ option_to_list o) (sym is) in
+    record {
+      cut = rw (node_segments placed n) follows.cut;
+      built = rw (node_segments placed n, taken) (built_on s.built s.top (pushed_of s placed) (taken_of s placed) follows.built);
+      counted = follows.counted;
+    }
+
+front_is_first : (placed : List Piece) (queue : List (List ℕ)) → data_in (placed ++ turn_of None queue) ++ drop 1 queue ≡ data_in placed ++ queue
+front_is_first placed [] = append-nil (data_in (placed ++ [])) ∙ data_append placed []
+front_is_first placed (x ∷ xs) =
+    ap (λ (ss : List (List ℕ)). ss ++ xs) (data_append placed (Data x ∷ [])) ∙ append_assoc (data_in placed) (x ∷ []) xs
+
+front_was_ahead : (placed : List Piece) (ahead : Option KindSegment) (queue : List (List ℕ)) → IsSome ahead → IsAhead ahead queue →
+    data_in (placed ++ turn_of None queue) ++ [] ≡ data_in placed ++ begun ahead queue
+front_was_ahead placed None queue some is = absurd (cc)
+front_was_ahead placed (Some seg) [] some is = absurd is
+front_was_ahead placed (Some seg) (x ∷ xs) some is = append-nil _ ∙ data_append placed (Data x ∷ [])
+
+pub placed_front_follows : (s : SessionState) (more : ℕ) (given : List ℕ) (placed : List Piece) → s.node ≡ None → IsSome s.ahead → IsAhead s.ahead s.queue →
+    Follows s given placed → Follows (placed_front more s) given (placed ++ turn_of None s.queue)
+placed_front_follows s more given placed none some ahead follows =
+    let taken : nodes_in (placed ++ turn_of None s.queue) ≡ taken_of s placed =
+    turn_is_taken placed None s.queue ∙ ap (λ (o : Option node.Contents). nodes_in placed ++ option_to_list o) (sym none) in
+    record {
+      cut = rw (front_is_first placed s.queue) follows.cut;
+      built = rw (front_was_ahead placed s.ahead s.queue some ahead, taken)
+          (built_on s.built s.top (pushed_of s placed) (taken_of s placed) follows.built);
+      counted = follows.counted;
+    }
+
+item_ahead : (n : Option node.Contents) (spelled ahead : Option KindSegment) → n ≡ None → HasItem n spelled ahead → IsSome ahead
+item_ahead None spelled None none has = absurd has
+item_ahead None spelled (Some seg) none has = refl
+item_ahead (Some n) spelled ahead none has = absurd (cc)
+
+item_follows : (s : SessionState) (n : Option node.Contents) (given : List ℕ) (placed : List Piece) → s.node ≡ n → HasItem s.node s.spelled s.ahead →
+    IsAhead s.ahead s.queue → Follows s given placed → Follows (placed_item n s) given (placed ++ turn_of n s.queue)
+item_follows s (Some n) given placed is has ahead follows = placed_node_follows s n given placed is follows
+item_follows s None given placed is has ahead follows =
+    placed_front_follows s 0 given placed is (item_ahead s.node s.spelled s.ahead is has) ahead follows
+
+pub placed_follows : (s : SessionState) (given : List ℕ) (placed : List Piece) → HasItem s.node s.spelled s.ahead → IsAhead s.ahead s.queue →
+    Follows s given placed → Follows (placed_item s.node s) given (placed ++ turn s)
+placed_follows s given placed has ahead follows = item_follows s s.node given placed refl has ahead follows
+
+-- ---- what an open container holds is another matter
+
+pub with_follows : (s : SessionState) (kind : Kind) (filled : Contents) (waits : Bool) (given : List ℕ) (placed : List Piece) →
+    Follows s given placed → Follows (record (with_open kind filled s) { waits = waits }) given placed
+with_follows s Leaf filled waits given placed follows = record { cut = follows.cut; built = follows.built; counted = follows.counted }
+with_follows s Tree filled waits given placed follows = record { cut = follows.cut; built = follows.built; counted = follows.counted }
+
+pub waiting_follows : (s : SessionState) (waits : Bool) (given : List ℕ) (placed : List Piece) →
+    Follows s given placed → Follows (record s { waits = waits }) given placed
+waiting_follows s waits given placed follows = record { cut = follows.cut; built = follows.built; counted = follows.counted }
+
+pub spelled_follows : (s : SessionState) (spelled : Option KindSegment) (given : List ℕ) (placed : List Piece) →
+    Follows s given placed → Follows (record s { spelled = spelled }) given placed
+spelled_follows s spelled given placed follows = record { cut = follows.cut; built = follows.built; counted = follows.counted }
+
+pub asked_follows : (s : SessionState) (unseen : ℕ) (given : List ℕ) (placed : List Piece) →
+    Follows s given placed → Follows (record s { unseen = unseen }) given placed
+asked_follows s unseen given placed follows = record { cut = follows.cut; built = follows.built; counted = follows.counted }
+
+pub added_follows : (s : SessionState) (kind : Kind) (filled : Contents) (given : List ℕ) (placed : List Piece) → HasItem s.node s.spelled s.ahead →
+    IsAhead s.ahead s.queue → Follows s given placed → Follows (placed_item s.node (with_open kind filled s)) given (placed ++ turn s)
+added_follows s Leaf filled given placed has ahead follows =
+    item_follows (record s { leaves = filled }) s.node given placed refl has ahead
+    (record { cut = follows.cut; built = follows.built; counted = follows.counted })
+added_follows s Tree filled given placed has ahead follows =
+    item_follows (record s { nodes = filled }) s.node given placed refl has ahead
+    (record { cut = follows.cut; built = follows.built; counted = follows.counted })

@@ -1,0 +1,51 @@
+-- What an answer does to a session.
+use Rattle.std.proofs.Common.{◌≡◌, ◌<◌, Bool, true, false, if◌then◌else◌, refl, sym, subst, arith}
+use Rattle.actor_parts.specs.declared.step.Answer.{Answer}
+use Rattle.actor_parts.specs.declared.step.Answer.TheVariants.{Begun, Held, Absent, Sealed, Committed, Aborted, Opened, Bytes, End, Dropped, Stat}
+use Rattle.ingest_session.specs.declared.due.Due.{Due}
+use Rattle.ingest_session.specs.declared.due.Due.TheVariants.{Claim, Seal, Nothing}
+use Rattle.ingest_session.specs.Due.{due_in, item_due, item_kind}
+use Rattle.ingest_session.specs.History.{History, HasHistory, SealsSome, Told, answered}
+use Rattle.ingest_session.specs.Sound.{IsSession}
+use Rattle.ingest_session.specs.State.{SessionState}
+use Rattle.ingest_session.specs.Told.{IsAnswerFor, IsSettled, sealed_by, told_by}
+use Rattle.ingest_session.specs.Work.{to_do}
+use Rattle.ingest_session.proofs.SealsSome.{seal_holds_some}
+use Rattle.ingest_session.proofs.Working.{absent_is_less, placed_is_less, sealed_is_less}
+
+seals_some : (s : SessionState) (due : Due) → due_in s ≡ due → IsSession s → SealsSome due s
+seals_some s Claim is sound = tt
+seals_some s (Seal kind) is sound = seal_holds_some s kind sound is
+seals_some s Nothing is sound = tt
+
+pub told_has_history : (s t : SessionState) (answer : Answer) (h : History) → t ≡ told_by answer s → IsSession s → IsSession t → IsSettled s →
+    IsAnswerFor answer (due_in s) → HasHistory s h → HasHistory t (answered answer s h)
+told_has_history s t answer h told sound after settled right has =
+    subst (λ (u : SessionState). HasHistory u (answered answer s h)) (sym told)
+    (Told s answer h has (subst IsSession told after) settled right (seals_some s (due_in s) refl sound))
+
+claim_waits_for_none : (s : SessionState) (waits : Bool) → s.waits ≡ waits →
+    (if waits then Seal (item_kind s.node) else item_due s s.node) ≡ Claim → s.waits ≡ false
+claim_waits_for_none s true is due = absurd (cc)
+claim_waits_for_none s false is due = is
+
+told_is_less : (s : SessionState) (answer : Answer) → IsSession s → IsSettled s → IsAnswerFor answer (due_in s) → to_do (told_by answer s) < to_do s
+told_is_less s Held sound settled right =
+    let less = placed_is_less s s.node refl (settled.claim right) in omega (arith, less)
+told_is_less s Absent sound settled right = absent_is_less s (claim_waits_for_none s s.waits refl right) (settled.claim right)
+told_is_less s (Sealed id) sound settled right =
+    subst (λ (d : Due). to_do (sealed_by d s) < to_do s) (sym right.1)
+    (sealed_is_less s right.0 (λ on. (sound.waits on).0) (seal_holds_some s right.0 sound right.1))
+told_is_less s Begun sound settled right = absurd right
+told_is_less s (Committed sequence) sound settled right = absurd right
+told_is_less s Aborted sound settled right = absurd right
+told_is_less s (Opened length) sound settled right = absurd right
+told_is_less s (Bytes count) sound settled right = absurd right
+told_is_less s End sound settled right = absurd right
+told_is_less s Dropped sound settled right = absurd right
+told_is_less s (Stat files segments bytes used free) sound settled right = absurd right
+
+pub told_has_less_to_do : (s t : SessionState) (answer : Answer) → t ≡ told_by answer s → IsSession s → IsSettled s →
+    IsAnswerFor answer (due_in s) → to_do t < to_do s
+told_has_less_to_do s t answer told sound settled right =
+    subst (λ (u : SessionState). to_do u < to_do s) (sym told) (told_is_less s answer sound settled right)

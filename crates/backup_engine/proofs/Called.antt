@@ -1,17 +1,20 @@
 -- A core that was opened over a disk, ran, and was closed.
-use Rattle.std.proofs.Common.{◌≡◌, ℕ, zero, suc, List, replicate, Some, sym, ◌∙◌, subst}
+use Rattle.std.proofs.Common.{◌≡◌, ℕ, zero, suc, List, replicate, Some, refl, sym, ◌∙◌, subst}
 use Rattle.store_model.specs.Files.{Stored}
 use Rattle.std.specs.List.{AllByRecursion}
 use Rattle.dd_disk.specs.View.{DiskView, IsDurable}
 use Rattle.dd_disk.specs.Ending.{Reads, Done}
 use Rattle.dd_disk.specs.Shows.{Shows}
 use Rattle.dd_disk.proofs.Shows.{shown_content}
+use Rattle.disk_format.specs.Layout.{slot_at}
+use Rattle.segment_index.specs.Changes.{SameBefore}
 use Rattle.actor_parts.specs.declared.actor.TheConstants.{ACTORS}
 use Rattle.actor_parts.specs.declared.part.Part.TheVariants.{Idle}
 use Rattle.store_model.specs.Image.{Store, Encodes, IsValidFor}
 use Rattle.store_model.specs.Collisions.{Stands}
 use Rattle.store_model.proofs.Once.{store_once}
 use Rattle.store_state.specs.Invariant.{HoldsPart}
+use Rattle.store_state.specs.Settled.{IsSettled}
 use Rattle.store_state.specs.Tables.{Represents}
 use Rattle.store_core.specs.Opening.{IsNew}
 use Rattle.store_core.specs.Runs.{IsOf, IsAt}
@@ -41,6 +44,10 @@ idle_parts store image zero = tt
 idle_parts store image (suc n) = (tt, idle_parts store image n)
 
 module _ (C : Type 0) (state : C → CoreState) (v w : DiskView) (old new : C) (was : Called C state v w old new) where
+  -- of a disk that tells its content each image is it
+  pub settled : (slots : ℕ) → IsSettled slots (state old).disk
+  settled slots bytes is c image = subst (SameBefore (slot_at slots) bytes) (sym (was.durable bytes is c image)) (record { size = refl; before = λ p n within. refl })
+
   -- Over a content that stands for a map the core is at that map.
   pub starts : (S : List ℕ → Type 0) (m : Stored) (image : List ℕ) → v.content ≡ Some image → IsOf S m image → Starts S m image (state old)
   starts S m image told is =

@@ -23,12 +23,18 @@ use Rattle.ingest_steps.specs.Writers.{IsWrongPart}
 use Rattle.store_core.specs.declared.stop.Stop.{Stop}
 use Rattle.store_core.specs.Core.{CoreStep, Steps, StepsOr, BeginRow, KeepsTables}
 use Rattle.store_core.specs.State.{CoreState, Event, IsUp, IsRunning, UnlessStopped}
-use Rattle.backup_engine.specs.Putting.{IsStoring}
 use Rattle.backup_engine.specs.Running.{IsFresh}
 
 -- a step of the first actor
 abbrev pub by_first : StepValue → Result Answer Refusal → List ℕ → Event
 by_first step answer buf = record { actor = 0; step = step; answer = answer; buf = buf }
+
+-- a step by the actor 0 is one of the first actor
+pub as_first : (old new : CoreState) (actor : ℕ) (was step : StepValue) (answer : Result Answer Refusal) (buf : List ℕ) → actor ≡ 0 → was ≡ step
+    → CoreStep old (record { actor = actor; step = was; answer = answer; buf = buf }) new → CoreStep old (by_first step answer buf) new
+as_first old new actor was step answer buf zero same made =
+    subst (λ (s : StepValue). CoreStep old (by_first s answer buf) new) same
+    (subst (λ (a : ℕ). CoreStep old (let e : Event = record { actor = a; step = was; answer = answer; buf = buf } in e) new) zero made)
 
 module _ (old new : CoreState) where
   -- of a core that runs
@@ -94,7 +100,7 @@ module _ (old new : CoreState) (buf : List ℕ) (fresh : IsFresh old) where
   pub begin_is_done : (refusal : Refusal) → CoreStep old (by_first asked.Begin (Err refusal) buf) new → ⊥
   begin_is_done refusal step = no_other kinds.Idle (part_of old.parts 0) refusal (ap kind_of (idle_of old fresh)) (begin_row (Err refusal) step).0
 
-  begun : (answer : Answer) → BeginRow 0 (Ok answer) old new → new.parts ≡ with_part old.parts 0 (Writing finite.empty)
+  pub begun : (answer : Answer) → BeginRow 0 (Ok answer) old new → new.parts ≡ with_part old.parts 0 (Writing finite.empty)
   begun answers.Begun row = row.1
   begun answer row = absurd row
 
@@ -105,16 +111,3 @@ module _ (old new : CoreState) (buf : List ℕ) (fresh : IsFresh old) where
   begin_rests answer step =
       let effect = (steps_of old new (by_first asked.Begin (Ok answer) buf) fresh.runs step).made.effect in
       record { kept = effect.tables; size_is = effect.disk.only.later.size_is }
-
-  pub is_storing : (answer : Answer) → CoreStep old (by_first asked.Begin (Ok answer) buf) new → IsRunning new → IsStoring new
-  is_storing answer step running =
-      let steps = steps_of old new (by_first asked.Begin (Ok answer) buf) fresh.runs step in
-      let kept : KeepsTables old new = steps.made.effect.tables in
-      record {
-        up = up_of new (begin_runs answer step) running;
-        runs = begin_runs answer step;
-        told = (fresh.told.0, kept.index_is ∙ fresh.told.1);
-        ids = kept_ids old new (begin_rests answer step) fresh.ids;
-        pins = finite.empty;
-        writing = first_part old new (Writing finite.empty) fresh.up (begun answer steps.made.row);
-      }

@@ -26,9 +26,8 @@ use Rattle.backup_engine.specs.AnyDisk.{Formats, IsCaused, EndsDurable, disk_end
 use Rattle.backup_engine.specs.Frame.{KeepsRest, KeepsOthers}
 use Rattle.backup_engine.specs.Line.{Format}
 use Rattle.backup_engine.specs.PlainMap.{Refuses, room_of}
-use Rattle.backup_engine.specs.Promise.{WroteReply, SinceStart}
+use Rattle.backup_engine.specs.Promise.{EndsBy, IsLeftWith, WroteReply, SinceStart}
 use Rattle.backup_engine.specs.TopCall.{Keeps, IsLeftBlank, IsUntouched}
-use Rattle.backup_engine.proofs.NoClash.{ClashesByData, ends_by}
 use Rattle.backup_engine.proofs.Replied.{IsReplied, replied_faults}
 use Rattle.backup_engine.proofs.Reading.{reads_map, AnswersEach, since_start}
 
@@ -46,9 +45,10 @@ module _ (slots : ℕ) (v w : DiskView) where
   abbrev shown : (List ℕ → Type 0) → Type 0
   shown = Shows v w
 
-  never_clashes : (refusal : Refusal) → IsFormatRefusal shown v.size slots refusal → ¬ (ClashesByData [] refusal)
-  never_clashes (Clash key at) wrong = absurd wrong
-  never_clashes refusal wrong = λ is. is
+  -- the map has no clash
+  ends_by : (m : Stored) (content : Option (List ℕ)) (refusal : Refusal) → IsLeftWith m content (λ store. Refuses (Format slots) [] (room_of (Format slots) m store) refusal) → EndsBy (Format slots) [] m content (Some (Refused refusal))
+  ends_by m content (Clash key at) left = absurd left.2
+  ends_by m content refusal left = left
 
   -- of a disk that has a store it is one of the map's
   module _ (old : List ℕ) (known : v.content ≡ Some old) (m : Stored) (store : Store) (right : Encodes old store) where
@@ -73,7 +73,7 @@ module _ (slots : ℕ) (v w : DiskView) where
   refused_by : (refusal : Refusal) (sink : SinkView) → IsFormatRefusal shown v.size slots refusal → OnlyReads v w
       → AnswersEach (Format slots) [] (Some (Refused refusal)) v w sink sink
   refused_by refusal sink wrong reads old known among m distinct right is = record {
-    by_map = ends_by (Format slots) [] m w.content refusal (is.0, (old, reads.content_is ∙ known, is.1.0.holds), refuses old known m is.0 is.1.0.holds.right refusal wrong) (never_clashes refusal wrong);
+    by_map = ends_by m w.content refusal (is.0, (old, reads.content_is ∙ known, is.1.0.holds), refuses old known m is.0 is.1.0.holds.right refusal wrong);
     wrote = refl;
   }
 

@@ -17,12 +17,22 @@ use Rattle.read_steps.specs.Readers.{reading}
 use Rattle.read_steps.specs.Walking.{WasRead, bytes_ahead}
 use Rattle.read_steps.proofs.Walks.{given_bytes}
 use Rattle.store_core.specs.Core.{CoreStep, Steps, IsGiven as IsSegmentGiven}
-use Rattle.store_core.specs.Runs.{given_by, given_to}
+use Rattle.store_core.specs.Runs.{CoreRun, given_by, given_to}
 use Rattle.store_core.specs.State.{CoreState, Event, IsRunning}
 use Rattle.backup_engine.specs.Giving.{GivenSoFar, bytes_of_part, bytes_to_come}
 use Rattle.backup_engine.specs.Running.{IsFresh, IsRead, IsGiven, EndsGiving, WroteGiven, GiveRun}
 use Rattle.backup_engine.proofs.FirstActor.{by_first, steps_of, first_part, up_of}
-use Rattle.backup_engine.proofs.PutRuns.{all_on, run_on}
+
+-- ---- steps, one after the other
+
+all_on : {A : Type 0} (P : A → Type 0) (xs ys : List A) → AllByRecursion P xs → AllByRecursion P ys → AllByRecursion P (xs ++ ys)
+all_on P [] ys first second = second
+all_on P (x ∷ xs) ys first second = (first.0, all_on P xs ys first.1 second)
+
+module _ (C : Type 0) (state : C → CoreState) where
+  run_on : (es fs : List Event) (old mid new : C) → CoreRun C state es old mid → CoreRun C state fs mid new → CoreRun C state (es ++ fs) old new
+  run_on [] fs old mid new first second = subst (λ (c : C). CoreRun C state fs c new) first second
+  run_on (e ∷ es) fs old mid new first second = (first.0, (first.1.0, run_on es fs first.0 mid new first.1.1 second))
 
 -- ---- what was given
 

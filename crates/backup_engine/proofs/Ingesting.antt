@@ -1,5 +1,5 @@
 -- What `ingest` keeps: by the map, over any disk, and of the rest.
-use Rattle.std.proofs.Common.{◌≡◌, ◌⊎◌, inl, inr, ◌≤◌, List, ℕ, length, Some, None, Result, Ok, Err, IfErr, refl, sym, subst}
+use Rattle.std.proofs.Common.{◌≡◌, ◌⊎◌, inl, inr, List, ℕ, Some, None, Result, Ok, Err, IfErr, refl, sym, subst}
 use Rattle.dd_disk.specs.View.{DiskView}
 use Rattle.dd_io.specs.Flow.{SourceView, SinkView}
 use Rattle.refusals.specs.declared.refusal.Refusal.{Refusal}
@@ -9,17 +9,14 @@ use Rattle.reply_text.specs.Text.{stored_line}
 use Rattle.store_model.specs.Trees.{root_of}
 use Rattle.store_core.specs.State.{CoreState}
 use Rattle.backup_engine.specs.Line.{Ingest}
-use Rattle.base_model.specs.Known.{Known}
-use Rattle.backup_engine.specs.PlainMap.{most_bytes}
 use Rattle.backup_engine.specs.Promise.{KeepsEachMap}
 use Rattle.backup_engine.specs.Running.{PutRun, IsPutRefusal}
-use Rattle.backup_engine.specs.Storing.{IsHeard, Sent, Replies, IsNotTaken, IngestRun}
+use Rattle.backup_engine.specs.Storing.{IsHeard, Sent, Replies, IsStopped, IngestRun}
 use Rattle.backup_engine.specs.TopCall.{Keeps, ending_in}
 use Rattle.backup_engine.proofs.Called.{Called}
-use Rattle.backup_engine.proofs.NotDone.{not_taken}
-use Rattle.backup_engine.proofs.PutFrame.{ingest_frame}
-use Rattle.backup_engine.proofs.PutMaps.{refused_map, done_map}
-use Rattle.backup_engine.proofs.PutPieces.{ingest_caused}
+use Rattle.backup_engine.proofs.IngestFrame.{ingest_frame}
+use Rattle.backup_engine.proofs.PutCauses.{ingest_any}
+use Rattle.backup_engine.proofs.PutMaps.{refused_map, stopped_map, done_map}
 use Rattle.backup_engine.proofs.Replied.{wrote_sent}
 
 -- the count of the source's faults stays, but at a fault of it
@@ -35,41 +32,36 @@ sent_ends reply (Ok u) sink sink_now sent = inl refl
 sent_ends reply (Err Sink) sink sink_now sent = inr refl
 sent_ends reply (Err ending) sink sink_now sent = absurd sent
 
-some_same : (a b : Ending) → Some a ≡ Some b → a ≡ b
-some_same a b is = cc
-
 module _ (C : Type 0) (state : C → CoreState) (v w : DiskView) (old new : C) (called : Called C state v w old new) (name : List ℕ) where
-  module _ (given : List ℕ) (few : length given ≤ most_bytes) (sink sink_now : SinkView) where
-    put_map : (put : Result Unit Refusal) (result : Result Unit Ending) → PutRun C state name given put old new → IfErr put (IsPutRefusal name given (state new))
+  module _ (given : List ℕ) (sink sink_now : SinkView) where
+    put_map : (put : Result Unit Refusal) (result : Result Unit Ending) → PutRun C state name given put old new → IfErr put (IsPutRefusal name given (state old).disk (state new))
         → Replies (stored_line name (root_of given)) put result sink sink_now → KeepsEachMap (Ingest name) given (ending_in result) v w sink sink_now
     put_map (Ok u) result ran refused replies =
-        done_map C state v w old new called name given few u ran (ending_in result) sink sink_now (sent_ends _ result sink sink_now replies) (wrote_sent _ result sink sink_now replies)
+        done_map C state v w old new called name given u ran (ending_in result) sink sink_now (sent_ends _ result sink sink_now replies) (wrote_sent _ result sink sink_now replies)
     put_map (Err refusal) result ran refused replies =
         subst (λ (r : Result Unit Ending). KeepsEachMap (Ingest name) given (ending_in r) v w sink sink_now) (sym replies.0)
         (subst (λ (k : SinkView). KeepsEachMap (Ingest name) given (Some (Refused refusal)) v w sink k) (sym replies.1)
-        (refused_map C state v w old new called name given few refusal ran refused sink))
+        (refused_map C state v w old new called name given refusal ran sink refused))
 
-  untaken : (given : List ℕ) (result : Result Unit Ending) (source source_now : SourceView) (sink sink_now : SinkView) → Known source.left (λ all. given ≡ all) → IsHeard result source source_now
-      → IsNotTaken C given result old new source source_now sink sink_now → Keeps (Ingest name) given (ending_in result) v w source source_now sink sink_now
-  untaken given result source source_now sink sink_now took heard none =
-      let here = heard_in (Err none.ending) source source_now (subst (λ (r : Result Unit Ending). IsHeard r source source_now) none.result_is heard) in
-      subst (λ (r : Result Unit Ending). Keeps (Ingest name) given (ending_in r) v w source source_now sink sink_now) (sym none.result_is)
-      (subst (λ (k : SinkView). Keeps (Ingest name) given (Some none.ending) v w source source_now sink k) (sym none.sink_is)
-      (not_taken C state v w old new called none.core_is name given source source_now sink took none.ending none.cause none.long (λ other. here (λ is. other (some_same none.ending Source is)))))
+    unput_map : (result : Result Unit Ending) (source source_now : SourceView) → IsStopped C state name given result old new source source_now sink sink_now → KeepsEachMap (Ingest name) given (ending_in result) v w sink sink_now
+    unput_map result source source_now none =
+        subst (λ (r : Result Unit Ending). KeepsEachMap (Ingest name) given (ending_in r) v w sink sink_now) (sym none.result_is)
+        (subst (λ (k : SinkView). KeepsEachMap (Ingest name) given (Some none.ending) v w sink k) (sym none.sink_is)
+        (stopped_map C state v w old new called name given source source_now none.ran sink none.ending none.cause none.long))
 
   -- what the source gave was stored, or not
   pub ingest_keeps : (result : Result Unit Ending) (source source_now : SourceView) (sink sink_now : SinkView) → IngestRun C state name result old new source source_now sink sink_now
       → (given : List ℕ) × Keeps (Ingest name) given (ending_in result) v w source source_now sink sink_now
   ingest_keeps result source source_now sink sink_now run = (
     run.given,
-    elim run.way [
-      | inl none ↦ untaken run.given result source source_now sink sink_now run.took run.heard none
-      | inr taken ↦ record {
-        map = put_map run.given taken.few sink sink_now taken.put result taken.ran taken.refused taken.replies;
-        any = ingest_caused C state v w old new called name result source source_now sink sink_now run (heard_in result source source_now run.heard);
-        frame = ingest_frame C state v w old new called name result source source_now sink sink_now run;
-        blank = tt;
-        untouched = tt;
-      }
-    ],
+    record {
+      map = elim run.way [
+        | inl none ↦ unput_map run.given sink sink_now result source source_now none
+        | inr taken ↦ put_map run.given sink sink_now taken.put result taken.ran taken.refused taken.replies
+      ];
+      any = ingest_any C state v w old new called name result source source_now sink sink_now run (heard_in result source source_now run.heard);
+      frame = ingest_frame C state v w old new called name result source source_now sink sink_now run;
+      blank = tt;
+      untouched = tt;
+    },
   )

@@ -1,5 +1,6 @@
 -- What is kept of a disk that was lent, once it came back.
-use Rattle.std.proofs.Common.{◌≡◌, sym, subst, List, ℕ, Option}
+use Rattle.std.proofs.Common.{◌≡◌, sym, subst, List, ℕ, Option, Result, Ok, Err}
+use Rattle.std.specs.Result.{IsErrAnd}
 use Rattle.dd_disk.specs.View.{DiskView, IsLater}
 use Rattle.dd_io.specs.Flow.{SourceView, SinkView}
 use Rattle.reply_text.specs.declared.ending.Ending.{Ending}
@@ -10,6 +11,11 @@ use Rattle.backup_engine.proofs.Unlent.{ingest_kept, restore_kept}
 -- P holds of a value that is known to be another
 pub by_same : {A : Type 0} (P : A → Type 0) (x y : A) → x ≡ y → P y → P x
 by_same P x y same known = subst P (sym same) known
+
+-- what is so of each error is so of a result that is this one
+pub by_error : {T E : Type 0} (P : Result T E → Type 0) (result : Result T E) (e : E) → IsErrAnd result (λ y. y ≡ e) → P (Err e) → P result
+by_error P (Ok x) e is has = absurd is
+by_error {T} P (Err y) e is has = subst (λ (z : _). P (Err z)) (sym is) has
 
 module _ (loans loans_now : List ℕ) (same : loans_now ≡ loans) (v w : DiskView) where
   abbrev lent : DiskView

@@ -85,9 +85,6 @@ pub record KeepsSlots (slots : ℕ) (base new : List ℕ) : Type 0 where
 pub slots_here : (slots : ℕ) (base : List ℕ) → KeepsSlots slots base base
 slots_here slots base = record { size_is = refl; front = λ p n within. refl; containers = λ slot within opened. refl }
 
-pub same_here : (place : ℕ) (bytes : List ℕ) → SameBefore place bytes bytes
-same_here place bytes = record { size = refl; before = λ p n within. refl }
-
 module _ (slots : ℕ) (base old : List ℕ) (keeps : KeepsSlots slots base old) where
   -- where nothing changes but what comes after all slots
   pub slots_settled : (new : List ℕ) → SameBefore (slot_at slots) old new → KeepsSlots slots base new

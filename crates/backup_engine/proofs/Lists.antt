@@ -32,30 +32,30 @@ abbrev pub OfSome : (List ℕ → Type 0) → (Stored → Type 0) → List ℕ �
 OfSome S P image = (next : Stored) × (P next × IsOf S next image)
 
 -- a line that wrote nothing may leave any map as it was
-leads_nowhere : (ending : Option Ending) (done m : Stored) → ((e : Ending) × (ending ≡ Some e) × ¬ (e ≡ Sink)) → LeadsBy ending done m m
-leads_nowhere None done m (e, is, other) = cc
-leads_nowhere (Some Sink) done m (e, is, other) = absurd (other cc)
-leads_nowhere (Some (Refused DiskWrite)) done m not_done = inl refl
-leads_nowhere (Some ending) done m not_done = refl
+leads_nowhere : (command : CommandLine) (given : List ℕ) (ending : Option Ending) (m : Stored) → ((e : Ending) × (ending ≡ Some e) × ¬ (e ≡ Sink)) → LeadsBy command given ending m m
+leads_nowhere command given None m (e, is, other) = cc
+leads_nowhere command given (Some Sink) m (e, is, other) = absurd (other cc)
+leads_nowhere command given (Some (Refused DiskWrite)) m not_done = inl refl
+leads_nowhere command given (Some ending) m not_done = refl
 
 -- What the promise says of images is read here alone.
 module _ (S : List ℕ → Type 0) (command : CommandLine) (given : List ℕ) where
   -- what is left of a map is one that the line may lead to
-  leads_left : (ending : Option Ending) (m : Stored) (image : List ℕ) → IsLeftAs S command given m ending image → OfSome S (LeadsBy ending (map_after command given m) m) image
-  leads_left None m image left = (map_after command given m, (refl, assumption left))
-  leads_left (Some Sink) m image left = (map_after command given m, (refl, assumption left))
-  leads_left (Some (Refused DiskWrite)) m image (inl left) = (m, (inl refl, assumption left))
-  leads_left (Some (Refused DiskWrite)) m image (inr left) = (map_after command given m, (inr refl, assumption left))
-  leads_left (Some ending) m image left = (m, (refl, assumption left))
+  leads_left : (ending : Option Ending) (m : Stored) (image : List ℕ) → IsLeftAs S command given m ending image → OfSome S (LeadsBy command given ending m) image
+  leads_left None m image left = (map_after command given m, (refl, left))
+  leads_left (Some Sink) m image left = (map_after command given m, (refl, left))
+  leads_left (Some (Refused DiskWrite)) m image (inl left) = (m, (inl refl, left))
+  leads_left (Some (Refused DiskWrite)) m image (inr left) = (map_after command given m, (inr (left.0, refl), left.1))
+  leads_left (Some ending) m image left = (m, (refl, left))
 
   -- and so is what a crash leaves meanwhile, but for the map as it was
   leads_meanwhile : (ending : Option Ending) (m : Stored) (image : List ℕ) → MayBeMeanwhile S command given m ending image
-      → IsOf S m image ⊎ OfSome S (LeadsBy ending (map_after command given m) m) image
+      → IsOf S m image ⊎ OfSome S (LeadsBy command given ending m) image
   leads_meanwhile ending m image (inl was) = inl was
-  leads_meanwhile None m image (inr done) = inr (map_after command given m, (refl, assumption done))
-  leads_meanwhile (Some Sink) m image (inr done) = inr (map_after command given m, (refl, assumption done))
-  leads_meanwhile (Some (Refused DiskWrite)) m image (inr done) = inr (map_after command given m, (inr refl, assumption done))
-  leads_meanwhile (Some ending) m image (inr done) = absurd (assumption done)
+  leads_meanwhile None m image (inr done) = inr (map_after command given m, (refl, done.2))
+  leads_meanwhile (Some Sink) m image (inr done) = inr (map_after command given m, (refl, done.2))
+  leads_meanwhile (Some (Refused DiskWrite)) m image (inr done) = inr (map_after command given m, (inr (done.1, refl), done.2))
+  leads_meanwhile (Some ending) m image (inr done) = absurd done.0
 
 -- what a call answers to a map that it finds: words that are no line do nothing
 abbrev pub Answers : Option CommandLine → (List ℕ → Type 0) → Call → Stored → DiskView → DiskView → Type 0
@@ -71,7 +71,7 @@ module _ (S : List ℕ → Type 0) (P : Stored → Type 0) (c : Call) where
   words_lead image (next, (has, of)) = (next, ((next, (has, refl)), of))
 
   same_leads : (command : CommandLine) (image : List ℕ) → ((e : Ending) × (c.ending ≡ Some e) × ¬ (e ≡ Sink)) → OfSome S P image → OfSome S (After P (Some command) c) image
-  same_leads command image not_done (next, (has, of)) = (next, ((next, (has, leads_nowhere c.ending (map_after command c.given next) next not_done)), of))
+  same_leads command image not_done (next, (has, of)) = (next, ((next, (has, leads_nowhere command c.given c.ending next not_done)), of))
 
   module _ (m : Stored) (v w : DiskView) (has : P m) (stands : Stands (OfSome S P) v) where
     line_leads : (command : CommandLine) (image : List ℕ) → IsLeftAs S command c.given m c.ending image → OfSome S (After P (Some command) c) image

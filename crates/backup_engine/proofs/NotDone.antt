@@ -1,17 +1,15 @@
 -- Commands that end before anything is asked of a core.
-use Rattle.std.proofs.Common.{◌≡◌, inl, inr, ◌<◌, ◌≤◌, ℕ, List, [], length, IsTrue, false, true, Option, Some, Err, refl, ◌∙◌, subst, arith}
-use Rattle.base_model.specs.Fault.{Rose}
+use Rattle.std.proofs.Common.{◌≡◌, inl, ◌≤◌, ℕ, List, [], IsTrue, false, true, Option, Some, Err, refl, ◌∙◌, arith}
 use Rattle.base_model.specs.Known.{Known}
 use Rattle.dd_disk.specs.View.{DiskView, IsLater, OnlyReads}
-use Rattle.dd_disk.specs.Ending.{Reads, Done, Refused as NoFault, ending_of}
+use Rattle.dd_disk.specs.Ending.{Reads, Refused as NoFault, ending_of}
 use Rattle.dd_disk.specs.Shows.{Shows}
-use Rattle.dd_disk.proofs.Ended.{reads_on, reads_then, reads_refused}
+use Rattle.dd_disk.proofs.Ended.{reads_refused}
 use Rattle.dd_disk.proofs.Shows.{until, shown_content}
 use Rattle.dd_io.specs.Flow.{SourceView, SinkView}
 use Rattle.refusals.specs.declared.refusal.Refusal.{Refusal}
-use Rattle.refusals.specs.declared.refusal.Refusal.TheVariants.{Memory, TooLong, Full, DiskRead, DiskWrite}
-use Rattle.reply_text.specs.declared.ending.Ending.{Ending}
-use Rattle.reply_text.specs.declared.ending.Ending.TheVariants.{Source, Sink, Refused}
+use Rattle.refusals.specs.declared.refusal.Refusal.TheVariants.{Memory, Full, DiskRead, DiskWrite}
+use Rattle.reply_text.specs.declared.ending.Ending.TheVariants.{Sink, Refused}
 use Rattle.store_model.specs.Files.{Stored}
 use Rattle.store_model.specs.Image.{Store}
 use Rattle.store_model.specs.Slots.{free_slots}
@@ -22,10 +20,8 @@ use Rattle.store_core.specs.Opening.{IsGivenUp}
 use Rattle.store_core.specs.Runs.{IsOf}
 use Rattle.store_core.specs.State.{CoreState}
 use Rattle.backup_engine.specs.Line.{CommandLine, Format, Ingest, Restore}
-use Rattle.backup_engine.specs.PlainMap.{most_bytes}
 use Rattle.backup_engine.specs.Promise.{EndsBy, IsLeftWith}
-use Rattle.backup_engine.specs.AnyDisk.{Holds, HasAdded, IsCaused, Took, WroteOnAny, EndsDurable}
-use Rattle.backup_engine.specs.Storing.{IsSourceFault}
+use Rattle.backup_engine.specs.AnyDisk.{Holds, IsCaused, Took, WroteOnAny, EndsDurable}
 use Rattle.backup_engine.specs.TopCall.{Keeps, IsLeftBlank, IsUntouched}
 use Rattle.backup_engine.proofs.Called.{Called}
 use Rattle.backup_engine.proofs.Reading.{AnswersEach, since_start, reads_frame, reads_map, wrote_nothing}
@@ -195,22 +191,7 @@ without_memory command given v w source source_now sink reads took faults = reco
 pub not_begun : (command : CommandLine) (given : List ℕ) (v : DiskView) (source : SourceView) (sink : SinkView) → Took command given (Some (Refused Memory)) source source → Keeps command given (Some (Refused Memory)) v v source source sink sink
 not_begun command given v source sink took = without_memory command given v v source source sink (reads_refused v) took refl
 
--- ---- the source was not taken in
-
-refused_no_source : (refusal : Refusal) → ¬ (Refused refusal ≡ Source)
-refused_no_source refusal is = cc
-
-not_sink_source : ¬ (Source ≡ Sink)
-not_sink_source is = cc
-
-source_answers : (name given : List ℕ) (v w : DiskView) (sink : SinkView) → AnswersEach (Ingest name) given (Some Source) v w sink sink
-source_answers name given v w sink old known among m distinct right is = record { by_map = (name, refl); wrote = refl }
-
-long_answers : (name given : List ℕ) (v w : DiskView) (sink : SinkView) → OnlyReads v w → most_bytes < length given → AnswersEach (Ingest name) given (Some (Refused TooLong)) v w sink sink
-long_answers name given v w sink reads long old known among m distinct right is = record {
-  by_map = left_with (IsIn among) m old w.content (λ store. most_bytes < length given) (reads.content_is ∙ known) is long;
-  wrote = refl;
-}
+-- ---- a store that was opened
 
 module _ (C : Type 0) (state : C → CoreState) (v w : DiskView) (old new : C) (was : Called C state v w old new) where
   -- what the opening showed stays so
@@ -220,55 +201,3 @@ module _ (C : Type 0) (state : C → CoreState) (v w : DiskView) (old new : C) (
     right = until v (state old).disk w was.opened.right was.first.only.later.clock_is later;
     reserve = was.opened.reserve;
   }
-
-  module _ (same : new ≡ old) (name given : List ℕ) (source source_now : SourceView) (sink : SinkView) (took : Known source.left (λ all. given ≡ all)) where
-    closed : Reads Done (state old).disk w
-    closed = subst (λ (c : C). Reads Done (state c).disk w) same was.last
-
-    whole : Reads NoFault v w
-    whole = reads_then v w (reads_on Done v (state old).disk w was.first closed)
-
-    nothing_added : HasAdded given v w
-    nothing_added = record { holds = holds closed.only.later; changes = []; after = was.opened.store; chain = refl; adds = tt }
-
-    by_source : Rose source.faults source_now.faults → Keeps (Ingest name) given (Some Source) v w source source_now sink sink
-    by_source rose = record {
-      map = reads_map (Ingest name) given Source v w sink sink whole.only not_sink_source (source_answers name given v w sink);
-      any = record {
-        took = λ all told. (took all told, tt);
-        caused = ((name, refl), holds closed.only.later, rose);
-        wrote = refl;
-        faults_are = whole.faults_are;
-        durable = tt;
-        source_faults = λ other. absurd (other refl);
-        sink_faults = λ other. refl;
-      };
-      frame = reads_frame (Ingest name) (Some Source) v w whole.only;
-      blank = tt;
-      untouched = tt;
-    }
-
-    by_length : most_bytes < length given → source_now.faults ≡ source.faults → Keeps (Ingest name) given (Some (Refused TooLong)) v w source source_now sink sink
-    by_length long faults = record {
-      map = reads_map (Ingest name) given (Refused TooLong) v w sink sink whole.only (not_sink TooLong) (long_answers name given v w sink whole.only long);
-      any = record {
-        took = λ all told. (took all told, tt);
-        caused = inr (nothing_added, long);
-        wrote = refl;
-        faults_are = whole.faults_are;
-        durable = tt;
-        source_faults = λ other. faults;
-        sink_faults = λ other. refl;
-      };
-      frame = reads_frame (Ingest name) (Some (Refused TooLong)) v w whole.only;
-      blank = tt;
-      untouched = tt;
-    }
-
-    -- nothing was asked of the core
-    pub not_taken : (ending : Ending) → IsSourceFault source source_now ending → (ending ≡ Refused TooLong → most_bytes < length given) → (¬ (ending ≡ Source) → source_now.faults ≡ source.faults)
-        → Keeps (Ingest name) given (Some ending) v w source source_now sink sink
-    not_taken Source cause long faults = by_source cause
-    not_taken (Refused Memory) cause long faults = without_memory (Ingest name) given v w source source_now sink whole (λ all told. (took all told, tt)) (faults (λ is. refused_no_source Memory is))
-    not_taken (Refused TooLong) cause long faults = by_length (long refl) (faults (λ is. refused_no_source TooLong is))
-    not_taken ending cause long faults = absurd cause

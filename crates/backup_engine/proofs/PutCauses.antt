@@ -1,10 +1,10 @@
 -- What the top call promises of `ingest` over any disk: each ending has its cause.
-use Rattle.std.proofs.Common.{◌≡◌, inl, inr, ℕ, ◌<◌, ◌≤◌, List, [], ◌∷◌, length, Option, Some, None, false, Result, Ok, Err, OnOk, IfErr, refl, sym, ◌∙◌, ap, subst, arith}
+use Rattle.std.proofs.Common.{◌≡◌, ◌⊎◌, inl, inr, ℕ, ◌<◌, ◌≤◌, List, [], ◌∷◌, length, Option, Some, None, false, Result, Ok, Err, OnOk, IfErr, refl, sym, ◌∙◌, ap, subst, arith}
 use Rattle.std.specs.Prelude.{is_some, IsSome}
 use Rattle.std.specs.FinMap as finite
 use Rattle.std.specs.List.{AllByRecursion}
 use Rattle.base_model.specs.Known.{Known}
-use Rattle.disk_format.specs.declared.numbers.TheConstants.{MOST_NAMES}
+use Rattle.disk_format.specs.declared.numbers.TheConstants.{MOST_FILE, MOST_NAMES}
 use Rattle.dd_disk.specs.View.{DiskView, IsLater}
 use Rattle.dd_disk.specs.Ending.{Done, CountsFault, ending, ending_of}
 use Rattle.dd_disk.proofs.Ended.{counts_on}
@@ -25,21 +25,21 @@ use Rattle.store_model.specs.Image.{Store, IsValidFor, names_of}
 use Rattle.store_model.specs.Steps.{StoreChange, CanPut, with_put}
 use Rattle.store_model.specs.Trees.{root_of}
 use Rattle.store_state.specs.Refused.{blames}
-use Rattle.store_state.specs.Tables.{OfEach}
 use Rattle.store_core.specs.declared.stop.Stop.{Stop}
 use Rattle.store_core.specs.Core.{Effect, StepsOr}
 use Rattle.store_core.specs.Runs.{ChangesTo, CoreRun, FileEvent, events_of}
 use Rattle.store_core.specs.State.{CoreState, Event}
 use Rattle.store_core.proofs.Stepping.{step_later}
 use Rattle.backup_engine.specs.Adding.{AddsOnce}
-use Rattle.backup_engine.specs.AnyDisk.{Holds, HasAdded, IsStored, IsCaused, OnAnyDisk, room_in}
+use Rattle.backup_engine.specs.AnyDisk.{Holds, HasAdded, IsStored, IsCaused, IsUnlikeNode, OnAnyDisk, ReadsSince, room_in}
 use Rattle.backup_engine.specs.Line.{Ingest}
-use Rattle.backup_engine.specs.PlainMap.{most_bytes, HasPieces, HasNoRoomForName}
-use Rattle.backup_engine.specs.Running.{PutRun, IsPutRefusal, IsOk, IsLastPut, seals_of}
-use Rattle.backup_engine.specs.Storing.{IsReadOut, Replies, Sent, IsNotTaken, IsTaken, IsSourceFault, IngestRun}
+use Rattle.backup_engine.specs.PlainMap.{HasNoRoomForName, RefusesIngest}
+use Rattle.backup_engine.specs.Running.{HoldsPieces, PutRun, IsPutRefusal, IsOk, IsLastPut, seals_of}
+use Rattle.backup_engine.specs.Storing.{IsReadOut, Replies, Sent, IsStopped, IsTaken, IsSourceFault, IngestRun}
 use Rattle.backup_engine.specs.TopCall.{ending_in}
 use Rattle.backup_engine.proofs.Called.{Called}
 use Rattle.backup_engine.proofs.PutChanges.{IsOn, Puts, EndsBy, IsWayStep, AreUnless, ways_of, put_changes}
+use Rattle.backup_engine.proofs.UnlikeNodes.{reads_wider, unlike_so}
 
 -- ---- counts of faults
 
@@ -116,10 +116,6 @@ has_room : (names : NameMap) (name : List ℕ) → HasRoom names name → is_som
 has_room names name (inl some) none many = no_some (finite.get names name) some none
 has_room names name (inr below) none many = absurd (omega (arith, below, many))
 
--- each piece of a file is held, by each store that the tables represent
-abbrev pub HoldsPieces : List ℕ → List ℕ → CoreState → Type 0
-HoldsPieces name given c = OfEach c.disk.size c.known c.tables (λ store. HasPieces given (room_in (Ingest name) store))
-
 -- ---- the call
 
 module _ (C : Type 0) (state : C → CoreState) (v w : DiskView) (old new : C) (called : Called C state v w old new) where
@@ -155,12 +151,24 @@ module _ (C : Type 0) (state : C → CoreState) (v w : DiskView) (old new : C) (
     abbrev Any : Option Ending → Type 0
     Any ending = OnAnyDisk (Ingest name) given ending v w source source_now sink sink_now
 
-    cause_of : (refusal : Refusal) (added : HasAdded given v w) → AreUnless refusal added.after (state new) → IsPutRefusal name given (state new) refusal
+    -- what reads of the core returned reads of the call did
+    abbrev Since : (List ℕ → Type 0) → Type 0
+    Since P = ReadsSince (state old).disk (state new).disk P
+
+    wider : IsLater (state old).disk (state new).disk → (P : List ℕ → Type 0) → Since P → ReadsSince v w P
+    wider later P since = reads_wider v (state old).disk (state new).disk w called.first.only.later later called.last.only.later called.last.only.content_is P since
+
+    in_call : IsLater (state old).disk (state new).disk → (refusal : Refusal) (after : Store) → RefusesIngest name given (room_in (Ingest name) after) refusal ⊎ IsUnlikeNode given after Since refusal
+        → RefusesIngest name given (room_in (Ingest name) after) refusal ⊎ IsUnlikeNode given after (ReadsSince v w) refusal
+    in_call later refusal after (inl refuses) = inl refuses
+    in_call later refusal after (inr unlike) = inr (unlike_so Since (ReadsSince v w) (wider later) given after refusal unlike)
+
+    cause_of : (refusal : Refusal) (added : HasAdded given v w) → AreUnless refusal added.after (state new) → IsLater (state old).disk (state new).disk → IsPutRefusal name given (state old).disk (state new) refusal
         → IsCaused (Ingest name) given v w source source_now sink sink_now (Some (Refused refusal))
-    cause_of Memory added are refuses = tt
-    cause_of DiskRead added are refuses = tt
-    cause_of DiskWrite added are refuses = tt
-    cause_of refusal added are refuses = inr (added, refuses.store_has added.after are.represents are.valid are.reserve)
+    cause_of Memory added are later refuses = tt
+    cause_of DiskRead added are later refuses = tt
+    cause_of DiskWrite added are later refuses = tt
+    cause_of refusal added are later refuses = inr (added, in_call later refusal added.after (refuses.store_has added.after are.represents are.valid are.reserve))
 
     -- a name that can be put has a cell
     has_cell : (after : Store) → CanPut name after → HasNoRoomForName (room_in (Ingest name) after) → ⊥
@@ -184,7 +192,7 @@ module _ (C : Type 0) (state : C → CoreState) (v w : DiskView) (old new : C) (
         abbrev added : HasAdded given v w
         added = has_added given later (seals_of run.steps) puts.after puts.chain (run.adds.store_has store called.opened.represents (opened_on).valid called.opened.reserve)
 
-      stored : (run : PutRun C state name given (Ok tt) old new) → length given ≤ most_bytes → HoldsPieces name given (state new) → IsStored name given v w
+      stored : (run : PutRun C state name given (Ok tt) old new) → length given ≤ MOST_FILE → HoldsPieces name given (state new) → IsStored name given v w
       stored run few held =
           let ends = (puts (Ok tt) run).ends in
           record {
@@ -195,11 +203,11 @@ module _ (C : Type 0) (state : C → CoreState) (v w : DiskView) (old new : C) (
               named = ends.can.named;
               cell = has_cell (puts (Ok tt) run).after ends.can;
             };
-            can = ends.can;
+            number = ends.can.number;
           }
 
       -- the file was put in
-      was_put : PutRun C state name given (Ok tt) old new → length given ≤ most_bytes → HoldsPieces name given (state new) → (result : Result Unit Ending)
+      was_put : PutRun C state name given (Ok tt) old new → length given ≤ MOST_FILE → HoldsPieces name given (state new) → (result : Result Unit Ending)
           → Sent (stored_line name (root_of given)) result sink sink_now → IsReadOut result source.left source_now.left → Heard (ending_in result) → Any (ending_in result)
       was_put run few held (Ok u) sent out heard = record {
         took = λ all told. (took all told, out all told);
@@ -224,11 +232,11 @@ module _ (C : Type 0) (state : C → CoreState) (v w : DiskView) (old new : C) (
       was_put run few held (Err (Refused refusal)) sent out heard = absurd sent
 
       -- it was refused
-      was_refused : (refusal : Refusal) → PutRun C state name given (Err refusal) old new → IsPutRefusal name given (state new) refusal → sink_now ≡ sink → Heard (Some (Refused refusal))
+      was_refused : (refusal : Refusal) → PutRun C state name given (Err refusal) old new → IsPutRefusal name given (state old).disk (state new) refusal → sink_now ≡ sink → Heard (Some (Refused refusal))
           → Any (Some (Refused refusal))
       was_refused refusal run refuses same heard = record {
         took = refused_took;
-        caused = cause_of refusal (added (Err refusal) run) (puts (Err refusal) run).ends refuses;
+        caused = cause_of refusal (added (Err refusal) run) (puts (Err refusal) run).ends (later (Err refusal) run) refuses;
         wrote = ap (λ (k : SinkView). k.written) same;
         faults_are = all_faults (ending_of (blames refusal)) (put_faults C state name given (Err refusal) old new run);
         durable = tt;
@@ -236,74 +244,69 @@ module _ (C : Type 0) (state : C → CoreState) (v w : DiskView) (old new : C) (
         sink_faults = λ other. ap (λ (k : SinkView). k.faults) same;
       }
 
-      by_put : (put : Result Unit Refusal) → PutRun C state name given put old new → length given ≤ most_bytes → OnOk put (HoldsPieces name given (state new))
-          → IfErr put (IsPutRefusal name given (state new)) → (result : Result Unit Ending) → Replies (stored_line name (root_of given)) put result sink sink_now → IsReadOut result source.left source_now.left → Heard (ending_in result)
+      by_put : (put : Result Unit Refusal) → PutRun C state name given put old new → OnOk put (length given ≤ MOST_FILE) → OnOk put (HoldsPieces name given (state new))
+          → IfErr put (IsPutRefusal name given (state old).disk (state new)) → (result : Result Unit Ending) → Replies (stored_line name (root_of given)) put result sink sink_now → IsReadOut result source.left source_now.left → Heard (ending_in result)
           → Any (ending_in result)
       by_put (Ok u) run few held refused result replies out heard = was_put run few held result replies out heard
       by_put (Err refusal) run few held refused result replies out heard =
           subst (λ (r : Result Unit Ending). Any (ending_in r)) (sym replies.0)
           (was_refused refusal run refused replies.1 (subst (λ (r : Result Unit Ending). Heard (ending_in r)) replies.0 heard))
 
-      pub taken_any : (result : Result Unit Ending) (taken : IsTaken C state name given result old new sink sink_now) → OnOk taken.put (HoldsPieces name given (state new)) → IsReadOut result source.left source_now.left → Heard (ending_in result)
+      pub taken_any : (result : Result Unit Ending) → IsTaken C state name given result old new sink sink_now → IsReadOut result source.left source_now.left → Heard (ending_in result)
           → Any (ending_in result)
-      taken_any result taken held out heard = by_put taken.put taken.ran taken.few held taken.refused result taken.replies out heard
+      taken_any result taken out heard = by_put taken.put taken.ran taken.few taken.held taken.refused result taken.replies out heard
 
-      module _ (core : new ≡ old) (same : sink_now ≡ sink) where
-        still_later : IsLater (state old).disk (state new).disk
-        still_later = subst (λ (c : C). IsLater (state old).disk (state c).disk) (sym core) (later_here (state old).disk)
+      module _ (run : PutRun C state name given (Err Memory) old new) (same : sink_now ≡ sink) where
+        stopped_faults : w.faults ≡ v.faults
+        stopped_faults = all_faults Done (put_faults C state name given (Err Memory) old new run)
 
-        still_faults : w.faults ≡ v.faults
-        still_faults = all_faults Done (ap (λ (c : C). (state c).disk.faults) core)
-
-        abbrev sink_still : sink_now.faults ≡ sink.faults
+        sink_still : sink_now.faults ≡ sink.faults
         sink_still = ap (λ (k : SinkView). k.faults) same
 
-        -- nothing was asked of the core
-        untaken : (ending : Ending) → IsSourceFault source source_now ending → (ending ≡ Refused TooLong → most_bytes < length given) → Heard (Some ending) → Any (Some ending)
-        untaken Words cause long heard = absurd cause
-        untaken Sink cause long heard = absurd cause
-        untaken Source cause long heard = record {
+        -- the source ended before all of it was taken
+        stopped : (ending : Ending) → IsSourceFault source source_now ending → (ending ≡ Refused TooLong → MOST_FILE < length given) → Heard (Some ending) → Any (Some ending)
+        stopped Words cause long heard = absurd cause
+        stopped Sink cause long heard = absurd cause
+        stopped Source cause long heard = record {
           took = refused_took;
-          caused = ((name, refl), holds still_later, cause);
+          caused = ((name, refl), added (Err Memory) run, cause);
           wrote = ap (λ (k : SinkView). k.written) same;
-          faults_are = still_faults;
+          faults_are = stopped_faults;
           durable = tt;
           source_faults = heard;
           sink_faults = λ other. sink_still;
         }
-        untaken (Refused Memory) cause long heard = record {
+        stopped (Refused Memory) cause long heard = record {
           took = refused_took;
           caused = tt;
           wrote = ap (λ (k : SinkView). k.written) same;
-          faults_are = still_faults;
+          faults_are = stopped_faults;
           durable = tt;
           source_faults = heard;
           sink_faults = λ other. sink_still;
         }
-        untaken (Refused TooLong) cause long heard = record {
+        stopped (Refused TooLong) cause long heard = record {
           took = refused_took;
-          caused = inr (has_added given still_later [] store refl tt, long refl);
+          caused = inr (added (Err Memory) run, inl (long refl));
           wrote = ap (λ (k : SinkView). k.written) same;
-          faults_are = still_faults;
+          faults_are = stopped_faults;
           durable = tt;
           source_faults = heard;
           sink_faults = λ other. sink_still;
         }
-        untaken (Refused refusal) cause long heard = absurd cause
+        stopped (Refused refusal) cause long heard = absurd cause
 
-      pub untaken_any : (result : Result Unit Ending) → IsNotTaken C given result old new source source_now sink sink_now → Heard (ending_in result) → Any (ending_in result)
-      untaken_any result is heard =
+      pub stopped_any : (result : Result Unit Ending) → IsStopped C state name given result old new source source_now sink sink_now → Heard (ending_in result) → Any (ending_in result)
+      stopped_any result is heard =
           subst (λ (r : Result Unit Ending). Any (ending_in r)) (sym is.result_is)
-          (untaken is.core_is is.sink_is is.ending is.cause is.long (subst (λ (r : Result Unit Ending). Heard (ending_in r)) is.result_is heard))
+          (stopped is.ran is.sink_is is.ending is.cause is.long (subst (λ (r : Result Unit Ending). Heard (ending_in r)) is.result_is heard))
 
--- Over any disk each ending of a run of `ingest` has its cause, where each piece of a file that was put in is held, and no
--- fault of the source is passed over.
+-- Over any disk each ending of a run of `ingest` has its cause, where no fault of the source is passed over.
 pub ingest_any : (C : Type 0) (state : C → CoreState) (v w : DiskView) (old new : C) → Called C state v w old new → (name : List ℕ) (result : Result Unit Ending)
     (source source_now : SourceView) (sink sink_now : SinkView) (run : IngestRun C state name result old new source source_now sink sink_now)
-    → ((taken : IsTaken C state name run.given result old new sink sink_now) → OnOk taken.put (HoldsPieces name run.given (state new)))
     → (¬ (ending_in result ≡ Some Source) → source_now.faults ≡ source.faults)
     → OnAnyDisk (Ingest name) run.given (ending_in result) v w source source_now sink sink_now
-ingest_any C state v w old new called name result source source_now sink sink_now run held heard = elim run.way [
-  | inl none ↦ untaken_any C state v w old new called name run.given source source_now sink sink_now run.took result none heard
-  | inr taken ↦ taken_any C state v w old new called name run.given source source_now sink sink_now run.took result taken (held taken) run.to_end heard
+ingest_any C state v w old new called name result source source_now sink sink_now run heard = elim run.way [
+  | inl none ↦ stopped_any C state v w old new called name run.given source source_now sink sink_now run.took result none heard
+  | inr taken ↦ taken_any C state v w old new called name run.given source source_now sink sink_now run.took result taken run.to_end heard
 ]

@@ -23,7 +23,7 @@ ended (Err refusal) = Some (Refused refusal)
 -- ---- a step
 
 -- a step that is no commit puts no file
-none_with : (step : StepValue) (answer : Result Answer Refusal) (bytes : List ℕ) (m : Stored) → IsNoCommit step → stored_with step answer bytes m ≡ m
+pub none_with : (step : StepValue) (answer : Result Answer Refusal) (bytes : List ℕ) (m : Stored) → IsNoCommit step → stored_with step answer bytes m ≡ m
 none_with (asked.Commit name root) answer bytes m kind = absurd kind
 none_with asked.Begin answer bytes m kind = refl
 none_with (asked.Claim seg) answer bytes m kind = refl
@@ -46,7 +46,7 @@ none_tried asked.EndRead answer bytes m kind = refl
 none_tried asked.Stat answer bytes m kind = refl
 
 -- one that was refused puts none
-refused_with : (step : StepValue) (refusal : Refusal) (bytes : List ℕ) (m : Stored) → stored_with step (Err refusal) bytes m ≡ m
+pub refused_with : (step : StepValue) (refusal : Refusal) (bytes : List ℕ) (m : Stored) → stored_with step (Err refusal) bytes m ≡ m
 refused_with (asked.Commit name root) refusal bytes m = refl
 refused_with asked.Begin refusal bytes m = refl
 refused_with (asked.Claim seg) refusal bytes m = refl

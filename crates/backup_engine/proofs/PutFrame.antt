@@ -1,15 +1,13 @@
 -- What `ingest` never changes, whatever the disk holds.
-use Rattle.std.proofs.Common.{◌≡◌, ◌⊎◌, inl, inr, ℕ, ◌-◌, ◌^◌, ◌<◌, ◌≤◌, List, [], ◌∷◌, Option, Some, None, Result, Ok, Err, sym, ◌∙◌, subst, arith}
+use Rattle.std.proofs.Common.{◌≡◌, inl, inr, ℕ, ◌<◌, ◌≤◌, List, [], ◌∷◌, Option, Some, Result, Ok, Err, sym, ◌∙◌, subst, arith}
 use Rattle.std.specs.List.{AllByRecursion}
 use Rattle.base_model.specs.Frames.{SameOutside}
 use Rattle.base_model.specs.Known.{KnownWith}
 use Rattle.disk_format.specs.declared.numbers.TheConstants.{CELL_BYTES, RESERVE}
 use Rattle.disk_format.specs.Cells.{Root}
-use Rattle.disk_format.specs.Layout.{half_cells, cell_at, slot_at}
-use Rattle.dd_disk.specs.View.{DiskView, IsLater, OnlyReads, CrashLeaves, SteppedFrom}
-use Rattle.dd_disk.proofs.Later.{later_here, reads_here, reads_leave, leaves_on, leaves_weaker}
-use Rattle.dd_disk.proofs.Shows.{shown_content}
-use Rattle.dd_io.specs.Flow.{SourceView, SinkView}
+use Rattle.disk_format.specs.Layout.{half_cells, cell_at}
+use Rattle.dd_disk.specs.View.{DiskView, OnlyReads, CrashLeaves, SteppedFrom}
+use Rattle.dd_disk.proofs.Later.{reads_here, reads_leave, leaves_on, leaves_weaker}
 use Rattle.container_meta.specs.Segments.{Contents}
 use Rattle.actor_parts.specs.declared.step.Answer.{Answer}
 use Rattle.actor_parts.specs.declared.step.Answer.TheVariants as answers
@@ -18,12 +16,9 @@ use Rattle.actor_parts.specs.StepValue.{StepValue}
 use Rattle.refusals.specs.declared.refusal.Refusal.{Refusal}
 use Rattle.refusals.specs.declared.refusal.Refusal.TheVariants.{DiskRead, DiskWrite}
 use Rattle.reply_text.specs.declared.ending.Ending.{Ending}
-use Rattle.reply_text.specs.declared.ending.Ending.TheVariants.{Words, Source, Sink, Refused}
-use Rattle.reply_text.specs.Text.{stored_line}
-use Rattle.segment_index.specs.Changes.{SameBefore}
+use Rattle.reply_text.specs.declared.ending.Ending.TheVariants.{Refused}
 use Rattle.store_model.specs.Image.{Store, Encodes}
 use Rattle.store_model.specs.Slots.{free_slots, first_free}
-use Rattle.store_model.specs.Trees.{root_of}
 use Rattle.store_model.proofs.Free.{some_free}
 use Rattle.store_state.specs.Settled.{IsSettled}
 use Rattle.ingest_steps.specs.Sealing.{ChangesSlotAlone, SameButSlotOf}
@@ -31,16 +26,11 @@ use Rattle.store_core.specs.Core.{CoreStep, Row, Effect, SealsOne, PutsOne}
 use Rattle.store_core.specs.Runs.{CoreRun, FileEvent, events_of}
 use Rattle.store_core.specs.State.{CoreState}
 use Rattle.store_core.proofs.Stepping.{effect_later}
-use Rattle.backup_engine.specs.Frame.{KeepsOpen, KeepsRest, KeepsOthers}
-use Rattle.backup_engine.specs.Line.{Ingest}
-use Rattle.backup_engine.specs.Promise.{MayChange, SinceStart}
-use Rattle.backup_engine.specs.Running.{PutRun, IsAskedFor, IsNoCommit, IsOk, IsLastPut, seal_by}
-use Rattle.backup_engine.specs.Storing.{Replies, IngestRun}
-use Rattle.backup_engine.specs.TopCall.{ending_in}
-use Rattle.backup_engine.proofs.Called.{Called}
-use Rattle.backup_engine.proofs.KeptBytes.{IsFreeIn, KeepsSlots, free_held, free_sealed, first_is_shut, slots_here, same_here, slots_settled, slots_sealed, open_kept, open_next}
-use Rattle.backup_engine.proofs.PutCauses.{opened_on, run_later}
-use Rattle.backup_engine.proofs.PutChanges.{IsOn, EndsBy, IsPutLast, IsStepRefused, IsWayStep, way_step, running_step, ways_of}
+use Rattle.backup_engine.specs.Frame.{KeepsOpen}
+use Rattle.backup_engine.specs.Promise.{MayChange}
+use Rattle.backup_engine.specs.Running.{IsAskedFor, IsNoCommit, IsOk, IsLastPut, seal_by}
+use Rattle.backup_engine.proofs.KeptBytes.{IsFreeIn, KeepsSlots, free_sealed, first_is_shut, slots_settled, slots_sealed, open_kept, open_next}
+use Rattle.backup_engine.proofs.PutChanges.{IsOn, IsPutLast, IsStepRefused, IsWayStep, way_step, running_step}
 
 -- ---- one step
 
@@ -184,7 +174,7 @@ module _ (first : Store) (base : List ℕ) where
           images = leaves_on All All All start old.disk new.disk framed.clock framed.images disk.0.images (λ c keeps_it. keeps_it) (λ c keeps_it. keeps_it);
         }
 
-    framed_way : (C : Type 0) (state : C → CoreState) (way : List FileEvent) (old new : C) → IsFramed first base start (state old) → CoreRun C state (events_of way) old new
+    pub framed_way : (C : Type 0) (state : C → CoreState) (way : List FileEvent) (old new : C) → IsFramed first base start (state old) → CoreRun C state (events_of way) old new
         → AllByRecursion (IsWayStep name bytes) way → IsFramed first base start (state new)
     framed_way C state [] old new framed run each = subst (λ (c : C). IsFramed first base start (state c)) (sym run) framed
     framed_way C state (f ∷ fs) old new framed run each =
@@ -252,7 +242,7 @@ module _ (first : Store) (base : List ℕ) (right : Encodes base first) (reserve
     }
 
   -- the core is as it was
-  framed_open : (c : CoreState) (ending : Option Ending) → IsFramed first base start c → Leaves (KeepsOpen ending base) start c.disk
+  pub framed_open : (c : CoreState) (ending : Option Ending) → IsFramed first base start c → Leaves (KeepsOpen ending base) start c.disk
   framed_open c ending framed = since_start c c framed ending (reads_open c c framed ending (reads_here c.disk))
 
   pub last_put : (name bytes : List ℕ) (ending : Option Ending) → MayChange ending → (mid new : CoreState) → IsFramed first base start mid → IsPutLast name bytes mid new
@@ -270,112 +260,3 @@ module _ (first : Store) (base : List ℕ) (right : Encodes base first) (reserve
       since_start mid new framed (Some (Refused refusal))
       (refused_open mid new framed e.actor e.buf refusal e.step (subst (λ (answer : Result Answer Refusal). Row e.step e.actor answer e.buf mid new) last.answer_is steps.made.row)
       (subst (λ (answer : Result Answer Refusal). Effect e.step answer mid new) last.answer_is steps.made.effect))
-
--- ---- the call
-
-module _ (C : Type 0) (state : C → CoreState) (v w : DiskView) (old new : C) (called : Called C state v w old new) where
-  abbrev store : Store
-  store = called.opened.store
-
-  abbrev Left : List ℕ → Option Ending → Type 0
-  Left base ending = Leaves (KeepsOpen ending base) (state old).disk (state new).disk
-
-  module _ (base : List ℕ) (known : v.content ≡ Some base) where
-    encodes : Encodes base store
-    encodes = shown_content v (state old).disk (λ image. Encodes image store) base called.opened.right known
-
-    reserve : RESERVE ≤ free_slots store.held
-    reserve = called.opened.reserve
-
-    told : (state old).disk.content ≡ Some base
-    told = called.first.only.content_is ∙ known
-
-    framed : IsFramed store base (state old).disk (state old)
-    framed = record {
-      store = store;
-      on = opened_on C state v w old new called;
-      held = record {
-        free = free_held base store encodes;
-        content = (base, told, slots_here store.slots base);
-        settled = λ bytes is c image. subst (SameBefore (slot_at store.slots) bytes) (sym (called.durable bytes is c image)) (same_here (slot_at store.slots) bytes);
-      };
-      clock = omega arith;
-      images = reads_leave (KeepsSlots store.slots base) (state old).disk (state old).disk
-          (λ c image. subst (KeepsSlots store.slots base) (sym (called.durable base told c image)) (slots_here store.slots base)) (reads_here (state old).disk);
-    }
-
-    put_left : (name bytes : List ℕ) (ending : Option Ending) → MayChange ending → PutRun C state name bytes (Ok tt) old new → Left base ending
-    put_left name bytes ending may run =
-        let ways = ways_of C state name bytes (Ok tt) old new run in
-        let there = framed_way store base name bytes (state old).disk C state ways.way old ways.mid framed ways.ran ways.each in
-        last_put store base encodes reserve (state old).disk name bytes ending may (state ways.mid) (state new) there ways.last
-
-    ended : (name bytes : List ℕ) (refusal : Refusal) (mid : C) → IsFramed store base (state old).disk (state mid) → EndsBy C state name bytes (Err refusal) mid new → Left base (Some (Refused refusal))
-    ended name bytes refusal mid there (inl none) =
-        framed_open store base encodes reserve (state old).disk (state new) (Some (Refused refusal)) (subst (λ (c : C). IsFramed store base (state old).disk (state c)) (sym none.0) there)
-    ended name bytes refusal mid there (inr last) = last_refused store base encodes reserve (state old).disk name bytes refusal (state mid) (state new) there last
-
-    refused_left : (name bytes : List ℕ) (refusal : Refusal) → PutRun C state name bytes (Err refusal) old new → Left base (Some (Refused refusal))
-    refused_left name bytes refusal run =
-        let ways = ways_of C state name bytes (Err refusal) old new run in
-        ended name bytes refusal ways.mid (framed_way store base name bytes (state old).disk C state ways.way old ways.mid framed ways.ran ways.each) ways.last
-
-    still_left : (ending : Option Ending) → new ≡ old → Left base ending
-    still_left ending core = framed_open store base encodes reserve (state old).disk (state new) ending (subst (λ (c : C). IsFramed store base (state old).disk (state c)) (sym core) framed)
-
-    taken_left : (name bytes : List ℕ) (put : Result Unit Refusal) → PutRun C state name bytes put old new → (reply : List ℕ) (result : Result Unit Ending) (sink sink_now : SinkView)
-        → Replies reply put result sink sink_now → Left base (ending_in result)
-    taken_left name bytes (Ok u) run reply (Ok done) sink sink_now sent = put_left name bytes None tt run
-    taken_left name bytes (Ok u) run reply (Err Sink) sink sink_now sent = put_left name bytes (Some Sink) tt run
-    taken_left name bytes (Ok u) run reply (Err Words) sink sink_now sent = absurd sent
-    taken_left name bytes (Ok u) run reply (Err Source) sink sink_now sent = absurd sent
-    taken_left name bytes (Ok u) run reply (Err (Refused refusal)) sink sink_now sent = absurd sent
-    taken_left name bytes (Err refusal) run reply result sink sink_now replies =
-        subst (λ (r : Result Unit Ending). Left base (ending_in r)) (sym replies.0) (refused_left name bytes refusal run)
-
-  -- what is so of the core's disk is so of the one that was handed in
-  module _ (name : List ℕ) (ending : Option Ending) (left : (base : List ℕ) → v.content ≡ Some base → Left base ending) where
-    at_end : (base : List ℕ) → v.content ≡ Some base → (c : List ℕ) → w.images c → KeepsOpen ending base c
-    at_end base known c image = (left base known).images.now c (called.last.only.images_are c image)
-
-    earlier : (c : List ℕ) → v.clock < 2 ^ 64 - 1 → (state old).disk.images_since v.clock c → v.images c
-    earlier c below since = elim (called.first.only.since_are v.clock c (omega arith) since) [
-      | inl was ↦ v.only_now c below was
-      | inr image ↦ image
-    ]
-
-    since_call : (base : List ℕ) → v.content ≡ Some base → (c : List ℕ) → v.clock < 2 ^ 64 - 1 → (state new).disk.images_since v.clock c → v.images c ⊎ KeepsOpen ending base c
-    since_call base known c below since = elim ((left base known).images.since v.clock c called.first.only.later.clock_is since) [
-      | inl was ↦ inl (earlier c below was)
-      | inr kept ↦ inr kept
-    ]
-
-    -- the end of the core's run is not before the call
-    abbrev clocks : v.clock ≤ (state old).disk.clock
-    clocks = called.first.only.later.clock_is
-
-    crashed : (base : List ℕ) → v.content ≡ Some base → IsLater (state old).disk (state new).disk → (c : List ℕ) → SinceStart v w c → v.images c ⊎ KeepsRest (Ingest name) ending base c
-    crashed base known later c (inl image) = inr (inr (at_end base known c image))
-    crashed base known later c (inr since) =
-        elim (called.last.only.since_are v.clock c (omega (arith, called.first.only.later.clock_is, later.clock_is)) since.1) [
-          | inl was ↦ elim (since_call base known c since.0 was) [ inl image ↦ inl image | inr kept ↦ inr (inr kept) ]
-          | inr image ↦ inr (inr ((left base known).images.now c image))
-        ]
-
-    pub others_kept : IsLater (state old).disk (state new).disk → KeepsOthers (Ingest name) ending v w
-    others_kept later = record {
-      content = λ base known. let there = (left base known).content in (there.0, called.last.only.content_is ∙ there.1, inr there.2);
-      crash = λ base known. crashed base known later;
-    }
-
--- Whatever the disk holds, `ingest` keeps what was open.
-pub ingest_frame : (C : Type 0) (state : C → CoreState) (v w : DiskView) (old new : C) → Called C state v w old new → (name : List ℕ) (result : Result Unit Ending)
-    (source source_now : SourceView) (sink sink_now : SinkView) (run : IngestRun C state name result old new source source_now sink sink_now)
-    → KeepsOthers (Ingest name) (ending_in result) v w
-ingest_frame C state v w old new called name result source source_now sink sink_now run = elim run.way [
-  | inl none ↦ others_kept C state v w old new called name (ending_in result) (λ base known. still_left C state v w old new called base known (ending_in result) none.core_is)
-      (subst (λ (c : C). IsLater (state old).disk (state c).disk) (sym none.core_is) (later_here (state old).disk))
-  | inr taken ↦ others_kept C state v w old new called name (ending_in result)
-      (λ base known. taken_left C state v w old new called base known name run.given taken.put taken.ran (stored_line name (root_of run.given)) result sink sink_now taken.replies)
-      (run_later C state (events_of taken.ran.steps) old new taken.ran.ran)
-]

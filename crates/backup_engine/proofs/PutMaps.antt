@@ -3,15 +3,14 @@ use Rattle.std.proofs.Common.{◌≡◌, ◌⊎◌, inl, inr, ℕ, ◌-◌, ◌^
 use Rattle.store_model.specs.Files.{Stored}
 use Rattle.std.specs.List.{AllByRecursion}
 use Rattle.base_model.specs.Known.{KnownWith}
-use Rattle.disk_format.specs.Cells.{IsName}
-use Rattle.disk_format.specs.declared.numbers.TheConstants.{RESERVE}
+use Rattle.disk_format.specs.declared.numbers.TheConstants.{MOST_FILE, RESERVE}
 use Rattle.dd_disk.specs.View.{DiskView, CrashLeaves}
 use Rattle.dd_disk.proofs.Moves.{stands_content}
-use Rattle.dd_io.specs.Flow.{SinkView}
+use Rattle.dd_io.specs.Flow.{SourceView, SinkView}
 use Rattle.refusals.specs.declared.refusal.Refusal.{Refusal}
-use Rattle.refusals.specs.declared.refusal.Refusal.TheVariants.{Memory, DiskRead, DiskWrite}
+use Rattle.refusals.specs.declared.refusal.Refusal.TheVariants.{Memory, TooLong, Clash, DiskRead, DiskWrite}
 use Rattle.reply_text.specs.declared.ending.Ending.{Ending}
-use Rattle.reply_text.specs.declared.ending.Ending.TheVariants.{Sink, Refused}
+use Rattle.reply_text.specs.declared.ending.Ending.TheVariants.{Source, Sink, Refused}
 use Rattle.reply_text.specs.Text.{stored_line}
 use Rattle.store_model.specs.Collisions.{HasNoCollisions, ByteSet, IsIn}
 use Rattle.store_model.specs.Image.{Store, Encodes, IsValidFor}
@@ -28,16 +27,17 @@ use Rattle.store_core.proofs.Crashes.{last_at, leaves, ends_with_all}
 use Rattle.store_core.proofs.KeepingFiles.{keeps_files}
 use Rattle.backup_engine.specs.Adding.{Adds, AddsTo, AddsOnce}
 use Rattle.backup_engine.specs.Line.{Ingest}
-use Rattle.backup_engine.specs.AnyDisk.{room_in}
-use Rattle.backup_engine.specs.PlainMap.{most_bytes, Room, room_of, Refuses, RefusesIngest}
+use Rattle.backup_engine.specs.AnyDisk.{ReadsSince, room_in}
+use Rattle.backup_engine.specs.PlainMap.{CanBeDone, Room, room_of, RefusesIngest}
 use Rattle.backup_engine.specs.Promise.{KeepsMap, KeepsEachMap, IsLeftWith, IsLeftAs, EndsBy, WroteReply, SinceStart, MayBeMeanwhile}
 use Rattle.backup_engine.specs.Running.{EndsPut, PutRun, IsPutRefusal, seals_of}
+use Rattle.backup_engine.specs.Storing.{IsSourceFault}
 use Rattle.backup_engine.proofs.Added.{adds_to, put_in}
-use Rattle.backup_engine.proofs.Called.{Called, Starts, starts}
-use Rattle.backup_engine.proofs.NoClash.{ends_by}
+use Rattle.backup_engine.proofs.Called.{Called, Starts, settled, starts}
+use Rattle.backup_engine.proofs.Clashes.{IsRight, RefusesBut, ends_by, not_unlike}
 use Rattle.backup_engine.proofs.PutEnds.{CanBe, CanTryBy, Left, LeftMeanwhile, meanwhile, maps_after, left_at_end, left_on_the_way}
 use Rattle.backup_engine.proofs.RightPuts.{file_run}
-use Rattle.backup_engine.proofs.PutStops.{RunsOn, refused_on, done_name, done_on, run_later, run_tries}
+use Rattle.backup_engine.proofs.PutStops.{RunsOn, refused_on, done_can, done_on, run_later, run_tries}
 use Rattle.backup_engine.proofs.SameRoom.{same_room}
 
 -- ---- refusals
@@ -51,13 +51,17 @@ by_write : (refusal : Refusal) → (refusal ≡ DiskWrite) ⊎ ¬ (refusal ≡ D
 by_write DiskWrite = inl refl
 by_write refusal = inr (λ is. subst IsWrite (sym is) tt)
 
--- what the store of a map refuses the map refuses
-refuses_by : (name given : List ℕ) (m : Stored) (t : Store) (c : CoreState) (refusal : Refusal) → Represents t c.known c.tables → room_in (Ingest name) t ≡ room_of (Ingest name) m t → IsValidFor c.disk.size t → RESERVE ≤ free_slots t.held → IsPutRefusal name given c refusal
-    → Refuses (Ingest name) given (room_of (Ingest name) m t) refusal
-refuses_by name given m t c Memory represents same valid reserve is = tt
-refuses_by name given m t c DiskRead represents same valid reserve is = tt
-refuses_by name given m t c DiskWrite represents same valid reserve is = tt
-refuses_by name given m t c refusal represents same valid reserve is = subst (λ (room : Room). RefusesIngest name given room refusal) same (is.store_has t represents valid reserve)
+-- what the store of a map refuses the map refuses, but for a clash
+refuses_by : (name given : List ℕ) (m : Stored) (content : Option (List ℕ)) (disk : DiskView) (t : Store) (c : CoreState) (refusal : Refusal) → Represents t c.known c.tables → room_in (Ingest name) t ≡ room_of (Ingest name) m t
+    → IsValidFor c.disk.size t → RESERVE ≤ free_slots t.held → IsRight given m content refusal → IsPutRefusal name given disk c refusal → RefusesBut name given (room_of (Ingest name) m t) refusal
+refuses_by name given m content disk t c Memory represents same valid reserve right is = tt
+refuses_by name given m content disk t c DiskRead represents same valid reserve right is = tt
+refuses_by name given m content disk t c DiskWrite represents same valid reserve right is = tt
+refuses_by name given m content disk t c (Clash key at) represents same valid reserve right is = tt
+refuses_by name given m content disk t c refusal represents same valid reserve right is = elim (is.store_has t represents valid reserve) [
+  | inl refuses ↦ subst (λ (room : Room). RefusesIngest name given room refusal) same refuses
+  | inr unlike ↦ not_unlike name given m content t (ReadsSince disk c.disk) (room_of (Ingest name) m t) refusal right unlike
+]
 
 one_image : (a b : List ℕ) → Some a ≡ Some b → a ≡ b
 one_image a b is = cc
@@ -69,7 +73,7 @@ refused_adds name given refusal store content adds = adds (λ is. subst IsWrite 
 
 -- ---- a run over a map
 
-module _ (C : Type 0) (state : C → CoreState) (v w : DiskView) (old new : C) (was : Called C state v w old new) (name given : List ℕ) (few : length given ≤ most_bytes) (put : Result Unit Refusal) (ran : PutRun C state name given put old new)
+module _ (C : Type 0) (state : C → CoreState) (v w : DiskView) (old new : C) (was : Called C state v w old new) (name given : List ℕ) (put : Result Unit Refusal) (ran : PutRun C state name given put old new)
     (among : ByteSet) (m : Stored) (image : List ℕ) (told : v.content ≡ Some image) (distinct : HasNoCollisions (IsIn among)) (all : (segment : List ℕ) → IsSegmentOf given segment → IsIn among segment)
     (is : IsOf (IsIn among) m image) where
   abbrev S : List ℕ → Type 0
@@ -79,16 +83,17 @@ module _ (C : Type 0) (state : C → CoreState) (v w : DiskView) (old new : C) (
   start = starts C state v w old new was S m image told is
 
   run : FileRun C state S ran.steps old new
-  run = file_run among name given distinct all few C state ran.steps old new (λ runs. record { store = start.store; stored = m; is_at = start.is_at }) ran.ran ran.each
+  run =
+      file_run C state among name given distinct all start.store m old start.is_at (settled C state v w old new was (state old).tables.slots) ran.steps new ran.ran ran.each ran.whole
 
   crashes : CrashLeaves (IsOnTheWay S ran.steps m) (state old).disk (state new).disk
   crashes = leaves C state among distinct ran.steps start.store m old new start.is_at run
 
   can_try : AllByRecursion (CanTryBy S name given m) ran.steps
-  can_try = run_tries C state among name given distinct ran.steps old new m few run ran.each
+  can_try = run_tries C state among name given distinct ran.steps old new m run ran.each
 
   can_be : (p : Result Unit Refusal) → EndsPut ran.steps p → CanBe S name given m p
-  can_be (Ok u) ends = (done_name C state among name given distinct ran.steps u old new was.opened.stop_is run ran.each ends, few)
+  can_be (Ok u) ends = done_can C state among name given distinct m ran.steps u old new was.opened.stop_is run ran.each ends
   can_be (Err refusal) ends = tt
 
   -- at the end
@@ -155,48 +160,81 @@ module _ (C : Type 0) (state : C → CoreState) (v w : DiskView) (old new : C) (
 
 -- ---- a put that was refused
 
-module _ (C : Type 0) (state : C → CoreState) (v w : DiskView) (old new : C) (was : Called C state v w old new) (name given : List ℕ) (few : length given ≤ most_bytes) (refusal : Refusal) (ran : PutRun C state name given (Err refusal) old new)
-    (why : IsPutRefusal name given (state new) refusal) where
+module _ (C : Type 0) (state : C → CoreState) (v w : DiskView) (old new : C) (was : Called C state v w old new) (name given : List ℕ) (refusal : Refusal) (ran : PutRun C state name given (Err refusal) old new) where
   module _ (among : ByteSet) (m : Stored) (image : List ℕ) (told : v.content ≡ Some image) (distinct : HasNoCollisions (IsIn among)) (all : (segment : List ℕ) → IsSegmentOf given segment → IsIn among segment)
       (is : IsOf (IsIn among) m image) where
     abbrev first : Starts (IsIn among) m image (state old)
     first = starts C state v w old new was (IsIn among) m image told is
 
     -- no write failed: a store of the map is left
-    runs_on : ¬ (refusal ≡ DiskWrite) → RunsOn given refusal (state new)
+    runs_on : ¬ (refusal ≡ DiskWrite) → RunsOn given m refusal (state new)
     runs_on other =
         refused_on C state among name given distinct ran.steps refusal first.store m old new other was.opened.stop_is first.is_at
-        (run C state v w old new was name given few (Err refusal) ran among m image told distinct all is) ran.each ran.ends
+        (run C state v w old new was name given (Err refusal) ran among m image told distinct all is) ran.each ran.ends
 
     at_end : ¬ (refusal ≡ DiskWrite) → (t : Store) × IsAt (IsIn among) t m (state new)
     at_end other =
-        let end = reached C state v w old new was name given few (Err refusal) ran among m image told distinct all is (runs_on other).runs in
+        let end = reached C state v w old new was name given (Err refusal) ran among m image told distinct all is (runs_on other).runs in
         (end.store, subst (λ (stored : Stored). IsAt (IsIn among) end.store stored (state new)) (maps_after (IsIn among) name given m ran.steps (Err refusal) ran.each ran.ends) end.is_at)
 
-    by_map_left : ¬ (refusal ≡ DiskWrite) → IsLeftWith m w.content (λ store. Refuses (Ingest name) given (room_of (Ingest name) m store) refusal)
-    by_map_left other =
+    -- what is so of that store
+    store_left : (P : Store → Type 0) → ¬ (refusal ≡ DiskWrite) → ((t : Store) (left : List ℕ) → IsAt (IsIn among) t m (state new) → room_in (Ingest name) t ≡ room_of (Ingest name) m t → RESERVE ≤ free_slots t.held → P t)
+        → IsLeftWith m w.content P
+    store_left P other each =
         let end = at_end other in
         let at : IsAt (IsIn among) end.0 m (state new) = end.1 in
         let left : List ℕ = at.stands.known.0 in
         let here = at.stands.known.1 in
         let holds : IsStoreOf end.0 m.files left = (stands_content (collisions.Stands (IsIn among) end.0 m.files) (state new).disk at.stands left here).holds in
         let room = same_room end.0 m left holds (last_at (IsIn among) end.0 m (state new) at) name in
-        (end.0, (left, was.last.only.content_is ∙ here, holds), refuses_by name given m end.0 (state new) refusal at.represents room at.valid (at.invariant left here).reserve_holds why)
+        (end.0, (left, was.last.only.content_is ∙ here, holds), each end.0 left at room (at.invariant left here).reserve_holds)
 
-    by_map : EndsBy (Ingest name) given m w.content (Some (Refused refusal))
-    by_map = elim (by_write refusal) [
+    right : ¬ (refusal ≡ DiskWrite) → IsRight given m w.content refusal
+    right other = subst (λ (content : Option (List ℕ)). IsRight given m content refusal) (sym was.last.only.content_is) (runs_on other).right
+
+    by_map : IsPutRefusal name given (state old).disk (state new) refusal → EndsBy (Ingest name) given m w.content (Some (Refused refusal))
+    by_map why = elim (by_write refusal) [
       | inl write ↦ subst (λ (r : Refusal). EndsBy (Ingest name) given m w.content (Some (Refused r))) (sym write) tt
-      | inr other ↦ ends_by (Ingest name) given m w.content refusal (by_map_left other) (runs_on other).free
+      | inr other ↦ ends_by name given m w.content refusal (right other)
+          (store_left (λ store. RefusesBut name given (room_of (Ingest name) m store) refusal) other
+          (λ t left at room reserve. refuses_by name given m w.content (state old).disk t (state new) refusal at.represents room at.valid reserve (right other) why))
     ]
 
-    refused_keeps : (sink : SinkView) → KeepsMap (IsIn among) (Ingest name) given (Some (Refused refusal)) m v w sink sink
-    refused_keeps sink = keeps C state v w old new was name given few (Err refusal) ran among m image told distinct all is (Some (Refused refusal)) sink sink by_map refl
-        (λ store right. refused_adds name given refusal store w.content (λ other. adds C state v w old new was name given few (Err refusal) ran among m image told distinct all is (runs_on other).runs store right))
+    not_done : (sink : SinkView) → IsPutRefusal name given (state old).disk (state new) refusal → KeepsMap (IsIn among) (Ingest name) given (Some (Refused refusal)) m v w sink sink
+    not_done sink why = keeps C state v w old new was name given (Err refusal) ran among m image told distinct all is (Some (Refused refusal)) sink sink (by_map why) refl
+        (λ store right. refused_adds name given refusal store w.content (λ other. adds C state v w old new was name given (Err refusal) ran among m image told distinct all is (runs_on other).runs store right))
         (λ c left. left) (λ c left. left)
 
   -- It is refused as the map has it, and leaves the map.
-  pub refused_map : (sink : SinkView) → KeepsEachMap (Ingest name) given (Some (Refused refusal)) v w sink sink
-  refused_map sink image told among m distinct all is = refused_keeps among m image told distinct all is sink
+  pub refused_map : (sink : SinkView) → IsPutRefusal name given (state old).disk (state new) refusal → KeepsEachMap (Ingest name) given (Some (Refused refusal)) v w sink sink
+  refused_map sink why image told among m distinct all is = not_done among m image told distinct all is sink why
+
+-- ---- a put that went no further, as its source ended
+
+memory_only : ¬ (Memory ≡ DiskWrite)
+memory_only is = cc
+
+module _ (C : Type 0) (state : C → CoreState) (v w : DiskView) (old new : C) (was : Called C state v w old new) (name given : List ℕ) (source source_now : SourceView) (ran : PutRun C state name given (Err Memory) old new) (sink : SinkView) where
+  module _ (among : ByteSet) (m : Stored) (image : List ℕ) (told : v.content ≡ Some image) (distinct : HasNoCollisions (IsIn among)) (all : (segment : List ℕ) → IsSegmentOf given segment → IsIn among segment)
+      (is : IsOf (IsIn among) m image) where
+    stopped_adds : (store : Store) → Encodes image store → AddsTo given (λ after. after) store w.content
+    stopped_adds =
+        adds C state v w old new was name given (Err Memory) ran among m image told distinct all is (runs_on C state v w old new was name given Memory ran among m image told distinct all is memory_only).runs
+
+    long_left : MOST_FILE < length given → IsLeftWith m w.content (λ store. MOST_FILE < length given)
+    long_left long = store_left C state v w old new was name given Memory ran among m image told distinct all is (λ store. MOST_FILE < length given) memory_only (λ t left at room reserve. long)
+
+    stopped_keeps : (ending : Ending) → IsSourceFault source source_now ending → (ending ≡ Refused TooLong → MOST_FILE < length given) → KeepsMap (IsIn among) (Ingest name) given (Some ending) m v w sink sink
+    stopped_keeps Source cause long =
+        keeps C state v w old new was name given (Err Memory) ran among m image told distinct all is (Some Source) sink sink (name, refl) refl stopped_adds (λ c left. left) (λ c left. left)
+    stopped_keeps (Refused Memory) cause long = not_done C state v w old new was name given Memory ran among m image told distinct all is sink tt
+    stopped_keeps (Refused TooLong) cause long =
+        keeps C state v w old new was name given (Err Memory) ran among m image told distinct all is (Some (Refused TooLong)) sink sink (long_left (long refl)) refl stopped_adds (λ c left. left) (λ c left. left)
+    stopped_keeps ending cause long = absurd cause
+
+  -- It leaves the map, too.
+  pub stopped_map : (ending : Ending) → IsSourceFault source source_now ending → (ending ≡ Refused TooLong → MOST_FILE < length given) → KeepsEachMap (Ingest name) given (Some ending) v w sink sink
+  stopped_map ending cause long image told among m distinct all is = stopped_keeps among m image told distinct all is ending cause long
 
 -- ---- a put that was done
 
@@ -206,23 +244,22 @@ IsDone None = Unit {0}
 IsDone (Some Sink) = Unit {0}
 IsDone (Some ending) = ⊥
 
-module _ (C : Type 0) (state : C → CoreState) (v w : DiskView) (old new : C) (was : Called C state v w old new) (name given : List ℕ) (few : length given ≤ most_bytes) (u : Unit {0}) (ran : PutRun C state name given (Ok u) old new) where
+module _ (C : Type 0) (state : C → CoreState) (v w : DiskView) (old new : C) (was : Called C state v w old new) (name given : List ℕ) (u : Unit {0}) (ran : PutRun C state name given (Ok u) old new) where
   module _ (among : ByteSet) (m : Stored) (image : List ℕ) (told : v.content ≡ Some image) (distinct : HasNoCollisions (IsIn among)) (all : (segment : List ℕ) → IsSegmentOf given segment → IsIn among segment)
       (is : IsOf (IsIn among) m image) where
-    good_name : IsName name
-    good_name =
-        done_name C state among name given distinct ran.steps u old new was.opened.stop_is (run C state v w old new was name given few (Ok u) ran among m image told distinct all is) ran.each ran.ends
+    can : CanBeDone (Ingest name) given m
+    can = can_be C state v w old new was name given (Ok u) ran among m image told distinct all is (Ok u) ran.ends
 
     -- it runs on
     done_adds : (store : Store) → Encodes image store → AddsTo given (with_put name (root_of given)) store w.content
     done_adds store right =
-        let runs = done_on C state among name given distinct ran.steps u old new was.opened.stop_is (run C state v w old new was name given few (Ok u) ran among m image told distinct all is) ran.each ran.ends in
-        adds C state v w old new was name given few (Ok u) ran among m image told distinct all is runs store right
+        let runs = done_on C state among name given distinct ran.steps u old new was.opened.stop_is (run C state v w old new was name given (Ok u) ran among m image told distinct all is) ran.each ran.ends in
+        adds C state v w old new was name given (Ok u) ran among m image told distinct all is runs store right
 
     done_keeps : (ending : Option Ending) (sink sink_now : SinkView) → IsDone ending → WroteReply (stored_line name (root_of given)) ending sink sink_now → KeepsMap (IsIn among) (Ingest name) given ending m v w sink sink_now
-    done_keeps None sink sink_now done wrote = keeps C state v w old new was name given few (Ok u) ran among m image told distinct all is None sink sink_now (good_name, few) wrote done_adds (λ c left. left) (λ c left. left)
+    done_keeps None sink sink_now done wrote = keeps C state v w old new was name given (Ok u) ran among m image told distinct all is None sink sink_now can wrote done_adds (λ c left. left) (λ c left. left)
     done_keeps (Some Sink) sink sink_now done wrote =
-        keeps C state v w old new was name given few (Ok u) ran among m image told distinct all is (Some Sink) sink sink_now (good_name, few) wrote done_adds (λ c left. left) (λ c left. left)
+        keeps C state v w old new was name given (Ok u) ran among m image told distinct all is (Some Sink) sink sink_now can wrote done_adds (λ c left. left) (λ c left. left)
     done_keeps (Some ending) sink sink_now done wrote = absurd done
 
   is_done : (ending : Option Ending) → (ending ≡ None) ⊎ (ending ≡ Some Sink) → IsDone ending

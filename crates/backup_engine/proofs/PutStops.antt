@@ -1,13 +1,10 @@
--- A put that is refused for another reason than a write that failed stops no core, and one that is done has a good name.
-use Rattle.std.proofs.Common.{◌≡◌, ◌<◌, ◌≤◌, inl, inr, ℕ, List, [], ◌∷◌, length, Option, Some, None, Result, Ok, Err, IfErr, refl, sym, ◌∙◌, subst, arith}
+-- A put that is refused for another reason than a write that failed stops no core, and one that is done could be.
+use Rattle.std.proofs.Common.{◌≡◌, inl, inr, ℕ, List, [], ◌∷◌, Option, Some, None, Result, Ok, Err, IfErr, refl, sym, subst}
 use Rattle.store_model.specs.Files.{Stored}
 use Rattle.std.specs.List.{AllByRecursion}
 use Rattle.disk_format.specs.Cells.{IsName}
 use Rattle.dd_disk.specs.View.{IsLater}
 use Rattle.dd_disk.proofs.Later.{later_here, later_on}
-use Rattle.container_meta.specs.declared.kind.Kind.{Kind}
-use Rattle.container_meta.specs.declared.kind.Kind.TheVariants.{Leaf, Tree}
-use Rattle.container_meta.specs.Segments.{Segment}
 use Rattle.actor_parts.specs.declared.step.Answer.{Answer}
 use Rattle.actor_parts.specs.declared.step.Answer.TheVariants as answers
 use Rattle.actor_parts.specs.StepValue as asked
@@ -24,11 +21,11 @@ use Rattle.store_core.specs.State.{CoreState, Event}
 use Rattle.store_core.proofs.Damage.{never_damaged}
 use Rattle.store_core.proofs.KeepingFiles.{file_step}
 use Rattle.store_core.proofs.Stepping.{step_later}
-use Rattle.backup_engine.proofs.NoClash.{ClashesByData}
-use Rattle.backup_engine.proofs.PutEnds.{CanTry, CanTryBy}
-use Rattle.backup_engine.specs.Adding.{IsPieceOf}
-use Rattle.backup_engine.specs.PlainMap.{most_bytes}
+use Rattle.backup_engine.specs.Line.{Ingest}
+use Rattle.backup_engine.specs.PlainMap.{CanBeDone}
 use Rattle.backup_engine.specs.Running.{IsAskedFor, IsPutStep, IsLastPut, IsOk, IsDoneBefore, EndsPut}
+use Rattle.backup_engine.proofs.Clashes.{IsRight, memory_right, refused_right}
+use Rattle.backup_engine.proofs.PutEnds.{CanTry, CanTryBy, none_with}
 
 -- ---- what stops a core
 
@@ -50,96 +47,76 @@ step_of old new e runs step = subst (λ (stop : Option Stop). StepsOr stop e old
 goes_on : (old new : CoreState) (e : Event) → old.stop ≡ None → CoreStep old e new → IsDoneBefore e → new.stop ≡ None
 goes_on old new e runs step goes = ok_runs e.step e.answer old.acknowledged new.stop goes.1 (step_of old new e runs step).stops
 
--- ---- what clashes
-
-pieces_data : (given : List ℕ) (kind : Kind) (segments : List Segment) (number : ℕ) → number < length segments → AllByRecursion (λ s. IsPieceOf given kind s) segments → kind ≡ Leaf
-pieces_data given kind [] number within each = absurd (omega (arith, within))
-pieces_data given kind (s ∷ ss) number within each = each.0.0
-
-data_no_tree : (kind : Kind) → kind ≡ Leaf → kind ≡ Tree → ⊥
-data_no_tree kind leaf tree = let both = sym leaf ∙ tree in cc
-
--- no step of a put does
-no_twin : (name given bytes : List ℕ) (step : StepValue) → IsAskedFor name given step bytes → MayClash step → ⊥
-no_twin name given bytes (asked.Claim seg) is clash = data_no_tree seg.kind is.0 clash.0
-no_twin name given bytes (asked.Seal filled) is clash = data_no_tree filled.kind (pieces_data given filled.kind filled.segments clash.number clash.within is) clash.is_twin.0
-no_twin name given bytes step is clash = absurd clash
-
-no_data : (given : List ℕ) (refusal : Refusal) (clash : Type 0) → IsHarmless clash refusal → (clash → ⊥) → ¬ (ClashesByData given refusal)
-no_data given (refusals.Clash key at) clash harmless free is = free harmless
-no_data given refusal clash harmless free is = absurd is
-
 -- ---- a run
 
--- the core runs on, and the refusal is no clash of data
-pub record RunsOn (given : List ℕ) (refusal : Refusal) (c : CoreState) : Type 0 where
+-- the core runs on, and no refusal but a clash of nodes is one of damage
+pub record RunsOn (given : List ℕ) (m : Stored) (refusal : Refusal) (c : CoreState) : Type 0 where
   pub runs : c.stop ≡ None
-  pub free : ¬ (ClashesByData given refusal)
+  pub right : IsRight given m c.disk.content refusal
 
-memory_runs : (given : List ℕ) (refusal : Refusal) (c : CoreState) → refusal ≡ refusals.Memory → c.stop ≡ None → RunsOn given refusal c
-memory_runs given refusal c is runs = record { runs = runs; free = λ clash. subst (ClashesByData given) is clash }
+memory_runs : (given : List ℕ) (m : Stored) (refusal : Refusal) (c : CoreState) → refusal ≡ refusals.Memory → c.stop ≡ None → RunsOn given m refusal c
+memory_runs given m refusal c is runs = record { runs = runs; right = memory_right given m c.disk.content refusal is }
 
 module _ (C : Type 0) (state : C → CoreState) (among : ByteSet) (name given : List ℕ) (distinct : HasNoCollisions (IsIn among)) where
   last_runs : (f : FileEvent) (refusal : Refusal) (s : Store) (m : Stored) (old new : C) → ¬ (refusal ≡ refusals.DiskWrite) → (state old).stop ≡ None → IsAt (IsIn among) s m (state old)
-      → FileStep (IsIn among) f (state old) (state new) → IsPutStep name given f → EndsPut (f ∷ []) (Err refusal) → RunsOn given refusal (state new)
+      → FileStep (IsIn among) f (state old) (state new) → IsPutStep name given f → EndsPut (f ∷ []) (Err refusal) → RunsOn given m refusal (state new)
   last_runs f refusal s m old new other runs at step put (inl is) =
       let harmless : IsHarmless (MayClash f.event.step) refusal =
       subst (λ (answer : Result Answer Refusal). IfErr answer (λ r. IsHarmless (MayClash f.event.step) r)) is (never_damaged C state among [] f s m old old new distinct at refl step) in
       let stops = (step_of (state old) (state new) f.event runs step.made).stops in
-      record {
-        runs = refused_runs f.event.step refusal (state old).acknowledged (state new).stop (MayClash f.event.step) other harmless
-            (subst (λ (answer : Result Answer Refusal). StopsAfter f.event.step answer (state old).acknowledged (state new).stop) is stops);
-        free = no_data given refusal (MayClash f.event.step) harmless (no_twin name given f.bytes f.event.step put.asked_for);
-      }
-  last_runs f refusal s m old new other runs at step put (inr is) = memory_runs given refusal (state new) is.1 (goes_on (state old) (state new) f.event runs step.made is.0)
+      let stays = refused_runs f.event.step refusal (state old).acknowledged (state new).stop (MayClash f.event.step) other harmless
+      (subst (λ (answer : Result Answer Refusal). StopsAfter f.event.step answer (state old).acknowledged (state new).stop) is stops) in
+      record { runs = stays; right = refused_right among distinct name given f s m (state old) (state new) at runs stays step put refusal is harmless }
+  last_runs f refusal s m old new other runs at step put (inr is) = memory_runs given m refusal (state new) is.1 (goes_on (state old) (state new) f.event runs step.made is.0)
 
   -- where no write failed
   pub refused_on : (fs : List FileEvent) (refusal : Refusal) (s : Store) (m : Stored) (old new : C) → ¬ (refusal ≡ refusals.DiskWrite) → (state old).stop ≡ None → IsAt (IsIn among) s m (state old)
-      → FileRun C state (IsIn among) fs old new → AllByRecursion (IsPutStep name given) fs → EndsPut fs (Err refusal) → RunsOn given refusal (state new)
-  refused_on [] refusal s m old new other runs at run each ends = memory_runs given refusal (state new) ends (subst (λ (c : C). (state c).stop ≡ None) (sym run) runs)
+      → FileRun C state (IsIn among) fs old new → AllByRecursion (IsPutStep name given) fs → EndsPut fs (Err refusal) → RunsOn given m refusal (state new)
+  refused_on [] refusal s m old new other runs at run each ends = memory_runs given m refusal (state new) ends (subst (λ (c : C). (state c).stop ≡ None) (sym run) runs)
   refused_on (f ∷ []) refusal s m old new other runs at run each ends =
-      subst (λ (c : C). RunsOn given refusal (state c)) (sym run.1.1) (last_runs f refusal s m old run.0 other runs at run.1.0 each.0 ends)
+      subst (λ (c : C). RunsOn given m refusal (state c)) (sym run.1.1) (last_runs f refusal s m old run.0 other runs at run.1.0 each.0 ends)
   refused_on (f ∷ g ∷ fs) refusal s m old new other runs at run each ends =
       let mid = goes_on (state old) (state run.0) f.event runs run.1.0.made ends.0 in
       let next = file_step among distinct f s m (state old) (state run.0) run.1.0 at mid in
-      refused_on (g ∷ fs) refusal next.store (stored_by f m) run.0 new other mid next.is_at run.1.1 each.1 ends.1
+      subst (λ (x : Stored). RunsOn given x refusal (state new)) (none_with f.event.step f.event.answer f.bytes m ends.0.0)
+      (refused_on (g ∷ fs) refusal next.store (stored_by f m) run.0 new other mid next.is_at run.1.1 each.1 ends.1)
 
   -- ---- a put that comes to a write which fails
 
-  tries : (step : StepValue) (answer : Result Answer Refusal) (actor : ℕ) (buf bytes : List ℕ) (old new : CoreState) (m : Stored) → length given ≤ most_bytes → IsAskedFor name given step bytes → Row step actor answer buf old new
+  tries : (step : StepValue) (answer : Result Answer Refusal) (actor : ℕ) (buf bytes : List ℕ) (old new : CoreState) (m : Stored) → IsAskedFor name given step bytes → Row step actor answer buf old new
       → CanTry (IsIn among) name given m step answer
-  tries (asked.Commit n root) (Err refusals.DiskWrite) actor buf bytes old new m few is row = (subst IsName is.0 row.0.0.may_name.named, few)
-  tries (asked.Commit n root) (Err refusal) actor buf bytes old new m few is row = tt
-  tries (asked.Commit n root) (Ok answer) actor buf bytes old new m few is row = tt
-  tries step answer actor buf bytes old new m few is row = tt
+  tries (asked.Commit n root) (Err refusals.DiskWrite) actor buf bytes old new m is row = (subst IsName is.0 row.0.0.may_name.named, is.3)
+  tries (asked.Commit n root) (Err refusal) actor buf bytes old new m is row = tt
+  tries (asked.Commit n root) (Ok answer) actor buf bytes old new m is row = tt
+  tries step answer actor buf bytes old new m is row = tt
 
   -- a core that is stopped comes to none
   stopped_tries : (step : StepValue) (m : Stored) (at : ℕ) → CanTry (IsIn among) name given m step (Err (refusals.Stopped at))
   stopped_tries (asked.Commit n root) m at = tt
   stopped_tries step m at = tt
 
-  step_tries : (stop : Option Stop) (f : FileEvent) (old new : CoreState) (m : Stored) → length given ≤ most_bytes → IsPutStep name given f → StepsOr stop f.event old new → CanTryBy (IsIn among) name given m f
-  step_tries None f old new m few put steps = tries f.event.step f.event.answer f.event.actor f.event.buf f.bytes old new m few put.asked_for steps.made.row
-  step_tries (Some stop) f old new m few put steps = subst (CanTry (IsIn among) name given m f.event.step) (sym steps.answer_is) (stopped_tries f.event.step m stop.at)
+  step_tries : (stop : Option Stop) (f : FileEvent) (old new : CoreState) (m : Stored) → IsPutStep name given f → StepsOr stop f.event old new → CanTryBy (IsIn among) name given m f
+  step_tries None f old new m put steps = tries f.event.step f.event.answer f.event.actor f.event.buf f.bytes old new m put.asked_for steps.made.row
+  step_tries (Some stop) f old new m put steps = subst (CanTry (IsIn among) name given m f.event.step) (sym steps.answer_is) (stopped_tries f.event.step m stop.at)
 
-  -- each commit of a run that comes to one has a good name
-  pub run_tries : (fs : List FileEvent) (old new : C) (m : Stored) → length given ≤ most_bytes → FileRun C state (IsIn among) fs old new → AllByRecursion (IsPutStep name given) fs → AllByRecursion (CanTryBy (IsIn among) name given m) fs
-  run_tries [] old new m few run each = tt
-  run_tries (f ∷ fs) old new m few run each = (step_tries (state old).stop f (state old) (state run.0) m few each.0 run.1.0.made, run_tries fs run.0 new m few run.1.1 each.1)
+  -- each commit of a run that comes to one has a good name, and the file is not too long
+  pub run_tries : (fs : List FileEvent) (old new : C) (m : Stored) → FileRun C state (IsIn among) fs old new → AllByRecursion (IsPutStep name given) fs → AllByRecursion (CanTryBy (IsIn among) name given m) fs
+  run_tries [] old new m run each = tt
+  run_tries (f ∷ fs) old new m run each = (step_tries (state old).stop f (state old) (state run.0) m each.0 run.1.0.made, run_tries fs run.0 new m run.1.1 each.1)
 
   -- ---- a put that is done
 
-  last_name : (step : StepValue) (answer : Result Answer Refusal) (actor : ℕ) (buf bytes : List ℕ) (old new : CoreState) → IsAskedFor name given step bytes → IsLastPut step answer → Row step actor answer buf old new → IsName name
-  last_name (asked.Commit n root) (Ok (answers.Committed sequence)) actor buf bytes old new is last row = subst IsName is.0 row.0.may_name.named
-  last_name (asked.Commit n root) (Ok answer) actor buf bytes old new is last row = absurd row
-  last_name (asked.Commit n root) (Err refusal) actor buf bytes old new is last row = absurd last
-  last_name step answer actor buf bytes old new is last row = absurd last
+  last_can : (m : Stored) (step : StepValue) (answer : Result Answer Refusal) (actor : ℕ) (buf bytes : List ℕ) (old new : CoreState) → IsAskedFor name given step bytes → IsLastPut step answer → Row step actor answer buf old new → CanBeDone (Ingest name) given m
+  last_can m (asked.Commit n root) (Ok (answers.Committed sequence)) actor buf bytes old new is last row = (subst IsName is.0 row.0.may_name.named, is.3)
+  last_can m (asked.Commit n root) (Ok answer) actor buf bytes old new is last row = absurd row
+  last_can m (asked.Commit n root) (Err refusal) actor buf bytes old new is last row = absurd last
+  last_can m step answer actor buf bytes old new is last row = absurd last
 
-  pub done_name : (fs : List FileEvent) (u : Unit {0}) (old new : C) → (state old).stop ≡ None → FileRun C state (IsIn among) fs old new → AllByRecursion (IsPutStep name given) fs → EndsPut fs (Ok u) → IsName name
-  done_name [] u old new runs run each ends = absurd ends
-  done_name (f ∷ []) u old new runs run each ends =
-      last_name f.event.step f.event.answer f.event.actor f.event.buf f.bytes (state old) (state run.0) each.0.asked_for ends (step_of (state old) (state run.0) f.event runs run.1.0.made).made.row
-  done_name (f ∷ g ∷ fs) u old new runs run each ends = done_name (g ∷ fs) u run.0 new (goes_on (state old) (state run.0) f.event runs run.1.0.made ends.0) run.1.1 each.1 ends.1
+  pub done_can : (m : Stored) (fs : List FileEvent) (u : Unit {0}) (old new : C) → (state old).stop ≡ None → FileRun C state (IsIn among) fs old new → AllByRecursion (IsPutStep name given) fs → EndsPut fs (Ok u) → CanBeDone (Ingest name) given m
+  done_can m [] u old new runs run each ends = absurd ends
+  done_can m (f ∷ []) u old new runs run each ends =
+      last_can m f.event.step f.event.answer f.event.actor f.event.buf f.bytes (state old) (state run.0) each.0.asked_for ends (step_of (state old) (state run.0) f.event runs run.1.0.made).made.row
+  done_can m (f ∷ g ∷ fs) u old new runs run each ends = done_can m (g ∷ fs) u run.0 new (goes_on (state old) (state run.0) f.event runs run.1.0.made ends.0) run.1.1 each.1 ends.1
 
   put_ok : (step : StepValue) (answer : Result Answer Refusal) → IsLastPut step answer → IsOk answer
   put_ok (asked.Commit n root) answer last = last

@@ -1,7 +1,7 @@
 -- A disk that was lent to a core comes back: it is the same one, later.
-use Rattle.std.proofs.Common.{◌≡◌, inl, inr, ◌∷◌, [], List, ℕ, Result, refl, sym, subst}
+use Rattle.std.proofs.Common.{◌≡◌, inl, inr, ◌∷◌, [], List, ℕ, Result, refl}
 use Rattle.dd_disk.specs.View.{DiskView, IsLater}
-use Rattle.dd_disk.proofs.Later.{later_here, later_on}
+use Rattle.dd_disk.proofs.Later.{later_on}
 use Rattle.dd_io.specs.Flow.{SourceView, SinkView}
 use Rattle.reply_text.specs.declared.ending.Ending.{Ending}
 use Rattle.store_core.specs.Core.{CoreStep}
@@ -31,7 +31,7 @@ module _ (C : Type 0) (state : C → CoreState) where
   ingest_later : (name : List ℕ) (result : Result Unit Ending) (old new : C) (source source_now : SourceView) (sink sink_now : SinkView) → IngestRun C state name result old new source source_now sink sink_now
       → IsLater (state old).disk (state new).disk
   ingest_later name result old new source source_now sink sink_now run = elim run.way [
-    | inl none ↦ subst (λ (c : C). IsLater (state old).disk (state c).disk) (sym none.core_is) (later_here (state old).disk)
+    | inl none ↦ run_later C state (events_of none.ran.steps) old new none.ran.ran
     | inr taken ↦ run_later C state (events_of taken.ran.steps) old new taken.ran.ran
   ]
 

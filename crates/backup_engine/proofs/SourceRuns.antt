@@ -1,21 +1,21 @@
 -- A source that is taken in and stored, or not.
-use Rattle.std.proofs.Common.{◌≡◌, inl, inr, ◌<◌, ℕ, List, [], length, replicate, Option, Some, None, Result, Ok, Err, refl, subst, arith}
-use Rattle.std.proofs.lemmas.List.{length-replicate}
+use Rattle.std.proofs.Common.{◌≡◌, inl, inr, ◌<◌, ◌≤◌, ℕ, List, [], length, Option, Some, None, Result, Ok, Err, refl, subst}
 use Rattle.base_model.specs.Known.{Known}
+use Rattle.disk_format.specs.declared.numbers.TheConstants.{MOST_FILE}
 use Rattle.dd_io.specs.Flow.{SourceView, SinkView}
 use Rattle.refusals.specs.declared.refusal.Refusal.{Refusal}
+use Rattle.refusals.specs.declared.refusal.Refusal.TheVariants.{Memory, TooLong}
 use Rattle.reply_text.specs.declared.ending.Ending.{Ending}
 use Rattle.reply_text.specs.declared.ending.Ending.TheVariants.{Source, Sink, Refused}
 use Rattle.reply_text.specs.Text.{stored_line}
 use Rattle.store_model.specs.Trees.{root_of}
 use Rattle.store_core.specs.State.{CoreState}
-use Rattle.backup_engine.specs.PlainMap.{most_bytes}
-use Rattle.backup_engine.specs.Running.{PutRun, IsPutRefusal}
-use Rattle.backup_engine.specs.Storing.{TakesIn, IsSourceFault, IsHeard, IsHeardAt, IsReadOut, Sent, IngestRun}
+use Rattle.backup_engine.specs.Running.{HoldsPieces, PutRun, IsPutRefusal}
+use Rattle.backup_engine.specs.Storing.{IsSourceFault, IsHeard, IsHeardAt, IsReadOut, Sent, IngestRun}
 
--- What a source gave that wasn't taken in: what it had left; where it doesn't tell that, more than a file has.
+-- What a source had to give that was not read: what it had left; where it doesn't tell that, nothing.
 pub given_of : Option (List ℕ) → List ℕ
-given_of None = replicate 2049 0
+given_of None = []
 given_of (Some bytes) = bytes
 
 pub given_told : (left : Option (List ℕ)) → Known left (λ all. given_of left ≡ all)
@@ -23,12 +23,11 @@ unfolding given_of
 given_told None all is = absurd cc
 given_told (Some bytes) all is = cc
 
-given_long : (left : Option (List ℕ)) → Known left (λ all. most_bytes < length all) → most_bytes < length (given_of left)
-unfolding given_of
-given_long None long = omega (arith, length-replicate 2049 (let zero : ℕ = 0 in zero))
-given_long (Some bytes) long = long bytes refl
-
 module _ (C : Type 0) (state : C → CoreState) (name : List ℕ) (source source_now : SourceView) where
+  -- for want of memory nothing was asked
+  pub nothing_put : (given : List ℕ) (c : C) → PutRun C state name given (Err Memory) c c
+  nothing_put given c = record { steps = []; ran = refl; each = tt; ends = refl; whole = tt; adds = record { store_has = λ store represents valid reserve. tt } }
+
   heard_sent : (reply : List ℕ) (result : Result Unit Ending) (sink sink_now : SinkView) → source_now.faults ≡ source.faults → Sent reply result sink sink_now → IsHeard result source source_now
   heard_sent reply (Ok u) sink sink_now same sent = same
   heard_sent reply (Err Sink) sink sink_now same sent = same
@@ -44,39 +43,40 @@ module _ (C : Type 0) (state : C → CoreState) (name : List ℕ) (source source
   sent_out reply (Err Sink) sink sink_now out sent = out
   sent_out reply (Err ending) sink sink_now out sent = absurd sent
 
-  pub not_taken : (ending : Ending) (core : C) (sink : SinkView) → IsSourceFault source source_now ending → IsHeardAt source source_now ending → IngestRun C state name (Err ending) core core source source_now sink sink
-  not_taken ending core sink cause heard = record {
-    given = given_of source.left;
-    took = given_told source.left;
-    to_end = failed_out ending cause;
-    heard = heard;
-    way = inl (record {
-      ending = ending;
-      result_is = refl;
-      cause = cause;
-      long = λ too_long. given_long source.left (subst (λ (e : Ending). IsSourceFault source source_now e) too_long cause);
-      core_is = refl;
-      sink_is = refl;
-    });
-  }
+  module _ (given : List ℕ) (took : Known source.left (λ all. given ≡ all)) (old new : C) where
+    -- a file that is too long came from a source that had too much
+    pub too_long : MOST_FILE < length given → IsSourceFault source source_now (Refused TooLong)
+    too_long long = λ all told. subst (λ (b : List ℕ). MOST_FILE < length b) (took all told) long
 
-  module _ (bytes : List ℕ) (taken : TakesIn source.left source_now.left bytes) (same : source_now.faults ≡ source.faults) (old new : C) where
-    pub not_stored : (refusal : Refusal) (sink : SinkView) → PutRun C state name bytes (Err refusal) old new → IsPutRefusal name bytes (state new) refusal
-        → IngestRun C state name (Err (Refused refusal)) old new source source_now sink sink
-    not_stored refusal sink ran refused = record {
-      given = bytes;
-      took = taken.all;
-      to_end = tt;
-      heard = same;
-      way = inr (record { few = taken.at_most; put = Err refusal; ran = ran; refused = refused; replies = (refl, refl) });
+    -- no more was asked
+    pub stopped : (ending : Ending) (sink : SinkView) → IsSourceFault source source_now ending → IsHeardAt source source_now ending → (ending ≡ Refused TooLong → MOST_FILE < length given) → PutRun C state name given (Err Memory) old new
+        → IngestRun C state name (Err ending) old new source source_now sink sink
+    stopped ending sink cause heard long ran = record {
+      given = given;
+      took = took;
+      to_end = failed_out ending cause;
+      heard = heard;
+      way = inl (record { ending = ending; result_is = refl; cause = cause; long = long; ran = ran; sink_is = refl });
     }
 
-    pub stored : (result : Result Unit Ending) (sink sink_now : SinkView) → PutRun C state name bytes (Ok tt) old new → Sent (stored_line name (root_of bytes)) result sink sink_now
-        → IngestRun C state name result old new source source_now sink sink_now
-    stored result sink sink_now ran sent = record {
-      given = bytes;
-      took = taken.all;
-      to_end = sent_out (stored_line name (root_of bytes)) result sink sink_now taken.to_end sent;
-      heard = heard_sent (stored_line name (root_of bytes)) result sink sink_now same sent;
-      way = inr (record { few = taken.at_most; put = Ok tt; ran = ran; refused = tt; replies = sent });
+    -- a step was refused
+    pub not_stored : (refusal : Refusal) (sink : SinkView) → source_now.faults ≡ source.faults → PutRun C state name given (Err refusal) old new → IsPutRefusal name given (state old).disk (state new) refusal
+        → IngestRun C state name (Err (Refused refusal)) old new source source_now sink sink
+    not_stored refusal sink same ran refused = record {
+      given = given;
+      took = took;
+      to_end = tt;
+      heard = same;
+      way = inr (record { put = Err refusal; ran = ran; few = tt; held = tt; refused = refused; replies = (refl, refl) });
+    }
+
+    -- all of it was stored
+    pub stored : (result : Result Unit Ending) (sink sink_now : SinkView) → Known source.left (λ all. source_now.left ≡ Some []) → source_now.faults ≡ source.faults → PutRun C state name given (Ok tt) old new
+        → length given ≤ MOST_FILE → HoldsPieces name given (state new) → Sent (stored_line name (root_of given)) result sink sink_now → IngestRun C state name result old new source source_now sink sink_now
+    stored result sink sink_now out same ran few held sent = record {
+      given = given;
+      took = took;
+      to_end = sent_out (stored_line name (root_of given)) result sink sink_now out sent;
+      heard = heard_sent (stored_line name (root_of given)) result sink sink_now same sent;
+      way = inr (record { put = Ok tt; ran = ran; few = few; held = held; refused = tt; replies = sent });
     }

@@ -1,9 +1,9 @@
 -- Taking a source in, piece by piece.
-use Rattle.std.proofs.Common.{◌≡◌, ℕ, ◌≤◌, List, [], ◌++◌, length, take, drop, Option, Some, refl, sym, ◌∙◌, ap, arith, append_assoc, length-append, take-append-drop}
+use Rattle.std.proofs.Common.{◌≡◌, ℕ, List, [], ◌++◌, take, drop, Option, Some, refl, sym, ◌∙◌, ap, append_assoc, take-append-drop}
 use Rattle.std.proofs.lemmas.List.{append-nil}
 use Rattle.dd_io.specs.Flow.{Takes}
 use Rattle.base_model.specs.Known.{Known}
-use Rattle.backup_engine.specs.Storing.{TakesIn, TakenSoFar}
+use Rattle.backup_engine.specs.Storing.{TakenSoFar}
 
 pub none_taken : (first : Option (List ℕ)) → TakenSoFar first first []
 none_taken first = record { rest = λ all told. (all, refl, told) }
@@ -16,19 +16,11 @@ more_taken first mid now bytes piece n so_far takes = record {
       (drop n before.0, before.1 ∙ ap (λ (l : List ℕ). bytes ++ l) (sym (take-append-drop n before.0) ∙ ap (λ (l : List ℕ). l ++ drop n before.0) (sym more.bytes)) ∙ sym (append_assoc bytes (take n piece) (drop n before.0)), more.rest);
 }
 
-pub all_taken : (first mid now : Option (List ℕ)) (bytes piece : List ℕ) (n : ℕ) → length bytes ≤ 2048 → TakenSoFar first mid bytes → Known mid (λ left. left ≡ []) → n ≡ 0 → Known mid (λ left. Takes n left piece now)
-    → TakesIn first now bytes
-all_taken first mid now bytes piece n few so_far end none takes = record {
-  at_most = few;
-  all = λ all told.
-      let before = so_far.rest all told in
-      sym (before.1 ∙ ap (λ (l : List ℕ). bytes ++ l) (end before.0 before.2) ∙ append-nil bytes);
-  to_end = λ all told.
-      let before = so_far.rest all told in
-      (takes before.0 before.2).rest ∙ ap (λ (k : ℕ). Some (drop k before.0)) none ∙ ap (λ (l : List ℕ). Some l) (end before.0 before.2);
-}
-
-pub too_many : (first now : Option (List ℕ)) (bytes : List ℕ) → 2049 ≤ length bytes → TakenSoFar first now bytes → Known first (λ all. 2049 ≤ length all)
-too_many first now bytes many so_far = λ all told.
-    let before = so_far.rest all told in
-    omega (arith, ap length before.1, length-append bytes before.0, many)
+-- all of it was, where the last piece had nothing
+pub all_taken : (first mid now : Option (List ℕ)) (bytes piece : List ℕ) (n : ℕ) → TakenSoFar first mid bytes → Known mid (λ left. left ≡ []) → n ≡ 0 → Known mid (λ left. Takes n left piece now)
+    → Known first (λ all. (bytes ≡ all) × (now ≡ Some []))
+all_taken first mid now bytes piece n so_far end none takes = λ all told.
+    let before = so_far.rest all told in (
+      sym (before.1 ∙ ap (λ (l : List ℕ). bytes ++ l) (end before.0 before.2) ∙ append-nil bytes),
+      (takes before.0 before.2).rest ∙ ap (λ (k : ℕ). Some (drop k before.0)) none ∙ ap (λ (l : List ℕ). Some l) (end before.0 before.2),
+    )

@@ -11,17 +11,17 @@ use Rattle.refusals.specs.declared.refusal.Refusal.TheVariants.{Memory, DiskRead
 use Rattle.reply_text.specs.declared.ending.Ending.{Ending}
 use Rattle.reply_text.specs.declared.ending.Ending.TheVariants.{Words, Source, Sink, Refused}
 use Rattle.store_model.specs.Files.{Stored}
-use Rattle.store_model.specs.Refusals.{WereFound}
 use Rattle.journal_cells.specs.declared.fault.CellFault.{CellFault}
 use Rattle.recovery.specs.Opening.{IsOpenRefusal, IsSized, BreaksFormat, BreaksJournal, BreaksSlots, HasWrongSize}
 use Rattle.recovery.specs.Slots.{IsDamagedSlot}
 use Rattle.read_steps.specs.Walking.{WasRead, IsNextRefusal, IsTopRefusal, IsCopyRefusal, top_key}
-use Rattle.backup_engine.specs.AnyDisk.{Holds, HasAdded, GivesBack, IsStuck, IsRefused, IsStored, IsCaused, WroteOnAny, EndsDurable}
+use Rattle.backup_engine.specs.AnyDisk.{Holds, HasAdded, ReadsSince, GivesBack, IsStuck, IsRefused, IsStored, IsCaused, WroteOnAny, EndsDurable}
 use Rattle.backup_engine.specs.Frame.{KeepsOthers}
 use Rattle.backup_engine.specs.Line.{CommandLine, Ingest, Restore}
 use Rattle.store_model.specs.Collisions.{ByteSet, IsIn}
 use Rattle.backup_engine.specs.Promise.{KeepsEachMap, IsLeftAs, Stands, NothingWritten}
 use Rattle.backup_engine.specs.TopCall.{Keeps}
+use Rattle.backup_engine.proofs.UnlikeNodes.{found, unlike_so}
 
 module _ (loans : List ℕ) (v w : DiskView) where
   abbrev v' : DiskView
@@ -32,9 +32,6 @@ module _ (loans : List ℕ) (v w : DiskView) where
 
   pub shows : (P : List ℕ → Type 0) → Shows v' w' P → Shows v w P
   shows P seen = record { parts = seen.parts; returned = seen.returned; known = seen.known; shows = seen.shows }
-
-  found : (at count : ℕ) (digest : List ℕ) → WereFound (Shows v' w') at count digest → WereFound (Shows v w) at count digest
-  found at count digest is = record { bytes = is.bytes; long = is.long; digest_is = is.digest_is; there = shows _ is.there }
 
 -- ---- why a store is not opened, where what one thing shows another shows
 
@@ -99,6 +96,9 @@ module _ (loans : List ℕ) (v w : DiskView) where
   on : (P : List ℕ → Type 0) → Shows lent lent_now P → Shows v w P
   on = shows loans v w
 
+  reads : (P : List ℕ → Type 0) → ReadsSince lent lent_now P → ReadsSince v w P
+  reads P since = record { parts = since.parts; returned = since.returned; known = since.known; shows = since.shows }
+
   abbrev holds : Holds lent lent_now → Holds v w
   holds is = record { store = is.store; right = on _ is.right; reserve = is.reserve }
 
@@ -119,7 +119,7 @@ module _ (loans : List ℕ) (v w : DiskView) where
 
     copy_refusal : (key digest : List ℕ) (refusal : Refusal) → IsCopyRefusal known breaks lent lent_now key digest refusal → IsCopyRefusal known breaks v w key digest refusal
     copy_refusal key digest (Corrupt slot offset count want got) is =
-        record { want_is = is.want_is; differ = is.differ; placed = is.placed; found = found loans v w _ count got is.found }
+        record { want_is = is.want_is; differ = is.differ; placed = is.placed; found = found (Shows lent lent_now) (Shows v w) on _ count got is.found }
     copy_refusal key digest DiskRead is = is
     copy_refusal key digest (Missing k) is = is
     copy_refusal key digest (Damaged at why) is = record { unknown = is.unknown; there = on _ is.there }
@@ -161,15 +161,17 @@ module _ (loans : List ℕ) (v w : DiskView) where
     ingest_refused DiskRead is = is
     ingest_refused DiskWrite is = is
     ingest_refused refusal (inl is) = inl (opens refusal is.0, is.1)
-    ingest_refused refusal (inr is) = inr (added given is.0, is.1)
+    ingest_refused refusal (inr (added_there, inl is)) = inr (added given added_there, inl is)
+    ingest_refused refusal (inr (added_there, inr is)) =
+        inr (added given added_there, inr (unlike_so (ReadsSince lent lent_now) (ReadsSince v w) reads given added_there.after refusal is))
 
     ingest_done : IsStored name given lent lent_now → IsStored name given v w
-    ingest_done is = record { added = added given is.added; all = is.all; can = is.can }
+    ingest_done is = record { added = added given is.added; all = is.all; number = is.number }
 
     ingest_caused : (ending : Option Ending) → IsCaused (Ingest name) given lent lent_now source source_now sink sink_now ending → IsCaused (Ingest name) given v w source source_now sink sink_now ending
     ingest_caused None is = ingest_done is
     ingest_caused (Some Words) is = absurd is
-    ingest_caused (Some Source) is = (is.0, holds is.1, is.2)
+    ingest_caused (Some Source) is = (is.0, added given is.1, is.2)
     ingest_caused (Some Sink) is = (ingest_done is.0, is.1)
     ingest_caused (Some (Refused Memory)) is = is
     ingest_caused (Some (Refused refusal)) is = ingest_refused refusal is
@@ -190,7 +192,7 @@ module _ (loans : List ℕ) (v w : DiskView) where
     restore_caused : (ending : Option Ending) → IsCaused (Restore name) given lent lent_now source source_now sink sink_now ending → IsCaused (Restore name) given v w source source_now sink sink_now ending
     restore_caused None is = is
     restore_caused (Some Words) is = absurd is
-    restore_caused (Some Source) is = (is.0, holds is.1, is.2)
+    restore_caused (Some Source) is = (is.0, added given is.1, is.2)
     restore_caused (Some Sink) is = is
     restore_caused (Some (Refused Memory)) is = is
     restore_caused (Some (Refused refusal)) is = restore_refused refusal is

@@ -2,30 +2,24 @@
 use Rattle.std.specs.Prelude.{◌≡◌, ℕ, suc, List, [], ◌∷◌, Option, None, Some}
 use Rattle.std.specs.List.{AllByRecursion}
 use Rattle.base_model.specs.Known.{KnownWith}
-use Rattle.container_meta.specs.declared.kind.Kind.{Kind}
-use Rattle.container_meta.specs.declared.kind.Kind.TheVariants.{Leaf}
-use Rattle.container_meta.specs.Segments.{Segment, segment_key}
+use Rattle.container_meta.specs.Segments.{segment_key}
 use Rattle.refusals.specs.declared.refusal.Refusal.TheVariants.{DiskWrite}
 use Rattle.reply_text.specs.declared.ending.Ending.{Ending}
 use Rattle.reply_text.specs.declared.ending.Ending.TheVariants.{Sink, Refused}
 use Rattle.store_model.specs.Image.{Store, Encodes}
 use Rattle.store_model.specs.Slots.{last_id, newest}
-use Rattle.store_model.specs.Standing.{IsSegmentOf}
+use Rattle.store_model.specs.Pieces.{HasPieceOf}
 use Rattle.store_model.specs.Steps.{StoreChange, SealContainer, PutName, with_sealed, with_put}
 use Rattle.store_model.specs.Trees.{root_of}
 use Rattle.store_core.specs.Runs.{ChangesTo}
 use Rattle.backup_engine.specs.Line.{CommandLine, Format, Ingest, Restore}
-
--- a segment that is stored is one of the file's
-abbrev pub IsPieceOf : List ℕ → Kind → Segment → Type 0
-IsPieceOf given kind segment = (kind ≡ Leaf) × IsSegmentOf given segment.bytes
 
 -- Containers are added, each under the next id, with pieces of the file that no container before it holds.
 abbrev pub AddsOnce : List ℕ → List StoreChange → Store → Type 0
 AddsOnce given [] store = Unit {0}
 AddsOnce given (SealContainer id kind segments ∷ rest) store =
     (id ≡ suc (last_id store.held))
-    × AllByRecursion (λ s. IsPieceOf given kind s × (newest 0 store.held (segment_key kind s) ≡ None)) segments
+    × AllByRecursion (λ s. HasPieceOf given (record { kind = kind; segment = s }) × (newest 0 store.held (segment_key kind s) ≡ None)) segments
     × AddsOnce given rest (with_sealed id kind segments store)
 AddsOnce given (PutName name root ∷ rest) store = ⊥
 

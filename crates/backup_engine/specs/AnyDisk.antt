@@ -1,7 +1,7 @@
 -- What the top call promises over any disk, also one that tells nothing, or lies (docs/MODEL.md, 'The promise').
-use Rattle.std.specs.Prelude.{◌≡◌, ◌≢◌, ◌⊎◌, ℕ, ◌≤◌, List, [], length, sum_by, is_some, Option, None, Some}
+use Rattle.std.specs.Prelude.{◌≡◌, ◌≢◌, ◌⊎◌, ℕ, ◌-◌, ◌^◌, ◌<◌, ◌≤◌, List, [], length, sum_by, is_some, Option, None, Some}
 use Rattle.std.specs.FinMap as finite
-use Rattle.std.specs.List.{concat}
+use Rattle.std.specs.List.{AllByRecursion, concat}
 use Rattle.base_model.specs.Bytes.{byte_at}
 use Rattle.base_model.specs.Fault.{Rose}
 use Rattle.base_model.specs.Known.{Known, KnownWith, Appended}
@@ -11,10 +11,12 @@ use Rattle.disk_format.specs.Cells.{Root}
 use Rattle.dd_disk.specs.View.{DiskView, IsDurable}
 use Rattle.dd_disk.specs.Ending.{NoCall, Done, CountsFault, ending_of}
 use Rattle.dd_disk.specs.Ending as device
-use Rattle.dd_disk.specs.Shows.{Shows}
+use Rattle.dd_disk.specs.Shows.{Part, HasPart, Shows}
 use Rattle.dd_io.specs.Flow.{SourceView, SinkView, AppendedPart}
 use Rattle.container_meta.specs.Places.{PlaceMap}
+use Rattle.container_meta.specs.declared.kind.Kind.TheVariants.{Tree}
 use Rattle.merkle_file.specs.declared.top.Top.{Top}
+use Rattle.merkle_file.specs.Node.{Contents, node_digest, spelling}
 use Rattle.merkle_file.specs.Walk.{start_of}
 use Rattle.refusals.specs.declared.refusal.Refusal.{Refusal}
 use Rattle.refusals.specs.declared.refusal.Refusal.TheVariants.{Memory, DiskRead, DiskWrite}
@@ -22,10 +24,12 @@ use Rattle.reply_text.specs.declared.ending.Ending.{Ending}
 use Rattle.reply_text.specs.declared.ending.Ending.TheVariants.{Words, Source, Sink, Refused}
 use Rattle.reply_text.specs.Text.{formatted_line, stored_line}
 use Rattle.store_model.specs.Image.{Store, Encodes, names_of, last_sequence}
-use Rattle.store_model.specs.Slots.{IsIndexOf, free_slots}
+use Rattle.store_model.specs.Pieces.{Node, IsPieceOf}
+use Rattle.store_model.specs.Slots.{Copy, IsIndexOf, free_slots, newest}
 use Rattle.store_model.specs.Standing.{IsFormatted}
-use Rattle.store_model.specs.Steps.{StoreChange, CanPut}
-use Rattle.store_model.specs.Trees.{root_of}
+use Rattle.store_model.specs.Steps.{StoreChange}
+use Rattle.store_model.specs.Trees.{node_key, root_of}
+use Rattle.store_state.specs.Comparing.{IsNodeRefusal}
 use Rattle.store_state.specs.Refused.{blames}
 use Rattle.recovery.specs.Opening.{IsOpenRefusal}
 use Rattle.recovery.specs.Formatting.{IsFormatRefusal}
@@ -57,6 +61,23 @@ pub record HasAdded (given : List ℕ) (disk disk_now : DiskView) : Type 0 where
   pub after : Store
   pub chain : ChangesTo changes holds.store after
   pub adds : AddsOnce given changes holds.store
+
+-- Reads since a moment returned parts by which each image of the disk's size that has them has P; where the disk tells its content
+-- now, the content has them. So it is of what was read last, also after writes (`Shows` speaks of the content at the beginning).
+pub record ReadsSince (disk disk_now : DiskView) (P : List ℕ → Type 0) : Type 0 where
+  pub parts : List Part
+  pub returned : AllByRecursion (λ part. disk_now.read_returned disk.clock part.at part.bytes) parts
+  pub known : Known disk_now.content (λ image. AllByRecursion (HasPart image) parts)
+  pub shows : (image : List ℕ) → length image ≡ disk.size → AllByRecursion (HasPart image) parts → P image
+
+-- A node of the file has a copy that is held, as long as it is; as it was read it has another digest, or this one and another byte.
+pub record IsUnlikeNode (given : List ℕ) (store : Store) (shown : (List ℕ → Type 0) → Type 0) (refusal : Refusal) : Type 0 where
+  pub node : Contents
+  pub piece : IsPieceOf given (Node node)
+  pub copy : Copy
+  pub copy_is : newest 0 store.held (node_key node) ≡ Some copy
+  pub long : copy.place.length ≡ length (spelling node)
+  pub refused : IsNodeRefusal shown Tree (node_digest node) (spelling node) copy.place refusal
 
 -- the disk had the size of so many slots and no store, and, where it tells its content, is an empty store now
 pub record Formats (slots : ℕ) (disk disk_now : DiskView) : Type 0 where
@@ -102,7 +123,9 @@ IsRefused (Ingest name) given disk disk_now source source_now sink sink_now Disk
 IsRefused (Ingest name) given disk disk_now source source_now sink sink_now DiskWrite = Unit {0}
 IsRefused (Ingest name) given disk disk_now source source_now sink sink_now refusal =
     (IsOpenRefusal (Shows disk disk_now) disk.size refusal × (source_now.left ≡ source.left))
-    ⊎ ((added : HasAdded given disk disk_now) × RefusesIngest name given (room_in (Ingest name) added.after) refusal)
+    ⊎ ((added : HasAdded given disk disk_now)
+    × (RefusesIngest name given (room_in (Ingest name) added.after) refusal
+    ⊎ IsUnlikeNode given added.after (ReadsSince disk disk_now) refusal))
 IsRefused (Restore name) given disk disk_now source source_now sink sink_now DiskRead = Unit {0}
 IsRefused (Restore name) given disk disk_now source source_now sink sink_now DiskWrite = Unit {0}
 IsRefused (Restore name) given disk disk_now source source_now sink sink_now refusal =
@@ -110,11 +133,11 @@ IsRefused (Restore name) given disk disk_now source source_now sink sink_now ref
     ⊎ ((holds : Holds disk disk_now) × RefusesRestore name (room_in (Restore name) holds.store) refusal)
     ⊎ ((given : GivesBack name (Some (Refused refusal)) disk disk_now sink sink_now) × IsStuck given refusal)
 
--- An `ingest` that was done: each piece of the file is held, and the name could be given its root.
+-- An `ingest` that was done: each piece of the file is held, the name has a cell, and a number was left.
 pub record IsStored (name given : List ℕ) (disk disk_now : DiskView) : Type 0 where
   pub added : HasAdded given disk disk_now
   pub all : HasAll name given (room_in (Ingest name) added.after)
-  pub can : CanPut name added.after
+  pub number : last_sequence added.after < 2 ^ 64 - 1
 
 -- what is so of a command that was done, but perhaps for its reply
 abbrev pub IsDone : CommandLine → List ℕ → DiskView → DiskView → Type 0
@@ -126,7 +149,7 @@ abbrev pub IsCaused : CommandLine → List ℕ → DiskView → DiskView → Sou
 IsCaused command given disk disk_now source source_now sink sink_now None = IsDone command given disk disk_now
 IsCaused command given disk disk_now source source_now sink sink_now (Some Words) = ⊥
 IsCaused command given disk disk_now source source_now sink sink_now (Some Source) =
-    ((name : List ℕ) × (command ≡ Ingest name)) × Holds disk disk_now × Rose source.faults source_now.faults
+    ((name : List ℕ) × (command ≡ Ingest name)) × HasAdded given disk disk_now × Rose source.faults source_now.faults
 IsCaused command given disk disk_now source source_now sink sink_now (Some Sink) =
     IsDone command given disk disk_now × Rose sink.faults sink_now.faults
 IsCaused command given disk disk_now source source_now sink sink_now (Some (Refused Memory)) = Unit {0}

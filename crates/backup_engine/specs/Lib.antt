@@ -10,4 +10,5 @@ pub mod Promise
 pub mod Putting
 pub mod Running
 pub mod Storing
+pub mod Feeding
 pub mod TopCall

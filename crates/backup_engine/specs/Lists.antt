@@ -13,7 +13,7 @@ use Rattle.store_model.specs.Standing.{IsSegmentOf}
 use Rattle.store_core.specs.Runs.{IsOf}
 use Rattle.backup_engine.specs.AnyDisk.{Formats}
 use Rattle.backup_engine.specs.Line.{CommandLine, Format}
-use Rattle.backup_engine.specs.PlainMap.{map_after}
+use Rattle.backup_engine.specs.PlainMap.{map_after, CanBeDone}
 use Rattle.backup_engine.specs.Promise.{KeepsMap, SinceStart, Stands}
 use Rattle.backup_engine.specs.TopCall.{Promise, Does, AreNoted, status_by}
 
@@ -48,18 +48,18 @@ IsPromised D view = (c : Call) (old new : D)
     → Promise c.line c.status (view old) (view new) c.source c.source_now c.sink c.sink_now c.notes c.notes_now
     → (ending : Option Ending) × ((given : List ℕ) × KeepsCall (record c { ending = ending; given = given }) (view old) (view new))
 
--- A line that was done, but perhaps for its reply, leads to the map after it; where a write or a sync failed, to that or to the
--- map as it was; and at any other ending to the map as it was.
-abbrev pub LeadsBy : Option Ending → Stored → Stored → Stored → Type 0
-LeadsBy None done m next = next ≡ done
-LeadsBy (Some Sink) done m next = next ≡ done
-LeadsBy (Some (Refused DiskWrite)) done m next = (next ≡ m) ⊎ (next ≡ done)
-LeadsBy (Some ending) done m next = next ≡ m
+-- A line that was done, but perhaps for its reply, leads to the map after it; where a write or a sync failed, to that, if it
+-- could be done, or to the map as it was; and at any other ending to the map as it was.
+abbrev pub LeadsBy : CommandLine → List ℕ → Option Ending → Stored → Stored → Type 0
+LeadsBy command given None m next = next ≡ map_after command given m
+LeadsBy command given (Some Sink) m next = next ≡ map_after command given m
+LeadsBy command given (Some (Refused DiskWrite)) m next = (next ≡ m) ⊎ (CanBeDone command given m × (next ≡ map_after command given m))
+LeadsBy command given (Some ending) m next = next ≡ m
 
 -- words that are no line lead to the map as it was
 abbrev pub MayLead : Option CommandLine → List ℕ → Option Ending → Stored → Stored → Type 0
 MayLead None given ending m next = next ≡ m
-MayLead (Some command) given ending m next = LeadsBy ending (map_after command given m) m next
+MayLead (Some command) given ending m next = LeadsBy command given ending m next
 
 abbrev pub LeadsTo : List Call → Stored → Stored → Type 0
 LeadsTo [] m next = next ≡ m

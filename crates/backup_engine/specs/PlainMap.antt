@@ -2,22 +2,19 @@
 -- (docs/MODEL.md, 'The plain map').
 use Rattle.std.specs.Prelude.{◌≡◌, ◌≢◌, ◌⊎◌, ℕ, ◌-◌, ◌^◌, ◌<◌, ◌≤◌, List, length, Bool, true, false, is_some, option_map, Option, None, Some}
 use Rattle.std.specs.FinMap as finite
-use Rattle.disk_format.specs.declared.numbers.TheConstants.{MOST_NAMES, RESERVE, LAST_ID}
+use Rattle.disk_format.specs.declared.numbers.TheConstants.{MOST_FILE, MOST_NAMES, RESERVE, LAST_ID}
 use Rattle.disk_format.specs.Cells.{IsName}
 use Rattle.disk_format.specs.Layout.{half_cells, size_of}
 use Rattle.refusals.specs.declared.refusal.Difference.TheVariants.{Length}
 use Rattle.refusals.specs.declared.refusal.Refusal.{Refusal}
-use Rattle.refusals.specs.declared.refusal.Refusal.TheVariants.{Memory, NoFile, BadName, TooMany, TooLong, Full, Clash, DiskRead, DiskWrite, Numbers, AlreadyStore, WrongSize}
+use Rattle.refusals.specs.declared.refusal.Refusal.TheVariants.{Memory, NoFile, BadName, TooMany, TooLong, Full, Clash, DiskRead, DiskWrite, Numbers, Unpinned, AlreadyStore, WrongSize}
 use Rattle.store_model.specs.Files.{Stored, with_stored}
 use Rattle.store_model.specs.Image.{Store}
 use Rattle.store_model.specs.Slots.{newest, free_slots, last_id}
-use Rattle.store_model.specs.Standing.{IsSegmentOf}
-use Rattle.store_model.specs.Trees.{leaf_key}
+use Rattle.merkle_file.specs.Node.{Contents}
+use Rattle.store_model.specs.Pieces.{Piece, Node, IsPieceOf, piece_key, piece_bytes}
+use Rattle.store_model.specs.Trees.{node_key}
 use Rattle.backup_engine.specs.Line.{CommandLine, Format, Ingest, Restore, name_of}
-
--- how many bytes a file has at most, for now
-abbrev pub most_bytes : ℕ
-most_bytes = 2048
 
 -- The map after a command that is done: names to byte lists, and the last sequence number. `given` is what the source gave.
 abbrev pub map_after : CommandLine → List ℕ → Stored → Stored
@@ -28,7 +25,7 @@ map_after (Restore name) given m = m
 -- What is so of a command that is done. A disk that stands for a map has a store, so `format` is never done there.
 abbrev pub CanBeDone : CommandLine → List ℕ → Stored → Type 0
 CanBeDone (Format slots) given m = ⊥
-CanBeDone (Ingest name) given m = IsName name × (length given ≤ most_bytes)
+CanBeDone (Ingest name) given m = IsName name × (length given ≤ MOST_FILE)
 CanBeDone (Restore name) given m = is_some (finite.get m.files name) ≡ true
 
 -- What refusals go by: whether the name has a file, how many names have one, the last sequence number; and of the disk its
@@ -61,9 +58,9 @@ room knows names last store = record {
 abbrev pub room_of : CommandLine → Stored → Store → Room
 room_of command m store = room (is_some (finite.get m.files (name_of command))) (finite.len m.files) m.last store
 
--- a piece of a file: a segment, by its key and its length
+-- a piece of a file, a segment or a node of its tree, by its key and its length
 abbrev pub IsPiece : List ℕ → List ℕ → ℕ → Type 0
-IsPiece given key count = (segment : List ℕ) × IsSegmentOf given segment × (key ≡ leaf_key segment) × (count ≡ length segment)
+IsPiece given key count = (p : Piece) × IsPieceOf given p × (key ≡ piece_key p) × (count ≡ length (piece_bytes p))
 
 -- each is held
 abbrev pub HasPieces : List ℕ → Room → Type 0
@@ -79,19 +76,26 @@ HasNoRoomForName room = ((room.knows ≡ false) × (MOST_NAMES ≤ room.names)) 
 
 -- The file is not too long, each piece of it is held, and the name is good and has a cell.
 pub record HasAll (name given : List ℕ) (room : Room) : Type 0 where
-  pub few : length given ≤ most_bytes
+  pub few : length given ≤ MOST_FILE
   pub pieces : HasPieces given room
   pub named : IsName name
   pub cell : ¬ (HasNoRoomForName room)
 
+-- two different nodes of the file's tree have one SHA-256, so that the pin of one stands in the place of the other's
+abbrev pub HasTwins : List ℕ → List ℕ → Type 0
+HasTwins given key =
+    (n : Contents) × (m : Contents) × IsPieceOf given (Node n) × IsPieceOf given (Node m) × (n ≢ m)
+    × (key ≡ node_key n) × (key ≡ node_key m)
+
 -- Why an `ingest` is refused, in the order of the steps: the source and its pieces as they come; once all are held, the name.
 abbrev pub RefusesIngest : List ℕ → List ℕ → Room → Refusal → Type 0
-RefusesIngest name given room TooLong = most_bytes < length given
+RefusesIngest name given room TooLong = MOST_FILE < length given
 RefusesIngest name given room (Clash key (Length offered held)) =
     IsPiece given key offered × (room.held key ≡ Some held) × (offered ≢ held)
+RefusesIngest name given room (Unpinned key) = HasTwins given key
 RefusesIngest name given room (Full free) = LacksPiece given room × (free ≡ room.free) × (free ≤ RESERVE)
-RefusesIngest name given room BadName = (length given ≤ most_bytes) × HasPieces given room × ¬ (IsName name)
-RefusesIngest name given room TooMany = (length given ≤ most_bytes) × HasPieces given room × IsName name × HasNoRoomForName room
+RefusesIngest name given room BadName = (length given ≤ MOST_FILE) × HasPieces given room × ¬ (IsName name)
+RefusesIngest name given room TooMany = (length given ≤ MOST_FILE) × HasPieces given room × IsName name × HasNoRoomForName room
 RefusesIngest name given room Numbers =
     (LacksPiece given room × (RESERVE < room.free) × (room.last_id ≡ LAST_ID))
     ⊎ (HasAll name given room × (room.last ≡ 2 ^ 64 - 1))
@@ -107,7 +111,7 @@ RefusesFormat slots room AlreadyStore = room.size ≡ size_of slots
 RefusesFormat slots room (WrongSize want got) = (want ≡ size_of slots) × (got ≡ room.size) × (want ≢ got)
 RefusesFormat slots room refusal = ⊥
 
--- Why a command is refused, by what the store is as it leaves it: so `ingest` may have stored the segment before. Want of
+-- Why a command is refused, by what the store is as it leaves it: so `ingest` may have stored pieces before. Want of
 -- memory is free, and a call of the disk that failed is told by its count of faults; a `format` of a disk that has a store
 -- writes nothing, and syncs nothing.
 abbrev pub Refuses : CommandLine → List ℕ → Room → Refusal → Type 0

@@ -1,9 +1,13 @@
 -- What the top call promises over a disk that tells its content and stands for a map (docs/MODEL.md, 'The promise').
-use Rattle.std.specs.Prelude.{◌≡◌, ◌⊎◌, ℕ, ◌-◌, ◌^◌, ◌<◌, List, Option, None, Some}
+use Rattle.std.specs.Prelude.{◌≡◌, ◌≢◌, ◌⊎◌, ℕ, ◌-◌, ◌^◌, ◌<◌, List, length, Option, None, Some}
 use Rattle.std.specs.FinMap as finite
+use Rattle.sha2.specs.Sha256.{sha256}
 use Rattle.base_model.specs.Known.{Known, KnownWith, Appended}
 use Rattle.dd_disk.specs.View.{DiskView}
 use Rattle.dd_io.specs.Flow.{SinkView, AppendedPart}
+use Rattle.merkle_file.specs.Node.{Contents, node_digest, spelling}
+use Rattle.refusals.specs.declared.refusal.Difference.{Difference}
+use Rattle.refusals.specs.declared.refusal.Difference.TheVariants.{Length, Byte}
 use Rattle.refusals.specs.declared.refusal.Refusal.TheVariants.{DiskWrite, Clash}
 use Rattle.reply_text.specs.declared.ending.Ending.{Ending}
 use Rattle.reply_text.specs.declared.ending.Ending.TheVariants.{Words, Source, Sink, Refused}
@@ -11,8 +15,11 @@ use Rattle.reply_text.specs.Text.{stored_line}
 use Rattle.store_model.specs.Collisions.{HasNoCollisions, ByteSet, IsIn}
 use Rattle.store_model.specs.Files.{Stored}
 use Rattle.store_model.specs.Image.{Store, Encodes}
+use Rattle.store_model.specs.Pieces.{Node, IsPieceOf}
+use Rattle.store_model.specs.Slots.{Copy, newest}
 use Rattle.store_model.specs.Standing.{IsStoreOf, IsSegmentOf}
-use Rattle.store_model.specs.Trees.{root_of}
+use Rattle.store_model.specs.Trees.{bytes_at, node_key, root_of}
+use Rattle.store_state.specs.Comparing.{FirstDifference}
 use Rattle.store_core.specs.Runs.{IsOf}
 use Rattle.backup_engine.specs.Adding.{Adds}
 use Rattle.backup_engine.specs.Line.{CommandLine, Format, Ingest, Restore}
@@ -31,14 +38,31 @@ MayChange (Some ending) = ⊥
 abbrev pub IsLeftWith : Stored → Option (List ℕ) → (Store → Type 0) → Type 0
 IsLeftWith m content P = (store : Store) × KnownWith content (IsStoreOf store m.files) × P store
 
+-- how the bytes that are offered and those that are held differ: by their lengths, or by the first byte that differs
+abbrev pub DifferBy : Difference → List ℕ → List ℕ → Type 0
+DifferBy (Length mine other) offered held = (mine ≡ length offered) × (other ≡ length held) × (mine ≢ other)
+DifferBy (Byte place mine other) offered held = FirstDifference offered held place mine other
+
+-- the store holds another node than one of the file, of the same SHA-256
+pub record HoldsTwin (given : List ℕ) (store : Store) (image key : List ℕ) (at : Difference) : Type 0 where
+  pub node : Contents
+  pub piece : IsPieceOf given (Node node)
+  pub key_is : key ≡ node_key node
+  pub copy : Copy
+  pub copy_is : newest 0 store.held key ≡ Some copy
+  pub digest : sha256 (bytes_at copy.place image) ≡ node_digest node
+  pub differ : DifferBy at (spelling node) (bytes_at copy.place image)
+
 -- Why it ended so, of the map, and of the store that is left. Data never clashes with what is held, since no two different
--- segments have one digest; a source, a sink and a write that failed are told by counts of faults.
+-- segments have one digest; a node may. A source, a sink and a write that failed are told by counts of faults.
 abbrev pub EndsBy : CommandLine → List ℕ → Stored → Option (List ℕ) → Option Ending → Type 0
 EndsBy command given m content None = CanBeDone command given m
 EndsBy command given m content (Some Words) = ⊥
 EndsBy command given m content (Some Source) = (name : List ℕ) × (command ≡ Ingest name)
 EndsBy command given m content (Some Sink) = CanBeDone command given m
 EndsBy (Ingest name) given m content (Some (Refused DiskWrite)) = Unit {0}
+EndsBy (Ingest name) given m content (Some (Refused (Clash key at))) =
+    (store : Store) × KnownWith content (λ image. IsStoreOf store m.files image × HoldsTwin given store image key at)
 EndsBy command given m content (Some (Refused (Clash key at))) = ⊥
 EndsBy command given m content (Some (Refused refusal)) =
     IsLeftWith m content (λ store. Refuses command given (room_of command m store) refusal)

@@ -1,10 +1,13 @@
 -- The steps of a core that a command makes, and what they answered (docs/MODEL.md, 'Commands').
-use Rattle.std.specs.Prelude.{◌≡◌, ◌⊎◌, ℕ, List, [], ◌∷◌, ◌++◌, replicate, Some, None, Result, Ok, Err}
+use Rattle.std.specs.Prelude.{◌≡◌, ◌⊎◌, ℕ, ◌≤◌, List, [], ◌∷◌, ◌++◌, length, replicate, slice_get, Some, None, Result, Ok, Err}
 use Rattle.std.specs.List.{AllByRecursion, concat}
 use Rattle.base_model.specs.Fault.{Rose}
 use Rattle.base_model.specs.Known.{Appended}
+use Rattle.disk_format.specs.declared.numbers.TheConstants.{MOST_FILE}
+use Rattle.dd_disk.specs.View.{DiskView}
 use Rattle.dd_io.specs.Flow.{SinkView, AppendedPart}
 use Rattle.container_meta.specs.Places.{PlaceMap}
+use Rattle.container_meta.specs.Segments.{KindSegment}
 use Rattle.actor_parts.specs.declared.actor.TheConstants.{ACTORS}
 use Rattle.actor_parts.specs.declared.part.Part.TheVariants.{Idle}
 use Rattle.actor_parts.specs.declared.step.Answer.{Answer}
@@ -15,17 +18,19 @@ use Rattle.refusals.specs.declared.refusal.Refusal.{Refusal}
 use Rattle.refusals.specs.declared.refusal.Refusal.TheVariants.{Memory, DiskRead, DiskWrite}
 use Rattle.reply_text.specs.declared.ending.Ending.{Ending}
 use Rattle.reply_text.specs.declared.ending.Ending.TheVariants as endings
+use Rattle.store_model.specs.Pieces.{Piece, HasPieceOf, IsPieceOf, piece_segment}
 use Rattle.store_model.specs.Slots.{last_id}
 use Rattle.store_model.specs.Steps.{StoreChange, SealContainer}
 use Rattle.store_model.specs.Trees.{root_of}
 use Rattle.store_state.specs.Tables.{OfEach}
 use Rattle.store_core.specs.Core.{CoreStep}
+use Rattle.store_core.specs.Keeping.{kept_by}
 use Rattle.store_core.specs.Runs.{CoreRun, FileEvent, events_of, opens, given_to}
 use Rattle.store_core.specs.State.{CoreState, Event, IsUp}
-use Rattle.backup_engine.specs.Adding.{IsPieceOf, AddsOnce}
-use Rattle.backup_engine.specs.AnyDisk.{room_in}
+use Rattle.backup_engine.specs.Adding.{AddsOnce}
+use Rattle.backup_engine.specs.AnyDisk.{IsUnlikeNode, ReadsSince, room_in}
 use Rattle.backup_engine.specs.Line.{Ingest}
-use Rattle.backup_engine.specs.PlainMap.{RefusesIngest}
+use Rattle.backup_engine.specs.PlainMap.{HasPieces, RefusesIngest}
 
 -- A core that was opened just now: it runs, each actor is idle, the map of its index is known, and its last container id is the
 -- greatest of its store.
@@ -41,9 +46,10 @@ pub record IsFresh (c : CoreState) : Type 0 where
 -- what is asked
 abbrev pub IsAskedFor : List ℕ → List ℕ → StepValue → List ℕ → Type 0
 IsAskedFor name bytes asked.Begin put = Unit {0}
-IsAskedFor name bytes (asked.Claim seg) put = IsPieceOf bytes seg.kind seg.segment
-IsAskedFor name bytes (asked.Seal filled) put = AllByRecursion (λ s. IsPieceOf bytes filled.kind s) filled.segments
-IsAskedFor name bytes (asked.Commit n root) put = (n ≡ name) × (root ≡ root_of bytes) × (put ≡ bytes)
+IsAskedFor name bytes (asked.Claim seg) put = HasPieceOf bytes seg
+IsAskedFor name bytes (asked.Seal filled) put =
+    AllByRecursion (λ s. HasPieceOf bytes (record { kind = filled.kind; segment = s })) filled.segments
+IsAskedFor name bytes (asked.Commit n root) put = (n ≡ name) × (root ≡ root_of bytes) × (put ≡ bytes) × (length bytes ≤ MOST_FILE)
 IsAskedFor name bytes step put = ⊥
 
 -- a step by which this file is stored under this name
@@ -51,6 +57,19 @@ pub record IsPutStep (name bytes : List ℕ) (f : FileEvent) : Type 0 where
   pub by_first : f.event.actor ≡ 0
   pub is_step : IsStep f.event.step
   pub asked_for : IsAskedFor name bytes f.event.step f.bytes
+
+-- one of a list
+abbrev pub IsOneOf : {A : Type 0} → A → List A → Type 0
+IsOneOf x xs = (index : ℕ) × (slice_get xs index ≡ Some x)
+
+-- a commit comes when each piece of the file is kept
+abbrev pub IsWholeAt : List ℕ → List KindSegment → StepValue → Type 0
+IsWholeAt bytes kept (asked.Commit name root) = (p : Piece) → IsPieceOf bytes p → IsOneOf (piece_segment p) kept
+IsWholeAt bytes kept step = Unit {0}
+
+abbrev pub AreWhole : List ℕ → List KindSegment → List FileEvent → Type 0
+AreWhole bytes kept [] = Unit {0}
+AreWhole bytes kept (f ∷ fs) = IsWholeAt bytes kept f.event.step × AreWhole bytes (kept ++ kept_by f.event.step f.event.answer) fs
 
 abbrev pub IsNoCommit : StepValue → Type 0
 IsNoCommit (asked.Commit name root) = ⊥
@@ -92,16 +111,22 @@ pub record PutRun (C : Type 0) (state : C → CoreState) (name bytes : List ℕ)
   pub ran : CoreRun C state (events_of steps) old new
   pub each : AllByRecursion (IsPutStep name bytes) steps
   pub ends : EndsPut steps result
+  pub whole : AreWhole bytes [] steps
   -- what was sealed is of the file, and was not held
   pub adds : OfEach (state old).disk.size (state old).known (state old).tables (λ store. AddsOnce bytes (seals_of steps) store)
 
--- why the file wasn't stored, by each store that the tables represent at the end
-abbrev pub IsPutRefusal : List ℕ → List ℕ → CoreState → Refusal → Type 0
-IsPutRefusal name bytes c Memory = Unit {0}
-IsPutRefusal name bytes c DiskRead = Unit {0}
-IsPutRefusal name bytes c DiskWrite = Unit {0}
-IsPutRefusal name bytes c refusal =
-    OfEach c.disk.size c.known c.tables (λ store. RefusesIngest name bytes (room_in (Ingest name) store) refusal)
+-- why the file wasn't stored, by each store that the tables represent at the end, and by what reads returned since a moment
+abbrev pub IsPutRefusal : List ℕ → List ℕ → DiskView → CoreState → Refusal → Type 0
+IsPutRefusal name bytes disk c Memory = Unit {0}
+IsPutRefusal name bytes disk c DiskRead = Unit {0}
+IsPutRefusal name bytes disk c DiskWrite = Unit {0}
+IsPutRefusal name bytes disk c refusal =
+    OfEach c.disk.size c.known c.tables (λ store. RefusesIngest name bytes (room_in (Ingest name) store) refusal
+    ⊎ IsUnlikeNode bytes store (ReadsSince disk c.disk) refusal)
+
+-- each piece of a file is held, by each store that the tables represent
+abbrev pub HoldsPieces : List ℕ → List ℕ → CoreState → Type 0
+HoldsPieces name given c = OfEach c.disk.size c.known c.tables (λ store. HasPieces given (room_in (Ingest name) store))
 
 -- ---- a file is given back
 

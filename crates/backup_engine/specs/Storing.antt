@@ -1,6 +1,7 @@
 -- Taking a source in, and storing it (docs/MODEL.md, 'Commands').
-use Rattle.std.specs.Prelude.{◌≡◌, ◌⊎◌, ◌<◌, ◌≤◌, List, [], ℕ, ◌++◌, length, Option, Some, Result, Ok, Err, IfErr}
+use Rattle.std.specs.Prelude.{◌≡◌, ◌⊎◌, ◌<◌, ◌≤◌, List, [], ℕ, ◌++◌, length, Option, Some, Result, Ok, Err, IfErr, OnOk}
 use Rattle.base_model.specs.Fault.{Rose}
+use Rattle.disk_format.specs.declared.numbers.TheConstants.{MOST_FILE}
 use Rattle.base_model.specs.Known.{Known, Appended}
 use Rattle.dd_io.specs.Flow.{SourceView, SinkView, AppendedPart}
 use Rattle.refusals.specs.declared.refusal.Refusal.{Refusal}
@@ -10,16 +11,9 @@ use Rattle.reply_text.specs.declared.ending.Ending.TheVariants.{Source, Sink, Re
 use Rattle.reply_text.specs.Text.{stored_line}
 use Rattle.store_model.specs.Trees.{root_of}
 use Rattle.store_core.specs.State.{CoreState}
-use Rattle.backup_engine.specs.PlainMap.{most_bytes}
-use Rattle.backup_engine.specs.Running.{PutRun, IsPutRefusal}
+use Rattle.backup_engine.specs.Running.{PutRun, HoldsPieces, IsPutRefusal}
 
 -- ---- the source
-
--- all that it had left, at most as many bytes as a file has; now it has nothing left
-pub record TakesIn (left now : Option (List ℕ)) (bytes : List ℕ) : Type 0 where
-  pub at_most : length bytes ≤ most_bytes
-  pub all : Known left (λ all. bytes ≡ all)
-  pub to_end : Known left (λ all. now ≡ Some [])
 
 -- the bytes taken so far, and the rest that the source has left
 pub record TakenSoFar (first now : Option (List ℕ)) (bytes : List ℕ) : Type 0 where
@@ -29,7 +23,7 @@ pub record TakenSoFar (first now : Option (List ℕ)) (bytes : List ℕ) : Type 
 abbrev pub IsSourceFault : SourceView → SourceView → Ending → Type 0
 IsSourceFault source source_now Source = Rose source.faults source_now.faults
 IsSourceFault source source_now (Refused Memory) = Unit {0}
-IsSourceFault source source_now (Refused TooLong) = Known source.left (λ bytes. most_bytes < length bytes)
+IsSourceFault source source_now (Refused TooLong) = Known source.left (λ bytes. MOST_FILE < length bytes)
 IsSourceFault source source_now _ = ⊥
 
 -- the count of its faults stays, but where a fault of it ended the call
@@ -62,23 +56,24 @@ Replies reply (Err refusal) result sink sink_now = (result ≡ Err (Refused refu
 
 -- ---- both
 
--- nothing was asked of the core: the source failed, or had too much, or there was no memory
-pub record IsNotTaken (C : Type 0) (given : List ℕ) (result : Result Unit Ending) (old new : C) (source source_now : SourceView)
-    (sink sink_now : SinkView) : Type 0 where
+-- No more was asked of the core: the source failed, or had too much, or there was no memory. So it is as where there was none.
+pub record IsStopped (C : Type 0) (state : C → CoreState) (name given : List ℕ) (result : Result Unit Ending) (old new : C)
+    (source source_now : SourceView) (sink sink_now : SinkView) : Type 0 where
   pub ending : Ending
   pub result_is : result ≡ Err ending
   pub cause : IsSourceFault source source_now ending
-  pub long : ending ≡ Refused TooLong → most_bytes < length given
-  pub core_is : new ≡ old
+  pub long : ending ≡ Refused TooLong → MOST_FILE < length given
+  pub ran : PutRun C state name given (Err Memory) old new
   pub sink_is : sink_now ≡ sink
 
 -- the file was put in, or refused by a step
 pub record IsTaken (C : Type 0) (state : C → CoreState) (name given : List ℕ) (result : Result Unit Ending) (old new : C)
     (sink sink_now : SinkView) : Type 0 where
-  pub few : length given ≤ most_bytes
   pub put : Result Unit Refusal
   pub ran : PutRun C state name given put old new
-  pub refused : IfErr put (IsPutRefusal name given (state new))
+  pub few : OnOk put (length given ≤ MOST_FILE)
+  pub held : OnOk put (HoldsPieces name given (state new))
+  pub refused : IfErr put (IsPutRefusal name given (state old).disk (state new))
   pub replies : Replies (stored_line name (root_of given)) put result sink sink_now
 
 -- What the source gave was stored under the name, or not.
@@ -88,4 +83,5 @@ pub record IngestRun (C : Type 0) (state : C → CoreState) (name : List ℕ) (r
   pub took : Known source.left (λ all. given ≡ all)
   pub to_end : IsReadOut result source.left source_now.left
   pub heard : IsHeard result source source_now
-  pub way : IsNotTaken C given result old new source source_now sink sink_now ⊎ IsTaken C state name given result old new sink sink_now
+  pub way : IsStopped C state name given result old new source source_now sink sink_now
+      ⊎ IsTaken C state name given result old new sink sink_now

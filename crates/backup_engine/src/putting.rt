@@ -1,19 +1,24 @@
-//! The steps by which a file is stored.
-ghost use Rattle.std.specs.Prelude.{◌≡◌, ◌≢◌, ◌≤◌, ◌∷◌, [], ℕ, List, length, IfOk, IfErr};
-ghost use Rattle.disk_format.specs.declared.numbers.TheConstants.{MOST_SEGMENT};
-ghost use Rattle.container_meta.specs.declared.kind.Kind.TheVariants.{Leaf};
-ghost use Rattle.store_model.specs.Trees.{root_of};
+//! The steps by which a file is stored, as its bytes come.
+ghost use Rattle.std.specs.Prelude.{◌≡◌, ◌≢◌, ◌+◌, ◌≤◌, ◌<◌, false, true, length, IfOk, OnOk};
+ghost use Rattle.disk_format.specs.declared.numbers.TheConstants.{MOST_FILE};
 ghost use Rattle.store_core.specs.State.{IsRunning};
-ghost use Rattle.backup_engine.specs.PlainMap.{most_bytes};
-ghost use Rattle.backup_engine.specs.Putting.{IsStoring, Holds};
-ghost use Rattle.backup_engine.specs.Running.{IsFresh, PutRun, IsPutRefusal};
+ghost use Rattle.ingest_session.specs.Due.{due_in};
+ghost use Rattle.ingest_session.specs.Settling.{seen};
+ghost use Rattle.ingest_session.specs.Work.{to_do};
+ghost use Rattle.ingest_session.specs.Told.{IsSettled};
+ghost use Rattle.backup_engine.specs.Feeding.{Asks, Commits, Ends, Feeds, Turns};
 
 use actor_parts::{Actor, Answer, SegBuf, Step};
-use container_meta::{Kind, OpenContainer, Seg, digest_of};
+use ingest_session::{
+    Due, Session, all_is_kept, bytes_are_counted, children_come_first, seals_were_absent,
+    steps_have_pieces,
+};
 use namespace::Root;
 use refusals::Refusal;
-use std::alloc::{AllocError, Global};
 use store_core::HasState;
+
+/// How many segments wait at most before a session is given more bytes.
+const MOST_WAITING: usize = 61;
 
 /// The actor that the single commands are.
 pub(crate) fn first() -> Actor
@@ -25,76 +30,141 @@ pub(crate) fn first() -> Actor
     }
 }
 
-/// The root of a file of one segment or none.
-pub(crate) fn root_of(bytes: &[u8]) -> Root
-    requires { length bytes.now ≤ most_bytes }
-    ensures { result ≡ root_of bytes.now }
+/// Asks a core for the step that is due.
+fn ask<C: HasState>(
+    core: &mut C,
+    session: &Session,
+    due: Due,
+    buf: &mut SegBuf,
+) -> Result<Answer, Refusal>
+    requires running { IsRunning (C.state core.old) }
+    requires settled { IsSettled session.now }
+    requires due { due ≡ due_in session.now }
+    requires some { due ≢ Due.Nothing }
+    ensures asks { Asks due session.now result (C.state core.old) (C.state core.new) }
+    ensures running { IsRunning (C.state core.new) }
 {
-    Root {
-        length: bytes.len() as u64,
-        level: 0,
-        digest: digest_of(bytes),
+    match due {
+        Due::Claim => {
+            let seg = session.offered();
+            core.make_step(first(), Step::Claim { seg }, buf)
+        }
+        Due::Seal(kind) => {
+            let filled = session.filled(kind);
+            core.make_step(first(), Step::Seal { filled }, buf)
+        }
+        Due::Nothing => unreachable!(),
     }
 }
 
-// A container of one segment.
-fn container_of(alloc: Global, seg: &Seg) -> Result<OpenContainer, AllocError>
-    requires kind { seg.now.kind ≡ Leaf }
-    requires level { seg.now.segment.level ≡ 0 }
-    requires some { 1 ≤ length seg.now.segment.bytes }
-    requires few { length seg.now.segment.bytes ≤ MOST_SEGMENT }
-    ensures { IfOk result (λ c. c ≡ record { kind = Leaf; segments = seg.now.segment ∷ [] }) }
-{
-    let mut container = OpenContainer::new(alloc, Kind::Leaf)?;
-    let _added = container.try_add(seg);
-    Ok(container)
-}
-
-// Has the segment of a file held, and kept.
-fn hold<C: HasState>(
-    alloc: Global,
+/// Makes the step that is due, and says whether there was one.
+fn make_turn<C: HasState>(
     core: &mut C,
-    bytes: &[u8],
+    session: &mut Session,
     buf: &mut SegBuf,
-) -> Result<(), Refusal>
-    requires storing { IsStoring (C.state core.old) }
-    requires some { bytes.now ≢ [] }
-    requires few { length bytes.now ≤ most_bytes }
-    ensures holds { (name : List ℕ) → Holds C C.state name bytes.now result core.old core.new }
+) -> Result<bool, Refusal>
+    requires { IsRunning (C.state core.old) }
+    ensures turns { Turns C C.state result session.old session.new core.old core.new }
+    ensures work { IfOk result (λ made. made ≡ true → to_do session.new < to_do session.old) }
+    ensures done { IfOk result (λ made. made ≡ false → due_in session.new ≡ Due.Nothing) }
+    ensures none { IfOk result (λ made. made ≡ false → seen session.new ≡ 0) }
+    ensures ended { session.new.ended ≡ session.old.ended }
+    ensures count { session.new.count ≡ session.old.count }
     ensures running { IsRunning (C.state core.new) }
 {
-    let seg = Seg::leaf(alloc, bytes)?;
-    if let Answer::Absent = core.make_step(first(), Step::Claim { seg: &seg }, buf)? {
-        let filled = container_of(alloc, &seg)?;
-        core.make_step(first(), Step::Seal { filled: &filled }, buf)?;
+    steps_have_pieces();
+    children_come_first();
+    seals_were_absent();
+    let due = session.due()?;
+    if let Due::Nothing = due {
+        return Ok(false);
+    }
+    let answer = ask(core, session, due, buf)?;
+    session.told(&answer);
+    Ok(true)
+}
+
+/// Makes steps until few segments wait.
+fn make_room<C: HasState>(
+    core: &mut C,
+    session: &mut Session,
+    buf: &mut SegBuf,
+) -> Result<(), Refusal>
+    requires { IsRunning (C.state core.old) }
+    ensures turns { Turns C C.state result session.old session.new core.old core.new }
+    ensures room { OnOk result (seen session.new ≤ MOST_WAITING) }
+    ensures ended { session.new.ended ≡ session.old.ended }
+    ensures count { session.new.count ≡ session.old.count }
+    ensures running { IsRunning (C.state core.new) }
+{
+    while session.queued() > MOST_WAITING {
+        if !make_turn(core, session, buf)? {
+            return Ok(());
+        }
     }
     Ok(())
 }
 
-/// Stores a file under a name: begins, has its segment held, and gives the name the root.
-pub(crate) fn put_in<C: HasState>(
-    alloc: Global,
+/// Has a session take bytes of the file; steps are made as its queue fills.
+pub(crate) fn feed<C: HasState>(
     core: &mut C,
-    name: &str,
+    session: &mut Session,
     bytes: &[u8],
-    root: &Root,
+    buf: &mut SegBuf,
 ) -> Result<(), Refusal>
-    requires fresh { IsFresh (C.state core.old) }
-    requires few { length bytes.now ≤ most_bytes }
-    requires root { root.now ≡ root_of bytes.now }
-    ensures ran { PutRun C C.state name.now bytes.now result core.old core.new }
-    ensures refused { IfErr result (IsPutRefusal name.now bytes.now (C.state core.new)) }
+    requires running { IsRunning (C.state core.old) }
+    requires ongoing { session.old.ended ≡ false }
+    ensures feeds { Feeds C C.state result bytes.now session.old session.new core.old core.new }
+    ensures ongoing { session.new.ended ≡ false }
+    ensures count { OnOk result (session.new.count ≡ session.old.count + length bytes.now) }
+    ensures few { OnOk result (0 < length bytes.now → session.new.count ≤ MOST_FILE) }
     ensures running { IsRunning (C.state core.new) }
 {
-    let mut buf = SegBuf::new(alloc)?;
-    core.make_step(first(), Step::Begin, &mut buf)?;
-    if !bytes.is_empty() {
-        hold(alloc, core, bytes, &mut buf)?;
+    bytes_are_counted();
+    let mut taken = 0;
+    while taken < bytes.len() {
+        make_room(core, session, buf)?;
+        let (_, rest) = bytes.split_at(taken);
+        taken += session.push(rest)?;
     }
+    Ok(())
+}
+
+/// Ends the bytes of the file, and makes all steps that are due then.
+pub(crate) fn end_file<C: HasState>(
+    core: &mut C,
+    session: &mut Session,
+    buf: &mut SegBuf,
+) -> Result<(), Refusal>
+    requires running { IsRunning (C.state core.old) }
+    requires ongoing { session.old.ended ≡ false }
+    ensures ends { Ends C C.state result session.old session.new core.old core.new }
+    ensures ended { OnOk result (session.new.ended ≡ true) }
+    ensures done { OnOk result (due_in session.new ≡ Due.Nothing) }
+    ensures running { IsRunning (C.state core.new) }
+{
+    session.finish()?;
+    while make_turn(core, session, buf)? {}
+    Ok(())
+}
+
+/// Gives the name the root of the file, each piece of which is kept.
+pub(crate) fn commit<C: HasState>(
+    core: &mut C,
+    name: &str,
+    root: &Root,
+    buf: &mut SegBuf,
+) -> Result<(), Refusal>
+    requires running { IsRunning (C.state core.old) }
+    ensures commits { Commits C C.state name.now root.now result core.old core.new }
+    ensures running { IsRunning (C.state core.new) }
+{
+    all_is_kept();
+    bytes_are_counted();
     let step = Step::Commit {
         name: name.as_bytes(),
         root,
     };
-    core.make_step(first(), step, &mut buf)?;
+    core.make_step(first(), step, buf)?;
     Ok(())
 }

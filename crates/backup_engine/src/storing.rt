@@ -1,40 +1,65 @@
 //! Taking a source in, and storing it.
-ghost use Rattle.std.specs.Prelude.{◌≡◌, IfOk, IfErr, OnOk};
+ghost use Rattle.std.specs.Prelude.{◌≡◌, false, true, OnOk};
+ghost use Rattle.ingest_session.specs.Due.{due_in};
 ghost use Rattle.store_core.specs.State.{IsRunning};
-ghost use Rattle.backup_engine.specs.PlainMap.{most_bytes};
+ghost use Rattle.backup_engine.specs.Feeding.{Fills};
 ghost use Rattle.backup_engine.specs.Running.{IsFresh};
-ghost use Rattle.backup_engine.specs.Storing.{TakesIn, IsSourceFault, IsHeardAt, IngestRun};
+ghost use Rattle.backup_engine.specs.Storing.{IngestRun};
 
-use crate::putting::{put_in, root_of};
+use crate::putting::{commit, end_file, feed, first};
 use crate::reply::send;
+use actor_parts::{SegBuf, Step};
 use dd_io::{Sink, Source};
-use refusals::Refusal;
+use ingest_session::{Due, Session};
 use reply_text::{Ending, stored_line};
 use std::alloc::Global;
 use store_core::HasState;
 
-/// How many bytes a file has at most, for now.
-const MOST_BYTES: usize = 2_048;
+// How many bytes are read at once.
+const PIECE: usize = 16_384;
 
-// All that the source has left.
-fn take_in<S: Source>(alloc: Global, source: &mut S) -> Result<Vec<u8>, Ending>
-    ensures taken { IfOk result (λ bytes. TakesIn (S.view source.old).left (S.view source.new).left bytes.items) }
-    ensures fault { IfErr result (IsSourceFault (S.view source.old) (S.view source.new)) }
-    ensures heard { OnOk result ((S.view source.new).faults ≡ (S.view source.old).faults) }
-    ensures missed { IfErr result (IsHeardAt (S.view source.old) (S.view source.new)) }
+// Has a session take all that the source has left; steps are made as its queue fills.
+fn fill<C: HasState, S: Source>(
+    core: &mut C,
+    session: &mut Session,
+    source: &mut S,
+    buf: &mut SegBuf,
+) -> Result<(), Ending>
+    requires running { IsRunning (C.state core.old) }
+    requires ongoing { session.old.ended ≡ false }
+    ensures fills { Fills C C.state result session.old session.new core.old core.new (S.view source.old) (S.view source.new) }
+    ensures ongoing { session.new.ended ≡ false }
+    ensures running { IsRunning (C.state core.new) }
 {
-    let mut bytes = Vec::new(alloc);
-    let mut piece = [0u8; 512];
-    while bytes.len() <= MOST_BYTES {
+    let mut piece = [0u8; PIECE];
+    loop {
         let Ok(count) = source.read(&mut piece) else {
             return Err(Ending::Source);
         };
         if count == 0 {
-            return Ok(bytes);
+            return Ok(());
         }
-        bytes.extend_from_slice(&piece[..count])?;
+        feed(core, session, &piece[..count], buf)?;
     }
-    Err(Ending::Refused(Refusal::TooLong))
+}
+
+// The same, and makes all steps that are due then.
+fn take_in<C: HasState, S: Source>(
+    core: &mut C,
+    session: &mut Session,
+    source: &mut S,
+    buf: &mut SegBuf,
+) -> Result<(), Ending>
+    requires running { IsRunning (C.state core.old) }
+    requires ongoing { session.old.ended ≡ false }
+    ensures fills { Fills C C.state result session.old session.new core.old core.new (S.view source.old) (S.view source.new) }
+    ensures ended { OnOk result (session.new.ended ≡ true) }
+    ensures done { OnOk result (due_in session.new ≡ Due.Nothing) }
+    ensures running { IsRunning (C.state core.new) }
+{
+    fill(core, session, source, buf)?;
+    end_file(core, session, buf)?;
+    Ok(())
 }
 
 /// Stores all that the source has left under a name, and writes the reply.
@@ -50,10 +75,15 @@ pub(crate) fn store_source<C: HasState, S: Source, K: Sink>(
         (S.view source.old) (S.view source.new) (K.view sink.old) (K.view sink.new) }
     ensures running { IsRunning (C.state core.new) }
 {
-    let bytes = take_in(alloc, source)?;
-    let root = root_of(&bytes);
-    // The reply's memory is taken before the first write.
+    let mut buf = SegBuf::new(alloc)?;
+    let mut session = Session::new(alloc)?;
+    core.make_step(first(), Step::Begin, &mut buf)?;
+    take_in(core, &mut session, source, &mut buf)?;
+    let Some(root) = session.ready() else {
+        unreachable!()
+    };
+    // The reply's memory is taken before the name is put.
     let reply = stored_line(alloc, name.as_bytes(), &root)?;
-    put_in(alloc, core, name, &bytes, &root)?;
+    commit(core, name, &root, &mut buf)?;
     send(sink, &reply)
 }

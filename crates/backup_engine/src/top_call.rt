@@ -18,7 +18,7 @@ use std::alloc::{AllocError, Global};
 
 /// Runs one command, by its words, over a disk, and gives the exit status (docs/FORMAT.md, 'Commands').
 ///
-/// `ingest` reads `source` to its end; the reply, or the bytes of the file that is restored, goes to `sink`. Words
+/// `ingest` reads `source`, to its end where it is done; the reply, or the bytes of the file that is restored, goes to `sink`. Words
 /// that are no line of the table are 2, a fault of the source 5, of the sink 6; a refusal has its own status. `notes`
 /// get a line where the status isn't 0; a failure of theirs changes no status.
 pub fn backup<R, D: Disk + Send, S: Source, K: Sink, Q: Sink>(

@@ -5,7 +5,8 @@ use Rattle.reply_text.specs.declared.ending.Ending.{Ending}
 use Rattle.reply_text.specs.declared.ending.Ending.TheVariants as endings
 use Rattle.backup_engine.specs.Running.{GiveRun}
 use Rattle.backup_engine.proofs.GiveRuns.{begin_giving, read_refused, read_ended, not_written, goes_on, fewer}
-use Rattle.backup_engine.proofs.Holding.{by_error, as_first}
+use Rattle.backup_engine.proofs.FirstActor.{as_first}
+use Rattle.backup_engine.proofs.Kept.{by_error}
 use Rattle.backup_engine.proofs.SinkWrites.{part_sent, fault_counted, all_sent, no_fault}
 use Rattle.backup_engine.proofs.giving.give_out.Goals as goal
 

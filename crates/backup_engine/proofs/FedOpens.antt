@@ -1,0 +1,253 @@
+-- What is still to be sealed of a session, and what it was told is kept, while calls are made.
+use Rattle.std.proofs.Common.{◌≡◌, ◌≢◌, ◌⊎◌, inl, inr, ◌∙◌, ℕ, zero, suc, Bool, true, false, ◌||◌, if◌then◌else◌, List, [], ◌∷◌, ◌++◌, map, Option, Some, None, refl, sym, ap, subst, append-nil}
+use Rattle.std.specs.List.{AllByRecursion, list_any}
+use Rattle.std.specs.Str.{bytes_eq}
+use Rattle.std.proofs.lemmas.Slice.Eq.{bytes_eq-Decides}
+use Rattle.container_meta.specs.declared.kind.Kind.{Kind}
+use Rattle.container_meta.specs.declared.kind.Kind.TheVariants.{Leaf, Tree}
+use Rattle.container_meta.specs.Segments.{Contents, KindSegment, Segment, has_key, segment_key}
+use Rattle.merkle_file.specs.Node as node
+use Rattle.actor_parts.specs.declared.step.Answer.TheVariants as answers
+use Rattle.ingest_session.specs.declared.due.Due.{Due}
+use Rattle.ingest_session.specs.declared.due.Due.TheVariants.{Claim, Seal}
+use Rattle.ingest_session.specs.Calls.{KeepsItem}
+use Rattle.ingest_session.specs.Due.{HasTurn, due_in, item_is_held, item_kind, open_of, queue_has_key}
+use Rattle.ingest_session.specs.Facts.{IsKept}
+use Rattle.ingest_session.specs.History.{History, answered, item_if, same_kind, sealed_for, waiting}
+use Rattle.ingest_session.specs.Items.{item_of}
+use Rattle.ingest_session.specs.Moving.{IsItem}
+use Rattle.ingest_session.specs.Sound.{IsSession}
+use Rattle.ingest_session.specs.State.{SessionState, HasItem, IsAhead}
+use Rattle.store_model.specs.Trees.{leaf_key, node_key}
+use Rattle.ingest_session.specs.Told.{told_by}
+use Rattle.ingest_session.proofs.Sealing as sealing
+use Rattle.backup_engine.specs.Feeding.{opens_of}
+use Rattle.backup_engine.specs.Running.{IsOneOf}
+
+-- ---- one of a list
+
+pub one_of_first : {A : Type 0} (x : A) (xs ys : List A) → IsOneOf x xs → IsOneOf x (xs ++ ys)
+one_of_first x [] ys one = absurd (let none : None ≡ Some x = one.1 in cc)
+one_of_first x (y ∷ xs) ys (zero, is) = (0, is)
+one_of_first x (y ∷ xs) ys (suc i, is) = let rest = one_of_first x xs ys (i, is) in (suc rest.0, rest.1)
+
+pub one_of_second : {A : Type 0} (x : A) (xs ys : List A) → IsOneOf x ys → IsOneOf x (xs ++ ys)
+one_of_second x [] ys one = one
+one_of_second x (y ∷ xs) ys one = let rest = one_of_second x xs ys one in (suc rest.0, rest.1)
+
+pub one_of_both : {A : Type 0} (x : A) (xs ys : List A) → IsOneOf x (xs ++ ys) → IsOneOf x xs ⊎ IsOneOf x ys
+one_of_both x [] ys one = inr one
+one_of_both x (y ∷ xs) ys (zero, is) = inl (0, is)
+one_of_both x (y ∷ xs) ys (suc i, is) =
+    elim (one_of_both x xs ys (i, is)) [
+      | inl one ↦ inl (suc one.0, one.1)
+      | inr one ↦ inr one
+    ]
+
+pub one_of_map : {A B : Type 0} (f : A → B) (x : A) (xs : List A) → IsOneOf x xs → IsOneOf (f x) (map f xs)
+one_of_map f x [] one = absurd (let none : None ≡ Some x = one.1 in cc)
+one_of_map f x (y ∷ xs) (zero, is) = (0, ap (λ (z : _). Some (f z)) (same y x is))
+  where
+    same : {A : Type 0} (y x : A) → Some y ≡ Some x → y ≡ x
+    same y x is = cc
+one_of_map f x (y ∷ xs) (suc i, is) = let rest = one_of_map f x xs (i, is) in (suc rest.0, rest.1)
+
+pub one_of_one : {A : Type 0} (x y : A) → IsOneOf x (y ∷ []) → x ≡ y
+one_of_one x y (zero, is) = cc
+one_of_one x y (suc i, is) = absurd cc
+
+pub all_one_of : {A : Type 0} (P : A → Type 0) (xs : List A) → ((x : A) → IsOneOf x xs → P x) → AllByRecursion P xs
+all_one_of P [] each = tt
+all_one_of P (x ∷ xs) each = (each x (0, refl), all_one_of P xs (λ y one. each y (suc one.0, one.1)))
+
+pub one_has : {A : Type 0} (P : A → Type 0) (xs : List A) (x : A) → AllByRecursion P xs → IsOneOf x xs → P x
+one_has P [] x all one = absurd (let none : None ≡ Some x = one.1 in cc)
+one_has P (y ∷ xs) x all (zero, is) = subst P (same y x is) all.0
+  where
+    same : {A : Type 0} (y x : A) → Some y ≡ Some x → y ≡ x
+    same y x is = cc
+one_has P (y ∷ xs) x all (suc i, is) = one_has P xs x all.1 (i, is)
+
+-- ---- what is still to be sealed
+
+-- it stays where the open containers and what waits stay
+pub opens_stay : (s t : SessionState) (kind : Kind) → t.leaves ≡ s.leaves → t.nodes ≡ s.nodes → t.waits ≡ s.waits → KeepsItem s t → opens_of t kind ≡ opens_of s kind
+opens_stay s t kind leaves nodes waits item = sealing.kept_same kind s t leaves nodes (sealing.waiting_keeps kind s t s.waits refl waits item)
+
+pub opens_held : (s : SessionState) (kind : Kind) → due_in s ≡ Claim → opens_of (told_by answers.Held s) kind ≡ opens_of s kind
+opens_held s kind due = sealing.told_kept kind answers.Held s due ∙ append-nil (opens_of s kind)
+
+pub opens_absent : (s : SessionState) (kind : Kind) → due_in s ≡ Claim → opens_of (told_by answers.Absent s) kind ≡ opens_of s kind ++ item_if kind s
+opens_absent s kind due = sealing.told_kept kind answers.Absent s due
+
+-- the item whose turn it is, as a container has it
+pub item_is : (n : Option node.Contents) (queue : List (List ℕ)) (seg : KindSegment) → IsItem n queue seg → seg ≡ record { kind = item_kind n; segment = item_of n queue }
+item_is (Some n) queue seg is = is
+item_is None [] seg is = absurd is
+item_is None (x ∷ xs) seg is = is
+
+-- so it is where an item of a kind has its turn
+pub one_item : (s : SessionState) (kind : Kind) (x : Segment) → IsOneOf x (item_if kind s) → (kind ≡ item_kind s.node) × (x ≡ item_of s.node s.queue)
+one_item s kind x one = by_kind kind (item_kind s.node) one
+  where
+    by_kind : (k mine : Kind) → IsOneOf x (if same_kind k mine then item_of s.node s.queue ∷ [] else []) → (k ≡ mine) × (x ≡ item_of s.node s.queue)
+    by_kind Leaf Leaf one = (refl, one_of_one x (item_of s.node s.queue) one)
+    by_kind Tree Tree one = (refl, one_of_one x (item_of s.node s.queue) one)
+    by_kind Leaf Tree one = absurd (let none : None ≡ Some x = one.1 in cc)
+    by_kind Tree Leaf one = absurd (let none : None ≡ Some x = one.1 in cc)
+
+-- ---- a container that is sealed
+
+abbrev gone : Kind → Kind → SessionState → List Segment
+gone kind mine s = if same_kind kind mine then (open_of s kind).segments else []
+
+same_back : {A : Type 0} (xs ys zs : List A) → xs ++ ys ≡ xs ++ zs → ys ≡ zs
+same_back [] ys zs is = is
+same_back (x ∷ xs) ys zs is = same_back xs ys zs cc
+
+module _ (s : SessionState) (id : ℕ) (mine : Kind) (due : due_in s ≡ Seal mine) where
+  abbrev left : Kind → List Segment
+  left kind = opens_of (told_by (answers.Sealed id) s) kind
+
+  opens_left : (kind : Kind) → gone kind mine s ++ left kind ≡ opens_of s kind
+  opens_left kind =
+      ap (λ (d : Due). sealed_for kind d s ++ left kind) (sym due) ∙ sealing.told_kept kind (answers.Sealed id) s (mine, due) ∙ append-nil (opens_of s kind)
+
+  -- what is left of a kind is of what was there
+  one_before : (kind : Kind) (x : Segment) → IsOneOf x (left kind) → IsOneOf x (opens_of s kind)
+  one_before kind x one = subst (IsOneOf x) (opens_left kind) (one_of_second x (gone kind mine s) (left kind) one)
+
+  -- of the kind that was sealed only what waits is left
+  left_waits : (kind : Kind) (other : Kind) → same_kind kind other ≡ true → gone kind other s ++ left kind ≡ opens_of s kind → left kind ≡ waiting kind s
+  left_waits Leaf Leaf same is = same_back s.leaves.segments (left Leaf) (waiting Leaf s) is
+  left_waits Tree Tree same is = same_back s.nodes.segments (left Tree) (waiting Tree s) is
+  left_waits Leaf Tree same is = absurd cc
+  left_waits Tree Leaf same is = absurd cc
+
+  -- ---- keys
+
+  -- keys of two kinds differ
+  kinds_differ : (kind other : Kind) (x y : Segment) → same_kind kind other ≡ false → segment_key kind x ≢ segment_key other y
+  kinds_differ Leaf Leaf x y apart same = absurd cc
+  kinds_differ Tree Tree x y apart same = absurd cc
+  kinds_differ Leaf Tree x y apart same = cc
+  kinds_differ Tree Leaf x y apart same = cc
+
+  all_differ : (kind other : Kind) (x : Segment) (ys : List Segment) → same_kind kind other ≡ false → AllByRecursion (λ y. segment_key kind x ≢ segment_key other y) ys
+  all_differ kind other x [] apart = tt
+  all_differ kind other x (y ∷ ys) apart = (kinds_differ kind other x y apart, all_differ kind other x ys apart)
+
+  none_of_keys : (kind : Kind) (key : List ℕ) (ys : List Segment) → list_any (λ k. bytes_eq k key) (map (segment_key kind) ys) ≡ false → AllByRecursion (λ y. key ≢ segment_key kind y) ys
+  none_of_keys kind key [] none = tt
+  none_of_keys kind key (y ∷ ys) none =
+      let parts = neither (bytes_eq (segment_key kind y) key) (list_any (λ k. bytes_eq k key) (map (segment_key kind) ys)) none in
+      (λ same. yes_and_no (bytes_eq (segment_key kind y) key) ((bytes_eq-Decides (segment_key kind y) key).1 (sym same)) parts.0, none_of_keys kind key ys parts.1)
+    where
+      neither : (a b : Bool) → (a || b) ≡ false → (a ≡ false) × (b ≡ false)
+      neither true b is = absurd cc
+      neither false b is = (refl, is)
+
+      yes_and_no : (b : Bool) → b ≡ true → b ≡ false → ⊥
+      yes_and_no true on off = cc
+      yes_and_no false on off = cc
+
+  lacks_key : (c : Contents) (kind : Kind) (key : List ℕ) → c.kind ≡ kind → has_key c key ≡ false → AllByRecursion (λ y. key ≢ segment_key kind y) c.segments
+  lacks_key c kind key is none =
+      none_of_keys kind key c.segments (subst (λ (k : Kind). list_any (λ b. bytes_eq b key) (map (segment_key k) c.segments) ≡ false) is none)
+
+  -- the container of the item whose turn it is lacks its key
+  held_by : Option node.Contents → List (List ℕ) → Bool
+  held_by (Some n) queue = has_key s.nodes (node_key n)
+  held_by None [] = false
+  held_by None (x ∷ xs) = has_key s.leaves (leaf_key x)
+
+  queue_held : (queue : List (List ℕ)) → queue_has_key s queue ≡ held_by None queue
+  unfolding held_by
+  queue_held [] = refl
+  queue_held (x ∷ xs) = refl
+
+  same_held : (n : Option node.Contents) → item_is_held s n ≡ held_by n s.queue
+  unfolding held_by
+  same_held (Some n) = refl
+  same_held None = queue_held s.queue
+
+  turn_of_item : (n : Option node.Contents) (spelled ahead : Option KindSegment) (queue : List (List ℕ)) → HasItem n spelled ahead → IsAhead ahead queue → HasTurn n queue
+  turn_of_item (Some n) spelled ahead queue has is = tt
+  turn_of_item None spelled None queue has is = absurd has
+  turn_of_item None spelled (Some seg) [] has is = absurd is
+  turn_of_item None spelled (Some seg) (x ∷ xs) has is = tt
+
+  module _ (session : IsSession s) where
+    item_lacks : (n : Option node.Contents) (queue : List (List ℕ)) → HasTurn n queue → held_by n queue ≡ false
+        → AllByRecursion (λ y. segment_key (item_kind n) (item_of n queue) ≢ segment_key (item_kind n) y) (open_of s (item_kind n)).segments
+    unfolding held_by
+    item_lacks (Some n) queue turn none = lacks_key s.nodes Tree (node_key n) session.tree_kind none
+    item_lacks None [] turn none = absurd turn
+    item_lacks None (x ∷ xs) turn none = lacks_key s.leaves Leaf (leaf_key x) session.data_kind none
+
+    -- so what waits has a key that the container which is sealed lacks
+    waiting_differs : (waits : Bool) → s.waits ≡ waits → (waits ≡ true → item_is_held s s.node ≡ false) → (x : Segment) → IsOneOf x (if waits then item_if mine s else [])
+        → AllByRecursion (λ y. segment_key mine x ≢ segment_key mine y) (open_of s mine).segments
+    waiting_differs false off lacks x one = absurd (let none : None ≡ Some x = one.1 in cc)
+    waiting_differs true on lacks x one =
+        let item = one_item s mine x one in
+        let turn = turn_of_item s.node s.spelled s.ahead s.queue (session.waits on).0 session.ahead in
+        subst (λ (k : Kind). AllByRecursion (λ y. segment_key k x ≢ segment_key k y) (open_of s k).segments) (sym item.0)
+        (subst (λ (z : Segment). AllByRecursion (λ y. segment_key (item_kind s.node) z ≢ segment_key (item_kind s.node) y) (open_of s (item_kind s.node)).segments) (sym item.1)
+        (item_lacks s.node s.queue turn (sym (same_held s.node) ∙ lacks refl)))
+
+    by_kind : (s.waits ≡ true → item_is_held s s.node ≡ false) → (kind : Kind) (same : Bool) → same_kind kind mine ≡ same → (x : Segment) → IsOneOf x (left kind)
+        → AllByRecursion (λ y. segment_key kind x ≢ segment_key mine y) (open_of s mine).segments
+    by_kind lacks kind false apart x one = all_differ kind mine x (open_of s mine).segments apart
+    by_kind lacks kind true same x one =
+        let kinds = same_kinds kind mine same in
+        let here = subst (IsOneOf x) (left_waits kind mine same (opens_left kind)) one in
+        subst (λ (k : Kind). AllByRecursion (λ y. segment_key k x ≢ segment_key mine y) (open_of s mine).segments) (sym kinds)
+        (waiting_differs s.waits refl lacks x (subst (λ (k : Kind). IsOneOf x (waiting k s)) kinds here))
+      where
+        same_kinds : (a b : Kind) → same_kind a b ≡ true → a ≡ b
+        same_kinds Leaf Leaf is = refl
+        same_kinds Tree Tree is = refl
+        same_kinds Leaf Tree is = absurd cc
+        same_kinds Tree Leaf is = absurd cc
+
+    -- What is left after a seal was there before, and has no key of what was sealed.
+    pub left_differs : (s.waits ≡ true → item_is_held s s.node ≡ false) → (kind : Kind)
+        → AllByRecursion (λ x. IsOneOf x (opens_of s kind) × AllByRecursion (λ y. segment_key kind x ≢ segment_key mine y) (open_of s mine).segments) (left kind)
+    left_differs lacks kind =
+        all_one_of (λ x. IsOneOf x (opens_of s kind) × AllByRecursion (λ y. segment_key kind x ≢ segment_key mine y) (open_of s mine).segments) (left kind)
+        (λ x one. (one_before kind x one, by_kind lacks kind (same_kind kind mine) refl x one))
+
+-- ---- what is kept
+
+-- what was told is kept is kept still, and the item that is held now too
+module _ (s : SessionState) (h : History) (kind : Kind) (x : Segment) where
+  pub kept_held : IsKept (answered answers.Held s h) kind x → IsKept h kind x ⊎ IsOneOf x (item_if kind s)
+  kept_held one = elim (one_of_both x (h.held kind ++ item_if kind s) (h.sealed kind ++ []) one) [
+    | inl first ↦ elim (one_of_both x (h.held kind) (item_if kind s) first) [
+      | inl before ↦ inl (one_of_first x (h.held kind) (h.sealed kind) before)
+      | inr item ↦ inr item
+    ]
+    | inr second ↦ inl (one_of_second x (h.held kind) (h.sealed kind) (subst (IsOneOf x) (append-nil (h.sealed kind)) second))
+  ]
+
+  pub kept_absent : IsKept (answered answers.Absent s h) kind x → IsKept h kind x
+  kept_absent one = subst (IsOneOf x) (same_lists (h.held kind) (h.sealed kind)) one
+    where
+      same_lists : (a b : List Segment) → (a ++ []) ++ (b ++ []) ≡ a ++ b
+      same_lists a b = ap (λ (l : List Segment). l ++ (b ++ [])) (append-nil a) ∙ ap (λ (l : List Segment). a ++ l) (append-nil b)
+
+  pub kept_sealed : (id : ℕ) (mine : Kind) → due_in s ≡ Seal mine → IsKept (answered (answers.Sealed id) s h) kind x → IsKept h kind x ⊎ ((kind ≡ mine) × IsOneOf x (open_of s mine).segments)
+  kept_sealed id mine due one = elim (one_of_both x (h.held kind ++ []) (h.sealed kind ++ sealed_for kind (due_in s) s) one) [
+    | inl first ↦ inl (one_of_first x (h.held kind) (h.sealed kind) (subst (IsOneOf x) (append-nil (h.held kind)) first))
+    | inr second ↦ elim (one_of_both x (h.sealed kind) (sealed_for kind (due_in s) s) second) [
+      | inl before ↦ inl (one_of_second x (h.held kind) (h.sealed kind) before)
+      | inr sealed ↦ inr (of_kind kind mine (subst (λ (d : Due). IsOneOf x (sealed_for kind d s)) due sealed))
+    ]
+  ]
+    where
+      of_kind : (k mine : Kind) → IsOneOf x (if same_kind k mine then (open_of s k).segments else []) → (k ≡ mine) × IsOneOf x (open_of s mine).segments
+      of_kind Leaf Leaf is = (refl, is)
+      of_kind Tree Tree is = (refl, is)
+      of_kind Leaf Tree is = absurd (let none : None ≡ Some x = is.1 in cc)
+      of_kind Tree Leaf is = absurd (let none : None ≡ Some x = is.1 in cc)

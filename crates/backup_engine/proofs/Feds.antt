@@ -1,0 +1,206 @@
+-- A session that is fed a file, call by call.
+use Rattle.std.proofs.Common.{◌≡◌, ◌⊎◌, inl, inr, ◌∙◌, ℕ, Bool, true, false, if◌then◌else◌, List, [], ◌∷◌, ◌++◌, map, Option, Some, None, refl, sym, ap, subst, append_assoc}
+use Rattle.container_meta.specs.declared.kind.Kind.{Kind}
+use Rattle.container_meta.specs.declared.kind.Kind.TheVariants.{Leaf, Tree}
+use Rattle.container_meta.specs.Segments.{KindSegment, Segment}
+use Rattle.merkle_file.specs.Node as node
+use Rattle.actor_parts.specs.declared.step.Answer.{Answer}
+use Rattle.actor_parts.specs.declared.step.Answer.TheVariants as answers
+use Rattle.store_core.specs.Keeping.{kept_of}
+use Rattle.store_core.specs.Runs.{FileEvent}
+use Rattle.store_core.specs.State.{CoreState}
+use Rattle.ingest_session.specs.declared.due.Due.{Due}
+use Rattle.ingest_session.specs.declared.due.Due.TheVariants.{Claim, Seal, Nothing}
+use Rattle.ingest_session.specs.Calls.{IsEnding, IsTaking}
+use Rattle.ingest_session.specs.Due.{due_in, item_kind, open_of}
+use Rattle.ingest_session.specs.Facts.{IsKept}
+use Rattle.ingest_session.specs.History.{History, HasHistory, IsBegun, Places, answered, no_history}
+use Rattle.ingest_session.specs.Items.{fits}
+use Rattle.ingest_session.specs.Moving.{IsItem}
+use Rattle.ingest_session.specs.Settling.{KeepsOpen}
+use Rattle.ingest_session.specs.State.{SessionState}
+use Rattle.ingest_session.specs.Told.{absent_item, sealed_by, added_item, emptied, placed_item, told_by, with_open}
+use Rattle.backup_engine.specs.Feeding.{IsFed, MayBe, opens_of}
+use Rattle.backup_engine.specs.Putting.{AreNew, Way}
+use Rattle.backup_engine.specs.Running.{IsOneOf}
+use Rattle.backup_engine.proofs.FedOpens.{item_is, kept_absent, kept_held, kept_sealed, one_item, one_of_first, one_of_map, one_of_second, opens_held, opens_stay}
+use Rattle.backup_engine.proofs.Ways.{way_narrows, way_opens}
+
+-- ---- whether the file has ended
+
+ended_placed : (n : Option node.Contents) (s : SessionState) → (placed_item n s).ended ≡ s.ended
+ended_placed None s = refl
+ended_placed (Some n) s = refl
+
+ended_open : (kind : Kind) (c : _) (s : SessionState) → (with_open kind c s).ended ≡ s.ended
+ended_open Leaf c s = refl
+ended_open Tree c s = refl
+
+ended_absent : (s : SessionState) (fit : Bool) → (if fit then placed_item s.node (added_item s) else record s { waits = true }).ended ≡ s.ended
+ended_absent s true = ended_placed s.node (added_item s) ∙ ended_open (item_kind s.node) _ s
+ended_absent s false = refl
+
+ended_sealed : (s : SessionState) (kind : Kind) (waits : Bool) → (if waits then absent_item (record (emptied kind s) { waits = false }) else emptied kind s).ended ≡ s.ended
+ended_sealed s kind true = ended_absent (record (emptied kind s) { waits = false }) (fits (record (emptied kind s) { waits = false })) ∙ ended_open kind _ s
+ended_sealed s kind false = ended_open kind _ s
+
+ended_by : (due : Due) (s : SessionState) → (sealed_by due s).ended ≡ s.ended
+ended_by (Seal kind) s = ended_sealed s kind s.waits
+ended_by Claim s = refl
+ended_by Nothing s = refl
+
+pub ended_told : (answer : Answer) (s : SessionState) → (told_by answer s).ended ≡ s.ended
+ended_told answers.Held s = ended_placed s.node s
+ended_told answers.Absent s = ended_absent s (fits s)
+ended_told (answers.Sealed id) s = ended_by (due_in s) s
+ended_told answer s = refl
+
+-- so it is with how many bytes were taken
+count_placed : (n : Option node.Contents) (s : SessionState) → (placed_item n s).count ≡ s.count
+count_placed None s = refl
+count_placed (Some n) s = refl
+
+count_open : (kind : Kind) (c : _) (s : SessionState) → (with_open kind c s).count ≡ s.count
+count_open Leaf c s = refl
+count_open Tree c s = refl
+
+count_absent : (s : SessionState) (fit : Bool) → (if fit then placed_item s.node (added_item s) else record s { waits = true }).count ≡ s.count
+count_absent s true = count_placed s.node (added_item s) ∙ count_open (item_kind s.node) _ s
+count_absent s false = refl
+
+count_sealed : (s : SessionState) (kind : Kind) (waits : Bool) → (if waits then absent_item (record (emptied kind s) { waits = false }) else emptied kind s).count ≡ s.count
+count_sealed s kind true = count_absent (record (emptied kind s) { waits = false }) (fits (record (emptied kind s) { waits = false })) ∙ count_open kind _ s
+count_sealed s kind false = count_open kind _ s
+
+count_by : (due : Due) (s : SessionState) → (sealed_by due s).count ≡ s.count
+count_by (Seal kind) s = count_sealed s kind s.waits
+count_by Claim s = refl
+count_by Nothing s = refl
+
+pub count_told : (answer : Answer) (s : SessionState) → (told_by answer s).count ≡ s.count
+count_told answers.Held s = count_placed s.node s
+count_told answers.Absent s = count_absent s (fits s)
+count_told (answers.Sealed id) s = count_by (due_in s) s
+count_told answer s = refl
+
+-- ---- a new session
+
+none_open : (kind : Kind) (s : SessionState) → s.leaves.segments ≡ [] → s.nodes.segments ≡ [] → s.waits ≡ false → opens_of s kind ≡ []
+none_open Leaf s leaves nodes waits = rw (leaves, waits) refl
+none_open Tree s leaves nodes waits = rw (nodes, waits) refl
+
+-- ---- which files it may be
+
+pub may_be_still : (given : List ℕ) (s t : SessionState) (file : List ℕ) → t.ended ≡ s.ended → MayBe given t file → MayBe given s file
+may_be_still given s t file same is = (is.0, λ on. is.1 (same ∙ on), is.2)
+
+module _ (C : Type 0) (state : C → CoreState) where
+  -- The session is another, which says no more of what is kept and of the file, and has as much to seal.
+  fed_as : (given now : List ℕ) (s t : SessionState) (start old : C) (fed : IsFed C state given s start old) (h : History) → HasHistory t h → h.given ≡ now
+      → ((kind : Kind) (x : Segment) → IsKept h kind x → IsKept fed.history kind x) → ((file : List ℕ) → MayBe now t file → MayBe given s file) → ((kind : Kind) → opens_of t kind ≡ opens_of s kind)
+      → IsFed C state now t start old
+  fed_as given now s t start old fed h has given_is kept files opens =
+      let narrow = way_narrows C state (MayBe given s) (opens_of s) start old fed.way (MayBe now t) files in
+      let way = way_opens C state (MayBe now t) (opens_of s) start old narrow.0 (opens_of t) (λ kind places fresh. subst (AreNew places kind) (sym (opens kind)) fresh) in
+      record {
+        history = h;
+        has = has;
+        given_is = given_is;
+        way = way.0;
+        told = λ kind x is.
+            subst (λ (steps : List FileEvent). IsOneOf (record { kind = kind; segment = x }) (kept_of steps)) (sym (way.1 ∙ narrow.1)) (fed.told kind x (kept kind x is));
+      }
+
+  -- ---- the calls
+
+  pub fed_begun : (s : SessionState) (start old : C) → IsBegun s → HasHistory s no_history → (w : Way C state (MayBe [] s) (λ kind. []) start old) → IsFed C state [] s start old
+  fed_begun s start old begun has w =
+      let none : (kind : Kind) → opens_of s kind ≡ [] = λ kind. by_kind kind in
+      let way = way_opens C state (MayBe [] s) (λ kind. []) start old w (opens_of s) (λ kind places fresh. subst (AreNew places kind) (sym (none kind)) tt) in
+      record { history = no_history; has = has; given_is = refl; way = way.0; told = λ kind x is. absurd (let no : None ≡ Some x = is.1 in cc) }
+    where
+      by_kind : (kind : Kind) → opens_of s kind ≡ []
+      by_kind kind = none_open kind s begun.leaves begun.nodes begun.waits
+
+  pub fed_due : (given : List ℕ) (s t : SessionState) (start old : C) → IsFed C state given s start old → Places s t → KeepsOpen s t → IsFed C state given t start old
+  fed_due given s t start old fed places keeps =
+      let moved = places fed.history fed.has in
+      fed_as given given s t start old fed (record fed.history { placed = fed.history.placed ++ moved.0 }) moved.1 fed.given_is (λ kind x is. is)
+      (λ file is. may_be_still given s t file keeps.ended is) (λ kind. opens_stay s t kind keeps.leaves keeps.nodes keeps.waits keeps.item)
+
+  pub fed_pushed : (given bytes : List ℕ) (s t : SessionState) (start old : C) → IsFed C state given s start old → s.ended ≡ false → IsTaking bytes s t
+      → ((h : History) → HasHistory s h → HasHistory t (record h { given = h.given ++ bytes })) → IsFed C state (given ++ bytes) t start old
+  fed_pushed given bytes s t start old fed ongoing taking history =
+      fed_as given (given ++ bytes) s t start old fed (record fed.history { given = fed.history.given ++ bytes }) (history fed.history fed.has)
+      (ap (λ (l : List ℕ). l ++ bytes) fed.given_is) (λ kind x is. is)
+      (λ file is. (bytes ++ is.0, λ on. absurd (let both = sym ongoing ∙ on in cc), is.2 ∙ append_assoc given bytes is.0))
+      (λ kind. opens_stay s t kind (ap (λ (x : SessionState). x.leaves) taking.others) (ap (λ (x : SessionState). x.nodes) taking.others)
+      (ap (λ (x : SessionState). x.waits) taking.others) taking.item)
+
+  pub fed_ended : (given : List ℕ) (s t : SessionState) (start old : C) → IsFed C state given s start old → IsEnding s t → ((h : History) → HasHistory s h → HasHistory t h) → IsFed C state given t start old
+  fed_ended given s t start old fed ending history =
+      fed_as given given s t start old fed fed.history (history fed.history fed.has) fed.given_is (λ kind x is. is)
+      (λ file is. (is.0, λ on. absurd (let both = sym ending.ongoing ∙ on in cc), is.2))
+      (λ kind. opens_stay s t kind (ap (λ (x : SessionState). x.leaves) ending.others) (ap (λ (x : SessionState). x.nodes) ending.others)
+      (ap (λ (x : SessionState). x.waits) ending.others) ending.item)
+
+  -- ---- what it is told
+
+  module _ (given : List ℕ) (s : SessionState) (start old new : C) (fed : IsFed C state given s start old) where
+    abbrev kept_before : List KindSegment
+    kept_before = kept_of fed.way.steps
+
+    -- the way on, with what was kept
+    abbrev pub WayOn : (Kind → List Segment) → List KindSegment → Type 0
+    WayOn opens more = (v : Way C state (MayBe given s) opens start new) × (kept_of v.steps ≡ kept_before ++ more)
+
+    fed_on : (answer : Answer) (more : List KindSegment) → WayOn (opens_of (told_by answer s)) more → HasHistory (told_by answer s) (answered answer s fed.history)
+        → ((kind : Kind) (x : Segment) → IsKept (answered answer s fed.history) kind x → IsKept fed.history kind x ⊎ IsOneOf (record { kind = kind; segment = x }) more)
+        → IsFed C state given (told_by answer s) start new
+    fed_on answer more on has kept =
+        let narrow = way_narrows C state (MayBe given s) (opens_of (told_by answer s)) start new on.0 (MayBe given (told_by answer s))
+        (λ file is. may_be_still given s (told_by answer s) file (ended_told answer s) is) in
+        record {
+          history = answered answer s fed.history;
+          has = has;
+          given_is = fed.given_is;
+          way = narrow.0;
+          told = λ kind x is.
+              let seg : KindSegment = record { kind = kind; segment = x } in
+              subst (IsOneOf seg) (sym (ap kept_of narrow.1 ∙ on.1))
+              (elim (kept kind x is) [
+                | inl before ↦ one_of_first seg kept_before more (fed.told kind x before)
+                | inr now ↦ one_of_second seg kept_before more now
+              ]);
+        }
+
+    pub fed_held : (seg : KindSegment) → due_in s ≡ Claim → IsItem s.node s.queue seg → WayOn (opens_of s) (seg ∷ []) → HasHistory (told_by answers.Held s) (answered answers.Held s fed.history)
+        → IsFed C state given (told_by answers.Held s) start new
+    fed_held seg due item on has =
+        let opens = way_opens C state (MayBe given s) (opens_of s) start new on.0 (opens_of (told_by answers.Held s)) (λ kind places fresh. subst (AreNew places kind) (sym (opens_held s kind due)) fresh) in
+        fed_on answers.Held (seg ∷ []) (opens.0, ap kept_of opens.1 ∙ on.1) has
+        (λ kind x is. elim (kept_held s fed.history kind x is) [
+          | inl before ↦ inl before
+          | inr now ↦
+              let same = one_item s kind x now in
+              let whole : record { kind = kind; segment = x } ≡ seg =
+              ap (λ (k : Kind). let y : KindSegment = record { kind = k; segment = x } in y) same.0
+              ∙ ap (λ (z : Segment). let y : KindSegment = record { kind = item_kind s.node; segment = z } in y) same.1
+              ∙ sym (item_is s.node s.queue seg item) in
+              inr (0, ap Some (sym whole))
+        ])
+
+    pub fed_absent : WayOn (opens_of (told_by answers.Absent s)) [] → HasHistory (told_by answers.Absent s) (answered answers.Absent s fed.history)
+        → IsFed C state given (told_by answers.Absent s) start new
+    fed_absent on has = fed_on answers.Absent [] on has (λ kind x is. inl (kept_absent s fed.history kind x is))
+
+    pub fed_sealed : (id : ℕ) (mine : Kind) → due_in s ≡ Seal mine
+        → WayOn (opens_of (told_by (answers.Sealed id) s)) (map (λ x. record { kind = mine; segment = x }) (open_of s mine).segments)
+        → HasHistory (told_by (answers.Sealed id) s) (answered (answers.Sealed id) s fed.history) → IsFed C state given (told_by (answers.Sealed id) s) start new
+    fed_sealed id mine due on has =
+        let as_kept : Segment → KindSegment = λ x. record { kind = mine; segment = x } in
+        fed_on (answers.Sealed id) (map as_kept (open_of s mine).segments) on has
+        (λ kind x is. elim (kept_sealed s fed.history kind x id mine due is) [
+          | inl before ↦ inl before
+          | inr now ↦ inr (subst (λ (k : Kind). IsOneOf (record { kind = k; segment = x }) (map as_kept (open_of s mine).segments)) (sym now.0) (one_of_map as_kept x (open_of s mine).segments now.1))
+        ])

@@ -1,0 +1,162 @@
+-- What `ingest` never changes, whatever the disk holds: all of the call.
+use Rattle.std.proofs.Common.{◌≡◌, ◌⊎◌, inl, inr, ℕ, ◌-◌, ◌^◌, ◌<◌, ◌≤◌, List, Option, Some, None, Result, Ok, Err, sym, ◌∙◌, subst, arith}
+use Rattle.disk_format.specs.declared.numbers.TheConstants.{RESERVE}
+use Rattle.dd_disk.specs.View.{DiskView, IsLater}
+use Rattle.dd_disk.proofs.Later.{reads_here, reads_leave, leaves_weaker}
+use Rattle.dd_disk.proofs.Shows.{shown_content}
+use Rattle.dd_io.specs.Flow.{SourceView, SinkView}
+use Rattle.refusals.specs.declared.refusal.Refusal.{Refusal}
+use Rattle.refusals.specs.declared.refusal.Refusal.TheVariants.{Memory, TooLong}
+use Rattle.reply_text.specs.declared.ending.Ending.{Ending}
+use Rattle.reply_text.specs.declared.ending.Ending.TheVariants.{Words, Source, Sink, Refused}
+use Rattle.reply_text.specs.Text.{stored_line}
+use Rattle.store_model.specs.Image.{Store, Encodes}
+use Rattle.store_model.specs.Slots.{free_slots}
+use Rattle.store_model.specs.Trees.{root_of}
+use Rattle.store_core.specs.Runs.{events_of}
+use Rattle.store_core.specs.State.{CoreState}
+use Rattle.backup_engine.specs.Frame.{KeepsOpen, KeepsRest, KeepsOthers}
+use Rattle.backup_engine.specs.Line.{Ingest}
+use Rattle.backup_engine.specs.Promise.{MayChange, SinceStart}
+use Rattle.backup_engine.specs.Running.{PutRun}
+use Rattle.backup_engine.specs.Storing.{IsSourceFault, Replies, IngestRun}
+use Rattle.backup_engine.specs.TopCall.{ending_in}
+use Rattle.backup_engine.proofs.Called.{Called, settled}
+use Rattle.backup_engine.proofs.KeptBytes.{KeepsSlots, free_held, slots_here}
+use Rattle.backup_engine.proofs.PutCauses.{opened_on, run_later}
+use Rattle.backup_engine.proofs.PutChanges.{EndsBy, ways_of}
+use Rattle.backup_engine.proofs.PutFrame.{Leaves, IsFramed, framed_way, framed_open, last_put, last_refused}
+
+module _ (C : Type 0) (state : C → CoreState) (v w : DiskView) (old new : C) (called : Called C state v w old new) where
+  abbrev store : Store
+  store = called.opened.store
+
+  abbrev Left : List ℕ → Option Ending → Type 0
+  Left base ending = Leaves (KeepsOpen ending base) (state old).disk (state new).disk
+
+  module _ (base : List ℕ) (known : v.content ≡ Some base) where
+    encodes : Encodes base store
+    encodes = shown_content v (state old).disk (λ image. Encodes image store) base called.opened.right known
+
+    reserve : RESERVE ≤ free_slots store.held
+    reserve = called.opened.reserve
+
+    told : (state old).disk.content ≡ Some base
+    told = called.first.only.content_is ∙ known
+
+    framed : IsFramed store base (state old).disk (state old)
+    framed = record {
+      store = store;
+      on = opened_on C state v w old new called;
+      held = record {
+        free = free_held base store encodes;
+        content = (base, told, slots_here store.slots base);
+        settled = settled C state v w old new called store.slots;
+      };
+      clock = omega arith;
+      images = reads_leave (KeepsSlots store.slots base) (state old).disk (state old).disk
+          (λ c image. subst (KeepsSlots store.slots base) (sym (called.durable base told c image)) (slots_here store.slots base)) (reads_here (state old).disk);
+    }
+
+    put_left : (name bytes : List ℕ) (ending : Option Ending) → MayChange ending → PutRun C state name bytes (Ok tt) old new → Left base ending
+    put_left name bytes ending may run =
+        let ways = ways_of C state name bytes (Ok tt) old new run in
+        let there = framed_way store base name bytes (state old).disk C state ways.way old ways.mid framed ways.ran ways.each in
+        last_put store base encodes reserve (state old).disk name bytes ending may (state ways.mid) (state new) there ways.last
+
+    ended : (name bytes : List ℕ) (refusal : Refusal) (mid : C) → IsFramed store base (state old).disk (state mid) → EndsBy C state name bytes (Err refusal) mid new → Left base (Some (Refused refusal))
+    ended name bytes refusal mid there (inl none) =
+        framed_open store base encodes reserve (state old).disk (state new) (Some (Refused refusal)) (subst (λ (c : C). IsFramed store base (state old).disk (state c)) (sym none.0) there)
+    ended name bytes refusal mid there (inr last) = last_refused store base encodes reserve (state old).disk name bytes refusal (state mid) (state new) there last
+
+    refused_left : (name bytes : List ℕ) (refusal : Refusal) → PutRun C state name bytes (Err refusal) old new → Left base (Some (Refused refusal))
+    refused_left name bytes refusal run =
+        let ways = ways_of C state name bytes (Err refusal) old new run in
+        ended name bytes refusal ways.mid (framed_way store base name bytes (state old).disk C state ways.way old ways.mid framed ways.ran ways.each) ways.last
+
+    -- no write failed, so the map may not have changed
+    never_changed : (ending : Option Ending) → ¬ (MayChange ending) → (c : List ℕ) → KeepsOpen (Some (Refused Memory)) base c → KeepsOpen ending base c
+    never_changed ending never c open_there = record {
+      store = open_there.store;
+      right = open_there.right;
+      reserve = open_there.reserve;
+      size_is = open_there.size_is;
+      head = open_there.head;
+      cells = λ half cell low within other. open_there.cells half cell low within (λ same. absurd same.0);
+      containers = open_there.containers;
+    }
+
+    stopped_left : (name bytes : List ℕ) (ending : Option Ending) → ¬ (MayChange ending) → PutRun C state name bytes (Err Memory) old new → Left base ending
+    stopped_left name bytes ending never run =
+        let left = refused_left name bytes Memory run in
+        let keeps = never_changed ending never in
+        record {
+          content = (left.content.0, left.content.1, keeps left.content.0 left.content.2);
+          images = leaves_weaker (KeepsOpen (Some (Refused Memory)) base) (KeepsOpen ending base) (state old).disk (state new).disk keeps left.images;
+        }
+
+    -- so it is where a source ended
+    source_changes : (source source_now : SourceView) (ending : Ending) → IsSourceFault source source_now ending → ¬ (MayChange (Some ending))
+    source_changes source source_now Source cause may = may
+    source_changes source source_now (Refused Memory) cause may = may
+    source_changes source source_now (Refused TooLong) cause may = may
+    source_changes source source_now ending cause may = absurd cause
+
+    taken_left : (name bytes : List ℕ) (put : Result Unit Refusal) → PutRun C state name bytes put old new → (reply : List ℕ) (result : Result Unit Ending) (sink sink_now : SinkView)
+        → Replies reply put result sink sink_now → Left base (ending_in result)
+    taken_left name bytes (Ok u) run reply (Ok done) sink sink_now sent = put_left name bytes None tt run
+    taken_left name bytes (Ok u) run reply (Err Sink) sink sink_now sent = put_left name bytes (Some Sink) tt run
+    taken_left name bytes (Ok u) run reply (Err Words) sink sink_now sent = absurd sent
+    taken_left name bytes (Ok u) run reply (Err Source) sink sink_now sent = absurd sent
+    taken_left name bytes (Ok u) run reply (Err (Refused refusal)) sink sink_now sent = absurd sent
+    taken_left name bytes (Err refusal) run reply result sink sink_now replies =
+        subst (λ (r : Result Unit Ending). Left base (ending_in r)) (sym replies.0) (refused_left name bytes refusal run)
+
+  -- what is so of the core's disk is so of the one that was handed in
+  module _ (name : List ℕ) (ending : Option Ending) (left : (base : List ℕ) → v.content ≡ Some base → Left base ending) where
+    at_end : (base : List ℕ) → v.content ≡ Some base → (c : List ℕ) → w.images c → KeepsOpen ending base c
+    at_end base known c image = (left base known).images.now c (called.last.only.images_are c image)
+
+    earlier : (c : List ℕ) → v.clock < 2 ^ 64 - 1 → (state old).disk.images_since v.clock c → v.images c
+    earlier c below since = elim (called.first.only.since_are v.clock c (omega arith) since) [
+      | inl was ↦ v.only_now c below was
+      | inr image ↦ image
+    ]
+
+    since_call : (base : List ℕ) → v.content ≡ Some base → (c : List ℕ) → v.clock < 2 ^ 64 - 1 → (state new).disk.images_since v.clock c → v.images c ⊎ KeepsOpen ending base c
+    since_call base known c below since = elim ((left base known).images.since v.clock c called.first.only.later.clock_is since) [
+      | inl was ↦ inl (earlier c below was)
+      | inr kept ↦ inr kept
+    ]
+
+    -- the end of the core's run is not before the call
+    abbrev clocks : v.clock ≤ (state old).disk.clock
+    clocks = called.first.only.later.clock_is
+
+    crashed : (base : List ℕ) → v.content ≡ Some base → IsLater (state old).disk (state new).disk → (c : List ℕ) → SinceStart v w c → v.images c ⊎ KeepsRest (Ingest name) ending base c
+    crashed base known later c (inl image) = inr (inr (at_end base known c image))
+    crashed base known later c (inr since) =
+        elim (called.last.only.since_are v.clock c (omega (arith, called.first.only.later.clock_is, later.clock_is)) since.1) [
+          | inl was ↦ elim (since_call base known c since.0 was) [ inl image ↦ inl image | inr kept ↦ inr (inr kept) ]
+          | inr image ↦ inr (inr ((left base known).images.now c image))
+        ]
+
+    pub others_kept : IsLater (state old).disk (state new).disk → KeepsOthers (Ingest name) ending v w
+    others_kept later = record {
+      content = λ base known. let there = (left base known).content in (there.0, called.last.only.content_is ∙ there.1, inr there.2);
+      crash = λ base known. crashed base known later;
+    }
+
+-- Whatever the disk holds, `ingest` keeps what was open.
+pub ingest_frame : (C : Type 0) (state : C → CoreState) (v w : DiskView) (old new : C) → Called C state v w old new → (name : List ℕ) (result : Result Unit Ending)
+    (source source_now : SourceView) (sink sink_now : SinkView) (run : IngestRun C state name result old new source source_now sink sink_now)
+    → KeepsOthers (Ingest name) (ending_in result) v w
+ingest_frame C state v w old new called name result source source_now sink sink_now run = elim run.way [
+  | inl none ↦ others_kept C state v w old new called name (ending_in result)
+      (λ base known. subst (λ (r : Result Unit Ending). Left C state v w old new called base (ending_in r)) (sym none.result_is)
+      (stopped_left C state v w old new called base known name run.given (Some none.ending) (source_changes C state v w old new called base known source source_now none.ending none.cause) none.ran))
+      (run_later C state (events_of none.ran.steps) old new none.ran.ran)
+  | inr taken ↦ others_kept C state v w old new called name (ending_in result)
+      (λ base known. taken_left C state v w old new called base known name run.given taken.put taken.ran (stored_line name (root_of run.given)) result sink sink_now taken.replies)
+      (run_later C state (events_of taken.ran.steps) old new taken.ran.ran)
+]

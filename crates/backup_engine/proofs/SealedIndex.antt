@@ -1,0 +1,104 @@
+-- What the index of a core has once a container is sealed: its keys have its places, and all others what they had.
+use Rattle.std.proofs.Common.{◌≡◌, ◌≢◌, ℕ, ◌+◌, List, [], ◌∷◌, length, max, Option, Some, None, option_map, refl, sym, ◌∙◌, ap, arith}
+use Rattle.std.specs.FinMap as finite
+use Rattle.std.specs.List.{AllByRecursion}
+use Rattle.sha2.specs.Sha256.{sha256}
+use Rattle.base_model.specs.Bytes.{key_of}
+use Rattle.container_meta.specs.declared.entry.Entry.{Entry}
+use Rattle.container_meta.specs.declared.kind.Kind.{Kind}
+use Rattle.container_meta.specs.declared.place.Place.{Place}
+use Rattle.container_meta.specs.Format.{kind_byte}
+use Rattle.container_meta.specs.Places.{PlaceMap}
+use Rattle.container_meta.specs.Segments.{Segment, entries_from, segment_key}
+use Rattle.container_meta.specs.Spelling.{HeaderValue, header_of}
+use Rattle.store_model.specs.Image.{Store}
+use Rattle.store_model.specs.Slots.{Copy, IsIndexOf, first_free, ids_of, last_id, newest}
+use Rattle.store_model.specs.Steps.{CanSeal, SealContainer, with_sealed}
+use Rattle.store_model.proofs.NewestSealed.{entry_copy, newest_of_entries, newest_of_others}
+use Rattle.store_model.proofs.Valid.{last_sealed}
+use Rattle.store_state.specs.Tables.{OfEach, Represents}
+use Rattle.store_core.specs.Core.{Makes, next_id}
+use Rattle.store_core.specs.State.{CoreState, IsUp}
+use Rattle.backup_engine.specs.Putting.{length_in}
+
+-- ---- from entries to segments
+
+-- what is so of the entries of segments, by digest and length, is so of the segments
+by_entries : (P : List ℕ → ℕ → Type 0) (offset : ℕ) (ss : List Segment) → AllByRecursion (λ (e : Entry). P e.digest e.length) (entries_from offset ss) → AllByRecursion (λ (s : Segment). P (sha256 s.bytes) (length s.bytes)) ss
+by_entries P offset [] all = tt
+by_entries P offset (s ∷ ss) all = (all.0, by_entries P (offset + length s.bytes) ss all.1)
+
+to_entries : (P : List ℕ → Type 0) (offset : ℕ) (ss : List Segment) → AllByRecursion (λ (s : Segment). P (sha256 s.bytes)) ss → AllByRecursion (λ (e : Entry). P e.digest) (entries_from offset ss)
+to_entries P offset [] all = tt
+to_entries P offset (s ∷ ss) all = (all.0, to_entries P (offset + length s.bytes) ss all.1)
+
+entries_so : (P Q : Entry → Type 0) (es : List Entry) → ((e : Entry) → P e → Q e) → AllByRecursion P es → AllByRecursion Q es
+entries_so P Q [] each all = tt
+entries_so P Q (e ∷ es) each all = (each e all.0, entries_so P Q es each all.1)
+
+-- ---- ids
+
+last_of_ids : List ℕ → ℕ
+last_of_ids [] = 0
+last_of_ids (id ∷ ids) = max id (last_of_ids ids)
+
+last_by_ids : (held : List (Option HeaderValue)) → last_id held ≡ last_of_ids (ids_of held)
+unfolding last_of_ids
+last_by_ids [] = refl
+last_by_ids (None ∷ cs) = last_by_ids cs ∙ omega arith
+last_by_ids (Some h ∷ cs) = ap (max h.id) (last_by_ids cs)
+
+-- the last id is told by the ids
+same_last : (held other : List (Option HeaderValue)) → ids_of held ≡ ids_of other → last_id held ≡ last_id other
+same_last held other same = last_by_ids held ∙ ap last_of_ids same ∙ sym (last_by_ids other)
+
+-- ---- the index
+
+module _ (old new : CoreState) (kind : Kind) (segments : List Segment) (made : Makes (SealContainer (next_id old) kind segments) old new) (up : IsUp old) (places : PlaceMap) (known : old.known ≡ Some places) where
+  abbrev store : Store
+  store = up.runs.store
+
+  abbrev after : Store
+  after = with_sealed (next_id old) kind segments store
+
+  abbrev header : HeaderValue
+  header = header_of (next_id old) kind segments
+
+  can : CanSeal (next_id old) kind segments store
+  can = made.can.store_has store up.runs.represents up.runs.valid up.runs.reserve_holds
+
+  represents : Represents after new.known new.tables
+  represents = made.represents.store_has store up.runs.represents up.runs.valid up.runs.reserve_holds
+
+  pub now_told : (now : PlaceMap) × (new.known ≡ Some now)
+  now_told = made.tells places known
+
+  index_after : IsIndexOf after.held now_told.0
+  index_after = represents.index_is_newest now_told.0 now_told.1
+
+  index_before : IsIndexOf store.held places
+  index_before = up.runs.represents.index_is_newest places known
+
+  -- each of its segments has a place that is as long
+  pub sealed_long : AllByRecursion (λ s. length_in now_told.0 (segment_key kind s) ≡ Some (length s.bytes)) segments
+  sealed_long =
+      by_entries (λ digest long. length_in now_told.0 (key_of (kind_byte kind) digest) ≡ Some long) 0 segments
+      (entries_so (λ e. newest 0 after.held (key_of (kind_byte kind) e.digest) ≡ Some (entry_copy (first_free store.held) (next_id old) e)) (λ e. length_in now_told.0 (key_of (kind_byte kind) e.digest) ≡ Some e.length)
+      (entries_from 0 segments)
+      (λ e found. ap (option_map (λ (p : Place). p.length)) (index_after (key_of (kind_byte kind) e.digest) ∙ ap (option_map (λ (c : Copy). c.place)) found))
+      (newest_of_entries header store.held can.right (omega (arith, can.slot)) can.new_id))
+
+  -- another key has what it had
+  pub sealed_others : (key : List ℕ) → AllByRecursion (λ s. segment_key kind s ≢ key) segments → finite.get now_told.0 key ≡ finite.get places key
+  sealed_others key others =
+      index_after key
+      ∙ ap (option_map (λ (c : Copy). c.place)) (newest_of_others header store.held key (omega (arith, can.slot)) (to_entries (λ digest. key_of (kind_byte kind) digest ≢ key) 0 segments others))
+      ∙ sym (index_before key)
+
+  -- the id that was given out is the last of each store
+  pub sealed_ids : new.tables.held.last_id ≡ next_id old → OfEach new.disk.size new.known new.tables (λ t. new.tables.held.last_id ≡ last_id t.held)
+  sealed_ids is = record {
+    store_has = λ t other valid reserve.
+        is ∙ sym (last_sealed (next_id old) kind segments store can)
+        ∙ same_last after.held t.held (sym represents.slots_hold.ids_are ∙ other.slots_hold.ids_are);
+  }

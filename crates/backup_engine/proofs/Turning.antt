@@ -1,0 +1,196 @@
+-- A step that is due is made, and the session is told what it answered.
+use Rattle.std.proofs.Common.{◌≡◌, ◌≢◌, inl, inr, ◌∙◌, ℕ, List, [], ◌∷◌, ◌++◌, map, Option, Some, None, Ok, Err, refl, sym, ap, subst, append-nil}
+use Rattle.std.specs.FinMap as finite
+use Rattle.std.specs.List.{AllByRecursion}
+use Rattle.container_meta.specs.declared.kind.Kind.{Kind}
+use Rattle.container_meta.specs.declared.kind.Kind.TheVariants.{Leaf, Tree}
+use Rattle.container_meta.specs.Places.{PlaceMap}
+use Rattle.container_meta.specs.Segments.{KindSegment, Segment, segment_key}
+use Rattle.merkle_file.specs.Node as node
+use Rattle.actor_parts.specs.declared.step.Answer.{Answer}
+use Rattle.actor_parts.specs.declared.step.Answer.TheVariants as answers
+use Rattle.actor_parts.specs.Segments.{KeyPin, children_by, children_of, node_segment}
+use Rattle.actor_parts.specs.StepValue as asked
+use Rattle.actor_parts.specs.StepValue.{IsStep}
+use Rattle.refusals.specs.declared.refusal.Refusal.{Refusal}
+use Rattle.store_model.specs.Pieces.{Data, Node, HasPieceOf, IsPieceOf}
+use Rattle.ingest_steps.specs.Claiming.{key_of_seg}
+use Rattle.store_core.specs.Core.{CoreStep}
+use Rattle.store_core.specs.Keeping.{kept_of}
+use Rattle.store_core.specs.State.{CoreState, IsRunning}
+use Rattle.ingest_session.specs.declared.due.Due.{Due}
+use Rattle.ingest_session.specs.declared.due.Due.TheVariants.{Claim, Seal, Nothing}
+use Rattle.ingest_session.specs.Due.{due_in, item_kind, open_of}
+use Rattle.ingest_session.specs.Facts.{ChildrenComeFirst, IsKeptChild, MayFollow, OpenNodesHaveChildren, OpensArePieces, TurnsArePieces, WaitsForAnother}
+use Rattle.ingest_session.specs.History.{HasHistory, answered, item_if, turn_of, waiting}
+use Rattle.ingest_session.specs.Items.{item_of}
+use Rattle.ingest_session.specs.Moving.{IsItem, IsOffered}
+use Rattle.ingest_session.specs.State.{SessionState}
+use Rattle.ingest_session.specs.Told.{IsAnswerFor, told_by}
+use Rattle.ingest_session.proofs.Waiting.{session_of}
+use Rattle.backup_engine.specs.Feeding.{Asks, IsFed, MayBe, Stops, opens_of}
+use Rattle.backup_engine.specs.Putting.{AreNew}
+use Rattle.backup_engine.specs.Running.{IsOneOf}
+use Rattle.backup_engine.proofs.FedOpens.{all_one_of, item_is, left_differs, one_item, opens_absent}
+use Rattle.backup_engine.proofs.Feds.{fed_absent, fed_held, fed_sealed}
+use Rattle.backup_engine.proofs.KeptPieces as pieces
+use Rattle.backup_engine.proofs.WayClaims.{held_or_absent, way_absent, way_held}
+use Rattle.backup_engine.proofs.WayLists.{all_on}
+use Rattle.backup_engine.proofs.WayRefusals.{way_unclaimed, way_unsealed}
+use Rattle.backup_engine.proofs.WaySeals.{only_sealed, way_sealed}
+
+-- the first of two lists of new segments
+pub all_first : {A : Type 0} (P : A → Type 0) (xs ys : List A) → AllByRecursion P (xs ++ ys) → AllByRecursion P xs
+all_first P [] ys all = tt
+all_first P (x ∷ xs) ys all = (all.0, all_first P xs ys all.1)
+
+-- a claim has nothing to do with a container
+no_seal : (kind : Kind) → Claim ≡ Seal kind → ⊥
+no_seal kind is = cc
+
+module _ (C : Type 0) (state : C → CoreState) (given : List ℕ) (s : SessionState) (start old new : C) (fed : IsFed C state given s start old) where
+  abbrev files : List ℕ → Type 0
+  files = MayBe given s
+
+  -- what a law says of a file that goes on so
+  by_more : (P : List ℕ → Type 0) → ((more : List ℕ) → MayFollow more s → P (fed.history.given ++ more)) → (file : List ℕ) → files file → P file
+  by_more P each file is = subst P (ap (λ (l : List ℕ). l ++ is.0) fed.given_is ∙ sym is.2) (each is.0 is.1)
+
+  -- ---- children
+
+  child_kept : (c : KeyPin) → IsKeptChild fed.history c → pieces.IsKeptChild (kept_of fed.way.steps) c
+  child_kept c is = (record { kind = is.0; segment = is.1 }, fed.told is.0 is.1 is.2, is.3, is.4)
+
+  children_kept : (cs : List KeyPin) → AllByRecursion (IsKeptChild fed.history) cs → AllByRecursion (pieces.IsKeptChild (kept_of fed.way.steps)) cs
+  children_kept [] all = tt
+  children_kept (c ∷ cs) all = (child_kept c all.0, children_kept cs all.1)
+
+  all_children_kept : (kind : Kind) (xs : List Segment) → AllByRecursion (λ x. AllByRecursion (IsKeptChild fed.history) (children_by kind x)) xs
+      → AllByRecursion (λ x. AllByRecursion (pieces.IsKeptChild (kept_of fed.way.steps)) (children_by kind x)) xs
+  all_children_kept kind [] all = tt
+  all_children_kept kind (x ∷ xs) all = (children_kept (children_by kind x) all.0, all_children_kept kind xs all.1)
+
+  -- ---- a claim
+
+  -- the item is a piece
+  item_piece : (file : List ℕ) (n : Option node.Contents) (queue : List (List ℕ)) (seg : KindSegment) → IsItem n queue seg → AllByRecursion (IsPieceOf file) (turn_of n queue) → HasPieceOf file seg
+  item_piece file (Some n) queue seg is all = (Node n, all.0, is)
+  item_piece file None [] seg is all = absurd is
+  item_piece file None (x ∷ xs) seg is all = (Data x, all.0, is)
+
+  -- data has no children, and those of a node are kept
+  item_children : (n : Option node.Contents) (queue : List (List ℕ)) (seg : KindSegment) → IsItem n queue seg → ((m : node.Contents) → n ≡ Some m → AllByRecursion (IsKeptChild fed.history) (children_of (node_segment m)))
+      → AllByRecursion (pieces.IsKeptChild (kept_of fed.way.steps)) (children_of seg)
+  item_children (Some n) queue seg is each =
+      subst (λ (x : KindSegment). AllByRecursion (pieces.IsKeptChild (kept_of fed.way.steps)) (children_of x)) (sym is) (children_kept (children_of (node_segment n)) (each n refl))
+  item_children None [] seg is each = absurd is
+  item_children None (x ∷ xs) seg is each = subst (λ (y : KindSegment). AllByRecursion (pieces.IsKeptChild (kept_of fed.way.steps)) (children_of y)) (sym is) tt
+
+  module _ (turns : TurnsArePieces) (due : due_in s ≡ Claim) (seg : KindSegment) (offered : IsOffered s seg) (buf : List ℕ) where
+    seg_piece : (file : List ℕ) → files file → HasPieceOf file seg
+    seg_piece = by_more (λ file. HasPieceOf file seg) (λ more may. item_piece (fed.history.given ++ more) s.node s.queue seg offered.is (turns s fed.history more fed.has may))
+
+    seg_is : seg ≡ record { kind = item_kind s.node; segment = item_of s.node s.queue }
+    seg_is = item_is s.node s.queue seg offered.is
+
+    pub claim_held : CoreStep (state old) (record { actor = 0; step = asked.Claim seg; answer = Ok answers.Held; buf = buf }) (state new) → IsRunning (state new)
+        → HasHistory (told_by answers.Held s) (answered answers.Held s fed.history) → IsFed C state given (told_by answers.Held s) start new
+    claim_held step running has =
+        let way = way_held C state files (opens_of s) start old new fed.way seg buf offered.right seg_piece step running in
+        fed_held C state given s start old new fed seg due offered.is (way.0, way.1) has
+
+    -- it is new, as what was to be sealed is
+    new_item : (kind : Kind) (places : PlaceMap) → finite.get places (key_of_seg seg) ≡ None → AreNew places kind (item_if kind s)
+    new_item kind places none =
+        all_one_of (λ x. finite.get places (segment_key kind x) ≡ None) (item_if kind s) (λ x one.
+        let same = one_item s kind x one in
+        ap (finite.get places)
+        (ap (λ (k : Kind). segment_key k x) same.0 ∙ ap (segment_key (item_kind s.node)) same.1 ∙ sym (ap key_of_seg seg_is))
+        ∙ none)
+
+    pub claim_absent : CoreStep (state old) (record { actor = 0; step = asked.Claim seg; answer = Ok answers.Absent; buf = buf }) (state new) → IsRunning (state new)
+        → HasHistory (told_by answers.Absent s) (answered answers.Absent s fed.history) → IsFed C state given (told_by answers.Absent s) start new
+    claim_absent step running has =
+        let way = way_absent C state files (opens_of s) start old new fed.way seg buf offered.right seg_piece (opens_of (told_by answers.Absent s))
+        (λ kind places fresh none. subst (AreNew places kind) (sym (opens_absent s kind due)) (all_on (λ x. finite.get places (segment_key kind x) ≡ None) (opens_of s kind) (item_if kind s) fresh (new_item kind places none)))
+        step running in
+        fed_absent C state given s start old new fed (way.0, way.1 ∙ sym (append-nil (kept_of fed.way.steps))) has
+
+    pub claim_refused : ChildrenComeFirst → (name file : List ℕ) → files file → (refusal : Refusal)
+        → CoreStep (state old) (record { actor = 0; step = asked.Claim seg; answer = Err refusal; buf = buf }) (state new) → Stops C state name file refusal start new
+    claim_refused children name file is refusal step =
+        inl (way_unclaimed C state files (opens_of s) start old new fed.way buf name file is seg offered.right seg_piece
+        (item_children s.node s.queue seg offered.is (λ m node_is. children s fed.history m fed.has node_is due)) refusal step)
+
+  -- ---- a seal
+
+  module _ (opens : OpensArePieces) (mine : Kind) (due : due_in s ≡ Seal mine) (right : IsStep (asked.Seal (open_of s mine))) (kind_is : (open_of s mine).kind ≡ mine) (buf : List ℕ) where
+    open_pieces : (file : List ℕ) → files file → AllByRecursion (λ x. HasPieceOf file (record { kind = (open_of s mine).kind; segment = x })) (open_of s mine).segments
+    open_pieces =
+        subst (λ (k : Kind). (file : List ℕ) → files file → AllByRecursion (λ x. HasPieceOf file (record { kind = k; segment = x })) (open_of s mine).segments) (sym kind_is)
+        (by_more (λ file. AllByRecursion (λ x. HasPieceOf file (record { kind = mine; segment = x })) (open_of s mine).segments) (λ more may. opens s fed.history more fed.has may mine))
+
+    open_new : AreNew fed.way.places (open_of s mine).kind (open_of s mine).segments
+    open_new =
+        subst (λ (k : Kind). AreNew fed.way.places k (open_of s mine).segments) (sym kind_is)
+        (all_first (λ x. finite.get fed.way.places (segment_key mine x) ≡ None) (open_of s mine).segments (waiting mine s) (fed.way.fresh mine))
+
+    pub seal_made : WaitsForAnother → (id : ℕ) → CoreStep (state old) (record { actor = 0; step = asked.Seal (open_of s mine); answer = Ok (answers.Sealed id); buf = buf }) (state new) → IsRunning (state new)
+        → HasHistory (told_by (answers.Sealed id) s) (answered (answers.Sealed id) s fed.history) → IsFed C state given (told_by (answers.Sealed id) s) start new
+    seal_made waits id step running has =
+        let way = way_sealed C state files (opens_of s) start old new fed.way (open_of s mine) buf right open_pieces open_new id step (opens_of (told_by (answers.Sealed id) s))
+        (subst (λ (k : Kind). (kind : Kind) → AllByRecursion (λ x. IsOneOf x (opens_of s kind) × AllByRecursion (λ y. segment_key kind x ≢ segment_key k y) (open_of s mine).segments) (opens_of (told_by (answers.Sealed id) s) kind)) (sym kind_is)
+        (λ kind. left_differs s id mine due (session_of s fed.history fed.has) (waits s fed.history fed.has) kind))
+        running in
+        fed_sealed C state given s start old new fed id mine due
+        (way.0, way.1 ∙ ap (λ (k : Kind). kept_of fed.way.steps ++ map (λ x. record { kind = k; segment = x }) (open_of s mine).segments) kind_is) has
+
+    open_children : OpenNodesHaveChildren → (k : Kind) → k ≡ mine
+        → AllByRecursion (λ x. AllByRecursion (pieces.IsKeptChild (kept_of fed.way.steps)) (children_by (open_of s mine).kind x)) (open_of s mine).segments
+    open_children nodes Leaf is =
+        subst (λ (m : Kind). AllByRecursion (λ x. AllByRecursion (pieces.IsKeptChild (kept_of fed.way.steps)) (children_by m x)) (open_of s mine).segments) (is ∙ sym kind_is) (none (open_of s mine).segments)
+      where
+        none : (xs : List Segment) → AllByRecursion (λ x. AllByRecursion (pieces.IsKeptChild (kept_of fed.way.steps)) (children_by Leaf x)) xs
+        none [] = tt
+        none (x ∷ xs) = (tt, none xs)
+    open_children nodes Tree is =
+        subst (λ (m : Kind). AllByRecursion (λ x. AllByRecursion (pieces.IsKeptChild (kept_of fed.way.steps)) (children_by m x)) (open_of s mine).segments) (is ∙ sym kind_is)
+        (subst (λ (m : Kind). AllByRecursion (λ x. AllByRecursion (pieces.IsKeptChild (kept_of fed.way.steps)) (children_by Tree x)) (open_of s m).segments) is
+        (all_children_kept Tree s.nodes.segments (nodes s fed.history fed.has)))
+
+    pub seal_refused : OpenNodesHaveChildren → (name file : List ℕ) → files file → (refusal : Refusal)
+        → CoreStep (state old) (record { actor = 0; step = asked.Seal (open_of s mine); answer = Err refusal; buf = buf }) (state new) → Stops C state name file refusal start new
+    seal_refused nodes name file is refusal step =
+        inl (way_unsealed C state files (opens_of s) start old new fed.way buf name file is (open_of s mine) right open_pieces open_new (open_children nodes mine refl) refusal step)
+
+-- ---- either
+
+-- an answer is one that the step can have
+pub answers_due : (C : Type 0) (state : C → CoreState) (given : List ℕ) (s : SessionState) (start old new : C) → IsFed C state given s start old → (due : Due) (answer : Answer)
+    → Asks due s (Ok answer) (state old) (state new) → IsAnswerFor answer due
+answers_due C state given s start old new fed Claim answer asks = elim (held_or_absent C state (MayBe given s) (opens_of s) start old new fed.way asks.0 asks.1 answer asks.3) [
+  | inl held ↦ subst (λ (a : Answer). IsAnswerFor a Claim) (sym held) refl
+  | inr absent ↦ subst (λ (a : Answer). IsAnswerFor a Claim) (sym absent) refl
+]
+answers_due C state given s start old new fed (Seal kind) answer asks =
+    let sealed = only_sealed C state (MayBe given s) (opens_of s) start old new fed.way (open_of s kind) asks.0 answer asks.3 in
+    subst (λ (a : Answer). IsAnswerFor a (Seal kind)) (sym sealed.1) (kind, refl)
+answers_due C state given s start old new fed Nothing answer asks = absurd asks
+
+module _ (C : Type 0) (state : C → CoreState) (given : List ℕ) (s : SessionState) (start old new : C) (fed : IsFed C state given s start old) (turns : TurnsArePieces) (opens : OpensArePieces) where
+  -- the step was made, and the session was told
+  pub asked_on : WaitsForAnother → (due : Due) (answer : Answer) → due_in s ≡ due → Asks due s (Ok answer) (state old) (state new) → IsRunning (state new)
+      → HasHistory (told_by answer s) (answered answer s fed.history) → IsFed C state given (told_by answer s) start new
+  asked_on waits Claim answers.Held is asks running has = claim_held C state given s start old new fed turns is asks.0 asks.2 asks.1 asks.3 running has
+  asked_on waits Claim answers.Absent is asks running has = claim_absent C state given s start old new fed turns is asks.0 asks.2 asks.1 asks.3 running has
+  asked_on waits Claim answer is asks running has = absurd (elim (held_or_absent C state (MayBe given s) (opens_of s) start old new fed.way asks.0 asks.1 answer asks.3) [ inl held ↦ cc | inr absent ↦ cc ])
+  asked_on waits (Seal kind) (answers.Sealed id) is asks running has = seal_made C state given s start old new fed opens kind is asks.1 asks.2 asks.0 waits id asks.3 running has
+  asked_on waits (Seal kind) answer is asks running has = absurd (let sealed = only_sealed C state (MayBe given s) (opens_of s) start old new fed.way (open_of s kind) asks.0 answer asks.3 in cc)
+  asked_on waits Nothing answer is asks running has = absurd asks
+
+  -- it was refused
+  pub asked_refused : ChildrenComeFirst → OpenNodesHaveChildren → (due : Due) (refusal : Refusal) → due_in s ≡ due → Asks due s (Err refusal) (state old) (state new) → (name file : List ℕ) → MayBe given s file
+      → Stops C state name file refusal start new
+  asked_refused children nodes Claim refusal is asks name file may = claim_refused C state given s start old new fed turns is asks.0 asks.2 asks.1 children name file may refusal asks.3
+  asked_refused children nodes (Seal kind) refusal is asks name file may = seal_refused C state given s start old new fed opens kind is asks.1 asks.2 asks.0 nodes name file may refusal asks.3
+  asked_refused children nodes Nothing refusal is asks name file may = absurd asks

@@ -1,0 +1,137 @@
+-- A claim, or a seal, on a way that was refused: why.
+use Rattle.std.proofs.Common.{◌≡◌, inl, ◌≤◌, ℕ, List, [], ◌∷◌, length, Some, None, option_map, Err, refl, sym, ◌∙◌, ap, subst, arith}
+use Rattle.std.specs.FinMap as finite
+use Rattle.std.specs.List.{AllByRecursion}
+use Rattle.dd_disk.specs.Shows.{Shows}
+use Rattle.container_meta.specs.declared.kind.Kind.{Kind}
+use Rattle.container_meta.specs.Places.{PlaceMap}
+use Rattle.container_meta.specs.Segments.{Contents, KindSegment, Segment, segment_key}
+use Rattle.actor_parts.specs.declared.part.Part.TheVariants.{Writing}
+use Rattle.actor_parts.specs.Kinds.{kind_of}
+use Rattle.actor_parts.specs.Parts.{part_of}
+use Rattle.actor_parts.specs.PinMap.{PinMap}
+use Rattle.actor_parts.specs.Segments.{IsStepSegment, children_by, children_of, first_unpinned}
+use Rattle.actor_parts.specs.StepValue as asked
+use Rattle.actor_parts.specs.StepValue.{IsStep}
+use Rattle.refusals.specs.declared.refusal.PartKind.TheVariants as kinds
+use Rattle.refusals.specs.declared.refusal.Refusal.{Refusal}
+use Rattle.refusals.specs.declared.refusal.Refusal.TheVariants as refusals
+use Rattle.store_model.specs.Image.{Store, IsValidFor}
+use Rattle.store_model.specs.Pieces.{HasPieceOf}
+use Rattle.store_model.specs.Slots.{Copy, IsIndexOf}
+use Rattle.store_model.proofs.Lookups.{lacks}
+use Rattle.store_model.proofs.Sound.{last_within}
+use Rattle.store_state.specs.Comparing.{IsFirstUnlike}
+use Rattle.store_state.specs.Tables.{Represents}
+use Rattle.ingest_steps.specs.Claiming.{DiffersFrom, IsClaimRefusal}
+use Rattle.ingest_steps.specs.Pinning.{first_unpinned_of}
+use Rattle.ingest_steps.specs.SealStep.{IsStepRefusal}
+use Rattle.ingest_steps.proofs.PinList.{all_at}
+use Rattle.store_core.specs.Core.{CoreStep, IsDamage, KeepsTables, KeepsUnlessBroken}
+use Rattle.store_core.specs.Keeping.{kept_of}
+use Rattle.store_core.specs.State.{CoreState}
+use Rattle.backup_engine.specs.AnyDisk.{room_in}
+use Rattle.backup_engine.specs.Line.{Ingest}
+use Rattle.backup_engine.specs.PlainMap.{HasTwins, LacksPiece}
+use Rattle.backup_engine.specs.Putting.{Way, AreNew}
+use Rattle.backup_engine.specs.Running.{IsPutRefusal, PutRun}
+use Rattle.backup_engine.proofs.FirstActor.{by_first, kept_represents, no_other}
+use Rattle.backup_engine.proofs.KeptPieces.{IsKeptChild, all_unpinned_twins, is_piece, kept_pieces, of_kind, unpinned_twins}
+use Rattle.backup_engine.proofs.UnlikeCopies.{unlike_refused}
+use Rattle.backup_engine.proofs.WayClaims.{claim, claim_made, claim_put, same_pins}
+use Rattle.backup_engine.proofs.WaySeals.{seal, seal_made, seal_put}
+use Rattle.backup_engine.proofs.Ways.{way_later, with_last}
+
+-- the first of these pieces, none of which the index has, is lacked
+lacks_first : (name file : List ℕ) (kind : Kind) (ss : List Segment) (store : Store) (places : PlaceMap) → 1 ≤ length ss → AllByRecursion (λ s. HasPieceOf file (of_kind kind s)) ss → AreNew places kind ss → IsIndexOf store.held places
+    → LacksPiece file (room_in (Ingest name) store)
+lacks_first name file kind [] store places some pieces fresh index = absurd (omega (arith, some))
+lacks_first name file kind (s ∷ ss) store places some pieces fresh index = (
+  segment_key kind s,
+  (length s.bytes, is_piece file (of_kind kind s) pieces.0, ap (option_map (λ (c : Copy). c.place.length)) (lacks store places (segment_key kind s) index fresh.0)),
+)
+
+module _ (C : Type 0) (state : C → CoreState) (files : List ℕ → Type 0) (opens : Kind → List Segment) (start old new : C) (w : Way C state files opens start old) (buf name file : List ℕ) (is : files file) where
+  pieces_kept : AllByRecursion (HasPieceOf file) (kept_of w.steps)
+  pieces_kept = kept_pieces name file w.steps (w.each name file is)
+
+  -- ---- a claim
+
+  module _ (seg : KindSegment) (right : IsStepSegment seg) (piece : (file : List ℕ) → files file → HasPieceOf file seg) (children : AllByRecursion (IsKeptChild (kept_of w.steps)) (children_of seg)) where
+    child_unpinned : (key : List ℕ) (pins : PinMap) → part_of (state old).parts 0 ≡ Writing pins → first_unpinned seg pins ≡ Some key → HasTwins file key
+    child_unpinned key pins writing unpinned =
+        unpinned_twins file (kept_of w.steps) w.pins w.places w.kept pieces_kept (children_of seg) key children
+        (subst (λ (p : PinMap). first_unpinned seg p ≡ Some key) (same_pins pins w.pins (sym writing ∙ w.writing)) unpinned)
+
+    claim_cause : (refusal : Refusal) → (state new).disk.content ≡ (state old).disk.content → KeepsTables (state old) (state new)
+        → IsClaimRefusal (part_of (state old).parts 0) seg (IsDamage (state old) (state new)) (DiffersFrom (state old).disk.size (state old).known seg (Shows (state old).disk (state new).disk)) refusal
+        → IsPutRefusal name file (state start).disk (state new) refusal
+    claim_cause refusals.Memory same kept cause = tt
+    claim_cause refusals.DiskRead same kept cause = tt
+    claim_cause refusals.DiskWrite same kept cause = tt
+    claim_cause (refusals.WrongPart kind) same kept cause = absurd (no_other kinds.Writing (part_of (state old).parts 0) (refusals.WrongPart kind) (ap kind_of w.writing) cause)
+    claim_cause (refusals.Unpinned key) same kept cause = record { store_has = λ store represents valid reserve. inl (child_unpinned key cause.0 cause.1 cause.2) }
+    claim_cause (refusals.Damaged at why) same kept cause = absurd (let other = sym w.known ∙ cause.1.0 in cc)
+    claim_cause refusal same kept cause =
+        unlike_refused name file (state start).disk (state old) (state new) (way_later C state files opens start old w) same w.places w.known (kept.index_is ∙ w.known) seg (piece file is) refusal cause.1
+
+    pub way_unclaimed : (refusal : Refusal) → CoreStep (state old) (by_first (asked.Claim seg) (Err refusal) buf) (state new)
+        → PutRun C state name file (Err refusal) start new × IsPutRefusal name file (state start).disk (state new) refusal
+    way_unclaimed refusal step =
+        let steps = claim_made C state files opens start old new w seg buf (Err refusal) step in (
+          with_last C state files opens start old w name file (Err refusal) (claim C state files opens start old new w seg buf (Err refusal)) new is step
+              (claim_put C state files opens start old new w seg buf right piece (Err refusal) name file is) refl (inl refl) tt,
+          claim_cause refusal steps.made.effect.disk.only.content_is steps.made.effect.tables steps.made.row.0,
+        )
+
+  -- ---- a seal
+
+  module _ (filled : Contents) (right : IsStep (asked.Seal filled)) (pieces : (file : List ℕ) → files file → AllByRecursion (λ s. HasPieceOf file (of_kind filled.kind s)) filled.segments) (fresh : AreNew w.places filled.kind filled.segments)
+      (children : AllByRecursion (λ x. AllByRecursion (IsKeptChild (kept_of w.steps)) (children_by filled.kind x)) filled.segments) where
+    one_unpinned : (key : List ℕ) (pins : PinMap) → part_of (state old).parts 0 ≡ Writing pins → first_unpinned_of filled.kind filled.segments pins ≡ Some key → HasTwins file key
+    one_unpinned key pins writing unpinned =
+        all_unpinned_twins file (kept_of w.steps) w.pins w.places w.kept pieces_kept filled.kind filled.segments key children
+        (subst (λ (p : PinMap). first_unpinned_of filled.kind filled.segments p ≡ Some key) (same_pins pins w.pins (sym writing ∙ w.writing)) unpinned)
+
+    -- no other copy is held of any
+    none_unlike : (refusal : Refusal) → IsFirstUnlike (state old).disk.size (state old).known (Shows (state old).disk (state new).disk) filled.kind filled.segments refusal → ⊥
+    none_unlike refusal unlike =
+        absurd (let both = sym (all_at (λ s. finite.get w.places (segment_key filled.kind s) ≡ None) filled.segments unlike.number unlike.within fresh) ∙ unlike.unlike.there w.places w.known in cc)
+
+    lacks_one : (store : Store) → Represents store (state old).known (state old).tables → LacksPiece file (room_in (Ingest name) store)
+    lacks_one store represents = lacks_first name file filled.kind filled.segments store w.places right.0 (pieces file is) fresh (represents.index_is_newest w.places w.known)
+
+    module _ (size_is : (state new).disk.size ≡ (state old).disk.size) where
+      seal_cause : (refusal : Refusal) → KeepsUnlessBroken refusal (state old) (state new)
+          → IsStepRefusal (part_of (state old).parts 0) (state old).tables (state old).disk.size (state old).known filled
+          (IsFirstUnlike (state old).disk.size (state old).known (Shows (state old).disk (state new).disk) filled.kind filled.segments) refusal
+          → IsPutRefusal name file (state start).disk (state new) refusal
+      seal_cause refusals.Memory kept cause = tt
+      seal_cause refusals.DiskRead kept cause = tt
+      seal_cause refusals.DiskWrite kept cause = tt
+      seal_cause (refusals.WrongPart kind) kept cause = absurd (no_other kinds.Writing (part_of (state old).parts 0) (refusals.WrongPart kind) (ap kind_of w.writing) cause)
+      seal_cause (refusals.Unpinned key) kept cause = record { store_has = λ store represents valid reserve. inl (one_unpinned key cause.0 cause.1 cause.2) }
+      seal_cause (refusals.Damaged at why) kept cause = absurd (let other = sym w.known ∙ cause.2 in cc)
+      seal_cause (refusals.Full free) kept cause = record {
+        store_has = λ store represents valid reserve.
+            let before = kept_represents (state old) (state new) kept store represents in
+            let so = cause.1.store_has store before (subst (λ (n : ℕ). IsValidFor n store) size_is valid) reserve in
+            inl (lacks_one store before, so.0, so.1);
+      }
+      seal_cause refusals.Numbers kept cause = record {
+        store_has = λ store represents valid reserve.
+            let before = kept_represents (state old) (state new) kept store represents in
+            let sized = subst (λ (n : ℕ). IsValidFor n store) size_is valid in
+            let so = cause.1.0.store_has store before sized reserve in
+            inl (inl (lacks_one store before, so, omega (arith, last_within store.held valid.headers, w.ids.store_has store before sized reserve, cause.1.1)));
+      }
+      seal_cause refusal kept cause = absurd (none_unlike refusal cause.2)
+
+    pub way_unsealed : (refusal : Refusal) → CoreStep (state old) (by_first (asked.Seal filled) (Err refusal) buf) (state new)
+        → PutRun C state name file (Err refusal) start new × IsPutRefusal name file (state start).disk (state new) refusal
+    way_unsealed refusal step =
+        let steps = seal_made C state files opens start old new w filled buf (Err refusal) step in (
+          with_last C state files opens start old w name file (Err refusal) (seal C state files opens start old new w filled buf (Err refusal)) new is step
+              (seal_put C state files opens start old new w filled buf right pieces (Err refusal) name file is) refl (inl refl) tt,
+          seal_cause steps.made.effect.disk.later.size_is refusal steps.made.effect.kept steps.made.row.0,
+        )

@@ -1,13 +1,14 @@
 -- The pieces of a line that carries something are that line. What is not here the check finds by itself.
-use Rattle.std.proofs.Common.{◌≡◌, ℕ, List, [], ◌∷◌, ◌++◌, append_assoc, codes, decimal, Result, subst}
+use Rattle.std.proofs.Common.{◌≡◌, ◌≤◌, ℕ, false, List, [], ◌∷◌, ◌++◌, append_assoc, codes, decimal, length, drop, Some, Result, Ok, Err, is_err, refl, subst, arith}
 use Rattle.std.proofs.lemmas.List.{append-nil}
 use Rattle.hex.specs.Hex.{encode_lower}
 use Rattle.dd_io.specs.Flow.{SinkView, Sends}
 use Rattle.refusals.specs.declared.refusal.Refusal.TheVariants.{Clash, WrongPart, Corrupt, Missing, NotAStore, Version, Unpinned, WrongSize}
+use Rattle.refusals.specs.declared.refusal.Refusal.{Refusal}
 use Rattle.refusals.specs.declared.refusal.Difference.TheVariants.{Byte}
 use Rattle.refusals.specs.declared.refusal.PartKind.{PartKind}
 use Rattle.reply_text.specs.declared.ending.Ending.TheVariants.{Refused}
-use Rattle.reply_text.specs.Text.{fault_line, ending_text, refusal_text, difference_text, part_text}
+use Rattle.reply_text.specs.Text.{fault_line, refused_line, ending_text, refusal_text, difference_text, part_text}
 
 -- pieces of which one has a line of its own, put together either way
 byte_pieces : (front key space word place offered held end : List ℕ)
@@ -75,3 +76,18 @@ wrong_size_text want got want_text got_text is_want is_got = rw (is_want, is_got
 -- what was sent, by another name
 pub sends_as : {T E : Type 0} (result : Result T E) (old new : SinkView) (text same : List ℕ) → text ≡ same → Sends text result old new → Sends same result old new
 sends_as result old new text same is = subst (λ (t : List ℕ). Sends t result old new) is
+
+-- the note of a refusal that was written whole
+pub note_written : {T E : Type 0} (result : Result T E) (refusal : Refusal) (old new : SinkView) (bytes : List ℕ) → is_err result ≡ false → Sends (fault_line (Refused refusal)) result old new → old.written ≡ Some [] → new.written ≡ Some bytes → bytes ≡ fault_line (Refused refusal)
+note_written (Ok x) refusal old new bytes done sends before after = cc (sends.ok.is [] before)
+note_written (Err e) refusal old new bytes done sends before after = cc
+
+-- it has a first word, and the space after it
+pub note_length : (refusal : Refusal) → 6 ≤ length (fault_line (Refused refusal))
+unfolding fault_line ending_text
+note_length refusal = omega arith
+
+-- it ends as the reply to a line does
+pub note_tail : (refusal : Refusal) → codes "refused " ++ drop 6 (fault_line (Refused refusal)) ≡ refused_line refusal
+unfolding fault_line ending_text refused_line
+note_tail refusal = refl

@@ -76,3 +76,7 @@ ending_text (Refused refusal) = refusal_text refusal
 -- the line in the notes of a command that was not done
 unfoldable pub fault_line : Ending → List ℕ
 fault_line ending = codes "fault " ++ ending_text ending ++ codes "\n"
+
+-- the reply to a line of a script that was refused; in the notes the first word is `fault`
+unfoldable pub refused_line : Refusal → List ℕ
+refused_line refusal = codes "refused " ++ refusal_text refusal ++ codes "\n"

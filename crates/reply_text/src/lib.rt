@@ -7,6 +7,6 @@ mod status;
 mod text;
 
 pub use ending::Ending;
-pub use notes::write_fault;
+pub use notes::{refused_line, write_fault};
 pub use status::status_of;
 pub use text::{formatted_line, stored_line};

@@ -1,5 +1,5 @@
 //! The line in the notes of a command that was not done: docs/FORMAT.md, 'Texts'.
-ghost use Rattle.std.specs.Prelude.{◌≡◌, ◌*◌, length};
+ghost use Rattle.std.specs.Prelude.{◌≡◌, ◌*◌, ◌≤◌, length, drop, IfOk};
 ghost use Rattle.std.specs.List.{flat_map};
 ghost use Rattle.hex.specs.Hex.{encode_lower};
 ghost use Rattle.dd_io.specs.Flow.{Sends};
@@ -8,13 +8,14 @@ ghost use Rattle.disk_format.specs.declared.why.Why.TheVariants.{Digest, Field};
 ghost use Rattle.reply_text.specs.declared.ending.Ending.TheVariants.{Refused};
 ghost use Rattle.refusals.specs.declared.refusal.Refusal.TheVariants.{Full, Clash, WrongPart, Stopped, Corrupt, Missing};
 ghost use Rattle.refusals.specs.declared.refusal.Refusal.TheVariants.{NotAStore, Version, Damaged, Unpinned, WrongSize};
-ghost use Rattle.reply_text.specs.Text.{fault_line, part_text};
+ghost use Rattle.reply_text.specs.Text.{fault_line, refused_line, part_text};
 
 use crate::ending::Ending;
-use dd_io::{Sink, SinkFault};
+use dd_io::{MemSink, Sink, SinkFault};
 use disk_format::Why;
 use itoa::Buffer;
 use refusals::{Difference, PartKind, Refusal};
+use std::alloc::{AllocError, Global};
 
 // Writes some pieces, one after another.
 fn write_pieces<Q: Sink>(notes: &mut Q, pieces: &[&[u8]]) -> Result<(), SinkFault>
@@ -37,6 +38,28 @@ pub fn write_fault<Q: Sink>(notes: &mut Q, ending: &Ending) -> Result<(), SinkFa
         Ending::Sink => write_pieces(notes, &[b"fault sink\n"]),
         Ending::Refused(refusal) => write_refusal(notes, refusal),
     }
+}
+
+/// The reply to a line of a script that was refused: the line that the notes have of that refusal, with another first word.
+/// It fails for want of memory alone.
+pub fn refused_line(alloc: Global, refusal: &Refusal) -> Result<Vec<u8>, AllocError>
+    ensures { IfOk result (λ line. line.items ≡ refused_line refusal.now) }
+{
+    let mut note = MemSink::new(alloc, Vec::new(alloc));
+    if write_refusal(&mut note, refusal).is_err() {
+        return Err(AllocError);
+    }
+    let mut line = Vec::from_slice(alloc, b"refused ")?;
+    line.extend_from_slice(after_first_word(note.bytes()))?;
+    Ok(line)
+}
+
+// The line of the notes without `fault` and the space.
+fn after_first_word(note: &[u8]) -> &[u8]
+    requires { 6 ≤ length note.now }
+    ensures { result.now ≡ drop 6 note.now }
+{
+    &note[6..]
 }
 
 #[tactic(auto, unfolding(crate::specs::Text::fault_line, crate::specs::Text::ending_text, crate::specs::Text::refusal_text))]

@@ -1,0 +1,5 @@
+mod Bytes
+mod Decoding
+mod Reading
+mod Lines
+mod Numbers

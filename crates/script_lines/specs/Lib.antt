@@ -1,0 +1,4 @@
+pub mod Grammar
+pub mod LineValue
+pub mod ReplyText
+pub mod Script

@@ -1,0 +1,13 @@
+//! The lines of scripts, as they are read, and the replies to them, as they are printed: docs/FORMAT.md, 'Scripts'.
+#![tactic(auto)]
+
+mod digits;
+mod line;
+mod reply;
+mod script;
+mod words;
+
+pub use digits::decode_into;
+pub use line::{Line, one_line, read_line};
+pub use reply::{Holdings, Reply, Turned, print_reply};
+pub use script::{MOST_LINE, MOST_SCRIPT, scripts_are_clear};

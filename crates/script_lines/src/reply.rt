@@ -1,0 +1,188 @@
+//! The replies to the lines of a script: docs/FORMAT.md, 'Scripts'.
+ghost use Rattle.std.specs.Prelude.{◌≡◌, ◌++◌, codes, decimal, IfOk, OnOk};
+ghost use Rattle.hex.specs.Hex.{encode_lower};
+ghost use Rattle.script_lines.specs.ReplyText.{turned_line, stat_line, reply_line};
+
+use actor_parts::Actor;
+use itoa::Buffer;
+use refusals::Refusal;
+use reply_text::refused_line;
+use std::alloc::{AllocError, Global};
+
+/// What a turn did.
+#[derive(Clone, Copy)]
+pub enum Turned {
+    /// The segment is held, and kept.
+    Held,
+    /// No such segment is held.
+    Absent,
+    /// A container was stored under this id.
+    Sealed { id: u64 },
+    /// Nothing was due.
+    Idle,
+}
+
+/// What a store holds.
+#[derive(Clone, Copy)]
+pub struct Holdings {
+    /// How many names there are.
+    pub files: u64,
+    /// How many segments its containers have.
+    pub segments: u64,
+    /// How many bytes these have in all.
+    pub bytes: u64,
+    /// How many container slots are used.
+    pub used: u64,
+    /// How many are free.
+    pub free: u64,
+}
+
+/// The reply to a line of a script.
+#[derive(Clone, Copy)]
+pub enum Reply<'a> {
+    /// `begun A`: a file may be given.
+    Begun { actor: Actor },
+    /// `pushed A N`: so many bytes of the file were given so far.
+    Pushed { actor: Actor, bytes: u64 },
+    /// `finished A N`: so many bytes the file has.
+    Finished { actor: Actor, bytes: u64 },
+    /// `turn A held`, `turn A absent`, `turn A sealed ID` or `turn A idle`.
+    Turn { actor: Actor, turned: Turned },
+    /// `committed A SEQ`: the name has the file from this sequence number on.
+    Committed { actor: Actor, sequence: u64 },
+    /// `aborted A`: the file was given up.
+    Aborted { actor: Actor },
+    /// `reading A LENGTH`: so many bytes are to come.
+    Reading { actor: Actor, length: u64 },
+    /// `bytes A HEX`: the next of them, which the caller lends.
+    Bytes { actor: Actor, bytes: &'a [u8] },
+    /// `end A`: the file has ended.
+    End { actor: Actor },
+    /// `dropped A`: no more are taken.
+    Dropped { actor: Actor },
+    /// `stat files F segments S bytes B used U free R`.
+    Stat { holdings: Holdings },
+    /// `opened FILES`: the store is open, and has so many names.
+    Opened { files: u64 },
+    /// `refused TEXT`: why the line was refused.
+    Refused { refusal: Refusal },
+}
+
+/// The line of a reply, with the LF that ends it. It fails for want of memory alone.
+#[tactic(auto, unfolding(crate::specs::ReplyText::reply_line))]
+pub fn print_reply(alloc: Global, reply: &Reply<'_>) -> Result<Vec<u8>, AllocError>
+    ensures { IfOk result (λ line. line.items ≡ reply_line reply.now) }
+{
+    match reply {
+        Reply::Begun { actor } => actor_line(alloc, b"begun ", *actor),
+        Reply::Pushed { actor, bytes } => number_line(alloc, b"pushed ", *actor, *bytes),
+        Reply::Finished { actor, bytes } => number_line(alloc, b"finished ", *actor, *bytes),
+        Reply::Turn { actor, turned } => turned_line(alloc, *actor, turned),
+        Reply::Committed { actor, sequence } => number_line(
+            alloc,
+            b"committed ",
+            *actor,
+            *sequence,
+        ),
+        Reply::Aborted { actor } => actor_line(alloc, b"aborted ", *actor),
+        Reply::Reading { actor, length } => number_line(alloc, b"reading ", *actor, *length),
+        Reply::Bytes { actor, bytes } => bytes_line(alloc, *actor, bytes),
+        Reply::End { actor } => actor_line(alloc, b"end ", *actor),
+        Reply::Dropped { actor } => actor_line(alloc, b"dropped ", *actor),
+        Reply::Stat { holdings } => stat_line(alloc, holdings),
+        Reply::Opened { files } => opened_line(alloc, *files),
+        Reply::Refused { refusal } => refused_line(alloc, refusal),
+    }
+}
+
+// A word and an actor.
+fn actor_line(alloc: Global, word: &[u8], actor: Actor) -> Result<Vec<u8>, AllocError>
+    ensures { IfOk result (λ line. line.items ≡ word.now ++ decimal actor ++ codes "\n") }
+{
+    let mut line = line_start(alloc, word, actor)?;
+    line.extend_from_slice(b"\n")?;
+    Ok(line)
+}
+
+// A word, an actor and a number.
+fn number_line(alloc: Global, word: &[u8], actor: Actor, number: u64) -> Result<Vec<u8>, AllocError>
+    ensures { IfOk result (λ line. line.items ≡ word.now ++ decimal actor ++ codes " " ++ decimal number ++ codes "\n") }
+{
+    let mut line = line_start(alloc, word, actor)?;
+    line.extend_from_slice(b" ")?;
+    add_number(&mut line, number)?;
+    line.extend_from_slice(b"\n")?;
+    Ok(line)
+}
+
+#[tactic(auto, unfolding(crate::specs::ReplyText::turned_line))]
+fn turned_line(alloc: Global, actor: Actor, turned: &Turned) -> Result<Vec<u8>, AllocError>
+    ensures { IfOk result (λ line. line.items ≡ turned_line actor turned.now) }
+{
+    let mut line = line_start(alloc, b"turn ", actor)?;
+    match turned {
+        Turned::Held => line.extend_from_slice(b" held\n")?,
+        Turned::Absent => line.extend_from_slice(b" absent\n")?,
+        Turned::Sealed { id } => {
+            line.extend_from_slice(b" sealed ")?;
+            add_number(&mut line, *id)?;
+            line.extend_from_slice(b"\n")?;
+        }
+        Turned::Idle => line.extend_from_slice(b" idle\n")?,
+    }
+    Ok(line)
+}
+
+fn bytes_line(alloc: Global, actor: Actor, bytes: &[u8]) -> Result<Vec<u8>, AllocError>
+    ensures { IfOk result (λ line. line.items ≡ codes "bytes " ++ decimal actor ++ codes " " ++ encode_lower bytes.now ++ codes "\n") }
+{
+    let digits = hex::encode(alloc, bytes)?;
+    let mut line = line_start(alloc, b"bytes ", actor)?;
+    line.extend_from_slice(b" ")?;
+    line.extend_from_slice(digits.as_bytes())?;
+    line.extend_from_slice(b"\n")?;
+    Ok(line)
+}
+
+#[tactic(auto, unfolding(crate::specs::ReplyText::stat_line))]
+fn stat_line(alloc: Global, holdings: &Holdings) -> Result<Vec<u8>, AllocError>
+    ensures { IfOk result (λ line. line.items ≡ stat_line holdings.now) }
+{
+    let mut line = Vec::from_slice(alloc, b"stat files ")?;
+    add_number(&mut line, holdings.files)?;
+    line.extend_from_slice(b" segments ")?;
+    add_number(&mut line, holdings.segments)?;
+    line.extend_from_slice(b" bytes ")?;
+    add_number(&mut line, holdings.bytes)?;
+    line.extend_from_slice(b" used ")?;
+    add_number(&mut line, holdings.used)?;
+    line.extend_from_slice(b" free ")?;
+    add_number(&mut line, holdings.free)?;
+    line.extend_from_slice(b"\n")?;
+    Ok(line)
+}
+
+fn opened_line(alloc: Global, files: u64) -> Result<Vec<u8>, AllocError>
+    ensures { IfOk result (λ line. line.items ≡ codes "opened " ++ decimal files ++ codes "\n") }
+{
+    let mut line = Vec::from_slice(alloc, b"opened ")?;
+    add_number(&mut line, files)?;
+    line.extend_from_slice(b"\n")?;
+    Ok(line)
+}
+
+// A word and an actor, as a line begins with them.
+fn line_start(alloc: Global, word: &[u8], actor: Actor) -> Result<Vec<u8>, AllocError>
+    ensures { IfOk result (λ line. line.items ≡ word.now ++ decimal actor) }
+{
+    let mut line = Vec::from_slice(alloc, word)?;
+    add_number(&mut line, actor.number())?;
+    Ok(line)
+}
+
+fn add_number(line: &mut Vec<u8>, number: u64) -> Result<(), AllocError>
+    ensures { OnOk result (line.new.items ≡ line.old.items ++ decimal number) }
+{
+    let mut text = Buffer::new();
+    line.extend_from_slice(text.format(number).as_bytes())
+}

@@ -1,0 +1,52 @@
+//! The words of a line.
+ghost use Rattle.std.specs.Prelude.{◌≡◌, ◌++◌, ◌∷◌, [], ℕ, decimal, IfSome, IfNone};
+ghost use Rattle.script_lines.specs.Grammar.{HasNoSpace, IsActor};
+
+use actor_parts::Actor;
+
+/// What stands before the first space and what stands after it, where there is one.
+pub(crate) fn split_word(bytes: &[u8]) -> Option<(&[u8], &[u8])>
+    ensures found { IfSome result (λ words. HasNoSpace words.0.now × (bytes.now ≡ words.0.now ++ (32 ∷ words.1.now))) }
+    ensures none { IfNone result (HasNoSpace bytes.now) }
+{
+    for (index, byte) in bytes.iter().enumerate() {
+        if *byte == b' ' {
+            return Some((&bytes[..index], &bytes[index + 1..]));
+        }
+    }
+    None
+}
+
+/// The actor whose number is the word: decimal, with no zero before another digit.
+pub(crate) fn read_actor(word: &[u8]) -> Option<Actor>
+    ensures found { IfSome result (λ actor. IsActor actor × (word.now ≡ decimal actor)) }
+    ensures none { IfNone result ((actor : ℕ) → IsActor actor → word.now ≡ decimal actor → ⊥) }
+{
+    match word {
+        [ones] => one_digit(*ones),
+        [tens, ones] => two_digits(*tens, *ones),
+        _ => None,
+    }
+}
+
+fn one_digit(ones: u8) -> Option<Actor>
+    ensures found { IfSome result (λ actor. IsActor actor × (ones ∷ [] ≡ decimal actor)) }
+    ensures none { IfNone result ((actor : ℕ) → IsActor actor → ones ∷ [] ≡ decimal actor → ⊥) }
+{
+    if ones.is_ascii_digit() {
+        Actor::new(u64::from(ones - b'0'))
+    } else {
+        None
+    }
+}
+
+fn two_digits(tens: u8, ones: u8) -> Option<Actor>
+    ensures found { IfSome result (λ actor. IsActor actor × (tens ∷ ones ∷ [] ≡ decimal actor)) }
+    ensures none { IfNone result ((actor : ℕ) → IsActor actor → tens ∷ ones ∷ [] ≡ decimal actor → ⊥) }
+{
+    if tens.is_ascii_digit() && tens != b'0' && ones.is_ascii_digit() {
+        Actor::new(10 * u64::from(tens - b'0') + u64::from(ones - b'0'))
+    } else {
+        None
+    }
+}

@@ -4,6 +4,7 @@ use crate::cutting::{cut, cutter};
 use crate::nodes::{node, tree, walk};
 use crate::places::index;
 use crate::registry::{names, replay};
+use crate::sessions::session;
 use crate::streams::{sink, size, source};
 use crate::words::{Fault, words_of};
 use std::alloc::Global;
@@ -18,6 +19,7 @@ pub(crate) fn codec_answer(alloc: Global, row: &str) -> Result<String, Fault> {
         "names" => names(alloc, rest),
         "replay" => replay(alloc, rest),
         "index" => index(alloc, rest),
+        "session" => session(alloc, rest),
         "source" => source(alloc, rest),
         "sink" => sink(alloc, rest),
         _ => plain_answer(alloc, codec, &words_of(alloc, rest)?),

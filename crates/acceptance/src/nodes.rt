@@ -69,7 +69,7 @@ fn are_same(found: &[Child], wanted: &[Child]) -> bool {
             && one.length == other.length)
 }
 
-fn add_top(text: &mut Text, top: &Top) {
+pub(crate) fn add_top(text: &mut Text, top: &Top) {
     text.add("level ");
     text.add_number(u64::from(top.level));
     text.add(" length ");

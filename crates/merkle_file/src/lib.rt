@@ -20,7 +20,7 @@ pub use builder::TreeBuilder;
 pub use cursor::Cursor;
 pub use fault::{FieldFault, NodeFault};
 pub use in_place::{child_at, count_in, length_in, nodes_are_read_again};
-pub use laws::{nodes_in_order, spellings_of_nodes, tree_of_segments};
+pub use laws::{groups_of_a_level, nodes_in_order, spellings_of_nodes, tree_of_segments};
 pub use node::{Child, Hash, Node};
 pub use top::Top;
 pub use want::Want;

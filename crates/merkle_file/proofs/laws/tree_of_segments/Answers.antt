@@ -1,4 +1,3 @@
-use Rattle.merkle_file.proofs.Groups.{groups_are_taken}
 use Rattle.merkle_file.proofs.TreeLaws.{leaves_are_segments, segments_alike}
 use Rattle.merkle_file.proofs.RightTrees.{trees_are_right}
 use Rattle.merkle_file.proofs.RootLaws.{bytes_are_segments, none_is_empty, one_is_leaf, nodes_are_right, roots_are_right}
@@ -27,6 +26,3 @@ returns-clause-nodes c = nodes_are_right
 
 pub returns-clause-root : goal.returns-clause-root
 returns-clause-root c = roots_are_right
-
-pub returns-clause-groups : goal.returns-clause-groups
-returns-clause-groups c = groups_are_taken

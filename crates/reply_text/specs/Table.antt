@@ -3,7 +3,7 @@ use Rattle.std.specs.Prelude.{ℕ}
 use Rattle.refusals.specs.declared.refusal.Refusal.{Refusal}
 use Rattle.refusals.specs.declared.refusal.Refusal.TheVariants.{Memory, NoFile, BadName, TooMany, TooLong, Full, Clash, WrongPart, DiskRead, DiskWrite, Stopped, Corrupt, Missing, Numbers, NotAStore, Version, Damaged, Unpinned, AlreadyStore, WrongSize}
 use Rattle.reply_text.specs.declared.ending.Ending.{Ending}
-use Rattle.reply_text.specs.declared.ending.Ending.TheVariants.{Words, Source, Sink, Refused}
+use Rattle.reply_text.specs.declared.ending.Ending.TheVariants.{Words, Source, Sink, Line, Script, Refused}
 
 -- the exit status of a command that was refused
 abbrev pub status_of_refusal : Refusal → ℕ
@@ -33,4 +33,6 @@ abbrev pub status_of : Ending → ℕ
 status_of Words = 2
 status_of Source = 5
 status_of Sink = 6
+status_of (Line number) = 2
+status_of Script = 2
 status_of (Refused refusal) = status_of_refusal refusal

@@ -11,7 +11,7 @@ use Rattle.disk_format.specs.declared.why.Why.TheVariants.{Digest, Field}
 use Rattle.refusals.specs.declared.refusal.Refusal.{Refusal}
 use Rattle.refusals.specs.declared.refusal.Refusal.TheVariants.{Memory, NoFile, BadName, TooMany, TooLong, Full, Clash, WrongPart, DiskRead, DiskWrite, Stopped, Corrupt, Missing, Numbers, NotAStore, Version, Damaged, Unpinned, AlreadyStore, WrongSize}
 use Rattle.reply_text.specs.declared.ending.Ending.{Ending}
-use Rattle.reply_text.specs.declared.ending.Ending.TheVariants.{Words, Source, Sink, Refused}
+use Rattle.reply_text.specs.declared.ending.Ending.TheVariants.{Words, Source, Sink, Line, Script, Refused}
 
 -- `formatted N`
 unfoldable pub formatted_line : ℕ → List ℕ
@@ -71,6 +71,8 @@ unfoldable pub ending_text : Ending → List ℕ
 ending_text Words = codes "words"
 ending_text Source = codes "source"
 ending_text Sink = codes "sink"
+ending_text (Line number) = codes "line " ++ decimal number
+ending_text Script = codes "script"
 ending_text (Refused refusal) = refusal_text refusal
 
 -- the line in the notes of a command that was not done

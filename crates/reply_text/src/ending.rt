@@ -15,6 +15,10 @@ pub enum Ending {
     Source,
     /// The sink failed.
     Sink,
+    /// A line of the script is none, or isn't ended, or is too long: its number, from 1 on.
+    Line { number: u64 },
+    /// The script has more bytes than one may have.
+    Script,
     /// A step was refused.
     Refused(Refusal),
 }

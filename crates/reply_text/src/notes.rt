@@ -5,7 +5,7 @@ ghost use Rattle.hex.specs.Hex.{encode_lower};
 ghost use Rattle.dd_io.specs.Flow.{Sends};
 ghost use Rattle.refusals.specs.declared.refusal.Difference.TheVariants.{Length, Byte};
 ghost use Rattle.disk_format.specs.declared.why.Why.TheVariants.{Digest, Field};
-ghost use Rattle.reply_text.specs.declared.ending.Ending.TheVariants.{Refused};
+ghost use Rattle.reply_text.specs.declared.ending.Ending.TheVariants.{Line, Refused};
 ghost use Rattle.refusals.specs.declared.refusal.Refusal.TheVariants.{Full, Clash, WrongPart, Stopped, Corrupt, Missing};
 ghost use Rattle.refusals.specs.declared.refusal.Refusal.TheVariants.{NotAStore, Version, Damaged, Unpinned, WrongSize};
 ghost use Rattle.reply_text.specs.Text.{fault_line, refused_line, part_text};
@@ -36,8 +36,21 @@ pub fn write_fault<Q: Sink>(notes: &mut Q, ending: &Ending) -> Result<(), SinkFa
         Ending::Words => write_pieces(notes, &[b"fault words\n"]),
         Ending::Source => write_pieces(notes, &[b"fault source\n"]),
         Ending::Sink => write_pieces(notes, &[b"fault sink\n"]),
+        Ending::Line { number } => write_wrong_line(notes, *number),
+        Ending::Script => write_pieces(notes, &[b"fault script\n"]),
         Ending::Refused(refusal) => write_refusal(notes, refusal),
     }
+}
+
+#[tactic(auto, unfolding(crate::specs::Text::fault_line, crate::specs::Text::ending_text))]
+fn write_wrong_line<Q: Sink>(notes: &mut Q, number: u64) -> Result<(), SinkFault>
+    ensures { Sends (fault_line (Line number)) result (Q.view notes.old) (Q.view notes.new) }
+{
+    let mut number_text = Buffer::new();
+    write_pieces(
+        notes,
+        &[b"fault line ", number_text.format(number).as_bytes(), b"\n"],
+    )
 }
 
 /// The reply to a line of a script that was refused: the line that the notes have of that refusal, with another first word.

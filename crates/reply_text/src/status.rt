@@ -13,6 +13,8 @@ pub fn status_of(ending: &Ending) -> u8
         Ending::Words => 2,
         Ending::Source => 5,
         Ending::Sink => 6,
+        Ending::Line { .. } => 2,
+        Ending::Script => 2,
         Ending::Refused(refusal) => status_of_refusal(refusal),
     }
 }

@@ -8,6 +8,7 @@ use Rattle.std.proofs.lemmas.Bool.Decides.{nat_tests}
 use Rattle.std.proofs.lemmas.Fmt.{decimal_digit, decimal_step, decimal_is_IsNumeral}
 use Rattle.std.proofs.lemmas.Slice.Eq.{bytes_eq-Decides}
 use Rattle.script_lines.specs.Grammar.{IsActor, HasNoSpace}
+use Rattle.script_lines.specs.Script.{HasNoLineEnd}
 
 -- a digit, as its range
 digit_range : (byte : ℕ) → is_ascii_digit byte ≡ true → (48 ≤ byte) × (byte ≤ 57)
@@ -32,6 +33,16 @@ number_has_no_space n actor =
     elim (cases_lt n 10) [
       | inr low ↦ rw (two_digits n low (omega arith)) (or_from _ _ (no_space (48 + n / 10) (omega arith)) (or_from _ _ (no_space (48 + n % 10) (omega arith)) refl))
       | inl small ↦ rw (one_digit n (omega arith)) (or_from _ _ (no_space (48 + n) (omega arith)) refl)
+    ]
+
+no_line_end : (byte : ℕ) → 48 ≤ byte → eqb byte 10 ≡ false
+no_line_end byte digit = ne_eqb byte 10 (λ is. omega arith)
+
+pub number_has_no_line_end : (n : ℕ) → IsActor n → HasNoLineEnd (decimal n)
+number_has_no_line_end n actor =
+    elim (cases_lt n 10) [
+      | inr low ↦ rw (two_digits n low (omega arith)) (or_from _ _ (no_line_end (48 + n / 10) (omega arith)) (or_from _ _ (no_line_end (48 + n % 10) (omega arith)) refl))
+      | inl small ↦ rw (one_digit n (omega arith)) (or_from _ _ (no_line_end (48 + n) (omega arith)) refl)
     ]
 
 -- the actor of a word, where it is one's number

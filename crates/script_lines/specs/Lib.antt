@@ -1,4 +1,5 @@
 pub mod Grammar
 pub mod LineValue
 pub mod ReplyText
+pub mod ReplyValue
 pub mod Script

@@ -5,8 +5,7 @@ use Rattle.reply_text.specs.Text.{refused_line}
 use Rattle.script_lines.specs.declared.reply.Turned.{Turned}
 use Rattle.script_lines.specs.declared.reply.Turned.TheVariants.{Held, Absent, Sealed, Idle}
 use Rattle.script_lines.specs.declared.reply.Holdings.{Holdings}
-use Rattle.script_lines.specs.declared.reply.Reply.{Reply}
-use Rattle.script_lines.specs.declared.reply.Reply.TheVariants.{Begun, Pushed, Finished, Turn, Committed, Aborted, Reading, Bytes, End, Dropped, Stat, Opened, Refused}
+use Rattle.script_lines.specs.ReplyValue.{ReplyValue, Begun, Pushed, Finished, Turn, Committed, Aborted, Reading, Bytes, End, Dropped, Stat, Opened, Refused}
 
 -- what a turn did
 unfoldable pub turned_line : ℕ → Turned → List ℕ
@@ -21,7 +20,8 @@ stat_line holdings =
     codes "stat files " ++ decimal holdings.files ++ codes " segments " ++ decimal holdings.segments ++ codes " bytes "
     ++ decimal holdings.bytes ++ codes " used " ++ decimal holdings.used ++ codes " free " ++ decimal holdings.free ++ codes "\n"
 
-unfoldable pub reply_line : Reply → List ℕ
+-- each reply; the bytes of `bytes` are one at least
+unfoldable pub reply_line : ReplyValue → List ℕ
 reply_line (Begun actor) = codes "begun " ++ decimal actor ++ codes "\n"
 reply_line (Pushed actor bytes) = codes "pushed " ++ decimal actor ++ codes " " ++ decimal bytes ++ codes "\n"
 reply_line (Finished actor bytes) = codes "finished " ++ decimal actor ++ codes " " ++ decimal bytes ++ codes "\n"
@@ -29,7 +29,7 @@ reply_line (Turn actor turned) = turned_line actor turned
 reply_line (Committed actor sequence) = codes "committed " ++ decimal actor ++ codes " " ++ decimal sequence ++ codes "\n"
 reply_line (Aborted actor) = codes "aborted " ++ decimal actor ++ codes "\n"
 reply_line (Reading actor length) = codes "reading " ++ decimal actor ++ codes " " ++ decimal length ++ codes "\n"
-reply_line (Bytes actor bytes) = codes "bytes " ++ decimal actor ++ codes " " ++ encode_lower bytes.now ++ codes "\n"
+reply_line (Bytes actor bytes) = codes "bytes " ++ decimal actor ++ codes " " ++ encode_lower bytes ++ codes "\n"
 reply_line (End actor) = codes "end " ++ decimal actor ++ codes "\n"
 reply_line (Dropped actor) = codes "dropped " ++ decimal actor ++ codes "\n"
 reply_line (Stat holdings) = stat_line holdings

@@ -18,7 +18,7 @@ fn has_hex_digits(digits: &[u8]) -> bool
 }
 
 /// Puts the bytes that the digits of a push mean at the front of a buffer, a byte for each two digits, and answers how many
-/// these are. A line has 8,192 bytes at most, so they are fewer than 4,096. What stands after them in the buffer stays.
+/// these are. Of a line of at most `MOST_LINE` bytes they are fewer than 4,096. What stands after them in the buffer stays.
 pub fn decode_into(digits: &[u8], into: &mut [u8]) -> usize
     requires hex { IsHex digits.now }
     requires room { length digits.now ≤ 2 * length into.old }

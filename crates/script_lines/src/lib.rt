@@ -10,4 +10,6 @@ mod words;
 pub use digits::decode_into;
 pub use line::{Line, one_line, read_line};
 pub use reply::{Holdings, Reply, Turned, print_reply};
-pub use script::{MOST_LINE, MOST_SCRIPT, scripts_are_clear};
+pub use script::{
+    MOST_LINE, MOST_SCRIPT, scripts_are_clear, scripts_are_read_by_line, scripts_end_or_break,
+};

@@ -99,8 +99,10 @@ fn line_of_two<'a>(word: &[u8], actor: Actor) -> Option<Line<'a>>
 fn line_of_three<'a>(word: &[u8], actor: Actor, argument: &'a [u8]) -> Option<Line<'a>>
     requires word { HasNoSpace word.now }
     requires actor { IsActor actor }
-    ensures found { IfSome result (λ line. IsLine (line_value line) (word.now ++ (32 ∷ (decimal actor ++ (32 ∷ argument.now))))) }
-    ensures none { IfNone result ((value : LineValue) → IsLine value (word.now ++ (32 ∷ (decimal actor ++ (32 ∷ argument.now)))) → ⊥) }
+    ensures found { IfSome result (λ line.
+        IsLine (line_value line) (word.now ++ (32 ∷ (decimal actor ++ (32 ∷ argument.now))))) }
+    ensures none { IfNone result ((value : LineValue) →
+        IsLine value (word.now ++ (32 ∷ (decimal actor ++ (32 ∷ argument.now)))) → ⊥) }
 {
     if word == b"push".as_slice() {
         if is_hex(argument) {

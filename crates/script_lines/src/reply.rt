@@ -2,6 +2,7 @@
 ghost use Rattle.std.specs.Prelude.{◌≡◌, ◌++◌, codes, decimal, IfOk, OnOk};
 ghost use Rattle.hex.specs.Hex.{encode_lower};
 ghost use Rattle.script_lines.specs.ReplyText.{turned_line, stat_line, reply_line};
+ghost use Rattle.script_lines.specs.ReplyValue.{reply_value};
 
 use actor_parts::Actor;
 use itoa::Buffer;
@@ -54,7 +55,7 @@ pub enum Reply<'a> {
     Aborted { actor: Actor },
     /// `reading A LENGTH`: so many bytes are to come.
     Reading { actor: Actor, length: u64 },
-    /// `bytes A HEX`: the next of them, which the caller lends.
+    /// `bytes A HEX`: the next of them, which the caller lends. There is at least one, since HEX is two digits or more.
     Bytes { actor: Actor, bytes: &'a [u8] },
     /// `end A`: the file has ended.
     End { actor: Actor },
@@ -71,7 +72,7 @@ pub enum Reply<'a> {
 /// The line of a reply, with the LF that ends it. It fails for want of memory alone.
 #[tactic(auto, unfolding(crate::specs::ReplyText::reply_line))]
 pub fn print_reply(alloc: Global, reply: &Reply<'_>) -> Result<Vec<u8>, AllocError>
-    ensures { IfOk result (λ line. line.items ≡ reply_line reply.now) }
+    ensures { IfOk result (λ line. line.items ≡ reply_line (reply_value reply.now)) }
 {
     match reply {
         Reply::Begun { actor } => actor_line(alloc, b"begun ", *actor),
@@ -134,7 +135,8 @@ fn turned_line(alloc: Global, actor: Actor, turned: &Turned) -> Result<Vec<u8>, 
 }
 
 fn bytes_line(alloc: Global, actor: Actor, bytes: &[u8]) -> Result<Vec<u8>, AllocError>
-    ensures { IfOk result (λ line. line.items ≡ codes "bytes " ++ decimal actor ++ codes " " ++ encode_lower bytes.now ++ codes "\n") }
+    ensures { IfOk result (λ line.
+        line.items ≡ codes "bytes " ++ decimal actor ++ codes " " ++ encode_lower bytes.now ++ codes "\n") }
 {
     let digits = hex::encode(alloc, bytes)?;
     let mut line = line_start(alloc, b"bytes ", actor)?;

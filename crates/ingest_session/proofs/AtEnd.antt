@@ -8,6 +8,7 @@ use Rattle.merkle_file.specs.declared.top.Top.{Top}
 use Rattle.ingest_session.specs.Sound.{IsSession}
 use Rattle.ingest_session.specs.State.{SessionState, IsWhole, AreLong, is_last, rest_after, rest_of}
 use Rattle.ingest_session.proofs.Lists.{all_and_one}
+use Rattle.ingest_session.proofs.Uncut.{empty_is_uncut}
 use Rattle.ingest_session.proofs.Rests.{rest_grows, ahead_stays, full_stays}
 
 -- ---- the segments that are still to come
@@ -55,6 +56,7 @@ module _ (s : SessionState) (is : IsSession s) (ongoing : s.ended ≡ false) whe
         tree_kind = is.tree_kind;
         few = is.few;
         hand = refl;
+        uncut = empty_is_uncut;
         room = λ on. absurd (cc);
         most = omega (arith, more, is.room ongoing);
         sized = all_and_one _ s.queue x is.sized (some, few);
@@ -85,6 +87,7 @@ module _ (s : SessionState) (is : IsSession s) (ongoing : s.ended ≡ false) whe
         tree_kind = is.tree_kind;
         few = is.few;
         hand = refl;
+        uncut = empty_is_uncut;
         room = λ on. absurd (cc);
         most = is.most;
         sized = is.sized;

@@ -90,7 +90,7 @@ has_turn_emptied : (s : SessionState) (kind : Kind) → HasTurn s.node s.queue �
 has_turn_emptied s Leaf has = has
 has_turn_emptied s Tree has = has
 
-placed_emptied : (s : SessionState) (kind : Kind) (fit : Bool) → placed_if fit (record (emptied kind s) { waits = false }) ≡ placed_if fit s
+pub placed_emptied : (s : SessionState) (kind : Kind) (fit : Bool) → placed_if fit (record (emptied kind s) { waits = false }) ≡ placed_if fit s
 placed_emptied s kind true = turn_emptied s kind
 placed_emptied s kind false = refl
 
@@ -130,7 +130,7 @@ moved_few s t (Closed _ _ is) = rw is.others (search rules)
 moved_few s t (PlacedNode _ _ none some is) = rw is (search rules)
 moved_few s t (PlacedFront _ _ none empty is) = rw is (search rules)
 
-all_few : (s : SessionState) (h : History) → HasHistory s h → h.steps + filled_in s ≤ 2 * length h.placed + one_if s.waits
+all_few : (s : SessionState) (h : History) → HasHistory s h → length h.answers + filled_in s ≤ 2 * length h.placed + one_if s.waits
 unfolding filled_in some_in
 all_few s _ (Begun _ _ is) = rw (is.leaves, is.nodes, is.waits) (search rules)
 all_few t _ (Pushed s _ h bytes has _ is) = rw is.others (all_few s h has)
@@ -143,7 +143,8 @@ all_few t _ (Moved s _ h has _ step) =
 all_few _ _ (Told s answer h has _ _ is some) =
     let before = all_few s h has in
     let more = length-append h.placed (placed_by answer s) in
-    let few = told_few answer s (session_of s h has) is some in omega (arith, before, more, few)
+    let one = length-append h.answers (answer ∷ []) in
+    let few = told_few answer s (session_of s h has) is some in omega (arith, before, more, one, few)
 
 pub steps_are_few : StepsAreFew
 steps_are_few s h has = let few = all_few s h has in omega (arith, few)

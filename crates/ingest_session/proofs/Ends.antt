@@ -133,7 +133,7 @@ done_in s ended due =
     let open_ones = end_done s ended item.2 in
     record { waits = waits.0; turn = item.0; queue = item.1; leaves = open_ones.0; nodes = open_ones.1 }
 
-none_begun : (ahead : Option KindSegment) (queue : List (List ℕ)) → IsAhead ahead queue → queue ≡ [] → (ahead ≡ None) × (begun ahead queue ≡ [])
+pub none_begun : (ahead : Option KindSegment) (queue : List (List ℕ)) → IsAhead ahead queue → queue ≡ [] → (ahead ≡ None) × (begun ahead queue ≡ [])
 none_begun None queue is none = (refl, refl)
 none_begun (Some seg) [] is none = absurd is
 none_begun (Some seg) (x ∷ xs) is none = absurd (cc)
@@ -142,30 +142,36 @@ some_top : (o : Option Top) → IsSome o → (top : Top) × (o ≡ Some top)
 some_top None some = absurd (cc)
 some_top (Some top) some = (top, refl)
 
-module _ (s : SessionState) (h : History) (has : HasHistory s h) (ended : s.ended ≡ true) (due : due_in s ≡ Nothing) where
+-- no item is left
+module _ (s : SessionState) (h : History) (has : HasHistory s h) (ended : s.ended ≡ true) (turn : s.node ≡ None) (queue : s.queue ≡ []) where
   the_top : (top : Top) × (s.top ≡ Some top)
   the_top =
-      let last : is_last s.ended s.queue ≡ true = rw (ended, (done_in s ended due).queue) refl in
+      let last : is_last s.ended s.queue ≡ true = rw (ended, queue) refl in
       some_top s.top ((session_of s h has).closed last)
 
   -- the segments and the nodes in their place are those of the file
   pub segments_at_end : segments_of h.given ≡ data_in h.placed
   segments_at_end =
-      let done = done_in s ended due in
       all_pushed s the_top.0 h has ended the_top.1
-      ∙ ap (λ (ss : List (List ℕ)). data_in h.placed ++ ss) (none_begun s.ahead s.queue (session_of s h has).ahead done.queue).1
+      ∙ ap (λ (ss : List (List ℕ)). data_in h.placed ++ ss) (none_begun s.ahead s.queue (session_of s h has).ahead queue).1
       ∙ append-nil (data_in h.placed)
 
   pub nodes_at_end : nodes_of_file h.given ≡ nodes_in h.placed
   nodes_at_end =
-      let done = done_in s ended due in
       let is = session_of s h has in
-      let finished = is.next done.turn (none_begun s.ahead s.queue is.ahead done.queue).0 in
+      let finished = is.next turn (none_begun s.ahead s.queue is.ahead queue).0 in
       nodes_are_taken s the_top.0 h has ended the_top.1
       ∙ ap (λ (ns : List node.Contents). taken_of s h.placed ++ ns) finished
       ∙ append-nil (taken_of s h.placed)
-      ∙ ap (λ (o : Option node.Contents). nodes_in h.placed ++ option_to_list o) done.turn
+      ∙ ap (λ (o : Option node.Contents). nodes_in h.placed ++ option_to_list o) turn
       ∙ append-nil (nodes_in h.placed)
+
+module _ (s : SessionState) (h : History) (has : HasHistory s h) (ended : s.ended ≡ true) (due : due_in s ≡ Nothing) where
+  all_segments : segments_of h.given ≡ data_in h.placed
+  all_segments = segments_at_end s h has ended (done_in s ended due).turn (done_in s ended due).queue
+
+  all_nodes : nodes_of_file h.given ≡ nodes_in h.placed
+  all_nodes = nodes_at_end s h has ended (done_in s ended due).turn (done_in s ended due).queue
 
   none_open : (kind : Kind) (x : Segment) → IsIn x (open_of s kind).segments → ⊥
   none_open Leaf x there = in_none x (subst (IsIn x) (done_in s ended due).leaves there)
@@ -179,16 +185,17 @@ module _ (s : SessionState) (h : History) (has : HasHistory s h) (ended : s.ende
       ]
 
   piece_is_kept : (p : Piece) → IsPieceOf h.given p → IsKept h (piece_segment p).kind (piece_segment p).segment
-  piece_is_kept (Data bytes) there = placed_is_kept (Data bytes) (data_is_placed h.placed bytes (subst (IsIn bytes) segments_at_end there))
-  piece_is_kept (Node n) there = placed_is_kept (Node n) (node_is_placed h.placed n (subst (IsIn n) nodes_at_end there))
+  piece_is_kept (Data bytes) there = placed_is_kept (Data bytes) (data_is_placed h.placed bytes (subst (IsIn bytes) all_segments there))
+  piece_is_kept (Node n) there = placed_is_kept (Node n) (node_is_placed h.placed n (subst (IsIn n) all_nodes there))
 
 pub all_is_kept : AllIsKept
 all_is_kept s h has ended due =
-    let top = the_top s h has ended due in
+    let done = done_in s ended due in
+    let top = the_top s h has ended done.turn done.queue in
     record {
       kept = piece_is_kept s h has ended due;
-      segments = segments_at_end s h has ended due;
-      nodes = nodes_at_end s h has ended due;
+      segments = all_segments s h has ended due;
+      nodes = all_nodes s h has ended due;
       root =
           ap (λ (b : Bool). ready_by b (due_in s) s.count s.top) ended
           ∙ ap (λ (d : Due). ready_by true d s.count s.top) due

@@ -1,6 +1,7 @@
 pub mod Lists
 pub mod Rests
 pub mod Beginning
+pub mod Uncut
 pub mod Taking
 pub mod Takes
 pub mod Settled
@@ -14,9 +15,16 @@ pub mod Members
 pub mod Sealing
 pub mod Waiting
 pub mod Counts
+pub mod Cuts
 pub mod Following
 pub mod Growing
 pub mod Knowing
 pub mod Answering
 pub mod Facts
 pub mod Ends
+pub mod CutOnce
+pub mod Next
+pub mod InTurn
+pub mod Replaying
+pub mod Replayed
+pub mod DueOnes

@@ -1,11 +1,12 @@
 -- Bytes that are taken piece by piece.
-use Rattle.std.proofs.Common.{◌∙◌, ◌++◌, ℕ, List, [], ap, sym, refl, subst, append_assoc, append-nil, length-append, arith}
+use Rattle.std.proofs.Common.{◌≡◌, ◌∙◌, false, ◌++◌, ℕ, List, [], ap, sym, refl, subst, append_assoc, append-nil, length-append, arith}
 use Rattle.ingest_session.specs.State.{SessionState, rest_of}
 use Rattle.ingest_session.specs.Stream.{IsCutInto}
 use Rattle.ingest_session.specs.Calls.{IsTaking}
 
-pub takes_none : (s : SessionState) → IsTaking [] s s
-takes_none s = record {
+pub takes_none : (s : SessionState) → s.ended ≡ false → IsTaking [] s s
+takes_none s ongoing = record {
+  ongoing = ongoing;
   count = omega arith;
   more = [];
   queue = sym (append-nil s.queue);
@@ -18,6 +19,7 @@ takes_none s = record {
 pub takes_more : (bytes others : List ℕ) (first second third : SessionState) → IsTaking bytes first second → IsTaking others second third →
     IsTaking (bytes ++ others) first third
 takes_more bytes others first second third one two = record {
+  ongoing = one.ongoing;
   count = let long = length-append bytes others in omega (arith, one.count, two.count, long);
   more = one.more ++ two.more;
   queue = two.queue ∙ ap (λ (q : List (List ℕ)). q ++ two.more) one.queue ∙ append_assoc first.queue one.more two.more;

@@ -12,6 +12,7 @@ use Rattle.ingest_session.specs.Sound.{IsSession}
 use Rattle.ingest_session.specs.State.{SessionState, IsWhole, rest_of, rest_after, is_last, AreLong}
 use Rattle.ingest_session.specs.Stream.{IsCutInto}
 use Rattle.ingest_session.proofs.Lists.{all_and_one}
+use Rattle.ingest_session.proofs.Uncut.{empty_is_uncut}
 use Rattle.ingest_session.proofs.Rests.{rest_grows, ahead_stays, full_stays, item_stays, long_and_one}
 
 -- a segment was cut off, and waits
@@ -51,6 +52,7 @@ module _ (s : SessionState) (bytes : List ℕ) (taken : Taken) (hand : Hand) (is
         tree_kind = is.tree_kind;
         few = omega (arith, few, takes.within);
         hand = refl;
+        uncut = empty_is_uncut;
         room = λ _. omega (arith, more, room);
         most = omega (arith, more, room);
         sized = all_and_one _ s.queue hand.bytes is.sized (omega (arith, least), one.at_most);
@@ -89,6 +91,7 @@ module _ (s : SessionState) (bytes : List ℕ) (taken : Taken) (hand : Hand) (is
       → HasCut (given ++ take taken.taken bytes) (segments ++ hand.bytes ∷ []) empty_hand) →
       IsTaking (take taken.taken bytes) s (cut_off s taken.taken hand.bytes)
   cut_off_takes within step = record {
+    ongoing = ongoing;
     count = ap (λ n. s.count + n) (sym (length-take-le taken.taken bytes within));
     more = hand.bytes ∷ [];
     queue = refl;

@@ -26,6 +26,7 @@ KeepsItem old new = old.waits ≡ true → (new.node ≡ old.node) × (item_of n
 -- These bytes were taken: what is in hand may have changed, and segments may wait after those that waited. Nothing else
 -- changed.
 pub record IsTaking (bytes : List ℕ) (old new : SessionState) : Type 0 where
+  pub ongoing : old.ended ≡ false
   pub count : new.count ≡ old.count + length bytes
   pub more : List (List ℕ)
   pub queue : new.queue ≡ old.queue ++ more

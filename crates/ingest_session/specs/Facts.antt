@@ -97,7 +97,7 @@ one_if false = 0
 
 -- There are at most two steps for each piece that is in its place, and one for one that waits.
 abbrev pub StepsAreFew : Type 0
-StepsAreFew = (s : SessionState) (h : History) → HasHistory s h → h.steps ≤ 2 * length h.placed + one_if s.waits
+StepsAreFew = (s : SessionState) (h : History) → HasHistory s h → length h.answers ≤ 2 * length h.placed + one_if s.waits
 
 -- ---- the end
 

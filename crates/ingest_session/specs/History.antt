@@ -1,5 +1,5 @@
 -- What was done with a session since it was new (docs/MODEL.md, 'Sessions').
-use Rattle.std.specs.Prelude.{◌≡◌, ◌≤◌, ℕ, ◌+◌, Bool, true, false, if◌then◌else◌, List, [], ◌∷◌, ◌++◌, length, Option, Some, None}
+use Rattle.std.specs.Prelude.{◌≡◌, ◌≤◌, ℕ, Bool, true, false, if◌then◌else◌, List, [], ◌∷◌, ◌++◌, length, Option, Some, None}
 use Rattle.container_meta.specs.declared.kind.Kind.{Kind}
 use Rattle.container_meta.specs.declared.kind.Kind.TheVariants.{Leaf, Tree}
 use Rattle.container_meta.specs.Segments.{Segment}
@@ -28,12 +28,12 @@ pub record History : Type 0 where
   pub held : Kind → List Segment
   pub absent : Kind → List Segment
   pub sealed : Kind → List Segment
-  -- how many steps the store answered
-  pub steps : ℕ
+  -- what the store answered, in order
+  pub answers : List Answer
 
 -- that of a new session
 abbrev pub no_history : History
-no_history = record { given = []; placed = []; held = λ kind. []; absent = λ kind. []; sealed = λ kind. []; steps = 0 }
+no_history = record { given = []; placed = []; held = λ kind. []; absent = λ kind. []; sealed = λ kind. []; answers = [] }
 
 -- ---- the item whose turn it is
 
@@ -100,7 +100,7 @@ answered answer s h = record {
   held = λ kind. h.held kind ++ held_by kind answer s;
   absent = λ kind. h.absent kind ++ absent_by kind answer s;
   sealed = λ kind. h.sealed kind ++ sealed_by kind answer s;
-  steps = h.steps + 1;
+  answers = h.answers ++ answer ∷ [];
 }
 
 -- ---- the calls

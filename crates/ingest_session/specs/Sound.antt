@@ -6,6 +6,7 @@ use Rattle.container_meta.specs.declared.kind.Kind.TheVariants.{Leaf, Tree}
 use Rattle.actor_parts.specs.Segments.{AreStepSegments}
 use Rattle.ingest_session.specs.declared.queue.TheConstants.{QUEUE, BUFFERS}
 use Rattle.ingest_session.specs.Items.{fits}
+use Rattle.ingest_session.specs.Stream.{IsUncut}
 use Rattle.ingest_session.specs.State.{SessionState, HasItem, IsAhead, IsBuilding, IsClosed, IsSized, IsSpelled, IsWhole, is_last, rest_of}
 
 pub record IsSession (s : SessionState) : Type 0 where
@@ -13,6 +14,7 @@ pub record IsSession (s : SessionState) : Type 0 where
   pub tree_kind : s.nodes.kind ≡ Tree
   pub few : s.count ≤ MOST_FILE
   pub hand : s.hand.whole ≡ false
+  pub uncut : IsUncut s.hand
   pub room : s.ended ≡ false → length s.queue + s.unseen ≤ QUEUE
   pub most : length s.queue + s.unseen ≤ BUFFERS
   pub sized : AllByRecursion IsSized s.queue

@@ -12,6 +12,9 @@ use std::marker::Model;
 pub const QUEUE: usize = 64;
 /// The same with the rest of the file, which its end adds.
 pub(crate) const BUFFERS: usize = 65;
+/// How many segments wait at most before a caller gives a piece of up to 4,096 bytes, so that it is taken whole: at most two
+/// segments end in such a piece, since all of them but the first have 2,048 bytes or more of it.
+pub const MOST_WAITING: usize = 61;
 
 /// Segments in the order in which they came. It takes the memory for all of them when it is made.
 #[derive(Drop)]

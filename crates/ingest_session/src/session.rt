@@ -1,9 +1,9 @@
 //! A session: the bytes of a file as they come.
-ghost use Rattle.std.specs.Prelude.{◌≡◌, ◌+◌, ◌<◌, ◌≤◌, ℕ, false, List, [], ◌++◌, IfOk, OnErr, length, take};
+ghost use Rattle.std.specs.Prelude.{◌≡◌, ◌+◌, ◌*◌, ◌<◌, ◌≤◌, ℕ, false, List, [], ◌++◌, IfOk, OnErr, length, take};
 
-use crate::queue::{QUEUE, Queue};
+use crate::queue::{MOST_WAITING, QUEUE, Queue};
 use container_meta::{Kind, OpenContainer, Seg};
-use disk_format::MOST_FILE;
+use disk_format::{LEAST_SEGMENT, MOST_FILE};
 use merkle_file::{Node, Top, TreeBuilder};
 use refusals::{PartKind, Refusal};
 use segmenter::Cutter;
@@ -81,6 +81,7 @@ impl Model for Session {
 impl Session {
     ghost use Rattle.ingest_session.specs.History.{History, HasHistory, IsBegun, no_history};
     ghost use Rattle.ingest_session.specs.Calls.{IsTaking, IsPushAnswer};
+    ghost use Rattle.ingest_session.specs.Cuts.{CutsOne};
     ghost use Rattle.ingest_session.specs.Sound.{IsSession};
 
     /// A session that was given nothing. It fails for want of memory alone.
@@ -124,6 +125,7 @@ impl Session {
         ensures some { 0 < result }
         ensures within { result ≤ length bytes.now }
         ensures takes { IsTaking (take result bytes.now) self.old self.new }
+        ensures cuts { CutsOne result self.old self.new }
     {
         let step = self.cutter.push(bytes);
         self.count += step.taken as u64;
@@ -142,6 +144,9 @@ impl Session {
         ensures err { OnErr result (self.new ≡ self.old) }
         ensures all { IfOk result (λ n. n < length bytes.now → QUEUE ≤ length self.new.queue + self.new.unseen) }
         ensures some { IfOk result (λ n. 0 < length bytes.now → length self.old.queue + self.old.unseen < QUEUE → 0 < n) }
+        // A caller who made room knows that a short piece is taken whole.
+        ensures whole { IfOk result (λ n. length self.old.queue + self.old.unseen ≤ MOST_WAITING
+            → length bytes.now ≤ 2 * LEAST_SEGMENT → n ≡ length bytes.now) }
         ensures takes { IfOk result (λ n. IsTaking (take n bytes.now) self.old self.new) }
         ensures history { IfOk result (λ n. (h : History) → HasHistory self.old h
             → HasHistory self.new (record h { given = h.given ++ take n bytes.now })) }
@@ -161,6 +166,20 @@ impl Session {
         }
         self.sound();
         Ok(taken)
+    }
+
+    /// How many bytes were taken.
+    pub fn count(&self) -> u64
+        ensures { result ≡ self.now.count }
+    {
+        self.count
+    }
+
+    /// Whether the file has ended, so that no more bytes are to come.
+    pub fn has_ended(&self) -> bool
+        ensures { result ≡ self.now.ended }
+    {
+        self.ended
     }
 
     /// How many segments the queue holds, and those which it no longer holds that a refused `due` put in their place: they

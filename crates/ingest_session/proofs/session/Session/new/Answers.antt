@@ -1,11 +1,11 @@
 use Rattle.std.proofs.Common.{refl, rules}
 use Rattle.ingest_session.specs.History.{Begun}
-use Rattle.ingest_session.proofs.Beginning.{new_builder_has_no_node}
+use Rattle.ingest_session.proofs.Beginning.{new_is_session}
 use Rattle.ingest_session.proofs.session.Session.new.Goals as goal
 
 pub invariant_of-session : goal.invariant_of-session
 invariant_of-session c =
-    let none = new_builder_has_no_node c.in_ok-new-3.field-0 c.in_ok-new-3.ensures in search rules
+    new_is_session _ _ _ _ _ c.in_ok-new.ensures.empty c.in_ok-new-2.ensures c.in_ok-new-3.ensures c.in_ok-new-4.ensures c.in_ok-new-5.ensures
 
 pub returns-clause-begun : goal.returns-clause-begun
 returns-clause-begun c = record {

@@ -1,6 +1,7 @@
-use Rattle.std.proofs.Common.{take, refl, arith, rules}
+use Rattle.std.proofs.Common.{◌≡◌, false, take, refl, arith, rules}
 use Rattle.std.proofs.Math.Seq.{take-add}
 use Rattle.ingest_session.specs.History.{Pushed}
+use Rattle.ingest_session.proofs.Cuts.{cuts_few_more}
 use Rattle.ingest_session.proofs.Takes.{takes_more, takes_none}
 use Rattle.ingest_session.proofs.session.Session.push.Goals as goal
 
@@ -10,7 +11,8 @@ loop-taken-init c = record {
   ongoing = search rules;
   few = search rules;
   none = λ zero. refl;
-  takes = takes_none c.args.self.now;
+  few_cuts = λ cut. absurd (omega (arith, cut));
+  takes = let ongoing : c.args.self.now.ended ≡ false = search rules in takes_none c.args.self.now ongoing;
 }
 
 pub loop-taken-preserved : goal.loop-taken-preserved
@@ -23,6 +25,9 @@ loop-taken-preserved c =
       ongoing = before.ongoing;
       few = before.few;
       none = λ zero. absurd (omega (arith, c.take_piece-taken.ensures.some));
+      few_cuts =
+          cuts_few_more (take n c.args.bytes.now) n m c.args.self.now c.loop-taken.self c.take_piece-taken.new.self before.takes before.few_cuts
+          c.take_piece-taken.ensures.cuts c.take_piece-taken.ensures.some;
       takes =
           rw (take-add n m c.args.bytes.now, ← c.split_at.ensures.back)
           (takes_more (take n c.args.bytes.now) (take m c.split_at.result.1.now) c.args.self.now c.loop-taken.self c.take_piece-taken.new.self

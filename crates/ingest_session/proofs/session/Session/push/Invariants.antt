@@ -1,6 +1,7 @@
 use Rattle.std.proofs.Common.{◌≡◌, ◌≤◌, ◌+◌, ◌-◌, false, length, take}
 use Rattle.disk_format.specs.declared.numbers.TheConstants.{MOST_FILE}
 use Rattle.ingest_session.specs.Calls.{IsTaking}
+use Rattle.ingest_session.specs.Cuts.{CutsFew}
 use Rattle.ingest_session.proofs.session.Session.push.Given as goal
 
 abbrev pub invariant-loop-taken : goal.invariant-loop-taken
@@ -9,6 +10,7 @@ invariant-loop-taken l = record {
   ongoing : l.initial.self.ended ≡ false;
   few : l.initial.self.count + length l.bytes ≤ MOST_FILE;
   none : l.taken ≡ 0 → l.self ≡ l.initial.self;
+  few_cuts : CutsFew l.taken l.initial.self l.self;
   takes : IsTaking (take l.taken l.bytes) l.initial.self l.self;
 }
 

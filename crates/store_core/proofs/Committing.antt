@@ -1,5 +1,5 @@
 -- What a commit makes of a core.
-use Rattle.std.proofs.Common.{◌≡◌, ℕ, List, length, Option, Some, Ok, sym, ◌∙◌, subst}
+use Rattle.std.proofs.Common.{◌≡◌, ℕ, List, length, Option, Some, Ok, sym, ◌∙◌, subst, ap}
 use Rattle.base_model.specs.Known.{Known, KnownWith}
 use Rattle.base_model.specs.Frames.{SameOutside}
 use Rattle.disk_format.specs.Cells.{Root}
@@ -15,6 +15,7 @@ use Rattle.store_model.specs.Image.{Store, Encodes, IsValidFor}
 use Rattle.store_model.specs.Steps.{PutName, KeepsCopies, with_put}
 use Rattle.store_model.proofs.PutRoots.{put_newest}
 use Rattle.store_model.proofs.Valid.{valid_put}
+use Rattle.store_state.specs.declared.tables.Tables.{Tables}
 use Rattle.store_state.specs.Tables.{Represents, Runs}
 use Rattle.ingest_steps.specs.Naming.{IsNamed, PutsRoot, KeepsButNext, ChangesNextAlone}
 use Rattle.ingest_steps.specs.Writers.{IsCommitted}
@@ -49,7 +50,7 @@ pub made_put : (name : List ℕ) (root : Root) (actor sequence : ℕ) (buf : Lis
     → PutsRoot old.tables name root Done old.disk new.disk → KeepsButNext old.tables.journal old.disk new.disk → ChangesNextAlone old.tables.journal old.disk new.disk → IsDurable new.disk → new.known ≡ old.known → (old.served → new.served)
     → Made (asked.Commit name root) actor (Ok (answers.Committed sequence)) buf old new
 made_put name root actor sequence buf old new committed acts moves keeps frame durable index served = record {
-  row = (committed.may, committed.named.number, committed.parts_are);
+  row = (committed.may, committed.named.number, committed.parts_are, ap (λ (t : Tables). t.held.last_id) committed.named.tables_are);
   effect = record {
     disk = acts;
     moves = moves;

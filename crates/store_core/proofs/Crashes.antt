@@ -1,7 +1,7 @@
 -- What a crash leaves at any moment of a run.
 use Rattle.std.proofs.Common.{◌≡◌, ◌⊎◌, inl, inr, ℕ, List, [], ◌∷◌, Option, Some, None, Result, Ok, Err, refl, sym, ◌∙◌, subst, arith, ap, suc}
 use Rattle.dd_disk.specs.View.{OnlyReads, CrashLeaves}
-use Rattle.dd_disk.proofs.Later.{reads_here, reads_on, reads_leave, leaves_on, leaves_weaker}
+use Rattle.dd_disk.proofs.Later.{reads_here, reads_leave, leaves_on, leaves_weaker}
 use Rattle.container_meta.specs.Segments.{Contents}
 use Rattle.disk_format.specs.Cells.{Root}
 use Rattle.actor_parts.specs.declared.step.Answer.{Answer}
@@ -16,8 +16,9 @@ use Rattle.store_model.specs.Files.{with_file, Stored}
 use Rattle.store_model.proofs.PutRoots.{last_put}
 use Rattle.store_core.specs.declared.stop.Stop.{Stop}
 use Rattle.store_core.specs.Core.{Effect, SealsOne, PutsOne, StepsOr, StopsAfter, next_id}
-use Rattle.store_core.specs.Runs.{FileEvent, FileStep, FileRun, IsAt, IsOf, IsOnTheWay, IsGivenRight, IsRootOf, SurvivesCrashes, SurvivesSince, KeepsAcknowledged, stored_with, stored_by, stored_after, stored_tried, stored_tried_by, EndsWithAll}
+use Rattle.store_core.specs.Runs.{FileEvent, FileStep, FileRun, IsAt, IsOf, IsOnTheWay, IsGivenRight, IsRootOf, SurvivesCrashes, SurvivesSince, KeepsAcknowledged, stored_with, stored_by, stored_after, stored_tried, stored_tried_by, events_of, EndsWithAll}
 use Rattle.store_core.specs.State.{CoreState}
+use Rattle.store_core.proofs.CoreRuns.{stopped_reads, core_run}
 use Rattle.store_core.proofs.KeepingFiles.{file_step, keeps_files, may_seal_all}
 use Rattle.store_core.proofs.Stepping.{step_later}
 
@@ -96,11 +97,8 @@ module _ (C : Type 0) (state : C → CoreState) (among : ByteSet) (distinct : Ha
   In = IsIn among
 
   -- a core that is stopped only reads
-  stopped_reads : (stop : Stop) (steps : List FileEvent) (old new : C) → (state old).stop ≡ Some stop → FileRun C state In steps old new → OnlyReads (state old).disk (state new).disk
-  stopped_reads stop [] old new is run = subst (λ (c : C). OnlyReads (state old).disk (state c).disk) (sym run) (reads_here (state old).disk)
-  stopped_reads stop (f ∷ fs) old new is run =
-      let same = (subst (λ (o : Option Stop). StepsOr o f.event (state old) (state run.0)) is run.1.0.made).same in
-      reads_on (state old).disk (state run.0).disk (state new).disk same.disk.only (stopped_reads stop fs run.0 new (same.stop_is ∙ is) run.1.1)
+  still_reads : (stop : Stop) (steps : List FileEvent) (old new : C) → (state old).stop ≡ Some stop → FileRun C state In steps old new → OnlyReads (state old).disk (state new).disk
+  still_reads stop steps old new is run = stopped_reads C state stop (events_of steps) old new is (core_run C state In steps old new run)
 
   on_the_way : (steps : List FileEvent) (stored : Stored) (c : List ℕ) → IsOf In stored c → IsOnTheWay In steps stored c
   on_the_way [] stored c is = is
@@ -124,7 +122,7 @@ module _ (C : Type 0) (state : C → CoreState) (among : ByteSet) (distinct : Ha
       let first = by_stop among s stored (state old) (state mid) f.bytes distinct at (state old).stop f refl step.made step.asked step.given in
       let later = step_later (state old) (state mid) f.event (state old).stop step.made in
       leaves_on (Either In f.event.step f.event.answer f.bytes stored) (Either In f.event.step f.event.answer f.bytes stored) (IsOnTheWay In (f ∷ fs) stored) (state old).disk (state mid).disk (state new).disk later.clock_is
-      first (reads_leave (Either In f.event.step f.event.answer f.bytes stored) (state mid).disk (state new).disk first.now (stopped_reads stop fs mid new is run)) (first_one f fs stored) (first_one f fs stored)
+      first (reads_leave (Either In f.event.step f.event.answer f.bytes stored) (state mid).disk (state new).disk first.now (still_reads stop fs mid new is run)) (first_one f fs stored) (first_one f fs stored)
 
   pub leaves : (steps : List FileEvent) (s : Store) (stored : Stored) (old new : C) → IsAt In s stored (state old) → FileRun C state In steps old new → CrashLeaves (IsOnTheWay In steps stored) (state old).disk (state new).disk
   leaves [] s stored old new at run =
@@ -235,7 +233,7 @@ module _ (C : Type 0) (state : C → CoreState) (among : ByteSet) (distinct : Ha
       ]
   ends_by f fs s stored old mid new at step run image there others (Some stop) is =
       let first = by_stop among s stored (state old) (state mid) f.bytes distinct at (state old).stop f refl step.made step.asked step.given in
-      let reads = stopped_reads C state among distinct stop fs mid new is run in
+      let reads = still_reads C state among distinct stop fs mid new is run in
       let none = by_old_none (state old).stop f (state old) (state mid) stored stop step.made is in
       let by = stopped_files C state among stop fs (stored_by f stored) mid new is run in
       let tried = stopped_files C state among stop fs (stored_tried f.event.step f.event.answer f.bytes stored) mid new is run in

@@ -143,11 +143,11 @@ module _ (C : Type 0) (state : C → CoreState) (among : ByteSet) (distinct : Ha
   gives_on [] s stored segments old new at reader run alone stays = tt
   gives_on (f ∷ fs) s stored segments old new at reader run alone stays =
       let mid = run.0 in
-      let going = run_running C state among distinct fs mid new run.1.1 stays in
+      let going = run_running C state among fs mid new run.1.1 stays in
       let next = file_step among distinct f s stored (state old) (state mid) run.1.0 at going in
       gives_map (f.event.actor == actor) f.event.answer f.event.buf segments (λ rest. IsReader actor next.store rest (state mid)) (GivesInOrder actor (events_of fs))
       (λ rest still. gives_on fs next.store (stored_by f stored) rest mid new next.is_at still run.1.1 alone.1 stays)
-      (read_step among s (changes_by f.event.step f.event.answer) stored (stored_by f stored) (state old) (state mid) actor segments at next reader f.event (run_running C state among distinct (f ∷ []) old mid (mid, (run.1.0, refl)) going) alone.0 run.1.0.made)
+      (read_step among s (changes_by f.event.step f.event.answer) stored (stored_by f stored) (state old) (state mid) actor segments at next reader f.event (run_running C state among (f ∷ []) old mid (mid, (run.1.0, refl)) going) alone.0 run.1.0.made)
 
 -- ---- it is opened
 
@@ -193,8 +193,8 @@ module _ (C : Type 0) (state : C → CoreState) where
   gives_the_file among actor name bytes count buf steps s stored old mid new distinct at filed below step run alone stays =
       let opening : FileEvent = record { event = opens actor name count buf; bytes = [] } in
       let made : FileStep (IsIn among) opening (state old) (state mid) = record { asked = tt; given = tt; made = step } in
-      let going = run_running C state among distinct steps mid new run stays in
+      let going = run_running C state among steps mid new run stays in
       let next = file_step among distinct opening s stored (state old) (state mid) made at going in
-      let runs = run_running C state among distinct (opening ∷ []) old mid (mid, (made, refl)) going in
+      let runs = run_running C state among (opening ∷ []) old mid (mid, (made, refl)) going in
       let opened = open_step among s next.store stored (state old) (state mid) actor name bytes count buf at filed below next.copies runs step in
       (opened.0, gives_on C state among distinct actor steps next.store stored (segments_of bytes) mid new next.is_at opened.1 run alone stays)

@@ -35,8 +35,9 @@ use Rattle.store_state.proofs.Parts.{part_kept, parts_kept}
 use Rattle.ingest_steps.specs.Sealing.{KeepsHeld, sealing_indexed}
 use Rattle.store_core.specs.declared.stop.Stop.{Stop}
 use Rattle.store_core.specs.Core.{Row, Effect, Rests, SealsOne, Makes, KeepsTables, KeepsUnlessBroken, StopsAfter, StepsOr, next_id}
-use Rattle.store_core.specs.Runs.{FileEvent, FileStep, FileRun, IsAt, ChangesTo, changes_by, changes_of, KeepsFiles, IsGivenRight, stored_with, stored_by}
+use Rattle.store_core.specs.Runs.{FileEvent, FileStep, FileRun, IsAt, ChangesTo, changes_by, changes_of, events_of, KeepsFiles, IsGivenRight, stored_with, stored_by}
 use Rattle.store_core.specs.State.{CoreState}
+use Rattle.store_core.proofs.CoreRuns.{runs_before, core_run}
 use Rattle.store_core.proofs.OwnParts.{all_part, all_own, own_begin, own_claim, own_abort, own_open, own_read, own_drop, own_set, own_stat, own_refused}
 use Rattle.store_core.proofs.Stepping.{ChangesOne, row_one}
 
@@ -305,30 +306,19 @@ module _ (among : ByteSet) (s : Store) (stored : Stored) (old new : CoreState) (
 -- ---- a run
 
 module _ (among : ByteSet) (distinct : HasNoCollisions (IsIn among)) where
-  -- a core that is stopped stays so
-  stopped_on : (stop : Stop) (f : FileEvent) (old new : CoreState) → old.stop ≡ Some stop → StepsOr (Some stop) f.event old new → new.stop ≡ Some stop
-  stopped_on stop f old new is step = step.same.stop_is ∙ is
-
   by_stop : (stop : Option Stop) (f : FileEvent) (s : Store) (stored : Stored) (old new : CoreState) → old.stop ≡ stop → StepsOr stop f.event old new → IsStep f.event.step
       → IsGivenRight (IsIn among) f.event.step f.event.answer f.bytes old → IsAt (IsIn among) s stored old → new.stop ≡ None → Next (IsIn among) s (changes_by f.event.step f.event.answer) (stored_by f stored) old new
   by_stop None f s stored old new is steps right given at stays = step_next among s stored old new f.event.actor f.event.buf f.bytes distinct at stays f.event.step f.event.answer steps.made.row steps.made.effect steps.stops right given
-  by_stop (Some stop) f s stored old new is steps right given at stays = absurd (let both = sym stays ∙ stopped_on stop f old new is steps in cc)
+  by_stop (Some stop) f s stored old new is steps right given at stays = absurd (let both = sym stays ∙ steps.same.stop_is ∙ is in cc)
 
   pub file_step : (f : FileEvent) (s : Store) (stored : Stored) (old new : CoreState) → FileStep (IsIn among) f old new → IsAt (IsIn among) s stored old → new.stop ≡ None → Next (IsIn among) s (changes_by f.event.step f.event.answer) (stored_by f stored) old new
   file_step f s stored old new step at stays = by_stop old.stop f s stored old new refl step.made step.asked step.given at stays
 
-  -- where it isn't stopped afterwards, it wasn't before
-  was_running : (stop : Option Stop) (f : FileEvent) (old new : CoreState) → old.stop ≡ stop → StepsOr stop f.event old new → new.stop ≡ None → old.stop ≡ None
-  was_running None f old new is steps stays = is
-  was_running (Some stop) f old new is steps stays = absurd (let both = sym stays ∙ stopped_on stop f old new is steps in cc)
-
-module _ (C : Type 0) (state : C → CoreState) (among : ByteSet) (distinct : HasNoCollisions (IsIn among)) where
+module _ (C : Type 0) (state : C → CoreState) (among : ByteSet) where
   pub run_running : (steps : List FileEvent) (old new : C) → FileRun C state (IsIn among) steps old new → (state new).stop ≡ None → (state old).stop ≡ None
-  run_running [] old new run stays = subst (λ (c : C). (state c).stop ≡ None) run stays
-  run_running (f ∷ fs) old new run stays =
-      was_running among distinct (state old).stop f (state old) (state run.0) refl run.1.0.made (run_running fs run.0 new run.1.1 stays)
+  run_running steps old new run stays = runs_before C state (events_of steps) old new (core_run C state (IsIn among) steps old new run) stays
 
-chain_on : (first rest : List StoreChange) (s mid t : Store) → ChangesTo first s mid → ChangesTo rest mid t → ChangesTo (first ++ rest) s t
+pub chain_on : (first rest : List StoreChange) (s mid t : Store) → ChangesTo first s mid → ChangesTo rest mid t → ChangesTo (first ++ rest) s t
 chain_on [] rest s mid t one two = subst (λ (u : Store). ChangesTo rest u t) one two
 chain_on (change ∷ more) rest s mid t one two = (one.0, chain_on more rest (changed change s) mid t one.1 two)
 
@@ -340,7 +330,7 @@ module _ (C : Type 0) (state : C → CoreState) where
     is_at = subst (λ (c : C). IsAt (IsIn among) s stored (state c)) (sym run) at;
   }
   keeps_files among (f ∷ fs) s stored old new distinct at run stays =
-      let next = file_step among distinct f s stored (state old) (state run.0) run.1.0 at (run_running C state among distinct fs run.0 new run.1.1 stays) in
+      let next = file_step among distinct f s stored (state old) (state run.0) run.1.0 at (run_running C state among fs run.0 new run.1.1 stays) in
       let reached = keeps_files among fs next.store (stored_by f stored) run.0 new distinct next.is_at run.1.1 stays in
       record {
         store = reached.store;

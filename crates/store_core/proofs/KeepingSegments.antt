@@ -1,5 +1,5 @@
 -- The segments that the steps of a run kept are held at its end.
-use Rattle.std.proofs.Common.{◌≡◌, inl, inr, ℕ, List, [], ◌∷◌, ◌++◌, map, Option, Some, None, option_map, Result, Ok, Err, refl, sym, ◌∙◌, ap, subst}
+use Rattle.std.proofs.Common.{◌≡◌, inl, inr, ℕ, List, [], ◌∷◌, ◌++◌, map, Some, None, option_map, Result, Ok, Err, refl, sym, ◌∙◌, ap, subst}
 use Rattle.std.proofs.lemmas.Bool.{eqb-true}
 use Rattle.std.proofs.lemmas.List.{append-nil, append_assoc}
 use Rattle.std.specs.List.{AllByRecursion}
@@ -36,11 +36,11 @@ use Rattle.store_state.specs.Refused.{blames}
 use Rattle.store_state.specs.Settled.{IsSettled, KeepsWhatCounts, Left}
 use Rattle.store_state.specs.Tables.{Represents}
 use Rattle.ingest_steps.proofs.HeldPins.{node_of}
-use Rattle.store_core.specs.declared.stop.Stop.{Stop}
-use Rattle.store_core.specs.Core.{Row, ClaimRow, SealRow, Effect, Steps, StepsOr, StopsAfter, next_id}
-use Rattle.store_core.specs.Keeping.{kept_by, kept_of, IsHeldIn, KeepsSegments}
-use Rattle.store_core.specs.Runs.{FileEvent, FileStep, FileRun, IsAt, IsGivenRight, ChangesTo, changes_by, stored_by}
-use Rattle.store_core.specs.State.{CoreState, Event}
+use Rattle.store_core.specs.Core.{Row, ClaimRow, SealRow, Effect, StopsAfter, next_id}
+use Rattle.store_core.specs.Keeping.{kept_by, kept_of, IsHeldIn, KeepsSegments, StaysHeld, StaysSettled}
+use Rattle.store_core.specs.Runs.{FileEvent, FileStep, FileRun, IsAt, IsGivenRight, ChangesTo, changes_by, stored_by, stored_after}
+use Rattle.store_core.specs.State.{CoreState}
+use Rattle.store_core.proofs.CoreRuns.{running_step}
 use Rattle.store_core.proofs.KeepingFiles.{Next, file_step, run_running, only_reads, seal_holds}
 
 -- ---- lists
@@ -124,7 +124,7 @@ module _ (old new : CoreState) (stays : new.stop ≡ None) (given : List ℕ) (h
   seal_settled filled refusals.DiskRead stops left = counts_settled left
   seal_settled filled refusal stops left = counts_settled left
 
-  effect_settled : (step : StepValue) (answer : Result Answer Refusal) → StopsAfter step answer old.acknowledged new.stop → Effect step answer old new → Settled
+  pub effect_settled : (step : StepValue) (answer : Result Answer Refusal) → StopsAfter step answer old.acknowledged new.stop → Effect step answer old new → Settled
   effect_settled asked.Begin answer stops effect = reads_settled effect.disk.only
   effect_settled (asked.Claim seg) answer stops effect = reads_settled effect.disk.only
   effect_settled (asked.Seal filled) (Ok answer) stops effect = effect.disk.left settled
@@ -194,16 +194,12 @@ module _ (among : ByteSet) (s : Store) (stored later : Stored) (old new : CoreSt
   step_kept step answer row = λ next after is effect right given. tt
 
 module _ (among : ByteSet) (distinct : HasNoCollisions (IsIn among)) where
-  running_step : (stop : Option Stop) (e : Event) (old new : CoreState) → stop ≡ None → StepsOr stop e old new → Steps e old new
-  running_step None e old new runs step = step
-  running_step (Some stop) e old new runs step = absurd cc
-
   -- a step more
   keeps_step : (f : FileEvent) (s : Store) (stored : Stored) (segs : List KindSegment) (old new : CoreState) → Keeps (IsIn among) s stored segs old → FileStep (IsIn among) f old new → old.stop ≡ None → new.stop ≡ None
       → (t : Store) × Keeps (IsIn among) t (stored_by f stored) (segs ++ kept_by f.event.step f.event.answer) new
   keeps_step f s stored segs old new keeps step runs stays =
       let at = keeps.is_at in
-      let steps = running_step old.stop f.event old new runs step.made in
+      let steps = running_step old new f.event runs step.made in
       let next = file_step among distinct f s stored old new step at stays in
       let slots : old.tables.slots ≡ new.tables.slots = at.represents.slots_are ∙ sym (same_slots (changes_by f.event.step f.event.answer) s next.store next.chain) ∙ sym next.is_at.represents.slots_are in (
         next.store,
@@ -246,24 +242,49 @@ module _ (S : List ℕ → Type 0) (s : Store) (stored : Stored) (c : CoreState)
             newest_other t key (pin_of seg).level seg.segment.bytes left represents (newest_framed s image left right same.before key (pin_of seg).level seg.segment.bytes has);
       }
 
+  all_held : (segs : List KindSegment) → AllByRecursion (HoldsSegment s at.stands.known.0) segs → AllByRecursion (λ seg. IsHeldIn seg c) segs
+  all_held segs all = all_weaker (HoldsSegment s at.stands.known.0) (λ seg. IsHeldIn seg c) segs held_in all
+
+-- ---- a run
+
+-- what comes of a run, and it is so of a core that had kept these segments before it
+record KeepsAll (S : List ℕ → Type 0) (stored : Stored) (segs : List KindSegment) (c : CoreState) : Type 0 where
+  pub store : Store
+  pub keeps : Keeps S store stored segs c
+
+held_after : (S : List ℕ → Type 0) (stored : Stored) (segs : List KindSegment) (c : CoreState) → KeepsAll S stored segs c → AllByRecursion (λ seg. IsHeldIn seg c) segs
+held_after S stored segs c kept =
+    let at = kept.keeps.is_at in
+    all_held S kept.store stored c at kept.keeps.settled segs (kept.keeps.held at.stands.known.0 at.stands.known.1)
+
 module _ (C : Type 0) (state : C → CoreState) (among : ByteSet) (distinct : HasNoCollisions (IsIn among)) where
   keeps_on : (steps : List FileEvent) (s : Store) (stored : Stored) (segs : List KindSegment) (old new : C) → Keeps (IsIn among) s stored segs (state old) → FileRun C state (IsIn among) steps old new → (state new).stop ≡ None
-      → AllByRecursion (λ seg. IsHeldIn seg (state new)) (segs ++ kept_of steps)
+      → KeepsAll (IsIn among) (stored_after steps stored) (segs ++ kept_of steps) (state new)
   keeps_on [] s stored segs old new keeps run stays =
-      let at = keeps.is_at in
-      let all = all_weaker (HoldsSegment s at.stands.known.0) (λ seg. IsHeldIn seg (state old)) segs (held_in (IsIn among) s stored (state old) at keeps.settled) (keeps.held at.stands.known.0 at.stands.known.1) in
-      subst (λ (c : C). AllByRecursion (λ seg. IsHeldIn seg (state c)) (segs ++ [])) (sym run)
-      (subst (AllByRecursion (λ seg. IsHeldIn seg (state old))) (sym (append-nil segs)) all)
+      subst (λ (all : List KindSegment). KeepsAll (IsIn among) stored all (state new)) (sym (append-nil segs))
+      (subst (λ (c : C). KeepsAll (IsIn among) stored segs (state c)) (sym run) (record { store = s; keeps = keeps }))
   keeps_on (f ∷ fs) s stored segs old new keeps run stays =
       let mid = run.0 in
-      let going = run_running C state among distinct fs mid new run.1.1 stays in
-      let runs = run_running C state among distinct (f ∷ fs) old new run stays in
+      let going = run_running C state among fs mid new run.1.1 stays in
+      let runs = run_running C state among (f ∷ fs) old new run stays in
       let next = keeps_step among distinct f s stored segs (state old) (state mid) keeps run.1.0 runs going in
       let more = kept_by f.event.step f.event.answer in
-      subst (AllByRecursion (λ seg. IsHeldIn seg (state new))) (append_assoc segs more (kept_of fs))
+      subst (λ (all : List KindSegment). KeepsAll (IsIn among) (stored_after (f ∷ fs) stored) all (state new)) (append_assoc segs more (kept_of fs))
       (keeps_on fs next.0 (stored_by f stored) (segs ++ more) mid new next.1 run.1.1 stays)
 
 module _ (C : Type 0) (state : C → CoreState) where
   pub keeps_segments : KeepsSegments C state
   keeps_segments among steps s stored old new distinct at settled run stays =
-      keeps_on C state among distinct steps s stored [] old new (record { is_at = at; settled = settled; held = λ image is. tt }) run stays
+      held_after (IsIn among) (stored_after steps stored) (kept_of steps) (state new)
+      (keeps_on C state among distinct steps s stored [] old new (record { is_at = at; settled = settled; held = λ image is. tt }) run stays)
+
+  pub stays_settled : StaysSettled C state
+  stays_settled among steps s stored old new distinct at settled run stays =
+      (keeps_on C state among distinct steps s stored [] old new (record { is_at = at; settled = settled; held = λ image is. tt }) run stays).keeps.settled
+
+  pub stays_held : StaysHeld C state
+  stays_held among steps s stored seg old new distinct at settled run stays held =
+      let here : (image : List ℕ) → (state old).disk.content ≡ Some image → AllByRecursion (HoldsSegment s image) (seg ∷ []) =
+      λ image is. ((held s at.represents).each image ((state old).disk.as_read image is), tt) in
+      (held_after (IsIn among) (stored_after steps stored) (seg ∷ kept_of steps) (state new)
+      (keeps_on C state among distinct steps s stored (seg ∷ []) old new (record { is_at = at; settled = settled; held = here }) run stays)).0

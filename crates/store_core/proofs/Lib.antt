@@ -1,7 +1,9 @@
 pub mod CheckedReads
 pub mod Committing
+pub mod CoreRuns
 pub mod Crashes
 pub mod Damage
+pub mod Frames
 pub mod GivingFiles
 pub mod KeepingFiles
 pub mod KeepingSegments

@@ -1,16 +1,31 @@
--- A core that was opened runs.
-use Rattle.std.proofs.Common.{◌≡◌, ℕ, List, length, Option, None, Some, replicate, sym, ◌∙◌, ap, subst}
+-- A core that was opened runs, and runs can begin at it; one that was not opened again runs on.
+use Rattle.std.proofs.Common.{◌≡◌, ℕ, zero, suc, List, length, Option, None, Some, Result, Ok, Err, IsErr, OnErr, replicate, refl, sym, ◌∙◌, ap, subst}
 use Rattle.std.proofs.lemmas.List.{length-replicate}
+use Rattle.std.specs.List.{AllByRecursion}
+use Rattle.dd_disk.specs.Ending.{Done, Reads}
+use Rattle.dd_disk.specs.Shows.{Shows}
+use Rattle.dd_disk.specs.View.{DiskView, IsDurable}
+use Rattle.dd_disk.proofs.Shows.{shown_content}
+use Rattle.disk_format.specs.Layout.{slot_at}
+use Rattle.segment_index.specs.Changes.{SameBefore}
 use Rattle.container_meta.specs.Places.{PlaceMap}
 use Rattle.actor_parts.specs.declared.actor.TheConstants.{ACTORS}
 use Rattle.actor_parts.specs.declared.part.Part.TheVariants.{Idle}
 use Rattle.recovery.specs.Opening.{IsOpened}
-use Rattle.store_model.specs.Image.{Store, IsValidFor}
+use Rattle.store_model.specs.Collisions.{IsIn, Stands}
+use Rattle.store_model.specs.Files.{Stored}
+use Rattle.store_model.specs.Image.{Store, Encodes, IsValidFor}
+use Rattle.store_model.specs.Slots.{last_id}
+use Rattle.store_model.proofs.Once.{store_once}
 use Rattle.store_state.specs.declared.open_store.OpenStore.{OpenStore}
+use Rattle.store_state.specs.declared.tables.Tables.{Tables}
+use Rattle.store_state.specs.Invariant.{HoldsPart}
+use Rattle.store_state.specs.Settled.{IsSettled}
 use Rattle.store_state.specs.State as opened
-use Rattle.store_state.specs.Tables.{Represents}
+use Rattle.store_state.specs.Tables.{Represents, Runs}
 use Rattle.store_core.specs.declared.stop.Stop.{Stop}
-use Rattle.store_core.specs.Opening.{IsNew}
+use Rattle.store_core.specs.Opening.{IsNew, IsKept, BeginsAt, IsNewAt}
+use Rattle.store_core.specs.Runs.{IsOf}
 use Rattle.store_core.specs.State.{CoreState, IsUp, UnlessStopped, IsRunning}
 
 pub new_core : (shown : (List ℕ → Type 0) → Type 0) (size : ℕ) (o : OpenStore) (c : CoreState) → IsOpened shown size o → c.disk.size ≡ size
@@ -36,3 +51,76 @@ new_runs shown size c same is = subst (λ (stop : Option Stop). UnlessStopped st
   many = ap length is.parts_are ∙ length-replicate ACTORS Idle;
   served = is.served;
 })
+
+-- ---- one that was not opened again
+
+module _ (old new : CoreState) (same_size : new.disk.size ≡ old.disk.size) (kept : IsKept old new) where
+  kept_up : IsUp old → IsUp new
+  kept_up up = record {
+    runs = subst (λ (size : ℕ). Runs size new.known new.tables) (sym same_size)
+        (subst (λ (known : Option PlaceMap). Runs old.disk.size known new.tables) (sym kept.index_is)
+        (subst (λ (tables : Tables). Runs old.disk.size old.known tables) (sym kept.tables_are) up.runs));
+    many = ap length kept.parts_are ∙ up.many;
+    served = kept.served up.served;
+  }
+
+  unless_stopped : (stop : Option Stop) → UnlessStopped stop (IsUp old) → UnlessStopped stop (IsUp new)
+  unless_stopped None up = kept_up up
+  unless_stopped (Some stop) up = tt
+
+  pub kept_runs : IsRunning old → IsRunning new
+  kept_runs running = subst (λ (stop : Option Stop). UnlessStopped stop (IsUp new)) (sym kept.stop_is) (unless_stopped old.stop running)
+
+-- what is so of a refusal
+pub on_err : {T E : Type 0} (result : Result T E) (P : Type 0) → P → OnErr result P
+on_err (Ok value) P is = tt
+on_err (Err refusal) P is = is
+
+pub refused_runs : {T E : Type 0} (result : Result T E) (old new : CoreState) → IsErr result → new.disk.size ≡ old.disk.size → OnErr result (IsKept old new) → IsRunning old → IsRunning new
+refused_runs (Ok value) old new is same_size kept = absurd cc
+refused_runs (Err refusal) old new is same_size kept = kept_runs old new same_size kept
+
+-- ---- what runs begin at
+
+-- of a disk that tells its content each image is it
+pub durable_settled : (slots : ℕ) (v : DiskView) → IsDurable v → IsSettled slots v
+durable_settled slots v durable bytes is c image = subst (SameBefore (slot_at slots) bytes) (sym (durable bytes is c image)) (record { size = refl; before = λ p n within. refl })
+
+-- an idle actor needs nothing of the disk
+idle_parts : (store : Store) (image : List ℕ) (n : ℕ) → AllByRecursion (HoldsPart store.held image) (replicate n Idle)
+idle_parts store image zero = tt
+idle_parts store image (suc n) = (tt, idle_parts store image n)
+
+-- Over a content that is of these files it is at them, by the store that the content is.
+pub begins_at : (S : List ℕ → Type 0) (stored : Stored) (image : List ℕ) (v : DiskView) (c : CoreState) → IsNew (Shows v c.disk) v.size c → IsDurable c.disk → Reads Done v c.disk
+    → v.content ≡ Some image → IsOf S stored image → BeginsAt S stored c
+begins_at S stored image v c new durable reads told is =
+    let stands : Stands S is.0 stored.files image = is.1.0 in
+    let same : new.store ≡ is.0 = store_once image new.store is.0 (shown_content v c.disk (λ bytes. Encodes bytes new.store) image new.right told) stands.holds.right in
+    let represents : Represents is.0 c.known c.tables = subst (λ (store : Store). Represents store c.known c.tables) same new.represents in
+    let here : c.disk.content ≡ Some image = reads.only.content_is ∙ told in
+    record {
+      store = is.0;
+      is_at = record {
+        represents = represents;
+        index = new.told.0;
+        index_known = new.told.1;
+        valid = subst (λ (size : ℕ). IsValidFor size is.0) (sym reads.only.later.size_is) (subst (λ (store : Store). IsValidFor v.size store) same new.valid);
+        stands = record {
+          known = (image, here);
+          each = λ left leaves. subst (λ (bytes : List ℕ). Stands S is.0 stored.files bytes) (sym (durable image here left leaves)) stands;
+        };
+        last_is = represents.names_are.last_is ∙ is.1.1;
+        invariant = λ bytes told_here. record {
+          index_is_newest = represents.index_is_newest;
+          pins_are_closed = subst (AllByRecursion (HoldsPart is.0.held bytes)) (sym new.parts_are) (idle_parts is.0 bytes ACTORS);
+          reserve_holds = stands.holds.reserve;
+        };
+      };
+      last_id_is = new.last_id_is ∙ ap (λ (store : Store). last_id store.held) same;
+      settled = durable_settled c.tables.slots c.disk durable;
+    }
+
+pub new_is_at : (D : Type 0) (view : D → DiskView) (C : Type 0) (state : C → CoreState) → IsNewAt D view C state
+new_is_at D view C state among stored image before c new durable reads told is =
+    begins_at (IsIn among) stored image (view before) (state c) new durable reads told is

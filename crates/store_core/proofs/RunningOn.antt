@@ -29,7 +29,7 @@ module _ (old new : CoreState) (stays : new.stop ≡ None) where
       (subst (λ (known : Option PlaceMap). Runs old.disk.size known new.tables) (sym kept.index_is)
       (subst (λ (tables : Tables). Runs old.disk.size old.known tables) (sym kept.tables_are) runs))
 
-  seal_kept : (filled : Contents) (refusal : Refusal) (count : ℕ) → StopsAfter (asked.Seal filled) (Err refusal) count new.stop → KeepsUnlessBroken refusal old new → KeepsTables old new
+  pub seal_kept : (filled : Contents) (refusal : Refusal) (count : ℕ) → StopsAfter (asked.Seal filled) (Err refusal) count new.stop → KeepsUnlessBroken refusal old new → KeepsTables old new
   seal_kept filled refusals.DiskWrite count stops kept = absurd (let both = sym stays ∙ stops in cc)
   seal_kept filled (refusals.Damaged at_byte why) count stops kept = absurd (let both = sym stays ∙ stops in cc)
   seal_kept filled refusal count stops kept = kept

@@ -49,8 +49,8 @@ module _ (old new : CoreState) (filled : Contents) (slot id : ℕ) (sealed : Has
   }
 
 kept_map : (refusal : Refusal) (old new : CoreState) → new.tables ≡ old.tables → KeepsMap old.known new.known refusal → KeepsUnlessBroken refusal old new
-kept_map refusals.DiskWrite old new tables map = tt
-kept_map (refusals.Damaged at why) old new tables map = tt
+kept_map refusals.DiskWrite old new tables map = tables
+kept_map (refusals.Damaged at why) old new tables map = tables
 kept_map refusal old new tables map = record { tables_are = tables; index_is = map }
 
 pub made_seal : (filled : Contents) (actor id slot : ℕ) (bytes : List ℕ) (old new : CoreState) (before after : Option (List ℕ) → Option PlaceMap) (m : PlaceMap) → old.known ≡ Some m

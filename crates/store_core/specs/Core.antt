@@ -149,6 +149,7 @@ SealRow filled actor answer old new = ⊥
 abbrev pub CommitRow : List ℕ → Root → ℕ → Result Answer Refusal → CoreState → CoreState → Type 0
 CommitRow name root actor (Ok (answers.Committed sequence)) old new =
     MayCommit (part_of old.parts actor) old.tables name root × (sequence ≡ suc old.tables.journal.last) × Gets Idle actor old new
+    × (new.tables.held.last_id ≡ old.tables.held.last_id)
 CommitRow name root actor (Err refusal) old new =
     IsCommitRefusal (part_of old.parts actor) old.tables name root refusal × (new.parts ≡ old.parts)
 CommitRow name root actor answer old new = ⊥
@@ -197,10 +198,10 @@ pub record KeepsTables (old new : CoreState) : Type 0 where
   pub tables_are : new.tables ≡ old.tables
   pub index_is : new.known ≡ old.known
 
--- but where an index change broke off
+-- but the index where a change of it broke off
 abbrev pub KeepsUnlessBroken : Refusal → CoreState → CoreState → Type 0
-KeepsUnlessBroken refusals.DiskWrite old new = Unit {0}
-KeepsUnlessBroken (refusals.Damaged at why) old new = Unit {0}
+KeepsUnlessBroken refusals.DiskWrite old new = new.tables ≡ old.tables
+KeepsUnlessBroken (refusals.Damaged at why) old new = new.tables ≡ old.tables
 KeepsUnlessBroken refusal old new = KeepsTables old new
 
 -- A change is made: for each store that the tables stood for, tables and index are those of the changed one.

@@ -35,6 +35,20 @@ IsHeldIn seg c =
     (store : Store) → Represents store c.known c.tables
     → StandsFor (λ image. HasNewest store.held (segment_key seg.kind seg.segment) (pin_of seg).level seg.segment.bytes image) c.disk
 
+-- What each image held is held at the end of a run,
+abbrev pub StaysHeld : (C : Type 0) → (C → CoreState) → Type 0
+StaysHeld C state = (among : ByteSet) (steps : List FileEvent) (s : Store) (stored : Stored) (seg : KindSegment) (old new : C)
+    → HasNoCollisions (IsIn among) → IsAt (IsIn among) s stored (state old)
+    → IsSettled (state old).tables.slots (state old).disk
+    → FileRun C state (IsIn among) steps old new → (state new).stop ≡ None → IsHeldIn seg (state old) → IsHeldIn seg (state new)
+
+-- and a disk that was settled is settled.
+abbrev pub StaysSettled : (C : Type 0) → (C → CoreState) → Type 0
+StaysSettled C state = (among : ByteSet) (steps : List FileEvent) (s : Store) (stored : Stored) (old new : C)
+    → HasNoCollisions (IsIn among) → IsAt (IsIn among) s stored (state old)
+    → IsSettled (state old).tables.slots (state old).disk
+    → FileRun C state (IsIn among) steps old new → (state new).stop ≡ None → IsSettled (state new).tables.slots (state new).disk
+
 -- What the steps of a run kept is held at its end, where no two different data segments have one digest.
 abbrev pub KeepsSegments : (C : Type 0) → (C → CoreState) → Type 0
 KeepsSegments C state = (among : ByteSet) (steps : List FileEvent) (s : Store) (stored : Stored) (old new : C)

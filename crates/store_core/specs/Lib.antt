@@ -1,4 +1,5 @@
 pub mod Core
+pub mod Frame
 pub mod Keeping
 pub mod Opening
 pub mod Runs

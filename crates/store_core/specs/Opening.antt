@@ -1,14 +1,21 @@
 -- A core that was opened (docs/MODEL.md, 'The core').
 use Rattle.std.specs.Prelude.{◌≡◌, ◌≤◌, ℕ, List, None, Some, Err, replicate}
+use Rattle.dd_disk.specs.Ending.{Done, Reads}
+use Rattle.dd_disk.specs.Shows.{Shows}
+use Rattle.dd_disk.specs.View.{DiskView, IsDurable}
 use Rattle.disk_format.specs.declared.numbers.TheConstants.{RESERVE}
 use Rattle.container_meta.specs.Places.{PlaceMap}
 use Rattle.actor_parts.specs.declared.actor.TheConstants.{ACTORS}
 use Rattle.actor_parts.specs.declared.part.Part.TheVariants.{Idle}
 use Rattle.refusals.specs.declared.refusal.Refusal.{Refusal}
+use Rattle.store_model.specs.Collisions.{ByteSet, IsIn}
+use Rattle.store_model.specs.Files.{Stored}
 use Rattle.store_model.specs.Image.{Store, Encodes, IsValidFor}
 use Rattle.store_model.specs.Slots.{free_slots, last_id}
+use Rattle.store_state.specs.Settled.{IsSettled}
 use Rattle.store_state.specs.Tables.{Represents}
 use Rattle.recovery.specs.Opening.{Opens}
+use Rattle.store_core.specs.Runs.{IsAt, IsOf}
 use Rattle.store_core.specs.State.{CoreState}
 
 -- Its tables and index are those of a store that reads showed; it runs, each actor is idle, and nothing is acknowledged.
@@ -30,3 +37,28 @@ pub record IsNew (shown : (List ℕ → Type 0) → Type 0) (size : ℕ) (c : Co
 -- why an image that holds a store is not opened: memory or the disk failed, or too few of its slots are free
 abbrev pub IsGivenUp : Refusal → List ℕ → Type 0
 IsGivenUp refusal image = (store : Store) → Encodes image store → Opens store (Err refusal)
+
+-- One that was not opened again: nothing of it is another, but that its disk was read. What it knows of the disk is the same, so
+-- where it ran it runs.
+pub record IsKept (old new : CoreState) : Type 0 where
+  pub tables_are : new.tables ≡ old.tables
+  pub index_is : new.known ≡ old.known
+  pub parts_are : new.parts ≡ old.parts
+  pub stop_is : new.stop ≡ old.stop
+  pub counted : new.acknowledged ≡ old.acknowledged
+  pub served : old.served → new.served
+
+-- Runs can begin: it is at a store of these files, no id was given out that none of its containers has, and its disk is settled.
+pub record BeginsAt (S : List ℕ → Type 0) (stored : Stored) (c : CoreState) : Type 0 where
+  pub store : Store
+  pub is_at : IsAt S store stored c
+  pub last_id_is : c.tables.held.last_id ≡ last_id store.held
+  pub settled : IsSettled c.tables.slots c.disk
+
+-- So it is of a core that was opened, where the content was of these files. It was opened over anything that has a disk, as that
+-- was before.
+abbrev pub IsNewAt : (D : Type 0) → (D → DiskView) → (C : Type 0) → (C → CoreState) → Type 0
+IsNewAt D view C state = (among : ByteSet) (stored : Stored) (image : List ℕ) (before : D) (c : C)
+    → IsNew (Shows (view before) (state c).disk) (view before).size (state c) → IsDurable (state c).disk
+    → Reads Done (view before) (state c).disk
+    → (view before).content ≡ Some image → IsOf (IsIn among) stored image → BeginsAt (IsIn among) stored (state c)

@@ -9,6 +9,7 @@ use Rattle.actor_parts.specs.declared.part.Part.{Part}
 use Rattle.actor_parts.specs.declared.step.Answer.{Answer}
 use Rattle.actor_parts.specs.StepValue.{StepValue}
 use Rattle.refusals.specs.declared.refusal.Refusal.{Refusal}
+use Rattle.refusals.specs.declared.refusal.Refusal.TheVariants.{Stopped}
 use Rattle.store_state.specs.declared.tables.Tables.{Tables}
 use Rattle.store_state.specs.Tables.{Runs}
 use Rattle.store_core.specs.declared.stop.Stop.{Stop}
@@ -42,6 +43,10 @@ UnlessStopped (Some stop) P = Unit {0}
 
 abbrev pub IsRunning : CoreState → Type 0
 IsRunning c = UnlessStopped c.stop (IsUp c)
+
+-- it is stopped, and this is how it refuses each step
+abbrev pub IsStopped : Option Stop → Refusal → Type 0
+IsStopped stopped refusal = (stop : Stop) × (stopped ≡ Some stop) × (refusal ≡ Stopped stop.at)
 
 -- nothing of the core is another, and of the disk nothing but the time
 pub record IsSame (old new : CoreState) : Type 0 where

@@ -1,9 +1,19 @@
 //! Laws of steps of a core, one after the other (docs/MODEL.md, 'The core').
-ghost use Rattle.store_core.specs.Keeping.{KeepsSegments};
+ghost use Rattle.store_core.specs.Frame.{AddsAlone, WrittenStays};
+ghost use Rattle.store_core.specs.Keeping.{KeepsSegments, StaysHeld, StaysSettled};
+ghost use Rattle.store_core.specs.Opening.{IsNewAt};
 ghost use Rattle.store_core.specs.Runs.{RunsOn, KeepsFiles, GivesTheFile, ReadsAreChecked, EndsAreWhole, SurvivesCrashes, SurvivesSince, KeepsAcknowledged, EndsWithAll};
 ghost use Rattle.store_core.specs.Sound.{NeverDamaged, FindsFiles};
 
 use crate::state::HasState;
+use dd_disk::Disk;
+
+/// A core that was opened over a disk whose content is of some files begins at them, and so does one that was opened again. The
+/// function does nothing.
+pub fn an_opened_core_is_at<D: Disk, C: HasState>()
+    ensures opened { IsNewAt D D.view C C.state }
+    ensures reopened { IsNewAt C (λ c. (C.state c).disk) C C.state }
+{}
 
 /// A core that runs runs on, or is stopped, whatever steps are made. The function does nothing.
 pub fn a_core_runs_on<C: HasState>()
@@ -20,6 +30,13 @@ pub fn a_core_keeps_files<C: HasState>()
 /// steps of a run kept, claimed and held or sealed, are held then, bytes and all, in each image. The function does nothing.
 pub fn a_core_keeps_segments<C: HasState>()
     ensures { KeepsSegments C C.state }
+{}
+
+/// Of such a core: what each image held before the steps of a run is held after them, and its disk is settled again. The function
+/// does nothing.
+pub fn a_core_keeps_what_is_held<C: HasState>()
+    ensures held { StaysHeld C C.state }
+    ensures settled { StaysSettled C C.state }
 {}
 
 /// A file that was opened is given as it was then, whatever steps others make. The function does nothing.
@@ -42,6 +59,13 @@ pub fn a_core_survives_crashes<C: HasState>()
     ensures since { SurvivesSince C C.state }
     ensures acknowledged { KeepsAcknowledged C C.state }
     ensures end { EndsWithAll C C.state }
+{}
+
+/// Whatever the disk of a core holds, a run adds records and containers to it: no other byte before the end of the slots changes. At
+/// any moment of a run, also where a write fails, what was written before it stays. The function does nothing.
+pub fn a_core_keeps_what_is_written<C: HasState>()
+    ensures added { AddsAlone C C.state }
+    ensures moments { WrittenStays C C.state }
 {}
 
 /// Over data without collisions, of a core that began at a store: no step of a run finds damage or misses a segment, and data

@@ -1,11 +1,11 @@
 //! Opening a core.
-ghost use Rattle.std.specs.Prelude.{◌≡◌, IfOk, IfErr};
+ghost use Rattle.std.specs.Prelude.{◌≡◌, None, IfOk, IfErr, OnOk, OnErr};
 ghost use Rattle.dd_disk.specs.View.{IsDurable};
-ghost use Rattle.dd_disk.specs.Ending.{Done, Reads, ending_of};
+ghost use Rattle.dd_disk.specs.Ending.{Done, Reads, ending, ending_of};
 ghost use Rattle.dd_disk.specs.Shows.{Shows};
 ghost use Rattle.recovery.specs.Opening.{IsOpenRefusal};
 ghost use Rattle.store_state.specs.Refused.{blames};
-ghost use Rattle.store_core.specs.Opening.{IsNew, IsGivenUp};
+ghost use Rattle.store_core.specs.Opening.{IsNew, IsGivenUp, IsKept};
 ghost use Rattle.store_core.specs.State.{IsRunning};
 
 use crate::running::Core;
@@ -14,8 +14,35 @@ use actor_parts::Parts;
 use dd_disk::Disk;
 use recovery::open;
 use refusals::Refusal;
+use segment_index::{Index, StoreIndex};
 use std::alloc::Global;
+use store_state::Tables;
 use summary_vector::Summary;
+
+// Reads the store of a disk: its tables and its index, and the parts of actors that are all idle.
+fn read_store<D: Disk>(alloc: Global, disk: &mut D) -> Result<(Tables, StoreIndex, Parts), Refusal>
+    ensures opened { IfOk result (λ r. IsNew (Shows (D.view disk.old) (D.view disk.new)) (D.view disk.old).size (record {
+      disk = D.view disk.new;
+      tables = r.0;
+      known = ⟦<StoreIndex as Index>⟧.places r.1 (D.view disk.new).content;
+      served = ⟦<StoreIndex as Index>⟧.serves r.1 (D.view disk.new).size;
+      breaks = ⟦<StoreIndex as Index>⟧.breaks r.1;
+      parts = r.2;
+      stop = None;
+      acknowledged = 0;
+    })) }
+    ensures durable { OnOk result (IsDurable (D.view disk.new)) }
+    ensures reads { Reads (ending blames result) (D.view disk.old) (D.view disk.new) }
+    ensures refused { IfErr result (IsOpenRefusal (Shows (D.view disk.old) (D.view disk.new)) (D.view disk.old).size) }
+    ensures only { IfErr result (λ refusal. Shows (D.view disk.old) (D.view disk.new) (IsGivenUp refusal)) }
+{
+    let found = open(alloc, disk)?;
+    let Ok(parts) = Parts::new(alloc) else {
+        return Err(Refusal::Memory);
+    };
+    let (tables, index) = found.into_running();
+    Ok((tables, index, parts))
+}
 
 impl<D: Disk, M: Summary + Drop> Core<D, M> {
     /// Opens the store on a disk. The refusals are those of `recovery::open`, and hand the disk back.
@@ -33,14 +60,10 @@ impl<D: Disk, M: Summary + Drop> Core<D, M> {
         ensures back { IfErr result (λ r. Reads (ending_of (blames r.1)) (D.view disk) (D.view r.0)) }
     {
         let mut disk = disk;
-        let found = match open(alloc, &mut disk) {
+        let (tables, index, parts) = match read_store(alloc, &mut disk) {
             Ok(found) => found,
             Err(refusal) => return Err((disk, refusal)),
         };
-        let Ok(parts) = Parts::new(alloc) else {
-            return Err((disk, Refusal::Memory));
-        };
-        let (tables, index) = found.into_running();
         Ok(Core {
             alloc,
             disk,
@@ -51,5 +74,40 @@ impl<D: Disk, M: Summary + Drop> Core<D, M> {
             stop: None,
             acknowledged: 0,
         })
+    }
+}
+
+impl<D: Disk, M: Summary> Core<D, M> {
+    /// Opens the store on its disk again, in place: tables, index and parts are those that an opening makes, and a core that was
+    /// stopped runs. The refusals are those of `open`, and leave the core as it was, but that its disk was read.
+    pub fn reopen(&mut self) -> Result<(), Refusal>
+        ensures opened { OnOk result (IsNew (Shows (⟦<Core<D, M> as HasState>⟧.state self.old).disk
+            (⟦<Core<D, M> as HasState>⟧.state self.new).disk) (⟦<Core<D, M> as HasState>⟧.state self.old).disk.size
+            (⟦<Core<D, M> as HasState>⟧.state self.new)) }
+        ensures running { OnOk result (IsRunning (⟦<Core<D, M> as HasState>⟧.state self.new)) }
+        // All that was written stands after a crash.
+        ensures durable { OnOk result (IsDurable (⟦<Core<D, M> as HasState>⟧.state self.new).disk) }
+        ensures reads { OnOk result (Reads Done (⟦<Core<D, M> as HasState>⟧.state self.old).disk
+            (⟦<Core<D, M> as HasState>⟧.state self.new).disk) }
+        ensures summary { (⟦<Core<D, M> as HasState>⟧.there self.new ≡ ⟦<Core<D, M> as HasState>⟧.there self.old)
+            × (⟦<Core<D, M> as HasState>⟧.banks self.new ≡ ⟦<Core<D, M> as HasState>⟧.banks self.old) }
+        ensures refused { IfErr result (IsOpenRefusal (Shows (⟦<Core<D, M> as HasState>⟧.state self.old).disk
+            (⟦<Core<D, M> as HasState>⟧.state self.new).disk) (⟦<Core<D, M> as HasState>⟧.state self.old).disk.size) }
+        ensures only { IfErr result (λ refusal. Shows (⟦<Core<D, M> as HasState>⟧.state self.old).disk
+            (⟦<Core<D, M> as HasState>⟧.state self.new).disk (IsGivenUp refusal)) }
+        ensures back { IfErr result (λ refusal. Reads (ending_of (blames refusal))
+            (⟦<Core<D, M> as HasState>⟧.state self.old).disk (⟦<Core<D, M> as HasState>⟧.state self.new).disk) }
+        ensures kept { OnErr result (IsKept (⟦<Core<D, M> as HasState>⟧.state self.old)
+            (⟦<Core<D, M> as HasState>⟧.state self.new)) }
+        ensures runs_on { IsRunning (⟦<Core<D, M> as HasState>⟧.state self.old)
+            → IsRunning (⟦<Core<D, M> as HasState>⟧.state self.new) }
+    {
+        let (tables, index, parts) = read_store(self.alloc, &mut self.disk)?;
+        self.tables = tables;
+        self.index = index;
+        self.parts = parts;
+        self.stop = None;
+        self.acknowledged = 0;
+        Ok(())
     }
 }

@@ -1,5 +1,5 @@
 //! The core of a running store: one step after the other.
-ghost use Rattle.std.specs.Prelude.{◌≡◌, ◌-◌, ◌^◌, ℕ, List, None, Err, IfSome, min, option_map};
+ghost use Rattle.std.specs.Prelude.{◌≡◌, ◌-◌, ◌^◌, ℕ, List, None, Err, IfErr, IfSome, OnOk, min, option_map};
 ghost use Rattle.dd_disk.specs.Ending.{Done, Reads};
 ghost use Rattle.actor_parts.specs.Kinds.{kind_of};
 ghost use Rattle.actor_parts.specs.Parts.{part_of};
@@ -8,7 +8,7 @@ ghost use Rattle.actor_parts.specs.StepValue.{IsStep, step_value};
 ghost use Rattle.actor_parts.specs.Segments.{IsStepSegment};
 ghost use Rattle.refusals.specs.declared.refusal.Refusal.TheVariants.{Stopped};
 ghost use Rattle.store_core.specs.Core.{MadeBefore, CoreStep, StopsAfter, IsCount, counted};
-ghost use Rattle.store_core.specs.State.{IsUp, IsRunning, IsSame};
+ghost use Rattle.store_core.specs.State.{IsUp, IsRunning, IsSame, IsStopped};
 
 use crate::state::HasState;
 use crate::stop::Stop;
@@ -62,6 +62,26 @@ impl<D: Disk, M: Summary> HasState for Core<D, M> {
         buf: &mut SegBuf,
     ) -> Result<Answer, Refusal> {
         self.step(actor, step, buf)
+    }
+
+    fn reopen(&mut self) -> Result<(), Refusal> {
+        self.reopen()
+    }
+
+    fn running(&self) -> Result<(), Refusal> {
+        self.running()
+    }
+
+    fn part_kind(&self, actor: Actor) -> PartKind {
+        self.part_kind(actor)
+    }
+
+    fn last_sequence(&self) -> u64 {
+        self.last_sequence()
+    }
+
+    fn moment(&self) -> u64 {
+        self.moment()
     }
 }
 
@@ -290,6 +310,17 @@ impl<D: Disk, M: Summary> Core<D, M> {
         self.stop = stop_after(&step, &answer, self.acknowledged);
         self.acknowledged = count_after(&answer, self.acknowledged);
         answer
+    }
+
+    /// Whether it runs. The refusal is that of each step once it is stopped, with how many puts had been acknowledged.
+    pub fn running(&self) -> Result<(), Refusal>
+        ensures runs { OnOk result ((⟦<Core<D, M> as HasState>⟧.state self.now).stop ≡ None) }
+        ensures stopped { IfErr result (IsStopped (⟦<Core<D, M> as HasState>⟧.state self.now).stop) }
+    {
+        match &self.stop {
+            Some(stop) => Err(Refusal::Stopped { at: stop.at }),
+            None => Ok(()),
+        }
     }
 
     /// What an actor is at.

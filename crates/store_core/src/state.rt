@@ -1,14 +1,22 @@
-//! What has a state, and makes steps, as a core.
-ghost use Rattle.std.specs.Prelude.{Bool};
+//! What has a state, makes steps and is opened again, as a core.
+ghost use Rattle.std.specs.Prelude.{◌≡◌, ◌-◌, ◌^◌, Bool, IfErr, OnErr, OnOk, min};
+ghost use Rattle.dd_disk.specs.Ending.{Done, Reads, ending_of};
+ghost use Rattle.dd_disk.specs.Shows.{Shows};
+ghost use Rattle.dd_disk.specs.View.{IsDurable};
 ghost use Rattle.summary_vector.specs.Banks.{Banks};
+ghost use Rattle.actor_parts.specs.Kinds.{kind_of};
+ghost use Rattle.actor_parts.specs.Parts.{part_of};
 ghost use Rattle.actor_parts.specs.StepValue.{IsStep, step_value};
+ghost use Rattle.recovery.specs.Opening.{IsOpenRefusal};
+ghost use Rattle.store_state.specs.Refused.{blames};
 ghost use Rattle.store_core.specs.Core.{CoreStep};
-ghost use Rattle.store_core.specs.State.{CoreState, IsRunning};
+ghost use Rattle.store_core.specs.Opening.{IsGivenUp, IsKept, IsNew};
+ghost use Rattle.store_core.specs.State.{CoreState, IsRunning, IsStopped};
 
 use actor_parts::{Actor, Answer, SegBuf, Step};
-use refusals::Refusal;
+use refusals::{PartKind, Refusal};
 
-/// What has a state, and makes steps, as a core.
+/// What has a state, makes steps and is opened again, as a core.
 pub trait HasState {
     /// Its state.
     ghost state: { Self → CoreState };
@@ -31,4 +39,37 @@ pub trait HasState {
         ensures step { CoreStep (state self.old)
             (record { actor = actor; step = step_value step.entry; answer = result; buf = buf.new }) (state self.new) }
         ensures running { IsRunning (state self.new) };
+
+    /// Opens the store on its disk again, in place. The refusals are those of an opening, and leave it as it was.
+    fn reopen(&mut self) -> Result<(), Refusal>
+        ensures opened { OnOk result (IsNew (Shows (state self.old).disk (state self.new).disk) (state self.old).disk.size
+            (state self.new)) }
+        ensures running { OnOk result (IsRunning (state self.new)) }
+        // All that was written stands after a crash.
+        ensures durable { OnOk result (IsDurable (state self.new).disk) }
+        ensures reads { OnOk result (Reads Done (state self.old).disk (state self.new).disk) }
+        ensures summary { (there self.new ≡ there self.old) × (banks self.new ≡ banks self.old) }
+        ensures refused { IfErr result (IsOpenRefusal (Shows (state self.old).disk (state self.new).disk)
+            (state self.old).disk.size) }
+        ensures only { IfErr result (λ refusal. Shows (state self.old).disk (state self.new).disk (IsGivenUp refusal)) }
+        ensures back { IfErr result (λ refusal. Reads (ending_of (blames refusal)) (state self.old).disk (state self.new).disk) }
+        ensures kept { OnErr result (IsKept (state self.old) (state self.new)) }
+        ensures runs_on { IsRunning (state self.old) → IsRunning (state self.new) };
+
+    /// Whether it runs; the refusal is that of each step once it is stopped.
+    fn running(&self) -> Result<(), Refusal>
+        ensures runs { OnOk result ((state self.now).stop ≡ None) }
+        ensures stopped { IfErr result (IsStopped (state self.now).stop) };
+
+    /// What an actor is at.
+    fn part_kind(&self, actor: Actor) -> PartKind
+        ensures { result ≡ kind_of (part_of (state self.now).parts actor) };
+
+    /// The last sequence number that was given out, 0 where there was none.
+    fn last_sequence(&self) -> u64
+        ensures { result ≡ (state self.now).tables.journal.last };
+
+    /// The moment of its disk, or 2^64 - 1 where that is less.
+    fn moment(&self) -> u64
+        ensures { result ≡ min (state self.now).disk.clock (2 ^ 64 - 1) };
 }

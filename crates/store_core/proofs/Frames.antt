@@ -1,0 +1,469 @@
+-- What a run leaves of the bytes of the disk, whatever these are.
+use Rattle.std.proofs.Common.{◌≡◌, ◌≢◌, inl, inr, ℕ, zero, suc, ◌+◌, ◌<◌, ◌≤◌, Bool, true, false, List, [], ◌∷◌, length, Option, Some, None, Result, Ok, Err, refl, sym, ◌∙◌, ap, subst, arith, length-append}
+use Rattle.std.specs.Prelude.{nat_lt, slice_get}
+use Rattle.std.proofs.lemmas.Bool.{ltb-true, ltb-false}
+use Rattle.base_model.specs.Bytes.{range}
+use Rattle.base_model.specs.Frames.{SameOutside}
+use Rattle.base_model.specs.Known.{KnownWith}
+use Rattle.disk_format.specs.declared.numbers.TheConstants.{CELL_BYTES, SLOT_BYTES, FIRST_HALF}
+use Rattle.disk_format.specs.Cells.{Root}
+use Rattle.disk_format.specs.Layout.{half_cells, cell_at, slot_at}
+use Rattle.dd_disk.specs.Ending.{ending_of}
+use Rattle.dd_disk.specs.View.{IsLater, OnlyReads, CrashLeaves, SteppedFrom}
+use Rattle.dd_disk.specs.Writes.{Both}
+use Rattle.dd_disk.proofs.Later.{reads_here, reads_leave, leaves_on, leaves_weaker}
+use Rattle.container_meta.specs.Places.{PlaceMap}
+use Rattle.container_meta.specs.Segments.{Contents}
+use Rattle.container_meta.specs.Spelling.{HeaderValue, header_of}
+use Rattle.segment_index.specs.Changes.{SameBefore}
+use Rattle.actor_parts.specs.declared.step.Answer.{Answer}
+use Rattle.actor_parts.specs.declared.step.Answer.TheVariants as answers
+use Rattle.actor_parts.specs.StepValue as asked
+use Rattle.actor_parts.specs.StepValue.{StepValue}
+use Rattle.journal_cells.specs.Appending.{SameButNext}
+use Rattle.refusals.specs.declared.refusal.Refusal.{Refusal}
+use Rattle.refusals.specs.declared.refusal.Refusal.TheVariants as refusals
+use Rattle.store_model.specs.Files.{Stored}
+use Rattle.store_model.specs.Image.{Store, IsValidFor}
+use Rattle.store_model.specs.Slots.{free_slots, first_free, with_slot}
+use Rattle.store_model.specs.Steps.{StoreChange, SealContainer, PutName, changed, put_of, with_put}
+use Rattle.store_model.proofs.Filled.{free_less}
+use Rattle.store_state.specs.declared.tables.Tables.{Tables}
+use Rattle.store_state.specs.Refused.{blames}
+use Rattle.store_state.specs.Settled.{IsSettled, Left}
+use Rattle.store_state.specs.Tables.{Represents}
+use Rattle.ingest_steps.specs.Sealing.{ChangesSlotAlone, SameButSlotOf}
+use Rattle.store_core.specs.declared.stop.Stop.{Stop}
+use Rattle.store_core.specs.Core.{CoreStep, Steps, StepsOr, StopsAfter, Row, Effect, Rests, SealsOne, PutsOne, KeepsTables}
+use Rattle.store_core.specs.Frame.{IsOn, KeepsBytes, AddsBytes, KeepsWritten, AddsAlone, WrittenStays}
+use Rattle.store_core.specs.Runs.{ChangesTo, CoreRun, FileEvent, IsAt, changes_by, changes_of, events_of}
+use Rattle.store_core.specs.State.{CoreState, Event}
+use Rattle.store_core.proofs.CoreRuns.{was_running, running_step, runs_before, run_later, stopped_reads}
+use Rattle.store_core.proofs.KeepingFiles.{only_reads, chain_on}
+use Rattle.store_core.proofs.KeepingSegments.{effect_settled}
+use Rattle.store_core.proofs.RunningOn.{seal_kept}
+use Rattle.store_core.proofs.Stepping.{step_later}
+
+-- ---- the slots of a store with one container more
+
+some_not_none : (h : HeaderValue) → Some (Some h) ≡ Some None → ⊥
+some_not_none h same = cc
+
+-- what a slot held it holds
+held_with : (slot : ℕ) (h g : HeaderValue) (held : List (Option HeaderValue)) → slice_get held slot ≡ Some (Some g) → slice_get (with_slot (first_free held) h held) slot ≡ Some (Some g)
+held_with slot h g [] is = absurd cc
+held_with zero h g (None ∷ cs) is = absurd (some_not_none g (sym is))
+held_with (suc slot) h g (None ∷ cs) is = is
+held_with zero h g (Some x ∷ cs) is = is
+held_with (suc slot) h g (Some x ∷ cs) is = held_with slot h g cs is
+
+other_with : (slot : ℕ) (h : HeaderValue) (held : List (Option HeaderValue)) → slot ≢ first_free held → slice_get (with_slot (first_free held) h held) slot ≡ slice_get held slot
+other_with slot h [] differ = refl
+other_with zero h (None ∷ cs) differ = absurd (differ refl)
+other_with (suc slot) h (None ∷ cs) differ = refl
+other_with zero h (Some x ∷ cs) differ = refl
+other_with (suc slot) h (Some x ∷ cs) differ = other_with slot h cs (λ is. differ (ap suc is))
+
+-- the first that was closed holds the container
+first_with : (h : HeaderValue) (held : List (Option HeaderValue)) → 1 ≤ free_slots held → slice_get (with_slot (first_free held) h held) (first_free held) ≡ Some (Some h)
+first_with h [] some = absurd (omega (arith, some))
+first_with h (None ∷ cs) some = refl
+first_with h (Some x ∷ cs) some = first_with h cs some
+
+first_none : (held : List (Option HeaderValue)) → 1 ≤ free_slots held → slice_get held (first_free held) ≡ Some None
+first_none [] some = absurd (omega (arith, some))
+first_none (None ∷ cs) some = refl
+first_none (Some x ∷ cs) some = first_none cs some
+
+-- ---- bytes
+
+module _ (s : Store) (base : List ℕ) where
+  keeps_here : (end : ℕ) (Stays : ℕ → Type 0) → KeepsBytes s end Stays base base
+  keeps_here end Stays = record { size_is = refl; head = refl; cells = λ half cell low within other. refl; slots = λ slot within stays. refl }
+
+  module _ (end : ℕ) (Stays : ℕ → Type 0) (given : List ℕ) (keeps : KeepsBytes s end Stays base given) where
+    keeps_fewer : (later : ℕ) (Fewer : ℕ → Type 0) → end ≤ later → ((slot : ℕ) → Fewer slot → Stays slot) → KeepsBytes s later Fewer base given
+    keeps_fewer later Fewer more each = record {
+      size_is = keeps.size_is;
+      head = keeps.head;
+      cells = λ half cell low within other. keeps.cells half cell low within (λ is. other (is.0, is.1, omega (arith, is.2, more)));
+      slots = λ slot within stays. keeps.slots slot within (each slot stays);
+    }
+
+    -- where nothing changes but what comes after all slots
+    keeps_counted : (new : List ℕ) → SameBefore (slot_at s.slots) given new → KeepsBytes s end Stays base new
+    keeps_counted new same = record {
+      size_is = same.size ∙ keeps.size_is;
+      head = same.before 0 FIRST_HALF (omega arith) ∙ keeps.head;
+      cells = λ half cell low within other. same.before (cell_at half cell) CELL_BYTES (omega (arith, low, within)) ∙ keeps.cells half cell low within other;
+      slots = λ slot within stays. same.before (slot_at slot) SLOT_BYTES (omega (arith, within)) ∙ keeps.slots slot within stays;
+    }
+
+    -- where a slot changes that is none of these
+    keeps_sealed : (place : ℕ) (new : List ℕ) → ((slot : ℕ) → Stays slot → slot ≢ place) → SameButSlotOf s.slots place given new → KeepsBytes s end Stays base new
+    keeps_sealed place new others same = record {
+      size_is = same.size ∙ keeps.size_is;
+      head = same.before 0 FIRST_HALF (omega arith) ∙ keeps.head;
+      cells = λ half cell low within other. same.before (cell_at half cell) CELL_BYTES (omega (arith, low, within)) ∙ keeps.cells half cell low within other;
+      slots = λ slot within stays. other_slot slot within (nat_lt slot place) refl (others slot stays) ∙ keeps.slots slot within stays;
+    }
+      where
+        other_slot : (slot : ℕ) → slot < s.slots → (below : Bool) → nat_lt slot place ≡ below → slot ≢ place → range (slot_at slot) SLOT_BYTES new ≡ range (slot_at slot) SLOT_BYTES given
+        other_slot slot within true is differ = same.before (slot_at slot) SLOT_BYTES (omega (arith, ltb-true slot place is))
+        other_slot slot within false is differ = same.after (slot_at slot) SLOT_BYTES (omega (arith, ltb-false slot place is, differ)) (omega (arith, within))
+
+    -- where a cell changes that comes after the records, and before the end
+    keeps_put : (place at : ℕ) (new : List ℕ) → place ≡ s.selector.half → place ≤ 1 → length s.records ≤ at → at < end → at < half_cells → SameOutside (cell_at place at) CELL_BYTES given new → KeepsBytes s end Stays base new
+    keeps_put place at new place_is few after before room same = record {
+      size_is = same.size ∙ keeps.size_is;
+      head = same.before 0 FIRST_HALF (omega arith) ∙ keeps.head;
+      cells = λ half cell low within other.
+          other_cell half cell (nat_lt (cell_at half cell) (cell_at place at)) refl (λ is. other (same_half half cell low within is ∙ place_is, omega (arith, same_cell half cell low within is, after), omega (arith, same_cell half cell low within is, before)))
+          ∙ keeps.cells half cell low within other;
+      slots = λ slot within stays. same.after (slot_at slot) SLOT_BYTES (omega (arith, few, room)) ∙ keeps.slots slot within stays;
+    }
+      where
+        -- each place has one half and one cell
+        same_half : (half cell : ℕ) → half ≤ 1 → cell < half_cells → cell_at half cell ≡ cell_at place at → half ≡ place
+        same_half half cell low within is = omega (arith, low, within, is, few, room)
+
+        same_cell : (half cell : ℕ) → half ≤ 1 → cell < half_cells → cell_at half cell ≡ cell_at place at → cell ≡ at
+        same_cell half cell low within is = omega (arith, low, within, is, few, room)
+
+        other_cell : (half cell : ℕ) (below : Bool) → nat_lt (cell_at half cell) (cell_at place at) ≡ below → (cell_at half cell ≡ cell_at place at → ⊥) → range (cell_at half cell) CELL_BYTES new ≡ range (cell_at half cell) CELL_BYTES given
+        other_cell half cell true is differ = same.before (cell_at half cell) CELL_BYTES (omega (arith, ltb-true (cell_at half cell) (cell_at place at) is))
+        other_cell half cell false is differ = same.after (cell_at half cell) CELL_BYTES (omega (arith, ltb-false (cell_at half cell) (cell_at place at) is, differ))
+
+-- ---- one step
+
+-- it is on the second store, which has come from the first
+record IsFramed (s : Store) (base : List ℕ) (t : Store) (c : CoreState) : Type 0 where
+  pub on : IsOn t c
+  pub slots_are : t.slots ≡ s.slots
+  pub half_is : t.selector.half ≡ s.selector.half
+  pub more : length s.records ≤ length t.records
+  pub held : (slot : ℕ) (h : HeaderValue) → slice_get s.held slot ≡ Some (Some h) → slice_get t.held slot ≡ Some (Some h)
+  pub content : KnownWith c.disk.content (AddsBytes s t base)
+
+-- where a step leads
+record Leads (s : Store) (base : List ℕ) (changes : List StoreChange) (t : Store) (c : CoreState) : Type 0 where
+  pub after : Store
+  pub chain : ChangesTo changes t after
+  pub framed : IsFramed s base after c
+
+module _ (s : Store) (base : List ℕ) (t : Store) (old new : CoreState) (framed : IsFramed s base t old) where
+  abbrev given : List ℕ
+  given = framed.content.0
+
+  abbrev known : old.disk.content ≡ Some given
+  known = framed.content.1
+
+  abbrev Same : ℕ → Type 0
+  Same slot = slice_get t.held slot ≡ slice_get s.held slot
+
+  abbrev Was : ℕ → Type 0
+  Was slot = (h : HeaderValue) × (slice_get s.held slot ≡ Some (Some h))
+
+  abbrev place : ℕ
+  place = first_free t.held
+
+  some : 1 ≤ free_slots t.held
+  some = omega (arith, framed.on.reserve)
+
+  tables_slots : old.tables.slots ≡ s.slots
+  tables_slots = framed.on.represents.slots_are ∙ framed.slots_are
+
+  settled : IsSettled s.slots old.disk
+  settled = subst (λ (n : ℕ). IsSettled n old.disk) tables_slots framed.on.settled
+
+  -- each image is the content, in what counts
+  image_adds : (c : List ℕ) → old.disk.images c → AddsBytes s t base c
+  image_adds c image = keeps_counted s base (length t.records) Same given framed.content.2 c (settled given known c image)
+
+  -- a slot that held a container is not the closed one
+  not_place : (slot : ℕ) → Was slot → slot ≢ place
+  not_place slot was is = some_not_none was.0 (sym (framed.held slot was.0 was.1) ∙ ap (slice_get t.held) is ∙ first_none t.held some)
+
+  adds_written : (c : List ℕ) → AddsBytes s t base c → KeepsWritten s base c
+  adds_written c adds = keeps_fewer s base (length t.records) Same c adds half_cells Was framed.on.valid.few (λ slot was. framed.held slot was.0 was.1 ∙ sym was.1)
+
+  image_written : (c : List ℕ) → old.disk.images c → KeepsWritten s base c
+  image_written c image = adds_written c (image_adds c image)
+
+  frame_of : ChangesSlotAlone old.tables.slots place old.disk new.disk → ChangesSlotAlone s.slots place old.disk new.disk
+  frame_of frame = subst (λ (n : ℕ). ChangesSlotAlone n place old.disk new.disk) tables_slots frame
+
+  few : old.tables.journal.half ≤ 1
+  few = subst (λ (n : ℕ). n ≤ 1) (sym framed.on.represents.names_are.half) framed.on.valid.selector_right.half
+
+  -- ---- at any moment
+
+  abbrev Written : List ℕ → Type 0
+  Written = KeepsWritten s base
+
+  by_reads : OnlyReads old.disk new.disk → CrashLeaves Written old.disk new.disk
+  by_reads reads = reads_leave Written old.disk new.disk image_written reads
+
+  by_seal : (filled : Contents) (answer : Result Answer Refusal) → SealsOne filled answer old new → CrashLeaves Written old.disk new.disk
+  by_seal filled answer effect =
+      let frame = frame_of (effect.moves.frame.store_has t framed.on.represents framed.on.valid framed.on.reserve) in
+      leaves_weaker (SameButSlotOf s.slots place given) Written old.disk new.disk
+      (λ c same. keeps_sealed s base half_cells Was given (adds_written given framed.content.2) place c not_place same) (frame.settled settled given known).1
+
+  -- all but the cell after the records
+  abbrev SameButOne : List ℕ → List ℕ → Type 0
+  SameButOne = SameButNext old.tables.journal
+
+  next_keeps : (end : ℕ) (Stays : ℕ → Type 0) → old.tables.journal.count < half_cells → old.tables.journal.count < end → (d c : List ℕ) → KeepsBytes s end Stays base d → SameButOne d c → KeepsBytes s end Stays base c
+  next_keeps end Stays room before d c keeps same =
+      keeps_put s base end Stays d keeps old.tables.journal.half old.tables.journal.count c (framed.on.represents.names_are.half ∙ framed.half_is) few
+      (omega (arith, framed.on.represents.names_are.count, framed.more)) before room same
+
+  by_put : (name : List ℕ) (root : Root) (answer : Result Answer Refusal) → PutsOne name root answer old new → old.tables.journal.count < half_cells → CrashLeaves Written old.disk new.disk
+  by_put name root answer effect room =
+      leaves_weaker (SteppedFrom SameButOne old.disk) Written old.disk new.disk
+      (λ c from. elim from [
+        | inl image ↦ image_written c image
+        | inr step ↦ next_keeps half_cells Was room room step.0 c (image_written step.0 step.1) step.2
+      ]) (effect.frame.leaves given known)
+
+  by_commit : (name : List ℕ) (root : Root) (actor : ℕ) (buf : List ℕ) (answer : Result Answer Refusal) → Row (asked.Commit name root) actor answer buf old new → PutsOne name root answer old new → CrashLeaves Written old.disk new.disk
+  by_commit name root actor buf (Ok (answers.Committed sequence)) row effect = by_put name root (Ok (answers.Committed sequence)) effect row.0.may_name.cell
+  by_commit name root actor buf (Ok answer) row effect = absurd row
+  by_commit name root actor buf (Err refusals.DiskWrite) row effect = by_put name root (Err refusals.DiskWrite) effect row.0.0.may_name.cell
+  by_commit name root actor buf (Err refusals.DiskRead) row effect = by_reads effect.disk.ends
+  by_commit name root actor buf (Err refusal) row effect = by_reads effect.disk.ends
+
+  by_effect : (actor : ℕ) (buf : List ℕ) (step : StepValue) (answer : Result Answer Refusal) → Row step actor answer buf old new → Effect step answer old new → CrashLeaves Written old.disk new.disk
+  by_effect actor buf asked.Begin answer row effect = by_reads effect.disk.only
+  by_effect actor buf (asked.Claim seg) answer row effect = by_reads effect.disk.only
+  by_effect actor buf (asked.Seal filled) answer row effect = by_seal filled answer effect
+  by_effect actor buf (asked.Commit name root) answer row effect = by_commit name root actor buf answer row effect
+  by_effect actor buf asked.Abort answer row effect = by_reads effect.disk.only
+  by_effect actor buf (asked.OpenRead name) answer row effect = by_reads effect.disk.only
+  by_effect actor buf asked.ReadNext answer row effect = by_reads effect.disk.only
+  by_effect actor buf asked.EndRead answer row effect = by_reads effect.disk.only
+  by_effect actor buf asked.Stat answer row effect = by_reads effect.disk.only
+
+  step_leaves : (e : Event) (stop : Option Stop) → StepsOr stop e old new → CrashLeaves Written old.disk new.disk
+  step_leaves e None steps = by_effect e.actor e.buf e.step e.answer steps.made.row steps.made.effect
+  step_leaves e (Some stop) steps = by_reads steps.same.disk.only
+
+  -- ---- at the end of a step that doesn't stop the core
+
+  module _ (stays : new.stop ≡ None) where
+    -- in what counts the disk has not changed
+    abbrev Counts : Type 0
+    Counts = KnownWith new.disk.content (SameBefore (slot_at s.slots) given)
+
+    new_slots : Represents t new.known new.tables → old.tables.slots ≡ new.tables.slots
+    new_slots represents = framed.on.represents.slots_are ∙ sym represents.slots_are
+
+    still : KeepsTables old new → IsLater old.disk new.disk → Counts → IsSettled old.tables.slots new.disk → Leads s base [] t new
+    still kept later counts calm =
+        let represents : Represents t new.known new.tables =
+        subst (λ (known : Option PlaceMap). Represents t known new.tables) (sym kept.index_is)
+        (subst (λ (tables : Tables). Represents t old.known tables) (sym kept.tables_are) framed.on.represents) in
+        record {
+          after = t;
+          chain = refl;
+          framed = record {
+            on = record {
+              represents = represents;
+              valid = subst (λ (size : ℕ). IsValidFor size t) (sym later.size_is) framed.on.valid;
+              reserve = framed.on.reserve;
+              settled = subst (λ (n : ℕ). IsSettled n new.disk) (new_slots represents) calm;
+            };
+            slots_are = framed.slots_are;
+            half_is = framed.half_is;
+            more = framed.more;
+            held = framed.held;
+            content = (counts.0, counts.1, keeps_counted s base (length t.records) Same given framed.content.2 counts.0 counts.2);
+          };
+        }
+
+    reads_count : OnlyReads old.disk new.disk → Counts
+    reads_count reads = (given, reads.content_is ∙ known, record { size = refl; before = λ p n within. refl })
+
+    both_count : IsLater old.disk new.disk → Both (SameBefore (slot_at old.tables.slots)) old.disk.content new.disk.content → Counts
+    both_count later both =
+        let now = later.tells given known in
+        let from = subst (λ (o : Option (List ℕ)). Both (SameBefore (slot_at old.tables.slots)) o new.disk.content) known both in
+        let same = subst (λ (o : Option (List ℕ)). Both (SameBefore (slot_at old.tables.slots)) (Some given) o) now.1 from in
+        (now.0, now.1, subst (λ (n : ℕ). SameBefore (slot_at n) given now.0) tables_slots same)
+
+    rests : (answer : Result Answer Refusal) → Rests answer old new → IsSettled old.tables.slots new.disk → Leads s base [] t new
+    rests answer effect calm = still effect.tables effect.disk.only.later (reads_count effect.disk.only) calm
+
+    unsealed_counts : (filled : Contents) (refusal : Refusal) → StopsAfter (asked.Seal filled) (Err refusal) old.acknowledged new.stop → IsLater old.disk new.disk → Left old.tables.slots (ending_of (blames refusal)) old.disk new.disk → Counts
+    unsealed_counts filled refusals.DiskWrite stops later left = absurd (let both = sym stays ∙ stops in cc)
+    unsealed_counts filled refusals.DiskRead stops later left = both_count later left.content_is
+    unsealed_counts filled refusal stops later left = both_count later left.content_is
+
+    -- the slot holds what it held first, once the container is in
+    abbrev Now : HeaderValue → ℕ → Type 0
+    Now h slot = slice_get (with_slot place h t.held) slot ≡ slice_get s.held slot
+
+    now_other : (h : HeaderValue) (slot : ℕ) → Now h slot → slot ≢ place
+    now_other h slot now is =
+        let has : slice_get s.held slot ≡ Some (Some h) = sym now ∙ ap (slice_get (with_slot place h t.held)) is ∙ first_with h t.held some in
+        some_not_none h (sym (framed.held slot h has) ∙ ap (slice_get t.held) is ∙ first_none t.held some)
+
+    -- a container is added
+    seals : (id : ℕ) (filled : Contents) (answer : Answer) → SealsOne filled (Ok answer) old new → id ≡ old.tables.held.last_id + 1 → IsSettled old.tables.slots new.disk
+        → Leads s base (SealContainer id filled.kind filled.segments ∷ []) t new
+    seals id filled answer effect id_is calm =
+        let change : StoreChange = SealContainer (old.tables.held.last_id + 1) filled.kind filled.segments in
+        let h : HeaderValue = header_of (old.tables.held.last_id + 1) filled.kind filled.segments in
+        let can = effect.made.can.store_has t framed.on.represents framed.on.valid framed.on.reserve in
+        let represents = effect.made.represents.store_has t framed.on.represents framed.on.valid framed.on.reserve in
+        let frame = frame_of (effect.moves.frame.store_has t framed.on.represents framed.on.valid framed.on.reserve) in
+        let left = (frame.settled settled given known).0 in
+        let next : Leads s base (change ∷ []) t new = record {
+          after = changed change t;
+          chain = (can, refl);
+          framed = record {
+            on = record {
+              represents = represents;
+              valid = effect.made.valid.store_has t framed.on.represents framed.on.valid framed.on.reserve;
+              reserve = omega (arith, can.slot, free_less h t.held some);
+              settled = subst (λ (n : ℕ). IsSettled n new.disk) (framed.on.represents.slots_are ∙ sym represents.slots_are) calm;
+            };
+            slots_are = framed.slots_are;
+            half_is = framed.half_is;
+            more = framed.more;
+            held = λ slot g is. held_with slot h g t.held (framed.held slot g is);
+            content = (
+              left.0,
+              left.1,
+              keeps_sealed s base (length t.records) (Now h) given
+                  (keeps_fewer s base (length t.records) Same given framed.content.2 (length t.records) (Now h) (omega arith) (λ slot now. sym (other_with slot h t.held (now_other h slot now)) ∙ now))
+                  place left.0 (now_other h) left.2,
+            );
+          };
+        } in
+        subst (λ (n : ℕ). Leads s base (SealContainer n filled.kind filled.segments ∷ []) t new) (sym id_is) next
+
+    -- a record is added
+    puts : (name : List ℕ) (root : Root) (answer : Answer) → PutsOne name root (Ok answer) old new → old.tables.journal.count < half_cells → IsSettled old.tables.slots new.disk → Leads s base (PutName name root ∷ []) t new
+    puts name root answer effect room calm =
+        let made = effect.made in
+        let represents = made.represents.store_has t framed.on.represents framed.on.valid framed.on.reserve in
+        let longer : length (with_put name root t).records ≡ length t.records + 1 = length-append t.records (put_of name root t ∷ []) in
+        let now = effect.disk.later.tells given known in
+        let end : ℕ = length (with_put name root t).records in
+        let adds = λ (c : List ℕ) (image : old.disk.images c). keeps_fewer s base (length t.records) Same c (image_adds c image) end Same (omega (arith, longer)) (λ slot same. same) in
+        let at_end = λ (c : List ℕ) (from : SteppedFrom SameButOne old.disk c). elim from as (λ _. KeepsBytes s end Same base c) [
+          | inl image ↦ adds c image
+          | inr step ↦ next_keeps end Same room (omega (arith, longer, framed.on.represents.names_are.count)) step.0 c (adds step.0 step.1) step.2
+        ] in
+        record {
+          after = with_put name root t;
+          chain = (made.can.store_has t framed.on.represents framed.on.valid framed.on.reserve, refl);
+          framed = record {
+            on = record {
+              represents = represents;
+              valid = made.valid.store_has t framed.on.represents framed.on.valid framed.on.reserve;
+              reserve = framed.on.reserve;
+              settled = subst (λ (n : ℕ). IsSettled n new.disk) (framed.on.represents.slots_are ∙ sym represents.slots_are) calm;
+            };
+            slots_are = framed.slots_are;
+            half_is = framed.half_is;
+            more = omega (arith, framed.more, longer);
+            held = framed.held;
+            content = (now.0, now.1, at_end now.0 ((effect.frame.leaves given known).now now.0 (new.disk.as_read now.0 now.1)));
+          };
+        }
+
+    leads : (actor : ℕ) (buf : List ℕ) (step : StepValue) (answer : Result Answer Refusal) → Row step actor answer buf old new → Effect step answer old new → StopsAfter step answer old.acknowledged new.stop
+        → IsSettled old.tables.slots new.disk → Leads s base (changes_by step answer) t new
+    leads actor buf asked.Begin answer row effect stops calm = rests answer effect calm
+    leads actor buf (asked.Claim seg) answer row effect stops calm = rests answer effect calm
+    leads actor buf (asked.Seal filled) (Ok (answers.Sealed id)) row effect stops calm = seals id filled (answers.Sealed id) effect row.id_is calm
+    leads actor buf (asked.Seal filled) (Ok answer) row effect stops calm = absurd row
+    leads actor buf (asked.Seal filled) (Err refusal) row effect stops calm =
+        still (seal_kept old new stays filled refusal old.acknowledged stops effect.kept) effect.disk.later (unsealed_counts filled refusal stops effect.disk.later effect.disk.left) calm
+    leads actor buf (asked.Commit name root) (Ok (answers.Committed sequence)) row effect stops calm = puts name root (answers.Committed sequence) effect row.0.may_name.cell calm
+    leads actor buf (asked.Commit name root) (Ok answer) row effect stops calm = absurd row
+    leads actor buf (asked.Commit name root) (Err refusal) row effect stops calm =
+        still effect.kept effect.disk.later (reads_count (only_reads old new stays (asked.Commit name root) refusal stops effect.disk.ends)) calm
+    leads actor buf asked.Abort answer row effect stops calm = rests answer effect calm
+    leads actor buf (asked.OpenRead name) answer row effect stops calm = rests answer effect calm
+    leads actor buf asked.ReadNext answer row effect stops calm = rests answer effect calm
+    leads actor buf asked.EndRead answer row effect stops calm = rests answer effect calm
+    leads actor buf asked.Stat answer row effect stops calm = rests answer effect calm
+
+    step_leads : (e : Event) → Steps e old new → Leads s base (changes_by e.step e.answer) t new
+    step_leads e steps =
+        leads e.actor e.buf e.step e.answer steps.made.row steps.made.effect steps.stops
+        (effect_settled old new stays given known framed.on.settled e.step e.answer steps.stops steps.made.effect)
+
+-- ---- a run
+
+module _ (C : Type 0) (state : C → CoreState) where
+  module _ (s : Store) (base : List ℕ) where
+    run_leads : (steps : List FileEvent) (t : Store) (old new : C) → IsFramed s base t (state old) → CoreRun C state (events_of steps) old new → (state new).stop ≡ None → Leads s base (changes_of steps) t (state new)
+    run_leads [] t old new framed run stays = record { after = t; chain = refl; framed = subst (λ (c : C). IsFramed s base t (state c)) (sym run) framed }
+    run_leads (f ∷ fs) t old new framed run stays =
+        let e : Event = f.event in
+        let mid = run.0 in
+        let going = runs_before C state (events_of fs) mid new run.1.1 stays in
+        let was = was_running (state old).stop e (state old) (state mid) refl run.1.0 going in
+        let next = step_leads s base t (state old) (state mid) framed going e (running_step (state old) (state mid) e was run.1.0) in
+        let rest = run_leads fs next.after mid new next.framed run.1.1 stays in
+        record { after = rest.after; chain = chain_on (changes_by e.step e.answer) (changes_of fs) t next.after rest.after next.chain rest.chain; framed = rest.framed }
+
+    abbrev LeavesWritten : C → C → Type 0
+    LeavesWritten old new = CrashLeaves (KeepsWritten s base) (state old).disk (state new).disk
+
+    -- a step, and what follows where it didn't stop the core
+    after_step : (e : Event) (es : List Event) (t : Store) (old mid new : C) → IsFramed s base t (state old) → CoreStep (state old) e (state mid) → CoreRun C state es mid new
+        → ((u : Store) → IsFramed s base u (state mid) → LeavesWritten mid new) → (stop : Option Stop) → (state mid).stop ≡ stop → LeavesWritten old new
+    after_step e es t old mid new framed step run others None is =
+        let was = was_running (state old).stop e (state old) (state mid) refl step is in
+        let next = step_leads s base t (state old) (state mid) framed is e (running_step (state old) (state mid) e was step) in
+        leaves_on (KeepsWritten s base) (KeepsWritten s base) (KeepsWritten s base) (state old).disk (state mid).disk (state new).disk (step_later (state old) (state mid) e (state old).stop step).clock_is
+        (step_leaves s base t (state old) (state mid) framed e (state old).stop step) (others next.after next.framed) (λ c keeps. keeps) (λ c keeps. keeps)
+    after_step e es t old mid new framed step run others (Some stop) is =
+        let first = step_leaves s base t (state old) (state mid) framed e (state old).stop step in
+        leaves_on (KeepsWritten s base) (KeepsWritten s base) (KeepsWritten s base) (state old).disk (state mid).disk (state new).disk (step_later (state old) (state mid) e (state old).stop step).clock_is
+        first (reads_leave (KeepsWritten s base) (state mid).disk (state new).disk first.now (stopped_reads C state stop es mid new is run)) (λ c keeps. keeps) (λ c keeps. keeps)
+
+    run_leaves : (events : List Event) (t : Store) (old new : C) → IsFramed s base t (state old) → CoreRun C state events old new → LeavesWritten old new
+    run_leaves [] t old new framed run =
+        reads_leave (KeepsWritten s base) (state old).disk (state new).disk (image_written s base t (state old) (state old) framed)
+        (subst (λ (c : C). OnlyReads (state old).disk (state c).disk) (sym run) (reads_here (state old).disk))
+    run_leaves (e ∷ es) t old new framed run =
+        after_step e es t old run.0 new framed run.1.0 run.1.1 (λ u there. run_leaves es u run.0 new there run.1.1) (state run.0).stop refl
+
+-- where it begins
+begins : (s : Store) (base : List ℕ) (c : CoreState) → IsOn s c → c.disk.content ≡ Some base → IsFramed s base s c
+begins s base c on told = record {
+  on = on;
+  slots_are = refl;
+  half_is = refl;
+  more = omega arith;
+  held = λ slot h is. is;
+  content = (base, told, keeps_here s base (length s.records) (λ slot. slice_get s.held slot ≡ slice_get s.held slot));
+}
+
+-- a core that is at a store is on it
+pub at_on : (S : List ℕ → Type 0) (s : Store) (stored : Stored) (c : CoreState) → IsAt S s stored c → IsSettled c.tables.slots c.disk → IsOn s c
+at_on S s stored c at calm = record {
+  represents = at.represents;
+  valid = at.valid;
+  reserve = (at.invariant at.stands.known.0 at.stands.known.1).reserve_holds;
+  settled = calm;
+}
+
+module _ (C : Type 0) (state : C → CoreState) where
+  pub adds_alone : AddsAlone C state
+  adds_alone steps s base old new on told run stays =
+      let end = run_leads C state s base steps s old new (begins s base (state old) on told) run stays in
+      record { store = end.after; chain = end.chain; on = end.framed.on; held = end.framed.held; content = end.framed.content }
+
+  pub written_stays : WrittenStays C state
+  written_stays events s base old new on told run =
+      let leaves = run_leaves C state s base events s old new (begins s base (state old) on told) run in
+      let now = (run_later C state events old new run).tells base told in
+      ((now.0, now.1, leaves.now now.0 ((state new).disk.as_read now.0 now.1)), leaves)

@@ -1,0 +1,64 @@
+-- What the steps of a core leave of the bytes of its disk, whatever these are (docs/MODEL.md, 'The core').
+use Rattle.std.specs.Prelude.{◌≡◌, ◌<◌, ◌≤◌, ℕ, List, length, slice_get, None, Some}
+use Rattle.base_model.specs.Bytes.{range}
+use Rattle.base_model.specs.Known.{KnownWith}
+use Rattle.disk_format.specs.declared.numbers.TheConstants.{CELL_BYTES, SLOT_BYTES, FIRST_HALF, RESERVE}
+use Rattle.disk_format.specs.Layout.{half_cells, cell_at, slot_at}
+use Rattle.dd_disk.specs.View.{CrashLeaves}
+use Rattle.container_meta.specs.Spelling.{HeaderValue}
+use Rattle.store_model.specs.Image.{Store, IsValidFor}
+use Rattle.store_model.specs.Slots.{free_slots}
+use Rattle.store_model.specs.Steps.{StoreChange}
+use Rattle.store_state.specs.Settled.{IsSettled}
+use Rattle.store_state.specs.Tables.{Represents}
+use Rattle.store_core.specs.Runs.{FileEvent, CoreRun, ChangesTo, changes_of, events_of}
+use Rattle.store_core.specs.State.{CoreState, Event}
+
+-- The tables are those of the store, which has two free slots or more, and the disk is settled.
+pub record IsOn (store : Store) (c : CoreState) : Type 0 where
+  pub represents : Represents store c.known c.tables
+  pub valid : IsValidFor c.disk.size store
+  pub reserve : RESERVE ≤ free_slots store.held
+  pub settled : IsSettled c.tables.slots c.disk
+
+-- Bytes that held the store, and what they have become. The format cell, the selectors and the record cells are as they were,
+-- but those of the half that counts from the end of the store's records on and before this one; and so are these slots.
+pub record KeepsBytes (store : Store) (end : ℕ) (Stays : ℕ → Type 0) (old new : List ℕ) : Type 0 where
+  pub size_is : length new ≡ length old
+  pub head : range 0 FIRST_HALF new ≡ range 0 FIRST_HALF old
+  pub cells : (half cell : ℕ) → half ≤ 1 → cell < half_cells
+      → ¬ ((half ≡ store.selector.half) × (length store.records ≤ cell) × (cell < end))
+      → range (cell_at half cell) CELL_BYTES new ≡ range (cell_at half cell) CELL_BYTES old
+  pub slots : (slot : ℕ) → slot < store.slots → Stays slot
+      → range (slot_at slot) SLOT_BYTES new ≡ range (slot_at slot) SLOT_BYTES old
+
+-- But the cells of the records more, and the slots with another container than before, all is as it was.
+abbrev pub AddsBytes : Store → Store → List ℕ → List ℕ → Type 0
+AddsBytes s t = KeepsBytes s (length t.records) (λ slot. slice_get t.held slot ≡ slice_get s.held slot)
+
+-- But the cells after the records, and the slots that were closed, all is as it was.
+abbrev pub KeepsWritten : Store → List ℕ → List ℕ → Type 0
+KeepsWritten s = KeepsBytes s half_cells (λ slot. (h : HeaderValue) × (slice_get s.held slot ≡ Some (Some h)))
+
+-- Where steps lead by their changes: no slot has another container than before but those that were closed, and the content has
+-- changed by what was added.
+pub record HasGrown (changes : List StoreChange) (s : Store) (base : List ℕ) (c : CoreState) : Type 0 where
+  pub store : Store
+  pub chain : ChangesTo changes s store
+  pub on : IsOn store c
+  pub held : (slot : ℕ) (h : HeaderValue) → slice_get s.held slot ≡ Some (Some h) → slice_get store.held slot ≡ Some (Some h)
+  pub content : KnownWith c.disk.content (AddsBytes s store base)
+
+-- A core that isn't stopped at the end of a run has changed no bytes but those of the records and containers that it
+-- acknowledged, and what comes after all slots.
+abbrev pub AddsAlone : (C : Type 0) → (C → CoreState) → Type 0
+AddsAlone C state = (steps : List FileEvent) (s : Store) (base : List ℕ) (old new : C)
+    → IsOn s (state old) → (state old).disk.content ≡ Some base → CoreRun C state (events_of steps) old new
+    → (state new).stop ≡ None → HasGrown (changes_of steps) s base (state new)
+
+-- In what reads give, and in what a crash leaves at any moment of a run, what was written stays, also where a write fails.
+abbrev pub WrittenStays : (C : Type 0) → (C → CoreState) → Type 0
+WrittenStays C state = (events : List Event) (s : Store) (base : List ℕ) (old new : C)
+    → IsOn s (state old) → (state old).disk.content ≡ Some base → CoreRun C state events old new
+    → KnownWith (state new).disk.content (KeepsWritten s base)
+    × CrashLeaves (KeepsWritten s base) (state old).disk (state new).disk

@@ -1,0 +1,118 @@
+-- What lines show of the disk's content, and what they change of it.
+use Rattle.std.specs.Prelude.{◌≡◌, ◌≢◌, ℕ, suc, ◌-◌, ◌<◌, ◌≤◌, List, length, slice_get, Some, None}
+use Rattle.std.specs.FinMap as finite
+use Rattle.std.specs.List.{AllByRecursion}
+use Rattle.sha2.specs.Sha256.{sha256}
+use Rattle.base_model.specs.Bytes.{range, byte_at}
+use Rattle.container_meta.specs.declared.kind.Kind.TheVariants.{Tree}
+use Rattle.container_meta.specs.Segments.{Contents, KindSegment, segment_key}
+use Rattle.container_meta.specs.Spelling.{HeaderValue}
+use Rattle.disk_format.specs.Cells.{Root}
+use Rattle.disk_format.specs.declared.numbers.TheConstants.{CELL_BYTES, FIRST_HALF, SLOT_BYTES}
+use Rattle.disk_format.specs.Layout.{cell_at, half_cells, slot_at}
+use Rattle.merkle_file.specs.Node as node
+use Rattle.refusals.specs.declared.refusal.Difference.{Difference}
+use Rattle.refusals.specs.declared.refusal.Difference.TheVariants.{Length, Byte}
+use Rattle.script_lines.specs.declared.reply.Holdings.{Holdings}
+use Rattle.store_model.specs.Files.{Files}
+use Rattle.store_model.specs.Image.{Store, Encodes}
+use Rattle.store_model.specs.Indexing.{entries_in, bytes_in_slots}
+use Rattle.store_model.specs.Pieces.{Piece, Node, IsPieceOf, piece_segment}
+use Rattle.store_model.specs.Slots.{Copy, newest, first_free, free_slots, last_id}
+use Rattle.store_model.specs.Steps.{CanPut, CanSeal, with_put, with_sealed}
+use Rattle.store_model.specs.Trees.{HasNewest, bytes_at, node_key}
+
+-- P is so of the store that the content is: there is one
+abbrev pub OfStore : List ℕ → (Store → Type 0) → Type 0
+OfStore content P = (store : Store) × (Encodes content store × P store)
+
+-- ---- segments
+
+-- the newest copy of the segment's key has its level and its bytes
+abbrev pub Holds : List ℕ → KindSegment → Type 0
+Holds content seg =
+    OfStore content (λ store. HasNewest store.held (segment_key seg.kind seg.segment) seg.segment.level seg.segment.bytes content)
+
+-- no container has its key
+abbrev pub Lacks : List ℕ → KindSegment → Type 0
+Lacks content seg = OfStore content (λ store. newest 0 store.held (segment_key seg.kind seg.segment) ≡ None)
+
+-- each segment of a file, and each node of its tree
+abbrev pub HoldsFile : List ℕ → List ℕ → Type 0
+HoldsFile content file = (piece : Piece) → IsPieceOf file piece → Holds content (piece_segment piece)
+
+-- how the bytes that are offered and those that are held differ: by their lengths, or by the first byte that differs
+abbrev pub DifferBy : Difference → List ℕ → List ℕ → Type 0
+DifferBy (Length mine other) offered held = (mine ≡ length offered) × (other ≡ length held) × (mine ≢ other)
+DifferBy (Byte place mine other) offered held =
+    (length offered ≡ length held) × (place < length offered) × (range 0 place offered ≡ range 0 place held)
+    × (byte_at place offered ≡ mine) × (byte_at place held ≡ other) × (mine ≢ other)
+
+-- the newest copy of a node's key is another node, of the same SHA-256
+pub record ClashesWith (seg : KindSegment) (content key : List ℕ) (at : Difference) : Type 0 where
+  pub kind : seg.kind ≡ Tree
+  pub key_is : key ≡ segment_key seg.kind seg.segment
+  pub store : Store
+  pub right : Encodes content store
+  pub copy : Copy
+  pub copy_is : newest 0 store.held key ≡ Some copy
+  pub digest : sha256 (bytes_at copy.place content) ≡ sha256 seg.segment.bytes
+  pub differ : DifferBy at seg.segment.bytes (bytes_at copy.place content)
+
+-- two different nodes of the file's tree have one SHA-256
+abbrev pub HasTwins : List ℕ → List ℕ → Type 0
+HasTwins file key =
+    (n : node.Contents) × (m : node.Contents) × IsPieceOf file (Node n) × IsPieceOf file (Node m) × (n ≢ m)
+    × (key ≡ node_key n) × (key ≡ node_key m)
+
+-- ---- what changes
+
+-- But for the record cells of which P holds, and the slots of which Q does, all before the end of the slots is as it was. What
+-- lies after them counts for nothing.
+pub record SameBut (P : ℕ → ℕ → Type 0) (Q : ℕ → Type 0) (slots : ℕ) (old new : List ℕ) : Type 0 where
+  pub size_is : length new ≡ length old
+  pub head : range 0 FIRST_HALF new ≡ range 0 FIRST_HALF old
+  pub cells : (half cell : ℕ) → half ≤ 1 → cell < half_cells → ¬ (P half cell)
+      → range (cell_at half cell) CELL_BYTES new ≡ range (cell_at half cell) CELL_BYTES old
+  pub slots_are : (slot : ℕ) → slot < slots → ¬ (Q slot) → range (slot_at slot) SLOT_BYTES new ≡ range (slot_at slot) SLOT_BYTES old
+
+-- All before the end of the slots is as it was.
+abbrev pub SameStore : List ℕ → List ℕ → Type 0
+SameStore old new = OfStore old (λ store. SameBut (λ half cell. ⊥) (λ slot. ⊥) store.slots old new)
+
+-- A container stands in the free slot of least number, under the next id, each of its segments is held, and all else is as it was.
+pub record AddsContainer (id : ℕ) (filled : Contents) (old new : List ℕ) : Type 0 where
+  pub store : Store
+  pub was : Encodes old store
+  pub can : CanSeal id filled.kind filled.segments store
+  pub id_is : id ≡ suc (last_id store.held)
+  pub now : Encodes new (with_sealed id filled.kind filled.segments store)
+  pub held : AllByRecursion (λ s. Holds new (record { kind = filled.kind; segment = s })) filled.segments
+  pub rest : SameBut (λ half cell. ⊥) (λ slot. slot ≡ first_free store.held) store.slots old new
+
+-- A record that puts the root stands in the next cell, and all else is as it was.
+pub record AddsRecord (name : List ℕ) (root : Root) (old new : List ℕ) : Type 0 where
+  pub store : Store
+  pub was : Encodes old store
+  pub can : CanPut name store
+  pub now : Encodes new (with_put name root store)
+  pub rest : SameBut (λ half cell. (half ≡ store.selector.half) × (cell ≡ length store.records)) (λ slot. ⊥) store.slots old new
+
+-- A write broke off: each record and each container that was there is as it was.
+pub record BreaksOff (old new : List ℕ) : Type 0 where
+  pub store : Store
+  pub was : Encodes old store
+  pub rest : SameBut (λ half cell. (half ≡ store.selector.half) × (length store.records ≤ cell))
+      (λ slot. (h : HeaderValue) → slice_get store.held slot ≢ Some (Some h)) store.slots old new
+
+-- ---- what is counted
+
+-- the files, the entries of containers and their bytes, and the slots that are used and free
+abbrev pub Counts : Holdings → Files → List ℕ → Type 0
+Counts counted files content = OfStore content (λ store. counted ≡ record {
+  files = finite.len files;
+  segments = entries_in store.held;
+  bytes = bytes_in_slots store.held;
+  used = length store.held - free_slots store.held;
+  free = free_slots store.held;
+})

@@ -1,0 +1,117 @@
+-- What each line of a script does where it is done, and what it replies.
+use Rattle.std.specs.Prelude.{◌≡◌, ◌≤◌, ◌<◌, ℕ, suc, ◌-◌, ◌^◌, List, [], ◌∷◌, ◌++◌, length, Some}
+use Rattle.std.specs.FinMap as finite
+use Rattle.disk_format.specs.Cells.{IsName}
+use Rattle.disk_format.specs.declared.numbers.TheConstants.{MOST_FILE}
+use Rattle.actor_parts.specs.declared.step.Answer.{Answer}
+use Rattle.actor_parts.specs.declared.step.Answer.TheVariants as answers
+use Rattle.ingest_session.specs.declared.due.Due.TheVariants.{Nothing}
+use Rattle.script_lines.specs.declared.reply.Turned.{Turned}
+use Rattle.script_lines.specs.declared.reply.Turned.TheVariants as turns
+use Rattle.script_lines.specs.Grammar.{LineValue, pushed_bytes}
+use Rattle.script_lines.specs.Grammar as lines
+use Rattle.script_lines.specs.ReplyValue.{ReplyValue}
+use Rattle.script_lines.specs.ReplyValue as replies
+use Rattle.segmenter.specs.Segments.{segments_of}
+use Rattle.store_model.specs.Files.{with_stored}
+use Rattle.store_model.specs.Trees.{root_of}
+use Rattle.plain_machine.specs.Content.{AddsRecord, Counts, HoldsFile}
+use Rattle.plain_machine.specs.Machine.{Machine, Part, Idle, Writing, Finished, Reading, MayBeFound, opened, one_more, part_in, put_at}
+use Rattle.plain_machine.specs.Refused.{HasRoomForName}
+use Rattle.plain_machine.specs.Turns.{Writer, IsWriter, IsDue, MachineTurn, MachineTurns}
+
+-- ---- a file that is given
+
+-- More bytes are given, once turns made room.
+pub record Pushes (actor : ℕ) (bytes : List ℕ) (count : ℕ) (m n : Machine) : Type 0 where
+  pub turns : List Answer
+  pub mid : Machine
+  pub taken : MachineTurns actor turns m mid
+  pub given : List ℕ
+  pub answers : List Answer
+  pub was : part_in mid actor ≡ Writing given answers
+  pub few : length (given ++ bytes) ≤ MOST_FILE
+  pub count_is : count ≡ length (given ++ bytes)
+  pub others : n ≡ put_at mid actor (Writing (given ++ bytes) answers)
+
+-- All was given.
+pub record Finishes (actor count : ℕ) (m n : Machine) : Type 0 where
+  pub file : List ℕ
+  pub answers : List Answer
+  pub was : part_in m actor ≡ Writing file answers
+  pub count_is : count ≡ length file
+  pub others : n ≡ put_at m actor (Finished file answers)
+
+-- where nothing is due of a file that was given whole, the disk holds it
+abbrev pub IsStored : Part → List ℕ → Type 0
+IsStored (Finished file answers) content = HoldsFile content file
+IsStored part content = Unit {0}
+
+-- A turn, or none, where nothing is due.
+abbrev pub AnswersTurn : ℕ → Turned → Machine → Machine → Type 0
+AnswersTurn actor turns.Held m n = MachineTurn actor answers.Held m n
+AnswersTurn actor turns.Absent m n = MachineTurn actor answers.Absent m n
+AnswersTurn actor (turns.Sealed id) m n = MachineTurn actor (answers.Sealed id) m n
+AnswersTurn actor turns.Idle m n = IsDue (part_in m actor) Nothing × IsStored (part_in m actor) m.content × (n ≡ m)
+
+-- The name has the file, under the next number. All turns that are due were made before, so the disk holds it.
+pub record Commits (actor : ℕ) (name : List ℕ) (sequence : ℕ) (m n : Machine) : Type 0 where
+  pub turns : List Answer
+  pub mid : Machine
+  pub taken : MachineTurns actor turns m mid
+  pub done : IsDue (part_in mid actor) Nothing
+  pub file : List ℕ
+  pub answers : List Answer
+  pub was : part_in mid actor ≡ Finished file answers
+  pub held : HoldsFile mid.content file
+  pub named : IsName name
+  pub room : HasRoomForName name mid
+  pub below : mid.stored.last < 2 ^ 64 - 1
+  pub sequence_is : sequence ≡ suc mid.stored.last
+  pub recorded : AddsRecord name (root_of file) mid.content n.content
+  pub others : n ≡ record (put_at mid actor Idle) {
+    stored = with_stored mid.stored name file;
+    acknowledged = one_more mid.acknowledged;
+    content = n.content;
+  }
+
+-- It is given up.
+abbrev pub Aborts : ℕ → Machine → Machine → Type 0
+Aborts actor m n = ((w : Writer) × IsWriter (part_in m actor) w) × (n ≡ put_at m actor Idle)
+
+-- ---- a file that is taken
+
+-- The file that the name has now is to come: it stays so, whatever the name is given later.
+abbrev pub Reads : ℕ → List ℕ → ℕ → Machine → Machine → Type 0
+Reads actor name count m n =
+    (part_in m actor ≡ Idle) × ((file : List ℕ) × ((finite.get m.stored.files name ≡ Some file) × (count ≡ length file)
+    × (n ≡ put_at m actor (Reading (segments_of file)))))
+
+abbrev pub GivesSegment : ℕ → List ℕ → Machine → Machine → Type 0
+GivesSegment actor bytes m n = (rest : List (List ℕ)) × ((part_in m actor ≡ Reading (bytes ∷ rest)) × (n ≡ put_at m actor (Reading rest)))
+
+abbrev pub Drops : ℕ → Machine → Machine → Type 0
+Drops actor m n = ((rest : List (List ℕ)) × (part_in m actor ≡ Reading rest)) × (n ≡ put_at m actor Idle)
+
+-- ---- all lines of a store that runs, but `reopen`
+
+abbrev pub Does : LineValue → ReplyValue → Machine → Machine → Type 0
+Does (lines.Begin a) (replies.Begun b) m n = (b ≡ a) × (part_in m a ≡ Idle) × (n ≡ put_at m a (Writing [] []))
+Does (lines.Push a digits) (replies.Pushed b count) m n = (b ≡ a) × Pushes a (pushed_bytes digits) count m n
+Does (lines.Finish a) (replies.Finished b count) m n = (b ≡ a) × Finishes a count m n
+Does (lines.Turn a) (replies.Turn b turned) m n = (b ≡ a) × AnswersTurn a turned m n
+Does (lines.Commit a name) (replies.Committed b sequence) m n = (b ≡ a) × Commits a name sequence m n
+Does (lines.Abort a) (replies.Aborted b) m n = (b ≡ a) × Aborts a m n
+Does (lines.Read a name) (replies.Reading b count) m n = (b ≡ a) × Reads a name count m n
+Does (lines.Next a) (replies.Bytes b bytes) m n = (b ≡ a) × GivesSegment a bytes m n
+Does (lines.Next a) (replies.End b) m n = (b ≡ a) × (part_in m a ≡ Reading []) × (n ≡ m)
+Does (lines.Drop a) (replies.Dropped b) m n = (b ≡ a) × Drops a m n
+Does lines.Stat (replies.Stat counted) m n = Counts counted m.stored.files m.content × (n ≡ m)
+Does line reply m n = ⊥
+
+-- ---- `reopen`
+
+-- All actors end, and the files are those that are found: the content stands for them (`IsSound`).
+abbrev pub Reopens : ℕ → Machine → Machine → Type 0
+Reopens files m n =
+    MayBeFound m.state m.stored n.stored × (files ≡ finite.len n.stored.files) × (n ≡ opened n.stored m.content m.faults)

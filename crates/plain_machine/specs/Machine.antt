@@ -1,0 +1,83 @@
+-- The plain machine (docs/MODEL.md, 'The plain machine'): names with their files, what each actor is at, and the disk's content.
+use Rattle.std.specs.Prelude.{◌≡◌, ℕ, ◌+◌, ◌-◌, ◌^◌, List, min, replicate, slice_index_or, slice_set, Option, Some, None, ◌⊎◌}
+use Rattle.actor_parts.specs.declared.actor.TheConstants.{ACTORS}
+use Rattle.actor_parts.specs.declared.step.Answer.{Answer}
+use Rattle.refusals.specs.declared.refusal.PartKind.{PartKind}
+use Rattle.refusals.specs.declared.refusal.PartKind.TheVariants as kinds
+use Rattle.store_model.specs.Files.{Stored}
+use Rattle.store_model.specs.Standing.{StandsFor}
+
+-- ---- actors
+
+-- what an actor is at
+pub data Part : Type 0 where
+  Idle : Part
+  -- it gives a file: these bytes so far; and its turns were answered so
+  Writing : (given : List ℕ) (answers : List Answer) → Part
+  -- it has given the whole file
+  Finished : (file : List ℕ) (answers : List Answer) → Part
+  -- it takes a file: these segments are to come
+  Reading : (rest : List (List ℕ)) → Part
+
+abbrev pub kind_of : Part → PartKind
+kind_of Idle = kinds.Idle
+kind_of (Writing given answers) = kinds.Writing
+kind_of (Finished file answers) = kinds.Finished
+kind_of (Reading rest) = kinds.Reading
+
+abbrev pub all_idle : List Part
+all_idle = replicate ACTORS Idle
+
+-- ---- the machine
+
+-- It runs; or it is stopped by a write or a sync that failed. `reopen` then finds the files of before or, after a commit, perhaps
+-- these.
+pub data RunState : Type 0 where
+  Running : RunState
+  Stopped : (other : Option Stored) → RunState
+
+pub record Machine : Type 0 where
+  -- names to files, and the last sequence number that was given out
+  pub stored : Stored
+  -- how many commands were acknowledged since the opening
+  pub acknowledged : ℕ
+  -- what each actor is at
+  pub parts : List Part
+  pub state : RunState
+  -- what reads of the disk give, and how many calls of it failed
+  pub content : List ℕ
+  pub faults : ℕ
+
+abbrev pub part_in : Machine → ℕ → Part
+part_in m actor = slice_index_or m.parts actor Idle
+
+-- the same, but that an actor is at this
+abbrev pub put_at : Machine → ℕ → Part → Machine
+put_at m actor part = record m { parts = slice_set m.parts actor part }
+
+-- one more, but for the last number
+abbrev pub one_more : ℕ → ℕ
+one_more n = min (n + 1) (2 ^ 64 - 1)
+
+-- a store that was opened: of these files, on a disk of this content
+abbrev pub opened : Stored → List ℕ → ℕ → Machine
+opened stored content faults = record {
+  stored = stored;
+  acknowledged = 0;
+  parts = all_idle;
+  state = Running;
+  content = content;
+  faults = faults;
+}
+
+-- ---- what its files are
+
+-- these may be found when it is opened again
+abbrev pub MayBeFound : RunState → Stored → Stored → Type 0
+MayBeFound Running stored found = found ≡ stored
+MayBeFound (Stopped None) stored found = found ≡ stored
+MayBeFound (Stopped (Some other)) stored found = (found ≡ stored) ⊎ (found ≡ other)
+
+-- What reads give stands for the files, or for those that may be found. Crash images are spoken of in Through.antt.
+abbrev pub IsSound : Machine → Type 0
+IsSound m = (found : Stored) × (MayBeFound m.state m.stored found × StandsFor found.files found.last m.content)

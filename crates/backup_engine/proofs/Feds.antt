@@ -1,87 +1,28 @@
 -- A session that is fed a file, call by call.
-use Rattle.std.proofs.Common.{◌≡◌, ◌⊎◌, inl, inr, ◌∙◌, ℕ, Bool, true, false, if◌then◌else◌, List, [], ◌∷◌, ◌++◌, map, Option, Some, None, refl, sym, ap, subst, append_assoc}
+use Rattle.std.proofs.Common.{◌≡◌, ◌⊎◌, inl, inr, ◌∙◌, ℕ, false, List, [], ◌∷◌, ◌++◌, map, Some, None, refl, sym, ap, subst, append_assoc}
 use Rattle.container_meta.specs.declared.kind.Kind.{Kind}
 use Rattle.container_meta.specs.declared.kind.Kind.TheVariants.{Leaf, Tree}
 use Rattle.container_meta.specs.Segments.{KindSegment, Segment}
-use Rattle.merkle_file.specs.Node as node
 use Rattle.actor_parts.specs.declared.step.Answer.{Answer}
 use Rattle.actor_parts.specs.declared.step.Answer.TheVariants as answers
 use Rattle.store_core.specs.Keeping.{kept_of}
 use Rattle.store_core.specs.Runs.{FileEvent}
 use Rattle.store_core.specs.State.{CoreState}
-use Rattle.ingest_session.specs.declared.due.Due.{Due}
-use Rattle.ingest_session.specs.declared.due.Due.TheVariants.{Claim, Seal, Nothing}
+use Rattle.ingest_session.specs.declared.due.Due.TheVariants.{Claim, Seal}
 use Rattle.ingest_session.specs.Calls.{IsEnding, IsTaking}
 use Rattle.ingest_session.specs.Due.{due_in, item_kind, open_of}
 use Rattle.ingest_session.specs.Facts.{IsKept}
 use Rattle.ingest_session.specs.History.{History, HasHistory, IsBegun, Places, answered, no_history}
-use Rattle.ingest_session.specs.Items.{fits}
 use Rattle.ingest_session.specs.Moving.{IsItem}
 use Rattle.ingest_session.specs.Settling.{KeepsOpen}
 use Rattle.ingest_session.specs.State.{SessionState}
-use Rattle.ingest_session.specs.Told.{absent_item, sealed_by, added_item, emptied, placed_item, told_by, with_open}
+use Rattle.ingest_session.specs.Told.{told_by}
+use Rattle.session_turns.proofs.Told.{told}
 use Rattle.backup_engine.specs.Feeding.{IsFed, MayBe, opens_of}
 use Rattle.backup_engine.specs.Putting.{AreNew, Way}
 use Rattle.backup_engine.specs.Running.{IsOneOf}
 use Rattle.backup_engine.proofs.FedOpens.{item_is, kept_absent, kept_held, kept_sealed, one_item, one_of_first, one_of_map, one_of_second, opens_held, opens_stay}
 use Rattle.backup_engine.proofs.Ways.{way_narrows, way_opens}
-
--- ---- whether the file has ended
-
-ended_placed : (n : Option node.Contents) (s : SessionState) → (placed_item n s).ended ≡ s.ended
-ended_placed None s = refl
-ended_placed (Some n) s = refl
-
-ended_open : (kind : Kind) (c : _) (s : SessionState) → (with_open kind c s).ended ≡ s.ended
-ended_open Leaf c s = refl
-ended_open Tree c s = refl
-
-ended_absent : (s : SessionState) (fit : Bool) → (if fit then placed_item s.node (added_item s) else record s { waits = true }).ended ≡ s.ended
-ended_absent s true = ended_placed s.node (added_item s) ∙ ended_open (item_kind s.node) _ s
-ended_absent s false = refl
-
-ended_sealed : (s : SessionState) (kind : Kind) (waits : Bool) → (if waits then absent_item (record (emptied kind s) { waits = false }) else emptied kind s).ended ≡ s.ended
-ended_sealed s kind true = ended_absent (record (emptied kind s) { waits = false }) (fits (record (emptied kind s) { waits = false })) ∙ ended_open kind _ s
-ended_sealed s kind false = ended_open kind _ s
-
-ended_by : (due : Due) (s : SessionState) → (sealed_by due s).ended ≡ s.ended
-ended_by (Seal kind) s = ended_sealed s kind s.waits
-ended_by Claim s = refl
-ended_by Nothing s = refl
-
-pub ended_told : (answer : Answer) (s : SessionState) → (told_by answer s).ended ≡ s.ended
-ended_told answers.Held s = ended_placed s.node s
-ended_told answers.Absent s = ended_absent s (fits s)
-ended_told (answers.Sealed id) s = ended_by (due_in s) s
-ended_told answer s = refl
-
--- so it is with how many bytes were taken
-count_placed : (n : Option node.Contents) (s : SessionState) → (placed_item n s).count ≡ s.count
-count_placed None s = refl
-count_placed (Some n) s = refl
-
-count_open : (kind : Kind) (c : _) (s : SessionState) → (with_open kind c s).count ≡ s.count
-count_open Leaf c s = refl
-count_open Tree c s = refl
-
-count_absent : (s : SessionState) (fit : Bool) → (if fit then placed_item s.node (added_item s) else record s { waits = true }).count ≡ s.count
-count_absent s true = count_placed s.node (added_item s) ∙ count_open (item_kind s.node) _ s
-count_absent s false = refl
-
-count_sealed : (s : SessionState) (kind : Kind) (waits : Bool) → (if waits then absent_item (record (emptied kind s) { waits = false }) else emptied kind s).count ≡ s.count
-count_sealed s kind true = count_absent (record (emptied kind s) { waits = false }) (fits (record (emptied kind s) { waits = false })) ∙ count_open kind _ s
-count_sealed s kind false = count_open kind _ s
-
-count_by : (due : Due) (s : SessionState) → (sealed_by due s).count ≡ s.count
-count_by (Seal kind) s = count_sealed s kind s.waits
-count_by Claim s = refl
-count_by Nothing s = refl
-
-pub count_told : (answer : Answer) (s : SessionState) → (told_by answer s).count ≡ s.count
-count_told answers.Held s = count_placed s.node s
-count_told answers.Absent s = count_absent s (fits s)
-count_told (answers.Sealed id) s = count_by (due_in s) s
-count_told answer s = refl
 
 -- ---- a new session
 
@@ -159,7 +100,7 @@ module _ (C : Type 0) (state : C → CoreState) where
         → IsFed C state given (told_by answer s) start new
     fed_on answer more on has kept =
         let narrow = way_narrows C state (MayBe given s) (opens_of (told_by answer s)) start new on.0 (MayBe given (told_by answer s))
-        (λ file is. may_be_still given s (told_by answer s) file (ended_told answer s) is) in
+        (λ file is. may_be_still given s (told_by answer s) file (told answer s).ended is) in
         record {
           history = answered answer s fed.history;
           has = has;

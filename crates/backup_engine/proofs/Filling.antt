@@ -6,7 +6,7 @@ use Rattle.refusals.specs.declared.refusal.Refusal.{Refusal}
 use Rattle.reply_text.specs.declared.ending.Ending.TheVariants.{Source, Refused}
 use Rattle.store_core.specs.State.{CoreState}
 use Rattle.ingest_session.specs.State.{SessionState}
-use Rattle.backup_engine.specs.Feeding.{Ends, Feeds, Fills, IsFed, MayBe, opens_of}
+use Rattle.backup_engine.specs.Feeding.{Fills, IsFed, MayBe, Stops, opens_of}
 use Rattle.backup_engine.specs.Storing.{IsSourceFault, TakenSoFar}
 use Rattle.backup_engine.proofs.Ways.{way_stops}
 
@@ -56,7 +56,8 @@ module _ (C : Type 0) (state : C → CoreState) (s t : SessionState) (old mid : 
 
 -- a step was refused as more was fed
 pub fill_refused : (C : Type 0) (state : C → CoreState) (s t u : SessionState) (old mid new : C) (source source_now : SourceView) (taken piece : List ℕ) → TakenSoFar source.left source_now.left (taken ++ piece)
-    → ((start : C) → IsFed C state [] s start old → IsFed C state taken t start mid) → t.ended ≡ false → (refusal : Refusal) → Feeds C state (Err refusal) piece t u mid new → source_now.faults ≡ source.faults
+    → ((start : C) → IsFed C state [] s start old → IsFed C state taken t start mid) → t.ended ≡ false → (refusal : Refusal)
+    → ((start : C) (name file : List ℕ) → IsFed C state taken t start mid → MayBe (taken ++ piece) t file → Stops C state name file refusal start new) → source_now.faults ≡ source.faults
     → Fills C state (Err (Refused refusal)) s u old new source source_now
 fill_refused C state s t u old mid new source source_now taken piece so_far fed off refusal refused same =
     let more = begins source.left source_now.left (taken ++ piece) so_far in
@@ -64,24 +65,25 @@ fill_refused C state s t u old mid new source source_now taken piece so_far fed 
       given = given_or source.left (taken ++ piece);
       took = told_or source.left (taken ++ piece);
       heard = same;
-      filled = λ start name begun. refused start taken name (given_or source.left (taken ++ piece)) (fed start begun) (more.0, (λ on. absurd (let both = sym off ∙ on in cc)), more.1);
+      filled = λ start name begun. refused start name (given_or source.left (taken ++ piece)) (fed start begun) (more.0, (λ on. absurd (let both = sym off ∙ on in cc)), more.1);
     }
 
 -- ---- the end of the file
 
 module _ (C : Type 0) (state : C → CoreState) (s t u : SessionState) (old mid new : C) (source source_now : SourceView) (filled : Fills C state (Ok tt) s t old mid source source_now) where
-  pub end_filled : Ends C state (Ok tt) t u mid new → Fills C state (Ok tt) s u old new source source_now
+  pub end_filled : ((start : C) → IsFed C state filled.given t start mid → IsFed C state filled.given u start new) → Fills C state (Ok tt) s u old new source source_now
   end_filled ends = record {
     given = filled.given;
     took = filled.took;
     heard = filled.heard;
-    filled = (filled.filled.0, λ start begun. ends start filled.given (filled.filled.1 start begun));
+    filled = (filled.filled.0, λ start begun. ends start (filled.filled.1 start begun));
   }
 
-  pub end_not_filled : (refusal : Refusal) → Ends C state (Err refusal) t u mid new → Fills C state (Err (Refused refusal)) s u old new source source_now
+  pub end_not_filled : (refusal : Refusal) → ((start : C) (name : List ℕ) → IsFed C state filled.given t start mid → Stops C state name filled.given refusal start new)
+      → Fills C state (Err (Refused refusal)) s u old new source source_now
   end_not_filled refusal ends = record {
     given = filled.given;
     took = filled.took;
     heard = filled.heard;
-    filled = λ start name begun. ends start filled.given name (filled.filled.1 start begun);
+    filled = λ start name begun. ends start name (filled.filled.1 start begun);
   }

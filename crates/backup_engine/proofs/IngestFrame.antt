@@ -8,7 +8,7 @@ use Rattle.dd_io.specs.Flow.{SourceView, SinkView}
 use Rattle.refusals.specs.declared.refusal.Refusal.{Refusal}
 use Rattle.refusals.specs.declared.refusal.Refusal.TheVariants.{Memory, TooLong}
 use Rattle.reply_text.specs.declared.ending.Ending.{Ending}
-use Rattle.reply_text.specs.declared.ending.Ending.TheVariants.{Words, Source, Sink, Refused}
+use Rattle.reply_text.specs.declared.ending.Ending.TheVariants.{Source, Sink, Refused}
 use Rattle.reply_text.specs.Text.{stored_line}
 use Rattle.store_model.specs.Image.{Store, Encodes}
 use Rattle.store_model.specs.Slots.{free_slots}
@@ -106,9 +106,7 @@ module _ (C : Type 0) (state : C → CoreState) (v w : DiskView) (old new : C) (
         → Replies reply put result sink sink_now → Left base (ending_in result)
     taken_left name bytes (Ok u) run reply (Ok done) sink sink_now sent = put_left name bytes None tt run
     taken_left name bytes (Ok u) run reply (Err Sink) sink sink_now sent = put_left name bytes (Some Sink) tt run
-    taken_left name bytes (Ok u) run reply (Err Words) sink sink_now sent = absurd sent
-    taken_left name bytes (Ok u) run reply (Err Source) sink sink_now sent = absurd sent
-    taken_left name bytes (Ok u) run reply (Err (Refused refusal)) sink sink_now sent = absurd sent
+    taken_left name bytes (Ok u) run reply (Err ending) sink sink_now sent = absurd sent
     taken_left name bytes (Err refusal) run reply result sink sink_now replies =
         subst (λ (r : Result Unit Ending). Left base (ending_in r)) (sym replies.0) (refused_left name bytes refusal run)
 

@@ -4,7 +4,7 @@ use Rattle.dd_disk.specs.View.{DiskView}
 use Rattle.dd_io.specs.Flow.{SourceView, SinkView}
 use Rattle.refusals.specs.declared.refusal.Refusal.{Refusal}
 use Rattle.reply_text.specs.declared.ending.Ending.{Ending}
-use Rattle.reply_text.specs.declared.ending.Ending.TheVariants.{Words, Source, Sink, Refused}
+use Rattle.reply_text.specs.declared.ending.Ending.TheVariants.{Source, Sink, Refused}
 use Rattle.reply_text.specs.Text.{stored_line}
 use Rattle.store_model.specs.Trees.{root_of}
 use Rattle.store_core.specs.State.{CoreState}
@@ -23,9 +23,7 @@ use Rattle.backup_engine.proofs.Replied.{wrote_sent}
 heard_in : (result : Result Unit Ending) (source source_now : SourceView) → IsHeard result source source_now → ¬ (ending_in result ≡ Some Source) → source_now.faults ≡ source.faults
 heard_in (Ok u) source source_now heard other = heard
 heard_in (Err Source) source source_now heard other = absurd (other refl)
-heard_in (Err Words) source source_now heard other = heard
-heard_in (Err Sink) source source_now heard other = heard
-heard_in (Err (Refused refusal)) source source_now heard other = heard
+heard_in (Err ending) source source_now heard other = heard
 
 sent_ends : (reply : List ℕ) (result : Result Unit Ending) (sink sink_now : SinkView) → Sent reply result sink sink_now → (ending_in result ≡ None) ⊎ (ending_in result ≡ Some Sink)
 sent_ends reply (Ok u) sink sink_now sent = inl refl

@@ -6,7 +6,7 @@ use Rattle.dd_disk.specs.View.{DiskView, IsDurable}
 use Rattle.refusals.specs.declared.refusal.Refusal.{Refusal}
 use Rattle.refusals.specs.declared.refusal.Refusal.TheVariants.{Memory, NoFile, BadName, TooMany, TooLong, Full, Clash, WrongPart, DiskRead, DiskWrite, Stopped, Corrupt, Missing, Numbers, NotAStore, Version, Damaged, Unpinned, AlreadyStore, WrongSize}
 use Rattle.reply_text.specs.declared.ending.Ending.{Ending}
-use Rattle.reply_text.specs.declared.ending.Ending.TheVariants.{Words, Source, Sink, Refused}
+use Rattle.reply_text.specs.declared.ending.Ending.TheVariants.{Words, Source, Sink, Line, Script, Refused}
 use Rattle.reply_text.specs.Table.{status_of_refusal}
 use Rattle.store_model.specs.Collisions.{HasNoCollisions, ByteSet, IsIn, AreAmong}
 use Rattle.store_model.specs.Files.{Stored, no_files}
@@ -230,6 +230,8 @@ done_at_zero None is = refl
 done_at_zero (Some Words) is = cc
 done_at_zero (Some Source) is = cc
 done_at_zero (Some Sink) is = cc
+done_at_zero (Some (Line number)) is = cc
+done_at_zero (Some Script) is = cc
 done_at_zero (Some (Refused refusal)) is = absurd (refused refusal is)
 
 module _ (slots : ℕ) (c : Call) (v w : DiskView) where

@@ -19,7 +19,7 @@ use Rattle.namespace.specs.Names.{NameMap, HasRoom}
 use Rattle.refusals.specs.declared.refusal.Refusal.{Refusal}
 use Rattle.refusals.specs.declared.refusal.Refusal.TheVariants.{Memory, DiskRead, DiskWrite, TooLong}
 use Rattle.reply_text.specs.declared.ending.Ending.{Ending}
-use Rattle.reply_text.specs.declared.ending.Ending.TheVariants.{Words, Source, Sink, Refused}
+use Rattle.reply_text.specs.declared.ending.Ending.TheVariants.{Source, Sink, Refused}
 use Rattle.reply_text.specs.Text.{stored_line}
 use Rattle.store_model.specs.Image.{Store, IsValidFor, names_of}
 use Rattle.store_model.specs.Steps.{StoreChange, CanPut, with_put}
@@ -227,9 +227,7 @@ module _ (C : Type 0) (state : C → CoreState) (v w : DiskView) (old new : C) (
         source_faults = heard;
         sink_faults = λ other. absurd (other refl);
       }
-      was_put run few held (Err Words) sent out heard = absurd sent
-      was_put run few held (Err Source) sent out heard = absurd sent
-      was_put run few held (Err (Refused refusal)) sent out heard = absurd sent
+      was_put run few held (Err ending) sent out heard = absurd sent
 
       -- it was refused
       was_refused : (refusal : Refusal) → PutRun C state name given (Err refusal) old new → IsPutRefusal name given (state old).disk (state new) refusal → sink_now ≡ sink → Heard (Some (Refused refusal))
@@ -265,8 +263,6 @@ module _ (C : Type 0) (state : C → CoreState) (v w : DiskView) (old new : C) (
 
         -- the source ended before all of it was taken
         stopped : (ending : Ending) → IsSourceFault source source_now ending → (ending ≡ Refused TooLong → MOST_FILE < length given) → Heard (Some ending) → Any (Some ending)
-        stopped Words cause long heard = absurd cause
-        stopped Sink cause long heard = absurd cause
         stopped Source cause long heard = record {
           took = refused_took;
           caused = ((name, refl), added (Err Memory) run, cause);
@@ -294,7 +290,7 @@ module _ (C : Type 0) (state : C → CoreState) (v w : DiskView) (old new : C) (
           source_faults = heard;
           sink_faults = λ other. sink_still;
         }
-        stopped (Refused refusal) cause long heard = absurd cause
+        stopped ending cause long heard = absurd cause
 
       pub stopped_any : (result : Result Unit Ending) → IsStopped C state name given result old new source source_now sink sink_now → Heard (ending_in result) → Any (ending_in result)
       stopped_any result is heard =

@@ -1,63 +1,32 @@
--- What the calls do by which a session is fed: each is made of turns.
-use Rattle.std.proofs.Common.{◌≡◌, inl, inr, ◌∙◌, ℕ, ◌+◌, ◌<◌, ◌≤◌, Bool, true, false, if◌then◌else◌, List, [], ◌∷◌, ◌++◌, length, take, drop, Option, Some, None, Ok, Err, refl, sym, ap, subst, append_assoc, append-nil, length-append, arith}
-use Rattle.std.proofs.Math.Seq.{take-add}
-use Rattle.std.proofs.lemmas.Bool.{ltb-true, ltb-false}
-use Rattle.std.proofs.lemmas.List.{take-append-drop}
+-- What turns of a session do to what it was fed, and so do bytes that it is given, and the end of the file.
+use Rattle.std.proofs.Common.{◌≡◌, inl, inr, ◌∙◌, ℕ, ◌+◌, ◌<◌, Bool, true, false, if◌then◌else◌, List, [], ◌∷◌, ◌++◌, length, Some, None, Ok, Err, refl, sym, ap, subst, append_assoc, append-nil, length-append, arith}
+use Rattle.std.proofs.lemmas.Bool.{ltb-true}
 use Rattle.std.specs.Prelude.{nat_lt}
 use Rattle.disk_format.specs.declared.numbers.TheConstants.{MOST_FILE}
-use Rattle.merkle_file.specs.Node as node
 use Rattle.actor_parts.specs.declared.step.Answer.{Answer}
 use Rattle.refusals.specs.declared.refusal.Refusal.{Refusal}
 use Rattle.refusals.specs.declared.refusal.Refusal.TheVariants.{Memory, TooLong, WrongPart}
 use Rattle.refusals.specs.declared.refusal.PartKind.TheVariants.{Finished}
-use Rattle.store_core.specs.State.{CoreState, IsRunning}
-use Rattle.ingest_session.specs.declared.due.Due.{Due}
-use Rattle.ingest_session.specs.declared.due.Due.TheVariants.{Claim, Seal, Nothing}
-use Rattle.ingest_session.specs.Calls.{IsEnding, IsFinishAnswer, IsPushAnswer, IsTaking}
-use Rattle.container_meta.specs.declared.kind.Kind.{Kind}
-use Rattle.container_meta.specs.declared.kind.Kind.TheVariants.{Leaf, Tree}
-use Rattle.container_meta.specs.Segments.{has_key}
-use Rattle.actor_parts.specs.Segments.{child_kind}
-use Rattle.store_model.specs.Trees.{leaf_key, node_key}
-use Rattle.ingest_session.specs.Child.{has_child_of}
-use Rattle.ingest_session.specs.Due.{due_in, item_due, item_kind, open_of, queue_due}
+use Rattle.store_core.specs.State.{CoreState}
+use Rattle.ingest_session.specs.Calls.{IsEnding, IsFinishAnswer, IsPushAnswer}
+use Rattle.ingest_session.specs.Due.{due_in}
 use Rattle.ingest_session.specs.Facts.{BytesAreCounted, ChildrenComeFirst, OpenNodesHaveChildren, OpensArePieces, TurnsArePieces, WaitsForAnother}
-use Rattle.ingest_session.specs.History.{History, HasHistory, Places, answered}
-use Rattle.ingest_session.specs.Settling.{KeepsOpen, seen}
+use Rattle.ingest_session.specs.History.{History, HasHistory, answered}
 use Rattle.ingest_session.specs.State.{SessionState}
-use Rattle.ingest_session.specs.Told.{told_by}
-use Rattle.backup_engine.specs.Feeding.{Asks, Ends, Feeds, IsFed, MayBe, Turns, opens_of}
+use Rattle.session_turns.specs.Turns.{Asks, Feeds, IsPaused, IsRefusedTurn, IsTurn, TakesTurns, TurnRun, TurnsStopped}
+use Rattle.session_turns.proofs.TurnRuns.{turns_stay}
+use Rattle.backup_engine.specs.Feeding.{IsFed, MayBe, Stops, opens_of}
 use Rattle.backup_engine.proofs.Feds.{fed_due, fed_ended, fed_pushed, may_be_still}
 use Rattle.backup_engine.proofs.Turning.{asked_on, asked_refused}
 use Rattle.backup_engine.proofs.Ways.{way_stops}
 
--- ---- nothing is due
-
-no_wait : (waits : Bool) (kind : Kind) (due : Due) → (if waits then Seal kind else due) ≡ Nothing → due ≡ Nothing
-no_wait true kind due is = absurd cc
-no_wait false kind due is = is
-
-no_claim : (b : Bool) (kind : Kind) → (if b then Seal kind else Claim) ≡ Nothing → ⊥
-no_claim true kind is = cc
-no_claim false kind is = cc
-
-no_node : (child own : Bool) (kind : Kind) → (if child then Seal kind else if own then Seal Tree else Claim) ≡ Nothing → ⊥
-no_node true own kind is = cc
-no_node false own kind is = no_claim own Tree is
-
-no_queue : (s : SessionState) (queue : List (List ℕ)) → queue_due s queue ≡ Nothing → queue ≡ []
-no_queue s [] is = refl
-no_queue s (x ∷ xs) is = absurd (no_claim (has_key s.leaves (leaf_key x)) Leaf is)
-
-no_item : (s : SessionState) (n : Option node.Contents) → item_due s n ≡ Nothing → s.queue ≡ []
-no_item s (Some n) is = absurd (no_node (has_child_of (open_of s (child_kind n.level)) n) (has_key s.nodes (node_key n)) (child_kind n.level) is)
-no_item s None is = no_queue s s.queue is
-
--- where nothing is due nothing is queued
-pub nothing_queued : (s : SessionState) → due_in s ≡ Nothing → s.unseen ≡ 0 → seen s ≡ 0
-nothing_queued s is unseen =
-    let none : length s.queue ≡ 0 = ap length (no_item s s.node (no_wait s.waits (item_kind s.node) (item_due s s.node) is)) in
-    omega (arith, none, unseen)
+-- the laws of sessions that turns rest on
+pub record Laws : Type 0 where
+  pub turns : TurnsArePieces
+  pub opens : OpensArePieces
+  pub waits : WaitsForAnother
+  pub claims : ChildrenComeFirst
+  pub seals : OpenNodesHaveChildren
 
 -- a push is refused, before the end, where the file is too long
 why_long : (s : SessionState) (n : ℕ) (refusal : Refusal) (ended : Bool) → s.ended ≡ false → s.ended ≡ ended → IsPushAnswer s n (Err refusal) → (refusal ≡ TooLong) × (MOST_FILE < s.count + n)
@@ -72,118 +41,109 @@ why_long s n refusal false off is answer =
     by_length true more some = (other TooLong refusal some, ltb-true MOST_FILE (s.count + n) more)
     by_length false more some = absurd cc
 
--- and else it is not
-pub push_fits : (s : SessionState) (bytes n : ℕ) → s.ended ≡ false → IsPushAnswer s bytes (Ok n) → s.count + n ≤ MOST_FILE
-push_fits s bytes n off answer =
-    by_length s.ended refl (nat_lt MOST_FILE (s.count + bytes)) refl answer.0
-  where
-    by_length : (ended : Bool) → s.ended ≡ ended → (b : Bool) → nat_lt MOST_FILE (s.count + bytes) ≡ b → (if ended then Some (WrongPart Finished) else if b then Some TooLong else None) ≡ None → s.count + n ≤ MOST_FILE
-    by_length true on b more none = absurd (let both = sym off ∙ on in cc)
-    by_length false on true more none = absurd cc
-    by_length false on false more none = omega (arith, ltb-false MOST_FILE (s.count + bytes) more, answer.1)
+-- ---- which files it may be
 
-module _ (C : Type 0) (state : C → CoreState) where
-  -- ---- one turn
+-- the file may be what was taken
+itself : (given : List ℕ) (s : SessionState) → MayBe given s given
+itself given s = ([], λ on. refl, sym (append-nil given))
+
+-- before the file has ended bytes of it may follow, as long as others
+may_be_before : (given bytes : List ℕ) (s t : SessionState) (file : List ℕ) → t.ended ≡ false → MayBe (given ++ bytes) s file → MayBe given t file
+may_be_before given bytes s t file off may = (bytes ++ may.0, λ on. absurd (let both = sym off ∙ on in cc), may.2 ∙ append_assoc given bytes may.0)
+
+module _ (C : Type 0) (state : C → CoreState) (laws : Laws) (actor : ℕ) (first : actor ≡ 0) (given : List ℕ) (start : C) where
+  -- ---- turns
+
+  fed_paused : (s t : SessionState) (old : C) → IsPaused s t → IsFed C state given s start old → IsFed C state given t start old
+  fed_paused s t old pause fed = fed_due C state given s t start old fed pause.places pause.keeps
+
+  fed_turn : (answer : Answer) (s t : SessionState) (old new : C) → IsTurn actor answer s t (state old) (state new) → IsFed C state given s start old → IsFed C state given t start new
+  fed_turn answer s t old new turn fed =
+      let before = turn.before in
+      let here = fed_paused s before old turn.paused fed in
+      let asks = subst (λ (a : ℕ). Asks a (due_in before) before (Ok answer) (state old) (state new)) first turn.asks in
+      let has = subst (λ (u : SessionState). HasHistory u (answered answer before here.history)) turn.told (turn.history here.history here.has) in
+      subst (λ (u : SessionState). IsFed C state given u start new) (sym turn.told)
+      (asked_on C state given before start old new here laws.turns laws.opens laws.waits (due_in before) answer refl asks turn.running has)
+
+  pub fed_turns : (answers : List Answer) (s t : SessionState) (old new : C) → TurnRun C state actor answers s t old new → IsFed C state given s start old → IsFed C state given t start new
+  fed_turns [] s t old new run fed = subst (λ (c : C). IsFed C state given t start c) (sym run.1) (fed_paused s t old run.0 fed)
+  fed_turns (answer ∷ answers) s t old new run fed = fed_turns answers run.0 t run.1 new run.3 (fed_turn answer s run.0 old run.1 run.2 fed)
+
+  -- ---- turns that were refused
 
   -- there was no memory
-  pub no_memory : (T : Type 0) (s t : SessionState) (old : C) → Turns {T = T} C state (Err Memory) s t old old
-  no_memory T s t old start given name file fed may = inl (way_stops C state (MayBe given s) (opens_of s) start old fed.way name file may, tt)
+  no_memory : (s : SessionState) (old : C) → IsFed C state given s start old → (name file : List ℕ) → MayBe given s file → Stops C state name file Memory start old
+  no_memory s old fed name file may = inl (way_stops C state (MayBe given s) (opens_of s) start old fed.way name file may, tt)
 
-  pub no_turn : (s t : SessionState) (old : C) → Places s t → KeepsOpen s t → (start : C) (given : List ℕ) → IsFed C state given s start old → IsFed C state given t start old
-  no_turn s t old places keeps start given fed = fed_due C state given s t start old fed places keeps
+  refused_turn : (refusal : Refusal) (s t : SessionState) (old new : C) → IsRefusedTurn actor refusal s t (state old) (state new) → IsFed C state given s start old → (name file : List ℕ) → MayBe given s file
+      → Stops C state name file refusal start new
+  refused_turn refusal s t old new refused fed name file may =
+      let here = fed_paused s t old refused.0 fed in
+      let asks = subst (λ (a : ℕ). Asks a (due_in t) t (Err refusal) (state old) (state new)) first refused.2 in
+      asked_refused C state given t start old new here laws.turns laws.opens laws.claims laws.seals (due_in t) refusal refl asks name file (may_be_still given t s file (sym refused.0.keeps.ended) may)
 
-  module _ (s t : SessionState) (old new : C) (places : Places s t) (keeps : KeepsOpen s t) (turns : TurnsArePieces) (opens : OpensArePieces) (due : Due) (is : due_in t ≡ due) where
-    pub one_turn : WaitsForAnother → (answer : Answer) → Asks due t (Ok answer) (state old) (state new) → IsRunning (state new)
-        → ((h : History) → HasHistory t h → HasHistory (told_by answer t) (answered answer t h)) → (start : C) (given : List ℕ) → IsFed C state given s start old → IsFed C state given (told_by answer t) start new
-    one_turn waits answer asks running history start given fed =
-        let here = fed_due C state given s t start old fed places keeps in
-        asked_on C state given t start old new here turns opens waits due answer is asks running (history here.history here.has)
-
-    pub refused_turn : (T : Type 0) → ChildrenComeFirst → OpenNodesHaveChildren → (refusal : Refusal) → Asks due t (Err refusal) (state old) (state new) → (u : SessionState) → Turns {T = T} C state (Err refusal) s u old new
-    refused_turn T children nodes refusal asks u start given name file fed may =
-        let here = fed_due C state given s t start old fed places keeps in
-        asked_refused C state given t start old new here turns opens children nodes due refusal is asks name file (may_be_still given t s file (sym keeps.ended) may)
-
-  -- ---- turns, one after the other
-
-  pub turns_on : (T U V : Type 0) (a : T) (b : U) (v : V) (s t u : SessionState) (old mid new : C) → Turns C state (Ok a) s t old mid → Turns C state (Ok b) t u mid new → Turns C state (Ok v) s u old new
-  turns_on T U V a b v s t u old mid new one two start given fed = two start given (one start given fed)
-
-  pub refused_on : (T U V : Type 0) (a : T) (refusal : Refusal) (s t u : SessionState) (old mid new : C) → t.ended ≡ s.ended → Turns C state (Ok a) s t old mid → Turns {T = U} C state (Err refusal) t u mid new
-      → Turns {T = V} C state (Err refusal) s u old new
-  refused_on T U V a refusal s t u old mid new same one two start given name file fed may = two start given name file (one start given fed) (may_be_still given t s file (sym same) may)
+  pub stopped_turns : (refusal : Refusal) (s t : SessionState) (old new : C) → TurnsStopped C state actor refusal s t old new → IsFed C state given s start old → (name file : List ℕ) → MayBe given s file
+      → Stops C state name file refusal start new
+  stopped_turns refusal s t old new stopped fed name file may =
+      let mid = stopped.1 in
+      let core = stopped.2 in
+      let here = fed_turns stopped.0 s mid old core stopped.3 fed in
+      let may_here = may_be_still given mid s file (sym (turns_stay C state actor stopped.0 s mid old core stopped.3).ended) may in
+      elim stopped.4 [
+        | inl memory ↦
+            subst (λ (r : Refusal). Stops C state name file r start new) (sym memory.0)
+            (subst (λ (c : C). Stops C state name file Memory start c) (sym memory.2) (no_memory mid core here name file may_here))
+        | inr refused ↦ refused_turn refusal mid t core new refused here name file may_here
+      ]
 
   -- ---- bytes
 
-  no_more : (s : SessionState) (more : List ℕ) → s.ended ≡ false → s.ended ≡ true → more ≡ []
-  no_more s more off on = absurd (let both = sym off ∙ on in cc)
+  module _ (bytes : List ℕ) (s t : SessionState) (old new : C) (off : s.ended ≡ false) (fed : IsFed C state given s start old) where
+    pub fed_more : Feeds C state actor (Ok tt) bytes s t old new → IsFed C state (given ++ bytes) t start new
+    fed_more feeds =
+        let mid = feeds.1 in
+        let here = fed_turns feeds.0 s mid old new feeds.2 fed in
+        fed_pushed C state given bytes mid t start new here ((turns_stay C state actor feeds.0 s mid old new feeds.2).ended ∙ off) feeds.3 feeds.4
 
-  module _ (s : SessionState) (old : C) (bytes : List ℕ) (taken : ℕ) (t : SessionState) (mid : C) (off : t.ended ≡ false) (so_far : Feeds C state (Ok tt) (take taken bytes) s t old mid) where
-    -- the bytes that are left follow
-    may_be_left : (given file : List ℕ) → MayBe (given ++ bytes) s file → MayBe (given ++ take taken bytes) t file
-    may_be_left given file may = (
-      drop taken bytes ++ may.0,
-      no_more t (drop taken bytes ++ may.0) off,
-      may.2 ∙ ap (λ (l : List ℕ). (given ++ l) ++ may.0) (sym (take-append-drop taken bytes))
-          ∙ ap (λ (l : List ℕ). l ++ may.0) (sym (append_assoc given (take taken bytes) (drop taken bytes)))
-          ∙ append_assoc (given ++ take taken bytes) (drop taken bytes) may.0,
-    )
+    -- they were too many
+    too_long : BytesAreCounted → (refusal : Refusal) (answers : List Answer) → TurnRun C state actor answers s t old new → IsPushAnswer t (length bytes) (Err refusal) → (name file : List ℕ) → MayBe (given ++ bytes) s file
+        → Stops C state name file refusal start new
+    too_long counted refusal answers run answer name file may =
+        let here = fed_turns answers s t old new run fed in
+        let on = (turns_stay C state actor answers s t old new run).ended ∙ off in
+        let why = why_long t (length bytes) refusal t.ended on refl answer in
+        let count = (counted t here.history here.has).0 in
+        let so : length here.history.given ≡ length given = ap length here.given_is in
+        let long : length file ≡ length ((given ++ bytes) ++ may.0) = ap length may.2 in
+        let parts = length-append (given ++ bytes) may.0 in
+        let taken = length-append given bytes in
+        inr (
+          why.0,
+          omega (arith, why.1, count, so, long, parts, taken),
+          way_stops C state (MayBe given t) (opens_of t) start new here.way name file (may_be_before given bytes s t file on may),
+        )
 
-    -- a turn was refused
-    pub feed_refused : (refusal : Refusal) (u : SessionState) (new : C) → Turns {T = Unit} C state (Err refusal) t u mid new → Feeds C state (Err refusal) bytes s u old new
-    feed_refused refusal u new refused start given name file fed may =
-        refused start (given ++ take taken bytes) name file (so_far start given fed) (may_be_left given file may)
-
-    module _ (u : SessionState) (new : C) (room : Turns {T = Unit} C state (Ok tt) t u mid new) (on : u.ended ≡ false) where
-      module _ (rest : List ℕ) (rest_is : rest ≡ drop taken bytes) where
-        -- more were taken
-        pub feed_more : (n : ℕ) (v : SessionState) → IsTaking (take n rest) u v → ((h : History) → HasHistory u h → HasHistory v (record h { given = h.given ++ take n rest }))
-            → Feeds C state (Ok tt) (take (taken + n) bytes) s v old new
-        feed_more n v taking history start given fed =
-            let here = room start (given ++ take taken bytes) (so_far start given fed) in
-            let pushed = fed_pushed C state (given ++ take taken bytes) (take n rest) u v start new here on taking history in
-            let same : take taken bytes ++ take n rest ≡ take (taken + n) bytes = ap (λ (r : List ℕ). take taken bytes ++ take n r) rest_is ∙ sym (take-add taken n bytes) in
-            subst (λ (l : List ℕ). IsFed C state l v start new) (append_assoc given (take taken bytes) (take n rest) ∙ ap (λ (l : List ℕ). given ++ l) same) pushed
-
-        -- they were too many
-        pub feed_long : BytesAreCounted → (refusal : Refusal) → IsPushAnswer u (length rest) (Err refusal) → (v : SessionState) → Feeds C state (Err refusal) bytes s v old new
-        unfolding may_be_left
-        feed_long counted refusal answer v start given name file fed may =
-            let here = room start (given ++ take taken bytes) (so_far start given fed) in
-            let why = why_long u (length rest) refusal u.ended on refl answer in
-            let count = (counted u here.history here.has).0 in
-            let so : length here.history.given ≡ length (given ++ take taken bytes) = ap length here.given_is in
-            let file_is = may_be_left given file may in
-            let long : length file ≡ length ((given ++ take taken bytes) ++ (drop taken bytes ++ may.0)) = ap length file_is.2 in
-            let parts = length-append (given ++ take taken bytes) (drop taken bytes ++ may.0) in
-            let after = length-append (drop taken bytes) may.0 in
-            let left = ap length rest_is in
-            inr (
-              why.0,
-              omega (arith, why.1, count, so, long, parts, after, left),
-              way_stops C state (MayBe (given ++ take taken bytes) u) (opens_of u) start new here.way name file
-                  (file_is.0, no_more u file_is.0 on, file_is.2),
-            )
+    pub not_fed : BytesAreCounted → (refusal : Refusal) → Feeds C state actor (Err refusal) bytes s t old new → (name file : List ℕ) → MayBe (given ++ bytes) s file → Stops C state name file refusal start new
+    not_fed counted refusal feeds name file may = elim feeds [
+      | inl stopped ↦ stopped_turns refusal s t old new stopped fed name file (may_be_before given bytes s s file off may)
+      | inr long ↦ too_long counted refusal long.0 long.1 long.2 name file may
+    ]
 
   -- ---- the end
 
-  -- the file may be what was taken
-  itself : (given : List ℕ) (s : SessionState) → MayBe given s given
-  itself given s = ([], λ on. refl, sym (append-nil given))
+  pub end_refused : (refusal : Refusal) (s : SessionState) (old : C) → s.ended ≡ false → IsFinishAnswer s (Err refusal) → IsFed C state given s start old → (name : List ℕ) → Stops C state name given refusal start old
+  end_refused Memory s old off answer fed name = no_memory s old fed name given (itself given s)
+  end_refused (WrongPart Finished) s old off answer fed name = absurd (let both = sym off ∙ answer in cc)
+  end_refused refusal s old off answer fed name = absurd answer
 
-  end_memory : (s t : SessionState) (old : C) → Ends C state (Err Memory) s t old old
-  end_memory s t old start given name fed = inl (way_stops C state (MayBe given s) (opens_of s) start old fed.way name given (itself given s), tt)
+  module _ (s t u : SessionState) (old new : C) (ending : IsEnding s t) (history : (h : History) → HasHistory s h → HasHistory t h) (fed : IsFed C state given s start old) where
+    here : IsFed C state given t start old
+    here = fed_ended C state given s t start old fed ending history
 
-  pub end_refused : (s t : SessionState) (old : C) (refusal : Refusal) → s.ended ≡ false → IsFinishAnswer s (Err refusal) → Ends C state (Err refusal) s t old old
-  end_refused s t old Memory off answer = end_memory s t old
-  end_refused s t old (WrongPart Finished) off answer = absurd (let both = sym off ∙ answer in cc)
-  end_refused s t old refusal off answer = absurd answer
+    pub fed_to_end : TakesTurns {T = Unit {0}} C state actor (Ok tt) t u old new → IsFed C state given u start new
+    fed_to_end turns = fed_turns turns.0 t u old new turns.1 here
 
-  -- a turn was refused after it
-  pub end_stopped : (T U : Type 0) (a : T) (refusal : Refusal) (s t u v : SessionState) (old mid new : C) → IsEnding s t → ((h : History) → HasHistory s h → HasHistory t h) → Turns C state (Ok a) t u old mid
-      → Turns {T = U} C state (Err refusal) u v mid new → Ends C state (Err refusal) s v old new
-  end_stopped T U a refusal s t u v old mid new ending history turns refused start given name fed =
-      refused start given name given (turns start given (fed_ended C state given s t start old fed ending history)) (itself given u)
-
-  pub end_on : (s t : SessionState) (old : C) → IsEnding s t → ((h : History) → HasHistory s h → HasHistory t h) → (start : C) (given : List ℕ) → IsFed C state given s start old → IsFed C state given t start old
-  end_on s t old ending history start given fed = fed_ended C state given s t start old fed ending history
+    -- a turn was refused after it
+    pub end_stopped : (refusal : Refusal) → TakesTurns {T = Unit {0}} C state actor (Err refusal) t u old new → (name : List ℕ) → Stops C state name given refusal start new
+    end_stopped refusal stopped name = stopped_turns refusal t u old new stopped here name given (itself given t)

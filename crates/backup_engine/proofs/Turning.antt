@@ -26,9 +26,10 @@ use Rattle.ingest_session.specs.History.{HasHistory, answered, item_if, turn_of,
 use Rattle.ingest_session.specs.Items.{item_of}
 use Rattle.ingest_session.specs.Moving.{IsItem, IsOffered}
 use Rattle.ingest_session.specs.State.{SessionState}
-use Rattle.ingest_session.specs.Told.{IsAnswerFor, told_by}
+use Rattle.ingest_session.specs.Told.{told_by}
 use Rattle.ingest_session.proofs.Waiting.{session_of}
-use Rattle.backup_engine.specs.Feeding.{Asks, IsFed, MayBe, Stops, opens_of}
+use Rattle.session_turns.specs.Turns.{Asks}
+use Rattle.backup_engine.specs.Feeding.{IsFed, MayBe, Stops, opens_of}
 use Rattle.backup_engine.specs.Putting.{AreNew}
 use Rattle.backup_engine.specs.Running.{IsOneOf}
 use Rattle.backup_engine.proofs.FedOpens.{all_one_of, item_is, left_differs, one_item, opens_absent}
@@ -43,10 +44,6 @@ use Rattle.backup_engine.proofs.WaySeals.{only_sealed, way_sealed}
 pub all_first : {A : Type 0} (P : A → Type 0) (xs ys : List A) → AllByRecursion P (xs ++ ys) → AllByRecursion P xs
 all_first P [] ys all = tt
 all_first P (x ∷ xs) ys all = (all.0, all_first P xs ys all.1)
-
--- a claim has nothing to do with a container
-no_seal : (kind : Kind) → Claim ≡ Seal kind → ⊥
-no_seal kind is = cc
 
 module _ (C : Type 0) (state : C → CoreState) (given : List ℕ) (s : SessionState) (start old new : C) (fed : IsFed C state given s start old) where
   abbrev files : List ℕ → Type 0
@@ -165,21 +162,9 @@ module _ (C : Type 0) (state : C → CoreState) (given : List ℕ) (s : SessionS
 
 -- ---- either
 
--- an answer is one that the step can have
-pub answers_due : (C : Type 0) (state : C → CoreState) (given : List ℕ) (s : SessionState) (start old new : C) → IsFed C state given s start old → (due : Due) (answer : Answer)
-    → Asks due s (Ok answer) (state old) (state new) → IsAnswerFor answer due
-answers_due C state given s start old new fed Claim answer asks = elim (held_or_absent C state (MayBe given s) (opens_of s) start old new fed.way asks.0 asks.1 answer asks.3) [
-  | inl held ↦ subst (λ (a : Answer). IsAnswerFor a Claim) (sym held) refl
-  | inr absent ↦ subst (λ (a : Answer). IsAnswerFor a Claim) (sym absent) refl
-]
-answers_due C state given s start old new fed (Seal kind) answer asks =
-    let sealed = only_sealed C state (MayBe given s) (opens_of s) start old new fed.way (open_of s kind) asks.0 answer asks.3 in
-    subst (λ (a : Answer). IsAnswerFor a (Seal kind)) (sym sealed.1) (kind, refl)
-answers_due C state given s start old new fed Nothing answer asks = absurd asks
-
 module _ (C : Type 0) (state : C → CoreState) (given : List ℕ) (s : SessionState) (start old new : C) (fed : IsFed C state given s start old) (turns : TurnsArePieces) (opens : OpensArePieces) where
   -- the step was made, and the session was told
-  pub asked_on : WaitsForAnother → (due : Due) (answer : Answer) → due_in s ≡ due → Asks due s (Ok answer) (state old) (state new) → IsRunning (state new)
+  pub asked_on : WaitsForAnother → (due : Due) (answer : Answer) → due_in s ≡ due → Asks 0 due s (Ok answer) (state old) (state new) → IsRunning (state new)
       → HasHistory (told_by answer s) (answered answer s fed.history) → IsFed C state given (told_by answer s) start new
   asked_on waits Claim answers.Held is asks running has = claim_held C state given s start old new fed turns is asks.0 asks.2 asks.1 asks.3 running has
   asked_on waits Claim answers.Absent is asks running has = claim_absent C state given s start old new fed turns is asks.0 asks.2 asks.1 asks.3 running has
@@ -189,7 +174,7 @@ module _ (C : Type 0) (state : C → CoreState) (given : List ℕ) (s : SessionS
   asked_on waits Nothing answer is asks running has = absurd asks
 
   -- it was refused
-  pub asked_refused : ChildrenComeFirst → OpenNodesHaveChildren → (due : Due) (refusal : Refusal) → due_in s ≡ due → Asks due s (Err refusal) (state old) (state new) → (name file : List ℕ) → MayBe given s file
+  pub asked_refused : ChildrenComeFirst → OpenNodesHaveChildren → (due : Due) (refusal : Refusal) → due_in s ≡ due → Asks 0 due s (Err refusal) (state old) (state new) → (name file : List ℕ) → MayBe given s file
       → Stops C state name file refusal start new
   asked_refused children nodes Claim refusal is asks name file may = claim_refused C state given s start old new fed turns is asks.0 asks.2 asks.1 children name file may refusal asks.3
   asked_refused children nodes (Seal kind) refusal is asks name file may = seal_refused C state given s start old new fed opens kind is asks.1 asks.2 asks.0 nodes name file may refusal asks.3

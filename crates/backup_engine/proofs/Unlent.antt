@@ -9,7 +9,7 @@ use Rattle.merkle_file.specs.declared.top.Top.{Top}
 use Rattle.refusals.specs.declared.refusal.Refusal.{Refusal}
 use Rattle.refusals.specs.declared.refusal.Refusal.TheVariants.{Memory, DiskRead, DiskWrite, Corrupt, Missing, Damaged, WrongSize, NotAStore, Version, Full}
 use Rattle.reply_text.specs.declared.ending.Ending.{Ending}
-use Rattle.reply_text.specs.declared.ending.Ending.TheVariants.{Words, Source, Sink, Refused}
+use Rattle.reply_text.specs.declared.ending.Ending.TheVariants.{Source, Sink, Refused}
 use Rattle.store_model.specs.Files.{Stored}
 use Rattle.journal_cells.specs.declared.fault.CellFault.{CellFault}
 use Rattle.recovery.specs.Opening.{IsOpenRefusal, IsSized, BreaksFormat, BreaksJournal, BreaksSlots, HasWrongSize}
@@ -170,11 +170,11 @@ module _ (loans : List ℕ) (v w : DiskView) where
 
     ingest_caused : (ending : Option Ending) → IsCaused (Ingest name) given lent lent_now source source_now sink sink_now ending → IsCaused (Ingest name) given v w source source_now sink sink_now ending
     ingest_caused None is = ingest_done is
-    ingest_caused (Some Words) is = absurd is
     ingest_caused (Some Source) is = (is.0, added given is.1, is.2)
     ingest_caused (Some Sink) is = (ingest_done is.0, is.1)
     ingest_caused (Some (Refused Memory)) is = is
     ingest_caused (Some (Refused refusal)) is = ingest_refused refusal is
+    ingest_caused (Some ending) is = absurd is
 
     ingest_durable : (ending : Option Ending) → EndsDurable (Ingest name) ending lent_now → EndsDurable (Ingest name) ending w
     ingest_durable None is = is
@@ -191,11 +191,11 @@ module _ (loans : List ℕ) (v w : DiskView) where
 
     restore_caused : (ending : Option Ending) → IsCaused (Restore name) given lent lent_now source source_now sink sink_now ending → IsCaused (Restore name) given v w source source_now sink sink_now ending
     restore_caused None is = is
-    restore_caused (Some Words) is = absurd is
     restore_caused (Some Source) is = (is.0, added given is.1, is.2)
     restore_caused (Some Sink) is = is
     restore_caused (Some (Refused Memory)) is = is
     restore_caused (Some (Refused refusal)) is = restore_refused refusal is
+    restore_caused (Some ending) is = absurd is
 
     restore_wrote : (ending : Option Ending) → WroteOnAny (Restore name) given ending lent lent_now sink sink_now → WroteOnAny (Restore name) given ending v w sink sink_now
     restore_wrote None is = given_back sink sink_now name None is

@@ -21,7 +21,7 @@ use Rattle.merkle_file.specs.Walk.{start_of}
 use Rattle.refusals.specs.declared.refusal.Refusal.{Refusal}
 use Rattle.refusals.specs.declared.refusal.Refusal.TheVariants.{Memory, DiskRead, DiskWrite}
 use Rattle.reply_text.specs.declared.ending.Ending.{Ending}
-use Rattle.reply_text.specs.declared.ending.Ending.TheVariants.{Words, Source, Sink, Refused}
+use Rattle.reply_text.specs.declared.ending.Ending.TheVariants.{Words, Source, Sink, Line, Script, Refused}
 use Rattle.reply_text.specs.Text.{formatted_line, stored_line}
 use Rattle.store_model.specs.Image.{Store, Encodes, names_of, last_sequence}
 use Rattle.store_model.specs.Pieces.{Node, IsPieceOf}
@@ -148,6 +148,8 @@ IsDone (Restore name) given disk disk_now = Unit {0}
 abbrev pub IsCaused : CommandLine → List ℕ → DiskView → DiskView → SourceView → SourceView → SinkView → SinkView → Option Ending → Type 0
 IsCaused command given disk disk_now source source_now sink sink_now None = IsDone command given disk disk_now
 IsCaused command given disk disk_now source source_now sink sink_now (Some Words) = ⊥
+IsCaused command given disk disk_now source source_now sink sink_now (Some (Line number)) = ⊥
+IsCaused command given disk disk_now source source_now sink sink_now (Some Script) = ⊥
 IsCaused command given disk disk_now source source_now sink sink_now (Some Source) =
     ((name : List ℕ) × (command ≡ Ingest name)) × HasAdded given disk disk_now × Rose source.faults source_now.faults
 IsCaused command given disk disk_now source source_now sink sink_now (Some Sink) =

@@ -5,24 +5,18 @@ use Rattle.disk_format.specs.Cells.{Root}
 use Rattle.base_model.specs.Known.{Known}
 use Rattle.dd_io.specs.Flow.{SourceView}
 use Rattle.container_meta.specs.declared.kind.Kind.{Kind}
-use Rattle.container_meta.specs.Segments.{KindSegment, Segment}
-use Rattle.actor_parts.specs.declared.step.Answer.{Answer}
-use Rattle.actor_parts.specs.StepValue as asked
-use Rattle.actor_parts.specs.StepValue.{IsStep}
+use Rattle.container_meta.specs.Segments.{Segment}
 use Rattle.refusals.specs.declared.refusal.Refusal.{Refusal}
 use Rattle.refusals.specs.declared.refusal.Refusal.TheVariants.{Memory, TooLong}
 use Rattle.reply_text.specs.declared.ending.Ending.{Ending}
 use Rattle.reply_text.specs.declared.ending.Ending.TheVariants.{Source, Refused}
 use Rattle.store_model.specs.Trees.{root_of}
-use Rattle.store_core.specs.Core.{CoreStep}
 use Rattle.store_core.specs.Keeping.{kept_of}
 use Rattle.store_core.specs.State.{CoreState}
-use Rattle.ingest_session.specs.declared.due.Due.{Due}
-use Rattle.ingest_session.specs.declared.due.Due.TheVariants.{Claim, Seal, Nothing}
+use Rattle.ingest_session.specs.declared.due.Due.TheVariants.{Nothing}
 use Rattle.ingest_session.specs.Due.{due_in, open_of}
 use Rattle.ingest_session.specs.Facts.{IsKept, MayFollow}
 use Rattle.ingest_session.specs.History.{History, HasHistory, waiting}
-use Rattle.ingest_session.specs.Moving.{IsOffered}
 use Rattle.ingest_session.specs.State.{SessionState}
 use Rattle.backup_engine.specs.Putting.{Way}
 use Rattle.backup_engine.specs.Running.{PutRun, HoldsPieces, IsOneOf, IsPutRefusal}
@@ -55,36 +49,6 @@ Stops C state name file refusal start new =
     ⊎ ((refusal ≡ TooLong) × (MOST_FILE < length file) × PutRun C state name file (Err Memory) start new)
 
 -- ---- what calls do, whatever was done before
-
--- the step that is due was asked for
-abbrev pub Asks : Due → SessionState → Result Answer Refusal → CoreState → CoreState → Type 0
-Asks Claim s answer old new =
-    (seg : KindSegment) × (buf : List ℕ) × IsOffered s seg
-    × CoreStep old (record { actor = 0; step = asked.Claim seg; answer = answer; buf = buf }) new
-Asks (Seal kind) s answer old new =
-    (buf : List ℕ) × IsStep (asked.Seal (open_of s kind)) × ((open_of s kind).kind ≡ kind)
-    × CoreStep old (record { actor = 0; step = asked.Seal (open_of s kind); answer = answer; buf = buf }) new
-Asks Nothing s answer old new = ⊥
-
--- steps that were due are made
-abbrev pub Turns : {T : Type 0} (C : Type 0) → (C → CoreState) → Result T Refusal → SessionState → SessionState → C → C → Type 0
-Turns C state (Ok made) s t old new = (start : C) (given : List ℕ) → IsFed C state given s start old → IsFed C state given t start new
-Turns C state (Err refusal) s t old new =
-    (start : C) (given name file : List ℕ) → IsFed C state given s start old → MayBe given s file → Stops C state name file refusal start new
-
--- the file ends, and all steps that are due then are made
-abbrev pub Ends : (C : Type 0) → (C → CoreState) → Result Unit Refusal → SessionState → SessionState → C → C → Type 0
-Ends C state (Ok u) s t old new = (start : C) (given : List ℕ) → IsFed C state given s start old → IsFed C state given t start new
-Ends C state (Err refusal) s t old new =
-    (start : C) (given name : List ℕ) → IsFed C state given s start old → Stops C state name given refusal start new
-
--- the session takes these bytes more
-abbrev pub Feeds : (C : Type 0) → (C → CoreState) → Result Unit Refusal → List ℕ → SessionState → SessionState → C → C → Type 0
-Feeds C state (Ok u) bytes s t old new =
-    (start : C) (given : List ℕ) → IsFed C state given s start old → IsFed C state (given ++ bytes) t start new
-Feeds C state (Err refusal) bytes s t old new =
-    (start : C) (given name file : List ℕ) → IsFed C state given s start old → MayBe (given ++ bytes) s file
-    → Stops C state name file refusal start new
 
 -- all of the file was taken, and nothing is due
 pub record IsAllFed (C : Type 0) (state : C → CoreState) (given : List ℕ) (s : SessionState) (old new : C) : Type 0 where

@@ -10,7 +10,7 @@ use Rattle.refusals.specs.declared.refusal.Difference.{Difference}
 use Rattle.refusals.specs.declared.refusal.Difference.TheVariants.{Length, Byte}
 use Rattle.refusals.specs.declared.refusal.Refusal.TheVariants.{DiskWrite, Clash}
 use Rattle.reply_text.specs.declared.ending.Ending.{Ending}
-use Rattle.reply_text.specs.declared.ending.Ending.TheVariants.{Words, Source, Sink, Refused}
+use Rattle.reply_text.specs.declared.ending.Ending.TheVariants.{Words, Source, Sink, Line, Script, Refused}
 use Rattle.reply_text.specs.Text.{stored_line}
 use Rattle.store_model.specs.Collisions.{HasNoCollisions, ByteSet, IsIn}
 use Rattle.store_model.specs.Files.{Stored}
@@ -58,6 +58,8 @@ pub record HoldsTwin (given : List ℕ) (store : Store) (image key : List ℕ) (
 abbrev pub EndsBy : CommandLine → List ℕ → Stored → Option (List ℕ) → Option Ending → Type 0
 EndsBy command given m content None = CanBeDone command given m
 EndsBy command given m content (Some Words) = ⊥
+EndsBy command given m content (Some (Line number)) = ⊥
+EndsBy command given m content (Some Script) = ⊥
 EndsBy command given m content (Some Source) = (name : List ℕ) × (command ≡ Ingest name)
 EndsBy command given m content (Some Sink) = CanBeDone command given m
 EndsBy (Ingest name) given m content (Some (Refused DiskWrite)) = Unit {0}

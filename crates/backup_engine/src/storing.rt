@@ -6,19 +6,19 @@ ghost use Rattle.backup_engine.specs.Feeding.{Fills};
 ghost use Rattle.backup_engine.specs.Running.{IsFresh};
 ghost use Rattle.backup_engine.specs.Storing.{IngestRun};
 
-use crate::putting::{commit, end_file, feed, first};
+use crate::putting::{commit, first};
 use crate::reply::send;
 use actor_parts::{SegBuf, Step};
 use dd_io::{Sink, Source};
-use ingest_session::{Due, Session};
+use ingest_session::{
+    Due, Session, bytes_are_counted, children_come_first, seals_were_absent, steps_have_pieces,
+};
 use reply_text::{Ending, stored_line};
+use session_turns::{MOST_PIECE, feed, make_turns};
 use std::alloc::Global;
 use store_core::HasState;
 
-// How many bytes are read at once.
-const PIECE: usize = 16_384;
-
-// Has a session take all that the source has left; steps are made as its queue fills.
+// Has a session take all that the source has left; turns are made as its queue fills.
 fn fill<C: HasState, S: Source>(
     core: &mut C,
     session: &mut Session,
@@ -31,7 +31,11 @@ fn fill<C: HasState, S: Source>(
     ensures ongoing { session.new.ended ≡ false }
     ensures running { IsRunning (C.state core.new) }
 {
-    let mut piece = [0u8; PIECE];
+    steps_have_pieces();
+    children_come_first();
+    seals_were_absent();
+    bytes_are_counted();
+    let mut piece = [0u8; MOST_PIECE];
     loop {
         let Ok(count) = source.read(&mut piece) else {
             return Err(Ending::Source);
@@ -39,11 +43,11 @@ fn fill<C: HasState, S: Source>(
         if count == 0 {
             return Ok(());
         }
-        feed(core, session, &piece[..count], buf)?;
+        feed(core, first(), session, &piece[..count], buf)?;
     }
 }
 
-// The same, and makes all steps that are due then.
+// The same, and makes all turns that are due then.
 fn take_in<C: HasState, S: Source>(
     core: &mut C,
     session: &mut Session,
@@ -57,8 +61,12 @@ fn take_in<C: HasState, S: Source>(
     ensures done { OnOk result (due_in session.new ≡ Due.Nothing) }
     ensures running { IsRunning (C.state core.new) }
 {
+    steps_have_pieces();
+    children_come_first();
+    seals_were_absent();
     fill(core, session, source, buf)?;
-    end_file(core, session, buf)?;
+    session.finish()?;
+    make_turns(core, first(), session, buf)?;
     Ok(())
 }
 

@@ -6,6 +6,7 @@ use Rattle.backup_engine.specs.Feeding.{Fills}
 use Rattle.backup_engine.proofs.Filling.{fill_ended, fill_failed, fill_refused}
 use Rattle.backup_engine.proofs.Kept.{by_error}
 use Rattle.backup_engine.proofs.Taking.{all_taken, more_taken}
+use Rattle.backup_engine.proofs.Turned.{Laws, fed_more, not_fed}
 use Rattle.backup_engine.proofs.storing.fill.Goals as goal
 
 pub returns-in_default-clause-fills : goal.returns-in_default-clause-fills
@@ -30,14 +31,23 @@ loop-count-preserved g c =
     let view = g.S.Source.view in
     let loop = c.loop-count in
     let taken = loop.invariant.taken in
+    let laws : Laws = record {
+      turns = c.steps_have_pieces.ensures.turns;
+      opens = c.steps_have_pieces.ensures.opens;
+      waits = c.seals_were_absent.ensures.waits;
+      claims = c.children_come_first.ensures.claims;
+      seals = c.children_come_first.ensures.seals;
+    } in
     record {
       running = c.in_ok-feed.ensures.running;
-      ongoing = c.in_ok-feed.ensures.ongoing;
+      ongoing = c.in_ok-feed.ensures.ended ∙ loop.invariant.ongoing;
       faults = c.in-Ok.ensures.cause.done ∙ loop.invariant.faults;
       taken = (
         _,
         more_taken (view c.args.source.now).left (view loop.source).left (view c.read.new.self).left taken.0 c.read.new.into c.in-Ok.count taken.1 c.in-Ok.ensures.bytes,
-        λ start begun. c.in_ok-feed.ensures.feeds start taken.0 (taken.2 start begun),
+        λ start begun.
+            fed_more _ g.C.HasState.state laws c.first.result c.first.ensures taken.0 start (take c.in-Ok.count c.read.new.into) loop.session c.feed.new.session loop.core c.feed.new.core loop.invariant.ongoing (taken.2 start begun)
+            c.in_ok-feed.ensures.feeds,
       );
     }
 
@@ -48,13 +58,25 @@ returns-in_err-feed-clause-fills g c =
     let loop = c.loop-count in
     let taken = loop.invariant.taken in
     let s = c.args.session.now in
+    let t = loop.session in
     let u = c.feed.new.session in
     let old = c.args.core.now in
+    let mid = loop.core in
     let new = c.feed.new.core in
     let source = view c.args.source.now in
     let source_now = view c.read.new.self in
+    let piece = take c.in-Ok.count c.read.new.into in
     let e = c.in_err-feed.field-0.0 in
+    let laws : Laws = record {
+      turns = c.steps_have_pieces.ensures.turns;
+      opens = c.steps_have_pieces.ensures.opens;
+      waits = c.seals_were_absent.ensures.waits;
+      claims = c.children_come_first.ensures.claims;
+      seals = c.children_come_first.ensures.seals;
+    } in
     by_error (λ (r : Result (Unit {0}) Ending). Fills _ state r s u old new source source_now) c.from_residual.result (Refused e) c.from_residual.ensures.1
-    (fill_refused _ state s loop.session u old loop.core new source source_now taken.0 (take c.in-Ok.count c.read.new.into)
+    (fill_refused _ state s t u old mid new source source_now taken.0 piece
     (more_taken source.left (view loop.source).left source_now.left taken.0 c.read.new.into c.in-Ok.count taken.1 c.in-Ok.ensures.bytes)
-    taken.2 loop.invariant.ongoing e c.in_err-feed.ensures.feeds (c.in-Ok.ensures.cause.done ∙ loop.invariant.faults))
+    taken.2 loop.invariant.ongoing e
+    (λ start name file fed. not_fed _ state laws c.first.result c.first.ensures taken.0 start piece t u mid new loop.invariant.ongoing fed c.bytes_are_counted.ensures e c.in_err-feed.ensures.feeds name file)
+    (c.in-Ok.ensures.cause.done ∙ loop.invariant.faults))

@@ -1,5 +1,6 @@
 //! Tests of what no program reaches: readers and writers of the standard library, a disk that is lent, calls that no command
-//! makes yet, and texts whose numbers no disk here has. All else stands in the transcripts of `acceptance`.
+//! makes yet, replies to the lines of scripts, and texts whose numbers no disk here has. All else stands in the transcripts of
+//! `acceptance`.
 #![tactic(auto)]
 
 #[cfg(test)]
@@ -10,6 +11,8 @@ mod journal;
 mod lent;
 #[cfg(test)]
 mod replies;
+#[cfg(test)]
+mod scripts;
 #[cfg(test)]
 mod slots;
 #[cfg(test)]

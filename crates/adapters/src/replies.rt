@@ -11,17 +11,19 @@ fn an_ending_has_its_line_and_its_status(rt: HostRuntime) -> Result<(), Fail> {
         want: 2_622_976,
         got: 18_446_744_073_709_551_615,
     };
-    let rows: [(Refusal, &[u8], u8); 3] = [
-        (Refusal::Memory, b"fault 1 memory\n", 1),
-        (Refusal::Full { free: 1_234 }, b"fault 6 full 1234\n", 3),
+    let full = Refusal::Full { free: 1_234 };
+    let rows: [(Ending, &[u8], u8); 5] = [
+        (Ending::Refused(Refusal::Memory), b"fault 1 memory\n", 1),
+        (Ending::Refused(full), b"fault 6 full 1234\n", 3),
         (
-            wrong_size,
+            Ending::Refused(wrong_size),
             b"fault 21 wrongsize 2622976 18446744073709551615\n",
             3,
         ),
+        (Ending::Line { number: 3 }, b"fault line 3\n", 2),
+        (Ending::Script, b"fault script\n", 2),
     ];
-    for (refusal, line, status) in rows {
-        let ending = Ending::Refused(refusal);
+    for (ending, line, status) in rows {
         let mut notes = MemSink::new(alloc, Vec::new(alloc));
         assert!(rt; write_fault(&mut notes, &ending).is_ok());
         assert!(rt; notes.bytes() == line);

@@ -5,3 +5,5 @@ mod Lines
 mod Deciding
 mod Scripts
 mod Numbers
+mod Taking
+mod Telling

@@ -12,7 +12,7 @@ use Rattle.script_lines.proofs.Deciding.{none_append, right_has_none, rights_hav
 
 -- ---- two lists, one for one
 
-zip_push : {A B : Type 0} (R : A → B → Type 0) (xs : List A) (ys : List B) (x : A) (y : B) → AllZip R xs ys → R x y → AllZip R (xs ++ (x ∷ [])) (ys ++ (y ∷ []))
+pub zip_push : {A B : Type 0} (R : A → B → Type 0) (xs : List A) (ys : List B) (x : A) (y : B) → AllZip R xs ys → R x y → AllZip R (xs ++ (x ∷ [])) (ys ++ (y ∷ []))
 zip_push R [] [] x y each last = (last, tt)
 zip_push R [] (z ∷ ys) x y each last = absurd each
 zip_push R (w ∷ xs) [] x y each last = absurd each
@@ -38,7 +38,7 @@ joined : (front lines : List (List ℕ)) (rest : List ℕ) → flat_map ended fr
 joined front lines rest =
     sym (append_assoc (flat_map ended front) (flat_map ended lines) rest) ∙ ap (λ (b : List ℕ). b ++ rest) (sym (flat_map-append ended front lines))
 
-more_joined : (lines : List (List ℕ)) (line rest : List ℕ) → flat_map ended lines ++ (ended line ++ rest) ≡ flat_map ended (lines ++ (line ∷ [])) ++ rest
+pub more_joined : (lines : List (List ℕ)) (line rest : List ℕ) → flat_map ended lines ++ (ended line ++ rest) ≡ flat_map ended (lines ++ (line ∷ [])) ++ rest
 more_joined lines line rest =
     ap (λ (b : List ℕ). flat_map ended lines ++ (b ++ rest)) (sym (append-nil (ended line))) ∙ joined lines (line ∷ []) rest
 

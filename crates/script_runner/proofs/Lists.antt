@@ -1,0 +1,34 @@
+-- Lists with an item for each actor: one is set, and then looked up.
+use Rattle.std.proofs.Common.{◌≡◌, ◌≢◌, ◌<◌, ◌≤◌, inl, inr, ◌∙◌, ℕ, List, length, slice_index_or, slice_set, refl, sym}
+use Rattle.std.proofs.lemmas.Bool.{cases_lt}
+use Rattle.std.proofs.lemmas.List.{get_or-set_same, get_or-set_other, get_or_past, length-set, set-get_or}
+
+-- at most the item of one place is another
+pub record OneSet {T : Type 0} (place : ℕ) (none : T) (old new : List T) : Type 0 where
+  pub many : length new ≡ length old
+  pub others : (other : ℕ) → other ≢ place → slice_index_or new other none ≡ slice_index_or old other none
+
+pub none_set : {T : Type 0} (place : ℕ) (none : T) (xs : List T) → OneSet place none xs xs
+none_set place none xs = record { many = refl; others = λ other differs. refl }
+
+pub one_set : {T : Type 0} (place : ℕ) (none x : T) (xs : List T) → OneSet place none xs (slice_set xs place x)
+one_set place none x xs = record { many = length-set xs place x; others = λ other differs. get_or-set_other xs place other x none differs }
+
+-- what was set is found
+pub set_here : {T : Type 0} (place : ℕ) (none x : T) (xs : List T) → place < length xs → slice_index_or (slice_set xs place x) place none ≡ x
+set_here place none x xs below = get_or-set_same xs place x none below
+
+-- what is set to what it was is the same
+pub set_same : {T : Type 0} (place : ℕ) (none : T) (xs : List T) → slice_set xs place (slice_index_or xs place none) ≡ xs
+set_same place none xs = set-get_or xs place none
+
+-- past the end there is none
+pub none_past : {T : Type 0} (place : ℕ) (none : T) (xs : List T) → length xs ≤ place → slice_index_or xs place none ≡ none
+none_past place none xs past = get_or_past xs place none past
+
+-- where something is found there is a place
+pub some_within : {T : Type 0} (place : ℕ) (none x : T) (xs : List T) → slice_index_or xs place none ≡ x → none ≢ x → place < length xs
+some_within place none x xs is some = elim (cases_lt place (length xs)) [
+  | inl below ↦ below
+  | inr past ↦ absurd (some (sym (none_past place none xs past) ∙ is))
+]

@@ -1,0 +1,64 @@
+-- A session of which nothing is due is settled.
+use Rattle.std.proofs.Common.{◌≡◌, ◌∙◌, ℕ, Bool, true, false, if◌then◌else◌, List, [], ◌∷◌, Option, Some, None, refl, sym, ap, subst}
+use Rattle.std.specs.Prelude.{not, ◌&&◌}
+use Rattle.merkle_file.specs.Node as node
+use Rattle.container_meta.specs.declared.kind.Kind.{Kind}
+use Rattle.container_meta.specs.declared.kind.Kind.TheVariants.{Leaf, Tree}
+use Rattle.container_meta.specs.Segments.{KindSegment, has_key}
+use Rattle.actor_parts.specs.Segments.{child_kind}
+use Rattle.store_model.specs.Trees.{leaf_key, node_key}
+use Rattle.ingest_session.specs.declared.due.Due.{Due}
+use Rattle.ingest_session.specs.declared.due.Due.TheVariants.{Claim, Seal, Nothing}
+use Rattle.ingest_session.specs.Child.{has_child_of}
+use Rattle.ingest_session.specs.Due.{HasTurn, due_in, item_due, item_is_there, item_kind, open_of, queue_due, queue_is_there}
+use Rattle.ingest_session.specs.Sound.{IsSession}
+use Rattle.ingest_session.specs.State.{SessionState, is_last, rest_after}
+use Rattle.ingest_session.specs.Told.{IsSettled}
+
+no_wait : (waits : Bool) (kind : Kind) (due : Due) → (if waits then Seal kind else due) ≡ Nothing → due ≡ Nothing
+no_wait true kind due is = absurd cc
+no_wait false kind due is = is
+
+no_claim : (b : Bool) (kind : Kind) → (if b then Seal kind else Claim) ≡ Nothing → ⊥
+no_claim true kind is = cc
+no_claim false kind is = cc
+
+no_node : (child own : Bool) (kind : Kind) → (if child then Seal kind else if own then Seal Tree else Claim) ≡ Nothing → ⊥
+no_node true own kind is = cc
+no_node false own kind is = no_claim own Tree is
+
+no_queue : (s : SessionState) (queue : List (List ℕ)) → queue_due s queue ≡ Nothing → queue ≡ []
+no_queue s [] is = refl
+no_queue s (x ∷ xs) is = absurd (no_claim (has_key s.leaves (leaf_key x)) Leaf is)
+
+no_item : (s : SessionState) (n : Option node.Contents) → item_due s n ≡ Nothing → (n ≡ None) × (s.queue ≡ [])
+no_item s (Some n) is = absurd (no_node (has_child_of (open_of s (child_kind n.level)) n) (has_key s.nodes (node_key n)) (child_kind n.level) is)
+no_item s None is = (refl, no_queue s s.queue is)
+
+no_last : (ahead : Option KindSegment) (queue : List (List ℕ)) → queue ≡ [] → rest_after ahead queue ≡ []
+no_last None queue is = is
+no_last (Some seg) queue is = ap (rest_after (Some seg)) is
+
+and_not : (a b : Bool) → b ≡ false → (a && b) ≡ false
+and_not true b is = is
+and_not false b is = refl
+
+module _ (s : SessionState) (sound : IsSession s) (nothing : due_in s ≡ Nothing) where
+  none : (s.node ≡ None) × (s.queue ≡ [])
+  none = no_item s s.node (no_wait s.waits (item_kind s.node) (item_due s s.node) nothing)
+
+  no_turn : HasTurn s.node s.queue → ⊥
+  no_turn turn =
+      let first : HasTurn None s.queue = subst (λ (n : Option node.Contents). HasTurn n s.queue) none.0 turn in
+      subst (λ (queue : List (List ℕ)). HasTurn None queue) none.1 first
+
+  not_there : item_is_there s s.node ≡ false
+  not_there = ap (item_is_there s) none.0 ∙ ap (queue_is_there s) none.1
+
+  pub settled_idle : IsSettled s
+  settled_idle = record {
+    none = and_not (not s.waits) (item_is_there s s.node) not_there;
+    item = λ turn. absurd (no_turn turn);
+    claim = λ due. absurd (let both = sym due ∙ nothing in cc);
+    closed = λ first last. sound.closed (ap (is_last s.ended) (none.1 ∙ sym (no_last s.ahead s.queue none.1)) ∙ last);
+  }

@@ -1,0 +1,17 @@
+use Rattle.script_lines.specs.LineValue.{line_value}
+use Rattle.script_runner.specs.Runner.{answer_of, runner_of}
+use Rattle.script_runner.proofs.Replied.{plain_reply, printed}
+use Rattle.script_runner.proofs.acting.reply_plain.Goals as goal
+
+pub returns-clause-made : goal.returns-clause-made
+returns-clause-made g c = λ moments.
+    let reply = answer_of c.act-answer.result in
+    let acts = c.act-answer.ensures.acts moments in (
+      reply,
+      (
+        acts,
+        printed (λ text. text.items) c.print.result reply
+            (plain_reply _ g.C.HasState.state (line_value c.args.line.now) reply (runner_of c.args.core.now c.args.sessions.now moments) (runner_of c.act-answer.new.core c.act-answer.new.sessions moments) c.requires.plain acts)
+            c.print.ensures,
+      ),
+    )

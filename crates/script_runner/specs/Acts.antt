@@ -1,0 +1,267 @@
+-- What each line does to the core and to the sessions of a runner: which steps were made, and what was answered.
+use Rattle.std.specs.Prelude.{◌≡◌, ◌⊎◌, ℕ, ◌+◌, ◌-◌, ◌^◌, true, false, min, if◌then◌else◌, ◌==◌, List, [], ◌∷◌, ◌++◌, replicate, take, Option, Some, None, Result, Ok, Err}
+use Rattle.disk_format.specs.Cells.{Root}
+use Rattle.dd_disk.specs.Ending.{Done, Reads, ending_of}
+use Rattle.dd_disk.specs.Shows.{Shows}
+use Rattle.dd_disk.specs.View.{IsDurable}
+use Rattle.actor_parts.specs.declared.actor.TheConstants.{ACTORS}
+use Rattle.actor_parts.specs.declared.step.Answer.{Answer}
+use Rattle.actor_parts.specs.declared.step.Answer.TheVariants as answers
+use Rattle.actor_parts.specs.StepValue as asked
+use Rattle.actor_parts.specs.StepValue.{StepValue}
+use Rattle.refusals.specs.declared.refusal.Refusal.{Refusal}
+use Rattle.refusals.specs.declared.refusal.Refusal.TheVariants.{Memory, Stopped, WrongPart}
+use Rattle.script_lines.specs.declared.reply.Holdings.{Holdings}
+use Rattle.script_lines.specs.declared.reply.Turned.{Turned}
+use Rattle.script_lines.specs.declared.reply.Turned.TheVariants as turns
+use Rattle.script_lines.specs.Grammar.{LineValue, pushed_bytes}
+use Rattle.script_lines.specs.Grammar as lines
+use Rattle.script_lines.specs.ReplyText.{reply_line}
+use Rattle.script_lines.specs.ReplyValue.{ReplyValue}
+use Rattle.script_lines.specs.ReplyValue as replies
+use Rattle.ingest_session.specs.declared.due.Due.TheVariants.{Nothing}
+use Rattle.ingest_session.specs.Calls.{IsEnding, ready_in}
+use Rattle.ingest_session.specs.Due.{due_in}
+use Rattle.ingest_session.specs.History.{History, HasHistory, IsBegun, no_history}
+use Rattle.ingest_session.specs.State.{SessionState}
+use Rattle.store_state.specs.Refused.{blames}
+use Rattle.recovery.specs.Opening.{IsOpenRefusal}
+use Rattle.store_core.specs.declared.stop.Stop.{Stop}
+use Rattle.store_core.specs.Core.{CoreStep}
+use Rattle.store_core.specs.Opening.{IsNew, IsGivenUp, IsKept}
+use Rattle.store_core.specs.State.{CoreState}
+use Rattle.plain_machine.specs.Refused.{actor_of, takes}
+use Rattle.script_runner.specs.Sessions.{Sessions, kind_in, session_of, with_session}
+use Rattle.session_turns.specs.Turns.{Feeds, TakesTurn, TurnRun, TurnsStopped}
+
+-- ---- which lines are taken
+
+-- the store runs, and the actor of the line, if it has one, is at what the line takes
+pub record Admits (line : LineValue) (sessions : Sessions) (old : CoreState) : Type 0 where
+  pub runs : old.stop ≡ None
+  pub taken : (actor : ℕ) → actor_of line ≡ Some actor → takes line (kind_in sessions old.parts actor) ≡ true
+
+-- or not: the store is stopped; or else the actor is at something that the line doesn't take
+abbrev pub BarsBy : Option Stop → LineValue → Sessions → CoreState → Refusal → Type 0
+BarsBy (Some stop) line sessions old refusal = refusal ≡ Stopped stop.at
+BarsBy None line sessions old refusal =
+    (actor : ℕ) × (actor_of line ≡ Some actor) × (takes line (kind_in sessions old.parts actor) ≡ false)
+    × (refusal ≡ WrongPart (kind_in sessions old.parts actor))
+
+abbrev pub Bars : LineValue → Sessions → CoreState → Refusal → Type 0
+Bars line sessions old refusal = BarsBy old.stop line sessions old refusal
+
+-- ---- steps
+
+-- a step of an actor, and what the buffer then held
+abbrev pub StepOf : ℕ → StepValue → Result Answer Refusal → List ℕ → CoreState → CoreState → Type 0
+StepOf actor step answer buf old new = CoreStep old (record { actor = actor; step = step; answer = answer; buf = buf }) new
+
+-- A step that was done, with its answer; or refused.
+abbrev pub DoesStep : ℕ → StepValue → Answer → CoreState → CoreState → Type 0
+DoesStep actor step answer old new = (buf : List ℕ) × StepOf actor step (Ok answer) buf old new
+
+abbrev pub RefusesStep : ℕ → StepValue → Refusal → CoreState → CoreState → Type 0
+RefusesStep actor step refusal old new = (buf : List ℕ) × StepOf actor step (Err refusal) buf old new
+
+-- the text of a reply with a number, of which P holds
+abbrev pub IsText : (ℕ → ReplyValue) → (ℕ → Type 0) → List ℕ → Type 0
+IsText reply P text = (n : ℕ) × ((text ≡ reply_line (reply n)) × P n)
+
+-- ---- a file that is given
+
+-- a session was begun
+abbrev pub Begins : (C : Type 0) → (C → CoreState) → ℕ → Result Unit Refusal → Sessions → Sessions → C → C → Type 0
+Begins C state actor (Ok u) sessions sessions_now old new =
+    (answer : Answer) × (s : SessionState) × DoesStep actor asked.Begin answer (state old) (state new) × IsBegun s
+    × HasHistory s no_history × (sessions_now ≡ with_session sessions actor (Some s))
+Begins C state actor (Err refusal) sessions sessions_now old new =
+    (((refusal ≡ Memory) × (new ≡ old)) ⊎ RefusesStep actor asked.Begin refusal (state old) (state new)) × (sessions_now ≡ sessions)
+
+-- the session of the actor was this one, and is that one
+abbrev pub Replaces : ℕ → SessionState → SessionState → Sessions → Sessions → Type 0
+Replaces actor s t sessions sessions_now = (session_of sessions actor ≡ Some s) × (sessions_now ≡ with_session sessions actor (Some t))
+
+-- bytes were given; the count is that of all that were given
+abbrev pub Pushes : (C : Type 0) → (C → CoreState) → ℕ → List ℕ → Result ℕ Refusal → Sessions → Sessions → C → C → Type 0
+Pushes C state actor bytes (Ok count) sessions sessions_now old new =
+    (s : SessionState) × (t : SessionState) × Replaces actor s t sessions sessions_now × Feeds C state actor (Ok tt) bytes s t old new × (count ≡ t.count)
+Pushes C state actor bytes (Err refusal) sessions sessions_now old new =
+    (s : SessionState) × (t : SessionState) × Replaces actor s t sessions sessions_now × Feeds C state actor (Err refusal) bytes s t old new
+
+-- all was given
+abbrev pub Finishes : (C : Type 0) → ℕ → Result ℕ Refusal → Sessions → Sessions → C → C → Type 0
+Finishes C actor (Ok count) sessions sessions_now old new =
+    (s : SessionState) × (t : SessionState) × Replaces actor s t sessions sessions_now × IsEnding s t
+    × ((h : History) → HasHistory s h → HasHistory t h) × (count ≡ t.count) × (new ≡ old)
+Finishes C actor (Err refusal) sessions sessions_now old new = (refusal ≡ Memory) × (sessions_now ≡ sessions) × (new ≡ old)
+
+-- what an answer to a turn is in a reply
+abbrev pub turned : Option Answer → Option Turned
+turned None = Some turns.Idle
+turned (Some answers.Held) = Some turns.Held
+turned (Some answers.Absent) = Some turns.Absent
+turned (Some (answers.Sealed id)) = Some (turns.Sealed id)
+turned (Some answer) = None
+
+abbrev pub Turns : (C : Type 0) → (C → CoreState) → ℕ → Result Turned Refusal → Sessions → Sessions → C → C → Type 0
+Turns C state actor (Ok told) sessions sessions_now old new =
+    (s : SessionState) × (t : SessionState) × Replaces actor s t sessions sessions_now
+    × ((answer : Option Answer) × (turned answer ≡ Some told) × TakesTurn C state actor (Ok answer) s t old new)
+Turns C state actor (Err refusal) sessions sessions_now old new =
+    (s : SessionState) × (t : SessionState) × Replaces actor s t sessions sessions_now × TakesTurn C state actor (Err refusal) s t old new
+
+-- the moment of a core's disk, as it is told
+abbrev pub moment_of : CoreState → ℕ
+moment_of c = min c.disk.clock (2 ^ 64 - 1)
+
+-- nothing is due, and this is the root
+pub record IsReady (root : Root) (s : SessionState) : Type 0 where
+  pub done : due_in s ≡ Nothing
+  pub ended : s.ended ≡ true
+  pub ready : ready_in s ≡ Some root
+
+-- All turns that are due were made, and then the name was given the root; the moment is noted.
+pub record Puts (C : Type 0) (state : C → CoreState) (actor : ℕ) (name : List ℕ) (sequence : ℕ) (session : SessionState)
+    (moments moments_now : List ℕ) (old new : C) : Type 0 where
+  pub answers_are : List Answer
+  pub ready : SessionState
+  pub mid : C
+  pub turns : TurnRun C state actor answers_are session ready old mid
+  pub root : Root
+  pub is_ready : IsReady root ready
+  pub answer : Answer
+  pub put : DoesStep actor (asked.Commit name root) answer (state mid) (state new)
+  pub sequence_is : sequence ≡ min ((state mid).tables.journal.last + 1) (2 ^ 64 - 1)
+  pub moments_are : moments_now ≡ moments ++ moment_of (state new) ∷ []
+
+-- A turn was refused; or, once all were made, there was no memory, or the name was refused.
+abbrev pub RefusesPut : (C : Type 0) → (C → CoreState) → ℕ → List ℕ → Refusal → SessionState → SessionState → C → C → Type 0
+RefusesPut C state actor name refusal session last old new =
+    TurnsStopped C state actor refusal session last old new
+    ⊎ ((answers_are : List Answer) × (mid : C) × TurnRun C state actor answers_are session last old mid
+    × ((root : Root) × IsReady root last
+    × (((refusal ≡ Memory) × (new ≡ mid)) ⊎ RefusesStep actor (asked.Commit name root) refusal (state mid) (state new))))
+
+abbrev pub Commits : (C : Type 0) → (C → CoreState) → ℕ → List ℕ → ℕ → Sessions → Sessions → List ℕ → List ℕ → C → C → Type 0
+Commits C state actor name sequence sessions sessions_now moments moments_now old new =
+    (session : SessionState) × (session_of sessions actor ≡ Some session) × Puts C state actor name sequence session moments moments_now old new
+    × (sessions_now ≡ with_session sessions actor None)
+
+abbrev pub RefusesCommit : (C : Type 0) → (C → CoreState) → ℕ → List ℕ → Refusal → Sessions → Sessions → C → C → Type 0
+RefusesCommit C state actor name refusal sessions sessions_now old new =
+    (session : SessionState) × (last : SessionState) × Replaces actor session last sessions sessions_now
+    × RefusesPut C state actor name refusal session last old new
+
+-- it was given up
+abbrev pub Aborts : (C : Type 0) → (C → CoreState) → ℕ → Result Unit Refusal → Sessions → Sessions → C → C → Type 0
+Aborts C state actor (Ok u) sessions sessions_now old new =
+    ((answer : Answer) × DoesStep actor asked.Abort answer (state old) (state new)) × (sessions_now ≡ with_session sessions actor None)
+Aborts C state actor (Err refusal) sessions sessions_now old new =
+    RefusesStep actor asked.Abort refusal (state old) (state new) × (sessions_now ≡ sessions)
+
+-- ---- a file that is taken, and counts
+
+abbrev pub Opens : (C : Type 0) → (C → CoreState) → ℕ → List ℕ → Result ℕ Refusal → C → C → Type 0
+Opens C state actor name (Ok count) old new = DoesStep actor (asked.OpenRead name) (answers.Opened count) (state old) (state new)
+Opens C state actor name (Err refusal) old new = RefusesStep actor (asked.OpenRead name) refusal (state old) (state new)
+
+-- the next bytes of the file, if there are any
+abbrev pub GivesNext : (C : Type 0) → (C → CoreState) → ℕ → Result (Option ℕ) Refusal → List ℕ → C → C → Type 0
+GivesNext C state actor (Ok (Some count)) buf old new = StepOf actor asked.ReadNext (Ok (answers.Bytes count)) buf (state old) (state new)
+GivesNext C state actor (Ok None) buf old new = StepOf actor asked.ReadNext (Ok answers.End) buf (state old) (state new)
+GivesNext C state actor (Err refusal) buf old new = StepOf actor asked.ReadNext (Err refusal) buf (state old) (state new)
+
+abbrev pub Drops : (C : Type 0) → (C → CoreState) → ℕ → Result Unit Refusal → C → C → Type 0
+Drops C state actor (Ok u) old new = (answer : Answer) × DoesStep actor asked.EndRead answer (state old) (state new)
+Drops C state actor (Err refusal) old new = RefusesStep actor asked.EndRead refusal (state old) (state new)
+
+abbrev pub counted : Holdings → Answer
+counted h = answers.Stat h.files h.segments h.bytes h.used h.free
+
+-- The first actor counts; any would do.
+abbrev pub Counts : (C : Type 0) → (C → CoreState) → Holdings → C → C → Type 0
+Counts C state holdings old new = DoesStep 0 asked.Stat (counted holdings) (state old) (state new)
+
+-- ---- an opening
+
+-- the moments, and one more where the number is another: so a commit that was left open is found
+abbrev pub noted_if : ℕ → ℕ → ℕ → List ℕ → List ℕ
+noted_if was now moment moments = if was == now then moments else moments ++ moment ∷ []
+
+-- The core was opened again; no actor gives a file any more.
+pub record Reopens (C : Type 0) (state : C → CoreState) (files : ℕ) (sessions_now : Sessions) (moments moments_now : List ℕ) (old new : C)
+    : Type 0 where
+  pub mid : C
+  pub opened : IsNew (Shows (state old).disk (state mid).disk) (state old).disk.size (state mid)
+  pub durable : IsDurable (state mid).disk
+  pub reads : Reads Done (state old).disk (state mid).disk
+  pub holdings : Holdings
+  pub counts : Counts C state holdings mid new
+  pub files_are : files ≡ holdings.files
+  pub sessions_are : sessions_now ≡ replicate ACTORS None
+  pub moments_are : moments_now ≡ noted_if (state old).tables.journal.last (state new).tables.journal.last (moment_of (state new)) moments
+
+-- Or it was not, for want of memory, or as the opening was refused.
+pub record RefusesReopen (C : Type 0) (state : C → CoreState) (refusal : Refusal) (old new : C) : Type 0 where
+  pub why : ((refusal ≡ Memory) × (new ≡ old))
+      ⊎ (IsOpenRefusal (Shows (state old).disk (state new).disk) (state old).disk.size refusal
+      × Shows (state old).disk (state new).disk (IsGivenUp refusal)
+      × Reads (ending_of (blames refusal)) (state old).disk (state new).disk × IsKept (state old) (state new))
+
+-- ---- all lines
+
+pub record RunnerState (C : Type 0) : Type 0 where
+  pub core : C
+  pub sessions : Sessions
+  pub moments : List ℕ
+
+-- only what is said of core and sessions changed
+abbrev pub Both : (C : Type 0) → (Sessions → Sessions → C → C → Type 0) → RunnerState C → RunnerState C → Type 0
+Both C P r s = P r.sessions s.sessions r.core s.core × (s.moments ≡ r.moments)
+
+-- only the core changed
+abbrev pub Core : (C : Type 0) → (C → C → Type 0) → RunnerState C → RunnerState C → Type 0
+Core C P r s = P r.core s.core × (s.sessions ≡ r.sessions) × (s.moments ≡ r.moments)
+
+-- A line that was taken, and what was replied.
+abbrev pub Acts : (C : Type 0) → (C → CoreState) → LineValue → ReplyValue → RunnerState C → RunnerState C → Type 0
+Acts C state (lines.Begin a) (replies.Begun b) r s = (b ≡ a) × Both C (Begins C state a (Ok tt)) r s
+Acts C state (lines.Begin a) (replies.Refused refusal) r s = Both C (Begins C state a (Err refusal)) r s
+Acts C state (lines.Push a digits) (replies.Pushed b count) r s = (b ≡ a) × Both C (Pushes C state a (pushed_bytes digits) (Ok count)) r s
+Acts C state (lines.Push a digits) (replies.Refused refusal) r s = Both C (Pushes C state a (pushed_bytes digits) (Err refusal)) r s
+Acts C state (lines.Finish a) (replies.Finished b count) r s = (b ≡ a) × Both C (Finishes C a (Ok count)) r s
+Acts C state (lines.Finish a) (replies.Refused refusal) r s = Both C (Finishes C a (Err refusal)) r s
+Acts C state (lines.Turn a) (replies.Turn b told) r s = (b ≡ a) × Both C (Turns C state a (Ok told)) r s
+Acts C state (lines.Turn a) (replies.Refused refusal) r s = Both C (Turns C state a (Err refusal)) r s
+Acts C state (lines.Commit a name) (replies.Committed b sequence) r s =
+    (b ≡ a) × Commits C state a name sequence r.sessions s.sessions r.moments s.moments r.core s.core
+Acts C state (lines.Commit a name) (replies.Refused refusal) r s = Both C (RefusesCommit C state a name refusal) r s
+Acts C state (lines.Abort a) (replies.Aborted b) r s = (b ≡ a) × Both C (Aborts C state a (Ok tt)) r s
+Acts C state (lines.Abort a) (replies.Refused refusal) r s = Both C (Aborts C state a (Err refusal)) r s
+Acts C state (lines.Read a name) (replies.Reading b count) r s = (b ≡ a) × Core C (Opens C state a name (Ok count)) r s
+Acts C state (lines.Read a name) (replies.Refused refusal) r s = Core C (Opens C state a name (Err refusal)) r s
+Acts C state (lines.Next a) (replies.Bytes b bytes) r s =
+    (b ≡ a) × ((count : ℕ) × ((buf : List ℕ) × ((bytes ≡ take count buf) × Core C (GivesNext C state a (Ok (Some count)) buf) r s)))
+Acts C state (lines.Next a) (replies.End b) r s = (b ≡ a) × ((buf : List ℕ) × Core C (GivesNext C state a (Ok None) buf) r s)
+Acts C state (lines.Next a) (replies.Refused refusal) r s = (buf : List ℕ) × Core C (GivesNext C state a (Err refusal) buf) r s
+Acts C state (lines.Drop a) (replies.Dropped b) r s = (b ≡ a) × Core C (Drops C state a (Ok tt)) r s
+Acts C state (lines.Drop a) (replies.Refused refusal) r s = Core C (Drops C state a (Err refusal)) r s
+Acts C state lines.Stat (replies.Stat holdings) r s = Core C (Counts C state holdings) r s
+Acts C state line reply r s = ⊥
+
+abbrev pub ActsReopen : (C : Type 0) → (C → CoreState) → ReplyValue → RunnerState C → RunnerState C → Type 0
+ActsReopen C state (replies.Opened files) r s = Reopens C state files s.sessions r.moments s.moments r.core s.core
+ActsReopen C state (replies.Refused refusal) r s = Core C (RefusesReopen C state refusal) r s
+ActsReopen C state reply r s = ⊥
+
+-- it was taken, or not
+abbrev pub ActsOrNot : (C : Type 0) → (C → CoreState) → LineValue → ReplyValue → RunnerState C → RunnerState C → Type 0
+ActsOrNot C state line reply r s =
+    (Admits line r.sessions (state r.core) × Acts C state line reply r s)
+    ⊎ ((refusal : Refusal) × (reply ≡ replies.Refused refusal) × Bars line r.sessions (state r.core) refusal × (s ≡ r))
+
+-- A line was run, and replied to.
+abbrev pub RunsLine : (C : Type 0) → (C → CoreState) → LineValue → ReplyValue → RunnerState C → RunnerState C → Type 0
+RunsLine C state lines.Reopen reply r s = ActsReopen C state reply r s
+RunsLine C state line reply r s = ActsOrNot C state line reply r s

@@ -1,0 +1,135 @@
+-- When a runner follows the plain machine, and what its lines do then (docs/MODEL.md, 'Scripts').
+use Rattle.std.specs.Prelude.{◌≡◌, ◌⊎◌, ◌<◌, ℕ, suc, Bool, true, false, List, [], ◌∷◌, ◌++◌, length, Option, Some, None}
+use Rattle.std.specs.FinMap as finite
+use Rattle.dd_disk.specs.View.{CrashLeaves}
+use Rattle.container_meta.specs.declared.kind.Kind.{Kind}
+use Rattle.container_meta.specs.Segments.{Segment, segment_key}
+use Rattle.merkle_file.specs.declared.top.Top.{Top}
+use Rattle.actor_parts.specs.declared.actor.TheConstants.{ACTORS}
+use Rattle.actor_parts.specs.declared.part.Part.TheVariants as core_parts
+use Rattle.actor_parts.specs.declared.part.Part as core_part
+use Rattle.actor_parts.specs.declared.step.Answer.{Answer}
+use Rattle.actor_parts.specs.PinMap.{PinMap}
+use Rattle.actor_parts.specs.Parts as core_parts_of
+use Rattle.actor_parts.specs.Segments.{pin_by}
+use Rattle.ingest_session.specs.Facts.{IsKept}
+use Rattle.ingest_session.specs.History.{History, HasHistory}
+use Rattle.ingest_session.specs.State.{SessionState}
+use Rattle.read_steps.specs.Walking.{SegmentsAhead}
+use Rattle.script_lines.specs.Grammar.{LineValue}
+use Rattle.script_lines.specs.ReplyValue.{ReplyValue}
+use Rattle.store_model.specs.Collisions.{HasNoCollisions, ByteSet, IsIn}
+use Rattle.store_model.specs.Files.{Stored}
+use Rattle.store_model.specs.Image.{Store}
+use Rattle.store_model.specs.Standing.{IsSegmentOf}
+use Rattle.store_state.specs.Tables.{Represents}
+use Rattle.store_core.specs.declared.stop.Stop.{Stop}
+use Rattle.store_core.specs.Keeping.{IsHeldIn}
+use Rattle.store_core.specs.Opening.{BeginsAt}
+use Rattle.store_core.specs.Runs.{IsOf}
+use Rattle.store_core.specs.State.{CoreState, IsUp}
+use Rattle.plain_machine.specs.Machine.{Machine, Part, Idle, Writing, Finished, Reading, RunState, Running, Stopped, MayBeFound, part_in}
+use Rattle.plain_machine.specs.Refused.{actor_of}
+use Rattle.plain_machine.specs.Runs.{Step}
+use Rattle.plain_machine.specs.Turns.{Writer, IsWriter, MayBe}
+use Rattle.script_runner.specs.Acts.{RunnerState, RunsLine, moment_of}
+use Rattle.script_runner.specs.Sessions.{Sessions, session_of}
+
+-- ---- actors
+
+-- the pin of a key is that of one of the segments which a history has as kept
+abbrev pub HasPinOf : History → PinMap → List ℕ → Type 0
+HasPinOf history pins key =
+    (kind : Kind) × (x : Segment) × IsKept history kind x × (segment_key kind x ≡ key) × (finite.get pins key ≡ Some (pin_by kind x))
+
+-- A file is given: the session has a history of what was given and answered; what that has as kept is held, and pinned.
+pub record Gives (given : List ℕ) (ended : Bool) (answers_are : List Answer) (s : SessionState) (pins : PinMap) (c : CoreState) : Type 0 where
+  pub history : History
+  pub has : HasHistory s history
+  pub given_is : history.given ≡ given
+  pub answered : history.answers ≡ answers_are
+  pub ended_is : s.ended ≡ ended
+  pub kept : (kind : Kind) (x : Segment) → IsKept history kind x → IsHeldIn (record { kind = kind; segment = x }) c
+  pub pinned : (kind : Kind) (x : Segment) → IsKept history kind x → HasPinOf history pins (segment_key kind x)
+
+-- A file is taken: these are the segments of what is to come, by the copies that the store has.
+pub record Takes (rest : List (List ℕ)) (ahead : List Top) (c : CoreState) : Type 0 where
+  pub segments : (store : Store) (image : List ℕ) → Represents store c.known c.tables → c.disk.content ≡ Some image
+      → SegmentsAhead store.held image ahead rest
+
+abbrev pub FollowsPart : Part → Option SessionState → core_part.Part → CoreState → Type 0
+FollowsPart Idle None core_parts.Idle c = Unit {0}
+FollowsPart (Writing given answers_are) (Some s) (core_parts.Writing pins) c = Gives given false answers_are s pins c
+FollowsPart (Finished file answers_are) (Some s) (core_parts.Writing pins) c = Gives file true answers_are s pins c
+FollowsPart (Reading rest) None (core_parts.Reading reader) c = Takes rest reader.cursor c
+FollowsPart part session core c = ⊥
+
+-- ---- the whole
+
+-- It runs: the core is at a store of the machine's files, and each actor is at what the machine says.
+pub record FollowsRunning (S : List ℕ → Type 0) (m : Machine) (sessions : Sessions) (c : CoreState) : Type 0 where
+  pub runs : c.stop ≡ None
+  pub up : IsUp c
+  pub begins : BeginsAt S m.stored c
+  pub parts : (actor : ℕ) → actor < ACTORS
+      → FollowsPart (part_in m actor) (session_of sessions actor) (core_parts_of.part_of c.parts actor) c
+
+-- an image is of files that may be found
+abbrev pub IsOfFound : (List ℕ → Type 0) → RunState → Stored → List ℕ → Type 0
+IsOfFound S state stored image = (found : Stored) × (MayBeFound state stored found × IsOf S found image)
+
+-- It is stopped: what reads give, and each image, is of files that may be found.
+pub record FollowsStopped (S : List ℕ → Type 0) (m : Machine) (c : CoreState) : Type 0 where
+  pub stop : Stop
+  pub stop_is : c.stop ≡ Some stop
+  pub at_is : stop.at ≡ m.acknowledged
+  pub last_is : c.tables.journal.last ≡ m.stored.last
+  pub content : IsOfFound S m.state m.stored m.content
+  pub images : (image : List ℕ) → c.disk.images image → IsOfFound S m.state m.stored image
+  -- the files that a commit may have left have the next number
+  pub number : (other : Stored) → m.state ≡ Stopped (Some other) → other.last ≡ suc m.stored.last
+
+abbrev pub FollowsBy : RunState → (List ℕ → Type 0) → Machine → Sessions → CoreState → Type 0
+FollowsBy Running S m sessions c = FollowsRunning S m sessions c
+FollowsBy (Stopped other) S m sessions c = FollowsStopped S m c
+
+pub record Follows (S : List ℕ → Type 0) (m : Machine) (sessions : Sessions) (c : CoreState) : Type 0 where
+  pub content_is : c.disk.content ≡ Some m.content
+  pub faults_are : c.disk.faults ≡ m.faults
+  pub counted : c.acknowledged ≡ m.acknowledged
+  pub sessions_are : length sessions ≡ ACTORS
+  pub parts_are : length m.parts ≡ ACTORS
+  pub stands : FollowsBy m.state S m sessions c
+
+-- ---- one line
+
+-- some bytes are cut by now from what actors give: they are a segment of each file that goes on so
+abbrev pub IsCut : Machine → List ℕ → Type 0
+IsCut m bytes = (actor : ℕ) × ((w : Writer) × (IsWriter (part_in m actor) w × ((file : List ℕ) → MayBe w file → IsSegmentOf file bytes)))
+
+-- a command that took effect raises the number by one and adds the moment; else both stay
+abbrev pub Notes : CoreState → Machine → Machine → List ℕ → List ℕ → Type 0
+Notes c m n moments moments_now =
+    ((n.stored.last ≡ m.stored.last) × (moments_now ≡ moments))
+    ⊎ ((n.stored.last ≡ suc m.stored.last) × (moments_now ≡ moments ++ moment_of c ∷ []))
+
+-- A line did what the machine does; and a crash at any moment of it leaves files of before or after it.
+pub record FollowsLine (C : Type 0) (state : C → CoreState) (S : List ℕ → Type 0) (line : LineValue) (reply : ReplyValue) (m : Machine)
+    (r s : RunnerState C) : Type 0 where
+  pub next : Machine
+  pub step : Step line reply m next
+  pub follows : Follows S next s.sessions (state s.core)
+  pub leaves : CrashLeaves (λ image. IsOfFound S m.state m.stored image ⊎ IsOfFound S next.state next.stored image)
+      (state r.core).disk (state s.core).disk
+  pub noted : Notes (state s.core) m next r.moments s.moments
+
+-- the actor of a line is one that there is
+abbrev pub IsOfActor : LineValue → Type 0
+IsOfActor line = (actor : ℕ) → actor_of line ≡ Some actor → actor < ACTORS
+
+-- A runner that follows the machine goes on to, line by line, where what is cut has no collisions.
+abbrev pub LinesFollow : (C : Type 0) → (C → CoreState) → Type 0
+LinesFollow C state = (among : ByteSet) (line : LineValue) (reply : ReplyValue) (m : Machine) (r s : RunnerState C)
+    → HasNoCollisions (IsIn among) → IsOfActor line → ((bytes : List ℕ) → IsCut m bytes → IsIn among bytes)
+    → Follows (IsIn among) m r.sessions (state r.core) → RunsLine C state line reply r s
+    → FollowsLine C state (IsIn among) line reply m r s

@@ -74,10 +74,12 @@ impl ScriptReader {
         &self.line[..self.length]
     }
 
-    /// Takes the next line from the source. Where the source fails, what was taken of the line is lost with the next call.
+    /// Takes the next line from the source. Where the source fails, all that it gave was taken, and what was taken of the line is lost
+    /// with the next call.
     pub fn next<S: Source>(&mut self, source: &mut S) -> Result<NextLine, SourceFault>
         ensures next { IfOk result (λ next. IsNext next self.old self.new (S.view source.old).left (S.view source.new).left) }
         ensures err { OnErr result (TakesOff self.new.line self.old self.new (S.view source.old).left (S.view source.new).left) }
+        ensures drained { OnErr result (self.new.ready ≡ []) }
         ensures part { IsPart self.new.line }
         ensures cause { HasCause (S.view source.old).faults (S.view source.new).faults result }
     {
@@ -99,6 +101,7 @@ impl ScriptReader {
             → IsInLine first self.new begun (S.view source.new).left) }
         ensures taken { IfOk result (λ told. IfNone told (self.new.taken ≡ self.old.taken + 1)) }
         ensures within { self.new.taken ≤ MOST_SCRIPT }
+        ensures drained { OnErr result (self.new.ready ≡ []) }
         ensures cause { HasCause (S.view source.old).faults (S.view source.new).faults result }
     {
         self.fill(source)?;
@@ -124,6 +127,7 @@ impl ScriptReader {
         ensures takes { TakesOff [] self.old self.new (S.view source.old).left (S.view source.new).left }
         ensures line { self.new.line ≡ self.old.line }
         ensures out { OnOk result (self.new.ready ≡ [] → IsOut self.new (S.view source.old).left (S.view source.new).left) }
+        ensures drained { OnErr result (self.new.ready ≡ []) }
         ensures cause { HasCause (S.view source.old).faults (S.view source.new).faults result }
     {
         if self.at == self.end {

@@ -10,7 +10,7 @@ use Rattle.script_runner.specs.Follows.{Follows, FollowsBy}
 use Rattle.script_runner.specs.Sessions.{Sessions}
 
 -- a store of these files stands for them
-pub stands_of : (S : List ℕ → Type 0) (stored : Stored) (image : List ℕ) → IsOf S stored image → StandsFor stored.files stored.last image
+stands_of : (S : List ℕ → Type 0) (stored : Stored) (image : List ℕ) → IsOf S stored image → StandsFor stored.files stored.last image
 stands_of S stored image of = record { store = of.0; holds = of.1.0.holds; last_is = sym of.1.1 }
 
 sound_by : (S : List ℕ → Type 0) (m : Machine) (sessions : Sessions) (c : CoreState) (run : RunState) → m.state ≡ run → c.disk.content ≡ Some m.content → FollowsBy run S m sessions c → IsSound m

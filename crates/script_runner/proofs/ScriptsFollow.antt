@@ -5,14 +5,15 @@ use Rattle.std.proofs.lemmas.List.{append_assoc, append-nil}
 use Rattle.dd_disk.specs.View.{DiskView}
 use Rattle.store_model.specs.Collisions.{HasNoCollisions, ByteSet, IsIn}
 use Rattle.store_model.specs.Files.{Stored}
+use Rattle.store_core.specs.Runs.{IsOf}
 use Rattle.store_core.specs.State.{CoreState}
 use Rattle.plain_machine.specs.Machine.{Machine, MayBeFound}
 use Rattle.plain_machine.specs.Runs.{MachineRun, IsPassedFrom, Replied, ends}
-use Rattle.plain_machine.specs.Through.{StandsForSome}
+use Rattle.plain_machine.specs.Through.{IsOfSome, Rise, told_clock}
 use Rattle.script_runner.specs.Acts.{RunnerState, moment_of}
 use Rattle.script_runner.specs.Follows.{Follows, FollowsLine, IsOfFound, Notes}
 use Rattle.script_runner.specs.Scripts.{AreOfActors, FollowsScript, IsCutBy, RunsLines, ScriptsFollow}
-use Rattle.script_runner.proofs.Images.{stands_of}
+use Rattle.script_runner.proofs.FaultsCounted.{line_went}
 use Rattle.script_runner.proofs.LinesFollow.{lines_follow}
 use Rattle.script_runner.proofs.Onward.{images}
 
@@ -28,23 +29,18 @@ passed_from first then (one ∷ more) m n run found below (inl here) = inl (omeg
 passed_from first then (one ∷ more) m n run found below (inr after) = inr (passed_from first then more run.1.0 n run.1.1.1 found below after)
 
 -- an image of files that are passed
-abbrev Passed : ℕ → (rs : List Replied) (m n : Machine) → MachineRun rs m n → List ℕ → Type 0
-Passed first rs m n run image = StandsForSome (IsPassedFrom first rs m n run) image
+abbrev Passed : (List ℕ → Type 0) → ℕ → (rs : List Replied) (m n : Machine) → MachineRun rs m n → List ℕ → Type 0
+Passed S first rs m n run image = IsOfSome (IsOf S) (IsPassedFrom first rs m n run) image
 
-may_stand : (S : List ℕ → Type 0) (m : Machine) (image : List ℕ) → IsOfFound S m.state m.stored image → StandsForSome (MayBeFound m.state m.stored) image
-may_stand S m image of = (of.0, (of.1.0, stands_of S of.0 image of.1.1))
+found_passed : (S : List ℕ → Type 0) (rs : List Replied) (m n : Machine) (run : MachineRun rs m n) (image : List ℕ) → IsOfFound S m.state m.stored image → Passed S m.stored.last rs m n run image
+found_passed S rs m n run image of = (of.0, (passed_here rs m n run of.0 of.1.0, of.1.1))
 
-found_passed : (S : List ℕ → Type 0) (rs : List Replied) (m n : Machine) (run : MachineRun rs m n) (image : List ℕ) → IsOfFound S m.state m.stored image → Passed m.stored.last rs m n run image
-found_passed S rs m n run image of = (of.0, (passed_here rs m n run of.0 of.1.0, stands_of S of.0 image of.1.1))
+-- moments that rise from one on rise from an earlier one on
+rise_from : (low mid : ℕ) (ts : List ℕ) (high : ℕ) → low ≤ mid → Rise mid ts high → Rise low ts high
+rise_from low mid [] high up rise = omega (arith, up, rise)
+rise_from low mid (t ∷ ts) high up rise = (omega (arith, up, rise.0), rise.1)
 
 -- ---- a script
-
--- What lines do. An image that a crash may have left since a moment before them it may have left before them, or it is of files
--- that are passed.
-record Script (C : Type 0) (state : C → CoreState) (S : List ℕ → Type 0) (rs : List Replied) (m : Machine) (r s : RunnerState C) : Type 0 where
-  script : FollowsScript C state S rs m r s
-  since : (t : ℕ) (image : List ℕ) → t ≤ (state r.core).disk.clock → t < 2 ^ 64 - 1 → (state s.core).disk.images_since t image
-      → (state r.core).disk.images_since t image ⊎ Passed m.stored.last rs m script.next script.run image
 
 module _ (C : Type 0) (state : C → CoreState) (among : ByteSet) (distinct : HasNoCollisions (IsIn among)) where
   abbrev S : List ℕ → Type 0
@@ -52,43 +48,32 @@ module _ (C : Type 0) (state : C → CoreState) (among : ByteSet) (distinct : Ha
 
   -- no lines
   module _ (m : Machine) (r : RunnerState C) (follows : Follows S m r.sessions (state r.core)) where
-    only_first : (i t : ℕ) (image : List ℕ) → slice_get ((state r.core).disk.clock ∷ []) i ≡ Some t → t < 2 ^ 64 - 1 → (state r.core).disk.images_since t image
-        → Passed (m.stored.last + i) [] m m refl image
-    only_first zero t image is below left =
-        let clock_is : (state r.core).disk.clock ≡ t = cc in
-        let there = (state r.core).disk.only_now image (omega (arith, clock_is, below)) (subst (λ (u : ℕ). (state r.core).disk.images_since u image) (sym clock_is) left) in
-        let stands = may_stand S m image (images S m r.sessions (state r.core) follows image there) in
-        (stands.0, ((omega arith, stands.1.0), stands.1.1))
-    only_first (suc i) t image is below left = absurd cc
-
-    none : Script C state S [] m r r
+    none : FollowsScript C state S [] m r r
     none = record {
-      script = record {
-        next = m;
-        run = refl;
-        follows = follows;
-        later = [];
-        moments_are = sym (append-nil r.moments);
-        through = record {
-          first = refl;
-          many = omega arith;
-          crash = only_first;
-          now = λ image there. may_stand S m image (images S m r.sessions (state r.core) follows image there);
-          content = follows.content_is;
-          faults = follows.faults_are;
-        };
+      next = m;
+      run = refl;
+      follows = follows;
+      later = [];
+      moments_are = sym (append-nil r.moments);
+      through = record {
+        many = omega arith;
+        rise = omega arith;
+        since = λ t image early below left. inl left;
+        crash = λ i t image is. absurd cc;
+        now = images S m r.sessions (state r.core) follows;
+        content = follows.content_is;
+        faults = follows.faults_are;
       };
-      since = λ t image early below left. inl left;
     }
 
   -- a line, and those after it
   module _ (one : Replied) (more : List Replied) (m : Machine) (r mid s : RunnerState C) (follows : Follows S m r.sessions (state r.core)) (line : FollowsLine C state S one.line one.reply m r mid)
-      (rest : Script C state S more line.next mid s) (last : ends one.line one.reply ≡ true → more ≡ []) where
+      (rest : FollowsScript C state S more line.next mid s) (last : ends one.line one.reply ≡ true → more ≡ []) (went : (state r.core).disk.clock ≤ (state mid.core).disk.clock) where
     abbrev next : Machine
-    next = rest.script.next
+    next = rest.next
 
     abbrev run : MachineRun (one ∷ more) m next
-    run = (last, (line.next, (line.step, rest.script.run)))
+    run = (last, (line.next, (line.step, rest.run)))
 
     abbrev before : DiskView
     before = (state r.core).disk
@@ -100,30 +85,33 @@ module _ (C : Type 0) (state : C → CoreState) (among : ByteSet) (distinct : Ha
     after = (state s.core).disk
 
     abbrev later : List ℕ
-    later = rest.script.later
+    later = rest.later
 
-    rest_passed : (first then : ℕ) (image : List ℕ) → first ≤ then → Passed then more line.next next rest.script.run image → Passed first (one ∷ more) m next run image
-    rest_passed first then image up passed = (passed.0, (inr (passed_from first then more line.next next rest.script.run passed.0 up passed.1.0), passed.1.1))
+    rest_passed : (first then : ℕ) (image : List ℕ) → first ≤ then → Passed S then more line.next next rest.run image → Passed S first (one ∷ more) m next run image
+    rest_passed first then image up passed = (passed.0, (inr (passed_from first then more line.next next rest.run passed.0 up passed.1.0), passed.1.1))
 
-    many_are : line.next.stored.last + suc (length later) ≡ next.stored.last + 1
-    many_are = rest.script.through.many
+    many_are : line.next.stored.last + length later ≡ next.stored.last
+    many_are = rest.through.many
 
-    crash_rest : (i t : ℕ) (image : List ℕ) → slice_get (between.clock ∷ later) i ≡ Some t → t < 2 ^ 64 - 1 → after.images_since t image → Passed (line.next.stored.last + i) more line.next next rest.script.run image
-    crash_rest = rest.script.through.crash
+    went_on : told_clock before ≤ told_clock between
+    went_on = omega (arith, went)
+
+    crash_rest : (i t : ℕ) (image : List ℕ) → slice_get later i ≡ Some t → t < 2 ^ 64 - 1 → after.images_since t image → Passed S (line.next.stored.last + i + 1) more line.next next rest.run image
+    crash_rest = rest.through.crash
 
     module _ (up : m.stored.last ≤ line.next.stored.last) where
       -- what the line leaves
-      line_passed : (image : List ℕ) → IsOfFound S m.state m.stored image ⊎ IsOfFound S line.next.state line.next.stored image → Passed m.stored.last (one ∷ more) m next run image
+      line_passed : (image : List ℕ) → IsOfFound S m.state m.stored image ⊎ IsOfFound S line.next.state line.next.stored image → Passed S m.stored.last (one ∷ more) m next run image
       line_passed image (inl of) = found_passed S (one ∷ more) m next run image of
-      line_passed image (inr of) = rest_passed m.stored.last line.next.stored.last image up (found_passed S more line.next next rest.script.run image of)
+      line_passed image (inr of) = rest_passed m.stored.last line.next.stored.last image up (found_passed S more line.next next rest.run image of)
 
-      since_all : (t : ℕ) (image : List ℕ) → t ≤ before.clock → t < 2 ^ 64 - 1 → after.images_since t image → before.images_since t image ⊎ Passed m.stored.last (one ∷ more) m next run image
+      since_all : (t : ℕ) (image : List ℕ) → t ≤ before.clock → t < 2 ^ 64 - 1 → after.images_since t image → before.images_since t image ⊎ Passed S m.stored.last (one ∷ more) m next run image
       since_all t image early below left = elim (cases_lt between.clock t) [
-        | inl past ↦ elim (rest.since between.clock image (omega arith) (omega (arith, past, below)) (after.earlier between.clock t image (omega (arith, past)) left)) [
+        | inl past ↦ elim (rest.through.since between.clock image (omega arith) (omega (arith, past, below)) (after.earlier between.clock t image (omega (arith, past)) left)) [
           | inl there ↦ inr (line_passed image (line.leaves.now image (between.only_now image (omega (arith, past, below)) there)))
           | inr passed ↦ inr (rest_passed m.stored.last line.next.stored.last image up passed)
         ]
-        | inr ahead ↦ elim (rest.since t image ahead below left) [
+        | inr ahead ↦ elim (rest.through.since t image ahead below left) [
           | inl there ↦ elim (line.leaves.since t image early there) [
             | inl was ↦ inl was
             | inr of ↦ inr (line_passed image of)
@@ -132,43 +120,28 @@ module _ (C : Type 0) (state : C → CoreState) (among : ByteSet) (distinct : Ha
         ]
       ]
 
-      -- since the moment before the line
-      since_first : (t : ℕ) (image : List ℕ) → before.clock ≡ t → t < 2 ^ 64 - 1 → after.images_since t image → Passed m.stored.last (one ∷ more) m next run image
-      since_first t image is below left = elim (since_all t image (omega (arith, is)) below left) [
-        | inl was ↦ found_passed S (one ∷ more) m next run image
-            (images S m r.sessions (state r.core) follows image (before.only_now image (omega (arith, is, below)) (subst (λ (u : ℕ). before.images_since u image) (sym is) was)))
-        | inr passed ↦ passed
-      ]
-
-      passed_zero : (image : List ℕ) → Passed m.stored.last (one ∷ more) m next run image → Passed (m.stored.last + 0) (one ∷ more) m next run image
-      passed_zero image passed = (passed.0, (passed_from (m.stored.last + 0) m.stored.last (one ∷ more) m next run passed.0 (omega arith) passed.1.0, passed.1.1))
-
     -- the line had no effect
     module _ (number : line.next.stored.last ≡ m.stored.last) (noted : mid.moments ≡ r.moments) where
-      crash_stays : (i t : ℕ) (image : List ℕ) → slice_get (before.clock ∷ later) i ≡ Some t → t < 2 ^ 64 - 1 → after.images_since t image → Passed (m.stored.last + i) (one ∷ more) m next run image
-      crash_stays zero t image is below left =
-          passed_zero (omega (arith, number)) image (since_first (omega (arith, number)) t image (let clock_is : before.clock ≡ t = cc in clock_is) below left)
-      crash_stays (suc i) t image is below left =
-          rest_passed (m.stored.last + suc i) (line.next.stored.last + suc i) image (omega (arith, number)) (crash_rest (suc i) t image is below left)
+      crash_stays : (i t : ℕ) (image : List ℕ) → slice_get later i ≡ Some t → t < 2 ^ 64 - 1 → after.images_since t image → Passed S (m.stored.last + i + 1) (one ∷ more) m next run image
+      crash_stays i t image is below left =
+          rest_passed (m.stored.last + i + 1) (line.next.stored.last + i + 1) image (omega (arith, number)) (crash_rest i t image is below left)
 
-      stays : Script C state S (one ∷ more) m r s
+      stays : FollowsScript C state S (one ∷ more) m r s
       stays = record {
-        script = record {
-          next = next;
-          run = run;
-          follows = rest.script.follows;
-          later = later;
-          moments_are = rest.script.moments_are ∙ ap (λ (l : List ℕ). l ++ later) noted;
-          through = record {
-            first = refl;
-            many = let many : m.stored.last + suc (length later) ≡ next.stored.last + 1 = omega (arith, many_are, number) in many;
-            crash = crash_stays;
-            now = rest.script.through.now;
-            content = rest.script.through.content;
-            faults = rest.script.through.faults;
-          };
+        next = next;
+        run = run;
+        follows = rest.follows;
+        later = later;
+        moments_are = rest.moments_are ∙ ap (λ (l : List ℕ). l ++ later) noted;
+        through = record {
+          many = omega (arith, many_are, number);
+          rise = rise_from (told_clock before) (told_clock between) later (told_clock after) went_on rest.through.rise;
+          since = since_all (omega (arith, number));
+          crash = crash_stays;
+          now = rest.through.now;
+          content = rest.through.content;
+          faults = rest.through.faults;
         };
-        since = since_all (omega (arith, number));
       }
 
     -- it took effect, and its moment was noted
@@ -179,47 +152,52 @@ module _ (C : Type 0) (state : C → CoreState) (among : ByteSet) (distinct : Ha
       unless_last : (t : ℕ) → min between.clock (2 ^ 64 - 1) ≡ t → t < 2 ^ 64 - 1 → between.clock ≡ t
       unless_last t is below = omega (arith, is, below)
 
-      crash_rises : (i t : ℕ) (image : List ℕ) → slice_get (before.clock ∷ moment ∷ later) i ≡ Some t → t < 2 ^ 64 - 1 → after.images_since t image → Passed (m.stored.last + i) (one ∷ more) m next run image
-      crash_rises zero t image is below left =
-          passed_zero (omega (arith, number)) image (since_first (omega (arith, number)) t image (let clock_is : before.clock ≡ t = cc in clock_is) below left)
-      crash_rises (suc zero) t image is below left =
-          let moment_is : moment ≡ t = cc in
-          rest_passed (m.stored.last + 1) (line.next.stored.last + 0) image (omega (arith, number)) (crash_rest 0 t image (ap Some (unless_last t moment_is below)) below left)
-      crash_rises (suc (suc i)) t image is below left =
-          rest_passed (m.stored.last + suc (suc i)) (line.next.stored.last + suc i) image (omega (arith, number)) (crash_rest (suc i) t image is below left)
+      -- since the moment after the line
+      since_noted : (t : ℕ) (image : List ℕ) → between.clock ≡ t → t < 2 ^ 64 - 1 → after.images_since t image → Passed S (m.stored.last + 0 + 1) (one ∷ more) m next run image
+      since_noted t image is below left =
+          rest_passed (m.stored.last + 0 + 1) line.next.stored.last image (omega (arith, number)) (elim (rest.through.since t image (omega (arith, is)) below left) [
+            | inl was ↦ found_passed S more line.next next rest.run image
+                (images S line.next mid.sessions (state mid.core) line.follows image (between.only_now image (omega (arith, is, below)) (subst (λ (u : ℕ). between.images_since u image) (sym is) was)))
+            | inr passed ↦ passed
+          ])
 
-      rises : Script C state S (one ∷ more) m r s
+      crash_rises : (i t : ℕ) (image : List ℕ) → slice_get (moment ∷ later) i ≡ Some t → t < 2 ^ 64 - 1 → after.images_since t image → Passed S (m.stored.last + i + 1) (one ∷ more) m next run image
+      crash_rises zero t image is below left =
+          let moment_is : moment ≡ t = cc in
+          since_noted t image (unless_last t moment_is below) below left
+      crash_rises (suc i) t image is below left =
+          rest_passed (m.stored.last + suc i + 1) (line.next.stored.last + i + 1) image (omega (arith, number)) (crash_rest i t image is below left)
+
+      rises : FollowsScript C state S (one ∷ more) m r s
       rises = record {
-        script = record {
-          next = next;
-          run = run;
-          follows = rest.script.follows;
-          later = moment ∷ later;
-          moments_are = rest.script.moments_are ∙ ap (λ (l : List ℕ). l ++ later) noted ∙ append_assoc r.moments (moment ∷ []) later;
-          through = record {
-            first = refl;
-            many = let many : m.stored.last + suc (suc (length later)) ≡ next.stored.last + 1 = omega (arith, many_are, number) in many;
-            crash = crash_rises;
-            now = rest.script.through.now;
-            content = rest.script.through.content;
-            faults = rest.script.through.faults;
-          };
+        next = next;
+        run = run;
+        follows = rest.follows;
+        later = moment ∷ later;
+        moments_are = rest.moments_are ∙ ap (λ (l : List ℕ). l ++ later) noted ∙ append_assoc r.moments (moment ∷ []) later;
+        through = record {
+          many = let many : m.stored.last + suc (length later) ≡ next.stored.last = omega (arith, many_are, number) in many;
+          rise = (went_on, rest.through.rise);
+          since = since_all (omega (arith, number));
+          crash = crash_rises;
+          now = rest.through.now;
+          content = rest.through.content;
+          faults = rest.through.faults;
         };
-        since = since_all (omega (arith, number));
       }
 
-    either : Notes (state mid.core) m line.next r.moments mid.moments → Script C state S (one ∷ more) m r s
+    either : Notes (state mid.core) m line.next r.moments mid.moments → FollowsScript C state S (one ∷ more) m r s
     either (inl same) = stays same.0 same.1
     either (inr rose) = rises rose.0 rose.1
 
-  all : (rs : List Replied) (m : Machine) (r s : RunnerState C) → AreOfActors rs → ((bytes : List ℕ) → IsCutBy rs m bytes → S bytes) → Follows S m r.sessions (state r.core) → RunsLines C state rs r s
-      → Script C state S rs m r s
-  all [] m r s actors cut follows runs = subst (λ (t : RunnerState C). Script C state S [] m r t) (sym runs) (none m r follows)
+  pub all : (rs : List Replied) (m : Machine) (r s : RunnerState C) → AreOfActors rs → ((bytes : List ℕ) → IsCutBy rs m bytes → S bytes) → Follows S m r.sessions (state r.core) → RunsLines C state rs r s
+      → FollowsScript C state S rs m r s
+  all [] m r s actors cut follows runs = subst (λ (t : RunnerState C). FollowsScript C state S [] m r t) (sym runs) (none m r follows)
   all (one ∷ more) m r s actors cut follows runs =
       let mid : RunnerState C = runs.1.0 in
       let line = lines_follow C state among one.line one.reply m r mid distinct actors.0 (λ bytes is. cut bytes (inl is)) follows runs.1.1.0 in
       let rest = all more line.next mid s actors.1 (λ bytes is. cut bytes (inr (line.next, (line.step, is)))) line.follows runs.1.1.1 in
-      either one more m r mid s follows line rest runs.0 line.noted
+      either one more m r mid s follows line rest runs.0 (line_went C state one.line one.reply r mid runs.1.1.0).later.clock_is line.noted
 
 pub scripts_follow : (C : Type 0) (state : C → CoreState) → ScriptsFollow C state
-scripts_follow C state among rs m r s distinct actors cut follows runs = (all C state among distinct rs m r s actors cut follows runs).script
+scripts_follow C state among rs m r s distinct = all C state among distinct rs m r s

@@ -121,6 +121,15 @@ pub record IsReady (root : Root) (s : SessionState) : Type 0 where
   pub ended : s.ended ≡ true
   pub ready : ready_in s ≡ Some root
 
+-- All turns that are due were made, and this is the root.
+abbrev pub Settles : (C : Type 0) → (C → CoreState) → ℕ → Root → SessionState → SessionState → C → C → Type 0
+Settles C state actor root s t old new = (answers_are : List Answer) × TurnRun C state actor answers_are s t old new × IsReady root t
+
+-- A name was given a root, and the moment after it is noted.
+abbrev pub GivesRoot : ℕ → List ℕ → Root → List ℕ → List ℕ → CoreState → CoreState → Type 0
+GivesRoot actor name root moments moments_now old new =
+    ((answer : Answer) × DoesStep actor (asked.Commit name root) answer old new) × (moments_now ≡ moments ++ moment_of new ∷ [])
+
 -- All turns that are due were made, and then the name was given the root; the moment is noted.
 pub record Puts (C : Type 0) (state : C → CoreState) (actor : ℕ) (name : List ℕ) (sequence : ℕ) (session : SessionState)
     (moments moments_now : List ℕ) (old new : C) : Type 0 where

@@ -1,5 +1,8 @@
 pub mod Acts
+pub mod AnyDisk
 pub mod Follows
+pub mod Frame
+pub mod Named
 pub mod Opened
 pub mod Runner
 pub mod Scripts

@@ -1,6 +1,7 @@
 -- Lines that are run one after the other follow the plain machine, with the moments that the runner notes (docs/MODEL.md, 'Scripts').
 use Rattle.std.specs.Prelude.{◌≡◌, ◌⊎◌, ℕ, true, List, [], ◌∷◌, ◌++◌}
 use Rattle.store_model.specs.Collisions.{HasNoCollisions, ByteSet, IsIn}
+use Rattle.store_core.specs.Runs.{IsOf}
 use Rattle.store_core.specs.State.{CoreState}
 use Rattle.plain_machine.specs.Machine.{Machine}
 use Rattle.plain_machine.specs.Runs.{MachineRun, Replied, Step, ends}
@@ -39,7 +40,7 @@ pub record FollowsScript (C : Type 0) (state : C → CoreState) (S : List ℕ �
   pub follows : Follows S next s.sessions (state s.core)
   pub later : List ℕ
   pub moments_are : s.moments ≡ r.moments ++ later
-  pub through : HoldsThrough ((state r.core).disk.clock ∷ later) rs m next run (state r.core).disk (state s.core).disk
+  pub through : HoldsThrough (IsOf S) later rs m next run (state r.core).disk (state s.core).disk
 
 -- A runner that follows the machine goes on to, line after line, where what is cut on the way has no collisions.
 abbrev pub ScriptsFollow : (C : Type 0) → (C → CoreState) → Type 0

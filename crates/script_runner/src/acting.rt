@@ -90,8 +90,8 @@ fn reply_next<C: HasState>(
 ) -> Result<Vec<u8>, AllocError>
     requires running { IsRunning (C.state core.old) }
     requires runs { (C.state core.old).stop ≡ None }
-    ensures made { (sessions : Sessions) (moments : List ℕ) → ActsWith C C.state (grammar.Next actor) (λ reply. Prints (λ text. text.items) result reply)
-        (runner_of core.old sessions moments) (runner_of core.new sessions moments) }
+    ensures made { (sessions : Sessions) (moments : List ℕ) → ActsWith C C.state (grammar.Next actor)
+        (λ reply. Prints (λ text. text.items) result reply) (runner_of core.old sessions moments) (runner_of core.new sessions moments) }
     ensures running { IsRunning (C.state core.new) }
 {
     match read_next(core, actor, buf) {

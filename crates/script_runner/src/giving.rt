@@ -1,18 +1,22 @@
 //! Lines by which an actor gives a file.
-ghost use Rattle.std.specs.Prelude.{◌≡◌, ◌*◌, ◌≤◌, false, true, length, Some, IsSome, IfOk, OnErr, IfErr, option_map};
+ghost use Rattle.std.specs.Prelude.{◌≡◌, ◌*◌, ◌<◌, ◌≤◌, false, true, length, vec_len, vec_capacity, Some, IsSome, IfOk, OnOk, OnErr, IfErr, option_map};
+ghost use Rattle.actor_parts.specs.StepValue as asked;
 ghost use Rattle.script_lines.specs.Grammar.{IsHex, pushed_bytes};
+ghost use Rattle.script_lines.specs.ReplyText.{reply_line};
 ghost use Rattle.script_lines.specs.ReplyValue.{Committed};
 ghost use Rattle.store_core.specs.State.{IsRunning};
-ghost use Rattle.script_runner.specs.Acts.{Aborts, Begins, Commits, Finishes, IsText, Pushes, Puts, RefusesCommit, RefusesPut, Turns, turned};
+ghost use Rattle.script_runner.specs.Acts.{Aborts, Begins, Commits, Finishes, GivesRoot, IsText, Pushes, Puts, RefusesCommit, RefusesPut, RefusesStep, Settles, Turns, turned};
 ghost use Rattle.script_runner.specs.Sessions.{has_ended, session_of};
+ghost use Rattle.session_turns.specs.Turns.{TurnsStopped};
 
 use crate::sessions::Sessions;
 use actor_parts::{Actor, Answer, SegBuf, Step};
 use ingest_session::Session;
+use namespace::Root;
 use refusals::Refusal;
 use script_lines::{Reply, Turned, decode_into, print_reply};
 use session_turns::{MOST_PIECE, feed, make_turn, make_turns};
-use std::alloc::Global;
+use std::alloc::{AllocError, Global};
 use store_core::HasState;
 
 /// Begins a file.
@@ -115,6 +119,65 @@ pub(crate) fn turn<C: HasState>(
     }
 }
 
+// Makes all turns that are due, and gives the root of the file.
+fn settle<C: HasState>(
+    core: &mut C,
+    session: &mut Session,
+    actor: Actor,
+    buf: &mut SegBuf,
+) -> Result<Root, Refusal>
+    requires running { IsRunning (C.state core.old) }
+    requires ended { session.old.ended ≡ true }
+    ensures settles { IfOk result (λ root. Settles C C.state actor root session.old session.new core.old core.new) }
+    ensures refused { IfErr result (λ refusal. TurnsStopped C C.state actor refusal session.old session.new core.old core.new) }
+    ensures running { IsRunning (C.state core.new) }
+{
+    make_turns(core, actor, session, buf)?;
+    match session.ready() {
+        Some(root) => Ok(root),
+        None => unreachable!(),
+    }
+}
+
+// Takes the memory for the reply and for the moment.
+fn prepare(
+    alloc: Global,
+    moments: &mut Vec<u64>,
+    actor: Actor,
+    sequence: u64,
+) -> Result<Vec<u8>, AllocError>
+    ensures text { IfOk result (λ text. text.items ≡ reply_line (Committed actor sequence)) }
+    ensures room { OnOk result (vec_len moments.new < vec_capacity moments.new) }
+    ensures kept { moments.new.items ≡ moments.old.items }
+{
+    let reply = print_reply(alloc, &Reply::Committed { actor, sequence })?;
+    moments.reserve(1)?;
+    Ok(reply)
+}
+
+// Gives a name the root, and notes the moment, for which there is room.
+fn put_root<C: HasState>(
+    core: &mut C,
+    moments: &mut Vec<u64>,
+    actor: Actor,
+    name: &[u8],
+    root: &Root,
+    buf: &mut SegBuf,
+) -> Result<(), Refusal>
+    requires running { IsRunning (C.state core.old) }
+    requires room { vec_len moments.old < vec_capacity moments.old }
+    ensures gives { OnOk result
+        (GivesRoot actor name.now root.now moments.old.items moments.new.items (C.state core.old) (C.state core.new)) }
+    ensures refused { IfErr result (λ refusal.
+        RefusesStep actor (asked.Commit name.now root.now) refusal (C.state core.old) (C.state core.new)) }
+    ensures kept { OnErr result (moments.new.items ≡ moments.old.items) }
+    ensures running { IsRunning (C.state core.new) }
+{
+    core.make_step(actor, Step::Commit { name, root }, buf)?;
+    moments.push(core.moment()).unwrap();
+    Ok(())
+}
+
 // Makes all turns that are due, and gives a name the root. The reply's memory, and that of the moment, is taken before.
 fn put<C: HasState>(
     alloc: Global,
@@ -133,15 +196,10 @@ fn put<C: HasState>(
     ensures kept { OnErr result (moments.new.items ≡ moments.old.items) }
     ensures running { IsRunning (C.state core.new) }
 {
-    make_turns(core, actor, session, buf)?;
-    let Some(root) = session.ready() else {
-        unreachable!()
-    };
+    let root = settle(core, session, actor, buf)?;
     let sequence = core.last_sequence().saturating_add(1);
-    let reply = print_reply(alloc, &Reply::Committed { actor, sequence })?;
-    moments.reserve(1)?;
-    core.make_step(actor, Step::Commit { name, root: &root }, buf)?;
-    moments.push(core.moment()).unwrap();
+    let reply = prepare(alloc, moments, actor, sequence)?;
+    put_root(core, moments, actor, name, &root, buf)?;
     Ok(reply)
 }
 
@@ -158,8 +216,8 @@ pub(crate) fn commit<C: HasState>(
     requires running { IsRunning (C.state core.old) }
     requires gave { has_ended (session_of sessions.old actor) ≡ Some true }
     ensures commits { IfOk result (λ text. IsText (λ sequence. Committed actor sequence)
-        (λ sequence. Commits C C.state actor name.now sequence sessions.old sessions.new moments.old.items moments.new.items core.old core.new)
-        text.items) }
+        (λ sequence. Commits C C.state actor name.now sequence sessions.old sessions.new moments.old.items moments.new.items
+        core.old core.new) text.items) }
     ensures refused { IfErr result (λ refusal. RefusesCommit C C.state actor name.now refusal sessions.old sessions.new core.old core.new) }
     ensures kept { OnErr result (moments.new.items ≡ moments.old.items) }
     ensures running { IsRunning (C.state core.new) }

@@ -1,5 +1,7 @@
 //! Laws of lines that are run (docs/MODEL.md, 'Scripts').
+ghost use Rattle.script_runner.specs.AnyDisk.{LinesGiveWhatIsNamed, LinesGoOn};
 ghost use Rattle.script_runner.specs.Follows.{LinesFollow};
+ghost use Rattle.script_runner.specs.Frame.{LinesKeepWritten, OpenedIsOn};
 ghost use Rattle.script_runner.specs.Opened.{OpenedFollows};
 ghost use Rattle.script_runner.specs.Scripts.{ScriptsFollow};
 
@@ -23,4 +25,26 @@ pub fn scripts_follow_the_machine<C: HasState>()
 /// does nothing.
 pub fn an_opened_core_follows<D: Disk, C: HasState>()
     ensures { OpenedFollows D D.view C C.state }
+{}
+
+/// Over a core that was opened just now, on any disk, also one that tells nothing, or lies, lines give what is named: `read` opens the root
+/// that its name has then, `next` gives the segments that the tree of that root names, one after the other, and ends where they are as long
+/// as that root says. A name has the root of what was committed under it last, or that of the store which the last opening read. The
+/// function does nothing.
+pub fn lines_give_what_is_named<D: Disk, C: HasState>()
+    ensures { LinesGiveWhatIsNamed D D.view C C.state }
+{}
+
+/// Lines over any core leave the same disk, later. Its count of faults rises where a line is refused by a failed call of the disk, and
+/// stays as it was where none is. The function does nothing.
+pub fn lines_go_on<C: HasState>()
+    ensures { LinesGoOn C C.state }
+{}
+
+/// Whatever the containers of a disk hold: lines that are run one after the other change no byte of what was written before them, also
+/// where the store is opened again between them and where writes fail. They begin at a core that is on a store which the content is, as
+/// one that was opened just now. The function does nothing.
+pub fn lines_keep_what_is_written<D: Disk, C: HasState>()
+    ensures lines { LinesKeepWritten C C.state }
+    ensures opened { OpenedIsOn D D.view C C.state }
 {}

@@ -1,0 +1,231 @@
+-- What lines leave of the disk: it is the same one, later, and its count of faults tells what was refused.
+use Rattle.std.proofs.Common.{◌≡◌, ◌⊎◌, inl, inr, ◌∙◌, ◌+◌, ◌≤◌, ℕ, Bool, true, false, if◌then◌else◌, List, [], ◌∷◌, Option, Some, None, Result, Ok, Err, refl, sym, ap, subst, arith}
+use Rattle.std.specs.Prelude.{◌||◌, nat_lt}
+use Rattle.std.specs.List.{list_any}
+use Rattle.base_model.specs.Fault.{Rose}
+use Rattle.disk_format.specs.declared.numbers.TheConstants.{MOST_FILE}
+use Rattle.dd_disk.specs.Ending.{Ending, Done, Refused, CountsFault, ending, ending_of}
+use Rattle.dd_disk.specs.View.{DiskView, IsLater}
+use Rattle.dd_disk.proofs.Later.{later_here, later_on}
+use Rattle.actor_parts.specs.declared.step.Answer.{Answer}
+use Rattle.actor_parts.specs.Counts.{Counts}
+use Rattle.actor_parts.specs.StepValue as asked
+use Rattle.actor_parts.specs.StepValue.{StepValue}
+use Rattle.refusals.specs.declared.refusal.Refusal.{Refusal}
+use Rattle.refusals.specs.declared.refusal.Refusal.TheVariants as refusals
+use Rattle.refusals.specs.declared.refusal.PartKind.TheVariants as kinds
+use Rattle.script_lines.specs.Grammar.{LineValue, pushed_bytes}
+use Rattle.script_lines.specs.Grammar as lines
+use Rattle.script_lines.specs.ReplyValue as replies
+use Rattle.script_lines.specs.ReplyValue.{ReplyValue}
+use Rattle.store_state.specs.Refused.{blames}
+use Rattle.ingest_session.specs.declared.due.Due.{Due}
+use Rattle.ingest_session.specs.declared.due.Due.TheVariants.{Claim, Seal, Nothing}
+use Rattle.ingest_session.specs.Calls.{IsPushAnswer}
+use Rattle.ingest_session.specs.Due.{due_in}
+use Rattle.ingest_session.specs.State.{SessionState}
+use Rattle.store_core.specs.declared.stop.Stop.{Stop}
+use Rattle.store_core.specs.Core.{CoreStep, Effect, StepsOr}
+use Rattle.store_core.specs.State.{CoreState, Event}
+use Rattle.store_core.proofs.Stepping.{step_later}
+use Rattle.session_turns.specs.Turns.{Asks, Feeds, IsPaused, IsRefusedTurn, TakesTurn, TurnRun, TurnsStopped}
+use Rattle.plain_machine.specs.Runs.{Replied}
+use Rattle.script_runner.specs.Acts.{Acts, ActsReopen, ActsOrNot, BarsBy, RefusesPut, RunnerState, RunsLine}
+use Rattle.script_runner.specs.AnyDisk.{LinesGoOn}
+use Rattle.script_runner.specs.Named.{tells_fault}
+use Rattle.script_runner.specs.Sessions.{Sessions}
+
+-- The same disk, later, whose count of faults tells how calls ended.
+pub record Went (by : Ending) (old new : DiskView) : Type 0 where
+  pub later : IsLater old new
+  pub faults : CountsFault by old.faults new.faults
+
+pub went_on : (by : Ending) (old mid new : DiskView) → Went Done old mid → Went by mid new → Went by old new
+went_on by old mid new first second = record {
+  later = later_on old mid new first.later second.later;
+  faults = subst (λ (n : ℕ). CountsFault by n new.faults) first.faults second.faults;
+}
+
+-- ---- steps
+
+module _ (old new : CoreState) where
+  effect_faults : (step : StepValue) (answer : Result Answer Refusal) → Effect step answer old new → CountsFault (ending blames answer) old.disk.faults new.disk.faults
+  effect_faults asked.Begin answer effect = effect.disk.faults_are
+  effect_faults (asked.Claim seg) answer effect = effect.disk.faults_are
+  effect_faults (asked.Seal filled) answer effect = effect.disk.faults_are
+  effect_faults (asked.Commit name root) answer effect = effect.disk.faults_are
+  effect_faults asked.Abort answer effect = effect.disk.faults_are
+  effect_faults (asked.OpenRead name) answer effect = effect.disk.faults_are
+  effect_faults asked.ReadNext answer effect = effect.disk.faults_are
+  effect_faults asked.EndRead answer effect = effect.disk.faults_are
+  effect_faults asked.Stat answer effect = effect.disk.faults_are
+
+  step_faults : (e : Event) (stop : Option Stop) → StepsOr stop e old new → CountsFault (ending blames e.answer) old.disk.faults new.disk.faults
+  step_faults e None steps = effect_faults e.step e.answer steps.made.effect
+  step_faults e (Some stop) steps =
+      subst (λ (answer : Result Answer Refusal). CountsFault (ending blames answer) old.disk.faults new.disk.faults) (sym steps.answer_is) steps.same.disk.faults_are
+
+  pub step_went : (e : Event) → CoreStep old e new → Went (ending blames e.answer) old.disk new.disk
+  step_went e made = record { later = step_later old new e old.stop made; faults = step_faults e old.stop made }
+
+  asks_went : (actor : ℕ) (due : Due) (s : SessionState) (answer : Result Answer Refusal) → Asks actor due s answer old new → Went (ending blames answer) old.disk new.disk
+  asks_went actor Claim s answer asks = step_went _ asks.3
+  asks_went actor (Seal kind) s answer asks = step_went _ asks.3
+  asks_went actor Nothing s answer asks = absurd asks
+
+-- ---- lines
+
+-- by a reply
+abbrev ending_in : ReplyValue → Ending
+ending_in (replies.Refused refusal) = ending_of (blames refusal)
+ending_in reply = Done
+
+module _ (C : Type 0) (state : C → CoreState) where
+  abbrev GoesBy : Ending → C → C → Type 0
+  GoesBy by old new = Went by (state old).disk (state new).disk
+
+  done_here : (old new : C) → new ≡ old → GoesBy Done old new
+  done_here old new same = subst (λ (c : C). GoesBy Done old c) (sym same) (record { later = later_here (state old).disk; faults = refl })
+
+  -- no call of the disk failed
+  none_failed : (refusal : Refusal) (old new : C) → ending_of (blames refusal) ≡ Refused → GoesBy Done old new → GoesBy (ending_of (blames refusal)) old new
+  none_failed refusal old new is went =
+      subst (λ (by : Ending). GoesBy by old new) (sym is) (let same : GoesBy Refused old new = record { later = went.later; faults = went.faults } in same)
+
+  by_memory : (refusal : Refusal) → refusal ≡ refusals.Memory → ending_of (blames refusal) ≡ Refused
+  by_memory refusal is = ap (λ (x : Refusal). ending_of (blames x)) is
+
+  no_memory : (refusal : Refusal) (old new : C) → refusal ≡ refusals.Memory → new ≡ old → GoesBy (ending_of (blames refusal)) old new
+  no_memory refusal old new is same = none_failed refusal old new (by_memory refusal is) (done_here old new same)
+
+  module _ (actor : ℕ) where
+    turns_went : (answers : List Answer) (s t : SessionState) (old new : C) → TurnRun C state actor answers s t old new → GoesBy Done old new
+    turns_went [] s t old new run = done_here old new run.1
+    turns_went (answer ∷ answers) s t old new run =
+        went_on Done (state old).disk (state run.1).disk (state new).disk (asks_went (state old) (state run.1) actor (due_in run.2.before) run.2.before (Ok answer) run.2.asks) (turns_went answers run.0 t run.1 new run.3)
+
+    refused_went : (refusal : Refusal) (s t : SessionState) (old new : C) → ((refusal ≡ refusals.Memory) × IsPaused s t × (new ≡ old)) ⊎ IsRefusedTurn actor refusal s t (state old) (state new)
+        → GoesBy (ending_of (blames refusal)) old new
+    refused_went refusal s t old new (inl memory) = no_memory refusal old new memory.0 memory.2
+    refused_went refusal s t old new (inr refused) = asks_went (state old) (state new) actor (due_in t) t (Err refusal) refused.2
+
+    stopped_went : (refusal : Refusal) (s t : SessionState) (old new : C) → TurnsStopped C state actor refusal s t old new → GoesBy (ending_of (blames refusal)) old new
+    stopped_went refusal s t old new stopped =
+        went_on (ending_of (blames refusal)) (state old).disk (state stopped.2).disk (state new).disk (turns_went stopped.0 s stopped.1 old stopped.2 stopped.3) (refused_went refusal stopped.1 t stopped.2 new stopped.4)
+
+    one_went : (answer : Option Answer) (s t : SessionState) (old new : C) → TakesTurn C state actor (Ok answer) s t old new → GoesBy Done old new
+    one_went None s t old new turn = done_here old new turn.3
+    one_went (Some answer) s t old new turn = asks_went (state old) (state new) actor (due_in turn.before) turn.before (Ok answer) turn.asks
+
+    -- too many bytes, or none any more
+    not_failed : (s : SessionState) (n : ℕ) (refusal : Refusal) → IsPushAnswer s n (Err refusal) → ending_of (blames refusal) ≡ Refused
+    not_failed s n refusal is = by_push s.ended (nat_lt MOST_FILE (s.count + n)) is
+      where
+        same : (a : Refusal) → ending_of (blames a) ≡ Refused → Some a ≡ Some refusal → ending_of (blames refusal) ≡ Refused
+        same a blame is = let both : a ≡ refusal = cc in subst (λ (x : Refusal). ending_of (blames x) ≡ Refused) both blame
+
+        by_push : (ended long : Bool) → (if ended then Some (refusals.WrongPart kinds.Finished) else if long then Some refusals.TooLong else None) ≡ Some refusal → ending_of (blames refusal) ≡ Refused
+        by_push true long is = same (refusals.WrongPart kinds.Finished) refl is
+        by_push false true is = same refusals.TooLong refl is
+        by_push false false is = absurd cc
+
+    fed_went : (refusal : Refusal) (bytes : List ℕ) (s t : SessionState) (old new : C) → Feeds C state actor (Err refusal) bytes s t old new → GoesBy (ending_of (blames refusal)) old new
+    fed_went refusal bytes s t old new (inl stopped) = stopped_went refusal s t old new stopped
+    fed_went refusal bytes s t old new (inr long) = none_failed refusal old new (not_failed t _ refusal long.2) (turns_went long.0 s t old new long.1)
+
+    put_went : (name : List ℕ) (refusal : Refusal) (s t : SessionState) (old new : C) → RefusesPut C state actor name refusal s t old new → GoesBy (ending_of (blames refusal)) old new
+    put_went name refusal s t old new (inl stopped) = stopped_went refusal s t old new stopped
+    put_went name refusal s t old new (inr done) =
+        went_on (ending_of (blames refusal)) (state old).disk (state done.1).disk (state new).disk (turns_went done.0 s t old done.1 done.2) (elim done.3.2 [
+          | inl memory ↦ no_memory refusal done.1 new memory.0 memory.1
+          | inr refuses ↦ step_went (state done.1) (state new) _ refuses.1
+        ])
+
+  acts_went : (line : LineValue) (reply : ReplyValue) (r s : RunnerState C) → Acts C state line reply r s → GoesBy (ending_in reply) r.core s.core
+  acts_went (lines.Begin a) (replies.Begun b) r s acts = step_went (state r.core) (state s.core) _ acts.1.0.2.1
+  acts_went (lines.Begin a) (replies.Refused refusal) r s acts = elim acts.0.0 [
+    | inl memory ↦ no_memory refusal r.core s.core memory.0 memory.1
+    | inr refuses ↦ step_went (state r.core) (state s.core) _ refuses.1
+  ]
+  acts_went (lines.Push a digits) (replies.Pushed b count) r s acts =
+      let does = acts.1.0 in
+      turns_went a does.3.0 does.0 does.3.1 r.core s.core does.3.2
+  acts_went (lines.Push a digits) (replies.Refused refusal) r s acts = fed_went a refusal (pushed_bytes digits) acts.0.0 acts.0.1 r.core s.core acts.0.3
+  acts_went (lines.Finish a) (replies.Finished b count) r s acts = done_here r.core s.core acts.1.0.6
+  acts_went (lines.Finish a) (replies.Refused refusal) r s acts = no_memory refusal r.core s.core acts.0.0 acts.0.2
+  acts_went (lines.Turn a) (replies.Turn b told) r s acts =
+      let turns = acts.1.0 in
+      one_went a turns.3.0 turns.0 turns.1 r.core s.core turns.3.2
+  acts_went (lines.Turn a) (replies.Refused refusal) r s acts = refused_went a refusal acts.0.0 acts.0.1 r.core s.core acts.0.3
+  acts_went (lines.Commit a name) (replies.Committed b sequence) r s acts =
+      let puts = acts.1.2 in
+      went_on Done (state r.core).disk (state puts.mid).disk (state s.core).disk (turns_went a puts.answers_are acts.1.0 puts.ready r.core puts.mid puts.turns) (step_went (state puts.mid) (state s.core) _ puts.put.1)
+  acts_went (lines.Commit a name) (replies.Refused refusal) r s acts = put_went a name refusal acts.0.0 acts.0.1 r.core s.core acts.0.3
+  acts_went (lines.Abort a) (replies.Aborted b) r s acts = step_went (state r.core) (state s.core) _ acts.1.0.0.1.1
+  acts_went (lines.Abort a) (replies.Refused refusal) r s acts = step_went (state r.core) (state s.core) _ acts.0.0.1
+  acts_went (lines.Read a name) (replies.Reading b count) r s acts = step_went (state r.core) (state s.core) _ acts.1.0.1
+  acts_went (lines.Read a name) (replies.Refused refusal) r s acts = step_went (state r.core) (state s.core) _ acts.0.1
+  acts_went (lines.Next a) (replies.Bytes b bytes) r s acts = step_went (state r.core) (state s.core) _ acts.1.1.1.1.0
+  acts_went (lines.Next a) (replies.End b) r s acts = step_went (state r.core) (state s.core) _ acts.1.1.0
+  acts_went (lines.Next a) (replies.Refused refusal) r s acts = step_went (state r.core) (state s.core) _ acts.1.0
+  acts_went (lines.Drop a) (replies.Dropped b) r s acts = step_went (state r.core) (state s.core) _ acts.1.0.1.1
+  acts_went (lines.Drop a) (replies.Refused refusal) r s acts = step_went (state r.core) (state s.core) _ acts.0.1
+  acts_went lines.Stat (replies.Stat holdings) r s acts = step_went (state r.core) (state s.core) _ acts.0.1
+  acts_went line reply r s acts = absurd acts
+
+  reopen_went : (reply : ReplyValue) (r s : RunnerState C) → ActsReopen C state reply r s → GoesBy (ending_in reply) r.core s.core
+  reopen_went (replies.Opened files) r s acts =
+      went_on Done (state r.core).disk (state acts.mid).disk (state s.core).disk (record { later = acts.reads.only.later; faults = acts.reads.faults_are }) (step_went (state acts.mid) (state s.core) _ acts.counts.1)
+  reopen_went (replies.Refused refusal) r s acts = elim acts.0.why [
+    | inl memory ↦ no_memory refusal r.core s.core memory.0 memory.1
+    | inr given_up ↦ record { later = given_up.2.only.later; faults = given_up.2.faults_are }
+  ]
+  reopen_went reply r s acts = absurd acts
+
+  barred : (stop : Option Stop) (line : LineValue) (sessions : Sessions) (c : CoreState) (refusal : Refusal) → BarsBy stop line sessions c refusal → ending_of (blames refusal) ≡ Refused
+  barred (Some stop) line sessions c refusal is = ap (λ (x : Refusal). ending_of (blames x)) is
+  barred None line sessions c refusal is = ap (λ (x : Refusal). ending_of (blames x)) is.3
+
+  taken_went : (line : LineValue) (reply : ReplyValue) (r s : RunnerState C) → ActsOrNot C state line reply r s → GoesBy (ending_in reply) r.core s.core
+  taken_went line reply r s (inl taken) = acts_went line reply r s taken.1
+  taken_went line reply r s (inr bars) =
+      subst (λ (x : ReplyValue). GoesBy (ending_in x) r.core s.core) (sym bars.1)
+      (none_failed bars.0 r.core s.core (barred (state r.core).stop line r.sessions (state r.core) bars.0 bars.2) (done_here r.core s.core (ap (λ (x : RunnerState C). x.core) bars.3)))
+
+  pub line_went : (line : LineValue) (reply : ReplyValue) (r s : RunnerState C) → RunsLine C state line reply r s → GoesBy (ending_in reply) r.core s.core
+  line_went lines.Reopen reply r s runs = reopen_went reply r s runs
+  line_went line reply r s runs = taken_went line reply r s runs
+
+  -- ---- counts
+
+  no_fault : (now before : ℕ) → now ≡ before → Counts false before now
+  no_fault now before same = record { later = omega (arith, same); rose = λ is. absurd cc; stays = λ is. same }
+
+  a_fault : (now before : ℕ) → Rose before now → before ≤ now → Counts true before now
+  a_fault now before rose later = record { later = later; rose = λ is. rose; stays = λ is. absurd cc }
+
+  counts_by : (reply : ReplyValue) (old new : C) → GoesBy (ending_in reply) old new → Counts (tells_fault reply) (state old).disk.faults (state new).disk.faults
+  counts_by (replies.Refused refusals.DiskRead) old new went = a_fault (state new).disk.faults (state old).disk.faults went.faults went.later.faults_are
+  counts_by (replies.Refused refusals.DiskWrite) old new went = a_fault (state new).disk.faults (state old).disk.faults went.faults went.later.faults_are
+  counts_by (replies.Refused refusal) old new went = no_fault (state new).disk.faults (state old).disk.faults went.faults
+  counts_by reply old new went = no_fault (state new).disk.faults (state old).disk.faults went.faults
+
+  counts_on : (a b : Bool) (before mid now : ℕ) → Counts a before mid → Counts b mid now → Counts (a || b) before now
+  counts_on false false before mid now first second = no_fault now before (second.stays refl ∙ first.stays refl)
+  counts_on false true before mid now first second = a_fault now before (subst (λ (n : ℕ). Rose n now) (first.stays refl) (second.rose refl)) (omega (arith, first.later, second.later))
+  counts_on true b before mid now first second = a_fault now before (omega (arith, first.rose refl, second.later)) (omega (arith, first.later, second.later))
+
+  pub lines_go_on : LinesGoOn C state
+  lines_go_on [] r s runs = record {
+    later = (done_here r.core s.core (ap (λ (x : RunnerState C). x.core) runs)).later;
+    counted = no_fault (state s.core).disk.faults (state r.core).disk.faults (ap (λ (x : RunnerState C). (state x.core).disk.faults) runs);
+  }
+  lines_go_on (one ∷ more) r s runs =
+      let mid : RunnerState C = runs.1.0 in
+      let went = line_went one.line one.reply r mid runs.1.1.0 in
+      let rest = lines_go_on more mid s runs.1.1.1 in
+      record {
+        later = later_on (state r.core).disk (state mid.core).disk (state s.core).disk went.later rest.later;
+        counted = counts_on (tells_fault one.reply) (list_any (λ (x : Replied). tells_fault x.reply) more) (state r.core).disk.faults (state mid.core).disk.faults (state s.core).disk.faults
+            (counts_by one.reply r.core mid.core went) rest.counted;
+      }

@@ -1,0 +1,202 @@
+-- What a runner has of what lines and their replies tell (specs/Named.antt).
+use Rattle.std.proofs.Common.{◌≡◌, ◌≢◌, inl, inr, ◌∙◌, ◌<◌, ℕ, Bool, true, false, List, length, replicate, Option, Some, None, refl, sym, ap, subst, arith}
+use Rattle.std.proofs.lemmas.Bool.{cases_eq}
+use Rattle.std.proofs.lemmas.List.{get_or-replicate, length-replicate}
+use Rattle.merkle_file.specs.declared.top.Top.{Top}
+use Rattle.actor_parts.specs.declared.actor.TheConstants.{ACTORS}
+use Rattle.actor_parts.specs.declared.part.Part.TheVariants as core_parts
+use Rattle.actor_parts.specs.declared.part.Part as core_part
+use Rattle.actor_parts.specs.Kinds as core_kinds
+use Rattle.actor_parts.specs.Parts.{part_of, with_part}
+use Rattle.actor_parts.proofs.Apart.{apart}
+use Rattle.refusals.specs.declared.refusal.PartKind.{PartKind}
+use Rattle.refusals.specs.declared.refusal.PartKind.TheVariants as kinds
+use Rattle.ingest_session.specs.History.{History, HasHistory}
+use Rattle.ingest_session.specs.State.{SessionState}
+use Rattle.script_lines.specs.Grammar.{LineValue}
+use Rattle.script_lines.specs.ReplyValue.{ReplyValue}
+use Rattle.store_model.specs.Image.{Store, names_of}
+use Rattle.read_steps.specs.Readers.{reading}
+use Rattle.store_core.specs.State.{CoreState, IsRunning}
+use Rattle.plain_machine.specs.Refused.{actor_of, takes}
+use Rattle.script_runner.specs.Acts.{Admits, RunnerState}
+use Rattle.script_runner.specs.Named.{Account, AreNamed, Doing, Idle, Writing, Finished, Reading, IsGiving, Tells, doing_of, opened, with_doing}
+use Rattle.script_runner.specs.Sessions.{Sessions, has_ended, kind_by, session_of, with_session}
+use Rattle.script_runner.proofs.LinesReopen.{idle_part}
+use Rattle.script_runner.proofs.Lists.{OneSet, none_set, one_set, set_here}
+use Rattle.script_runner.proofs.NamedSteps.{Keeps, Quiet}
+
+-- ---- an actor
+
+-- the session was given these bytes, which are all or not
+pub record IsGivenBy (given : List ℕ) (ended : Bool) (s : SessionState) : Type 0 where
+  pub history : History
+  pub has : HasHistory s history
+  pub given_is : history.given ≡ given
+  pub ended_is : s.ended ≡ ended
+
+-- its session, and the core's part of it
+abbrev pub AtPart : Doing → Option SessionState → core_part.Part → Type 0
+AtPart Idle session part = (session ≡ None) × (part ≡ core_parts.Idle)
+AtPart (Writing given) session part = (s : SessionState) × ((session ≡ Some s) × IsGivenBy given false s)
+AtPart (Finished file) session part = (s : SessionState) × ((session ≡ Some s) × IsGivenBy file true s)
+AtPart (Reading root segments) session part = (session ≡ None) × ((ahead : List Top) × ((part ≡ reading root ahead) × AreNamed root segments ahead))
+
+abbrev pub kind_of : Doing → PartKind
+kind_of Idle = kinds.Idle
+kind_of (Writing given) = kinds.Writing
+kind_of (Finished file) = kinds.Finished
+kind_of (Reading root segments) = kinds.Reading
+
+part_kind : (d : Doing) (session : Option SessionState) (part : core_part.Part) → AtPart d session part → kind_by (has_ended session) (core_kinds.kind_of part) ≡ kind_of d
+part_kind Idle session part is = ap (λ (o : Option SessionState). kind_by (has_ended o) (core_kinds.kind_of part)) is.0 ∙ ap (λ (p : core_part.Part). kind_by None (core_kinds.kind_of p)) is.1
+part_kind (Writing given) session part is =
+    ap (λ (o : Option SessionState). kind_by (has_ended o) (core_kinds.kind_of part)) is.1.0 ∙ ap (λ (b : Bool). kind_by (Some b) (core_kinds.kind_of part)) is.1.1.ended_is
+part_kind (Finished file) session part is =
+    ap (λ (o : Option SessionState). kind_by (has_ended o) (core_kinds.kind_of part)) is.1.0 ∙ ap (λ (b : Bool). kind_by (Some b) (core_kinds.kind_of part)) is.1.1.ended_is
+part_kind (Reading root segments) session part is =
+    ap (λ (o : Option SessionState). kind_by (has_ended o) (core_kinds.kind_of part)) is.0 ∙ ap (λ (p : core_part.Part). kind_by None (core_kinds.kind_of p)) is.1.1.0
+
+pub at_by : (d e : Doing) (s t : Option SessionState) (x y : core_part.Part) → d ≡ e → s ≡ t → x ≡ y → AtPart e t y → AtPart d s x
+at_by d e s t x y same_doing same_session same_part is =
+    subst (λ (a : Doing). AtPart a s x) (sym same_doing)
+    (subst (λ (a : Option SessionState). AtPart e a x) (sym same_session)
+    (subst (λ (a : core_part.Part). AtPart e t a) (sym same_part) is))
+
+-- ---- one that gives a file
+
+same_session : (s t : SessionState) → Some s ≡ Some t → s ≡ t
+same_session s t same = cc
+
+pub given_on : (given : List ℕ) (ended : Bool) (s t : SessionState) → IsGivenBy given ended s → Keeps s t → IsGivenBy given ended t
+given_on given ended s t is keeps =
+    let now = keeps.history is.history is.has in
+    record { history = now.0; has = now.1.0; given_is = now.1.1 ∙ is.given_is; ended_is = keeps.ended ∙ is.ended_is }
+
+pub given_in : (given : List ℕ) (ended : Bool) (session : Option SessionState) (s : SessionState) → session ≡ Some s → (t : SessionState) × ((session ≡ Some t) × IsGivenBy given ended t) → IsGivenBy given ended s
+given_in given ended session s is has = subst (IsGivenBy given ended) (same_session has.0 s (sym has.1.0 ∙ is)) has.1.1
+
+-- it stays so where its session keeps what was given
+pub session_kept : (d : Doing) (session : Option SessionState) (s t : SessionState) (x y : core_part.Part) → session ≡ Some s → Keeps s t → AtPart d session x → AtPart d (Some t) y
+session_kept Idle session s t x y is keeps at = absurd (let both = sym at.0 ∙ is in cc)
+session_kept (Writing given) session s t x y is keeps at = (t, (refl, given_on given false s t (given_in given false session s is at) keeps))
+session_kept (Finished file) session s t x y is keeps at = (t, (refl, given_on file true s t (given_in file true session s is at) keeps))
+session_kept (Reading root segments) session s t x y is keeps at = absurd (let both = sym at.0 ∙ is in cc)
+
+-- and whatever the core's part is
+pub any_part : (d : Doing) (session : Option SessionState) (x y : core_part.Part) → IsGiving d → AtPart d session x → AtPart d session y
+any_part Idle session x y is at = absurd is
+any_part (Writing given) session x y is at = at
+any_part (Finished file) session x y is at = at
+any_part (Reading root segments) session x y is at = absurd is
+
+-- ---- all of them
+
+pub record At (t : Account) (sessions : Sessions) (c : CoreState) : Type 0 where
+  pub running : IsRunning c
+  pub names : c.tables.names ≡ t.names
+  pub sessions_are : length sessions ≡ ACTORS
+  pub parts_are : length c.parts ≡ ACTORS
+  pub doing_are : length t.doing ≡ ACTORS
+  pub each : (actor : ℕ) → actor < ACTORS → AtPart (doing_of t actor) (session_of sessions actor) (part_of c.parts actor)
+
+-- no actor is at anything
+pub at_opened : (store : Store) (sessions : Sessions) (c : CoreState) → IsRunning c → c.tables.names ≡ names_of store → sessions ≡ replicate ACTORS None → c.parts ≡ replicate ACTORS core_parts.Idle
+    → At (opened store) sessions c
+at_opened store sessions c running names none idle = record {
+  running = running;
+  names = names;
+  sessions_are = ap length none ∙ length-replicate {A = Option SessionState} ACTORS None;
+  parts_are = ap length idle ∙ length-replicate ACTORS core_parts.Idle;
+  doing_are = length-replicate ACTORS Idle;
+  each = λ actor below.
+      at_by (doing_of (opened store) actor) Idle (session_of sessions actor) None (part_of c.parts actor) core_parts.Idle
+      (get_or-replicate ACTORS actor Idle Idle below)
+      (ap (λ (s : Sessions). session_of s actor) none ∙ get_or-replicate {A = Option SessionState} ACTORS actor None None below)
+      (ap (λ (parts : List core_part.Part). part_of parts actor) idle ∙ idle_part actor below) (refl, refl);
+}
+
+module _ (t : Account) (sessions : Sessions) (old : CoreState) (at : At t sessions old) where
+  -- at most one actor is at something else
+  pub at_on : (u : Account) (sessions_now : Sessions) (new : CoreState) (a : ℕ) → a < ACTORS → IsRunning new → new.tables.names ≡ u.names → length new.parts ≡ length old.parts
+      → ((other : ℕ) → other ≢ a → part_of new.parts other ≡ part_of old.parts other) → OneSet a Idle t.doing u.doing → OneSet a None sessions sessions_now
+      → AtPart (doing_of u a) (session_of sessions_now a) (part_of new.parts a) → At u sessions_now new
+  at_on u sessions_now new a below running names many others one_doing one_session own = record {
+    running = running;
+    names = names;
+    sessions_are = one_session.many ∙ at.sessions_are;
+    parts_are = many ∙ at.parts_are;
+    doing_are = one_doing.many ∙ at.doing_are;
+    each = λ actor within. elim (cases_eq actor a) [
+      | inl same ↦ subst (λ (n : ℕ). AtPart (doing_of u n) (session_of sessions_now n) (part_of new.parts n)) (sym same) own
+      | inr differs ↦
+          at_by (doing_of u actor) (doing_of t actor) (session_of sessions_now actor) (session_of sessions actor) (part_of new.parts actor) (part_of old.parts actor)
+          (one_doing.others actor differs) (one_session.others actor differs) (others actor differs) (at.each actor within)
+    ];
+  }
+
+  -- a line that is taken finds its actor at what it takes
+  pub taken : (line : LineValue) (a : ℕ) → a < ACTORS → actor_of line ≡ Some a → Admits line sessions old → takes line (kind_of (doing_of t a)) ≡ true
+  taken line a below is admits =
+      subst (λ (kind : PartKind). takes line kind ≡ true) (part_kind (doing_of t a) (session_of sessions a) (part_of old.parts a) (at.each a below)) (admits.taken a is)
+
+  module _ (a : ℕ) (below : a < ACTORS) where
+    pub own_at : (d : Doing) → doing_of t a ≡ d → AtPart d (session_of sessions a) (part_of old.parts a)
+    own_at d is = subst (λ (x : Doing). AtPart x (session_of sessions a) (part_of old.parts a)) is (at.each a below)
+
+    pub part_now : (new : CoreState) (part : core_part.Part) → new.parts ≡ with_part old.parts a part → part_of new.parts a ≡ part
+    part_now new part is = ap (λ (parts : List core_part.Part). part_of parts a) is ∙ apart.same old.parts a part (omega (arith, below, at.parts_are))
+
+    pub session_now : (now : Sessions) (x : Option SessionState) → now ≡ with_session sessions a x → session_of now a ≡ x
+    session_now now x is = ap (λ (s : Sessions). session_of s a) is ∙ set_here a None x sessions (omega (arith, below, at.sessions_are))
+
+    pub doing_now : (d : Doing) → doing_of (with_doing t a d) a ≡ d
+    doing_now d = set_here a Idle d t.doing (omega (arith, below, at.doing_are))
+
+    pub one_session : (now : Sessions) (x : Option SessionState) → now ≡ with_session sessions a x → OneSet a None sessions now
+    one_session now x is = subst (OneSet a None sessions) (sym is) (one_set a None x sessions)
+
+    pub same_sessions : (now : Sessions) → now ≡ sessions → OneSet a None sessions now
+    same_sessions now is = subst (OneSet a None sessions) (sym is) (none_set a None sessions)
+
+-- ---- a line
+
+-- What it tells is so, and the runner has it.
+pub record Told (C : Type 0) (state : C → CoreState) (Shown : Store → Type 0) (line : LineValue) (reply : ReplyValue) (t : Account) (s : RunnerState C) : Type 0 where
+  pub next : Account
+  pub tells : Tells Shown line reply t next
+  pub at : At next s.sessions (state s.core)
+
+module _ (C : Type 0) (state : C → CoreState) (Shown : Store → Type 0) (line : LineValue) (reply : ReplyValue) (t : Account) (r s : RunnerState C) (at : At t r.sessions (state r.core)) (a : ℕ) (below : a < ACTORS)
+    (quiet : Quiet a (state r.core) (state s.core)) where
+  -- one actor is at something else
+  pub changes : (d : Doing) → Tells Shown line reply t (with_doing t a d) → OneSet a None r.sessions s.sessions → AtPart d (session_of s.sessions a) (part_of (state s.core).parts a) → Told C state Shown line reply t s
+  changes d tells one own = record {
+    next = with_doing t a d;
+    tells = tells;
+    at = at_on t r.sessions (state r.core) at (with_doing t a d) s.sessions (state s.core) a below quiet.running (quiet.names ∙ at.names) quiet.many quiet.others (one_set a Idle d t.doing) one
+        (subst (λ (x : Doing). AtPart x (session_of s.sessions a) (part_of (state s.core).parts a)) (sym (doing_now t r.sessions (state r.core) at a below d)) own);
+  }
+
+  -- or none is
+  pub stays : Tells Shown line reply t t → OneSet a None r.sessions s.sessions → AtPart (doing_of t a) (session_of s.sessions a) (part_of (state s.core).parts a) → Told C state Shown line reply t s
+  stays tells one own = record {
+    next = t;
+    tells = tells;
+    at = at_on t r.sessions (state r.core) at t s.sessions (state s.core) a below quiet.running (quiet.names ∙ at.names) quiet.many quiet.others (none_set a Idle t.doing) one own;
+  }
+
+  -- its session is the same, and so is its part
+  pub still : Tells Shown line reply t t → s.sessions ≡ r.sessions → part_of (state s.core).parts a ≡ part_of (state r.core).parts a → Told C state Shown line reply t s
+  still tells sessions part =
+      stays tells (same_sessions t r.sessions (state r.core) at a below s.sessions sessions)
+      (at_by (doing_of t a) (doing_of t a) (session_of s.sessions a) (session_of r.sessions a) (part_of (state s.core).parts a) (part_of (state r.core).parts a)
+      refl (ap (λ (x : Sessions). session_of x a) sessions) part (at.each a below))
+
+  -- its session keeps what was given
+  pub keeps : (was now : SessionState) → Tells Shown line reply t t → session_of r.sessions a ≡ Some was → s.sessions ≡ with_session r.sessions a (Some now) → Keeps was now → Told C state Shown line reply t s
+  keeps was now tells session_is sessions kept =
+      stays tells (one_session t r.sessions (state r.core) at a below s.sessions (Some now) sessions)
+      (at_by (doing_of t a) (doing_of t a) (session_of s.sessions a) (Some now) (part_of (state s.core).parts a) (part_of (state s.core).parts a)
+      refl (session_now t r.sessions (state r.core) at a below s.sessions (Some now) sessions) refl
+      (session_kept (doing_of t a) (session_of r.sessions a) was now (part_of (state r.core).parts a) (part_of (state s.core).parts a) session_is kept (at.each a below)))

@@ -1,0 +1,182 @@
+-- Lines over a core that was opened give what is named, on any disk.
+use Rattle.std.proofs.Common.{◌≡◌, inl, inr, ◌∙◌, ◌≤◌, ℕ, List, [], ◌∷◌, length, Ok, refl, sym, ap, subst}
+use Rattle.std.specs.FinMap as finite
+use Rattle.std.specs.List.{AllByRecursion}
+use Rattle.dd_disk.specs.Shows.{Shows}
+use Rattle.dd_disk.specs.View.{DiskView, IsLater}
+use Rattle.dd_disk.proofs.Later.{later_here, later_on}
+use Rattle.actor_parts.specs.declared.part.Part as core_part
+use Rattle.actor_parts.specs.Parts.{part_of}
+use Rattle.actor_parts.specs.StepValue as asked
+use Rattle.namespace.specs.Names.{NameMap}
+use Rattle.refusals.specs.declared.refusal.Refusal.{Refusal}
+use Rattle.script_lines.specs.Grammar.{LineValue}
+use Rattle.script_lines.specs.Grammar as lines
+use Rattle.script_lines.specs.ReplyValue as replies
+use Rattle.script_lines.specs.ReplyValue.{ReplyValue}
+use Rattle.store_model.specs.Image.{Store, Encodes, names_of}
+use Rattle.store_state.specs.declared.tables.Tables.{Tables}
+use Rattle.store_core.specs.Opening.{IsKept}
+use Rattle.store_core.specs.State.{CoreState, Event, IsRunning}
+use Rattle.store_core.proofs.CoreRuns.{running_step}
+use Rattle.store_core.proofs.Making.{up_of}
+use Rattle.store_core.proofs.Opened.{kept_runs, new_runs}
+use Rattle.plain_machine.specs.Runs.{Replied}
+use Rattle.script_runner.specs.Acts.{Acts, ActsOrNot, ActsReopen, Admits, RefusesReopen, Reopens, RunnerState, RunsLine, counted}
+use Rattle.script_runner.specs.AnyDisk.{LinesGiveWhatIsNamed}
+use Rattle.script_runner.specs.Follows.{IsOfActor}
+use Rattle.script_runner.specs.Named.{Account, AllTell, Tells, WasShown, doing_of, opened}
+use Rattle.script_runner.specs.Scripts.{AreOfActors, RunsLines}
+use Rattle.script_runner.specs.Sessions.{Sessions, session_of}
+use Rattle.script_runner.proofs.FaultsCounted.{line_went}
+use Rattle.script_runner.proofs.NamedAt.{At, AtPart, Told, at_opened}
+use Rattle.script_runner.proofs.NamedGiving.{abort_told, begin_told, commit_told, finish_told, push_told, turn_told}
+use Rattle.script_runner.proofs.NamedSteps.{quiet_step}
+use Rattle.script_runner.proofs.NamedTaking.{count_names, drop_told, next_told, read_told, stat_told}
+
+-- ---- what was shown
+
+map_all : {A : Type 0} (P Q : A → Type 0) (xs : List A) → ((x : A) → P x → Q x) → AllByRecursion P xs → AllByRecursion Q xs
+map_all P Q [] each all = tt
+map_all P Q (x ∷ xs) each all = (each x all.0, map_all P Q xs each all.1)
+
+-- it was shown in a call of the run
+shown_in : (v old mid w : DiskView) (store : Store) → IsLater v old → old.clock ≤ mid.clock → IsLater mid w → Shows old mid (λ image. Encodes image store) → WasShown v w store
+shown_in v old mid w store before between after shown = record {
+  parts = shown.parts;
+  returned = map_all (λ part. mid.read_returned old.clock part.at part.bytes) (λ part. w.read_returned v.clock part.at part.bytes) shown.parts
+      (λ part was. w.returned_earlier v.clock old.clock part.at part.bytes before.clock_is (after.returned old.clock part.at part.bytes between was)) shown.returned;
+  shows = λ image sized has. shown.shows image (sized ∙ sym before.size_is) has;
+}
+
+-- a line that is refused tells nothing
+refused_tells : (Shown : Store → Type 0) (line : LineValue) (refusal : Refusal) (t : Account) → Tells Shown line (replies.Refused refusal) t t
+refused_tells Shown lines.Reopen refusal t = refl
+refused_tells Shown line refusal t = refl
+
+tells_on : (Shown More : Store → Type 0) → ((store : Store) → Shown store → More store) → (line : LineValue) (reply : ReplyValue) (t u : Account) → Tells Shown line reply t u → Tells More line reply t u
+tells_on Shown More each lines.Reopen (replies.Opened files) t u tells = (tells.0, (each tells.0 tells.1.0, tells.1.1, tells.1.2))
+tells_on Shown More each line reply t u tells = tells
+
+-- ---- one line
+
+module _ (C : Type 0) (state : C → CoreState) (v : DiskView) (t : Account) (r s : RunnerState C) (later : IsLater v (state r.core).disk) (at : At t r.sessions (state r.core)) where
+  abbrev Shown : Store → Type 0
+  Shown = WasShown v (state s.core).disk
+
+  reopened : (files : ℕ) → Reopens C state files s.sessions r.moments s.moments r.core s.core → Told C state (WasShown v (state s.core).disk) lines.Reopen (replies.Opened files) t s
+  reopened files acts =
+      let old = state r.core in
+      let mid = state acts.mid in
+      let new = state s.core in
+      let is = acts.opened in
+      let store : Store = is.store in
+      let running : IsRunning mid = new_runs (Shows old.disk mid.disk) old.disk.size mid acts.reads.only.later.size_is is in
+      let e : Event = record { actor = 0; step = asked.Stat; answer = Ok (counted acts.holdings); buf = acts.counts.0 } in
+      let steps = running_step mid new e is.stop_is acts.counts.1 in
+      let quiet = quiet_step mid new e acts.counts.1 tt running in
+      let names : mid.tables.names ≡ names_of store = is.represents.names_are.names_are in
+      record {
+        next = opened store;
+        tells = (
+          store,
+          (
+            shown_in v old.disk mid.disk new.disk store later acts.reads.only.later.clock_is steps.made.effect.disk.only.later is.right,
+            acts.files_are ∙ count_names acts.holdings mid (up_of mid is.stop_is running) steps.made.row.0 ∙ ap (λ (n : NameMap). finite.len n) names,
+            refl,
+          ),
+        );
+        at = at_opened store s.sessions new quiet.running (quiet.names ∙ names) acts.sessions_are (steps.made.row.1 ∙ is.parts_are);
+      }
+
+  not_reopened : (refusal : Refusal) → RefusesReopen C state refusal r.core s.core → s.sessions ≡ r.sessions → Told C state (WasShown v (state s.core).disk) lines.Reopen (replies.Refused refusal) t s
+  not_reopened refusal acts sessions = record {
+    next = t;
+    tells = refl;
+    at = subst (λ (x : Sessions). At t x (state s.core)) (sym sessions) (elim acts.why [
+      | inl memory ↦ subst (λ (c : C). At t r.sessions (state c)) (sym memory.1) at
+      | inr given_up ↦ kept given_up.3 given_up.2.only.later
+    ]);
+  }
+    where
+      kept : IsKept (state r.core) (state s.core) → IsLater (state r.core).disk (state s.core).disk → At t r.sessions (state s.core)
+      kept same on = record {
+        running = kept_runs (state r.core) (state s.core) on.size_is same at.running;
+        names = ap (λ (tables : Tables). tables.names) same.tables_are ∙ at.names;
+        sessions_are = at.sessions_are;
+        parts_are = ap (λ (parts : List core_part.Part). length parts) same.parts_are ∙ at.parts_are;
+        doing_are = at.doing_are;
+        each = λ actor below. subst (λ (parts : List core_part.Part). AtPart (doing_of t actor) (session_of r.sessions actor) (part_of parts actor)) (sym same.parts_are) (at.each actor below);
+      }
+
+  reopen_told : (reply : ReplyValue) → ActsReopen C state reply r s → Told C state (WasShown v (state s.core).disk) lines.Reopen reply t s
+  reopen_told (replies.Opened files) acts = reopened files acts
+  reopen_told (replies.Refused refusal) acts = not_reopened refusal acts.0 acts.1
+  reopen_told reply acts = absurd acts
+
+  acts_told : (line : LineValue) (reply : ReplyValue) → IsOfActor line → Admits line r.sessions (state r.core) → Acts C state line reply r s → Told C state (WasShown v (state s.core).disk) line reply t s
+  acts_told (lines.Begin a) reply of admits acts = begin_told C state Shown t r s at a (of a refl) reply admits acts
+  acts_told (lines.Push a digits) reply of admits acts = push_told C state Shown t r s at a (of a refl) digits reply admits acts
+  acts_told (lines.Finish a) reply of admits acts = finish_told C state Shown t r s at a (of a refl) reply admits acts
+  acts_told (lines.Turn a) reply of admits acts = turn_told C state Shown t r s at a (of a refl) reply admits acts
+  acts_told (lines.Commit a name) reply of admits acts = commit_told C state Shown t r s at a (of a refl) name reply admits acts
+  acts_told (lines.Abort a) reply of admits acts = abort_told C state Shown t r s at a (of a refl) reply admits acts
+  acts_told (lines.Read a name) reply of admits acts = read_told C state Shown t r s at a (of a refl) name reply admits acts
+  acts_told (lines.Next a) reply of admits acts = next_told C state Shown t r s at a (of a refl) reply admits acts
+  acts_told (lines.Drop a) reply of admits acts = drop_told C state Shown t r s at a (of a refl) reply admits acts
+  acts_told lines.Stat reply of admits acts = stat_told C state Shown t r s at reply admits acts
+  acts_told lines.Reopen reply of admits acts = absurd acts
+
+  taken_told : (line : LineValue) (reply : ReplyValue) → IsOfActor line → ActsOrNot C state line reply r s → Told C state (WasShown v (state s.core).disk) line reply t s
+  taken_told line reply of (inl taken) = acts_told line reply of taken.0 taken.1
+  taken_told line reply of (inr bars) = record {
+    next = t;
+    tells = subst (λ (x : ReplyValue). Tells Shown line x t t) (sym bars.1) (refused_tells Shown line bars.0 t);
+    at = subst (λ (x : RunnerState C). At t x.sessions (state x.core)) (sym bars.3) at;
+  }
+
+  pub line_told : (line : LineValue) (reply : ReplyValue) → IsOfActor line → RunsLine C state line reply r s → Told C state (WasShown v (state s.core).disk) line reply t s
+  line_told lines.Reopen reply of runs = reopen_told reply runs
+  line_told line reply of runs = taken_told line reply of runs
+
+-- ---- lines
+
+module _ (C : Type 0) (state : C → CoreState) (v : DiskView) where
+  shown_on : (old new : DiskView) → IsLater v old → IsLater old new → (store : Store) → WasShown v old store → WasShown v new store
+  shown_on old new before after store shown = record {
+    parts = shown.parts;
+    returned = map_all (λ part. old.read_returned v.clock part.at part.bytes) (λ part. new.read_returned v.clock part.at part.bytes) shown.parts
+        (λ part was. after.returned v.clock part.at part.bytes before.clock_is was) shown.returned;
+    shows = shown.shows;
+  }
+
+  lines_later : (rs : List Replied) (r s : RunnerState C) → RunsLines C state rs r s → IsLater (state r.core).disk (state s.core).disk
+  lines_later [] r s runs = subst (λ (x : RunnerState C). IsLater (state r.core).disk (state x.core).disk) (sym runs) (later_here (state r.core).disk)
+  lines_later (one ∷ more) r s runs =
+      let mid : RunnerState C = runs.1.0 in
+      later_on (state r.core).disk (state mid.core).disk (state s.core).disk (line_went C state one.line one.reply r mid runs.1.1.0).later (lines_later more mid s runs.1.1.1)
+
+  all_tell : (rs : List Replied) (t : Account) (r s : RunnerState C) → IsLater v (state r.core).disk → At t r.sessions (state r.core) → AreOfActors rs → RunsLines C state rs r s → AllTell (WasShown v (state s.core).disk) rs t
+  all_tell [] t r s later at actors runs = tt
+  all_tell (one ∷ more) t r s later at actors runs =
+      let mid : RunnerState C = runs.1.0 in
+      let told = line_told C state v t r mid later at one.line one.reply actors.0 runs.1.1.0 in
+      let later_mid = later_on v (state r.core).disk (state mid.core).disk later (line_went C state one.line one.reply r mid runs.1.1.0).later in (
+        told.next,
+        (
+          tells_on (WasShown v (state mid.core).disk) (WasShown v (state s.core).disk) (shown_on (state mid.core).disk (state s.core).disk later_mid (lines_later more mid s runs.1.1.1)) one.line one.reply t told.next told.tells,
+          all_tell more told.next mid s later_mid told.at actors.1 runs.1.1.1,
+        ),
+      )
+
+pub lines_give_what_is_named : (D : Type 0) (view : D → DiskView) (C : Type 0) (state : C → CoreState) → LinesGiveWhatIsNamed D view C state
+lines_give_what_is_named D view C state rs before r s new reads none actors runs =
+    let v = view before in
+    let c = state r.core in
+    let running : IsRunning c = new_runs (Shows v c.disk) v.size c reads.only.later.size_is new in
+    let at = at_opened new.store r.sessions c running new.represents.names_are.names_are none new.parts_are in
+    record {
+      store = new.store;
+      shown = shown_in v v c.disk (state s.core).disk new.store (later_here v) reads.only.later.clock_is (lines_later C state v rs r s runs) new.right;
+      tell = all_tell C state v rs (opened new.store) r s reads.only.later at actors runs;
+    }

@@ -1,5 +1,5 @@
 -- How a file is given: it is opened, and its segments are read and written one after the other.
-use Rattle.std.proofs.Common.{◌≡◌, inr, ◌<◌, ◌+◌, ◌==◌, ℕ, Bool, true, false, List, [], ◌∷◌, ◌++◌, length, take, Option, Some, Result, Ok, Err, refl, sym, ◌∙◌, ap, subst, arith, append_assoc, length-append}
+use Rattle.std.proofs.Common.{◌≡◌, inr, ◌<◌, ◌+◌, ◌==◌, ℕ, Bool, true, false, List, [], ◌∷◌, ◌++◌, length, take, drop, Option, Some, Result, Ok, Err, refl, sym, ◌∙◌, ap, subst, arith, append_assoc, length-append, take-append-drop}
 use Rattle.std.specs.List.{AllByRecursion, concat}
 use Rattle.std.proofs.Math.Seq.{take-append-add}
 use Rattle.std.proofs.lemmas.List.{append-nil}
@@ -20,7 +20,7 @@ use Rattle.store_core.specs.Core.{CoreStep, Steps, IsGiven as IsSegmentGiven}
 use Rattle.store_core.specs.Runs.{CoreRun, given_by, given_to}
 use Rattle.store_core.specs.State.{CoreState, Event, IsRunning}
 use Rattle.backup_engine.specs.Giving.{GivenSoFar, bytes_of_part, bytes_to_come}
-use Rattle.backup_engine.specs.Running.{IsFresh, IsRead, IsGiven, EndsGiving, WroteGiven, GiveRun}
+use Rattle.backup_engine.specs.Running.{IsFresh, IsRead, IsGiven, EndsGiving, WroteGiven, WroteLast, GiveRun}
 use Rattle.backup_engine.proofs.FirstActor.{by_first, steps_of, first_part, up_of}
 
 -- ---- steps, one after the other
@@ -115,8 +115,9 @@ module _ (C : Type 0) (state : C → CoreState) (name : List ℕ) (old : C) (sin
 
     -- it was the last
     given_out : (answer : Result Answer Refusal) (result : Result Unit Ending) (sink_new : SinkView) → CoreStep (state now) (read answer) (state new) → EndsGiving (read answer ∷ []) result
-        → WroteGiven result (concat (given_to 0 (so_far.reads ++ read answer ∷ []))) sink sink_new → GiveRun C state name result old new sink sink_new
-    given_out answer result sink_new step ends wrote = inr (record {
+        → WroteGiven result (concat (given_to 0 (so_far.reads ++ read answer ∷ []))) sink sink_new
+        → WroteLast result (given_to 0 (so_far.reads ++ read answer ∷ [])) sink sink_new → GiveRun C state name result old new sink sink_new
+    given_out answer result sink_new step ends wrote last = inr (record {
       count = so_far.count;
       buf = so_far.buf;
       mid = so_far.mid;
@@ -126,17 +127,18 @@ module _ (C : Type 0) (state : C → CoreState) (name : List ℕ) (old : C) (sin
       each = all_on IsRead so_far.reads (read answer ∷ []) so_far.each ((refl, refl), tt);
       ends = ends_giving so_far.reads (read answer) result so_far.given ends;
       wrote = wrote;
+      wrote_last = last;
     })
 
     still_wrote : (answer : Result Answer Refusal) → given_to 0 (read answer ∷ []) ≡ [] → Appended sink.written sink_now.written (concat (given_to 0 (so_far.reads ++ read answer ∷ [])))
     still_wrote answer none = subst (λ (b : List ℕ). Appended sink.written sink_now.written b) (sym (nothing_more so_far.reads (read answer) none)) so_far.wrote
 
     pub read_refused : (refusal : Refusal) → CoreStep (state now) (read (Err refusal)) (state new) → GiveRun C state name (Err (endings.Refused refusal)) old new sink sink_now
-    read_refused refusal step = given_out (Err refusal) (Err (endings.Refused refusal)) sink_now step refl (still_wrote (Err refusal) refl, so_far.faults_are)
+    read_refused refusal step = given_out (Err refusal) (Err (endings.Refused refusal)) sink_now step refl (still_wrote (Err refusal) refl, so_far.faults_are) tt
 
     -- only the end is answered but a segment
     pub read_ended : (answer : Answer) → ((count : ℕ) → answer ≡ answers.Bytes count → ⊥) → CoreStep (state now) (read (Ok answer)) (state new) → GiveRun C state name (Ok tt) old new sink sink_now
-    read_ended answers.End other step = given_out (Ok answers.End) (Ok tt) sink_now step refl (still_wrote (Ok answers.End) refl, so_far.faults_are)
+    read_ended answers.End other step = given_out (Ok answers.End) (Ok tt) sink_now step refl (still_wrote (Ok answers.End) refl, so_far.faults_are) tt
     read_ended (answers.Bytes count) other step = absurd (other count refl)
     read_ended answer other step = absurd (steps (Ok answer) step).made.row
 
@@ -158,6 +160,18 @@ module _ (C : Type 0) (state : C → CoreState) (name : List ℕ) (old : C) (sin
       not_written sink_new part rose = given_out (Ok (answers.Bytes count)) (Err endings.Sink) sink_new step tt (
         subst (λ (b : List ℕ). AppendedPart sink.written sink_new.written b) (sym all_is) (written_part sink.written sink_now.written sink_new.written bytes piece so_far.wrote part),
         subst (λ (n : ℕ). Rose n sink_new.faults) so_far.faults_are rose,
+      ) (
+        given_to 0 so_far.reads,
+        (
+          piece,
+          (
+            given_on so_far.reads (read (Ok (answers.Bytes count)) ∷ []),
+            (
+              take part.count piece,
+              ((drop part.count piece, sym (take-append-drop part.count piece)), written_on sink.written sink_now.written sink_new.written bytes (take part.count piece) so_far.wrote part.is),
+            ),
+          ),
+        ),
       )
 
       pub goes_on : (sink_new : SinkView) → IsRunning (state new) → Appended sink_now.written sink_new.written piece → sink_new.faults ≡ sink_now.faults

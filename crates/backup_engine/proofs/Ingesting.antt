@@ -48,18 +48,15 @@ module _ (C : Type 0) (state : C → CoreState) (v w : DiskView) (old new : C) (
         (stopped_map C state v w old new called name given source source_now none.ran sink none.ending none.cause none.long))
 
   -- what the source gave was stored, or not
-  pub ingest_keeps : (result : Result Unit Ending) (source source_now : SourceView) (sink sink_now : SinkView) → IngestRun C state name result old new source source_now sink sink_now
-      → (given : List ℕ) × Keeps (Ingest name) given (ending_in result) v w source source_now sink sink_now
-  ingest_keeps result source source_now sink sink_now run = (
-    run.given,
-    record {
-      map = elim run.way [
-        | inl none ↦ unput_map run.given sink sink_now result source source_now none
-        | inr taken ↦ put_map run.given sink sink_now taken.put result taken.ran taken.refused taken.replies
-      ];
-      any = ingest_any C state v w old new called name result source source_now sink sink_now run (heard_in result source source_now run.heard);
-      frame = ingest_frame C state v w old new called name result source source_now sink sink_now run;
-      blank = tt;
-      untouched = tt;
-    },
-  )
+  pub ingest_keeps : (result : Result Unit Ending) (source source_now : SourceView) (sink sink_now : SinkView) (run : IngestRun C state name result old new source source_now sink sink_now)
+      → Keeps (Ingest name) run.given (ending_in result) v w source source_now sink sink_now
+  ingest_keeps result source source_now sink sink_now run = record {
+    map = elim run.way [
+      | inl none ↦ unput_map run.given sink sink_now result source source_now none
+      | inr taken ↦ put_map run.given sink sink_now taken.put result taken.ran taken.refused taken.replies
+    ];
+    any = ingest_any C state v w old new called name result source source_now sink sink_now run (heard_in result source source_now run.heard);
+    frame = ingest_frame C state v w old new called name result source source_now sink sink_now run;
+    blank = tt;
+    untouched = tt;
+  }

@@ -10,6 +10,7 @@ pub mod Formatting
 pub mod Fresh
 pub mod GiveRuns
 pub mod GivenBack
+pub mod GivenLines
 pub mod GivenOrder
 pub mod GivenOut
 pub mod IngestFrame
@@ -17,6 +18,7 @@ pub mod Ingesting
 pub mod Kept
 pub mod KeptBytes
 pub mod KeptPieces
+pub mod LinesRun
 pub mod Lists
 pub mod NotDone
 pub mod NotOpened
@@ -35,7 +37,15 @@ pub mod RightPuts
 pub mod RightRoots
 pub mod RootPieces
 pub mod SameRoom
+pub mod Saying
+pub mod SayingEnds
+pub mod SayingFed
+pub mod SayingSteps
+pub mod ScriptKept
+pub mod ScriptLists
+pub mod ScriptSteps
 pub mod SealedIndex
+pub mod SinglesRun
 pub mod SinkWrites
 pub mod SourceRuns
 pub mod Stored

@@ -1,8 +1,11 @@
 -- What holds of calls one after the other, from what each keeps of the map that it finds.
-use Rattle.std.proofs.Common.{◌≡◌, ◌⊎◌, inl, inr, ℕ, zero, suc, ◌+◌, List, [], ◌∷◌, ◌++◌, replicate, Option, Some, None, refl, sym, ◌∙◌, subst}
+use Rattle.std.proofs.Common.{◌≡◌, ◌⊎◌, inl, inr, ℕ, zero, suc, ◌+◌, List, [], ◌∷◌, ◌++◌, replicate, Option, Some, None, refl, sym, ◌∙◌, subst, arith}
 use Rattle.std.specs.List.{AllByRecursion}
 use Rattle.base_model.specs.Known.{KnownWith}
 use Rattle.dd_disk.specs.View.{DiskView, IsDurable}
+use Rattle.plain_machine.specs.Machine.{opened}
+use Rattle.plain_machine.specs.Runs.{IsPassedFrom, Replied}
+use Rattle.plain_machine.specs.Through.{IsOfSome}
 use Rattle.refusals.specs.declared.refusal.Refusal.{Refusal}
 use Rattle.refusals.specs.declared.refusal.Refusal.TheVariants.{Memory, NoFile, BadName, TooMany, TooLong, Full, Clash, WrongPart, DiskRead, DiskWrite, Stopped, Corrupt, Missing, Numbers, NotAStore, Version, Damaged, Unpinned, AlreadyStore, WrongSize}
 use Rattle.reply_text.specs.declared.ending.Ending.{Ending}
@@ -11,21 +14,23 @@ use Rattle.reply_text.specs.Table.{status_of_refusal}
 use Rattle.store_model.specs.Collisions.{HasNoCollisions, ByteSet, IsIn, AreAmong}
 use Rattle.store_model.specs.Files.{Stored, no_files}
 use Rattle.store_model.specs.Image.{empty_store}
-use Rattle.store_model.specs.Standing.{IsSegmentOf, IsFormatted}
+use Rattle.store_model.specs.Standing.{IsFormatted}
 use Rattle.store_core.specs.Runs.{IsOf}
 use Rattle.backup_engine.specs.AnyDisk.{Formats}
-use Rattle.backup_engine.specs.Line.{CommandLine, Format}
+use Rattle.backup_engine.specs.Line.{CommandLine, Format, TableLine, Single, Run}
+use Rattle.backup_engine.specs.Lines.{RunsByMachine, RunsNone}
 use Rattle.backup_engine.specs.PlainMap.{map_after}
 use Rattle.backup_engine.specs.Promise.{KeepsMap, IsLeftAs, MayBeMeanwhile, SinceStart, NothingWritten, Stands}
 use Rattle.backup_engine.specs.TopCall.{Does, DoesNothing, status_by}
-use Rattle.backup_engine.specs.Lists.{Call, KeepsCall, CallRun, IsPromised, BeginsOfMap, LeadsBy, MayLead, LeadsTo, Possible, StandsEmpty, FormatBegins, LeavesPossible, AnswersByTheMap, SurvivesACrash}
+use Rattle.backup_engine.specs.Lists.{Call, KeepsCall, CallRun, IsGivenAmong, IsPromised, BeginsOfMap, LeadsBy, MayLead, MayPass, LeadsTo, Passed, Possible, RunsByTheMap, ScriptLeads, StandsEmpty, FormatBegins, LeavesPossible, AnswersByTheMap, SurvivesACrash}
+use Rattle.backup_engine.proofs.LinesRun.{passed_last}
 use Rattle.backup_engine.proofs.Reading.{same_reads, since_start}
 
 -- ---- one call
 
 -- a promise is what the call keeps, with the ending and the bytes that it names
 pub promised : (D : Type 0) (view : D → DiskView) → IsPromised D view
-promised D view c old new promise = (promise.ending, (promise.given, record { status_is = promise.status_is; noted = promise.noted; does = promise.does }))
+promised D view c old new promise = (promise.ending, (promise.given, (promise.rs, record { status_is = promise.status_is; noted = promise.noted; does = promise.does })))
 
 -- the image is of a map that has P
 abbrev pub OfSome : (List ℕ → Type 0) → (Stored → Type 0) → List ℕ → Type 0
@@ -58,51 +63,91 @@ module _ (S : List ℕ → Type 0) (command : CommandLine) (given : List ℕ) wh
   leads_meanwhile (Some ending) m image (inr done) = absurd done.0
 
 -- what a call answers to a map that it finds: words that are no line do nothing
-abbrev pub Answers : Option CommandLine → (List ℕ → Type 0) → Call → Stored → DiskView → DiskView → Type 0
+abbrev pub Answers : Option TableLine → (List ℕ → Type 0) → Call → Stored → DiskView → DiskView → Type 0
 Answers None S c m v w = DoesNothing c.ending v w c.source c.source_now c.sink c.sink_now
-Answers (Some command) S c m v w = KeepsMap S command c.given c.ending m v w c.sink c.sink_now
+Answers (Some (Single command)) S c m v w = KeepsMap S command c.given c.ending m v w c.sink c.sink_now
+Answers (Some Run) S c m v w = KnownWith v.content (λ image. IsOf S m image × (RunsByMachine S c.rs m image v w ⊎ RunsNone c.ending c.rs v w))
 
 -- the maps after a call, from those that have P
-abbrev pub After : (Stored → Type 0) → Option CommandLine → Call → Stored → Type 0
-After P line c next = (m : Stored) × (P m × MayLead line c.given c.ending m next)
+abbrev pub After : (Stored → Type 0) → Option TableLine → Call → Stored → Type 0
+After P line c next = (m : Stored) × (P m × MayLead line c m next)
 
 module _ (S : List ℕ → Type 0) (P : Stored → Type 0) (c : Call) where
   words_lead : (image : List ℕ) → OfSome S P image → OfSome S (After P None c) image
   words_lead image (next, (has, of)) = (next, ((next, (has, refl)), of))
 
-  same_leads : (command : CommandLine) (image : List ℕ) → ((e : Ending) × (c.ending ≡ Some e) × ¬ (e ≡ Sink)) → OfSome S P image → OfSome S (After P (Some command) c) image
+  same_leads : (command : CommandLine) (image : List ℕ) → ((e : Ending) × (c.ending ≡ Some e) × ¬ (e ≡ Sink)) → OfSome S P image → OfSome S (After P (Some (Single command)) c) image
   same_leads command image not_done (next, (has, of)) = (next, ((next, (has, leads_nowhere command c.given c.ending next not_done)), of))
 
+  -- no lines lead to the map as it was
+  no_lines : (rs : List Replied) (m : Stored) → rs ≡ [] → ScriptLeads rs m m
+  no_lines rs m none = subst (λ (l : List Replied). ScriptLeads l m m) (sym none) (record { image = []; faults = 0; last = opened m [] 0; run = refl; found = refl })
+
+  script_nowhere : (image : List ℕ) → c.rs ≡ [] → OfSome S P image → OfSome S (After P (Some Run) c) image
+  script_nowhere image none (next, (has, of)) = (next, ((next, (has, no_lines c.rs next none)), of))
+
   module _ (m : Stored) (v w : DiskView) (has : P m) (stands : Stands (OfSome S P) v) where
-    line_leads : (command : CommandLine) (image : List ℕ) → IsLeftAs S command c.given m c.ending image → OfSome S (After P (Some command) c) image
+    line_leads : (command : CommandLine) (image : List ℕ) → IsLeftAs S command c.given m c.ending image → OfSome S (After P (Some (Single command)) c) image
     line_leads command image left = let one = leads_left S command c.given c.ending m image left in (one.0, ((m, (has, one.1.0)), one.1.1))
 
-    line_leaves : (command : CommandLine) → Stands (IsLeftAs S command c.given m c.ending) w ⊎ NothingWritten c.ending v w → Stands (OfSome S (After P (Some command) c)) w
+    line_leaves : (command : CommandLine) → Stands (IsLeftAs S command c.given m c.ending) w ⊎ NothingWritten c.ending v w → Stands (OfSome S (After P (Some (Single command)) c)) w
     line_leaves command (inl left) = ((left.0.0, left.0.1, line_leads command left.0.0 left.0.2), λ d is. line_leads command d (left.1 d is))
     line_leaves command (inr none) =
         ((stands.0.0, none.content ∙ stands.0.1, same_leads command stands.0.0 none.not_done stands.0.2), λ d is. same_leads command d none.not_done (stands.1 d (none.images d is)))
 
+    module _ (image : List ℕ) (machine : RunsByMachine S c.rs m image v w) where
+      script_now : (d : List ℕ) → w.images d → OfSome S (After P (Some Run) c) d
+      script_now d is =
+          let found = machine.through.now d is in
+          (found.0, ((m, (has, record { image = image; faults = v.faults; last = machine.last; run = machine.run; found = found.1.0 })), found.1.1))
+
+      script_passes : (d : List ℕ) → IsOfSome (IsOf S) (IsPassedFrom m.last c.rs (opened m image v.faults) machine.last machine.run) d → OfSome S (MayPass (Some Run) c m) d
+      script_passes d passed = (passed.0, (record { image = image; faults = v.faults; last = machine.last; run = machine.run; passed = passed.1.0 }, passed.1.1))
+
+      script_crash : (d : List ℕ) → SinceStart v w d → OfSome S P d ⊎ OfSome S (MayPass (Some Run) c m) d
+      script_crash d (inl is) =
+          let found = machine.through.now d is in
+          inr (script_passes d (found.0, (passed_last c.rs (opened m image v.faults) machine.last machine.run m.last found.0 (omega (arith, machine.through.many)) found.1.0, found.1.1)))
+      script_crash d (inr since) = elim (machine.through.since v.clock d (omega arith) since.0 since.1) [
+        | inl was ↦ inl (stands.1 d (v.only_now d since.0 was))
+        | inr passed ↦ inr (script_passes d passed)
+      ]
+
+    script_leaves : (image : List ℕ) → RunsByMachine S c.rs m image v w ⊎ RunsNone c.ending c.rs v w → Stands (OfSome S (After P (Some Run) c)) w
+    script_leaves image (inl machine) =
+        let told = machine.through.content in
+        ((machine.last.content, told, script_now image machine machine.last.content (w.as_read machine.last.content told)), script_now image machine)
+    script_leaves image (inr none) =
+        ((stands.0.0, none.content ∙ stands.0.1, script_nowhere stands.0.0 none.none stands.0.2), λ d is. script_nowhere d none.none (stands.1 d (none.images d is)))
+
+    none_crash : RunsNone c.ending c.rs v w → (d : List ℕ) → SinceStart v w d → v.images d
+    none_crash none d (inl is) = none.images d is
+    none_crash none d (inr since) = elim (none.since v.clock d (omega arith) since.1) [ inl was ↦ v.only_now d since.0 was | inr there ↦ there ]
+
+    script_meanwhile : (image : List ℕ) → RunsByMachine S c.rs m image v w ⊎ RunsNone c.ending c.rs v w → (d : List ℕ) → SinceStart v w d → OfSome S P d ⊎ OfSome S (MayPass (Some Run) c m) d
+    script_meanwhile image (inl machine) d since = script_crash image machine d since
+    script_meanwhile image (inr none) d since = inl (stands.1 d (none_crash none d since))
+
     -- what it leaves
-    leaves : (line : Option CommandLine) → Answers line S c m v w → Stands (OfSome S (After P line c)) w
+    leaves : (line : Option TableLine) → Answers line S c m v w → Stands (OfSome S (After P line c)) w
     leaves None nothing =
         let reads = same_reads v w nothing.disk_is in
         ((stands.0.0, reads.content_is ∙ stands.0.1, words_lead stands.0.0 stands.0.2), λ d is. words_lead d (stands.1 d (reads.images_are d is)))
-    leaves (Some command) keeps = line_leaves command keeps.left
+    leaves (Some (Single command)) keeps = line_leaves command keeps.left
+    leaves (Some Run) runs = script_leaves runs.0 runs.2.1
 
     line_crash : (command : CommandLine) (image : List ℕ) → v.images image ⊎ MayBeMeanwhile S command c.given m c.ending image
-        → OfSome S P image ⊎ OfSome S (MayLead (Some command) c.given c.ending m) image
+        → OfSome S P image ⊎ OfSome S (MayPass (Some (Single command)) c m) image
     line_crash command image (inl before) = inl (stands.1 image before)
     line_crash command image (inr meanwhile) = elim (leads_meanwhile S command c.given c.ending m image meanwhile) [ inl was ↦ inl (m, (has, was)) | inr led ↦ inr led ]
 
     -- and what a crash since it began leaves
-    crash_leaves : (line : Option CommandLine) → Answers line S c m v w → (image : List ℕ) → SinceStart v w image → OfSome S P image ⊎ OfSome S (MayLead line c.given c.ending m) image
+    crash_leaves : (line : Option TableLine) → Answers line S c m v w → (image : List ℕ) → SinceStart v w image → OfSome S P image ⊎ OfSome S (MayPass line c m) image
     crash_leaves None nothing image since = inl (stands.1 image (since_start v w (same_reads v w nothing.disk_is) image since))
-    crash_leaves (Some command) keeps image since = line_crash command image (keeps.crash image since)
+    crash_leaves (Some (Single command)) keeps image since = line_crash command image (keeps.crash image since)
+    crash_leaves (Some Run) runs image since = script_meanwhile runs.0 runs.2.1 image since
 
 -- ---- calls, one after the other
-
-abbrev pub IsGivenAmong : (List ℕ → Type 0) → Call → Type 0
-IsGivenAmong S c = (bytes : List ℕ) → IsSegmentOf c.given bytes → S bytes
 
 -- the maps after calls, from those that have P
 abbrev pub AfterAll : (Stored → Type 0) → List Call → Stored → Type 0
@@ -112,8 +157,8 @@ weaker : (S : List ℕ → Type 0) (P Q : Stored → Type 0) (v : DiskView) → 
 weaker S P Q v goes ((image, told, (next, (has, of))), each) =
     ((image, told, (next, (goes next has, of))), λ d is. let one = each d is in (one.0, (goes one.0 one.1.0, one.1.1)))
 
-leads_on : (calls : List Call) (last : Call) (m mid next : Stored) → LeadsTo calls m mid → MayLead last.line last.given last.ending mid next → LeadsTo (calls ++ last ∷ []) m next
-leads_on [] last m mid next is leads = (next, (subst (λ (s : Stored). MayLead last.line last.given last.ending s next) is leads, refl))
+leads_on : (calls : List Call) (last : Call) (m mid next : Stored) → LeadsTo calls m mid → MayLead last.line last mid next → LeadsTo (calls ++ last ∷ []) m next
+leads_on [] last m mid next is leads = (next, (subst (λ (s : Stored). MayLead last.line last s next) is leads, refl))
 leads_on (c ∷ cs) last m mid next (one, (first, rest)) leads = (one, (first, leads_on cs last one mid next rest leads))
 
 given_before : (S : List ℕ → Type 0) (calls : List Call) (last : Call) → AllByRecursion (IsGivenAmong S) (calls ++ last ∷ []) → AllByRecursion (IsGivenAmong S) calls
@@ -125,10 +170,11 @@ given_last S [] last given = given.0
 given_last S (c ∷ cs) last given = given_last S cs last given.1
 
 module _ (among : ByteSet) (apart : HasNoCollisions (IsIn among)) where
-  answers_line : (line : Option CommandLine) (c : Call) (m : Stored) (v w : DiskView) (image : List ℕ) → IsGivenAmong (IsIn among) c → v.content ≡ Some image → IsOf (IsIn among) m image
-      → Does line c.given c.ending v w c.source c.source_now c.sink c.sink_now → Answers line (IsIn among) c m v w
+  answers_line : (line : Option TableLine) (c : Call) (m : Stored) (v w : DiskView) (image : List ℕ) → IsGivenAmong (IsIn among) c → v.content ≡ Some image → IsOf (IsIn among) m image
+      → Does line c.given c.rs c.ending v w c.source c.source_now c.sink c.sink_now → Answers line (IsIn among) c m v w
   answers_line None c m v w image given told of does = does
-  answers_line (Some command) c m v w image given told of does = does.map image told among m apart given of
+  answers_line (Some (Single command)) c m v w image given told of does = does.0.map image told among m apart given.given of
+  answers_line (Some Run) c m v w image given told of does = (image, told, (of, does.machine image told among m apart (given.cut m image v.faults) of))
 
   -- the map that a call finds in the content
   found : (P : Stored → Type 0) (c : Call) (v w : DiskView) → IsGivenAmong (IsIn among) c → Stands (OfSome (IsIn among) P) v → KeepsCall c v w
@@ -167,15 +213,20 @@ module _ (D : Type 0) (view : D → DiskView) (among : ByteSet) (m : Stored) (ca
   last_finds : (now : Stored) × (LeadsTo calls m now × KnownWith (view mid).content (IsOf (IsIn among) now) × Answers last.line (IsIn among) last now (view mid) (view new))
   last_finds = found among begins.apart (LeadsTo calls m) last (view mid) (view new) (given_last (IsIn among) calls last begins.given) before keeps
 
-  by_led : (now : Stored) → LeadsTo calls m now → (c : List ℕ) → Possible (IsIn among) calls m c ⊎ OfSome (IsIn among) (MayLead last.line last.given last.ending now) c
-      → Possible (IsIn among) calls m c ⊎ Possible (IsIn among) (calls ++ last ∷ []) m c
+  by_led : (now : Stored) → LeadsTo calls m now → (c : List ℕ) → Possible (IsIn among) calls m c ⊎ OfSome (IsIn among) (MayPass last.line last now) c
+      → Possible (IsIn among) calls m c ⊎ Passed (IsIn among) calls last m c
   by_led now leads c (inl possible) = inl possible
-  by_led now leads c (inr led) = inr (led.0, (leads_on calls last m now led.0 leads led.1.0, led.1.1))
+  by_led now leads c (inr led) = inr (now, (leads, led))
 
 pub answers_by_the_map : (D : Type 0) (view : D → DiskView) → AnswersByTheMap D view
 answers_by_the_map D view among m calls last command old mid new begins run keeps line_is =
     let one = last_finds D view among m calls last old mid new begins run keeps in
-    (one.0, (one.1.0, one.1.1, subst (λ (l : Option CommandLine). Answers l (IsIn among) last one.0 (view mid) (view new)) line_is one.1.2))
+    (one.0, (one.1.0, one.1.1, subst (λ (l : Option TableLine). Answers l (IsIn among) last one.0 (view mid) (view new)) line_is one.1.2))
+
+pub runs_by_the_map : (D : Type 0) (view : D → DiskView) → RunsByTheMap D view
+runs_by_the_map D view among m calls last old mid new begins run keeps line_is =
+    let one = last_finds D view among m calls last old mid new begins run keeps in
+    (one.0, (one.1.0, subst (λ (l : Option TableLine). Answers l (IsIn among) last one.0 (view mid) (view new)) line_is one.1.2))
 
 pub survives_a_crash : (D : Type 0) (view : D → DiskView) → SurvivesACrash D view
 survives_a_crash D view among m calls last old mid new begins run keeps c since =
@@ -235,13 +286,13 @@ done_at_zero (Some Script) is = cc
 done_at_zero (Some (Refused refusal)) is = absurd (refused refusal is)
 
 module _ (slots : ℕ) (c : Call) (v w : DiskView) where
-  abbrev DoesBy : Option CommandLine → Option Ending → Type 0
-  DoesBy line ending = Does line c.given ending v w c.source c.source_now c.sink c.sink_now
+  abbrev DoesBy : Option TableLine → Option Ending → Type 0
+  DoesBy line ending = Does line c.given c.rs ending v w c.source c.source_now c.sink c.sink_now
 
-  format_done : KeepsCall c v w → c.line ≡ Some (Format slots) → c.status ≡ 0 → Formats slots v w × IsDurable w
+  format_done : KeepsCall c v w → c.line ≡ Some (Single (Format slots)) → c.status ≡ 0 → Formats slots v w × IsDurable w
   format_done keeps line_is zero_is =
-      let done : DoesBy (Some (Format slots)) None = subst (DoesBy (Some (Format slots))) (done_at_zero c.ending (sym keeps.status_is ∙ zero_is)) (subst (λ (l : Option CommandLine). DoesBy l c.ending) line_is keeps.does) in
-      (done.any.caused, done.any.durable)
+      let done : DoesBy (Some (Single (Format slots))) None = subst (DoesBy (Some (Single (Format slots)))) (done_at_zero c.ending (sym keeps.status_is ∙ zero_is)) (subst (λ (l : Option TableLine). DoesBy l c.ending) line_is keeps.does) in
+      (done.0.any.caused, done.0.any.durable)
 
 pub format_begins : (D : Type 0) (view : D → DiskView) → FormatBegins D view
 format_begins D view among slots c old new told keeps line_is zero_is =

@@ -79,21 +79,22 @@ pub record IsUnopened (v w : DiskView) (refusal : Refusal) : Type 0 where
   pub given_up : Shows v w (IsGivenUp refusal)
   pub reads : Reads (ending_of (blames refusal)) v w
 
-module _ (v w : DiskView) (refusal : Refusal) (is : IsUnopened v w refusal) (name : List ℕ) (source : SourceView) (sink : SinkView) where
-  map_fails : (S : List ℕ → Type 0) (m : Stored) (old : List ℕ) → v.content ≡ Some old → IsOf S m old → IsTrue (fails refusal)
+module _ (v w : DiskView) (refusal : Refusal) (is : IsUnopened v w refusal) where
+  pub map_fails : (S : List ℕ → Type 0) (m : Stored) (old : List ℕ) → v.content ≡ Some old → IsOf S m old → IsTrue (fails refusal)
   map_fails S m old known stands =
       let holds = stands.1.0.holds in
       fails_alone stands.0 refusal holds.reserve (shown_content v w (IsGivenUp refusal) old is.given_up known stands.0 holds.right)
 
+module _ (v w : DiskView) (refusal : Refusal) (is : IsUnopened v w refusal) (name : List ℕ) (source : SourceView) (sink : SinkView) where
   ingest_answers : (given : List ℕ) → AnswersEach (Ingest name) given (Some (Refused refusal)) v w sink sink
   ingest_answers given old known among m distinct right stands = record {
-    by_map = ingest_failed name given (IsIn among) m old w.content (is.reads.only.content_is ∙ known) stands refusal (map_fails (IsIn among) m old known stands);
+    by_map = ingest_failed name given (IsIn among) m old w.content (is.reads.only.content_is ∙ known) stands refusal (map_fails v w refusal is (IsIn among) m old known stands);
     wrote = wrote_nothing (Ingest name) given m (Refused refusal) sink (not_sink refusal);
   }
 
   restore_answers : (given : List ℕ) → AnswersEach (Restore name) given (Some (Refused refusal)) v w sink sink
   restore_answers given old known among m distinct right stands = record {
-    by_map = restore_failed name given (IsIn among) m old w.content (is.reads.only.content_is ∙ known) stands refusal (map_fails (IsIn among) m old known stands);
+    by_map = restore_failed name given (IsIn among) m old w.content (is.reads.only.content_is ∙ known) stands refusal (map_fails v w refusal is (IsIn among) m old known stands);
     wrote = wrote_nothing (Restore name) given m (Refused refusal) sink (not_sink refusal);
   }
 

@@ -11,7 +11,10 @@ use Rattle.reply_text.specs.Text.{stored_line}
 use Rattle.store_model.specs.Trees.{root_of}
 use Rattle.store_core.specs.State.{CoreState}
 use Rattle.backup_engine.specs.Running.{HoldsPieces, PutRun, IsPutRefusal}
+use Rattle.backup_engine.specs.Saying.{RunsSingle}
+use Rattle.backup_engine.specs.Singles.{IsIngest, StoresFile}
 use Rattle.backup_engine.specs.Storing.{IsSourceFault, IsHeard, IsHeardAt, IsReadOut, Sent, IngestRun}
+use Rattle.backup_engine.specs.TopCall.{ending_in}
 
 -- What a source had to give that was not read: what it had left; where it doesn't tell that, nothing.
 pub given_of : Option (List ℕ) → List ℕ
@@ -43,6 +46,13 @@ module _ (C : Type 0) (state : C → CoreState) (name : List ℕ) (source source
   sent_out reply (Err Sink) sink sink_now out sent = out
   sent_out reply (Err ending) sink sink_now out sent = absurd sent
 
+  -- but perhaps for the reply, all lines were run
+  sent_lines : (given reply : List ℕ) (result : Result Unit Ending) (sink sink_now : SinkView) (old new : C) → Sent reply result sink sink_now → RunsSingle C state (StoresFile name given) old new
+      → RunsSingle C state (IsIngest name given (ending_in result)) old new
+  sent_lines given reply (Ok u) sink sink_now old new sent said = said
+  sent_lines given reply (Err Sink) sink sink_now old new sent said = said
+  sent_lines given reply (Err ending) sink sink_now old new sent said = absurd sent
+
   module _ (given : List ℕ) (took : Known source.left (λ all. given ≡ all)) (old new : C) where
     -- a file that is too long came from a source that had too much
     pub too_long : MOST_FILE < length given → IsSourceFault source source_now (Refused TooLong)
@@ -50,33 +60,36 @@ module _ (C : Type 0) (state : C → CoreState) (name : List ℕ) (source source
 
     -- no more was asked
     pub stopped : (ending : Ending) (sink : SinkView) → IsSourceFault source source_now ending → IsHeardAt source source_now ending → (ending ≡ Refused TooLong → MOST_FILE < length given) → PutRun C state name given (Err Memory) old new
-        → IngestRun C state name (Err ending) old new source source_now sink sink
-    stopped ending sink cause heard long ran = record {
+        → RunsSingle C state (IsIngest name given (Some ending)) old new → IngestRun C state name (Err ending) old new source source_now sink sink
+    stopped ending sink cause heard long ran said = record {
       given = given;
       took = took;
       to_end = failed_out ending cause;
       heard = heard;
+      lines_are = said;
       way = inl (record { ending = ending; result_is = refl; cause = cause; long = long; ran = ran; sink_is = refl });
     }
 
     -- a step was refused
     pub not_stored : (refusal : Refusal) (sink : SinkView) → source_now.faults ≡ source.faults → PutRun C state name given (Err refusal) old new → IsPutRefusal name given (state old).disk (state new) refusal
-        → IngestRun C state name (Err (Refused refusal)) old new source source_now sink sink
-    not_stored refusal sink same ran refused = record {
+        → RunsSingle C state (IsIngest name given (Some (Refused refusal))) old new → IngestRun C state name (Err (Refused refusal)) old new source source_now sink sink
+    not_stored refusal sink same ran refused said = record {
       given = given;
       took = took;
       to_end = tt;
       heard = same;
+      lines_are = said;
       way = inr (record { put = Err refusal; ran = ran; few = tt; held = tt; refused = refused; replies = (refl, refl) });
     }
 
     -- all of it was stored
     pub stored : (result : Result Unit Ending) (sink sink_now : SinkView) → Known source.left (λ all. source_now.left ≡ Some []) → source_now.faults ≡ source.faults → PutRun C state name given (Ok tt) old new
-        → length given ≤ MOST_FILE → HoldsPieces name given (state new) → Sent (stored_line name (root_of given)) result sink sink_now → IngestRun C state name result old new source source_now sink sink_now
-    stored result sink sink_now out same ran few held sent = record {
+        → length given ≤ MOST_FILE → HoldsPieces name given (state new) → Sent (stored_line name (root_of given)) result sink sink_now → RunsSingle C state (StoresFile name given) old new → IngestRun C state name result old new source source_now sink sink_now
+    stored result sink sink_now out same ran few held sent said = record {
       given = given;
       took = took;
       to_end = sent_out (stored_line name (root_of given)) result sink sink_now out sent;
       heard = heard_sent (stored_line name (root_of given)) result sink sink_now same sent;
+      lines_are = sent_lines given (stored_line name (root_of given)) result sink sink_now old new sent said;
       way = inr (record { put = Ok tt; ran = ran; few = few; held = held; refused = tt; replies = sent });
     }

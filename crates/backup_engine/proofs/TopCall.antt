@@ -2,11 +2,12 @@
 use Rattle.std.proofs.Common.{◌≡◌, refl, sym, subst, ℕ, List, [], Option, Some, None}
 use Rattle.dd_disk.specs.View.{DiskView}
 use Rattle.dd_io.specs.Flow.{SourceView, SinkView}
+use Rattle.plain_machine.specs.Runs.{Replied}
 use Rattle.reply_text.specs.declared.ending.Ending.{Ending}
 use Rattle.reply_text.specs.declared.ending.Ending.TheVariants.{Words}
 use Rattle.reply_text.specs.Table.{status_of}
-use Rattle.backup_engine.specs.Line.{CommandLine}
-use Rattle.backup_engine.specs.TopCall.{IsSameDisk, Keeps, Does, Promise, IsNoted, AreNoted, status_by}
+use Rattle.backup_engine.specs.Line.{TableLine}
+use Rattle.backup_engine.specs.TopCall.{IsSameDisk, Does, Promise, IsNoted, AreNoted, status_by}
 
 same_disk : (v : DiskView) → IsSameDisk v v
 same_disk v = record {
@@ -21,25 +22,28 @@ same_disk v = record {
 }
 
 -- words that are no line
-pub words_promise : (line : Option CommandLine) (status : ℕ) (v : DiskView) (source : SourceView) (sink notes notes_now : SinkView) → line ≡ None → status ≡ status_of Words → IsNoted notes notes_now Words
+pub words_promise : (line : Option TableLine) (status : ℕ) (v : DiskView) (source : SourceView) (sink notes notes_now : SinkView) → line ≡ None → status ≡ status_of Words → IsNoted notes notes_now Words
     → Promise line status v v source source sink sink notes notes_now
 words_promise line status v source sink notes notes_now none is noted = record {
   ending = Some Words;
   given = [];
+  rs = [];
   status_is = is;
   noted = noted;
-  does = subst (λ (l : Option CommandLine). Does l [] (Some Words) v v source source sink sink) (sym none)
+  does = subst (λ (l : Option TableLine). Does l [] [] (Some Words) v v source source sink sink) (sym none)
       (record { why = refl; disk_is = same_disk v; source_is = refl; sink_is = refl });
 }
 
 -- a line, as it ended
-pub line_promise : (line : Option CommandLine) (command : CommandLine) (status : ℕ) (ending : Option Ending) (v w : DiskView) (source source_now : SourceView) (sink sink_now notes notes_now : SinkView) → line ≡ Some command
-    → status ≡ status_by ending → AreNoted notes notes_now ending → ((given : List ℕ) × Keeps command given ending v w source source_now sink sink_now)
+pub line_promise : (line : Option TableLine) (said : TableLine) (status : ℕ) (ending : Option Ending) (v w : DiskView) (source source_now : SourceView) (sink sink_now notes notes_now : SinkView) → line ≡ Some said
+    → status ≡ status_by ending → AreNoted notes notes_now ending
+    → ((given : List ℕ) × ((rs : List Replied) × Does (Some said) given rs ending v w source source_now sink sink_now))
     → Promise line status v w source source_now sink sink_now notes notes_now
-line_promise line command status ending v w source source_now sink sink_now notes notes_now some is noted kept = record {
+line_promise line said status ending v w source source_now sink sink_now notes notes_now some is noted does = record {
   ending = ending;
-  given = kept.0;
+  given = does.0;
+  rs = does.1.0;
   status_is = is;
   noted = noted;
-  does = subst (λ (l : Option CommandLine). Does l kept.0 ending v w source source_now sink sink_now) (sym some) kept.1;
+  does = subst (λ (l : Option TableLine). Does l does.0 does.1.0 ending v w source source_now sink sink_now) (sym some) does.1.1;
 }

@@ -96,7 +96,7 @@ module _ (loans : List ℕ) (v w : DiskView) where
   on : (P : List ℕ → Type 0) → Shows lent lent_now P → Shows v w P
   on = shows loans v w
 
-  reads : (P : List ℕ → Type 0) → ReadsSince lent lent_now P → ReadsSince v w P
+  pub reads : (P : List ℕ → Type 0) → ReadsSince lent lent_now P → ReadsSince v w P
   reads P since = record { parts = since.parts; returned = since.returned; known = since.known; shows = since.shows }
 
   abbrev holds : Holds lent lent_now → Holds v w

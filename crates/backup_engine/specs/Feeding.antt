@@ -69,12 +69,14 @@ FilledBy C state (Err (Refused refusal)) given s t old new source source_now =
     (start : C) (name : List ℕ) → IsFed C state [] s start old → Stops C state name given refusal start new
 FilledBy C state (Err ending) given s t old new source source_now = ⊥
 
-pub record Fills (C : Type 0) (state : C → CoreState) (result : Result Unit Ending) (s t : SessionState) (old new : C)
-    (source source_now : SourceView) : Type 0 where
+-- Spoken is what was so of it as lines of a script: of the ending, of what was given, of the session and of the core.
+pub record Fills (C : Type 0) (state : C → CoreState) (Spoken : Result Unit Ending → List ℕ → SessionState → SessionState → C → C → Type 0)
+    (result : Result Unit Ending) (s t : SessionState) (old new : C) (source source_now : SourceView) : Type 0 where
   pub given : List ℕ
   pub took : Known source.left (λ all. given ≡ all)
   pub heard : IsHeard result source source_now
   pub filled : FilledBy C state result given s t old new source source_now
+  pub spoken : (start : C) → IsFed C state [] s start old → Spoken result given s t old new
 
 -- the name is given the root
 pub record IsPut (C : Type 0) (state : C → CoreState) (name given : List ℕ) (result : Result Unit Refusal) (start new : C) : Type 0 where

@@ -8,6 +8,7 @@ use Rattle.disk_format.specs.Layout.{half_cells, cell_at, slot_at}
 use Rattle.store_model.specs.Image.{Store, Encodes}
 use Rattle.store_model.specs.Slots.{free_slots}
 use Rattle.reply_text.specs.declared.ending.Ending.{Ending}
+use Rattle.store_core.specs.Frame.{KeepsWritten}
 use Rattle.backup_engine.specs.Line.{CommandLine, Format, Ingest, Restore}
 use Rattle.backup_engine.specs.Promise.{MayChange, SinceStart}
 
@@ -35,3 +36,21 @@ KeepsRest (Restore name) ending old new = new ≡ old
 pub record KeepsOthers (command : CommandLine) (ending : Option Ending) (disk disk_now : DiskView) : Type 0 where
   pub content : Known disk.content (λ old. KnownWith disk_now.content (KeepsRest command ending old))
   pub crash : Known disk.content (λ old. (c : List ℕ) → SinceStart disk disk_now c → disk.images c ⊎ KeepsRest command ending old c)
+
+-- ---- lines of a script
+
+-- The content held a store that is opened. What was written of it is as it was: but the cells after its records, and the slots that
+-- were closed, all is.
+pub record KeepsStore (old new : List ℕ) : Type 0 where
+  pub store : Store
+  pub right : Encodes old store
+  pub reserve : RESERVE ≤ free_slots store.held
+  pub written : KeepsWritten store old new
+
+-- What lines leave of any content: it is as it was, or all of the store that it holds stays.
+abbrev pub KeepsAll : List ℕ → List ℕ → Type 0
+KeepsAll old new = (new ≡ old) ⊎ KeepsStore old new
+
+pub record LinesKeepOthers (disk disk_now : DiskView) : Type 0 where
+  pub content : Known disk.content (λ old. KnownWith disk_now.content (KeepsAll old))
+  pub crash : Known disk.content (λ old. (c : List ℕ) → SinceStart disk disk_now c → disk.images c ⊎ KeepsAll old c)

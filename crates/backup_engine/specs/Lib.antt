@@ -4,11 +4,16 @@ pub mod Frame
 pub mod Giving
 pub mod Line
 pub mod LineValue
+pub mod Lines
 pub mod Lists
 pub mod PlainMap
 pub mod Promise
 pub mod Putting
 pub mod Running
+pub mod Saying
+pub mod Script
+pub mod ScriptRuns
+pub mod Singles
 pub mod Storing
 pub mod Feeding
 pub mod TopCall

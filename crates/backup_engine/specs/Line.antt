@@ -6,10 +6,16 @@ use Rattle.std.specs.Str.{bytes_eq}
 use Rattle.std.specs.Str.Parse.{digits_value}
 use Rattle.disk_format.specs.declared.numbers.TheConstants.{LEAST_SLOTS, MOST_SLOTS}
 
+-- one command
 pub data CommandLine : Type 0 where
   Format : (slots : ℕ) → CommandLine
   Ingest : (name : List ℕ) → CommandLine
   Restore : (name : List ℕ) → CommandLine
+
+-- a line of the table: one command, or the script that the source has
+pub data TableLine : Type 0 where
+  Single : (command : CommandLine) → TableLine
+  Run : TableLine
 
 -- the name of a command, where it has one
 abbrev pub name_of : CommandLine → List ℕ
@@ -62,7 +68,19 @@ command_of command argument =
     else if bytes_eq command (codes "restore") then Some (Restore argument)
     else None
 
+-- a last separator is passed over
+abbrev pub has_no_argument : List (List ℕ) → Bool
+has_no_argument [] = true
+has_no_argument (word ∷ []) = is_separator word
+has_no_argument (first ∷ second ∷ rest) = false
+
+-- the line that a first word and those after it are
+abbrev pub line_by : List ℕ → List (List ℕ) → Option TableLine
+line_by command arguments =
+    if bytes_eq command (codes "run") then (if has_no_argument arguments then Some Run else None)
+    else option_map Single (option_and_then (command_of command) (argument_of arguments))
+
 -- the line of the table that the words are
-abbrev pub line_of : List (List ℕ) → Option CommandLine
+abbrev pub line_of : List (List ℕ) → Option TableLine
 line_of [] = None
-line_of (command ∷ arguments) = option_and_then (command_of command) (argument_of arguments)
+line_of (command ∷ arguments) = line_by command arguments

@@ -1,24 +1,32 @@
 -- The lines that the program reads, as those of the table.
 use Rattle.std.specs.Prelude.{ℕ, Option, Some, None}
 use Rattle.disk_format.specs.Layout.{IsSlotCount, size_of}
+use Rattle.backup_engine.specs.declared.words.Command.{Command}
+use Rattle.backup_engine.specs.declared.words.Command.TheVariants.{Format, Ingest, Restore}
 use Rattle.backup_engine.specs.declared.words.Line.{Line}
-use Rattle.backup_engine.specs.declared.words.Line.TheVariants.{Format, Ingest, Restore}
+use Rattle.backup_engine.specs.declared.words.Line.TheVariants.{Single, Run}
 use Rattle.backup_engine.specs.Line as table
 
-abbrev pub line_value : Line → table.CommandLine
-line_value (Format slots) = table.Format slots
-line_value (Ingest name) = table.Ingest name.now
-line_value (Restore name) = table.Restore name.now
+abbrev pub command_value : Command → table.CommandLine
+command_value (Format slots) = table.Format slots
+command_value (Ingest name) = table.Ingest name.now
+command_value (Restore name) = table.Restore name.now
 
--- a line as it is read: its number of slots is one that a disk may have
+abbrev pub line_value : Line → table.TableLine
+line_value (Single command) = table.Single (command_value command)
+line_value Run = table.Run
+
+-- a command as it is read: its number of slots is one that a disk may have
+abbrev pub IsRightCommand : Command → Type 0
+IsRightCommand (Format slots) = IsSlotCount slots
+IsRightCommand (Ingest name) = Unit {0}
+IsRightCommand (Restore name) = Unit {0}
+
 abbrev pub IsRightLine : Line → Type 0
-IsRightLine (Format slots) = IsSlotCount slots
-IsRightLine (Ingest name) = Unit {0}
-IsRightLine (Restore name) = Unit {0}
+IsRightLine (Single command) = IsRightCommand command
+IsRightLine Run = Unit {0}
 
 -- the size of the disk that a line makes a store on: it is `format N`, or there is none
-abbrev pub size_made : Option table.CommandLine → Option ℕ
-size_made None = None
-size_made (Some (table.Format slots)) = Some (size_of slots)
-size_made (Some (table.Ingest name)) = None
-size_made (Some (table.Restore name)) = None
+abbrev pub size_made : Option table.TableLine → Option ℕ
+size_made (Some (table.Single (table.Format slots))) = Some (size_of slots)
+size_made line = None

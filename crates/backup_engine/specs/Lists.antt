@@ -4,23 +4,27 @@ use Rattle.std.specs.List.{AllByRecursion}
 use Rattle.base_model.specs.Known.{KnownWith}
 use Rattle.dd_disk.specs.View.{DiskView, IsDurable}
 use Rattle.dd_io.specs.Flow.{SourceView, SinkView}
+use Rattle.plain_machine.specs.Machine.{Machine, MayBeFound, opened}
+use Rattle.plain_machine.specs.Runs.{IsPassedFrom, MachineRun, Replied}
 use Rattle.refusals.specs.declared.refusal.Refusal.TheVariants.{DiskWrite}
 use Rattle.reply_text.specs.declared.ending.Ending.{Ending}
 use Rattle.reply_text.specs.declared.ending.Ending.TheVariants.{Sink, Refused}
+use Rattle.script_runner.specs.Scripts.{IsCutBy}
 use Rattle.store_model.specs.Collisions.{HasNoCollisions, ByteSet, IsIn}
 use Rattle.store_model.specs.Files.{Stored, no_files}
 use Rattle.store_model.specs.Standing.{IsSegmentOf}
 use Rattle.store_core.specs.Runs.{IsOf}
 use Rattle.backup_engine.specs.AnyDisk.{Formats}
-use Rattle.backup_engine.specs.Line.{CommandLine, Format}
+use Rattle.backup_engine.specs.Line.{CommandLine, Format, TableLine, Single, Run}
+use Rattle.backup_engine.specs.Lines.{RunsByMachine, RunsNone}
 use Rattle.backup_engine.specs.PlainMap.{map_after, CanBeDone}
 use Rattle.backup_engine.specs.Promise.{KeepsMap, SinceStart, Stands}
 use Rattle.backup_engine.specs.TopCall.{Promise, Does, AreNoted, status_by}
 
 -- One call: the line that its words are, if they are one; its status; source, sink and notes before and after. And, as the
--- promise has it, how it ended, and what its source gave.
+-- promise has it, how it ended, what its source gave, and which lines of a script were run.
 pub record Call : Type 0 where
-  pub line : Option CommandLine
+  pub line : Option TableLine
   pub status : ℕ
   pub source : SourceView
   pub source_now : SourceView
@@ -30,23 +34,25 @@ pub record Call : Type 0 where
   pub notes_now : SinkView
   pub ending : Option Ending
   pub given : List ℕ
+  pub rs : List Replied
 
--- what `Promise` says of a call, with its ending and what was given (specs/TopCall.antt)
+-- what `Promise` says of a call, with its ending, what was given and which lines were run (specs/TopCall.antt)
 pub record KeepsCall (c : Call) (disk disk_now : DiskView) : Type 0 where
   pub status_is : c.status ≡ status_by c.ending
   pub noted : AreNoted c.notes c.notes_now c.ending
-  pub does : Does c.line c.given c.ending disk disk_now c.source c.source_now c.sink c.sink_now
+  pub does : Does c.line c.given c.rs c.ending disk disk_now c.source c.source_now c.sink c.sink_now
 
 -- The first call makes of the disk one of which the others make the last one. A disk is anything that has a view.
 abbrev pub CallRun : (D : Type 0) → (D → DiskView) → List Call → D → D → Type 0
 CallRun D view [] old new = new ≡ old
 CallRun D view (c ∷ cs) old new = (mid : D) × (KeepsCall c (view old) (view mid) × CallRun D view cs mid new)
 
--- What `backup` promises of a call is that, for some ending and some bytes given: so calls of it make such a run.
+-- What `backup` promises of a call is that, for some ending, bytes given and lines: so calls of it make such a run.
 abbrev pub IsPromised : (D : Type 0) → (D → DiskView) → Type 0
 IsPromised D view = (c : Call) (old new : D)
     → Promise c.line c.status (view old) (view new) c.source c.source_now c.sink c.sink_now c.notes c.notes_now
-    → (ending : Option Ending) × ((given : List ℕ) × KeepsCall (record c { ending = ending; given = given }) (view old) (view new))
+    → (ending : Option Ending) × ((given : List ℕ) × ((rs : List Replied)
+    × KeepsCall (record c { ending = ending; given = given; rs = rs }) (view old) (view new)))
 
 -- A line that was done, but perhaps for its reply, leads to the map after it; where a write or a sync failed, to that, if it
 -- could be done, or to the map as it was; and at any other ending to the map as it was.
@@ -56,18 +62,45 @@ LeadsBy command given (Some Sink) m next = next ≡ map_after command given m
 LeadsBy command given (Some (Refused DiskWrite)) m next = (next ≡ m) ⊎ (CanBeDone command given m × (next ≡ map_after command given m))
 LeadsBy command given (Some ending) m next = next ≡ m
 
+-- Lines of a script lead to the files that may be found at the last machine of their run.
+pub record ScriptLeads (rs : List Replied) (m next : Stored) : Type 0 where
+  pub image : List ℕ
+  pub faults : ℕ
+  pub last : Machine
+  pub run : MachineRun rs (opened m image faults) last
+  pub found : MayBeFound last.state last.stored next
+
+-- On the way they come by those that may be found at each machine of it.
+pub record ScriptPasses (rs : List Replied) (m found : Stored) : Type 0 where
+  pub image : List ℕ
+  pub faults : ℕ
+  pub last : Machine
+  pub run : MachineRun rs (opened m image faults) last
+  pub passed : IsPassedFrom m.last rs (opened m image faults) last run found
+
 -- words that are no line lead to the map as it was
-abbrev pub MayLead : Option CommandLine → List ℕ → Option Ending → Stored → Stored → Type 0
-MayLead None given ending m next = next ≡ m
-MayLead (Some command) given ending m next = LeadsBy command given ending m next
+abbrev pub MayLead : Option TableLine → Call → Stored → Stored → Type 0
+MayLead None c m next = next ≡ m
+MayLead (Some (Single command)) c m next = LeadsBy command c.given c.ending m next
+MayLead (Some Run) c m next = ScriptLeads c.rs m next
+
+-- to which maps a call may have come when a crash stops it; it may also have done nothing yet
+abbrev pub MayPass : Option TableLine → Call → Stored → Stored → Type 0
+MayPass (Some Run) c m found = ScriptPasses c.rs m found
+MayPass line c m found = MayLead line c m found
 
 abbrev pub LeadsTo : List Call → Stored → Stored → Type 0
 LeadsTo [] m next = next ≡ m
-LeadsTo (c ∷ cs) m next = (mid : Stored) × (MayLead c.line c.given c.ending m mid × LeadsTo cs mid next)
+LeadsTo (c ∷ cs) m next = (mid : Stored) × (MayLead c.line c m mid × LeadsTo cs mid next)
 
 -- the image is of a map that the calls may lead to
 abbrev pub Possible : (List ℕ → Type 0) → List Call → Stored → List ℕ → Type 0
 Possible S calls m image = (next : Stored) × (LeadsTo calls m next × IsOf S next image)
+
+-- or of one to which the last may have come after them
+abbrev pub Passed : (List ℕ → Type 0) → List Call → Call → Stored → List ℕ → Type 0
+Passed S calls last m image =
+    (mid : Stored) × (LeadsTo calls m mid × ((found : Stored) × (MayPass last.line last mid found × IsOf S found image)))
 
 -- A list can begin: a `format` that was done, of a disk that told its content, leaves one that stands for the empty map.
 abbrev pub StandsEmpty : (D : Type 0) → (D → DiskView) → Type 0
@@ -78,14 +111,19 @@ StandsEmpty D view = (among : ByteSet) (slots : ℕ) (old new : D) → KnownWith
 -- So does each call whose line is a `format` and whose status is 0.
 abbrev pub FormatBegins : (D : Type 0) → (D → DiskView) → Type 0
 FormatBegins D view = (among : ByteSet) (slots : ℕ) (c : Call) (old new : D) → KnownWith (view old).content (λ _. Unit {0})
-    → KeepsCall c (view old) (view new) → c.line ≡ Some (Format slots) → c.status ≡ 0
+    → KeepsCall c (view old) (view new) → c.line ≡ Some (Single (Format slots)) → c.status ≡ 0
     → Stands (IsOf (IsIn among) (record { files = no_files; last = 0 })) (view new)
+
+-- What a call is given, and what is cut of it on the way, is among S.
+pub record IsGivenAmong (S : List ℕ → Type 0) (c : Call) : Type 0 where
+  pub given : (bytes : List ℕ) → IsSegmentOf c.given bytes → S bytes
+  pub cut : (m : Stored) (image : List ℕ) (faults : ℕ) (bytes : List ℕ) → IsCutBy c.rs (opened m image faults) bytes → S bytes
 
 -- No two different data segments of S have one digest, and those that the calls are given are among S. The disk tells its
 -- content, and that and each image are of the map m.
 pub record BeginsOfMap (S : List ℕ → Type 0) (calls : List Call) (m : Stored) (disk : DiskView) : Type 0 where
   pub apart : HasNoCollisions S
-  pub given : AllByRecursion (λ c. (bytes : List ℕ) → IsSegmentOf c.given bytes → S bytes) calls
+  pub given : AllByRecursion (IsGivenAmong S) calls
   pub stands : Stands (IsOf S m) disk
 
 -- After the calls the disk tells its content, and that and each image are of maps that the calls may lead to.
@@ -93,17 +131,26 @@ abbrev pub LeavesPossible : (D : Type 0) → (D → DiskView) → Type 0
 LeavesPossible D view = (among : ByteSet) (m : Stored) (calls : List Call) (old new : D) → BeginsOfMap (IsIn among) calls m (view old)
     → CallRun D view calls old new → Stands (Possible (IsIn among) calls m) (view new)
 
--- A line that is called after them answers by one of these maps: that of the content which it finds.
+-- A command that is called after them answers by one of these maps: that of the content which it finds.
 abbrev pub AnswersByTheMap : (D : Type 0) → (D → DiskView) → Type 0
 AnswersByTheMap D view = (among : ByteSet) (m : Stored) (calls : List Call) (last : Call) (command : CommandLine) (old mid new : D)
     → BeginsOfMap (IsIn among) (calls ++ last ∷ []) m (view old) → CallRun D view calls old mid
-    → KeepsCall last (view mid) (view new) → last.line ≡ Some command
+    → KeepsCall last (view mid) (view new) → last.line ≡ Some (Single command)
     → (found : Stored) × (LeadsTo calls m found × KnownWith (view mid).content (IsOf (IsIn among) found)
     × KeepsMap (IsIn among) command last.given last.ending found (view mid) (view new) last.sink last.sink_now)
 
--- A crash since the last began leaves what those before it, or all, may lead to: so each that was done before is there.
+-- And a script that is run after them is a run of the machine from one of these maps.
+abbrev pub RunsByTheMap : (D : Type 0) → (D → DiskView) → Type 0
+RunsByTheMap D view = (among : ByteSet) (m : Stored) (calls : List Call) (last : Call) (old mid new : D)
+    → BeginsOfMap (IsIn among) (calls ++ last ∷ []) m (view old) → CallRun D view calls old mid
+    → KeepsCall last (view mid) (view new) → last.line ≡ Some Run
+    → (found : Stored) × (LeadsTo calls m found × KnownWith (view mid).content (λ image. IsOf (IsIn among) found image
+    × (RunsByMachine (IsIn among) last.rs found image (view mid) (view new) ⊎ RunsNone last.ending last.rs (view mid) (view new))))
+
+-- A crash since the last began leaves what those before it may lead to, or what the last may have come to: so each that was done before
+-- is there.
 abbrev pub SurvivesACrash : (D : Type 0) → (D → DiskView) → Type 0
 SurvivesACrash D view = (among : ByteSet) (m : Stored) (calls : List Call) (last : Call) (old mid new : D)
     → BeginsOfMap (IsIn among) (calls ++ last ∷ []) m (view old) → CallRun D view calls old mid
     → KeepsCall last (view mid) (view new) → (c : List ℕ) → SinceStart (view mid) (view new) c
-    → Possible (IsIn among) calls m c ⊎ Possible (IsIn among) (calls ++ last ∷ []) m c
+    → Possible (IsIn among) calls m c ⊎ Passed (IsIn among) calls last m c

@@ -30,6 +30,7 @@ use Rattle.store_core.specs.State.{CoreState, Event, IsUp}
 use Rattle.backup_engine.specs.Adding.{AddsOnce}
 use Rattle.backup_engine.specs.AnyDisk.{IsUnlikeNode, ReadsSince, room_in}
 use Rattle.backup_engine.specs.Line.{Ingest}
+use Rattle.backup_engine.specs.Singles.{IsFirstOf}
 use Rattle.backup_engine.specs.PlainMap.{HasPieces, RefusesIngest}
 
 -- A core that was opened just now: it runs, each actor is idle, the map of its index is known, and its last container id is the
@@ -163,6 +164,13 @@ WroteGiven (Err endings.Sink) bytes sink sink_now =
     AppendedPart sink.written sink_now.written bytes × Rose sink.faults sink_now.faults
 WroteGiven result bytes sink sink_now = Appended sink.written sink_now.written bytes × (sink_now.faults ≡ sink.faults)
 
+-- where the sink failed it took all of the others, and a first part of the last one
+abbrev pub WroteLast : Result Unit Ending → List (List ℕ) → SinkView → SinkView → Type 0
+WroteLast (Err endings.Sink) given sink sink_now =
+    (segments : List (List ℕ)) × ((last : List ℕ) × ((given ≡ segments ++ last ∷ [])
+    × ((part : List ℕ) × (IsFirstOf part last × Appended sink.written sink_now.written (concat segments ++ part)))))
+WroteLast result given sink sink_now = Unit {0}
+
 -- the name was opened, and the file read on
 pub record IsGivenOut (C : Type 0) (state : C → CoreState) (name : List ℕ) (result : Result Unit Ending) (old new : C)
     (sink sink_now : SinkView) : Type 0 where
@@ -175,6 +183,7 @@ pub record IsGivenOut (C : Type 0) (state : C → CoreState) (name : List ℕ) (
   pub each : AllByRecursion IsRead reads
   pub ends : EndsGiving reads result
   pub wrote : WroteGiven result (concat (given_to 0 reads)) sink sink_now
+  pub wrote_last : WroteLast result (given_to 0 reads) sink sink_now
 
 -- These steps were made.
 abbrev pub GiveRun : (C : Type 0) → (C → CoreState) → List ℕ → Result Unit Ending → C → C → SinkView → SinkView → Type 0

@@ -12,6 +12,9 @@ use Rattle.reply_text.specs.Text.{stored_line}
 use Rattle.store_model.specs.Trees.{root_of}
 use Rattle.store_core.specs.State.{CoreState}
 use Rattle.backup_engine.specs.Running.{PutRun, HoldsPieces, IsPutRefusal}
+use Rattle.backup_engine.specs.Saying.{RunsSingle}
+use Rattle.backup_engine.specs.Singles.{IsIngest}
+use Rattle.backup_engine.specs.TopCall.{ending_in}
 
 -- ---- the source
 
@@ -83,5 +86,6 @@ pub record IngestRun (C : Type 0) (state : C → CoreState) (name : List ℕ) (r
   pub took : Known source.left (λ all. given ≡ all)
   pub to_end : IsReadOut result source.left source_now.left
   pub heard : IsHeard result source source_now
+  pub lines_are : RunsSingle C state (IsIngest name given (ending_in result)) old new
   pub way : IsStopped C state name given result old new source source_now sink sink_now
       ⊎ IsTaken C state name given result old new sink sink_now

@@ -7,6 +7,7 @@ use Rattle.base_model.specs.Fault.{Rose}
 use Rattle.base_model.specs.Known.{Known, KnownWith, Appended}
 use Rattle.dd_disk.specs.View.{DiskView}
 use Rattle.dd_io.specs.Flow.{SourceView, SinkView, AppendedPart}
+use Rattle.plain_machine.specs.Runs.{Replied}
 use Rattle.refusals.specs.declared.refusal.Refusal.TheVariants.{DiskWrite}
 use Rattle.reply_text.specs.declared.ending.Ending.{Ending}
 use Rattle.reply_text.specs.declared.ending.Ending.TheVariants.{Words, Refused}
@@ -15,8 +16,10 @@ use Rattle.reply_text.specs.Text.{fault_line}
 use Rattle.recovery.specs.Formatting.{IsLeftByFormat, IsBlankOrFormatted}
 use Rattle.backup_engine.specs.AnyDisk.{OnAnyDisk}
 use Rattle.backup_engine.specs.Frame.{KeepsOthers}
-use Rattle.backup_engine.specs.Line.{CommandLine, Format, Ingest, Restore}
+use Rattle.backup_engine.specs.Line.{CommandLine, Format, Ingest, Restore, TableLine, Single, Run}
 use Rattle.backup_engine.specs.Promise.{KeepsEachMap, SinceStart}
+use Rattle.backup_engine.specs.Script.{KeepsScript}
+use Rattle.backup_engine.specs.Singles.{SpeaksAs}
 
 -- 0 where the command was done, and else by the table of statuses
 abbrev pub status_by : Option Ending → ℕ
@@ -88,18 +91,23 @@ pub record DoesNothing (ending : Option Ending) (disk disk_now : DiskView) (sour
   pub source_is : source_now ≡ source
   pub sink_is : sink_now ≡ sink
 
-abbrev pub Does : Option CommandLine → List ℕ → Option Ending → DiskView → DiskView → SourceView → SourceView → SinkView → SinkView
-    → Type 0
-Does None given ending disk disk_now source source_now sink sink_now =
+-- What a line of the table does: a single command, also as lines of a script; or the lines of the script that the source has.
+abbrev pub Does : Option TableLine → List ℕ → List Replied → Option Ending → DiskView → DiskView → SourceView → SourceView → SinkView
+    → SinkView → Type 0
+Does None given rs ending disk disk_now source source_now sink sink_now =
     DoesNothing ending disk disk_now source source_now sink sink_now
-Does (Some command) given ending disk disk_now source source_now sink sink_now =
+Does (Some (Single command)) given rs ending disk disk_now source source_now sink sink_now =
     Keeps command given ending disk disk_now source source_now sink sink_now
+    × SpeaksAs command given ending rs disk disk_now sink sink_now
+Does (Some Run) given rs ending disk disk_now source source_now sink sink_now =
+    KeepsScript rs ending disk disk_now source source_now sink sink_now
 
--- How the call ended, and what the source gave, are one throughout.
-pub record Promise (line : Option CommandLine) (status : ℕ) (disk disk_now : DiskView) (source source_now : SourceView)
+-- How the call ended, what the source gave, and which lines were run, are one throughout.
+pub record Promise (line : Option TableLine) (status : ℕ) (disk disk_now : DiskView) (source source_now : SourceView)
     (sink sink_now notes notes_now : SinkView) : Type 0 where
   pub ending : Option Ending
   pub given : List ℕ
+  pub rs : List Replied
   pub status_is : status ≡ status_by ending
   pub noted : AreNoted notes notes_now ending
-  pub does : Does line given ending disk disk_now source source_now sink sink_now
+  pub does : Does line given rs ending disk disk_now source source_now sink sink_now

@@ -2,6 +2,8 @@
 ghost use Rattle.std.specs.Prelude.{◌≡◌, List, ℕ};
 ghost use Rattle.dd_disk.specs.View.{IsLater};
 ghost use Rattle.backup_engine.specs.Line.{Ingest};
+ghost use Rattle.plain_machine.specs.Runs.{Replied};
+ghost use Rattle.backup_engine.specs.Singles.{SpeaksAs};
 ghost use Rattle.backup_engine.specs.TopCall.{Keeps, ending_in};
 
 use crate::lent::handed_back;
@@ -9,6 +11,7 @@ use crate::storing::store_source;
 use dd_disk::Disk;
 use dd_io::{Sink, Source};
 use reply_text::Ending;
+use script_runner::{an_opened_core_follows, scripts_follow_the_machine};
 use std::alloc::Global;
 use store_core::Core;
 use summary_vector::NoSummary;
@@ -21,10 +24,14 @@ pub(crate) fn ingest<D: Disk, S: Source, K: Sink>(
     sink: &mut K,
     name: &str,
 ) -> Result<(), Ending>
-    ensures keeps { (given : List ℕ) × Keeps (Ingest name.now) given (ending_in result) (D.view disk.old) (D.view disk.new)
-        (S.view source.old) (S.view source.new) (K.view sink.old) (K.view sink.new) }
+    ensures keeps { (given : List ℕ) × (Keeps (Ingest name.now) given (ending_in result) (D.view disk.old) (D.view disk.new)
+        (S.view source.old) (S.view source.new) (K.view sink.old) (K.view sink.new)
+        × ((rs : List Replied) × SpeaksAs (Ingest name.now) given (ending_in result) rs (D.view disk.old) (D.view disk.new)
+        (K.view sink.old) (K.view sink.new))) }
     ensures later { IsLater (D.view disk.old) (D.view disk.new) }
 {
+    scripts_follow_the_machine::<Core<&mut D, NoSummary>>();
+    an_opened_core_follows::<&mut D, Core<&mut D, NoSummary>>();
     let mut core = match Core::open(alloc, disk, NoSummary) {
         Ok(core) => core,
         Err(refused) => {

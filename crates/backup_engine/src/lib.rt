@@ -9,6 +9,7 @@ mod lent;
 mod putting;
 mod reply;
 mod restore;
+mod script;
 mod storing;
 mod top_call;
 mod words;

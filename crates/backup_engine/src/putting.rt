@@ -2,6 +2,7 @@
 ghost use Rattle.std.specs.Prelude.{◌≡◌};
 ghost use Rattle.store_core.specs.State.{IsRunning};
 ghost use Rattle.backup_engine.specs.Feeding.{Commits};
+ghost use Rattle.backup_engine.specs.Saying.{AsksPut};
 
 use actor_parts::{Actor, SegBuf, Step};
 use ingest_session::{all_is_kept, bytes_are_counted};
@@ -27,6 +28,7 @@ pub(crate) fn commit<C: HasState>(
     buf: &mut SegBuf,
 ) -> Result<(), Refusal>
     requires running { IsRunning (C.state core.old) }
+    ensures asks { AsksPut C C.state name.now root.now result core.old core.new }
     ensures commits { Commits C C.state name.now root.now result core.old core.new }
     ensures running { IsRunning (C.state core.new) }
 {

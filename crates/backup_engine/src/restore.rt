@@ -1,8 +1,10 @@
 //! Giving a file back.
-ghost use Rattle.std.specs.Prelude.{◌≡◌, []};
+ghost use Rattle.std.specs.Prelude.{◌≡◌, List, []};
 ghost use Rattle.dd_io.specs.Flow.{SourceView};
 ghost use Rattle.dd_disk.specs.View.{IsLater};
 ghost use Rattle.backup_engine.specs.Line.{Restore};
+ghost use Rattle.plain_machine.specs.Runs.{Replied};
+ghost use Rattle.backup_engine.specs.Singles.{SpeaksAs};
 ghost use Rattle.backup_engine.specs.TopCall.{Keeps, ending_in};
 
 use crate::giving::give_out;
@@ -12,6 +14,7 @@ use dd_disk::Disk;
 use dd_io::Sink;
 use refusals::Refusal;
 use reply_text::Ending;
+use script_runner::{an_opened_core_follows, scripts_follow_the_machine};
 use std::alloc::Global;
 use store_core::Core;
 use summary_vector::NoSummary;
@@ -25,8 +28,12 @@ pub(crate) fn restore<D: Disk, K: Sink>(
 ) -> Result<(), Ending>
     ensures keeps { (source : SourceView) → Keeps (Restore name.now) [] (ending_in result) (D.view disk.old) (D.view disk.new)
         source source (K.view sink.old) (K.view sink.new) }
+    ensures speaks { (rs : List Replied) × SpeaksAs (Restore name.now) [] (ending_in result) rs (D.view disk.old) (D.view disk.new)
+        (K.view sink.old) (K.view sink.new) }
     ensures later { IsLater (D.view disk.old) (D.view disk.new) }
 {
+    scripts_follow_the_machine::<Core<&mut D, NoSummary>>();
+    an_opened_core_follows::<&mut D, Core<&mut D, NoSummary>>();
     let Ok(mut buf) = SegBuf::new(alloc) else {
         return Err(Ending::Refused(Refusal::Memory));
     };

@@ -1,9 +1,13 @@
 //! Taking a source in, and storing it.
-ghost use Rattle.std.specs.Prelude.{◌≡◌, false, true, OnOk};
+ghost use Rattle.std.specs.Prelude.{◌≡◌, ◌≤◌, length, false, true, OnOk};
 ghost use Rattle.ingest_session.specs.Due.{due_in};
+ghost use Rattle.script_lines.specs.Grammar.{pushed_bytes};
+ghost use Rattle.session_turns.specs.declared.turns.TheConstants.{MOST_PIECE};
 ghost use Rattle.store_core.specs.State.{IsRunning};
 ghost use Rattle.backup_engine.specs.Feeding.{Fills};
 ghost use Rattle.backup_engine.specs.Running.{IsFresh};
+ghost use Rattle.backup_engine.specs.Saying.{SaysEnd, SaysPushes};
+ghost use Rattle.backup_engine.specs.Singles.{Digits};
 ghost use Rattle.backup_engine.specs.Storing.{IngestRun};
 
 use crate::putting::{commit, first};
@@ -18,6 +22,13 @@ use session_turns::{MOST_PIECE, feed, make_turns};
 use std::alloc::Global;
 use store_core::HasState;
 
+// Bytes can be pushed by a line of a script. The function does nothing.
+fn can_be_pushed(bytes: &[u8])
+    requires some { 1 ≤ length bytes.now }
+    requires few { length bytes.now ≤ MOST_PIECE }
+    ensures { (d : Digits) × (pushed_bytes d.digits ≡ bytes.now) }
+{}
+
 // Has a session take all that the source has left; turns are made as its queue fills.
 fn fill<C: HasState, S: Source>(
     core: &mut C,
@@ -27,7 +38,8 @@ fn fill<C: HasState, S: Source>(
 ) -> Result<(), Ending>
     requires running { IsRunning (C.state core.old) }
     requires ongoing { session.old.ended ≡ false }
-    ensures fills { Fills C C.state result session.old session.new core.old core.new (S.view source.old) (S.view source.new) }
+    ensures fills { Fills C C.state (SaysPushes C C.state) result session.old session.new core.old core.new
+        (S.view source.old) (S.view source.new) }
     ensures ongoing { session.new.ended ≡ false }
     ensures running { IsRunning (C.state core.new) }
 {
@@ -43,6 +55,7 @@ fn fill<C: HasState, S: Source>(
         if count == 0 {
             return Ok(());
         }
+        can_be_pushed(&piece[..count]);
         feed(core, first(), session, &piece[..count], buf)?;
     }
 }
@@ -56,7 +69,8 @@ fn take_in<C: HasState, S: Source>(
 ) -> Result<(), Ending>
     requires running { IsRunning (C.state core.old) }
     requires ongoing { session.old.ended ≡ false }
-    ensures fills { Fills C C.state result session.old session.new core.old core.new (S.view source.old) (S.view source.new) }
+    ensures fills { Fills C C.state (SaysEnd C C.state) result session.old session.new core.old core.new
+        (S.view source.old) (S.view source.new) }
     ensures ended { OnOk result (session.new.ended ≡ true) }
     ensures done { OnOk result (due_in session.new ≡ Due.Nothing) }
     ensures running { IsRunning (C.state core.new) }
@@ -64,6 +78,7 @@ fn take_in<C: HasState, S: Source>(
     steps_have_pieces();
     children_come_first();
     seals_were_absent();
+    bytes_are_counted();
     fill(core, session, source, buf)?;
     session.finish()?;
     make_turns(core, first(), session, buf)?;

@@ -1,15 +1,17 @@
 //! The top call.
-ghost use Rattle.std.specs.Prelude.{◌≡◌, map, string_bytes, IfOk, List, ℕ};
+ghost use Rattle.std.specs.Prelude.{◌≡◌, Some, map, string_bytes, IfOk, List, ℕ};
 ghost use Rattle.dd_disk.specs.View.{IsLater};
+ghost use Rattle.plain_machine.specs.Runs.{Replied};
 ghost use Rattle.reply_text.specs.Table.{status_of as table_status};
-ghost use Rattle.backup_engine.specs.Line.{line_of};
-ghost use Rattle.backup_engine.specs.LineValue.{line_value, IsRightLine, size_made};
-ghost use Rattle.backup_engine.specs.TopCall.{Promise, Keeps, IsNoted, ending_in};
+ghost use Rattle.backup_engine.specs.Line.{Single, line_of};
+ghost use Rattle.backup_engine.specs.LineValue.{command_value, line_value, IsRightCommand, IsRightLine, size_made};
+ghost use Rattle.backup_engine.specs.TopCall.{Promise, Does, IsNoted, ending_in};
 
 use crate::format::format;
 use crate::ingest::ingest;
 use crate::restore::restore;
-use crate::words::{Line, read_words};
+use crate::script::run;
+use crate::words::{Command, Line, read_words};
 use dd_disk::Disk;
 use dd_io::{Sink, Source};
 use disk_format::size_of;
@@ -18,9 +20,10 @@ use std::alloc::{AllocError, Global};
 
 /// Runs one command, by its words, over a disk, and gives the exit status (docs/FORMAT.md, 'Commands').
 ///
-/// `ingest` reads `source`, to its end where it is done; the reply, or the bytes of the file that is restored, goes to `sink`. Words
-/// that are no line of the table are 2, a fault of the source 5, of the sink 6; a refusal has its own status. `notes`
-/// get a line where the status isn't 0; a failure of theirs changes no status.
+/// `ingest` reads `source`, to its end where it is done; the reply, or the bytes of the file that is restored, goes to `sink`. `run`
+/// reads a script from `source`, and replies to each line as it ends (docs/FORMAT.md, 'Scripts'). Words that are no line of the table
+/// are 2, and so is a script that is none; a fault of the source is 5, of the sink 6; a refusal has its own status. `notes` get a line
+/// where the status isn't 0; a failure of theirs changes no status.
 pub fn backup<R, D: Disk + Send, S: Source, K: Sink, Q: Sink>(
     rt: &R,
     alloc: Global,
@@ -65,7 +68,7 @@ pub fn size_of_format(_alloc: Global, words: &[String]) -> Result<Option<u64>, A
     ensures { IfOk result (λ size. size ≡ size_made (line_of (map string_bytes words.now))) }
 {
     match read_words(words) {
-        Some(Line::Format(slots)) => Ok(Some(size_of(slots))),
+        Some(Line::Single(Command::Format(slots))) => Ok(Some(size_of(slots))),
         _ => Ok(None),
     }
 }
@@ -79,14 +82,33 @@ fn run_line<D: Disk, S: Source, K: Sink>(
     sink: &mut K,
 ) -> Result<(), Ending>
     requires { IsRightLine line.now }
-    ensures keeps { (given : List ℕ) × Keeps (line_value line.now) given (ending_in result) (D.view disk.old) (D.view disk.new)
-        (S.view source.old) (S.view source.new) (K.view sink.old) (K.view sink.new) }
+    ensures does { (given : List ℕ) × ((rs : List Replied) × Does (Some (line_value line.now)) given rs (ending_in result) (D.view disk.old)
+        (D.view disk.new) (S.view source.old) (S.view source.new) (K.view sink.old) (K.view sink.new)) }
     ensures later { IsLater (D.view disk.old) (D.view disk.new) }
 {
     match line {
-        Line::Format(slots) => format(alloc, disk, sink, *slots),
-        Line::Ingest(name) => ingest(alloc, disk, source, sink, name),
-        Line::Restore(name) => restore(alloc, disk, sink, name),
+        Line::Single(command) => run_command(alloc, command, disk, source, sink),
+        Line::Run => run(alloc, disk, source, sink),
+    }
+}
+
+// Does what a command says.
+fn run_command<D: Disk, S: Source, K: Sink>(
+    alloc: Global,
+    command: &Command<'_>,
+    disk: &mut D,
+    source: &mut S,
+    sink: &mut K,
+) -> Result<(), Ending>
+    requires { IsRightCommand command.now }
+    ensures does { (given : List ℕ) × ((rs : List Replied) × Does (Some (Single (command_value command.now))) given rs (ending_in result)
+        (D.view disk.old) (D.view disk.new) (S.view source.old) (S.view source.new) (K.view sink.old) (K.view sink.new)) }
+    ensures later { IsLater (D.view disk.old) (D.view disk.new) }
+{
+    match command {
+        Command::Format(slots) => format(alloc, disk, sink, *slots),
+        Command::Ingest(name) => ingest(alloc, disk, source, sink, name),
+        Command::Restore(name) => restore(alloc, disk, sink, name),
     }
 }
 

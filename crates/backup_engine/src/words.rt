@@ -1,14 +1,14 @@
 //! The words of a command line.
-ghost use Rattle.std.specs.Prelude.{◌≡◌, map, option_map, IfSome, IsTrue, string_bytes};
+ghost use Rattle.std.specs.Prelude.{◌≡◌, codes, map, option_map, IfSome, IsTrue, string_bytes};
 ghost use Rattle.disk_format.specs.Layout.{IsSlotCount};
-ghost use Rattle.backup_engine.specs.Line.{line_of, command_of, argument_of, is_dashed, all_digits, begins_as_number, is_number, slots_of};
-ghost use Rattle.backup_engine.specs.LineValue.{line_value, IsRightLine};
+ghost use Rattle.backup_engine.specs.Line.{line_by, line_of, command_of, argument_of, has_no_argument, is_dashed, all_digits, begins_as_number, is_number, slots_of};
+ghost use Rattle.backup_engine.specs.LineValue.{command_value, line_value, IsRightCommand, IsRightLine};
 
 use disk_format::is_slot_count;
 
-/// A line of the table of commands.
+/// A command of the table.
 #[derive(Clone, Copy)]
-pub(crate) enum Line<'a> {
+pub(crate) enum Command<'a> {
     /// So many container slots, 4 to 65,536.
     Format(u32),
     /// A name.
@@ -17,24 +17,58 @@ pub(crate) enum Line<'a> {
     Restore(&'a str),
 }
 
+/// A line of the table of commands.
+#[derive(Clone, Copy)]
+pub(crate) enum Line<'a> {
+    Single(Command<'a>),
+    /// The source is a script.
+    Run,
+}
+
 /// The line of the table that the words are, if they are one.
 pub(crate) fn read_words<'a>(words: &'a [String]) -> Option<Line<'a>>
     ensures line { option_map line_value result ≡ line_of (map string_bytes words.now) }
     ensures right { IfSome result IsRightLine }
 {
     let (command, rest) = words.split_first()?;
+    if command.as_str() == "run" {
+        return run_line(rest);
+    }
     let argument = only_argument(rest)?;
-    table_line(command.as_str(), argument)
+    Some(Line::Single(read_command(command.as_str(), argument)?))
 }
 
-fn table_line<'a>(command: &str, argument: &'a str) -> Option<Line<'a>>
-    ensures line { option_map line_value result ≡ command_of command.now argument.now }
+// `run` has no argument.
+fn run_line<'a>(words: &'a [String]) -> Option<Line<'a>>
+    ensures line { option_map line_value result ≡ line_by (codes "run") (map string_bytes words.now) }
     ensures right { IfSome result IsRightLine }
 {
+    if has_no_argument(words) {
+        Some(Line::Run)
+    } else {
+        None
+    }
+}
+
+// A last `--` is passed over.
+fn has_no_argument(words: &[String]) -> bool
+    ensures { result ≡ has_no_argument (map string_bytes words.now) }
+{
+    match words {
+        [] => true,
+        [word] => word.as_str() == "--",
+        _ => false,
+    }
+}
+
+fn read_command<'a>(command: &str, argument: &'a str) -> Option<Command<'a>>
+    ensures line { option_map command_value result ≡ command_of command.now argument.now }
+    ensures right { IfSome result IsRightCommand }
+{
     match command {
-        "format" => Some(Line::Format(slot_count(argument)?)),
-        "ingest" => Some(Line::Ingest(argument)),
-        "restore" => Some(Line::Restore(argument)),
+        "format" => Some(Command::Format(slot_count(argument)?)),
+        "ingest" => Some(Command::Ingest(argument)),
+        "restore" => Some(Command::Restore(argument)),
         _ => None,
     }
 }

@@ -1,7 +1,11 @@
-use Rattle.std.proofs.Common.{rules, sym, List, ℕ, Some}
-use Rattle.dd_disk.specs.View.{IsLater}
+use Rattle.std.proofs.Common.{rules, sym, List, [], ℕ, Option, Some}
+use Rattle.dd_disk.specs.View.{DiskView, IsLater}
+use Rattle.dd_io.specs.Flow.{SourceView, SinkView}
+use Rattle.plain_machine.specs.Runs.{Replied}
+use Rattle.reply_text.specs.declared.ending.Ending.{Ending}
 use Rattle.reply_text.specs.declared.ending.Ending.TheVariants.{Refused}
 use Rattle.backup_engine.specs.Line.{Ingest}
+use Rattle.backup_engine.specs.Singles.{SpeaksAs}
 use Rattle.backup_engine.specs.TopCall.{Keeps, ending_in}
 use Rattle.backup_engine.proofs.Called.{Called}
 use Rattle.backup_engine.proofs.Fresh.{fresh}
@@ -9,8 +13,14 @@ use Rattle.backup_engine.proofs.Ingesting.{ingest_keeps}
 use Rattle.backup_engine.proofs.Kept.{by_same, later_back, ingest_back}
 use Rattle.backup_engine.proofs.NotDone.{unopened_ingest}
 use Rattle.backup_engine.proofs.Returned.{first_same, rest_same, stored_later}
+use Rattle.backup_engine.proofs.SinglesRun.{ingest_speaks, speaks_back, unopened_speaks}
 use Rattle.backup_engine.proofs.SourceRuns.{given_of, given_told}
 use Rattle.backup_engine.proofs.ingest.ingest.Goals as goal
+
+-- all that is kept
+abbrev Ingested : DiskView → DiskView → List ℕ → List ℕ → Option Ending → SourceView → SourceView → SinkView → SinkView → Type 0
+Ingested v w name given ending source source_now sink sink_now =
+    Keeps (Ingest name) given ending v w source source_now sink sink_now × ((rs : List Replied) × SpeaksAs (Ingest name) given ending rs v w sink sink_now)
 
 -- the store was not opened
 pub returns-in-Err-clause-keeps : goal.returns-in-Err-clause-keeps
@@ -22,10 +32,17 @@ returns-in-Err-clause-keeps g c =
     let source = g.S.Source.view c.args.source.now in
     let sink = g.K.Sink.view c.args.sink.now in
     let given = given_of source.left in
-    by_same (λ d. (given : List ℕ) × Keeps (Ingest name) given (Some (Refused refusal)) (view c.args.disk.now) (view d) source source sink sink) _ c.in-Err.refused.0.now (search rules) (
+    by_same (λ d. (given : List ℕ) × Ingested (view c.args.disk.now) (view d) name given (Some (Refused refusal)) source source sink sink) _ c.in-Err.refused.0.now (search rules) (
       given,
-      ingest_back _ _ is.back.only.later.loans_are (view c.args.disk.now) (view c.in-Err.refused.0.now) name given (Some (Refused refusal)) source source sink sink
-          (unopened_ingest _ _ refusal (record { cause = is.refused; given_up = is.only; reads = is.back }) name given source sink (given_told source.left)),
+      (
+        ingest_back _ _ is.back.only.later.loans_are (view c.args.disk.now) (view c.in-Err.refused.0.now) name given (Some (Refused refusal)) source source sink sink
+            (unopened_ingest _ _ refusal (record { cause = is.refused; given_up = is.only; reads = is.back }) name given source sink (given_told source.left)),
+        (
+          [],
+          speaks_back _ _ is.back.only.later.loans_are (view c.args.disk.now) (view c.in-Err.refused.0.now) (Ingest name) given (Some (Refused refusal)) [] sink sink
+              (unopened_speaks (Ingest name) given _ _ refusal (record { cause = is.refused; given_up = is.only; reads = is.back }) sink),
+        ),
+      ),
     )
 
 pub store_source-stored-requires : goal.store_source-stored-requires
@@ -49,8 +66,14 @@ returns-clause-keeps g c =
     let loans = (stored_later _ _ _ _ _ _ called name result source source_now sink sink_now ran).loans_are in
     let named = first_same c.close-disk.result.ghost_name _ _ _ loans in
     let kept = ingest_keeps _ _ _ _ _ _ called name result source source_now sink sink_now ran in
-    by_same (λ d. (given : List ℕ) × Keeps (Ingest name) given (ending_in result) (view c.args.disk.now) (view d) source source_now sink sink_now) _ c.close-disk.result.now (search (rules, named))
-    (kept.0, ingest_back _ _ loans (view c.args.disk.now) (view c.close-disk.result.now) name kept.0 (ending_in result) source source_now sink sink_now kept.1)
+    let said = ingest_speaks _ _ _ _ (record { ref_ptr = (0, 0); ghost_name = _; now = c.args.disk.now }) _ _ _ called c.an_opened_core_follows.ensures c.scripts_follow_the_machine.ensures name ran.given (ending_in result) sink sink_now ran.lines_are in
+    by_same (λ d. (given : List ℕ) × Ingested (view c.args.disk.now) (view d) name given (ending_in result) source source_now sink sink_now) _ c.close-disk.result.now (search (rules, named)) (
+      ran.given,
+      (
+        ingest_back _ _ loans (view c.args.disk.now) (view c.close-disk.result.now) name ran.given (ending_in result) source source_now sink sink_now kept,
+        (said.0, speaks_back _ _ loans (view c.args.disk.now) (view c.close-disk.result.now) (Ingest name) ran.given (ending_in result) said.0 sink sink_now said.1),
+      ),
+    )
 
 pub returns-clause-later : goal.returns-clause-later
 returns-clause-later g c =

@@ -1,4 +1,4 @@
-use Rattle.backup_engine.proofs.Lists.{promised, stands_empty, format_begins, leaves_possible, answers_by_the_map, survives_a_crash}
+use Rattle.backup_engine.proofs.Lists.{promised, stands_empty, format_begins, leaves_possible, answers_by_the_map, runs_by_the_map, survives_a_crash}
 use Rattle.backup_engine.proofs.laws.commands_follow_the_map.Goals as goal
 
 pub returns-clause-promised : goal.returns-clause-promised
@@ -18,3 +18,6 @@ returns-clause-answers g c = answers_by_the_map _ g.D.Disk.view
 
 pub returns-clause-crash : goal.returns-clause-crash
 returns-clause-crash g c = survives_a_crash _ g.D.Disk.view
+
+pub returns-clause-scripts : goal.returns-clause-scripts
+returns-clause-scripts g c = runs_by_the_map _ g.D.Disk.view

@@ -12,4 +12,4 @@ pub returns-in-Err-clause-promise : goal.returns-in-Err-clause-promise
 returns-in-Err-clause-promise g c =
     line_promise _ (line_value c.in-Some.line) c.give_up-in-Err.result (Some c.in-Err.ending) (g.D.Disk.view c.args.disk.now) (g.D.Disk.view c.run_line.new.disk)
     (g.S.Source.view c.args.source.now) (g.S.Source.view c.run_line.new.source) (g.K.Sink.view c.args.sink.now) (g.K.Sink.view c.run_line.new.sink) (g.Q.Sink.view c.args.notes.now)
-    (g.Q.Sink.view c.give_up-in-Err.new.notes) (sym c.in-Some.ensures.line) c.give_up-in-Err.ensures.status c.give_up-in-Err.ensures.noted c.in-Err.ensures.keeps
+    (g.Q.Sink.view c.give_up-in-Err.new.notes) (sym c.in-Some.ensures.line) c.give_up-in-Err.ensures.status c.give_up-in-Err.ensures.noted c.in-Err.ensures.does

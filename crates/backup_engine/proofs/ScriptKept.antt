@@ -1,0 +1,391 @@
+-- What `run` keeps, from the lines that were run.
+use Rattle.std.proofs.lemmas.List.{append-nil}
+use Rattle.std.proofs.Common.{◌≡◌, ◌⊎◌, inl, inr, ◌<◌, ◌-◌, ◌^◌, ℕ, List, [], ◌∷◌, ◌++◌, IsTrue, Option, Some, None, Result, replicate, refl, sym, ◌∙◌, ap, subst, arith}
+use Rattle.dd_disk.specs.Ending.{Reads, CountsFault, ending_of}
+use Rattle.dd_disk.specs.Shows.{Shows}
+use Rattle.dd_disk.specs.View.{CrashLeaves, DiskView, IsLater, OnlyReads}
+use Rattle.dd_disk.proofs.Later.{later_on, reads_here}
+use Rattle.base_model.specs.Known.{Appended, KnownWith}
+use Rattle.dd_io.specs.Flow.{SourceView, SinkView}
+use Rattle.actor_parts.specs.declared.actor.TheConstants.{ACTORS}
+use Rattle.plain_machine.specs.Machine as plain
+use Rattle.plain_machine.specs.Machine.{Machine, RunState, Running, Stopped}
+use Rattle.plain_machine.specs.Refused as machine
+use Rattle.plain_machine.specs.Runs.{MachineRun, Replied, Step, StepBy}
+use Rattle.recovery.specs.Opening.{IsOpenRefusal}
+use Rattle.refusals.specs.declared.refusal.Refusal.{Refusal}
+use Rattle.refusals.specs.declared.refusal.Refusal.TheVariants.{Memory, DiskRead, DiskWrite}
+use Rattle.reply_text.specs.declared.ending.Ending.{Ending}
+use Rattle.reply_text.specs.declared.ending.Ending.TheVariants.{Refused}
+use Rattle.script_lines.specs.Grammar as lines
+use Rattle.script_lines.specs.Grammar.{LineValue}
+use Rattle.script_lines.specs.Reader.{ReadsTellScripts, fresh_reader}
+use Rattle.script_lines.specs.ReplyValue as replies
+use Rattle.script_lines.specs.ReplyValue.{ReplyValue}
+use Rattle.script_runner.specs.Acts.{RefusesReopen, RunnerState, RunsLine}
+use Rattle.script_runner.specs.AnyDisk.{LinesGiveWhatIsNamed, LinesGoOn}
+use Rattle.script_runner.specs.Frame.{IsOnContent, LinesKeepWritten, OpenedIsOn}
+use Rattle.script_runner.specs.Named.{Account, AllTell, CountFaults, GiveWhatIsNamed, Tells, WasShown, opened}
+use Rattle.script_runner.specs.Opened.{OpenedFollows}
+use Rattle.script_runner.specs.Scripts.{RunsLines, ScriptsFollow}
+use Rattle.store_core.specs.Frame.{KeepsWritten}
+use Rattle.store_core.specs.Runs.{IsOf}
+use Rattle.store_core.specs.State.{CoreState}
+use Rattle.store_model.specs.Collisions.{IsIn}
+use Rattle.store_model.specs.Files.{Stored}
+use Rattle.store_model.specs.Image.{Store}
+use Rattle.store_state.specs.Refused.{blames, fails}
+use Rattle.backup_engine.specs.AnyDisk.{ReadsSince}
+use Rattle.backup_engine.specs.Frame.{KeepsAll, LinesKeepOthers}
+use Rattle.backup_engine.specs.Lines.{RunsByMachine, RunsEachMap, RunsNone}
+use Rattle.backup_engine.specs.Promise.{SinceStart}
+use Rattle.backup_engine.specs.Script as script
+use Rattle.backup_engine.specs.Script.{CountsLines, FailsAlone, HasLast, IsNotReopened, IsRunRefusal, IsScriptEnd, KeepsScript, WroteReplies}
+use Rattle.backup_engine.specs.ScriptRuns.{EndsReopening, ScriptRun}
+use Rattle.backup_engine.specs.TopCall.{ending_in}
+use Rattle.backup_engine.proofs.Called.{Called}
+use Rattle.backup_engine.proofs.LinesRun.{lines_run}
+use Rattle.backup_engine.proofs.NotDone.{IsUnopened, map_fails}
+use Rattle.backup_engine.proofs.Reading.{since_start}
+use Rattle.backup_engine.proofs.UnlikeCopies.{shown_since}
+use Rattle.backup_engine.proofs.Unlent.{open_refusal, reads, shows}
+use Rattle.backup_engine.proofs.WayLists.{all_so}
+
+-- ---- what was shown
+
+module _ (Shown More : Store → Type 0) (each : (store : Store) → Shown store → More store) where
+  tells_so : (line : LineValue) (reply : ReplyValue) (t u : Account) → Tells Shown line reply t u → Tells More line reply t u
+  tells_so lines.Reopen (replies.Opened files) t u is = (is.0, (each is.0 is.1.0, is.1.1, is.1.2))
+  tells_so line reply t u is = is
+
+  all_tell : (rs : List Replied) (t : Account) → AllTell Shown rs t → AllTell More rs t
+  all_tell [] t all = tt
+  all_tell (one ∷ more) t all = (all.0, (tells_so one.line one.reply t all.0 all.1.0, all_tell more all.0 all.1.1))
+
+  pub named_so : (rs : List Replied) → GiveWhatIsNamed Shown rs → GiveWhatIsNamed More rs
+  named_so rs named = record { store = named.store; shown = each named.store named.shown; tell = all_tell rs (opened named.store) named.tell }
+
+  pub named_or : (ending : Option Ending) (rs : List Replied) → script.IsUnopened ending rs ⊎ GiveWhatIsNamed Shown rs → script.IsUnopened ending rs ⊎ GiveWhatIsNamed More rs
+  named_or ending rs (inl none) = inl none
+  named_or ending rs (inr named) = inr (named_so rs named)
+
+-- ---- no line was run
+
+nothing_more : (written : Option (List ℕ)) → Appended written written []
+nothing_more written = record { is = λ old told. told ∙ ap Some (sym (append-nil old)) }
+
+module _ (v w : DiskView) (refusal : Refusal) (only : OnlyReads v w) (counted : CountsFault (ending_of (blames refusal)) v.faults w.faults) (cause : IsOpenRefusal (Shows v w) v.size refusal)
+    (alone : (S : List ℕ → Type 0) (m : Stored) (image : List ℕ) → v.content ≡ Some image → IsOf S m image → IsTrue (fails refusal)) where
+  pub none_run : RunsEachMap (Some (Refused refusal)) [] v w
+  none_run = λ image told among m distinct cut is. inr (record {
+    none = refl;
+    refusal = refusal;
+    ending_is = refl;
+    failed = alone (IsIn among) m image told is;
+    content = only.content_is;
+    images = only.images_are;
+    since = only.since_are;
+  })
+
+  module _ (source : SourceView) (sink : SinkView) (laws : ReadsTellScripts) where
+    caused_by : (r : Refusal) → IsOpenRefusal (Shows v w) v.size r → IsScriptEnd (IsRunRefusal [] v w source source) (Some (Refused r)) [] source source sink sink
+    caused_by Memory is = tt
+    caused_by r is = inl (record { none = refl; cause = is; left_is = refl })
+
+    wrote_none : (r : Refusal) → WroteReplies (Some (Refused r)) [] sink sink
+    wrote_none Memory = inl (nothing_more sink.written)
+    wrote_none r = nothing_more sink.written
+
+    pub none_kept : KeepsScript [] (Some (Refused refusal)) v w source source sink sink
+    none_kept = record {
+      machine = none_run;
+      fails_alone = λ image told among m distinct cut is r same. let one : refusal ≡ r = cc in subst (λ (x : Refusal). IsTrue (fails x)) one (alone (IsIn among) m image told is);
+      begins = laws.so_far source.left source.left [] fresh_reader (laws.fresh source.left);
+      stops = tt;
+      caused = caused_by refusal cause;
+      wrote = wrote_none refusal;
+      frame = record {
+        content = λ old told. (old, only.content_is ∙ told, inl refl);
+        crash = λ old told c since. inl (since_start v w only c since);
+      };
+      named = inl ((refusal, refl), refl);
+      disk_faults = counted;
+      source_faults = λ other. refl;
+      sink_faults = λ other. refl;
+    }
+
+-- there was no memory before the store was opened
+pub no_memory_kept : (v : DiskView) (source : SourceView) (sink : SinkView) → ReadsTellScripts → KeepsScript [] (Some (Refused Memory)) v v source source sink sink
+no_memory_kept v source sink laws = none_kept v v Memory (reads_here v) refl tt (λ S m image told is. refl) source sink laws
+
+-- it was not opened
+pub unopened_kept : (v w : DiskView) (refusal : Refusal) → IsUnopened v w refusal → (source : SourceView) (sink : SinkView) → ReadsTellScripts → KeepsScript [] (Some (Refused refusal)) v w source source sink sink
+unopened_kept v w refusal is source sink laws = none_kept v w refusal is.reads.only is.reads.faults_are is.cause (map_fails v w refusal is) source sink laws
+
+-- ---- lines were run
+
+no_last : (before : List Replied) (last : Replied) → [] ≡ before ++ last ∷ [] → ⊥
+no_last [] last is = cc
+no_last (one ∷ before) last is = cc
+
+counts_lines : (ending : Option Ending) (rs : List Replied) (source source_now : SourceView) (sink sink_now : SinkView) (before now : ℕ) → IsScriptEnd (EndsReopening rs) ending rs source source_now sink sink_now
+    → CountFaults rs before now → CountsLines ending rs before now
+counts_lines (Some (Refused Memory)) [] source source_now sink sink_now before now end counts = counts.stays refl
+counts_lines (Some (Refused refusal)) [] source source_now sink sink_now before now end counts = absurd (no_last end.0 _ end.1.are)
+counts_lines (Some (Refused refusal)) (one ∷ more) source source_now sink sink_now before now end counts = counts
+counts_lines ending rs source source_now sink sink_now before now end counts = counts
+
+ends_so : (A B : Refusal → Type 0) → ((refusal : Refusal) → A refusal → B refusal) → (ending : Option Ending) (rs : List Replied) (source source_now : SourceView) (sink sink_now : SinkView)
+    → IsScriptEnd A ending rs source source_now sink sink_now → IsScriptEnd B ending rs source source_now sink sink_now
+ends_so A B each (Some (Refused Memory)) rs source source_now sink sink_now end = end
+ends_so A B each (Some (Refused refusal)) rs source source_now sink sink_now end = each refusal end
+ends_so A B each ending rs source source_now sink sink_now end = end
+
+-- ---- refusals of a machine's run
+
+reopen_fails : (refusal : Refusal) (m n : Machine) → machine.RefusesReopen refusal m n → IsTrue (fails refusal)
+reopen_fails Memory m n is = refl
+reopen_fails DiskRead m n is = refl
+reopen_fails DiskWrite m n is = refl
+reopen_fails refusal m n is = absurd is
+
+step_fails : (refusal : Refusal) (state : RunState) (m n : Machine) → StepBy state lines.Reopen (replies.Refused refusal) m n → IsTrue (fails refusal)
+step_fails refusal Running m n is = reopen_fails refusal m n is
+step_fails refusal (Stopped other) m n is = reopen_fails refusal m n is
+
+last_step : (before : List Replied) (last : Replied) (m n : Machine) → MachineRun (before ++ last ∷ []) m n → (mid : Machine) × Step last.line last.reply mid n
+last_step [] last m n run = (m, subst (λ (x : Machine). Step last.line last.reply m x) (sym run.1.1.1) run.1.1.0)
+last_step (one ∷ before) last m n run = last_step before last run.1.0 n run.1.1.1
+
+-- a refusal that ends a run is want of memory, or that of a `reopen`
+refused_alone : (rs : List Replied) (m n : Machine) → MachineRun rs m n → (refusal : Refusal) → (refusal ≡ Memory) ⊎ EndsReopening rs refusal → IsTrue (fails refusal)
+refused_alone rs m n run refusal (inl memory) = subst (λ (x : Refusal). IsTrue (fails x)) (sym memory) refl
+refused_alone rs m n run refusal (inr ends) =
+    let last = last_step ends.0 (record { line = lines.Reopen; reply = replies.Refused refusal }) m n (subst (λ (l : List Replied). MachineRun l m n) ends.1.are run) in
+    step_fails refusal last.0.state last.0 n last.1.0
+
+ended_by : (rs : List Replied) (refusal : Refusal) (source source_now : SourceView) (sink sink_now : SinkView) → IsScriptEnd (EndsReopening rs) (Some (Refused refusal)) rs source source_now sink sink_now
+    → (refusal ≡ Memory) ⊎ EndsReopening rs refusal
+ended_by rs Memory source source_now sink sink_now end = inl refl
+ended_by rs refusal source source_now sink sink_now end = inr end
+
+by_refusal : (rs : List Replied) (refusal : Refusal) (ending : Option Ending) → ending ≡ Some (Refused refusal) → (source source_now : SourceView) (sink sink_now : SinkView)
+    → IsScriptEnd (EndsReopening rs) ending rs source source_now sink sink_now → (refusal ≡ Memory) ⊎ EndsReopening rs refusal
+by_refusal rs refusal ending is source source_now sink sink_now end =
+    ended_by rs refusal source source_now sink sink_now (subst (λ (e : Option Ending). IsScriptEnd (EndsReopening rs) e rs source source_now sink sink_now) is end)
+
+runs_split : (C : Type 0) (state : C → CoreState) (before : List Replied) (last : Replied) (r s : RunnerState C) → RunsLines C state (before ++ last ∷ []) r s
+    → (mid : RunnerState C) × (RunsLines C state before r mid × RunsLine C state last.line last.reply mid s)
+runs_split C state [] last r s runs =
+    (r, (refl, subst (λ (x : RunnerState C). RunsLine C state last.line last.reply r x) (sym runs.1.1.1) runs.1.1.0))
+runs_split C state (one ∷ before) last r s runs =
+    let rest = runs_split C state before last runs.1.0 s runs.1.1.1 in
+    let first : RunsLines C state (one ∷ before) r rest.0 = (λ last. no_more before (runs.0 last), (runs.1.0, (runs.1.1.0, rest.1.0))) in
+    (rest.0, (first, rest.1.1))
+  where
+    no_more : (others : List Replied) → others ++ last ∷ [] ≡ [] → others ≡ []
+    no_more others is = absurd (no_last others last (sym is))
+
+module _ (D : Type 0) (view : D → DiskView) (C : Type 0) (state : C → CoreState) (before : D) (w : DiskView) (r s : RunnerState C) (called : Called C state (view before) w r.core s.core)
+    (opens : OpenedFollows D view C state) (follows : ScriptsFollow C state) (go_on : LinesGoOn C state) (give : LinesGiveWhatIsNamed D view C state) (is_on : OpenedIsOn D view C state) (keep : LinesKeepWritten C state) (fresh : r.sessions ≡ replicate ACTORS None)
+    (result : Result Unit Ending) (source source_now : SourceView) (sink sink_now : SinkView) (run : ScriptRun C state result r s source source_now sink sink_now) where
+  abbrev v : DiskView
+  v = view before
+
+  abbrev found : DiskView
+  found = (state r.core).disk
+
+  abbrev last : DiskView
+  last = (state s.core).disk
+
+  abbrev later : IsLater found last
+  later = (go_on run.rs r s run.runs).later
+
+  pub run_later : IsLater v w
+  run_later = later_on v found w called.first.only.later (later_on found last w later called.last.only.later)
+
+  -- what the store was opened with is shown in the call
+  wider : (store : Store) → WasShown v last store → WasShown v w store
+  wider store shown = record {
+    parts = shown.parts;
+    returned = all_so (λ part. last.read_returned v.clock part.at part.bytes) (λ part. w.read_returned v.clock part.at part.bytes) shown.parts
+        (λ part was. called.last.only.later.returned v.clock part.at part.bytes (omega (arith, called.first.only.later.clock_is, later.clock_is)) was) shown.returned;
+    shows = shown.shows;
+  }
+
+  counted : CountFaults run.rs v.faults w.faults
+  counted = subst (λ (n : ℕ). CountFaults run.rs v.faults n) (sym called.last.faults_are)
+      (subst (λ (n : ℕ). CountFaults run.rs n last.faults) called.first.faults_are (go_on run.rs r s run.runs).counted)
+
+  -- ---- what was written stays
+
+  module _ (base : List ℕ) (told : v.content ≡ Some base) where
+    stands : IsOnContent base (state r.core)
+    stands = is_on base before r.core called.opened called.durable called.first told
+
+    kept_all : (image : List ℕ) → KeepsWritten stands.store base image → KeepsAll base image
+    kept_all image written = inr (record { store = stands.store; right = stands.encodes; reserve = stands.on.reserve; written = written })
+
+    abbrev kept_lines : KnownWith last.content (KeepsWritten stands.store base) × CrashLeaves (KeepsWritten stands.store base) found last
+    kept_lines = keep run.rs stands.store base r s stands.on stands.told stands.encodes run.runs
+
+    crashed_since : (c : List ℕ) → v.clock < 2 ^ 64 - 1 → last.images_since v.clock c → v.images c ⊎ KeepsAll base c
+    crashed_since c below since = elim (kept_lines.1.since v.clock c called.first.only.later.clock_is since) [
+      | inl was ↦ elim (called.first.only.since_are v.clock c (omega arith) was) [
+        | inl before_it ↦ inl (v.only_now c below before_it)
+        | inr there ↦ inl there
+      ]
+      | inr written ↦ inr (kept_all c written)
+    ]
+
+    crashed : (c : List ℕ) → SinceStart v w c → v.images c ⊎ KeepsAll base c
+    crashed c (inl now) = inr (kept_all c (kept_lines.1.now c (called.last.only.images_are c now)))
+    crashed c (inr since) =
+        elim (called.last.only.since_are v.clock c (omega (arith, called.first.only.later.clock_is, later.clock_is)) since.1) [
+          | inl was ↦ crashed_since c since.0 was
+          | inr now ↦ inr (kept_all c (kept_lines.1.now c now))
+        ]
+
+  others : LinesKeepOthers v w
+  others = record {
+    content = λ base told. let there = (kept_lines base told).0 in (there.0, called.last.only.content_is ∙ there.1, kept_all base told there.0 there.2);
+    crash = crashed;
+  }
+
+  -- ---- a `reopen` that was refused
+
+  module _ (mid : RunnerState C) (way : IsLater found (state mid.core).disk) where
+    abbrev here : DiskView
+    here = (state mid.core).disk
+
+    shown_in_call : (refusal : Refusal) → Reads (ending_of (blames refusal)) here last → (P : List ℕ → Type 0) → Shows here last P → ReadsSince v w P
+    shown_in_call refusal reads P shown =
+        let since = shown_since v here last (later_on v found here called.first.only.later way) reads.only.content_is P shown in
+        record {
+          parts = since.parts;
+          returned = all_so (λ part. last.read_returned v.clock part.at part.bytes) (λ part. w.read_returned v.clock part.at part.bytes) since.parts
+              (λ part was. called.last.only.later.returned v.clock part.at part.bytes (omega (arith, called.first.only.later.clock_is, later.clock_is)) was) since.returned;
+          known = λ image is. since.known image (sym called.last.only.content_is ∙ is);
+          shows = since.shows;
+        }
+
+    cause_in_call : (refusal : Refusal) → RefusesReopen C state refusal mid.core s.core → IsOpenRefusal (ReadsSince v w) v.size refusal
+    cause_in_call refusal refused = elim refused.why [
+      | inl memory ↦ subst (λ (x : Refusal). IsOpenRefusal (ReadsSince v w) v.size x) (sym memory.0) tt
+      | inr why ↦
+          let size_is : here.size ≡ v.size = way.size_is ∙ called.first.only.later.size_is in
+          subst (λ (n : ℕ). IsOpenRefusal (ReadsSince v w) n refusal) size_is
+          (open_refusal (Shows here last) (ReadsSince v w) (shown_in_call refusal why.2) here.size refusal why.0)
+    ]
+
+  reopening : (refusal : Refusal) → EndsReopening run.rs refusal → IsRunRefusal run.rs v w source source_now refusal
+  reopening refusal ends =
+      let split = runs_split C state ends.0 (record { line = lines.Reopen; reply = replies.Refused refusal }) r s (subst (λ (l : List Replied). RunsLines C state l r s) ends.1.are run.runs) in
+      inr (record {
+        before = ends.0;
+        has_last = ends.1;
+        cause = cause_in_call split.0 (go_on ends.0 r split.0 split.1.0).later refusal split.1.1.0;
+      })
+
+  abbrev runs_each : RunsEachMap (ending_in result) run.rs v w
+  runs_each = lines_run D view C state before w r.core s.core called opens follows (ending_in result) run.rs r s refl fresh refl run.actors run.runs
+
+  run_fails : FailsAlone (ending_in result) run.rs v
+  run_fails = λ image told among m distinct cut is refusal ended. elim (runs_each image told among m distinct cut is) [
+    | inl machine ↦ refused_alone run.rs (plain.opened m image v.faults) machine.last machine.run refusal (by_refusal run.rs refusal (ending_in result) ended source source_now sink sink_now run.caused)
+    | inr none ↦ let same : none.refusal ≡ refusal = let both = sym none.ending_is ∙ ended in cc in subst (λ (x : Refusal). IsTrue (fails x)) same none.failed
+  ]
+
+  pub run_kept : KeepsScript run.rs (ending_in result) v w source source_now sink sink_now
+  run_kept = record {
+    machine = runs_each;
+    fails_alone = run_fails;
+    begins = run.begins;
+    stops = run.stops;
+    caused = ends_so (EndsReopening run.rs) (IsRunRefusal run.rs v w source source_now) reopening (ending_in result) run.rs source source_now sink sink_now run.caused;
+    wrote = run.wrote;
+    frame = others;
+    named = inr (named_so (WasShown v last) (WasShown v w) wider run.rs (give run.rs before r s called.opened called.first fresh run.actors run.runs));
+    disk_faults = counts_lines (ending_in result) run.rs source source_now sink sink_now v.faults w.faults run.caused counted;
+    source_faults = run.source_faults;
+    sink_faults = run.sink_faults;
+  }
+
+-- ---- a disk that was lent
+
+module _ (loans : List ℕ) (v w : DiskView) where
+  abbrev lent : DiskView
+  lent = record v { loans = loans }
+
+  abbrev lent_now : DiskView
+  lent_now = record w { loans = loans }
+
+  runs_none : (ending : Option Ending) (rs : List Replied) → RunsNone ending rs lent lent_now → RunsNone ending rs v w
+  runs_none ending rs is = record {
+    none = is.none;
+    refusal = is.refusal;
+    ending_is = is.ending_is;
+    failed = is.failed;
+    content = is.content;
+    images = is.images;
+    since = is.since;
+  }
+
+  runs_machine : (S : List ℕ → Type 0) (rs : List Replied) (m : Stored) (image : List ℕ) → RunsByMachine S rs m image lent lent_now → RunsByMachine S rs m image v w
+  runs_machine S rs m image is = record {
+    last = is.last;
+    run = is.run;
+    moments = is.moments;
+    through = record {
+      many = is.through.many;
+      rise = is.through.rise;
+      since = is.through.since;
+      crash = is.through.crash;
+      now = is.through.now;
+      content = is.through.content;
+      faults = is.through.faults;
+    };
+  }
+
+  pub machine_unlent : (ending : Option Ending) (rs : List Replied) → RunsEachMap ending rs lent lent_now → RunsEachMap ending rs v w
+  machine_unlent ending rs each = λ image told among m distinct cut is. elim (each image told among m distinct cut is) [
+    | inl machine ↦ inl (runs_machine (IsIn among) rs m image machine)
+    | inr none ↦ inr (runs_none ending rs none)
+  ]
+
+  not_opened : (refusal : Refusal) (rs : List Replied) (source source_now : SourceView) → IsRunRefusal rs lent lent_now source source_now refusal → IsRunRefusal rs v w source source_now refusal
+  not_opened refusal rs source source_now (inl is) =
+      inl (record { none = is.none; cause = open_refusal (Shows lent lent_now) (Shows v w) (shows loans v w) v.size refusal is.cause; left_is = is.left_is })
+  not_opened refusal rs source source_now (inr is) =
+      inr (record { before = is.before; has_last = is.has_last; cause = open_refusal (ReadsSince lent lent_now) (ReadsSince v w) (reads loans v w) v.size refusal is.cause })
+
+  shown_unlent : (store : Store) → WasShown lent lent_now store → WasShown v w store
+  shown_unlent store is = record { parts = is.parts; returned = is.returned; shows = is.shows }
+
+  pub script_unlent : (rs : List Replied) (ending : Option Ending) (source source_now : SourceView) (sink sink_now : SinkView) → KeepsScript rs ending lent lent_now source source_now sink sink_now
+      → KeepsScript rs ending v w source source_now sink sink_now
+  script_unlent rs ending source source_now sink sink_now is = record {
+    machine = machine_unlent ending rs is.machine;
+    fails_alone = is.fails_alone;
+    begins = is.begins;
+    stops = is.stops;
+    caused = ends_so (IsRunRefusal rs lent lent_now source source_now) (IsRunRefusal rs v w source source_now) (λ refusal. not_opened refusal rs source source_now) ending rs source source_now sink sink_now is.caused;
+    wrote = is.wrote;
+    frame = record { content = is.frame.content; crash = is.frame.crash };
+    named = named_or (WasShown lent lent_now) (WasShown v w) shown_unlent ending rs is.named;
+    disk_faults = is.disk_faults;
+    source_faults = is.source_faults;
+    sink_faults = is.sink_faults;
+  }
+
+-- and once it came back
+pub script_back : (loans loans_now : List ℕ) → loans_now ≡ loans → (v w : DiskView) (rs : List Replied) (ending : Option Ending) (source source_now : SourceView) (sink sink_now : SinkView)
+    → KeepsScript rs ending (record v { loans = loans }) (record w { loans = loans_now }) source source_now sink sink_now → KeepsScript rs ending v w source source_now sink sink_now
+script_back loans loans_now same v w rs ending source source_now sink sink_now kept =
+    script_unlent loans v w rs ending source source_now sink sink_now
+    (subst (λ (l : List ℕ). KeepsScript rs ending (record v { loans = loans }) (record w { loans = l }) source source_now sink sink_now) same kept)
+
+-- the runner has the core that was opened, and the core that is closed was the runner's
+pub called_by : (C : Type 0) (state : C → CoreState) (v w : DiskView) (old new first last : C) → Called C state v w old new → first ≡ old → new ≡ last → Called C state v w first last
+called_by C state v w old new first last called begins ends =
+    subst (λ (c : C). Called C state v w c last) (sym begins) (subst (λ (c : C). Called C state v w old c) ends called)

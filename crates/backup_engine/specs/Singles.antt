@@ -1,0 +1,141 @@
+-- Single commands as lines of a script: `ingest` and `restore` are a few lines of the first actor, and only print in another way
+-- (docs/MODEL.md, 'The promise').
+use Rattle.std.specs.Prelude.{◌≡◌, ◌⊎◌, ◌≤◌, ℕ, ◌+◌, ◌*◌, List, [], ◌∷◌, ◌++◌, length, Option, Some, None}
+use Rattle.std.specs.List.{concat}
+use Rattle.base_model.specs.Known.{Appended}
+use Rattle.dd_disk.specs.Shows.{Shows}
+use Rattle.dd_disk.specs.View.{DiskView}
+use Rattle.dd_io.specs.Flow.{SinkView}
+use Rattle.plain_machine.specs.Runs.{Replied}
+use Rattle.recovery.specs.Opening.{IsOpenRefusal}
+use Rattle.refusals.specs.declared.refusal.Refusal.{Refusal}
+use Rattle.refusals.specs.declared.refusal.Refusal.TheVariants.{Memory}
+use Rattle.reply_text.specs.declared.ending.Ending.{Ending}
+use Rattle.reply_text.specs.declared.ending.Ending.TheVariants.{Source, Sink, Refused}
+use Rattle.script_lines.specs.Grammar.{IsHex, LineValue, pushed_bytes}
+use Rattle.script_lines.specs.Grammar as lines
+use Rattle.script_lines.specs.ReplyValue.{ReplyValue}
+use Rattle.script_lines.specs.ReplyValue as replies
+use Rattle.session_turns.specs.declared.turns.TheConstants.{MOST_PIECE}
+use Rattle.backup_engine.specs.Line.{CommandLine, Format, Ingest, Restore}
+use Rattle.backup_engine.specs.Lines.{RunsEachMap}
+
+-- a line, and what it replied
+abbrev pub said : LineValue → ReplyValue → Replied
+said line reply = record { line = line; reply = reply }
+
+-- a line that was refused
+abbrev pub refused : LineValue → Refusal → Replied
+refused line refusal = said line (replies.Refused refusal)
+
+-- ---- a file that is taken in
+
+-- what a push may say: hexadecimal digits, within the limit
+pub record Digits : Type 0 where
+  pub digits : List ℕ
+  pub right : IsHex digits
+  pub few : length digits ≤ 2 * MOST_PIECE
+
+-- the bytes that some pushes have, put together
+abbrev pub pushed : List Digits → List ℕ
+pushed [] = []
+pushed (d ∷ more) = pushed_bytes d.digits ++ pushed more
+
+-- A line for each push, after so many bytes: it was done, and its reply counts all of them.
+abbrev pub push_lines : ℕ → List Digits → List Replied
+push_lines count [] = []
+push_lines count (d ∷ more) =
+    said (lines.Push 0 d.digits) (replies.Pushed 0 (count + length (pushed_bytes d.digits)))
+    ∷ push_lines (count + length (pushed_bytes d.digits)) more
+
+-- and the file has ended
+abbrev pub finish_lines : List Digits → List Replied
+finish_lines pushes = push_lines 0 pushes ++ said (lines.Finish 0) (replies.Finished 0 (length (pushed pushes))) ∷ []
+
+-- it was begun
+abbrev pub begun : Replied
+begun = said (lines.Begin 0) (replies.Begun 0)
+
+-- these bytes come first of those
+abbrev pub IsFirstOf : List ℕ → List ℕ → Type 0
+IsFirstOf first all = (rest : List ℕ) × (all ≡ first ++ rest)
+
+-- A line after `begin 0` was refused: a push of the file's next bytes, the file's end, or its name.
+abbrev pub StopsAt : List ℕ → List ℕ → Refusal → List Replied → Type 0
+StopsAt name given refusal rs =
+    (pushes : List Digits) × (((d : Digits) × (IsFirstOf (pushed pushes ++ pushed_bytes d.digits) given
+    × (rs ≡ push_lines 0 pushes ++ refused (lines.Push 0 d.digits) refusal ∷ [])))
+    ⊎ ((pushed pushes ≡ given) × (rs ≡ push_lines 0 pushes ++ refused (lines.Finish 0) refusal ∷ []))
+    ⊎ ((pushed pushes ≡ given) × (rs ≡ finish_lines pushes ++ refused (lines.Commit 0 name) refusal ∷ [])))
+
+-- The file was pushed, whole, and committed.
+abbrev pub StoresFile : List ℕ → List ℕ → List Replied → Type 0
+StoresFile name given rs =
+    (pushes : List Digits) × ((sequence : ℕ) × ((pushed pushes ≡ given)
+    × (rs ≡ begun ∷ finish_lines pushes ++ said (lines.Commit 0 name) (replies.Committed 0 sequence) ∷ [])))
+
+-- The lines of an `ingest` that the source gave these bytes: all of them, though perhaps the program's own reply wasn't written; or
+-- pushes of what came before the source failed; or up to a line that was refused. Where no line was run, there was no memory.
+abbrev pub IsIngest : List ℕ → List ℕ → Option Ending → List Replied → Type 0
+IsIngest name given None rs = StoresFile name given rs
+IsIngest name given (Some Sink) rs = StoresFile name given rs
+IsIngest name given (Some Source) rs =
+    (pushes : List Digits) × (IsFirstOf (pushed pushes) given × (rs ≡ begun ∷ push_lines 0 pushes))
+IsIngest name given (Some (Refused refusal)) rs =
+    ((refusal ≡ Memory) × (rs ≡ []))
+    ⊎ ((more : List Replied) × ((rs ≡ begun ∷ more) × StopsAt name given refusal more))
+IsIngest name given (Some ending) rs = ⊥
+
+-- ---- a file that is given back
+
+-- a line for each segment
+abbrev pub next_lines : List (List ℕ) → List Replied
+next_lines [] = []
+next_lines (bytes ∷ more) = said (lines.Next 0) (replies.Bytes 0 bytes) ∷ next_lines more
+
+-- The name was read, and then these segments, up to this last line.
+abbrev pub ReadsFile : List ℕ → List (List ℕ) → Replied → List Replied → Type 0
+ReadsFile name segments last rs =
+    (count : ℕ) × (rs ≡ said (lines.Read 0 name) (replies.Reading 0 count) ∷ next_lines segments ++ last ∷ [])
+
+-- The lines of a `restore`, and what was written: the bytes that the segments have, up to the end of the file; or of the last segment
+-- the sink took a first part alone; or a line was refused. Where no line was run, there was no memory.
+abbrev pub IsRestore : List ℕ → Option Ending → List Replied → SinkView → SinkView → Type 0
+IsRestore name None rs sink sink_now =
+    (segments : List (List ℕ)) × (ReadsFile name segments (said (lines.Next 0) (replies.End 0)) rs
+    × Appended sink.written sink_now.written (concat segments))
+IsRestore name (Some Sink) rs sink sink_now =
+    (segments : List (List ℕ)) × ((last : List ℕ) × (ReadsFile name segments (said (lines.Next 0) (replies.Bytes 0 last)) rs
+    × ((part : List ℕ) × (IsFirstOf part last × Appended sink.written sink_now.written (concat segments ++ part)))))
+IsRestore name (Some (Refused refusal)) rs sink sink_now =
+    ((refusal ≡ Memory) × (rs ≡ []) × (sink_now.written ≡ sink.written))
+    ⊎ ((rs ≡ refused (lines.Read 0 name) refusal ∷ []) × (sink_now.written ≡ sink.written))
+    ⊎ ((segments : List (List ℕ)) × (ReadsFile name segments (refused (lines.Next 0) refusal) rs
+    × Appended sink.written sink_now.written (concat segments)))
+IsRestore name (Some ending) rs sink sink_now = ⊥
+
+-- ---- both
+
+-- the store was not opened, for its cause, so no line was run, and nothing was written
+pub record OpensNone (ending : Option Ending) (rs : List Replied) (disk disk_now : DiskView) (sink sink_now : SinkView) : Type 0 where
+  pub refusal : Refusal
+  pub ending_is : ending ≡ Some (Refused refusal)
+  pub none : rs ≡ []
+  pub cause : IsOpenRefusal (Shows disk disk_now) disk.size refusal
+  pub wrote : sink_now.written ≡ sink.written
+
+abbrev pub IsSingle : CommandLine → List ℕ → Option Ending → List Replied → SinkView → SinkView → Type 0
+IsSingle (Format slots) given ending rs sink sink_now = rs ≡ []
+IsSingle (Ingest name) given ending rs sink sink_now = IsIngest name given ending rs
+IsSingle (Restore name) given ending rs sink sink_now = IsRestore name ending rs sink sink_now
+
+-- A single command as lines of a script; over a disk that stands for files, they are a run of the plain machine.
+pub record Speaks (command : CommandLine) (given : List ℕ) (ending : Option Ending) (rs : List Replied) (disk disk_now : DiskView)
+    (sink sink_now : SinkView) : Type 0 where
+  pub lines_are : IsSingle command given ending rs sink sink_now ⊎ OpensNone ending rs disk disk_now sink sink_now
+  pub machine : RunsEachMap ending rs disk disk_now
+
+-- A `format` has no lines, and nothing is said of it here.
+abbrev pub SpeaksAs : CommandLine → List ℕ → Option Ending → List Replied → DiskView → DiskView → SinkView → SinkView → Type 0
+SpeaksAs (Format slots) given ending rs disk disk_now sink sink_now = rs ≡ []
+SpeaksAs command given ending rs disk disk_now sink sink_now = Speaks command given ending rs disk disk_now sink sink_now

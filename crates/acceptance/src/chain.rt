@@ -1,5 +1,6 @@
 //! Commands, and calls of the disk, one after another on one disk.
 use crate::containers::header_text;
+use crate::scripts::{add_replies, script_in, script_of};
 use crate::text::Text;
 use crate::words::{Fault, add_piece, bytes_of, number, word_of, words_of};
 use backup_engine::{backup, backup_alone};
@@ -21,7 +22,7 @@ pub(crate) fn answers_of<D: Disk + Send>(
     Ok(text.whole()?)
 }
 
-/// An item is a call of the disk, or a command.
+/// An item is a call of the disk, a script, or another command.
 fn answer<D: Disk + Send>(
     rt: &HostRuntime,
     disk: &mut D,
@@ -29,6 +30,11 @@ fn answer<D: Disk + Send>(
     text: &mut Text,
 ) -> Result<(), Fault> {
     let alloc = rt.alloc();
+    if let Some((words, lines)) = script_in(item) {
+        let run = script_run(alloc, words, lines)?;
+        add_run(rt, disk, run, text);
+        return Ok(());
+    }
     let words = words_of(alloc, item)?;
     match words.as_slice() {
         ["@read", at, count] => {
@@ -139,6 +145,13 @@ fn run_of(alloc: Global, words: &[&str]) -> Result<Run, Fault> {
     Ok(run)
 }
 
+/// The run of a script of these lines.
+fn script_run(alloc: Global, words: &str, lines: &str) -> Result<Run, Fault> {
+    let mut run = run_of(alloc, &words_of(alloc, words)?)?;
+    run.source = script_of(alloc, lines)?;
+    Ok(run)
+}
+
 fn add_failing(run: &mut Run, script: &str) -> Result<(), Fault> {
     let (stream, call) = script.split_once('=').ok_or(Fault::Line)?;
     let call = number(call)?;
@@ -151,7 +164,7 @@ fn add_failing(run: &mut Run, script: &str) -> Result<(), Fault> {
     Ok(())
 }
 
-/// Runs the words over a disk. The answer is the status, then what went to the sink, then the notes.
+/// Runs the words over a disk. The answer is the status, then what went to the sink, then the notes; of scripts as `add_replies` has them.
 fn add_run<D: Disk + Send>(rt: &HostRuntime, disk: &mut D, run: Run, text: &mut Text) {
     let alloc = rt.alloc();
     let mut source = MemSource::new(run.source, run.source_fails);
@@ -179,8 +192,19 @@ fn add_run<D: Disk + Send>(rt: &HostRuntime, disk: &mut D, run: Run, text: &mut 
         )
     };
     text.add_number(u64::from(status));
+    if is_script(&run.words) {
+        return add_replies(text, sink.bytes(), notes.bytes(), status == 0);
+    }
     add_stream(text, sink.bytes(), status == 0);
     add_stream(text, notes.bytes(), false);
+}
+
+/// Whether the command runs a script.
+fn is_script(words: &[String]) -> bool {
+    match words {
+        [command, ..] => command.as_str() == "run",
+        [] => false,
+    }
 }
 
 fn add_stream(text: &mut Text, bytes: &[u8], is_always: bool) {

@@ -10,6 +10,7 @@ mod cutting;
 mod nodes;
 mod places;
 mod registry;
+mod scripts;
 mod sessions;
 mod stage;
 mod streams;

@@ -55,7 +55,7 @@ push_taken a digits Idle w taken is = absurd is
 push_taken a digits (Reading rest) w taken is = absurd is
 
 -- of a file that goes on a push is refused where it would be too long
-why_long : (s : SessionState) (n : ℕ) (refusal : Refusal) (ended : Bool) → s.ended ≡ false → s.ended ≡ ended → IsPushAnswer s n (Err refusal) → (refusal ≡ refusals.TooLong) × (MOST_FILE < s.count + n)
+pub why_long : (s : SessionState) (n : ℕ) (refusal : Refusal) (ended : Bool) → s.ended ≡ false → s.ended ≡ ended → IsPushAnswer s n (Err refusal) → (refusal ≡ refusals.TooLong) × (MOST_FILE < s.count + n)
 why_long s n refusal true off is answer = absurd (let both = sym off ∙ is in cc)
 why_long s n refusal false off is answer =
     by_length (nat_lt MOST_FILE (s.count + n)) refl

@@ -1,37 +1,41 @@
 -- Lines over a core that was opened give what is named, on any disk.
-use Rattle.std.proofs.Common.{◌≡◌, inl, inr, ◌∙◌, ◌≤◌, ℕ, List, [], ◌∷◌, length, Ok, refl, sym, ap, subst}
+use Rattle.std.proofs.Common.{◌≡◌, inl, inr, ◌∙◌, ◌≤◌, ℕ, Bool, true, false, List, [], ◌∷◌, length, Option, Some, None, Ok, refl, sym, ap, subst}
 use Rattle.std.specs.FinMap as finite
 use Rattle.std.specs.List.{AllByRecursion}
 use Rattle.dd_disk.specs.Shows.{Shows}
 use Rattle.dd_disk.specs.View.{DiskView, IsLater}
 use Rattle.dd_disk.proofs.Later.{later_here, later_on}
+use Rattle.dd_disk.proofs.Shows.{until}
 use Rattle.actor_parts.specs.declared.part.Part as core_part
 use Rattle.actor_parts.specs.Parts.{part_of}
 use Rattle.actor_parts.specs.StepValue as asked
 use Rattle.namespace.specs.Names.{NameMap}
 use Rattle.refusals.specs.declared.refusal.Refusal.{Refusal}
+use Rattle.refusals.specs.declared.refusal.Refusal.TheVariants as refusals
 use Rattle.script_lines.specs.Grammar.{LineValue}
 use Rattle.script_lines.specs.Grammar as lines
 use Rattle.script_lines.specs.ReplyValue as replies
 use Rattle.script_lines.specs.ReplyValue.{ReplyValue}
 use Rattle.store_model.specs.Image.{Store, Encodes, names_of}
 use Rattle.store_state.specs.declared.tables.Tables.{Tables}
+use Rattle.recovery.specs.Opening.{IsOpenRefusal}
+use Rattle.store_core.specs.declared.stop.Stop.{Stop}
 use Rattle.store_core.specs.Opening.{IsKept}
 use Rattle.store_core.specs.State.{CoreState, Event, IsRunning}
 use Rattle.store_core.proofs.CoreRuns.{running_step}
 use Rattle.store_core.proofs.Making.{up_of}
 use Rattle.store_core.proofs.Opened.{kept_runs, new_runs}
 use Rattle.plain_machine.specs.Runs.{Replied}
-use Rattle.script_runner.specs.Acts.{Acts, ActsOrNot, ActsReopen, Admits, RefusesReopen, Reopens, RunnerState, RunsLine, counted}
+use Rattle.script_runner.specs.Acts.{Acts, ActsOrNot, ActsReopen, Admits, BarsBy, RefusesReopen, Reopens, RunnerState, RunsLine, counted}
 use Rattle.script_runner.specs.AnyDisk.{LinesGiveWhatIsNamed}
 use Rattle.script_runner.specs.Follows.{IsOfActor}
-use Rattle.script_runner.specs.Named.{Account, AllTell, Tells, WasShown, doing_of, opened}
+use Rattle.script_runner.specs.Named.{Account, AllTell, IsOfReopen, Refuses, Tells, TellsBy, WasShown, doing_of, kind_of, opened, stops}
 use Rattle.script_runner.specs.Scripts.{AreOfActors, RunsLines}
-use Rattle.script_runner.specs.Sessions.{Sessions, session_of}
+use Rattle.script_runner.specs.Sessions.{Sessions, kind_in, session_of}
 use Rattle.script_runner.proofs.FaultsCounted.{line_went}
-use Rattle.script_runner.proofs.NamedAt.{At, AtPart, Told, at_opened}
+use Rattle.script_runner.proofs.NamedAt.{At, AtPart, Told, at_opened, going, part_kind}
 use Rattle.script_runner.proofs.NamedGiving.{abort_told, begin_told, commit_told, finish_told, push_told, turn_told}
-use Rattle.script_runner.proofs.NamedSteps.{quiet_step}
+use Rattle.script_runner.proofs.NamedSteps.{Stands, done_stands, quiet_step}
 use Rattle.script_runner.proofs.NamedTaking.{count_names, drop_told, next_told, read_told, stat_told}
 
 -- ---- what was shown
@@ -49,22 +53,49 @@ shown_in v old mid w store before between after shown = record {
   shows = λ image sized has. shown.shows image (sized ∙ sym before.size_is) has;
 }
 
--- a line that is refused tells nothing
-refused_tells : (Shown : Store → Type 0) (line : LineValue) (refusal : Refusal) (t : Account) → Tells Shown line (replies.Refused refusal) t t
-refused_tells Shown lines.Reopen refusal t = refl
-refused_tells Shown line refusal t = refl
-
 tells_on : (Shown More : Store → Type 0) → ((store : Store) → Shown store → More store) → (line : LineValue) (reply : ReplyValue) (t u : Account) → Tells Shown line reply t u → Tells More line reply t u
 tells_on Shown More each lines.Reopen (replies.Opened files) t u tells = (tells.0, (each tells.0 tells.1.0, tells.1.1, tells.1.2))
 tells_on Shown More each line reply t u tells = tells
 
 -- ---- one line
 
+-- what a line but `reopen` tells is so, and the runner has it
+pub record ToldBy (C : Type 0) (state : C → CoreState) (line : LineValue) (reply : ReplyValue) (t : Account) (s : RunnerState C) : Type 0 where
+  pub next : Account
+  pub tells : TellsBy t.stopped line reply t next
+  pub at : At next s.sessions (state s.core)
+
+-- and any
+pub record LineTold (C : Type 0) (state : C → CoreState) (Shown : Store → Type 0) (line : LineValue) (reply : ReplyValue) (t : Account) (s : RunnerState C) : Type 0 where
+  pub next : Account
+  pub tells : Tells Shown line reply t next
+  pub at : At next s.sessions (state s.core)
+
+-- why a store is not opened again
+of_reopen : (shown : (List ℕ → Type 0) → Type 0) (size : ℕ) (refusal : Refusal) → IsOpenRefusal shown size refusal → IsOfReopen refusal
+of_reopen shown size refusals.Memory why = tt
+of_reopen shown size (refusals.Full free) why = tt
+of_reopen shown size refusals.DiskRead why = tt
+of_reopen shown size refusals.DiskWrite why = tt
+of_reopen shown size (refusals.NotAStore gate magic) why = tt
+of_reopen shown size (refusals.Version n) why = tt
+of_reopen shown size (refusals.Damaged at_byte why_so) why = tt
+of_reopen shown size (refusals.WrongSize want got) why = tt
+of_reopen shown size refusal why = absurd why
+
+-- what is stopped says so
+stopped_so : (stopped : Bool) (stop : Stop) (c : CoreState) → Stands stopped c → c.stop ≡ Some stop → (stopped ≡ true) × (stop.at ≡ c.acknowledged)
+stopped_so false stop c stands is = absurd (let both = sym stands.0 ∙ is in cc)
+stopped_so true stop c stands is = (refl, ap (λ (x : Stop). x.at) (one_stop stop stands.0 (sym is ∙ stands.1.0)) ∙ stands.1.1)
+  where
+    one_stop : (a b : Stop) → Some a ≡ Some b → a ≡ b
+    one_stop a b is = cc
+
 module _ (C : Type 0) (state : C → CoreState) (v : DiskView) (t : Account) (r s : RunnerState C) (later : IsLater v (state r.core).disk) (at : At t r.sessions (state r.core)) where
   abbrev Shown : Store → Type 0
   Shown = WasShown v (state s.core).disk
 
-  reopened : (files : ℕ) → Reopens C state files s.sessions r.moments s.moments r.core s.core → Told C state (WasShown v (state s.core).disk) lines.Reopen (replies.Opened files) t s
+  reopened : (files : ℕ) → Reopens C state files s.sessions r.moments s.moments r.core s.core → LineTold C state (WasShown v (state s.core).disk) lines.Reopen (replies.Opened files) t s
   reopened files acts =
       let old = state r.core in
       let mid = state acts.mid in
@@ -86,13 +117,30 @@ module _ (C : Type 0) (state : C → CoreState) (v : DiskView) (t : Account) (r 
             refl,
           ),
         );
-        at = at_opened store s.sessions new quiet.running (quiet.names ∙ names) acts.sessions_are (steps.made.row.1 ∙ is.parts_are);
+        at = at_opened store s.sessions new quiet.running
+            (record {
+              stands = done_stands mid new asked.Stat 0 (counted acts.holdings) acts.counts.0 steps is.told;
+              acknowledged = quiet.acknowledged ∙ is.counted;
+              names = quiet.tables.names ∙ names;
+              records = quiet.tables.records ∙ is.represents.names_are.count;
+              last = quiet.tables.last ∙ is.represents.names_are.last_is;
+            }) acts.sessions_are (steps.made.row.1 ∙ is.parts_are);
       }
 
-  not_reopened : (refusal : Refusal) → RefusesReopen C state refusal r.core s.core → s.sessions ≡ r.sessions → Told C state (WasShown v (state s.core).disk) lines.Reopen (replies.Refused refusal) t s
+  stands_kept : (stopped : Bool) (old new : CoreState) → IsKept old new → Stands stopped old → Stands stopped new
+  stands_kept false old new same stands = (same.stop_is ∙ stands.0, (stands.1.0, same.index_is ∙ stands.1.1))
+  stands_kept true old new same stands = (stands.0, (same.stop_is ∙ stands.1.0, stands.1.1 ∙ sym same.counted))
+
+  not_reopened : (refusal : Refusal) → RefusesReopen C state refusal r.core s.core → s.sessions ≡ r.sessions → LineTold C state (WasShown v (state s.core).disk) lines.Reopen (replies.Refused refusal) t s
   not_reopened refusal acts sessions = record {
     next = t;
-    tells = refl;
+    tells = (
+      elim acts.why [
+        | inl memory ↦ subst IsOfReopen (sym memory.0) tt
+        | inr given_up ↦ of_reopen (Shows (state r.core).disk (state s.core).disk) (state r.core).disk.size refusal given_up.0
+      ],
+      refl,
+    );
     at = subst (λ (x : Sessions). At t x (state s.core)) (sym sessions) (elim acts.why [
       | inl memory ↦ subst (λ (c : C). At t r.sessions (state c)) (sym memory.1) at
       | inr given_up ↦ kept given_up.3 given_up.2.only.later
@@ -102,42 +150,68 @@ module _ (C : Type 0) (state : C → CoreState) (v : DiskView) (t : Account) (r 
       kept : IsKept (state r.core) (state s.core) → IsLater (state r.core).disk (state s.core).disk → At t r.sessions (state s.core)
       kept same on = record {
         running = kept_runs (state r.core) (state s.core) on.size_is same at.running;
-        names = ap (λ (tables : Tables). tables.names) same.tables_are ∙ at.names;
+        counts = record {
+          stands = stands_kept t.stopped (state r.core) (state s.core) same at.counts.stands;
+          acknowledged = same.counted ∙ at.counts.acknowledged;
+          names = ap (λ (tables : Tables). tables.names) same.tables_are ∙ at.counts.names;
+          records = ap (λ (tables : Tables). tables.journal.count) same.tables_are ∙ at.counts.records;
+          last = ap (λ (tables : Tables). tables.journal.last) same.tables_are ∙ at.counts.last;
+        };
         sessions_are = at.sessions_are;
         parts_are = ap (λ (parts : List core_part.Part). length parts) same.parts_are ∙ at.parts_are;
         doing_are = at.doing_are;
         each = λ actor below. subst (λ (parts : List core_part.Part). AtPart (doing_of t actor) (session_of r.sessions actor) (part_of parts actor)) (sym same.parts_are) (at.each actor below);
       }
 
-  reopen_told : (reply : ReplyValue) → ActsReopen C state reply r s → Told C state (WasShown v (state s.core).disk) lines.Reopen reply t s
+  reopen_told : (reply : ReplyValue) → ActsReopen C state reply r s → LineTold C state (WasShown v (state s.core).disk) lines.Reopen reply t s
   reopen_told (replies.Opened files) acts = reopened files acts
   reopen_told (replies.Refused refusal) acts = not_reopened refusal acts.0 acts.1
   reopen_told reply acts = absurd acts
 
-  acts_told : (line : LineValue) (reply : ReplyValue) → IsOfActor line → Admits line r.sessions (state r.core) → Acts C state line reply r s → Told C state (WasShown v (state s.core).disk) line reply t s
-  acts_told (lines.Begin a) reply of admits acts = begin_told C state Shown t r s at a (of a refl) reply admits acts
-  acts_told (lines.Push a digits) reply of admits acts = push_told C state Shown t r s at a (of a refl) digits reply admits acts
-  acts_told (lines.Finish a) reply of admits acts = finish_told C state Shown t r s at a (of a refl) reply admits acts
-  acts_told (lines.Turn a) reply of admits acts = turn_told C state Shown t r s at a (of a refl) reply admits acts
-  acts_told (lines.Commit a name) reply of admits acts = commit_told C state Shown t r s at a (of a refl) name reply admits acts
-  acts_told (lines.Abort a) reply of admits acts = abort_told C state Shown t r s at a (of a refl) reply admits acts
-  acts_told (lines.Read a name) reply of admits acts = read_told C state Shown t r s at a (of a refl) name reply admits acts
-  acts_told (lines.Next a) reply of admits acts = next_told C state Shown t r s at a (of a refl) reply admits acts
-  acts_told (lines.Drop a) reply of admits acts = drop_told C state Shown t r s at a (of a refl) reply admits acts
-  acts_told lines.Stat reply of admits acts = stat_told C state Shown t r s at reply admits acts
+  acts_told : (line : LineValue) (reply : ReplyValue) → IsOfActor line → Admits line r.sessions (state r.core) → Acts C state line reply r s → Told C state line reply t s
+  acts_told (lines.Begin a) reply of admits acts = begin_told C state t r s at a (of a refl) reply admits acts
+  acts_told (lines.Push a digits) reply of admits acts = push_told C state t r s at a (of a refl) digits reply admits acts
+  acts_told (lines.Finish a) reply of admits acts = finish_told C state t r s at a (of a refl) reply admits acts
+  acts_told (lines.Turn a) reply of admits acts = turn_told C state t r s at a (of a refl) reply admits acts
+  acts_told (lines.Commit a name) reply of admits acts = commit_told C state t r s at a (of a refl) name reply admits acts
+  acts_told (lines.Abort a) reply of admits acts = abort_told C state t r s at a (of a refl) reply admits acts
+  acts_told (lines.Read a name) reply of admits acts = read_told C state t r s at a (of a refl) name reply admits acts
+  acts_told (lines.Next a) reply of admits acts = next_told C state t r s at a (of a refl) reply admits acts
+  acts_told (lines.Drop a) reply of admits acts = drop_told C state t r s at a (of a refl) reply admits acts
+  acts_told lines.Stat reply of admits acts = stat_told C state t r s at reply admits acts
   acts_told lines.Reopen reply of admits acts = absurd acts
 
-  taken_told : (line : LineValue) (reply : ReplyValue) → IsOfActor line → ActsOrNot C state line reply r s → Told C state (WasShown v (state s.core).disk) line reply t s
-  taken_told line reply of (inl taken) = acts_told line reply of taken.0 taken.1
+  -- the actor is at something that the line does not take
+  wrong_part : (line : LineValue) (refusal : Refusal) → IsOfActor line → (state r.core).stop ≡ None → BarsBy None line r.sessions (state r.core) refusal → Refuses line refusal t × (t ≡ record t { stopped = stops refusal })
+  wrong_part line refusal of runs bars =
+      let actor : ℕ = bars.0 in
+      let old = state r.core in
+      let kind_is : kind_in r.sessions old.parts actor ≡ kind_of (doing_of t actor) = part_kind (doing_of t actor) (session_of r.sessions actor) (part_of old.parts actor) (at.each actor (of actor bars.1)) in
+      let running : t.stopped ≡ false = going t r.sessions old at runs in
+      subst (λ (x : Refusal). Refuses line x t × (t ≡ record t { stopped = stops x })) (sym bars.3)
+      (record { actor = actor; actor_is = bars.1; kind_is = kind_is; wrong = bars.2 }, ap (λ (b : Bool). let u : Account = record t { stopped = b } in u) running)
+
+  -- why a line is not taken
+  barred : (stop : Option Stop) (line : LineValue) (refusal : Refusal) → IsOfActor line → (state r.core).stop ≡ stop → BarsBy stop line r.sessions (state r.core) refusal → TellsBy t.stopped line (replies.Refused refusal) t t
+  barred None line refusal of is bars = subst (λ (b : Bool). TellsBy b line (replies.Refused refusal) t t) (sym (going t r.sessions (state r.core) at is)) (wrong_part line refusal of is bars)
+  barred (Some stop) line refusal of is bars =
+      let so = stopped_so t.stopped stop (state r.core) at.counts.stands is in
+      subst (λ (b : Bool). TellsBy b line (replies.Refused refusal) t t) (sym so.0)
+      (ap replies.Refused bars ∙ ap (λ (n : ℕ). replies.Refused (refusals.Stopped n)) (so.1 ∙ at.counts.acknowledged), refl)
+
+  taken_told : (line : LineValue) (reply : ReplyValue) → IsOfActor line → ActsOrNot C state line reply r s → ToldBy C state line reply t s
+  taken_told line reply of (inl taken) =
+      let is = acts_told line reply of taken.0 taken.1 in
+      record { next = is.next; tells = subst (λ (b : Bool). TellsBy b line reply t is.next) (sym (going t r.sessions (state r.core) at taken.0.runs)) is.tells; at = is.at }
   taken_told line reply of (inr bars) = record {
     next = t;
-    tells = subst (λ (x : ReplyValue). Tells Shown line x t t) (sym bars.1) (refused_tells Shown line bars.0 t);
+    tells = subst (λ (x : ReplyValue). TellsBy t.stopped line x t t) (sym bars.1) (barred (state r.core).stop line bars.0 of refl bars.2);
     at = subst (λ (x : RunnerState C). At t x.sessions (state x.core)) (sym bars.3) at;
   }
 
-  pub line_told : (line : LineValue) (reply : ReplyValue) → IsOfActor line → RunsLine C state line reply r s → Told C state (WasShown v (state s.core).disk) line reply t s
+  pub line_told : (line : LineValue) (reply : ReplyValue) → IsOfActor line → RunsLine C state line reply r s → LineTold C state (WasShown v (state s.core).disk) line reply t s
   line_told lines.Reopen reply of runs = reopen_told reply runs
-  line_told line reply of runs = taken_told line reply of runs
+  line_told line reply of runs = let is = taken_told line reply of runs in record { next = is.next; tells = is.tells; at = is.at }
 
 -- ---- lines
 
@@ -174,9 +248,15 @@ lines_give_what_is_named D view C state rs before r s new reads none actors runs
     let v = view before in
     let c = state r.core in
     let running : IsRunning c = new_runs (Shows v c.disk) v.size c reads.only.later.size_is new in
-    let at = at_opened new.store r.sessions c running new.represents.names_are.names_are none new.parts_are in
+    let at = at_opened new.store r.sessions c running (record {
+      stands = (new.stop_is, new.told);
+      acknowledged = new.counted;
+      names = new.represents.names_are.names_are;
+      records = new.represents.names_are.count;
+      last = new.represents.names_are.last_is;
+    }) none new.parts_are in
     record {
       store = new.store;
-      shown = shown_in v v c.disk (state s.core).disk new.store (later_here v) reads.only.later.clock_is (lines_later C state v rs r s runs) new.right;
+      shown = until v c.disk (state s.core).disk new.right reads.only.later.clock_is (lines_later C state v rs r s runs);
       tell = all_tell C state v rs (opened new.store) r s reads.only.later at actors runs;
     }

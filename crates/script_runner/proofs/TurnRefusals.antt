@@ -54,7 +54,7 @@ use Rattle.script_runner.proofs.TurnRunning.{RunsAt, stays_here}
 use Rattle.script_runner.proofs.TurnTwins.{claim_twins, seal_twins}
 
 -- a part is not of another kind than that it has
-no_other : (taken : PartKind) (part : core_part.Part) (refusal : Refusal) → kind_of part ≡ taken → IsWrongPart taken part refusal → ⊥
+pub no_other : (taken : PartKind) (part : core_part.Part) (refusal : Refusal) → kind_of part ≡ taken → IsWrongPart taken part refusal → ⊥
 no_other taken part (refusals.WrongPart kind) is wrong = wrong.1 (wrong.0 ∙ is)
 no_other taken part refusal is wrong = absurd wrong
 

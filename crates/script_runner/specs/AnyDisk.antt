@@ -8,7 +8,7 @@ use Rattle.store_core.specs.Opening.{IsNew}
 use Rattle.store_core.specs.State.{CoreState}
 use Rattle.plain_machine.specs.Runs.{Replied}
 use Rattle.script_runner.specs.Acts.{RunnerState}
-use Rattle.script_runner.specs.Named.{GiveWhatIsNamed, WasShown, CountFaults}
+use Rattle.script_runner.specs.Named.{GiveWhatIsNamed, WasOpened, WasShown, CountFaults}
 use Rattle.script_runner.specs.Scripts.{AreOfActors, RunsLines}
 
 -- Over a core that was opened just now, where no actor gives a file yet, lines give what is named, whatever the disk does.
@@ -17,7 +17,7 @@ LinesGiveWhatIsNamed D view C state = (rs : List Replied) (before : D) (r s : Ru
     → IsNew (Shows (view before) (state r.core).disk) (view before).size (state r.core)
     → Reads Done (view before) (state r.core).disk
     → r.sessions ≡ replicate ACTORS None → AreOfActors rs → RunsLines C state rs r s
-    → GiveWhatIsNamed (WasShown (view before) (state s.core).disk) rs
+    → GiveWhatIsNamed (WasOpened (view before) (state s.core).disk) (WasShown (view before) (state s.core).disk) rs
 
 -- It is the same disk, later, and its count of faults is told by the replies.
 pub record GoesOn (rs : List Replied) (old new : DiskView) : Type 0 where

@@ -1,24 +1,31 @@
 -- What lines give by name, on any disk, also one that tells nothing, or lies (docs/MODEL.md, 'Scripts').
-use Rattle.std.specs.Prelude.{◌≡◌, ℕ, Bool, true, false, List, [], ◌∷◌, ◌++◌, length, replicate, slice_index_or, slice_set, sum_by}
+use Rattle.std.specs.Prelude.{◌≡◌, ◌≢◌, ◌⊎◌, ◌≤◌, ◌<◌, ℕ, suc, Bool, true, false, List, [], ◌∷◌, ◌++◌, length, replicate, slice_index_or, slice_set, sum_by, Some}
 use Rattle.std.specs.FinMap as finite
 use Rattle.std.specs.List.{AllByRecursion, list_any}
-use Rattle.disk_format.specs.Cells.{Root}
-use Rattle.dd_disk.specs.Shows.{Part, HasPart}
+use Rattle.disk_format.specs.Cells.{IsName, Root}
+use Rattle.disk_format.specs.Layout.{half_cells}
+use Rattle.disk_format.specs.declared.numbers.TheConstants.{MOST_FILE}
+use Rattle.dd_disk.specs.Shows.{Part, HasPart, Shows}
 use Rattle.dd_disk.specs.View.{DiskView}
 use Rattle.actor_parts.specs.declared.actor.TheConstants.{ACTORS}
 use Rattle.actor_parts.specs.Counts.{Counts}
 use Rattle.merkle_file.specs.declared.top.Top.{Top}
 use Rattle.merkle_file.specs.Walk.{start_of}
-use Rattle.namespace.specs.Names.{NameMap}
-use Rattle.refusals.specs.declared.refusal.Refusal.TheVariants.{DiskRead, DiskWrite}
+use Rattle.namespace.specs.Names.{HasRoom, IsFull, NameMap}
+use Rattle.refusals.specs.declared.refusal.PartKind.{PartKind}
+use Rattle.refusals.specs.declared.refusal.PartKind.TheVariants as kinds
+use Rattle.refusals.specs.declared.refusal.Refusal.{Refusal}
+use Rattle.refusals.specs.declared.refusal.Refusal.TheVariants.{Memory, BadName, TooMany, TooLong, Full, Clash, WrongPart, DiskRead, DiskWrite, Stopped, Corrupt, Missing, Numbers, NotAStore, Version, Damaged, Unpinned, WrongSize}
 use Rattle.script_lines.specs.Grammar.{LineValue, pushed_bytes}
 use Rattle.script_lines.specs.Grammar as lines
 use Rattle.script_lines.specs.ReplyValue.{ReplyValue}
 use Rattle.script_lines.specs.ReplyValue as replies
-use Rattle.store_model.specs.Image.{Store, Encodes, names_of}
+use Rattle.store_model.specs.Image.{Store, Encodes, last_sequence, names_of}
 use Rattle.store_model.specs.Trees.{root_of}
-use Rattle.read_steps.specs.Opening.{HasRoot, top_of}
-use Rattle.read_steps.specs.Walking.{GivesAll}
+use Rattle.read_steps.specs.Opening.{HasRoot, IsNameRefusal, top_of}
+use Rattle.read_steps.specs.Walking.{GivesAll, top_key}
+use Rattle.plain_machine.specs.Machine.{one_more}
+use Rattle.plain_machine.specs.Refused.{actor_of, takes}
 use Rattle.plain_machine.specs.Runs.{Replied}
 
 -- ---- what lines and their replies tell
@@ -33,10 +40,15 @@ pub data Doing : Type 0 where
   -- it takes the file of this root: these segments were given since the `read`
   Reading : (root : Root) (segments : List (List ℕ)) → Doing
 
--- the names with their roots, and what each actor is at
+-- The names with their roots, how many records the journal has, and the number of the last commit; what each actor is at; and, since
+-- the opening, how many commits were acknowledged, and whether a write or a sync failed.
 pub record Account : Type 0 where
   pub names : NameMap
+  pub records : ℕ
+  pub last : ℕ
   pub doing : List Doing
+  pub acknowledged : ℕ
+  pub stopped : Bool
 
 abbrev pub doing_of : Account → ℕ → Doing
 doing_of t actor = slice_index_or t.doing actor Idle
@@ -47,9 +59,16 @@ with_doing t actor doing = record t { doing = slice_set t.doing actor doing }
 
 -- that of a store that was opened
 abbrev pub opened : Store → Account
-opened store = record { names = names_of store; doing = replicate ACTORS Idle }
+opened store = record {
+  names = names_of store;
+  records = length store.records;
+  last = last_sequence store;
+  doing = replicate ACTORS Idle;
+  acknowledged = 0;
+  stopped = false;
+}
 
--- ---- one line
+-- ---- a line that is done
 
 -- The segments are those that the tree of the root names, one after the other, from the first on: each has the digest and the length
 -- that it is named by. This is to come.
@@ -61,11 +80,26 @@ IsGiving (Writing given) = Unit {0}
 IsGiving (Finished file) = Unit {0}
 IsGiving doing = ⊥
 
+-- the name is good and has room, and the journal has a cell left
+pub record MayName (name : List ℕ) (t : Account) : Type 0 where
+  pub good : IsName name
+  pub room : HasRoom t.names name
+  pub cell : t.records < half_cells
+
+-- the same, but that the name has a root, under the next number
+abbrev pub with_name : List ℕ → Root → Account → Account
+with_name name root t = record t {
+  names = finite.insert t.names name (record { sequence = suc t.last; root = root });
+  records = suc t.records;
+  last = suc t.last;
+  acknowledged = one_more t.acknowledged;
+}
+
 -- the name has the root of the file that the actor has given
 abbrev pub Names : ℕ → List ℕ → ℕ → Account → Account → Type 0
 Names actor name sequence t u =
-    (file : List ℕ) × ((doing_of t actor ≡ Finished file)
-    × (u ≡ record (with_doing t actor Idle) { names = finite.insert t.names name (record { sequence = sequence; root = root_of file }) }))
+    MayName name t × (sequence ≡ suc t.last)
+    × ((file : List ℕ) × ((doing_of t actor ≡ Finished file) × (u ≡ with_name name (root_of file) (with_doing t actor Idle))))
 
 -- the file of the root that the name has now is to come, all of it
 abbrev pub Begins : ℕ → List ℕ → ℕ → Account → Account → Type 0
@@ -90,7 +124,7 @@ EndsWhole actor t =
 abbrev pub Agrees : LineValue → ReplyValue → Account → Account → Type 0
 Agrees (lines.Begin a) (replies.Begun b) t u = (b ≡ a) × (doing_of t a ≡ Idle) × (u ≡ with_doing t a (Writing []))
 Agrees (lines.Push a digits) (replies.Pushed b count) t u =
-    (b ≡ a) × ((given : List ℕ) × ((doing_of t a ≡ Writing given) × (count ≡ length (given ++ pushed_bytes digits))
+    (b ≡ a) × ((given : List ℕ) × ((doing_of t a ≡ Writing given) × (count ≡ length (given ++ pushed_bytes digits)) × (count ≤ MOST_FILE)
     × (u ≡ with_doing t a (Writing (given ++ pushed_bytes digits)))))
 Agrees (lines.Finish a) (replies.Finished b count) t u =
     (b ≡ a) × ((file : List ℕ) × ((doing_of t a ≡ Writing file) × (count ≡ length file) × (u ≡ with_doing t a (Finished file))))
@@ -105,15 +139,115 @@ Agrees (lines.Drop a) (replies.Dropped b) t u =
 Agrees lines.Stat (replies.Stat counted) t u = (counted.files ≡ finite.len t.names) × (u ≡ t)
 Agrees line reply t u = ⊥
 
+-- ---- a line that is refused
+
+-- what an actor is at, as a refusal names it
+abbrev pub kind_of : Doing → PartKind
+kind_of Idle = kinds.Idle
+kind_of (Writing given) = kinds.Writing
+kind_of (Finished file) = kinds.Finished
+kind_of (Reading root segments) = kinds.Reading
+
+-- what a turn may be refused by
+abbrev pub IsOfTurn : Refusal → Type 0
+IsOfTurn Memory = Unit {0}
+IsOfTurn (Full free) = Unit {0}
+IsOfTurn (Clash key at) = Unit {0}
+IsOfTurn DiskRead = Unit {0}
+IsOfTurn DiskWrite = Unit {0}
+IsOfTurn (Corrupt slot offset count want got) = Unit {0}
+IsOfTurn Numbers = Unit {0}
+IsOfTurn (Unpinned key) = Unit {0}
+IsOfTurn refusal = ⊥
+
+-- this comes first of what is to come of the file that the actor takes
+abbrev pub IsNext : ℕ → Top → Account → Type 0
+IsNext actor next t =
+    (root : Root) × ((segments : List (List ℕ)) × ((doing_of t actor ≡ Reading root segments)
+    × ((ahead : List Top) × AreNamed root segments (next ∷ ahead))))
+
+-- What a `next` may be refused by: a read failed, or other bytes are held in place of what comes first, or none.
+abbrev pub IsOfNext : Top → Refusal → Type 0
+IsOfNext next DiskRead = Unit {0}
+IsOfNext next (Corrupt slot offset count want got) = (want ≡ next.digest) × (got ≢ want)
+IsOfNext next (Missing key) = key ≡ top_key next
+IsOfNext next (Damaged at why) = Unit {0}
+IsOfNext next refusal = ⊥
+
+-- Why a line whose actor is at what it takes is refused, and by nothing else. Of a turn the account can't say more than what it may
+-- be refused by, as that goes by what the disk holds or does. Want of memory is free, where the line takes any.
+abbrev pub RefusesOn : LineValue → Refusal → Account → Type 0
+RefusesOn (lines.Begin a) Memory t = Unit {0}
+RefusesOn (lines.Push a digits) TooLong t =
+    (given : List ℕ) × ((doing_of t a ≡ Writing given) × (MOST_FILE < length (given ++ pushed_bytes digits)))
+RefusesOn (lines.Push a digits) refusal t = IsOfTurn refusal
+RefusesOn (lines.Finish a) Memory t = Unit {0}
+RefusesOn (lines.Turn a) refusal t = IsOfTurn refusal
+RefusesOn (lines.Commit a name) BadName t = ¬ (IsName name)
+RefusesOn (lines.Commit a name) TooMany t = IsName name × (IsFull t.names name ⊎ (HasRoom t.names name × (half_cells ≤ t.records)))
+RefusesOn (lines.Commit a name) refusal t = IsOfTurn refusal
+RefusesOn (lines.Read a name) refusal t = IsNameRefusal t.names name refusal
+RefusesOn (lines.Next a) refusal t = (next : Top) × (IsNext a next t × IsOfNext next refusal)
+RefusesOn line refusal t = ⊥
+
+-- the actor is at something else than the line takes
+pub record IsAtWrongPart (line : LineValue) (kind : PartKind) (t : Account) : Type 0 where
+  pub actor : ℕ
+  pub actor_is : actor_of line ≡ Some actor
+  pub kind_is : kind ≡ kind_of (doing_of t actor)
+  pub wrong : takes line kind ≡ false
+
+-- the actor of a line, if it has one, is at what it takes
+abbrev pub IsAtRightPart : LineValue → Account → Type 0
+IsAtRightPart line t = (actor : ℕ) → actor_of line ≡ Some actor → takes line (kind_of (doing_of t actor)) ≡ true
+
+-- Why a line of a store that runs is refused.
+abbrev pub Refuses : LineValue → Refusal → Account → Type 0
+Refuses line (WrongPart kind) t = IsAtWrongPart line kind t
+Refuses line refusal t = IsAtRightPart line t × RefusesOn line refusal t
+
+-- a write or a sync failed: the store takes no more steps until it is opened again
+abbrev pub stops : Refusal → Bool
+stops DiskWrite = true
+stops refusal = false
+
+-- ---- any line
+
 -- A `reopen` that is done finds a store of which `Shown` holds; all actors end.
 abbrev pub Reopens : (Store → Type 0) → ℕ → Account → Type 0
 Reopens Shown files u = (store : Store) × (Shown store × (files ≡ finite.len (names_of store)) × (u ≡ opened store))
 
--- Any line; one that is refused leaves the account.
+-- what an opening may be refused by
+abbrev pub IsOfReopen : Refusal → Type 0
+IsOfReopen Memory = Unit {0}
+IsOfReopen (Full free) = Unit {0}
+IsOfReopen DiskRead = Unit {0}
+IsOfReopen DiskWrite = Unit {0}
+IsOfReopen (NotAStore gate magic) = Unit {0}
+IsOfReopen (Version n) = Unit {0}
+IsOfReopen (Damaged at why) = Unit {0}
+IsOfReopen (WrongSize want got) = Unit {0}
+IsOfReopen refusal = ⊥
+
+-- One that is refused leaves the account, and ends the script.
+abbrev pub TellsReopen : (Store → Type 0) → ReplyValue → Account → Account → Type 0
+TellsReopen Shown (replies.Opened files) t u = Reopens Shown files u
+TellsReopen Shown (replies.Refused refusal) t u = IsOfReopen refusal × (u ≡ t)
+TellsReopen Shown reply t u = ⊥
+
+-- of a store that runs
+abbrev pub TellsRunning : LineValue → ReplyValue → Account → Account → Type 0
+TellsRunning line (replies.Refused refusal) t u = Refuses line refusal t × (u ≡ record t { stopped = stops refusal })
+TellsRunning line reply t u = Agrees line reply t u
+
+-- and, by whether it is so, of one that is stopped
+abbrev pub TellsBy : Bool → LineValue → ReplyValue → Account → Account → Type 0
+TellsBy true line reply t u = (reply ≡ replies.Refused (Stopped t.acknowledged)) × (u ≡ t)
+TellsBy false line reply t u = TellsRunning line reply t u
+
 abbrev pub Tells : (Store → Type 0) → LineValue → ReplyValue → Account → Account → Type 0
-Tells Shown lines.Reopen (replies.Opened files) t u = Reopens Shown files u
-Tells Shown line (replies.Refused refusal) t u = u ≡ t
-Tells Shown line reply t u = Agrees line reply t u
+Tells Shown lines.Reopen reply t u = TellsReopen Shown reply t u
+Tells Shown line reply t u = TellsBy t.stopped line reply t u
 
 -- ---- lines
 
@@ -121,11 +255,16 @@ abbrev pub AllTell : (Store → Type 0) → List Replied → Account → Type 0
 AllTell Shown [] t = Unit {0}
 AllTell Shown (one ∷ more) t = (u : Account) × (Tells Shown one.line one.reply t u × AllTell Shown more u)
 
--- Lines over a store that was opened give what is named. The opening, and each `reopen`, finds a store of which `Shown` holds.
-pub record GiveWhatIsNamed (Shown : Store → Type 0) (rs : List Replied) : Type 0 where
+-- Lines over a store that was opened give what is named. The opening finds a store of which `First` holds, and each `reopen` one of which
+-- `Later` holds.
+pub record GiveWhatIsNamed (First Later : Store → Type 0) (rs : List Replied) : Type 0 where
   pub store : Store
-  pub shown : Shown store
-  pub tell : AllTell Shown rs (opened store)
+  pub shown : First store
+  pub tell : AllTell Later rs (opened store)
+
+-- of the opening: what was read is of the content, where the disk told one
+abbrev pub WasOpened : DiskView → DiskView → Store → Type 0
+WasOpened disk disk_now store = Shows disk disk_now (λ image. Encodes image store)
 
 -- Reads since a moment returned parts of the disk by which each image that has them is the store's.
 pub record WasShown (disk disk_now : DiskView) (store : Store) : Type 0 where

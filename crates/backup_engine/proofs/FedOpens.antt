@@ -1,5 +1,5 @@
 -- What is still to be sealed of a session, and what it was told is kept, while calls are made.
-use Rattle.std.proofs.Common.{◌≡◌, ◌≢◌, ◌⊎◌, inl, inr, ◌∙◌, ℕ, zero, suc, Bool, true, false, ◌||◌, if◌then◌else◌, List, [], ◌∷◌, ◌++◌, map, Option, Some, None, refl, sym, ap, subst, append-nil}
+use Rattle.std.proofs.Common.{◌≡◌, ◌≢◌, ◌∙◌, ℕ, zero, suc, Bool, true, false, ◌||◌, if◌then◌else◌, List, [], ◌∷◌, ◌++◌, map, Option, Some, None, refl, sym, ap, subst, append-nil}
 use Rattle.std.specs.List.{AllByRecursion, list_any}
 use Rattle.std.specs.Str.{bytes_eq}
 use Rattle.std.proofs.lemmas.Slice.Eq.{bytes_eq-Decides}
@@ -12,37 +12,19 @@ use Rattle.ingest_session.specs.declared.due.Due.{Due}
 use Rattle.ingest_session.specs.declared.due.Due.TheVariants.{Claim, Seal}
 use Rattle.ingest_session.specs.Calls.{KeepsItem}
 use Rattle.ingest_session.specs.Due.{HasTurn, due_in, item_is_held, item_kind, open_of, queue_has_key}
-use Rattle.ingest_session.specs.Facts.{IsKept}
-use Rattle.ingest_session.specs.History.{History, answered, item_if, same_kind, sealed_for, waiting}
+use Rattle.ingest_session.specs.History.{item_if, same_kind, sealed_for, waiting}
 use Rattle.ingest_session.specs.Items.{item_of}
-use Rattle.ingest_session.specs.Moving.{IsItem}
 use Rattle.ingest_session.specs.Sound.{IsSession}
 use Rattle.ingest_session.specs.State.{SessionState, HasItem, IsAhead}
 use Rattle.store_model.specs.Trees.{leaf_key, node_key}
 use Rattle.ingest_session.specs.Told.{told_by}
 use Rattle.ingest_session.proofs.Sealing as sealing
+use Rattle.script_runner.proofs.TurnKept.{one_item}
+use Rattle.ingest_session.proofs.Members.{all_of, in_right}
 use Rattle.backup_engine.specs.Feeding.{opens_of}
 use Rattle.backup_engine.specs.Running.{IsOneOf}
 
 -- ---- one of a list
-
-pub one_of_first : {A : Type 0} (x : A) (xs ys : List A) → IsOneOf x xs → IsOneOf x (xs ++ ys)
-one_of_first x [] ys one = absurd (let none : None ≡ Some x = one.1 in cc)
-one_of_first x (y ∷ xs) ys (zero, is) = (0, is)
-one_of_first x (y ∷ xs) ys (suc i, is) = let rest = one_of_first x xs ys (i, is) in (suc rest.0, rest.1)
-
-pub one_of_second : {A : Type 0} (x : A) (xs ys : List A) → IsOneOf x ys → IsOneOf x (xs ++ ys)
-one_of_second x [] ys one = one
-one_of_second x (y ∷ xs) ys one = let rest = one_of_second x xs ys one in (suc rest.0, rest.1)
-
-pub one_of_both : {A : Type 0} (x : A) (xs ys : List A) → IsOneOf x (xs ++ ys) → IsOneOf x xs ⊎ IsOneOf x ys
-one_of_both x [] ys one = inr one
-one_of_both x (y ∷ xs) ys (zero, is) = inl (0, is)
-one_of_both x (y ∷ xs) ys (suc i, is) =
-    elim (one_of_both x xs ys (i, is)) [
-      | inl one ↦ inl (suc one.0, one.1)
-      | inr one ↦ inr one
-    ]
 
 pub one_of_map : {A B : Type 0} (f : A → B) (x : A) (xs : List A) → IsOneOf x xs → IsOneOf (f x) (map f xs)
 one_of_map f x [] one = absurd (let none : None ≡ Some x = one.1 in cc)
@@ -51,22 +33,6 @@ one_of_map f x (y ∷ xs) (zero, is) = (0, ap (λ (z : _). Some (f z)) (same y x
     same : {A : Type 0} (y x : A) → Some y ≡ Some x → y ≡ x
     same y x is = cc
 one_of_map f x (y ∷ xs) (suc i, is) = let rest = one_of_map f x xs (i, is) in (suc rest.0, rest.1)
-
-pub one_of_one : {A : Type 0} (x y : A) → IsOneOf x (y ∷ []) → x ≡ y
-one_of_one x y (zero, is) = cc
-one_of_one x y (suc i, is) = absurd cc
-
-pub all_one_of : {A : Type 0} (P : A → Type 0) (xs : List A) → ((x : A) → IsOneOf x xs → P x) → AllByRecursion P xs
-all_one_of P [] each = tt
-all_one_of P (x ∷ xs) each = (each x (0, refl), all_one_of P xs (λ y one. each y (suc one.0, one.1)))
-
-pub one_has : {A : Type 0} (P : A → Type 0) (xs : List A) (x : A) → AllByRecursion P xs → IsOneOf x xs → P x
-one_has P [] x all one = absurd (let none : None ≡ Some x = one.1 in cc)
-one_has P (y ∷ xs) x all (zero, is) = subst P (same y x is) all.0
-  where
-    same : {A : Type 0} (y x : A) → Some y ≡ Some x → y ≡ x
-    same y x is = cc
-one_has P (y ∷ xs) x all (suc i, is) = one_has P xs x all.1 (i, is)
 
 -- ---- what is still to be sealed
 
@@ -79,22 +45,6 @@ opens_held s kind due = sealing.told_kept kind answers.Held s due ∙ append-nil
 
 pub opens_absent : (s : SessionState) (kind : Kind) → due_in s ≡ Claim → opens_of (told_by answers.Absent s) kind ≡ opens_of s kind ++ item_if kind s
 opens_absent s kind due = sealing.told_kept kind answers.Absent s due
-
--- the item whose turn it is, as a container has it
-pub item_is : (n : Option node.Contents) (queue : List (List ℕ)) (seg : KindSegment) → IsItem n queue seg → seg ≡ record { kind = item_kind n; segment = item_of n queue }
-item_is (Some n) queue seg is = is
-item_is None [] seg is = absurd is
-item_is None (x ∷ xs) seg is = is
-
--- so it is where an item of a kind has its turn
-pub one_item : (s : SessionState) (kind : Kind) (x : Segment) → IsOneOf x (item_if kind s) → (kind ≡ item_kind s.node) × (x ≡ item_of s.node s.queue)
-one_item s kind x one = by_kind kind (item_kind s.node) one
-  where
-    by_kind : (k mine : Kind) → IsOneOf x (if same_kind k mine then item_of s.node s.queue ∷ [] else []) → (k ≡ mine) × (x ≡ item_of s.node s.queue)
-    by_kind Leaf Leaf one = (refl, one_of_one x (item_of s.node s.queue) one)
-    by_kind Tree Tree one = (refl, one_of_one x (item_of s.node s.queue) one)
-    by_kind Leaf Tree one = absurd (let none : None ≡ Some x = one.1 in cc)
-    by_kind Tree Leaf one = absurd (let none : None ≡ Some x = one.1 in cc)
 
 -- ---- a container that is sealed
 
@@ -115,7 +65,7 @@ module _ (s : SessionState) (id : ℕ) (mine : Kind) (due : due_in s ≡ Seal mi
 
   -- what is left of a kind is of what was there
   one_before : (kind : Kind) (x : Segment) → IsOneOf x (left kind) → IsOneOf x (opens_of s kind)
-  one_before kind x one = subst (IsOneOf x) (opens_left kind) (one_of_second x (gone kind mine s) (left kind) one)
+  one_before kind x one = subst (IsOneOf x) (opens_left kind) (in_right (gone kind mine s) (left kind) x one)
 
   -- of the kind that was sealed only what waits is left
   left_waits : (kind : Kind) (other : Kind) → same_kind kind other ≡ true → gone kind other s ++ left kind ≡ opens_of s kind → left kind ≡ waiting kind s
@@ -215,39 +165,5 @@ module _ (s : SessionState) (id : ℕ) (mine : Kind) (due : due_in s ≡ Seal mi
     pub left_differs : (s.waits ≡ true → item_is_held s s.node ≡ false) → (kind : Kind)
         → AllByRecursion (λ x. IsOneOf x (opens_of s kind) × AllByRecursion (λ y. segment_key kind x ≢ segment_key mine y) (open_of s mine).segments) (left kind)
     left_differs lacks kind =
-        all_one_of (λ x. IsOneOf x (opens_of s kind) × AllByRecursion (λ y. segment_key kind x ≢ segment_key mine y) (open_of s mine).segments) (left kind)
+        all_of (λ x. IsOneOf x (opens_of s kind) × AllByRecursion (λ y. segment_key kind x ≢ segment_key mine y) (open_of s mine).segments) (left kind)
         (λ x one. (one_before kind x one, by_kind lacks kind (same_kind kind mine) refl x one))
-
--- ---- what is kept
-
--- what was told is kept is kept still, and the item that is held now too
-module _ (s : SessionState) (h : History) (kind : Kind) (x : Segment) where
-  pub kept_held : IsKept (answered answers.Held s h) kind x → IsKept h kind x ⊎ IsOneOf x (item_if kind s)
-  kept_held one = elim (one_of_both x (h.held kind ++ item_if kind s) (h.sealed kind ++ []) one) [
-    | inl first ↦ elim (one_of_both x (h.held kind) (item_if kind s) first) [
-      | inl before ↦ inl (one_of_first x (h.held kind) (h.sealed kind) before)
-      | inr item ↦ inr item
-    ]
-    | inr second ↦ inl (one_of_second x (h.held kind) (h.sealed kind) (subst (IsOneOf x) (append-nil (h.sealed kind)) second))
-  ]
-
-  pub kept_absent : IsKept (answered answers.Absent s h) kind x → IsKept h kind x
-  kept_absent one = subst (IsOneOf x) (same_lists (h.held kind) (h.sealed kind)) one
-    where
-      same_lists : (a b : List Segment) → (a ++ []) ++ (b ++ []) ≡ a ++ b
-      same_lists a b = ap (λ (l : List Segment). l ++ (b ++ [])) (append-nil a) ∙ ap (λ (l : List Segment). a ++ l) (append-nil b)
-
-  pub kept_sealed : (id : ℕ) (mine : Kind) → due_in s ≡ Seal mine → IsKept (answered (answers.Sealed id) s h) kind x → IsKept h kind x ⊎ ((kind ≡ mine) × IsOneOf x (open_of s mine).segments)
-  kept_sealed id mine due one = elim (one_of_both x (h.held kind ++ []) (h.sealed kind ++ sealed_for kind (due_in s) s) one) [
-    | inl first ↦ inl (one_of_first x (h.held kind) (h.sealed kind) (subst (IsOneOf x) (append-nil (h.held kind)) first))
-    | inr second ↦ elim (one_of_both x (h.sealed kind) (sealed_for kind (due_in s) s) second) [
-      | inl before ↦ inl (one_of_second x (h.held kind) (h.sealed kind) before)
-      | inr sealed ↦ inr (of_kind kind mine (subst (λ (d : Due). IsOneOf x (sealed_for kind d s)) due sealed))
-    ]
-  ]
-    where
-      of_kind : (k mine : Kind) → IsOneOf x (if same_kind k mine then (open_of s k).segments else []) → (k ≡ mine) × IsOneOf x (open_of s mine).segments
-      of_kind Leaf Leaf is = (refl, is)
-      of_kind Tree Tree is = (refl, is)
-      of_kind Leaf Tree is = absurd (let none : None ≡ Some x = is.1 in cc)
-      of_kind Tree Leaf is = absurd (let none : None ≡ Some x = is.1 in cc)

@@ -18,11 +18,13 @@ use Rattle.ingest_session.specs.Settling.{KeepsOpen}
 use Rattle.ingest_session.specs.State.{SessionState}
 use Rattle.ingest_session.specs.Told.{told_by}
 use Rattle.session_turns.proofs.Told.{told}
+use Rattle.ingest_session.proofs.Members.{in_left, in_right}
 use Rattle.backup_engine.specs.Feeding.{IsFed, MayBe, opens_of}
 use Rattle.backup_engine.specs.Putting.{AreNew, Way}
 use Rattle.backup_engine.specs.Running.{IsOneOf}
-use Rattle.backup_engine.proofs.FedOpens.{item_is, kept_absent, kept_held, kept_sealed, one_item, one_of_first, one_of_map, one_of_second, opens_held, opens_stay}
-use Rattle.backup_engine.proofs.Ways.{way_narrows, way_opens}
+use Rattle.script_runner.proofs.TurnKept.{item_is, kept_absent, kept_held, kept_sealed, one_item}
+use Rattle.backup_engine.proofs.FedOpens.{one_of_map, opens_held, opens_stay}
+use Rattle.backup_engine.proofs.Ways.{way_as}
 
 -- ---- a new session
 
@@ -41,15 +43,14 @@ module _ (C : Type 0) (state : C → CoreState) where
       → ((kind : Kind) (x : Segment) → IsKept h kind x → IsKept fed.history kind x) → ((file : List ℕ) → MayBe now t file → MayBe given s file) → ((kind : Kind) → opens_of t kind ≡ opens_of s kind)
       → IsFed C state now t start old
   fed_as given now s t start old fed h has given_is kept files opens =
-      let narrow = way_narrows C state (MayBe given s) (opens_of s) start old fed.way (MayBe now t) files in
-      let way = way_opens C state (MayBe now t) (opens_of s) start old narrow.0 (opens_of t) (λ kind places fresh. subst (AreNew places kind) (sym (opens kind)) fresh) in
+      let way = way_as C state (MayBe given s) (opens_of s) start old fed.way (MayBe now t) (opens_of t) files (λ kind places fresh. subst (AreNew places kind) (sym (opens kind)) fresh) in
       record {
         history = h;
         has = has;
         given_is = given_is;
         way = way.0;
         told = λ kind x is.
-            subst (λ (steps : List FileEvent). IsOneOf (record { kind = kind; segment = x }) (kept_of steps)) (sym (way.1 ∙ narrow.1)) (fed.told kind x (kept kind x is));
+            subst (λ (steps : List FileEvent). IsOneOf (record { kind = kind; segment = x }) (kept_of steps)) (sym way.1) (fed.told kind x (kept kind x is));
       }
 
   -- ---- the calls
@@ -57,7 +58,7 @@ module _ (C : Type 0) (state : C → CoreState) where
   pub fed_begun : (s : SessionState) (start old : C) → IsBegun s → HasHistory s no_history → (w : Way C state (MayBe [] s) (λ kind. []) start old) → IsFed C state [] s start old
   fed_begun s start old begun has w =
       let none : (kind : Kind) → opens_of s kind ≡ [] = λ kind. by_kind kind in
-      let way = way_opens C state (MayBe [] s) (λ kind. []) start old w (opens_of s) (λ kind places fresh. subst (AreNew places kind) (sym (none kind)) tt) in
+      let way = way_as C state (MayBe [] s) (λ kind. []) start old w (MayBe [] s) (opens_of s) (λ file is. is) (λ kind places fresh. subst (AreNew places kind) (sym (none kind)) tt) in
       record { history = no_history; has = has; given_is = refl; way = way.0; told = λ kind x is. absurd (let no : None ≡ Some x = is.1 in cc) }
     where
       by_kind : (kind : Kind) → opens_of s kind ≡ []
@@ -99,8 +100,8 @@ module _ (C : Type 0) (state : C → CoreState) where
         → ((kind : Kind) (x : Segment) → IsKept (answered answer s fed.history) kind x → IsKept fed.history kind x ⊎ IsOneOf (record { kind = kind; segment = x }) more)
         → IsFed C state given (told_by answer s) start new
     fed_on answer more on has kept =
-        let narrow = way_narrows C state (MayBe given s) (opens_of (told_by answer s)) start new on.0 (MayBe given (told_by answer s))
-        (λ file is. may_be_still given s (told_by answer s) file (told answer s).ended is) in
+        let narrow = way_as C state (MayBe given s) (opens_of (told_by answer s)) start new on.0 (MayBe given (told_by answer s)) (opens_of (told_by answer s))
+        (λ file is. may_be_still given s (told_by answer s) file (told answer s).ended is) (λ kind places fresh. fresh) in
         record {
           history = answered answer s fed.history;
           has = has;
@@ -110,15 +111,15 @@ module _ (C : Type 0) (state : C → CoreState) where
               let seg : KindSegment = record { kind = kind; segment = x } in
               subst (IsOneOf seg) (sym (ap kept_of narrow.1 ∙ on.1))
               (elim (kept kind x is) [
-                | inl before ↦ one_of_first seg kept_before more (fed.told kind x before)
-                | inr now ↦ one_of_second seg kept_before more now
+                | inl before ↦ in_left kept_before more seg (fed.told kind x before)
+                | inr now ↦ in_right kept_before more seg now
               ]);
         }
 
     pub fed_held : (seg : KindSegment) → due_in s ≡ Claim → IsItem s.node s.queue seg → WayOn (opens_of s) (seg ∷ []) → HasHistory (told_by answers.Held s) (answered answers.Held s fed.history)
         → IsFed C state given (told_by answers.Held s) start new
     fed_held seg due item on has =
-        let opens = way_opens C state (MayBe given s) (opens_of s) start new on.0 (opens_of (told_by answers.Held s)) (λ kind places fresh. subst (AreNew places kind) (sym (opens_held s kind due)) fresh) in
+        let opens = way_as C state (MayBe given s) (opens_of s) start new on.0 (MayBe given s) (opens_of (told_by answers.Held s)) (λ file is. is) (λ kind places fresh. subst (AreNew places kind) (sym (opens_held s kind due)) fresh) in
         fed_on answers.Held (seg ∷ []) (opens.0, ap kept_of opens.1 ∙ on.1) has
         (λ kind x is. elim (kept_held s fed.history kind x is) [
           | inl before ↦ inl before

@@ -55,13 +55,6 @@ module _ (old new : CoreState) where
     pub kept : KeepsTables old new
     pub size_is : new.disk.size ≡ old.disk.size
 
-  -- so what is so of each store after it was so before
-  pub each_before : Rested → (P : Store → Type 0) → OfEach new.disk.size new.known new.tables P → OfEach old.disk.size old.known old.tables P
-  each_before rested P each = record {
-    store_has = λ store represents valid reserve.
-        each.store_has store (represents_still rested.kept store represents) (subst (λ (n : ℕ). IsValidFor n store) (sym rested.size_is) valid) reserve;
-  }
-
   pub kept_ids : Rested → OfEach old.disk.size old.known old.tables (λ store. old.tables.held.last_id ≡ last_id store.held)
       → OfEach new.disk.size new.known new.tables (λ store. new.tables.held.last_id ≡ last_id store.held)
   kept_ids rested ids = record {

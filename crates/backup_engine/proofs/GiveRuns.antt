@@ -1,15 +1,17 @@
 -- How a file is given: it is opened, and its segments are read and written one after the other.
 use Rattle.std.proofs.Common.{◌≡◌, inr, ◌<◌, ◌+◌, ◌==◌, ℕ, Bool, true, false, List, [], ◌∷◌, ◌++◌, length, take, drop, Option, Some, Result, Ok, Err, refl, sym, ◌∙◌, ap, subst, arith, append_assoc, length-append, take-append-drop}
 use Rattle.std.specs.List.{AllByRecursion, concat}
+use Rattle.std.specs.Result.{IsErrAnd, is_err}
 use Rattle.std.proofs.Math.Seq.{take-append-add}
 use Rattle.std.proofs.lemmas.List.{append-nil}
 use Rattle.std.proofs.lemmas.List.Folds.{concat-append}
 use Rattle.base_model.specs.Fault.{Rose}
 use Rattle.base_model.specs.Known.{Appended}
-use Rattle.dd_io.specs.Flow.{SinkView, AppendedPart}
+use Rattle.dd_io.specs.Flow.{SinkView, AppendedPart, Sends}
 use Rattle.actor_parts.specs.declared.step.Answer.{Answer}
 use Rattle.actor_parts.specs.declared.step.Answer.TheVariants as answers
 use Rattle.actor_parts.specs.StepValue as asked
+use Rattle.actor_parts.specs.StepValue.{StepValue}
 use Rattle.refusals.specs.declared.refusal.Refusal.{Refusal}
 use Rattle.reply_text.specs.declared.ending.Ending.{Ending}
 use Rattle.reply_text.specs.declared.ending.Ending.TheVariants as endings
@@ -21,13 +23,12 @@ use Rattle.store_core.specs.Runs.{CoreRun, given_by, given_to}
 use Rattle.store_core.specs.State.{CoreState, Event, IsRunning}
 use Rattle.backup_engine.specs.Giving.{GivenSoFar, bytes_of_part, bytes_to_come}
 use Rattle.backup_engine.specs.Running.{IsFresh, IsRead, IsGiven, EndsGiving, WroteGiven, WroteLast, GiveRun}
-use Rattle.backup_engine.proofs.FirstActor.{by_first, steps_of, first_part, up_of}
+use Rattle.backup_engine.proofs.FirstActor.{as_first, by_first, steps_of, first_part, up_of}
+use Rattle.backup_engine.proofs.Kept.{by_error}
+use Rattle.backup_engine.proofs.SinkWrites.{part_sent, fault_counted, all_sent, no_fault}
+use Rattle.backup_engine.proofs.WayLists.{all_on}
 
 -- ---- steps, one after the other
-
-all_on : {A : Type 0} (P : A → Type 0) (xs ys : List A) → AllByRecursion P xs → AllByRecursion P ys → AllByRecursion P (xs ++ ys)
-all_on P [] ys first second = second
-all_on P (x ∷ xs) ys first second = (first.0, all_on P xs ys first.1 second)
 
 module _ (C : Type 0) (state : C → CoreState) where
   run_on : (es fs : List Event) (old mid new : C) → CoreRun C state es old mid → CoreRun C state fs mid new → CoreRun C state (es ++ fs) old new
@@ -63,7 +64,7 @@ ends_giving (f ∷ g ∷ gs) e result given ends = (given.0, ends_giving (g ∷ 
 
 -- ---- what was written
 
-written_none : (written : Option (List ℕ)) → Appended written written []
+pub written_none : (written : Option (List ℕ)) → Appended written written []
 written_none written = record { is = λ before told. told ∙ ap Some (sym (append-nil before)) }
 
 written_on : (old mid new : Option (List ℕ)) (first more : List ℕ) → Appended old mid first → Appended mid new more → Appended old new (first ++ more)
@@ -81,9 +82,9 @@ written_part old mid new first more one part = record {
 -- ---- the name is opened
 
 module _ (C : Type 0) (state : C → CoreState) (name : List ℕ) (old : C) (sink : SinkView) where
-  pub begin_giving : (mid : C) (buf : List ℕ) (answer : Answer) → IsFresh (state old) → CoreStep (state old) (by_first (asked.OpenRead name) (Ok answer) buf) (state mid)
+  opened : (mid : C) (buf : List ℕ) (answer : Answer) → IsFresh (state old) → CoreStep (state old) (by_first (asked.OpenRead name) (Ok answer) buf) (state mid)
       → IsRunning (state mid) → GivenSoFar C state name old mid sink sink
-  begin_giving mid buf (answers.Opened count) fresh step running =
+  opened mid buf (answers.Opened count) fresh step running =
       let steps = steps_of (state old) (state mid) (by_first (asked.OpenRead name) (Ok (answers.Opened count)) buf) fresh.runs step in
       record {
         count = count;
@@ -99,13 +100,24 @@ module _ (C : Type 0) (state : C → CoreState) (name : List ℕ) (old : C) (sin
         up = up_of (state mid) steps.stops running;
         runs = steps.stops;
       }
-  begin_giving mid buf answer fresh step running = absurd (steps_of (state old) (state mid) (by_first (asked.OpenRead name) (Ok answer) buf) fresh.runs step).made.row
+  opened mid buf answer fresh step running = absurd (steps_of (state old) (state mid) (by_first (asked.OpenRead name) (Ok answer) buf) fresh.runs step).made.row
 
-  -- ---- a segment is read
+  pub begin_giving : (mid : C) (actor : ℕ) (was : StepValue) (answer : Answer) (buf : List ℕ) → IsFresh (state old) → actor ≡ 0 → was ≡ asked.OpenRead name
+      → CoreStep (state old) (record { actor = actor; step = was; answer = Ok answer; buf = buf }) (state mid) → IsRunning (state mid) → GivenSoFar C state name old mid sink sink
+  begin_giving mid actor was answer buf fresh first same step running =
+      opened mid buf answer fresh (as_first (state old) (state mid) actor was (asked.OpenRead name) (Ok answer) buf first same step) running
 
-  module _ (now new : C) (sink_now : SinkView) (so_far : GivenSoFar C state name old now sink sink_now) (buf : List ℕ) where
+  -- ---- a segment is read, by the first actor
+
+  module _ (now new : C) (sink_now : SinkView) (so_far : GivenSoFar C state name old now sink sink_now) (buf : List ℕ) (actor : ℕ) (first : actor ≡ 0) where
     abbrev read : Result Answer Refusal → Event
     read answer = by_first asked.ReadNext answer buf
+
+    abbrev Reads : Result Answer Refusal → Type 0
+    Reads answer = CoreStep (state now) (let e : Event = record { actor = actor; step = asked.ReadNext; answer = answer; buf = buf } in e) (state new)
+
+    by_own : (answer : Result Answer Refusal) → Reads answer → CoreStep (state now) (read answer) (state new)
+    by_own answer step = as_first (state now) (state new) actor asked.ReadNext asked.ReadNext answer buf first refl step
 
     abbrev bytes : List ℕ
     bytes = concat (given_to 0 so_far.reads)
@@ -133,16 +145,21 @@ module _ (C : Type 0) (state : C → CoreState) (name : List ℕ) (old : C) (sin
     still_wrote : (answer : Result Answer Refusal) → given_to 0 (read answer ∷ []) ≡ [] → Appended sink.written sink_now.written (concat (given_to 0 (so_far.reads ++ read answer ∷ [])))
     still_wrote answer none = subst (λ (b : List ℕ). Appended sink.written sink_now.written b) (sym (nothing_more so_far.reads (read answer) none)) so_far.wrote
 
-    pub read_refused : (refusal : Refusal) → CoreStep (state now) (read (Err refusal)) (state new) → GiveRun C state name (Err (endings.Refused refusal)) old new sink sink_now
-    read_refused refusal step = given_out (Err refusal) (Err (endings.Refused refusal)) sink_now step refl (still_wrote (Err refusal) refl, so_far.faults_are) tt
+    pub read_refused : (refusal : Refusal) (result : Result Unit Ending) → IsErrAnd result (λ e. e ≡ endings.Refused refusal) → Reads (Err refusal) → GiveRun C state name result old new sink sink_now
+    read_refused refusal result is step =
+        by_error (λ r. GiveRun C state name r old new sink sink_now) result (endings.Refused refusal) is
+        (given_out (Err refusal) (Err (endings.Refused refusal)) sink_now (by_own (Err refusal) step) refl (still_wrote (Err refusal) refl, so_far.faults_are) tt)
 
     -- only the end is answered but a segment
-    pub read_ended : (answer : Answer) → ((count : ℕ) → answer ≡ answers.Bytes count → ⊥) → CoreStep (state now) (read (Ok answer)) (state new) → GiveRun C state name (Ok tt) old new sink sink_now
-    read_ended answers.End other step = given_out (Ok answers.End) (Ok tt) sink_now step refl (still_wrote (Ok answers.End) refl, so_far.faults_are) tt
+    pub read_ended : (answer : Answer) → ((count : ℕ) → answer ≡ answers.Bytes count → ⊥) → Reads (Ok answer) → GiveRun C state name (Ok tt) old new sink sink_now
+    read_ended answers.End other step = given_out (Ok answers.End) (Ok tt) sink_now (by_own (Ok answers.End) step) refl (still_wrote (Ok answers.End) refl, so_far.faults_are) tt
     read_ended (answers.Bytes count) other step = absurd (other count refl)
-    read_ended answer other step = absurd (steps (Ok answer) step).made.row
+    read_ended answer other step = absurd (steps (Ok answer) (by_own (Ok answer) step)).made.row
 
-    module _ (count : ℕ) (step : CoreStep (state now) (read (Ok (answers.Bytes count))) (state new)) where
+    module _ (answer : Answer) (count : ℕ) (is : answer ≡ answers.Bytes count) (made : Reads (Ok answer)) where
+      step : CoreStep (state now) (read (Ok (answers.Bytes count))) (state new)
+      step = by_own (Ok (answers.Bytes count)) (subst (λ (a : Answer). Reads (Ok a)) is made)
+
       abbrev piece : List ℕ
       piece = take count buf
 
@@ -155,7 +172,7 @@ module _ (C : Type 0) (state : C → CoreState) (name : List ℕ) (old : C) (sin
       row : IsSegmentGiven (Some count) buf 0 (state now) (state new)
       row = (steps (Ok (answers.Bytes count)) step).made.row
 
-      pub not_written : (sink_new : SinkView) → AppendedPart sink_now.written sink_new.written piece → Rose sink_now.faults sink_new.faults
+      not_written : (sink_new : SinkView) → AppendedPart sink_now.written sink_new.written piece → Rose sink_now.faults sink_new.faults
           → GiveRun C state name (Err endings.Sink) old new sink sink_new
       not_written sink_new part rose = given_out (Ok (answers.Bytes count)) (Err endings.Sink) sink_new step tt (
         subst (λ (b : List ℕ). AppendedPart sink.written sink_new.written b) (sym all_is) (written_part sink.written sink_now.written sink_new.written bytes piece so_far.wrote part),
@@ -174,7 +191,7 @@ module _ (C : Type 0) (state : C → CoreState) (name : List ℕ) (old : C) (sin
         ),
       )
 
-      pub goes_on : (sink_new : SinkView) → IsRunning (state new) → Appended sink_now.written sink_new.written piece → sink_new.faults ≡ sink_now.faults
+      goes_on : (sink_new : SinkView) → IsRunning (state new) → Appended sink_now.written sink_new.written piece → sink_new.faults ≡ sink_now.faults
           → GivenSoFar C state name old new sink sink_new
       goes_on sink_new running wrote faults =
           let stops = (steps (Ok (answers.Bytes count)) step).stops in
@@ -192,6 +209,21 @@ module _ (C : Type 0) (state : C → CoreState) (name : List ℕ) (old : C) (sin
             up = up_of (state new) stops running;
             runs = stops;
           }
+
+      -- it was written, or not
+      module _ {T E : Type 0} (sink_new : SinkView) (result : Result T E) (bytes_are : List ℕ) (same : bytes_are ≡ buf) (sends : Sends (take count bytes_are) result sink_now sink_new) where
+        same_piece : take count bytes_are ≡ piece
+        same_piece = ap (λ (b : List ℕ). take count b) same
+
+        pub unwritten : true ≡ is_err result → GiveRun C state name (Err endings.Sink) old new sink sink_new
+        unwritten failed =
+            not_written sink_new (part_sent (take count bytes_are) piece same_piece sink_now sink_new result failed sends)
+            (fault_counted (take count bytes_are) piece same_piece sink_now sink_new result failed sends)
+
+        pub written : IsRunning (state new) → false ≡ is_err result → GivenSoFar C state name old new sink sink_new
+        written running done =
+            goes_on sink_new running (all_sent (take count bytes_are) piece same_piece sink_now sink_new result done sends)
+            (no_fault (take count bytes_are) piece same_piece sink_now sink_new result done sends)
 
       -- fewer bytes are to come
       pub fewer : bytes_to_come (state new) < bytes_to_come (state now)

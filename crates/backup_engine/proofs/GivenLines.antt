@@ -184,7 +184,7 @@ module _ (C : Type 0) (state : C → CoreState) where
 
     -- what was written is what the segments have
     wrote_as : (result : Result Unit Ending) (count : ℕ) (segments : List (List ℕ)) (last : Replied) (given : List (List ℕ)) (sink sink_now : SinkView) → EndsBy result segments last given → WroteGiven result (concat given) sink sink_now
-        → WroteLast result given sink sink_now → IsRestore name (ending_in result) (one count ∷ next_lines segments ++ last ∷ []) sink sink_now
+        → WroteLast result given sink sink_now → IsRestore name (ending_in result) sink sink_now (one count ∷ next_lines segments ++ last ∷ [])
     wrote_as (Ok u) count segments last given sink sink_now ends wrote up_to = (
       segments,
       (
@@ -220,10 +220,10 @@ module _ (C : Type 0) (state : C → CoreState) where
     wrote_as (Err ending) count segments last given sink sink_now ends wrote up_to = absurd ends
 
     module _ (new : C) (sink sink_now : SinkView) where
-      not_opened : (result : Result Unit Ending) → IsNotOpened C state name result old new sink sink_now → RunsSingle C state (λ rs. IsRestore name (ending_in result) rs sink sink_now) old new
+      not_opened : (result : Result Unit Ending) → IsNotOpened C state name result old new sink sink_now → RunsSingle C state (IsRestore name (ending_in result) sink sink_now) old new
       not_opened result is =
           let line = refused (lines.Read 0 name) is.refusal in
-          subst (λ (r : Result Unit Ending). RunsSingle C state (λ rs. IsRestore name (ending_in r) rs sink sink_now) old new) (sym is.result_is) (
+          subst (λ (r : Result Unit Ending). RunsSingle C state (IsRestore name (ending_in r) sink sink_now) old new) (sym is.result_is) (
             line ∷ [],
             (
               inr (inl (refl, ap (λ (k : SinkView). k.written) is.sink_is)),
@@ -234,7 +234,7 @@ module _ (C : Type 0) (state : C → CoreState) where
             ),
           )
 
-      given_out : (result : Result Unit Ending) → IsGivenOut C state name result old new sink sink_now → RunsSingle C state (λ rs. IsRestore name (ending_in result) rs sink sink_now) old new
+      given_out : (result : Result Unit Ending) → IsGivenOut C state name result old new sink sink_now → RunsSingle C state (IsRestore name (ending_in result) sink sink_now) old new
       given_out result g =
           let says = all_reads g.reads result g.mid new (opened_takes g.mid g.count g.buf g.opened) g.ran g.each g.ends in
           let more = next_lines says.segments ++ says.last ∷ [] in (
@@ -248,6 +248,6 @@ module _ (C : Type 0) (state : C → CoreState) where
             ),
           )
 
-      pub given_lines : (result : Result Unit Ending) → GiveRun C state name result old new sink sink_now → RunsSingle C state (λ rs. IsRestore name (ending_in result) rs sink sink_now) old new
+      pub given_lines : (result : Result Unit Ending) → GiveRun C state name result old new sink sink_now → RunsSingle C state (IsRestore name (ending_in result) sink sink_now) old new
       given_lines result (inl is) = not_opened result is
       given_lines result (inr g) = given_out result g

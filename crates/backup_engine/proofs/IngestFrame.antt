@@ -128,9 +128,6 @@ module _ (C : Type 0) (state : C → CoreState) (v w : DiskView) (old new : C) (
     ]
 
     -- the end of the core's run is not before the call
-    abbrev clocks : v.clock ≤ (state old).disk.clock
-    clocks = called.first.only.later.clock_is
-
     crashed : (base : List ℕ) → v.content ≡ Some base → IsLater (state old).disk (state new).disk → (c : List ℕ) → SinceStart v w c → v.images c ⊎ KeepsRest (Ingest name) ending base c
     crashed base known later c (inl image) = inr (inr (at_end base known c image))
     crashed base known later c (inr since) =

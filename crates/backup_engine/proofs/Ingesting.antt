@@ -7,11 +7,12 @@ use Rattle.reply_text.specs.declared.ending.Ending.{Ending}
 use Rattle.reply_text.specs.declared.ending.Ending.TheVariants.{Source, Sink, Refused}
 use Rattle.reply_text.specs.Text.{stored_line}
 use Rattle.store_model.specs.Trees.{root_of}
+use Rattle.script_runner.specs.Runner.{Sent}
 use Rattle.store_core.specs.State.{CoreState}
 use Rattle.backup_engine.specs.Line.{Ingest}
 use Rattle.backup_engine.specs.Promise.{KeepsEachMap}
 use Rattle.backup_engine.specs.Running.{PutRun, IsPutRefusal}
-use Rattle.backup_engine.specs.Storing.{IsHeard, Sent, Replies, IsStopped, IngestRun}
+use Rattle.backup_engine.specs.Storing.{IsHeard, Replies, IsStopped, IngestRun}
 use Rattle.backup_engine.specs.TopCall.{Keeps, ending_in}
 use Rattle.backup_engine.proofs.Called.{Called}
 use Rattle.backup_engine.proofs.IngestFrame.{ingest_frame}

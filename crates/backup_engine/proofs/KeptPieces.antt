@@ -26,10 +26,11 @@ use Rattle.ingest_steps.specs.Claiming.{key_of_seg}
 use Rattle.ingest_steps.specs.Pinning.{first_unpinned_of, or_else, with_pins}
 use Rattle.store_core.specs.Keeping.{kept_by, kept_of}
 use Rattle.store_core.specs.Runs.{FileEvent}
+use Rattle.ingest_session.proofs.Members.{all_map, all_then, in_first, in_left, in_right, one_of}
 use Rattle.backup_engine.specs.PlainMap.{HasTwins, IsPiece}
 use Rattle.backup_engine.specs.Putting.{AreKept, HasPinOf, length_in}
 use Rattle.backup_engine.specs.Running.{IsAskedFor, IsOneOf, IsPutStep}
-use Rattle.backup_engine.proofs.WayLists.{all_mapped, all_on, all_one, all_so, one_first, one_there}
+use Rattle.backup_engine.proofs.WayLists.{all_on}
 
 -- ---- pieces
 
@@ -56,7 +57,7 @@ is_piece file seg has = (
 -- what steps kept are pieces of the file
 kept_by_step : (name file : List ℕ) (step : StepValue) (answer : Result Answer Refusal) (put : List ℕ) → IsAskedFor name file step put → AllByRecursion (HasPieceOf file) (kept_by step answer)
 kept_by_step name file (asked.Claim seg) (Ok answers.Held) put has = (has, tt)
-kept_by_step name file (asked.Seal filled) (Ok (answers.Sealed id)) put has = all_mapped (HasPieceOf file) (of_kind filled.kind) filled.segments has
+kept_by_step name file (asked.Seal filled) (Ok (answers.Sealed id)) put has = all_map (HasPieceOf file) (of_kind filled.kind) filled.segments has
 kept_by_step name file step answer put has = tt
 
 pub kept_pieces : (name file : List ℕ) (steps : List FileEvent) → AllByRecursion (IsPutStep name file) steps → AllByRecursion (HasPieceOf file) (kept_of steps)
@@ -89,7 +90,7 @@ module _ (kept : List KindSegment) (seg : KindSegment) (pins : PinMap) where
   last_pin : (key : List ℕ) → key_of_seg seg ≡ key → HasPin key
   last_pin key same = (
     seg,
-    one_there seg kept [],
+    in_right kept (seg ∷ []) seg (in_first seg []),
     same,
     ap (finite.get with_seg) (sym same) ∙ finite.get-insert nat_list_cmp_total pins (key_of_seg seg) (pin_of seg) (key_of_seg seg)
         ∙ ap (λ (b : Bool). cond b (Some (pin_of seg)) (finite.get pins (key_of_seg seg))) (same_key (key_of_seg seg)),
@@ -102,14 +103,14 @@ module _ (kept : List KindSegment) (seg : KindSegment) (pins : PinMap) where
       by_test true same = last_pin key ((bytes_eq-Decides (key_of_seg seg) key).0 (sym (tied key (key_of_seg seg)) ∙ same))
       by_test false other = (
         has.0,
-        one_first has.0 kept (seg ∷ []) has.1,
+        in_left kept (seg ∷ []) has.0 has.1,
         has.2,
         finite.get-insert nat_list_cmp_total pins (key_of_seg seg) (pin_of seg) key ∙ ap (λ (b : Bool). cond b (Some (pin_of seg)) (finite.get pins key)) other ∙ has.3,
       )
 
   pub pinned_next : ArePinned kept pins → ArePinned (kept ++ seg ∷ []) with_seg
   pinned_next are =
-      all_on (λ x. HasPin (key_of_seg x)) kept (seg ∷ []) (all_so (λ x. HasPinOf kept pins (key_of_seg x)) (λ x. HasPin (key_of_seg x)) kept (λ x. next_pin (key_of_seg x)) are)
+      all_on (λ x. HasPin (key_of_seg x)) kept (seg ∷ []) (all_then (λ x. HasPinOf kept pins (key_of_seg x)) (λ x. HasPin (key_of_seg x)) kept (λ x. next_pin (key_of_seg x)) are)
       (last_pin (key_of_seg seg) refl, tt)
 
 pub pinned_all : (kind : Kind) (ss : List Segment) (kept : List KindSegment) (pins : PinMap) → ArePinned kept pins → ArePinned (kept ++ map (of_kind kind) ss) (with_pins kind ss pins)
@@ -144,13 +145,13 @@ IsKeptChild kept c = (y : KindSegment) × IsOneOf y kept × (key_of_seg y ≡ c.
 module _ (file : List ℕ) (kept : List KindSegment) (pins : PinMap) (places : PlaceMap) (are : AreKept kept pins places) (pieces : AllByRecursion (HasPieceOf file) kept) where
   long_of : (y : KindSegment) → IsOneOf y kept → (p : Piece) → y ≡ piece_segment p → length_in places (piece_key p) ≡ Some (length (piece_bytes p))
   long_of y is p same =
-      ap (length_in places) (sym (key_of_piece p) ∙ ap key_of_seg (sym same)) ∙ all_one (λ x. length_in places (key_of_seg x) ≡ Some (length x.segment.bytes)) kept y is are.long
+      ap (length_in places) (sym (key_of_piece p) ∙ ap key_of_seg (sym same)) ∙ one_of (λ x. length_in places (key_of_seg x) ≡ Some (length x.segment.bytes)) kept y are.long is
       ∙ ap (λ (n : ℕ). Some n) (ap (λ (x : KindSegment). length x.segment.bytes) same ∙ long_as_piece p)
 
   two_kept : (y z : KindSegment) → IsOneOf y kept → IsOneOf z kept → key_of_seg z ≡ key_of_seg y → pin_of y ≢ pin_of z → HasTwins file (key_of_seg y)
   two_kept y z one other same differ =
-      let p = all_one (HasPieceOf file) kept y one pieces in
-      let q = all_one (HasPieceOf file) kept z other pieces in
+      let p = one_of (HasPieceOf file) kept y pieces one in
+      let q = one_of (HasPieceOf file) kept z pieces other in
       let is_key : key_of_seg y ≡ piece_key p.0 = ap key_of_seg p.2 ∙ key_of_piece p.0 in
       let is_other : key_of_seg z ≡ piece_key q.0 = ap key_of_seg q.2 ∙ key_of_piece q.0 in
       subst (HasTwins file) (sym is_key)
@@ -160,7 +161,7 @@ module _ (file : List ℕ) (kept : List KindSegment) (pins : PinMap) (places : P
   -- what is kept, and whose key has another pin, has a twin
   pub twins : (y : KindSegment) → IsOneOf y kept → has_pin pins (key_of_seg y) (pin_of y) ≡ false → HasTwins file (key_of_seg y)
   twins y one unpinned =
-      let z = all_one (λ x. HasPinOf kept pins (key_of_seg x)) kept y one are.pinned in
+      let z = one_of (λ x. HasPinOf kept pins (key_of_seg x)) kept y are.pinned one in
       two_kept y z.0 one z.1 z.2 (λ is. absurd (let both = sym (ap (is_pin (pin_of y)) (z.3 ∙ ap (λ (pin : Pin). Some pin) (sym is)) ∙ is_itself (pin_of y)) ∙ unpinned in cc))
 
   child_twins : (c : KeyPin) → IsKeptChild kept c → has_pin pins c.key c.pin ≡ false → HasTwins file c.key

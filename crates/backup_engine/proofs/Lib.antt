@@ -35,7 +35,6 @@ pub mod Replied
 pub mod Returned
 pub mod RightPuts
 pub mod RightRoots
-pub mod RootPieces
 pub mod SameRoom
 pub mod Saying
 pub mod SayingEnds

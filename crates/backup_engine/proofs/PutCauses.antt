@@ -1,10 +1,8 @@
 -- What the top call promises of `ingest` over any disk: each ending has its cause.
-use Rattle.std.proofs.Common.{◌≡◌, ◌⊎◌, inl, inr, ℕ, ◌<◌, ◌≤◌, List, [], ◌∷◌, length, Option, Some, None, false, Result, Ok, Err, OnOk, IfErr, refl, sym, ◌∙◌, ap, subst, arith}
-use Rattle.std.specs.Prelude.{is_some, IsSome}
-use Rattle.std.specs.FinMap as finite
+use Rattle.std.proofs.Common.{◌≡◌, ◌⊎◌, inl, inr, ℕ, ◌<◌, ◌≤◌, List, [], ◌∷◌, length, Option, Some, Result, Ok, Err, OnOk, IfErr, refl, sym, ◌∙◌, ap, subst, arith}
 use Rattle.std.specs.List.{AllByRecursion}
 use Rattle.base_model.specs.Known.{Known}
-use Rattle.disk_format.specs.declared.numbers.TheConstants.{MOST_FILE, MOST_NAMES}
+use Rattle.disk_format.specs.declared.numbers.TheConstants.{MOST_FILE}
 use Rattle.dd_disk.specs.View.{DiskView, IsLater}
 use Rattle.dd_disk.specs.Ending.{Done, CountsFault, ending, ending_of}
 use Rattle.dd_disk.proofs.Ended.{counts_on}
@@ -12,10 +10,7 @@ use Rattle.dd_disk.proofs.Later.{later_here, later_on, durable_reads}
 use Rattle.dd_disk.proofs.Shows.{until}
 use Rattle.dd_io.specs.Flow.{SourceView, SinkView}
 use Rattle.actor_parts.specs.declared.step.Answer.{Answer}
-use Rattle.actor_parts.specs.StepValue as asked
 use Rattle.actor_parts.specs.StepValue.{StepValue}
-use Rattle.namespace.specs.declared.record.Named.{Named}
-use Rattle.namespace.specs.Names.{NameMap, HasRoom}
 use Rattle.refusals.specs.declared.refusal.Refusal.{Refusal}
 use Rattle.refusals.specs.declared.refusal.Refusal.TheVariants.{Memory, DiskRead, DiskWrite, TooLong}
 use Rattle.reply_text.specs.declared.ending.Ending.{Ending}
@@ -25,8 +20,6 @@ use Rattle.store_model.specs.Image.{Store, IsValidFor, names_of}
 use Rattle.store_model.specs.Steps.{StoreChange, CanPut, with_put}
 use Rattle.store_model.specs.Trees.{root_of}
 use Rattle.store_state.specs.Refused.{blames}
-use Rattle.store_core.specs.declared.stop.Stop.{Stop}
-use Rattle.store_core.specs.Core.{Effect, StepsOr}
 use Rattle.store_core.specs.Runs.{ChangesTo, CoreRun, FileEvent, events_of}
 use Rattle.store_core.specs.State.{CoreState, Event}
 use Rattle.store_core.proofs.Stepping.{step_later}
@@ -35,45 +28,23 @@ use Rattle.backup_engine.specs.AnyDisk.{Holds, HasAdded, IsStored, IsCaused, IsU
 use Rattle.backup_engine.specs.Line.{Ingest}
 use Rattle.backup_engine.specs.PlainMap.{HasNoRoomForName, RefusesIngest}
 use Rattle.backup_engine.specs.Running.{HoldsPieces, PutRun, IsPutRefusal, IsOk, IsLastPut, seals_of}
-use Rattle.backup_engine.specs.Storing.{IsReadOut, Replies, Sent, IsStopped, IsTaken, IsSourceFault, IngestRun}
+use Rattle.script_runner.specs.Runner.{Sent}
+use Rattle.script_runner.proofs.FaultsCounted.{step_went}
+use Rattle.backup_engine.specs.Storing.{IsReadOut, Replies, IsStopped, IsTaken, IsSourceFault, IngestRun}
 use Rattle.backup_engine.specs.TopCall.{ending_in}
 use Rattle.backup_engine.proofs.Called.{Called}
-use Rattle.backup_engine.proofs.PutChanges.{IsOn, Puts, EndsBy, IsWayStep, AreUnless, ways_of, put_changes}
+use Rattle.backup_engine.proofs.PutChanges.{IsOn, Puts, EndsBy, IsWayStep, AreUnless, last_is, ways_of, put_changes}
 use Rattle.backup_engine.proofs.UnlikeNodes.{reads_wider, unlike_so}
+use Rattle.backup_engine.proofs.WayCommits.{has_room}
 
 -- ---- counts of faults
-
-module _ (old new : CoreState) where
-  effect_faults : (step : StepValue) (answer : Result Answer Refusal) → Effect step answer old new → CountsFault (ending blames answer) old.disk.faults new.disk.faults
-  effect_faults asked.Begin answer effect = effect.disk.faults_are
-  effect_faults (asked.Claim seg) answer effect = effect.disk.faults_are
-  effect_faults (asked.Seal filled) answer effect = effect.disk.faults_are
-  effect_faults (asked.Commit name root) answer effect = effect.disk.faults_are
-  effect_faults asked.Abort answer effect = effect.disk.faults_are
-  effect_faults (asked.OpenRead name) answer effect = effect.disk.faults_are
-  effect_faults asked.ReadNext answer effect = effect.disk.faults_are
-  effect_faults asked.EndRead answer effect = effect.disk.faults_are
-  effect_faults asked.Stat answer effect = effect.disk.faults_are
-
-  step_faults : (e : Event) (stop : Option Stop) → StepsOr stop e old new → CountsFault (ending blames e.answer) old.disk.faults new.disk.faults
-  step_faults e None steps = effect_faults e.step e.answer steps.made.effect
-  step_faults e (Some stop) steps =
-      subst (λ (answer : Result Answer Refusal). CountsFault (ending blames answer) old.disk.faults new.disk.faults) (sym steps.answer_is) steps.same.disk.faults_are
 
 done_faults : (answer : Result Answer Refusal) (before now : ℕ) → IsOk answer → CountsFault (ending blames answer) before now → now ≡ before
 done_faults (Err refusal) before now ok counts = absurd ok
 done_faults (Ok answer) before now ok counts = counts
 
 last_ok : (step : StepValue) (answer : Result Answer Refusal) → IsLastPut step answer → IsOk answer
-last_ok (asked.Commit name root) answer last = last
-last_ok asked.Begin answer last = absurd last
-last_ok (asked.Claim seg) answer last = absurd last
-last_ok (asked.Seal filled) answer last = absurd last
-last_ok asked.Abort answer last = absurd last
-last_ok (asked.OpenRead name) answer last = absurd last
-last_ok asked.ReadNext answer last = absurd last
-last_ok asked.EndRead answer last = absurd last
-last_ok asked.Stat answer last = absurd last
+last_ok = last_is (λ step answer. IsOk answer) (λ name root answer last. last)
 
 module _ (C : Type 0) (state : C → CoreState) where
   abbrev faults : C → ℕ
@@ -89,32 +60,22 @@ module _ (C : Type 0) (state : C → CoreState) where
   way_faults name bytes [] old new run each = ap faults run
   way_faults name bytes (f ∷ fs) old new run each =
       way_faults name bytes fs run.0 new run.1.1 each.1
-      ∙ done_faults f.event.answer (faults old) (faults run.0) each.0.1.1 (step_faults (state old) (state run.0) f.event (state old).stop run.1.0)
+      ∙ done_faults f.event.answer (faults old) (faults run.0) each.0.1.1 (step_went (state old) (state run.0) f.event run.1.0).faults
 
   last_faults : (name bytes : List ℕ) (result : Result Unit Refusal) (mid new : C) → EndsBy C state name bytes result mid new → CountsFault (ending blames result) (faults mid) (faults new)
   last_faults name bytes (Ok u) mid new last =
       let e = last.f.event in
-      done_faults e.answer (faults mid) (faults new) (last_ok e.step e.answer last.last) (step_faults (state mid) (state new) e (state mid).stop last.made)
+      done_faults e.answer (faults mid) (faults new) (last_ok e.step e.answer last.last) (step_went (state mid) (state new) e last.made).faults
   last_faults name bytes (Err refusal) mid new (inl none) =
       subst (λ (r : Refusal). CountsFault (ending_of (blames r)) (faults mid) (faults new)) (sym none.1) (ap faults none.0)
   last_faults name bytes (Err refusal) mid new (inr last) =
       subst (λ (answer : Result Answer Refusal). CountsFault (ending blames answer) (faults mid) (faults new)) last.answer_is
-      (step_faults (state mid) (state new) last.f.event (state mid).stop last.made)
+      (step_went (state mid) (state new) last.f.event last.made).faults
 
   pub put_faults : (name bytes : List ℕ) (result : Result Unit Refusal) (old new : C) → PutRun C state name bytes result old new → CountsFault (ending blames result) (faults old) (faults new)
   put_faults name bytes result old new run =
       let ways = ways_of C state name bytes result old new run in
       counts_on (ending blames result) (faults old) (faults ways.mid) (faults new) (way_faults name bytes ways.way old ways.mid ways.ran ways.each) (last_faults name bytes result ways.mid new ways.last)
-
--- ---- names
-
-no_some : (named : Option Named) → IsSome named → is_some named ≡ false → ⊥
-no_some None some none = absurd cc
-no_some (Some n) some none = absurd cc
-
-has_room : (names : NameMap) (name : List ℕ) → HasRoom names name → is_some (finite.get names name) ≡ false → MOST_NAMES ≤ finite.len names → ⊥
-has_room names name (inl some) none many = no_some (finite.get names name) some none
-has_room names name (inr below) none many = absurd (omega (arith, below, many))
 
 -- ---- the call
 

@@ -59,17 +59,22 @@ pub record Ways (C : Type 0) (state : C → CoreState) (name bytes : List ℕ) (
   pub each : AllByRecursion (IsWayStep name bytes) way
   pub last : EndsBy C state name bytes result mid new
 
+-- what is so of each commit is so of a last step
+pub last_is : (P : StepValue → Result Answer Refusal → Type 0) → ((name : List ℕ) (root : Root) (answer : Result Answer Refusal) → IsLastPut (asked.Commit name root) answer → P (asked.Commit name root) answer)
+    → (step : StepValue) (answer : Result Answer Refusal) → IsLastPut step answer → P step answer
+last_is P commits (asked.Commit name root) answer last = commits name root answer last
+last_is P commits asked.Begin answer last = absurd last
+last_is P commits (asked.Claim seg) answer last = absurd last
+last_is P commits (asked.Seal filled) answer last = absurd last
+last_is P commits asked.Abort answer last = absurd last
+last_is P commits (asked.OpenRead name) answer last = absurd last
+last_is P commits asked.ReadNext answer last = absurd last
+last_is P commits asked.EndRead answer last = absurd last
+last_is P commits asked.Stat answer last = absurd last
+
 -- the commit seals nothing, and neither does a step that is refused
 pub put_seals : (step : StepValue) (answer : Result Answer Refusal) → IsLastPut step answer → seal_by step answer ≡ []
-put_seals (asked.Commit name root) answer last = refl
-put_seals asked.Begin answer last = absurd last
-put_seals (asked.Claim seg) answer last = absurd last
-put_seals (asked.Seal filled) answer last = absurd last
-put_seals asked.Abort answer last = absurd last
-put_seals (asked.OpenRead name) answer last = absurd last
-put_seals asked.ReadNext answer last = absurd last
-put_seals asked.EndRead answer last = absurd last
-put_seals asked.Stat answer last = absurd last
+put_seals = last_is (λ step answer. seal_by step answer ≡ []) (λ name root answer last. refl)
 
 pub refused_seals : (step : StepValue) (refusal : Refusal) → seal_by step (Err refusal) ≡ []
 refused_seals asked.Begin refusal = refl

@@ -22,28 +22,23 @@ ended (Err refusal) = Some (Refused refusal)
 
 -- ---- a step
 
--- a step that is no commit puts no file
+-- a step that is no commit puts no file, and tries none
+puts_none : (step : StepValue) (answer : Result Answer Refusal) (bytes : List ℕ) (m : Stored) → IsNoCommit step → (stored_with step answer bytes m ≡ m) × (stored_tried step answer bytes m ≡ m)
+puts_none (asked.Commit name root) answer bytes m kind = absurd kind
+puts_none asked.Begin answer bytes m kind = (refl, refl)
+puts_none (asked.Claim seg) answer bytes m kind = (refl, refl)
+puts_none (asked.Seal filled) answer bytes m kind = (refl, refl)
+puts_none asked.Abort answer bytes m kind = (refl, refl)
+puts_none (asked.OpenRead name) answer bytes m kind = (refl, refl)
+puts_none asked.ReadNext answer bytes m kind = (refl, refl)
+puts_none asked.EndRead answer bytes m kind = (refl, refl)
+puts_none asked.Stat answer bytes m kind = (refl, refl)
+
 pub none_with : (step : StepValue) (answer : Result Answer Refusal) (bytes : List ℕ) (m : Stored) → IsNoCommit step → stored_with step answer bytes m ≡ m
-none_with (asked.Commit name root) answer bytes m kind = absurd kind
-none_with asked.Begin answer bytes m kind = refl
-none_with (asked.Claim seg) answer bytes m kind = refl
-none_with (asked.Seal filled) answer bytes m kind = refl
-none_with asked.Abort answer bytes m kind = refl
-none_with (asked.OpenRead name) answer bytes m kind = refl
-none_with asked.ReadNext answer bytes m kind = refl
-none_with asked.EndRead answer bytes m kind = refl
-none_with asked.Stat answer bytes m kind = refl
+none_with step answer bytes m kind = (puts_none step answer bytes m kind).0
 
 none_tried : (step : StepValue) (answer : Result Answer Refusal) (bytes : List ℕ) (m : Stored) → IsNoCommit step → stored_tried step answer bytes m ≡ m
-none_tried (asked.Commit name root) answer bytes m kind = absurd kind
-none_tried asked.Begin answer bytes m kind = refl
-none_tried (asked.Claim seg) answer bytes m kind = refl
-none_tried (asked.Seal filled) answer bytes m kind = refl
-none_tried asked.Abort answer bytes m kind = refl
-none_tried (asked.OpenRead name) answer bytes m kind = refl
-none_tried asked.ReadNext answer bytes m kind = refl
-none_tried asked.EndRead answer bytes m kind = refl
-none_tried asked.Stat answer bytes m kind = refl
+none_tried step answer bytes m kind = (puts_none step answer bytes m kind).1
 
 -- one that was refused puts none
 pub refused_with : (step : StepValue) (refusal : Refusal) (bytes : List ℕ) (m : Stored) → stored_with step (Err refusal) bytes m ≡ m

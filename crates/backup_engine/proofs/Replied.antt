@@ -5,7 +5,7 @@ use Rattle.dd_io.specs.Flow.{SinkView}
 use Rattle.reply_text.specs.declared.ending.Ending.{Ending}
 use Rattle.reply_text.specs.declared.ending.Ending.TheVariants.{Sink}
 use Rattle.backup_engine.specs.Promise.{WroteReply}
-use Rattle.backup_engine.specs.Storing.{Sent}
+use Rattle.script_runner.specs.Runner.{Sent}
 use Rattle.backup_engine.specs.TopCall.{ending_in}
 
 -- it was written whole, or the sink failed

@@ -1,5 +1,5 @@
 -- The lines of a file that was given: a push more, its end, and its name.
-use Rattle.std.proofs.Common.{◌≡◌, ◌⊎◌, inl, inr, ◌∙◌, ◌+◌, ℕ, true, false, None, List, [], ◌∷◌, ◌++◌, length, Ok, refl, sym, ap, subst, arith, length-append, Bool, cond, ◌||◌, is_some, Some, ◌≤◌}
+use Rattle.std.proofs.Common.{◌≡◌, ◌⊎◌, inl, inr, ◌∙◌, ◌+◌, ℕ, true, false, None, List, [], ◌∷◌, ◌++◌, length, refl, sym, ap, subst, arith, length-append, Bool, cond, ◌||◌, is_some, Some, ◌≤◌}
 use Rattle.std.specs.Result.{result_unwrap_or}
 use Rattle.std.specs.List.{list_all}
 use Rattle.std.specs.Char.{is_ascii_hexdigit}
@@ -8,6 +8,7 @@ use Rattle.std.proofs.lemmas.List.Sums.{list_all-from_AllPass}
 use Rattle.hex.specs.Hex.{IsBytes, encode_lower, is_hex_digit}
 use Rattle.hex.proofs.HexLemmas.{decode_of-encode_lower, decode_of-ok}
 use Rattle.actor_parts.specs.declared.step.Answer.{Answer}
+use Rattle.dd_io.specs.Flow.{SourceView}
 use Rattle.plain_machine.specs.Runs.{Replied}
 use Rattle.refusals.specs.declared.refusal.Refusal.{Refusal}
 use Rattle.script_lines.specs.Grammar.{pushed_bytes}
@@ -18,7 +19,7 @@ use Rattle.session_turns.specs.declared.turns.TheConstants.{MOST_PIECE}
 use Rattle.session_turns.specs.Turns.{TurnRun, TurnsStopped}
 use Rattle.store_core.specs.State.{CoreState}
 use Rattle.ingest_session.specs.State.{SessionState}
-use Rattle.backup_engine.specs.Saying.{Says, SaysAll, SaysPushes, giving}
+use Rattle.backup_engine.specs.Saying.{Says, SaysAll, SaysPushed, giving}
 use Rattle.backup_engine.specs.Singles.{Digits, StopsAt, finish_lines, push_lines, pushed, refused, said}
 use Rattle.backup_engine.proofs.Saying.{finish_goes_on, line_after, one_push_more, pushed_more, pushes_go_on}
 use Rattle.backup_engine.proofs.SayingSteps.{commit_refused}
@@ -65,8 +66,8 @@ finished count = said (lines.Finish 0) (replies.Finished 0 count)
 
 module _ (C : Type 0) (state : C → CoreState) where
   -- one push more
-  pub says_more : (s t u : SessionState) (old mid new : C) (taken piece : List ℕ) (digits : Digits) → pushed_bytes digits.digits ≡ piece → SaysPushes C state (Ok tt) taken s t old mid
-      → RunsLine C state (lines.Push 0 digits.digits) (replies.Pushed 0 (length (taken ++ piece))) (giving mid t) (giving new u) → SaysPushes C state (Ok tt) (taken ++ piece) s u old new
+  pub says_more : (s t u : SessionState) (old mid new : C) (taken piece : List ℕ) (digits : Digits) → pushed_bytes digits.digits ≡ piece → SaysPushed C state taken s t old mid
+      → RunsLine C state (lines.Push 0 digits.digits) (replies.Pushed 0 (length (taken ++ piece))) (giving mid t) (giving new u) → SaysPushed C state (taken ++ piece) s u old new
   says_more s t u old mid new taken piece digits same says last =
       let pushes = says.0 in
       let count = 0 + length (pushed pushes) + length (pushed_bytes digits.digits) in
@@ -101,7 +102,7 @@ module _ (C : Type 0) (state : C → CoreState) where
       RunsLine C state (lines.Finish 0) (replies.Refused refusal) (giving mid t) (giving new u)
       ⊎ ((ends : HasEnded t mid given) × TurnsStopped C state 0 refusal ends.before u mid new)
 
-  module _ (s t u : SessionState) (old mid new : C) (given : List ℕ) (says : SaysPushes C state (Ok tt) given s t old mid) where
+  module _ (s t u : SessionState) (old mid new : C) (given : List ℕ) (says : SaysPushed C state given s t old mid) where
     abbrev pushes : List Digits
     pushes = says.0
 
@@ -123,15 +124,15 @@ module _ (C : Type 0) (state : C → CoreState) where
       turns = ends.1.1;
     }
 
-    pub says_stop : (refusal : Refusal) → StopsSaying t u mid new given refusal → (name : List ℕ) → (rs : List Replied) × (StopsAt name given refusal rs × Says C state rs s u old new)
-    says_stop refusal (inl line) name = (
+    pub says_stop : (source source_now : SourceView) (refusal : Refusal) → StopsSaying t u mid new given refusal → (name : List ℕ) → (rs : List Replied) × (StopsAt name given source source_now refusal rs × Says C state rs s u old new)
+    says_stop source source_now refusal (inl line) name = (
       push_lines 0 pushes ++ refused (lines.Finish 0) refusal ∷ [],
       (
         (pushes, inr (inl (says.1.0, refl))),
         line_after C state (push_lines 0 pushes) (refused (lines.Finish 0) refusal) (giving old s) (giving mid t) (giving new u) (pushes_go_on 0 pushes) refl says.1.1 line,
       ),
     )
-    says_stop refusal (inr ends) name = (
+    says_stop source source_now refusal (inr ends) name = (
       finish_lines pushes ++ refused (lines.Commit 0 name) refusal ∷ [],
       (
         (pushes, inr (inr (says.1.0, refl))),

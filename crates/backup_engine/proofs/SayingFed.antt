@@ -12,7 +12,7 @@ use Rattle.script_runner.specs.Acts.{RunsLine}
 use Rattle.session_turns.specs.Turns.{Feeds, TakesTurns}
 use Rattle.store_core.specs.State.{CoreState}
 use Rattle.backup_engine.specs.Feeding.{IsFed}
-use Rattle.backup_engine.specs.Saying.{SaysPushes, giving}
+use Rattle.backup_engine.specs.Saying.{SaysPushed, giving}
 use Rattle.backup_engine.specs.Singles.{Digits}
 use Rattle.backup_engine.proofs.SayingEnds.{EndsSaying, HasEnded, StopsSaying, says_more}
 use Rattle.backup_engine.proofs.SayingSteps.{finish_line, push_line, push_refused}
@@ -24,7 +24,7 @@ module _ (C : Type 0) (state : C → CoreState) (counted : BytesAreCounted) (sta
 
   module _ (actor : ℕ) (first : actor ≡ 0) (taken piece : List ℕ) (digits : Digits) (same : pushed_bytes digits.digits ≡ piece) where
     pub push_says : (s t u : SessionState) (old mid new : C) → t.ended ≡ false → IsFed C state taken t start mid → IsFed C state (taken ++ piece) u start new → Feeds C state actor (Ok tt) piece t u mid new
-        → SaysPushes C state (Ok tt) taken s t old mid → SaysPushes C state (Ok tt) (taken ++ piece) s u old new
+        → SaysPushed C state taken s t old mid → SaysPushed C state (taken ++ piece) s u old new
     push_says s t u old mid new off fed after feeds says =
         says_more C state s t u old mid new taken piece digits same says
         (push_line C state mid new t u fed.way.runs off actor first digits.digits piece same (length (taken ++ piece)) feeds (counts (taken ++ piece) u new after))

@@ -1,11 +1,11 @@
 -- What `run` keeps, from the lines that were run.
-use Rattle.std.proofs.lemmas.List.{append-nil}
-use Rattle.std.proofs.Common.{◌≡◌, ◌⊎◌, inl, inr, ◌<◌, ◌-◌, ◌^◌, ℕ, List, [], ◌∷◌, ◌++◌, IsTrue, Option, Some, None, Result, replicate, refl, sym, ◌∙◌, ap, subst, arith}
+use Rattle.std.proofs.Common.{◌≡◌, ◌⊎◌, inl, inr, ◌<◌, ◌-◌, ◌^◌, ℕ, List, [], ◌∷◌, ◌++◌, IsTrue, Option, Some, None, Result, replicate, refl, sym, ◌∙◌, subst, arith}
 use Rattle.dd_disk.specs.Ending.{Reads, CountsFault, ending_of}
 use Rattle.dd_disk.specs.Shows.{Shows}
 use Rattle.dd_disk.specs.View.{CrashLeaves, DiskView, IsLater, OnlyReads}
 use Rattle.dd_disk.proofs.Later.{later_on, reads_here}
-use Rattle.base_model.specs.Known.{Appended, KnownWith}
+use Rattle.dd_disk.proofs.Shows.{until}
+use Rattle.base_model.specs.Known.{KnownWith}
 use Rattle.dd_io.specs.Flow.{SourceView, SinkView}
 use Rattle.actor_parts.specs.declared.actor.TheConstants.{ACTORS}
 use Rattle.plain_machine.specs.Machine as plain
@@ -25,7 +25,7 @@ use Rattle.script_lines.specs.ReplyValue.{ReplyValue}
 use Rattle.script_runner.specs.Acts.{RefusesReopen, RunnerState, RunsLine}
 use Rattle.script_runner.specs.AnyDisk.{LinesGiveWhatIsNamed, LinesGoOn}
 use Rattle.script_runner.specs.Frame.{IsOnContent, LinesKeepWritten, OpenedIsOn}
-use Rattle.script_runner.specs.Named.{Account, AllTell, CountFaults, GiveWhatIsNamed, Tells, WasShown, opened}
+use Rattle.script_runner.specs.Named.{Account, AllTell, CountFaults, GiveWhatIsNamed, Tells, WasOpened, WasShown, opened}
 use Rattle.script_runner.specs.Opened.{OpenedFollows}
 use Rattle.script_runner.specs.Scripts.{RunsLines, ScriptsFollow}
 use Rattle.store_core.specs.Frame.{KeepsWritten}
@@ -33,8 +33,9 @@ use Rattle.store_core.specs.Runs.{IsOf}
 use Rattle.store_core.specs.State.{CoreState}
 use Rattle.store_model.specs.Collisions.{IsIn}
 use Rattle.store_model.specs.Files.{Stored}
-use Rattle.store_model.specs.Image.{Store}
+use Rattle.store_model.specs.Image.{Store, Encodes}
 use Rattle.store_state.specs.Refused.{blames, fails}
+use Rattle.ingest_session.proofs.Members.{all_then}
 use Rattle.backup_engine.specs.AnyDisk.{ReadsSince}
 use Rattle.backup_engine.specs.Frame.{KeepsAll, LinesKeepOthers}
 use Rattle.backup_engine.specs.Lines.{RunsByMachine, RunsEachMap, RunsNone}
@@ -44,12 +45,12 @@ use Rattle.backup_engine.specs.Script.{CountsLines, FailsAlone, HasLast, IsNotRe
 use Rattle.backup_engine.specs.ScriptRuns.{EndsReopening, ScriptRun}
 use Rattle.backup_engine.specs.TopCall.{ending_in}
 use Rattle.backup_engine.proofs.Called.{Called}
+use Rattle.backup_engine.proofs.GiveRuns.{written_none}
 use Rattle.backup_engine.proofs.LinesRun.{lines_run}
 use Rattle.backup_engine.proofs.NotDone.{IsUnopened, map_fails}
 use Rattle.backup_engine.proofs.Reading.{since_start}
 use Rattle.backup_engine.proofs.UnlikeCopies.{shown_since}
 use Rattle.backup_engine.proofs.Unlent.{open_refusal, reads, shows}
-use Rattle.backup_engine.proofs.WayLists.{all_so}
 
 -- ---- what was shown
 
@@ -62,17 +63,15 @@ module _ (Shown More : Store → Type 0) (each : (store : Store) → Shown store
   all_tell [] t all = tt
   all_tell (one ∷ more) t all = (all.0, (tells_so one.line one.reply t all.0 all.1.0, all_tell more all.0 all.1.1))
 
-  pub named_so : (rs : List Replied) → GiveWhatIsNamed Shown rs → GiveWhatIsNamed More rs
-  named_so rs named = record { store = named.store; shown = each named.store named.shown; tell = all_tell rs (opened named.store) named.tell }
+  module _ (First Wider : Store → Type 0) (first : (store : Store) → First store → Wider store) where
+    pub named_so : (rs : List Replied) → GiveWhatIsNamed First Shown rs → GiveWhatIsNamed Wider More rs
+    named_so rs named = record { store = named.store; shown = first named.store named.shown; tell = all_tell rs (opened named.store) named.tell }
 
-  pub named_or : (ending : Option Ending) (rs : List Replied) → script.IsUnopened ending rs ⊎ GiveWhatIsNamed Shown rs → script.IsUnopened ending rs ⊎ GiveWhatIsNamed More rs
-  named_or ending rs (inl none) = inl none
-  named_or ending rs (inr named) = inr (named_so rs named)
+    pub named_or : (ending : Option Ending) (rs : List Replied) → script.IsUnopened ending rs ⊎ GiveWhatIsNamed First Shown rs → script.IsUnopened ending rs ⊎ GiveWhatIsNamed Wider More rs
+    named_or ending rs (inl none) = inl none
+    named_or ending rs (inr named) = inr (named_so rs named)
 
 -- ---- no line was run
-
-nothing_more : (written : Option (List ℕ)) → Appended written written []
-nothing_more written = record { is = λ old told. told ∙ ap Some (sym (append-nil old)) }
 
 module _ (v w : DiskView) (refusal : Refusal) (only : OnlyReads v w) (counted : CountsFault (ending_of (blames refusal)) v.faults w.faults) (cause : IsOpenRefusal (Shows v w) v.size refusal)
     (alone : (S : List ℕ → Type 0) (m : Stored) (image : List ℕ) → v.content ≡ Some image → IsOf S m image → IsTrue (fails refusal)) where
@@ -93,8 +92,8 @@ module _ (v w : DiskView) (refusal : Refusal) (only : OnlyReads v w) (counted : 
     caused_by r is = inl (record { none = refl; cause = is; left_is = refl })
 
     wrote_none : (r : Refusal) → WroteReplies (Some (Refused r)) [] sink sink
-    wrote_none Memory = inl (nothing_more sink.written)
-    wrote_none r = nothing_more sink.written
+    wrote_none Memory = inl (written_none sink.written)
+    wrote_none r = written_none sink.written
 
     pub none_kept : KeepsScript [] (Some (Refused refusal)) v w source source sink sink
     none_kept = record {
@@ -201,17 +200,20 @@ module _ (D : Type 0) (view : D → DiskView) (C : Type 0) (state : C → CoreSt
   abbrev later : IsLater found last
   later = (go_on run.rs r s run.runs).later
 
-  pub run_later : IsLater v w
+  run_later : IsLater v w
   run_later = later_on v found w called.first.only.later (later_on found last w later called.last.only.later)
 
   -- what the store was opened with is shown in the call
   wider : (store : Store) → WasShown v last store → WasShown v w store
   wider store shown = record {
     parts = shown.parts;
-    returned = all_so (λ part. last.read_returned v.clock part.at part.bytes) (λ part. w.read_returned v.clock part.at part.bytes) shown.parts
+    returned = all_then (λ part. last.read_returned v.clock part.at part.bytes) (λ part. w.read_returned v.clock part.at part.bytes) shown.parts
         (λ part was. called.last.only.later.returned v.clock part.at part.bytes (omega (arith, called.first.only.later.clock_is, later.clock_is)) was) shown.returned;
     shows = shown.shows;
   }
+
+  wider_first : (store : Store) → WasOpened v last store → WasOpened v w store
+  wider_first store shown = until v last w shown (omega (arith, called.first.only.later.clock_is, later.clock_is)) called.last.only.later
 
   counted : CountFaults run.rs v.faults w.faults
   counted = subst (λ (n : ℕ). CountFaults run.rs v.faults n) (sym called.last.faults_are)
@@ -263,7 +265,7 @@ module _ (D : Type 0) (view : D → DiskView) (C : Type 0) (state : C → CoreSt
         let since = shown_since v here last (later_on v found here called.first.only.later way) reads.only.content_is P shown in
         record {
           parts = since.parts;
-          returned = all_so (λ part. last.read_returned v.clock part.at part.bytes) (λ part. w.read_returned v.clock part.at part.bytes) since.parts
+          returned = all_then (λ part. last.read_returned v.clock part.at part.bytes) (λ part. w.read_returned v.clock part.at part.bytes) since.parts
               (λ part was. called.last.only.later.returned v.clock part.at part.bytes (omega (arith, called.first.only.later.clock_is, later.clock_is)) was) since.returned;
           known = λ image is. since.known image (sym called.last.only.content_is ∙ is);
           shows = since.shows;
@@ -296,29 +298,33 @@ module _ (D : Type 0) (view : D → DiskView) (C : Type 0) (state : C → CoreSt
     | inr none ↦ let same : none.refusal ≡ refusal = let both = sym none.ending_is ∙ ended in cc in subst (λ (x : Refusal). IsTrue (fails x)) same none.failed
   ]
 
-  pub run_kept : KeepsScript run.rs (ending_in result) v w source source_now sink sink_now
-  run_kept = record {
-    machine = runs_each;
-    fails_alone = run_fails;
-    begins = run.begins;
-    stops = run.stops;
-    caused = ends_so (EndsReopening run.rs) (IsRunRefusal run.rs v w source source_now) reopening (ending_in result) run.rs source source_now sink sink_now run.caused;
-    wrote = run.wrote;
-    frame = others;
-    named = inr (named_so (WasShown v last) (WasShown v w) wider run.rs (give run.rs before r s called.opened called.first fresh run.actors run.runs));
-    disk_faults = counts_lines (ending_in result) run.rs source source_now sink sink_now v.faults w.faults run.caused counted;
-    source_faults = run.source_faults;
-    sink_faults = run.sink_faults;
-  }
+  -- what is kept, and that the disk is the same one, later
+  pub run_kept : IsLater v w × KeepsScript run.rs (ending_in result) v w source source_now sink sink_now
+  run_kept = (
+    run_later,
+    record {
+      machine = runs_each;
+      fails_alone = run_fails;
+      begins = run.begins;
+      stops = run.stops;
+      caused = ends_so (EndsReopening run.rs) (IsRunRefusal run.rs v w source source_now) reopening (ending_in result) run.rs source source_now sink sink_now run.caused;
+      wrote = run.wrote;
+      frame = others;
+      named = inr (named_so (WasShown v last) (WasShown v w) wider (WasOpened v last) (WasOpened v w) wider_first run.rs (give run.rs before r s called.opened called.first fresh run.actors run.runs));
+      disk_faults = counts_lines (ending_in result) run.rs source source_now sink sink_now v.faults w.faults run.caused counted;
+      source_faults = run.source_faults;
+      sink_faults = run.sink_faults;
+    },
+  )
 
 -- ---- a disk that was lent
 
-module _ (loans : List ℕ) (v w : DiskView) where
+module _ (loans loans_now : List ℕ) (v w : DiskView) where
   abbrev lent : DiskView
   lent = record v { loans = loans }
 
   abbrev lent_now : DiskView
-  lent_now = record w { loans = loans }
+  lent_now = record w { loans = loans_now }
 
   runs_none : (ending : Option Ending) (rs : List Replied) → RunsNone ending rs lent lent_now → RunsNone ending rs v w
   runs_none ending rs is = record {
@@ -355,16 +361,16 @@ module _ (loans : List ℕ) (v w : DiskView) where
 
   not_opened : (refusal : Refusal) (rs : List Replied) (source source_now : SourceView) → IsRunRefusal rs lent lent_now source source_now refusal → IsRunRefusal rs v w source source_now refusal
   not_opened refusal rs source source_now (inl is) =
-      inl (record { none = is.none; cause = open_refusal (Shows lent lent_now) (Shows v w) (shows loans v w) v.size refusal is.cause; left_is = is.left_is })
+      inl (record { none = is.none; cause = open_refusal (Shows lent lent_now) (Shows v w) (shows loans loans_now v w) v.size refusal is.cause; left_is = is.left_is })
   not_opened refusal rs source source_now (inr is) =
-      inr (record { before = is.before; has_last = is.has_last; cause = open_refusal (ReadsSince lent lent_now) (ReadsSince v w) (reads loans v w) v.size refusal is.cause })
+      inr (record { before = is.before; has_last = is.has_last; cause = open_refusal (ReadsSince lent lent_now) (ReadsSince v w) (reads loans loans_now v w) v.size refusal is.cause })
 
   shown_unlent : (store : Store) → WasShown lent lent_now store → WasShown v w store
   shown_unlent store is = record { parts = is.parts; returned = is.returned; shows = is.shows }
 
-  pub script_unlent : (rs : List Replied) (ending : Option Ending) (source source_now : SourceView) (sink sink_now : SinkView) → KeepsScript rs ending lent lent_now source source_now sink sink_now
+  pub script_back : (rs : List Replied) (ending : Option Ending) (source source_now : SourceView) (sink sink_now : SinkView) → KeepsScript rs ending lent lent_now source source_now sink sink_now
       → KeepsScript rs ending v w source source_now sink sink_now
-  script_unlent rs ending source source_now sink sink_now is = record {
+  script_back rs ending source source_now sink sink_now is = record {
     machine = machine_unlent ending rs is.machine;
     fails_alone = is.fails_alone;
     begins = is.begins;
@@ -372,18 +378,11 @@ module _ (loans : List ℕ) (v w : DiskView) where
     caused = ends_so (IsRunRefusal rs lent lent_now source source_now) (IsRunRefusal rs v w source source_now) (λ refusal. not_opened refusal rs source source_now) ending rs source source_now sink sink_now is.caused;
     wrote = is.wrote;
     frame = record { content = is.frame.content; crash = is.frame.crash };
-    named = named_or (WasShown lent lent_now) (WasShown v w) shown_unlent ending rs is.named;
+    named = named_or (WasShown lent lent_now) (WasShown v w) shown_unlent (WasOpened lent lent_now) (WasOpened v w) (λ store. shows loans loans_now v w (λ image. Encodes image store)) ending rs is.named;
     disk_faults = is.disk_faults;
     source_faults = is.source_faults;
     sink_faults = is.sink_faults;
   }
-
--- and once it came back
-pub script_back : (loans loans_now : List ℕ) → loans_now ≡ loans → (v w : DiskView) (rs : List Replied) (ending : Option Ending) (source source_now : SourceView) (sink sink_now : SinkView)
-    → KeepsScript rs ending (record v { loans = loans }) (record w { loans = loans_now }) source source_now sink sink_now → KeepsScript rs ending v w source source_now sink sink_now
-script_back loans loans_now same v w rs ending source source_now sink sink_now kept =
-    script_unlent loans v w rs ending source source_now sink sink_now
-    (subst (λ (l : List ℕ). KeepsScript rs ending (record v { loans = loans }) (record w { loans = l }) source source_now sink sink_now) same kept)
 
 -- the runner has the core that was opened, and the core that is closed was the runner's
 pub called_by : (C : Type 0) (state : C → CoreState) (v w : DiskView) (old new first last : C) → Called C state v w old new → first ≡ old → new ≡ last → Called C state v w first last

@@ -1,5 +1,6 @@
 -- A script goes on by a line, or ends.
 use Rattle.std.proofs.Common.{◌≡◌, ◌⊎◌, inl, inr, ◌+◌, ◌≤◌, ◌<◌, ℕ, Bool, true, false, List, [], ◌∷◌, ◌++◌, take, Option, Some, None, Result, Ok, Err, refl, sym, ◌∙◌, ap, subst, append_assoc, arith}
+use Rattle.std.specs.Result.{IsErrAnd}
 use Rattle.std.proofs.lemmas.List.{append-nil, length-append}
 use Rattle.base_model.specs.Fault.{Rose}
 use Rattle.base_model.specs.Known.{Appended}
@@ -28,6 +29,7 @@ use Rattle.store_core.specs.State.{CoreState}
 use Rattle.backup_engine.specs.Lines.{lines_of, printed}
 use Rattle.backup_engine.specs.Script.{EndsRefused, IsScriptEnd, StopsAtReopen, TookLines, WroteReplies}
 use Rattle.backup_engine.specs.ScriptRuns.{EndsReopening, RunsBy, RunsNext, ScriptRun, ScriptSoFar, goes_on}
+use Rattle.backup_engine.proofs.Kept.{by_error}
 use Rattle.backup_engine.proofs.ScriptLists.{actors_snoc, all_snoc, few_lines, lines_snoc, number_snoc, of_actor, printed_snoc, runs_snoc, stops_none, stops_snoc}
 
 -- what was added twice was added as one
@@ -312,33 +314,41 @@ module _ (C : Type 0) (state : C → CoreState) (laws : ReadsTellScripts) (rs : 
         subst (λ (x : Ending). ScriptRun C state (Err x) r s source source_now sink sink_now) (sym same) (ends_so (Err ending) run is_next part heard ending refl)
 
     -- the script goes on
-    pub went_on : RunsNext C state number (Ok true) reader after mid s between source_now sink_mid sink_now → GoneOn
-    went_on (inl on) = by_next on.next on.is_next on.runs
+    goes_on_so : RunsNext C state number (Ok true) reader after mid s between source_now sink_mid sink_now → GoneOn
+    goes_on_so (inl on) = by_next on.next on.is_next on.runs
       where
         by_next : (n : NextLine) → IsNext n reader after between.left source_now.left → RunsBy C state n number (Ok true) after.line mid s sink_mid sink_now → GoneOn
         by_next next.Line is_next runs = (on_line runs.0 true runs.1.0 runs.1.1 is_next on.part on.heard).1
         by_next next.End is_next runs = absurd (let no : true ≡ false = cc in cc)
         by_next next.Wrong is_next runs = absurd cc
         by_next next.TooMany is_next runs = absurd cc
-    went_on (inr none) = let no = none.result_is in absurd cc
+    goes_on_so (inr none) = let no = none.result_is in absurd cc
+
+    pub went_on : (more : Bool) → more ≡ true → RunsNext C state number (Ok more) reader after mid s between source_now sink_mid sink_now → GoneOn
+    went_on true on next = goes_on_so next
+    went_on false on next = absurd cc
 
     -- it has ended
-    pub went_out : RunsNext C state number (Ok false) reader after mid s between source_now sink_mid sink_now → ScriptRun C state (Ok tt) r s source source_now sink sink_now
-    went_out (inl on) = by_next on.next on.is_next on.runs
+    goes_out : RunsNext C state number (Ok false) reader after mid s between source_now sink_mid sink_now → ScriptRun C state (Ok tt) r s source source_now sink sink_now
+    goes_out (inl on) = by_next on.next on.is_next on.runs
       where
         by_next : (n : NextLine) → IsNext n reader after between.left source_now.left → RunsBy C state n number (Ok false) after.line mid s sink_mid sink_now → ScriptRun C state (Ok tt) r s source source_now sink sink_now
         by_next next.Line is_next runs = let no : false ≡ true = (on_line runs.0 false runs.1.0 runs.1.1 is_next on.part on.heard).0 in absurd cc
         by_next next.End is_next runs = read_out runs.1.0 runs.1.1 on.heard is_next
         by_next next.Wrong is_next runs = let no = runs.0 in absurd cc
         by_next next.TooMany is_next runs = let no = runs.0 in absurd cc
-    went_out (inr none) = let no = none.result_is in absurd cc
+    goes_out (inr none) = let no = none.result_is in absurd cc
+
+    pub went_out : (more : Bool) → more ≡ false → RunsNext C state number (Ok more) reader after mid s between source_now sink_mid sink_now → ScriptRun C state (Ok tt) r s source source_now sink sink_now
+    went_out false out next = goes_out next
+    went_out true out next = absurd cc
 
     abbrev Gives : Ending → Type 0
     Gives x = ScriptRun C state (Err x) r s source source_now sink sink_now
 
     -- or it was given up
-    pub gave_up : (e : Ending) → RunsNext C state number (Err e) reader after mid s between source_now sink_mid sink_now → ScriptRun C state (Err e) r s source source_now sink sink_now
-    gave_up e (inl on) = by_next on.next on.is_next on.runs
+    gives_up : (e : Ending) → RunsNext C state number (Err e) reader after mid s between source_now sink_mid sink_now → ScriptRun C state (Err e) r s source source_now sink sink_now
+    gives_up e (inl on) = by_next on.next on.is_next on.runs
       where
         by_next : (n : NextLine) → IsNext n reader after between.left source_now.left → RunsBy C state n number (Err e) after.line mid s sink_mid sink_now → Gives e
         by_next next.Line is_next runs = off_line runs.0 e runs.1.0 runs.1.1 is_next on.part on.heard
@@ -353,10 +363,14 @@ module _ (C : Type 0) (state : C → CoreState) (laws : ReadsTellScripts) (rs : 
             let same : e ≡ Script = cc in
             subst Gives (sym same) (overrun runs.1.0 runs.1.1 on.heard
             (laws.too_many source.left between.left source_now.left (lines_of rs) reader after so_far.read is_next on.part))
-    gave_up e (inr none) =
+    gives_up e (inr none) =
         let is = none.result_is in
         let same : e ≡ Source = cc in
         subst (λ (x : Ending). ScriptRun C state (Err x) r s source source_now sink sink_now) (sym same) (unread none.none.0 none.none.1 none.part none.drained none.takes none.rose)
+
+    pub gave_up : (e : Ending) (result : Result Unit Ending) → IsErrAnd result (λ y. y ≡ e) → RunsNext C state number (Err e) reader after mid s between source_now sink_mid sink_now
+        → ScriptRun C state result r s source source_now sink sink_now
+    gave_up e result is next = by_error (λ x. ScriptRun C state x r s source source_now sink sink_now) result e is (gives_up e next)
 
     -- it does not go on for longer than a number of lines has room
     pub few_numbers : number ≤ MOST_SCRIPT + 1

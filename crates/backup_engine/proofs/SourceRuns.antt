@@ -10,10 +10,11 @@ use Rattle.reply_text.specs.declared.ending.Ending.TheVariants.{Source, Sink, Re
 use Rattle.reply_text.specs.Text.{stored_line}
 use Rattle.store_model.specs.Trees.{root_of}
 use Rattle.store_core.specs.State.{CoreState}
+use Rattle.script_runner.specs.Runner.{Sent}
 use Rattle.backup_engine.specs.Running.{HoldsPieces, PutRun, IsPutRefusal}
 use Rattle.backup_engine.specs.Saying.{RunsSingle}
 use Rattle.backup_engine.specs.Singles.{IsIngest, StoresFile}
-use Rattle.backup_engine.specs.Storing.{IsSourceFault, IsHeard, IsHeardAt, IsReadOut, Sent, IngestRun}
+use Rattle.backup_engine.specs.Storing.{IsSourceFault, IsHeard, IsHeardAt, IsReadOut, IngestRun}
 use Rattle.backup_engine.specs.TopCall.{ending_in}
 
 -- What a source had to give that was not read: what it had left; where it doesn't tell that, nothing.
@@ -48,7 +49,7 @@ module _ (C : Type 0) (state : C → CoreState) (name : List ℕ) (source source
 
   -- but perhaps for the reply, all lines were run
   sent_lines : (given reply : List ℕ) (result : Result Unit Ending) (sink sink_now : SinkView) (old new : C) → Sent reply result sink sink_now → RunsSingle C state (StoresFile name given) old new
-      → RunsSingle C state (IsIngest name given (ending_in result)) old new
+      → RunsSingle C state (IsIngest name given (ending_in result) source source_now) old new
   sent_lines given reply (Ok u) sink sink_now old new sent said = said
   sent_lines given reply (Err Sink) sink sink_now old new sent said = said
   sent_lines given reply (Err ending) sink sink_now old new sent said = absurd sent
@@ -60,7 +61,7 @@ module _ (C : Type 0) (state : C → CoreState) (name : List ℕ) (source source
 
     -- no more was asked
     pub stopped : (ending : Ending) (sink : SinkView) → IsSourceFault source source_now ending → IsHeardAt source source_now ending → (ending ≡ Refused TooLong → MOST_FILE < length given) → PutRun C state name given (Err Memory) old new
-        → RunsSingle C state (IsIngest name given (Some ending)) old new → IngestRun C state name (Err ending) old new source source_now sink sink
+        → RunsSingle C state (IsIngest name given (Some ending) source source_now) old new → IngestRun C state name (Err ending) old new source source_now sink sink
     stopped ending sink cause heard long ran said = record {
       given = given;
       took = took;
@@ -72,7 +73,7 @@ module _ (C : Type 0) (state : C → CoreState) (name : List ℕ) (source source
 
     -- a step was refused
     pub not_stored : (refusal : Refusal) (sink : SinkView) → source_now.faults ≡ source.faults → PutRun C state name given (Err refusal) old new → IsPutRefusal name given (state old).disk (state new) refusal
-        → RunsSingle C state (IsIngest name given (Some (Refused refusal))) old new → IngestRun C state name (Err (Refused refusal)) old new source source_now sink sink
+        → RunsSingle C state (IsIngest name given (Some (Refused refusal)) source source_now) old new → IngestRun C state name (Err (Refused refusal)) old new source source_now sink sink
     not_stored refusal sink same ran refused said = record {
       given = given;
       took = took;

@@ -34,6 +34,11 @@ words_promise line status v source sink notes notes_now none is noted = record {
       (record { why = refl; disk_is = same_disk v; source_is = refl; sink_is = refl });
 }
 
+-- what is so of a line is so of what is that line
+pub does_as : (line said : TableLine) → line ≡ said → (given : List ℕ) (rs : List Replied) (ending : Option Ending) (v w : DiskView) (source source_now : SourceView) (sink sink_now : SinkView)
+    → Does (Some said) given rs ending v w source source_now sink sink_now → (given : List ℕ) × ((rs : List Replied) × Does (Some line) given rs ending v w source source_now sink sink_now)
+does_as line said is given rs ending v w source source_now sink sink_now does = (given, (rs, subst (λ (l : TableLine). Does (Some l) given rs ending v w source source_now sink sink_now) (sym is) does))
+
 -- a line, as it ended
 pub line_promise : (line : Option TableLine) (said : TableLine) (status : ℕ) (ending : Option Ending) (v w : DiskView) (source source_now : SourceView) (sink sink_now notes notes_now : SinkView) → line ≡ Some said
     → status ≡ status_by ending → AreNoted notes notes_now ending

@@ -10,23 +10,14 @@ use Rattle.refusals.specs.declared.refusal.PartKind.TheVariants.{Finished}
 use Rattle.store_core.specs.State.{CoreState}
 use Rattle.ingest_session.specs.Calls.{IsEnding, IsFinishAnswer, IsPushAnswer}
 use Rattle.ingest_session.specs.Due.{due_in}
-use Rattle.ingest_session.specs.Facts.{BytesAreCounted, ChildrenComeFirst, OpenNodesHaveChildren, OpensArePieces, TurnsArePieces, WaitsForAnother}
 use Rattle.ingest_session.specs.History.{History, HasHistory, answered}
 use Rattle.ingest_session.specs.State.{SessionState}
 use Rattle.session_turns.specs.Turns.{Asks, Feeds, IsPaused, IsRefusedTurn, IsTurn, TakesTurns, TurnRun, TurnsStopped}
 use Rattle.session_turns.proofs.TurnRuns.{turns_stay}
-use Rattle.backup_engine.specs.Feeding.{IsFed, MayBe, Stops, opens_of}
+use Rattle.backup_engine.specs.Feeding.{IsFed, MayBe, SessionLaws, Stops, opens_of}
 use Rattle.backup_engine.proofs.Feds.{fed_due, fed_ended, fed_pushed, may_be_still}
 use Rattle.backup_engine.proofs.Turning.{asked_on, asked_refused}
 use Rattle.backup_engine.proofs.Ways.{way_stops}
-
--- the laws of sessions that turns rest on
-pub record Laws : Type 0 where
-  pub turns : TurnsArePieces
-  pub opens : OpensArePieces
-  pub waits : WaitsForAnother
-  pub claims : ChildrenComeFirst
-  pub seals : OpenNodesHaveChildren
 
 -- a push is refused, before the end, where the file is too long
 why_long : (s : SessionState) (n : ℕ) (refusal : Refusal) (ended : Bool) → s.ended ≡ false → s.ended ≡ ended → IsPushAnswer s n (Err refusal) → (refusal ≡ TooLong) × (MOST_FILE < s.count + n)
@@ -51,7 +42,7 @@ itself given s = ([], λ on. refl, sym (append-nil given))
 may_be_before : (given bytes : List ℕ) (s t : SessionState) (file : List ℕ) → t.ended ≡ false → MayBe (given ++ bytes) s file → MayBe given t file
 may_be_before given bytes s t file off may = (bytes ++ may.0, λ on. absurd (let both = sym off ∙ on in cc), may.2 ∙ append_assoc given bytes may.0)
 
-module _ (C : Type 0) (state : C → CoreState) (laws : Laws) (actor : ℕ) (first : actor ≡ 0) (given : List ℕ) (start : C) where
+module _ (C : Type 0) (state : C → CoreState) (laws : SessionLaws) (actor : ℕ) (first : actor ≡ 0) (given : List ℕ) (start : C) where
   -- ---- turns
 
   fed_paused : (s t : SessionState) (old : C) → IsPaused s t → IsFed C state given s start old → IsFed C state given t start old
@@ -107,13 +98,13 @@ module _ (C : Type 0) (state : C → CoreState) (laws : Laws) (actor : ℕ) (fir
         fed_pushed C state given bytes mid t start new here ((turns_stay C state actor feeds.0 s mid old new feeds.2).ended ∙ off) feeds.3 feeds.4
 
     -- they were too many
-    too_long : BytesAreCounted → (refusal : Refusal) (answers : List Answer) → TurnRun C state actor answers s t old new → IsPushAnswer t (length bytes) (Err refusal) → (name file : List ℕ) → MayBe (given ++ bytes) s file
+    too_long : (refusal : Refusal) (answers : List Answer) → TurnRun C state actor answers s t old new → IsPushAnswer t (length bytes) (Err refusal) → (name file : List ℕ) → MayBe (given ++ bytes) s file
         → Stops C state name file refusal start new
-    too_long counted refusal answers run answer name file may =
+    too_long refusal answers run answer name file may =
         let here = fed_turns answers s t old new run fed in
         let on = (turns_stay C state actor answers s t old new run).ended ∙ off in
         let why = why_long t (length bytes) refusal t.ended on refl answer in
-        let count = (counted t here.history here.has).0 in
+        let count = (laws.counts t here.history here.has).0 in
         let so : length here.history.given ≡ length given = ap length here.given_is in
         let long : length file ≡ length ((given ++ bytes) ++ may.0) = ap length may.2 in
         let parts = length-append (given ++ bytes) may.0 in
@@ -124,10 +115,10 @@ module _ (C : Type 0) (state : C → CoreState) (laws : Laws) (actor : ℕ) (fir
           way_stops C state (MayBe given t) (opens_of t) start new here.way name file (may_be_before given bytes s t file on may),
         )
 
-    pub not_fed : BytesAreCounted → (refusal : Refusal) → Feeds C state actor (Err refusal) bytes s t old new → (name file : List ℕ) → MayBe (given ++ bytes) s file → Stops C state name file refusal start new
-    not_fed counted refusal feeds name file may = elim feeds [
+    pub not_fed : (refusal : Refusal) → Feeds C state actor (Err refusal) bytes s t old new → (name file : List ℕ) → MayBe (given ++ bytes) s file → Stops C state name file refusal start new
+    not_fed refusal feeds name file may = elim feeds [
       | inl stopped ↦ stopped_turns refusal s t old new stopped fed name file (may_be_before given bytes s s file off may)
-      | inr long ↦ too_long counted refusal long.0 long.1 long.2 name file may
+      | inr long ↦ too_long refusal long.0 long.1 long.2 name file may
     ]
 
   -- ---- the end

@@ -29,10 +29,12 @@ use Rattle.ingest_session.specs.State.{SessionState}
 use Rattle.ingest_session.specs.Told.{told_by}
 use Rattle.ingest_session.proofs.Waiting.{session_of}
 use Rattle.session_turns.specs.Turns.{Asks}
+use Rattle.ingest_session.proofs.Members.{all_of}
 use Rattle.backup_engine.specs.Feeding.{IsFed, MayBe, Stops, opens_of}
 use Rattle.backup_engine.specs.Putting.{AreNew}
 use Rattle.backup_engine.specs.Running.{IsOneOf}
-use Rattle.backup_engine.proofs.FedOpens.{all_one_of, item_is, left_differs, one_item, opens_absent}
+use Rattle.script_runner.proofs.TurnKept.{item_is, one_item}
+use Rattle.backup_engine.proofs.FedOpens.{left_differs, opens_absent}
 use Rattle.backup_engine.proofs.Feds.{fed_absent, fed_held, fed_sealed}
 use Rattle.backup_engine.proofs.KeptPieces as pieces
 use Rattle.backup_engine.proofs.WayClaims.{held_or_absent, way_absent, way_held}
@@ -99,7 +101,7 @@ module _ (C : Type 0) (state : C → CoreState) (given : List ℕ) (s : SessionS
     -- it is new, as what was to be sealed is
     new_item : (kind : Kind) (places : PlaceMap) → finite.get places (key_of_seg seg) ≡ None → AreNew places kind (item_if kind s)
     new_item kind places none =
-        all_one_of (λ x. finite.get places (segment_key kind x) ≡ None) (item_if kind s) (λ x one.
+        all_of (λ x. finite.get places (segment_key kind x) ≡ None) (item_if kind s) (λ x one.
         let same = one_item s kind x one in
         ap (finite.get places)
         (ap (λ (k : Kind). segment_key k x) same.0 ∙ ap (segment_key (item_kind s.node)) same.1 ∙ sym (ap key_of_seg seg_is))

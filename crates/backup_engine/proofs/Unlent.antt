@@ -23,12 +23,12 @@ use Rattle.backup_engine.specs.Promise.{KeepsEachMap, IsLeftAs, Stands, NothingW
 use Rattle.backup_engine.specs.TopCall.{Keeps}
 use Rattle.backup_engine.proofs.UnlikeNodes.{found, unlike_so}
 
-module _ (loans : List ℕ) (v w : DiskView) where
+module _ (loans loans_now : List ℕ) (v w : DiskView) where
   abbrev v' : DiskView
   v' = record v { loans = loans }
 
   abbrev w' : DiskView
-  w' = record w { loans = loans }
+  w' = record w { loans = loans_now }
 
   pub shows : (P : List ℕ → Type 0) → Shows v' w' P → Shows v w P
   shows P seen = record { parts = seen.parts; returned = seen.returned; known = seen.known; shows = seen.shows }
@@ -86,15 +86,15 @@ module _ (shown other : (List ℕ → Type 0) → Type 0) (each : (P : List ℕ 
 
 -- ---- what a command keeps
 
-module _ (loans : List ℕ) (v w : DiskView) where
+module _ (loans loans_now : List ℕ) (v w : DiskView) where
   abbrev lent : DiskView
   lent = record v { loans = loans }
 
   abbrev lent_now : DiskView
-  lent_now = record w { loans = loans }
+  lent_now = record w { loans = loans_now }
 
   on : (P : List ℕ → Type 0) → Shows lent lent_now P → Shows v w P
-  on = shows loans v w
+  on = shows loans loans_now v w
 
   pub reads : (P : List ℕ → Type 0) → ReadsSince lent lent_now P → ReadsSince v w P
   reads P since = record { parts = since.parts; returned = since.returned; known = since.known; shows = since.shows }

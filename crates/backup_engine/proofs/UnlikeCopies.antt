@@ -20,12 +20,12 @@ use Rattle.store_state.specs.Comparing.{IsNodeRefusal, IsUnlike}
 use Rattle.store_state.specs.Tables.{Represents}
 use Rattle.ingest_steps.specs.Claiming.{key_of_seg}
 use Rattle.store_core.specs.State.{CoreState}
+use Rattle.ingest_session.proofs.Members.{all_then}
 use Rattle.backup_engine.specs.AnyDisk.{IsUnlikeNode, ReadsSince, room_in}
 use Rattle.backup_engine.specs.Line.{Ingest}
 use Rattle.backup_engine.specs.PlainMap.{IsPiece}
 use Rattle.backup_engine.specs.Running.{IsPutRefusal}
 use Rattle.backup_engine.proofs.KeptPieces.{is_piece}
-use Rattle.backup_engine.proofs.WayLists.{all_so}
 
 -- ---- what reads showed
 
@@ -33,7 +33,7 @@ use Rattle.backup_engine.proofs.WayLists.{all_so}
 pub shown_since : (first old new : DiskView) → IsLater first old → new.content ≡ old.content → (P : List ℕ → Type 0) → Shows old new P → ReadsSince first new P
 shown_since first old new later same P shown = record {
   parts = shown.parts;
-  returned = all_so (λ part. new.read_returned old.clock part.at part.bytes) (λ part. new.read_returned first.clock part.at part.bytes) shown.parts
+  returned = all_then (λ part. new.read_returned old.clock part.at part.bytes) (λ part. new.read_returned first.clock part.at part.bytes) shown.parts
       (λ part was. new.returned_earlier first.clock old.clock part.at part.bytes later.clock_is was) shown.returned;
   known = λ image is. shown.known image (sym same ∙ is);
   shows = λ image long has. shown.shows image (long ∙ sym later.size_is) has;

@@ -31,16 +31,16 @@ use Rattle.store_core.specs.Core.{CoreStep, KeepsTables, Makes, Steps}
 use Rattle.store_core.specs.Keeping.{kept_of}
 use Rattle.store_core.specs.Runs.{FileEvent}
 use Rattle.store_core.specs.State.{CoreState}
+use Rattle.ingest_session.proofs.Members.{one_of}
 use Rattle.backup_engine.specs.AnyDisk.{room_in}
 use Rattle.backup_engine.specs.Line.{Ingest}
 use Rattle.backup_engine.specs.PlainMap.{HasNoRoomForName, HasPieces, HasTwins}
 use Rattle.backup_engine.specs.Putting.{Way, length_in}
 use Rattle.backup_engine.specs.Running.{HoldsPieces, IsOneOf, IsPutRefusal, IsPutStep, PutRun}
 use Rattle.backup_engine.proofs.FirstActor.{by_first, kept_represents, no_other, steps_of}
+use Rattle.script_runner.proofs.TurnRootPieces.{HasRootPiece, root_piece}
 use Rattle.backup_engine.proofs.KeptPieces.{key_of_piece, kept_pieces, long_as_piece, twins}
-use Rattle.backup_engine.proofs.RootPieces.{HasRootPiece, root_piece}
 use Rattle.backup_engine.proofs.WayClaims.{same_pins}
-use Rattle.backup_engine.proofs.WayLists.{all_one}
 use Rattle.backup_engine.proofs.Ways.{file_event, put_step, with_last}
 
 -- ---- names
@@ -49,7 +49,7 @@ no_some : (named : Option Named) → IsSome named → is_some named ≡ false �
 no_some None some none = absurd cc
 no_some (Some n) some none = absurd cc
 
-has_room : (names : NameMap) (name : List ℕ) → HasRoom names name → is_some (finite.get names name) ≡ false → MOST_NAMES ≤ finite.len names → ⊥
+pub has_room : (names : NameMap) (name : List ℕ) → HasRoom names name → is_some (finite.get names name) ≡ false → MOST_NAMES ≤ finite.len names → ⊥
 has_room names name (inl some) none many = no_some (finite.get names name) some none
 has_room names name (inr below) none many = absurd (omega (arith, below, many))
 
@@ -75,7 +75,7 @@ module _ (C : Type 0) (state : C → CoreState) (files : List ℕ → Type 0) (o
   piece_long : (p : Piece) → IsPieceOf file p → length_in w.places (piece_key p) ≡ Some (length (piece_bytes p))
   piece_long p piece =
       ap (length_in w.places) (sym (key_of_piece p))
-      ∙ all_one (λ (x : KindSegment). length_in w.places (key_of_seg x) ≡ Some (length x.segment.bytes)) (kept_of w.steps) (piece_segment p) (whole p piece) w.kept.long
+      ∙ one_of (λ (x : KindSegment). length_in w.places (key_of_seg x) ≡ Some (length x.segment.bytes)) (kept_of w.steps) (piece_segment p) w.kept.long (whole p piece)
       ∙ ap (λ (n : ℕ). Some n) (long_as_piece p)
 
   -- by a store whose index this map is

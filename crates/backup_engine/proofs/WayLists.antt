@@ -1,6 +1,5 @@
 -- Steps by which a file is stored, one after the other: what they kept and sealed.
-use Rattle.std.proofs.Common.{◌≡◌, inr, ℕ, zero, suc, List, [], ◌∷◌, ◌++◌, map, Some, Result, Ok, Err, refl, sym, ◌∙◌, ap, subst}
-use Rattle.std.specs.Prelude.{slice_get}
+use Rattle.std.proofs.Common.{◌≡◌, inr, ℕ, List, [], ◌∷◌, ◌++◌, Result, Ok, Err, refl, sym, ◌∙◌, ap, subst}
 use Rattle.std.specs.List.{AllByRecursion}
 use Rattle.std.proofs.lemmas.List.{append-nil, append_assoc}
 use Rattle.container_meta.specs.Segments.{KindSegment}
@@ -14,7 +13,7 @@ use Rattle.store_core.specs.Keeping.{kept_by, kept_of}
 use Rattle.store_core.specs.Runs.{ChangesTo, CoreRun, FileEvent, events_of}
 use Rattle.store_core.specs.State.{CoreState, Event}
 use Rattle.backup_engine.specs.Adding.{AddsOnce}
-use Rattle.backup_engine.specs.Running.{IsOneOf, IsWholeAt, AreWhole, IsNoCommit, IsDoneBefore, EndsPut, seal_by, seals_of}
+use Rattle.backup_engine.specs.Running.{IsWholeAt, AreWhole, IsNoCommit, IsDoneBefore, EndsPut, seal_by, seals_of}
 
 -- ---- lists
 
@@ -22,43 +21,9 @@ pub all_on : {A : Type 0} (P : A → Type 0) (xs ys : List A) → AllByRecursion
 all_on P [] ys first second = second
 all_on P (x ∷ xs) ys first second = (first.0, all_on P xs ys first.1 second)
 
-pub all_so : {A : Type 0} (P Q : A → Type 0) (xs : List A) → ((x : A) → P x → Q x) → AllByRecursion P xs → AllByRecursion Q xs
-all_so P Q [] each all = tt
-all_so P Q (x ∷ xs) each all = (each x all.0, all_so P Q xs each all.1)
-
 pub all_both : {A : Type 0} (P Q : A → Type 0) (xs : List A) → AllByRecursion P xs → AllByRecursion Q xs → AllByRecursion (λ x. P x × Q x) xs
 all_both P Q [] first second = tt
 all_both P Q (x ∷ xs) first second = ((first.0, second.0), all_both P Q xs first.1 second.1)
-
-pub all_mapped : {A B : Type 0} (P : B → Type 0) (f : A → B) (xs : List A) → AllByRecursion (λ x. P (f x)) xs → AllByRecursion P (map f xs)
-all_mapped P f [] all = tt
-all_mapped P f (x ∷ xs) all = (all.0, all_mapped P f xs all.1)
-
--- ---- one of a list
-
-same_some : {A : Type 0} (x y : A) → Some x ≡ Some y → x ≡ y
-same_some x y is = cc
-
-got_first : {A : Type 0} (x : A) (xs ys : List A) (i : ℕ) → slice_get xs i ≡ Some x → slice_get (xs ++ ys) i ≡ Some x
-got_first x [] ys i is = absurd cc
-got_first x (z ∷ zs) ys zero is = is
-got_first x (z ∷ zs) ys (suc i) is = got_first x zs ys i is
-
-pub one_first : {A : Type 0} (x : A) (xs ys : List A) → IsOneOf x xs → IsOneOf x (xs ++ ys)
-one_first x xs ys is = (is.0, got_first x xs ys is.0 is.1)
-
-pub one_there : {A : Type 0} (x : A) (xs ys : List A) → IsOneOf x (xs ++ x ∷ ys)
-one_there x [] ys = (0, refl)
-one_there x (z ∷ zs) ys = let rest = one_there x zs ys in (suc rest.0, rest.1)
-
-all_got : {A : Type 0} (P : A → Type 0) (xs : List A) (x : A) (i : ℕ) → slice_get xs i ≡ Some x → AllByRecursion P xs → P x
-all_got P [] x i is all = absurd cc
-all_got P (y ∷ ys) x zero is all = subst P (same_some y x is) all.0
-all_got P (y ∷ ys) x (suc i) is all = all_got P ys x i is all.1
-
--- what is so of each is so of one of them
-pub all_one : {A : Type 0} (P : A → Type 0) (xs : List A) (x : A) → IsOneOf x xs → AllByRecursion P xs → P x
-all_one P xs x is all = all_got P xs x is.0 is.1 all
 
 -- ---- what steps kept and sealed
 

@@ -13,7 +13,6 @@ use Rattle.actor_parts.specs.PinMap.{PinMap}
 use Rattle.actor_parts.specs.StepValue as asked
 use Rattle.actor_parts.specs.StepValue.{IsStep}
 use Rattle.refusals.specs.declared.refusal.Refusal.{Refusal}
-use Rattle.store_model.specs.Image.{Store}
 use Rattle.store_model.specs.Pieces.{HasPieceOf}
 use Rattle.store_model.specs.Slots.{newest}
 use Rattle.store_model.specs.Steps.{SealContainer, changed}
@@ -25,13 +24,14 @@ use Rattle.store_core.specs.Core.{CoreStep, Makes, SealRow, Steps, next_id}
 use Rattle.store_core.specs.Keeping.{kept_of}
 use Rattle.store_core.specs.Runs.{FileEvent}
 use Rattle.store_core.specs.State.{CoreState, IsRunning}
+use Rattle.ingest_session.proofs.Members.{all_map, all_then, one_of}
 use Rattle.backup_engine.specs.Putting.{Way, AreKept, AreNew, length_in}
 use Rattle.backup_engine.specs.Running.{IsOneOf, IsPutStep}
 use Rattle.backup_engine.proofs.FirstActor.{by_first, steps_of, first_part, up_of}
 use Rattle.backup_engine.proofs.KeptPieces.{of_kind, pinned_all}
 use Rattle.backup_engine.proofs.SealedIndex.{now_told, sealed_long, sealed_others, sealed_ids}
 use Rattle.backup_engine.proofs.WayClaims.{same_pins}
-use Rattle.backup_engine.proofs.WayLists.{all_both, all_mapped, all_on, all_one, all_so}
+use Rattle.backup_engine.proofs.WayLists.{all_both, all_on}
 use Rattle.backup_engine.proofs.Ways.{AddsFromEach, Stays, IsStepOn, file_event, put_step, way_on}
 
 next_of : {m n : ℕ} → m ≡ n → m + 1 ≡ suc n
@@ -66,9 +66,6 @@ module _ (C : Type 0) (state : C → CoreState) (files : List ℕ → Type 0) (o
       made : Makes (SealContainer id filled.kind filled.segments) (state old) (state new)
       made = subst (λ (n : ℕ). Makes (SealContainer n filled.kind filled.segments) (state old) (state new)) (sym id_is) made_next
 
-      abbrev IsAdded : List ℕ → Store → Segment → Type 0
-      IsAdded file s x = HasPieceOf file (of_kind filled.kind x) × (newest 0 s.held (segment_key filled.kind x) ≡ None)
-
       -- its segments are pieces of the file that were not held
       adds : (file : List ℕ) → files file → AddsFromEach file (SealContainer id filled.kind filled.segments ∷ []) (state old) (state new)
       adds file is = record {
@@ -80,7 +77,7 @@ module _ (C : Type 0) (state : C → CoreState) (files : List ℕ → Type 0) (o
               once = (
                 id_is ∙ next_of (w.ids.store_has s represents valid reserve),
                 all_both (λ x. HasPieceOf file (of_kind filled.kind x)) (λ x. newest 0 s.held (segment_key filled.kind x) ≡ None) filled.segments (pieces file is)
-                    (all_so (λ x. finite.get w.places (segment_key filled.kind x) ≡ None) (λ x. newest 0 s.held (segment_key filled.kind x) ≡ None) filled.segments
+                    (all_then (λ x. finite.get w.places (segment_key filled.kind x) ≡ None) (λ x. newest 0 s.held (segment_key filled.kind x) ≡ None) filled.segments
                     (λ x none. lacks s w.places (segment_key filled.kind x) (represents.index_is_newest w.places w.known) none) fresh),
                 tt,
               );
@@ -106,7 +103,7 @@ module _ (C : Type 0) (state : C → CoreState) (files : List ℕ → Type 0) (o
       long_still : (x : KindSegment) → length_in w.places (key_of_seg x) ≡ Some (length x.segment.bytes) → length_in now (key_of_seg x) ≡ Some (length x.segment.bytes)
       long_still x long =
           ap (option_map (λ (p : Place). p.length))
-          (others (key_of_seg x) (all_so (λ s. finite.get w.places (segment_key filled.kind s) ≡ None) (λ s. segment_key filled.kind s ≢ key_of_seg x) filled.segments
+          (others (key_of_seg x) (all_then (λ s. finite.get w.places (segment_key filled.kind s) ≡ None) (λ s. segment_key filled.kind s ≢ key_of_seg x) filled.segments
           (λ s none same. not_there (finite.get w.places (key_of_seg x)) (ap (finite.get w.places) (sym same) ∙ none) (length x.segment.bytes) long) fresh))
           ∙ long
 
@@ -116,8 +113,8 @@ module _ (C : Type 0) (state : C → CoreState) (files : List ℕ → Type 0) (o
       keeps_all : AreKept all (with_pins filled.kind filled.segments w.pins) now
       keeps_all = record {
         long = all_on (λ x. length_in now (key_of_seg x) ≡ Some (length x.segment.bytes)) (kept_of w.steps) (map (of_kind filled.kind) filled.segments)
-            (all_so (λ x. length_in w.places (key_of_seg x) ≡ Some (length x.segment.bytes)) (λ x. length_in now (key_of_seg x) ≡ Some (length x.segment.bytes)) (kept_of w.steps) long_still w.kept.long)
-            (all_mapped (λ x. length_in now (key_of_seg x) ≡ Some (length x.segment.bytes)) (of_kind filled.kind) filled.segments
+            (all_then (λ x. length_in w.places (key_of_seg x) ≡ Some (length x.segment.bytes)) (λ x. length_in now (key_of_seg x) ≡ Some (length x.segment.bytes)) (kept_of w.steps) long_still w.kept.long)
+            (all_map (λ x. length_in now (key_of_seg x) ≡ Some (length x.segment.bytes)) (of_kind filled.kind) filled.segments
             (sealed_long (state old) (state new) filled.kind filled.segments made_next w.up w.places w.known));
         pinned = pinned_all filled.kind filled.segments (kept_of w.steps) w.pins w.kept.pinned;
       }
@@ -128,10 +125,10 @@ module _ (C : Type 0) (state : C → CoreState) (files : List ℕ → Type 0) (o
       module _ (less : Kind → List Segment) (fewer : (kind : Kind) → AllByRecursion (λ x. IsOneOf x (opens kind) × AllByRecursion (λ y. segment_key kind x ≢ segment_key filled.kind y) filled.segments) (less kind)) where
         still_new : (kind : Kind) → AreNew now kind (less kind)
         still_new kind =
-            all_so (λ x. IsOneOf x (opens kind) × AllByRecursion (λ y. segment_key kind x ≢ segment_key filled.kind y) filled.segments) (λ x. finite.get now (segment_key kind x) ≡ None) (less kind)
+            all_then (λ x. IsOneOf x (opens kind) × AllByRecursion (λ y. segment_key kind x ≢ segment_key filled.kind y) filled.segments) (λ x. finite.get now (segment_key kind x) ≡ None) (less kind)
             (λ x is.
-            others (segment_key kind x) (all_so (λ y. segment_key kind x ≢ segment_key filled.kind y) (λ y. segment_key filled.kind y ≢ segment_key kind x) filled.segments (λ y differ same. differ (sym same)) is.1)
-            ∙ all_one (λ y. finite.get w.places (segment_key kind y) ≡ None) (opens kind) x is.0 (w.fresh kind))
+            others (segment_key kind x) (all_then (λ y. segment_key kind x ≢ segment_key filled.kind y) (λ y. segment_key filled.kind y ≢ segment_key kind x) filled.segments (λ y differ same. differ (sym same)) is.1)
+            ∙ one_of (λ y. finite.get w.places (segment_key kind y) ≡ None) (opens kind) x (w.fresh kind) is.0)
             (fewer kind)
 
         pub way_sealed : IsRunning (state new) → (v : Way C state files less start new) × (kept_of v.steps ≡ kept_of w.steps ++ map (λ s. record { kind = filled.kind; segment = s }) filled.segments)

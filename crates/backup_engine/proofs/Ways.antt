@@ -159,9 +159,10 @@ module _ (C : Type 0) (state : C → CoreState) (files : List ℕ → Type 0) wh
 
     -- ---- another file, and other segments that are still to be sealed
 
-    pub way_narrows : (other : List ℕ → Type 0) → ((file : List ℕ) → other file → files file) → (v : Way C state other opens start old) × (v.steps ≡ w.steps) × (v.places ≡ w.places)
-    way_narrows other narrows =
-        let way : Way C state other opens start old = record {
+    pub way_as : (other : List ℕ → Type 0) (less : Kind → List Segment) → ((file : List ℕ) → other file → files file)
+        → ((kind : Kind) (places : PlaceMap) → AreNew places kind (opens kind) → AreNew places kind (less kind)) → (v : Way C state other less start old) × (v.steps ≡ w.steps)
+    way_as other less narrows fewer =
+        let way : Way C state other less start old = record {
           steps = w.steps;
           ran = w.ran;
           each = λ name file is. w.each name file (narrows file is);
@@ -175,30 +176,9 @@ module _ (C : Type 0) (state : C → CoreState) (files : List ℕ → Type 0) wh
           known = w.known;
           ids = w.ids;
           kept = w.kept;
-          fresh = w.fresh;
-        } in
-        (way, refl, refl)
-
-    pub way_opens : (less : Kind → List Segment) → ((kind : Kind) (places : PlaceMap) → AreNew places kind (opens kind) → AreNew places kind (less kind))
-        → (v : Way C state files less start old) × (v.steps ≡ w.steps) × (v.places ≡ w.places)
-    way_opens less fewer =
-        let way : Way C state files less start old = record {
-          steps = w.steps;
-          ran = w.ran;
-          each = w.each;
-          done = w.done;
-          seals = w.seals;
-          up = w.up;
-          runs = w.runs;
-          pins = w.pins;
-          writing = w.writing;
-          places = w.places;
-          known = w.known;
-          ids = w.ids;
-          kept = w.kept;
           fresh = λ kind. fewer kind w.places (w.fresh kind);
         } in
-        (way, refl, refl)
+        (way, refl)
 
     -- ---- the end
 

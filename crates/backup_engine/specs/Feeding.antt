@@ -15,12 +15,21 @@ use Rattle.store_core.specs.Keeping.{kept_of}
 use Rattle.store_core.specs.State.{CoreState}
 use Rattle.ingest_session.specs.declared.due.Due.TheVariants.{Nothing}
 use Rattle.ingest_session.specs.Due.{due_in, open_of}
-use Rattle.ingest_session.specs.Facts.{IsKept, MayFollow}
+use Rattle.ingest_session.specs.Facts.{BytesAreCounted, ChildrenComeFirst, IsKept, MayFollow, OpenNodesHaveChildren, OpensArePieces, TurnsArePieces, WaitsForAnother}
 use Rattle.ingest_session.specs.History.{History, HasHistory, waiting}
 use Rattle.ingest_session.specs.State.{SessionState}
 use Rattle.backup_engine.specs.Putting.{Way}
 use Rattle.backup_engine.specs.Running.{PutRun, HoldsPieces, IsOneOf, IsPutRefusal}
 use Rattle.backup_engine.specs.Storing.{IsHeard, IsSourceFault}
+
+-- what is so of every session: what feeding one rests on
+pub record SessionLaws : Type 0 where
+  pub turns : TurnsArePieces
+  pub opens : OpensArePieces
+  pub waits : WaitsForAnother
+  pub claims : ChildrenComeFirst
+  pub seals : OpenNodesHaveChildren
+  pub counts : BytesAreCounted
 
 -- ---- so far
 
@@ -69,14 +78,15 @@ FilledBy C state (Err (Refused refusal)) given s t old new source source_now =
     (start : C) (name : List ℕ) → IsFed C state [] s start old → Stops C state name given refusal start new
 FilledBy C state (Err ending) given s t old new source source_now = ⊥
 
--- Spoken is what was so of it as lines of a script: of the ending, of what was given, of the session and of the core.
-pub record Fills (C : Type 0) (state : C → CoreState) (Spoken : Result Unit Ending → List ℕ → SessionState → SessionState → C → C → Type 0)
+-- Spoken is what was so of it as lines of a script: of the ending, of what was given, of the source, of the session and of the core.
+pub record Fills (C : Type 0) (state : C → CoreState)
+    (Spoken : Result Unit Ending → List ℕ → SourceView → SourceView → SessionState → SessionState → C → C → Type 0)
     (result : Result Unit Ending) (s t : SessionState) (old new : C) (source source_now : SourceView) : Type 0 where
   pub given : List ℕ
   pub took : Known source.left (λ all. given ≡ all)
   pub heard : IsHeard result source source_now
   pub filled : FilledBy C state result given s t old new source source_now
-  pub spoken : (start : C) → IsFed C state [] s start old → Spoken result given s t old new
+  pub spoken : (start : C) → IsFed C state [] s start old → Spoken result given source source_now s t old new
 
 -- the name is given the root
 pub record IsPut (C : Type 0) (state : C → CoreState) (name given : List ℕ) (result : Result Unit Refusal) (start new : C) : Type 0 where

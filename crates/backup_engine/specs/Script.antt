@@ -19,7 +19,7 @@ use Rattle.script_lines.specs.ReplyText.{reply_line}
 use Rattle.script_lines.specs.ReplyValue as replies
 use Rattle.script_lines.specs.Script.{Begins, Breaks, HasNoLineEnd, IsScript, Overruns, number_after}
 use Rattle.script_lines.specs.declared.script.TheConstants.{MOST_LINE}
-use Rattle.script_runner.specs.Named.{CountFaults, GiveWhatIsNamed, WasShown}
+use Rattle.script_runner.specs.Named.{CountFaults, GiveWhatIsNamed, WasOpened, WasShown}
 use Rattle.script_runner.specs.Runner.{IsAcknowledged}
 use Rattle.script_runner.specs.Scripts.{IsCutBy}
 use Rattle.store_core.specs.Runs.{IsOf}
@@ -149,7 +149,7 @@ pub record KeepsScript (rs : List Replied) (ending : Option Ending) (disk disk_n
   -- And whatever the disk holds, what was written stays.
   pub frame : LinesKeepOthers disk disk_now
   -- what was given, and opened, is what the store names
-  pub named : IsUnopened ending rs ⊎ GiveWhatIsNamed (WasShown disk disk_now) rs
+  pub named : IsUnopened ending rs ⊎ GiveWhatIsNamed (WasOpened disk disk_now) (WasShown disk disk_now) rs
   -- no fault is passed over
   pub disk_faults : CountsLines ending rs disk.faults disk_now.faults
   pub source_faults : ¬ (ending ≡ Some Source) → source_now.faults ≡ source.faults

@@ -2,10 +2,10 @@
 -- (docs/MODEL.md, 'The promise').
 use Rattle.std.specs.Prelude.{◌≡◌, ◌⊎◌, ◌≤◌, ℕ, ◌+◌, ◌*◌, List, [], ◌∷◌, ◌++◌, length, Option, Some, None}
 use Rattle.std.specs.List.{concat}
-use Rattle.base_model.specs.Known.{Appended}
+use Rattle.base_model.specs.Known.{Appended, Known}
 use Rattle.dd_disk.specs.Shows.{Shows}
 use Rattle.dd_disk.specs.View.{DiskView}
-use Rattle.dd_io.specs.Flow.{SinkView}
+use Rattle.dd_io.specs.Flow.{SinkView, SourceView}
 use Rattle.plain_machine.specs.Runs.{Replied}
 use Rattle.recovery.specs.Opening.{IsOpenRefusal}
 use Rattle.refusals.specs.declared.refusal.Refusal.{Refusal}
@@ -60,10 +60,18 @@ begun = said (lines.Begin 0) (replies.Begun 0)
 abbrev pub IsFirstOf : List ℕ → List ℕ → Type 0
 IsFirstOf first all = (rest : List ℕ) × (all ≡ first ++ rest)
 
--- A line after `begin 0` was refused: a push of the file's next bytes, the file's end, or its name.
-abbrev pub StopsAt : List ℕ → List ℕ → Refusal → List Replied → Type 0
-StopsAt name given refusal rs =
-    (pushes : List Digits) × (((d : Digits) × (IsFirstOf (pushed pushes ++ pushed_bytes d.digits) given
+-- the bytes taken so far, and the rest that the source has left
+pub record TakenSoFar (first now : Option (List ℕ)) (bytes : List ℕ) : Type 0 where
+  pub rest : Known first (λ all. (rest : List ℕ) × (all ≡ bytes ++ rest) × (now ≡ Some rest))
+
+-- These bytes, first of the file, were given, and the source has the rest left.
+abbrev pub GaveFirst : List ℕ → List ℕ → SourceView → SourceView → Type 0
+GaveFirst bytes given source source_now = IsFirstOf bytes given × TakenSoFar source.left source_now.left bytes
+
+-- A line after `begin 0` was refused: a push of what the source gave last, the file's end, or its name.
+abbrev pub StopsAt : List ℕ → List ℕ → SourceView → SourceView → Refusal → List Replied → Type 0
+StopsAt name given source source_now refusal rs =
+    (pushes : List Digits) × (((d : Digits) × (GaveFirst (pushed pushes ++ pushed_bytes d.digits) given source source_now
     × (rs ≡ push_lines 0 pushes ++ refused (lines.Push 0 d.digits) refusal ∷ [])))
     ⊎ ((pushed pushes ≡ given) × (rs ≡ push_lines 0 pushes ++ refused (lines.Finish 0) refusal ∷ []))
     ⊎ ((pushed pushes ≡ given) × (rs ≡ finish_lines pushes ++ refused (lines.Commit 0 name) refusal ∷ [])))
@@ -74,17 +82,17 @@ StoresFile name given rs =
     (pushes : List Digits) × ((sequence : ℕ) × ((pushed pushes ≡ given)
     × (rs ≡ begun ∷ finish_lines pushes ++ said (lines.Commit 0 name) (replies.Committed 0 sequence) ∷ [])))
 
--- The lines of an `ingest` that the source gave these bytes: all of them, though perhaps the program's own reply wasn't written; or
--- pushes of what came before the source failed; or up to a line that was refused. Where no line was run, there was no memory.
-abbrev pub IsIngest : List ℕ → List ℕ → Option Ending → List Replied → Type 0
-IsIngest name given None rs = StoresFile name given rs
-IsIngest name given (Some Sink) rs = StoresFile name given rs
-IsIngest name given (Some Source) rs =
-    (pushes : List Digits) × (IsFirstOf (pushed pushes) given × (rs ≡ begun ∷ push_lines 0 pushes))
-IsIngest name given (Some (Refused refusal)) rs =
+-- The lines of an `ingest` of these bytes: all of them, though perhaps the program's own reply wasn't written; or pushes of all that the
+-- source gave before it failed; or up to a line that was refused. Where no line was run, there was no memory.
+abbrev pub IsIngest : List ℕ → List ℕ → Option Ending → SourceView → SourceView → List Replied → Type 0
+IsIngest name given None source source_now rs = StoresFile name given rs
+IsIngest name given (Some Sink) source source_now rs = StoresFile name given rs
+IsIngest name given (Some Source) source source_now rs =
+    (pushes : List Digits) × (GaveFirst (pushed pushes) given source source_now × (rs ≡ begun ∷ push_lines 0 pushes))
+IsIngest name given (Some (Refused refusal)) source source_now rs =
     ((refusal ≡ Memory) × (rs ≡ []))
-    ⊎ ((more : List Replied) × ((rs ≡ begun ∷ more) × StopsAt name given refusal more))
-IsIngest name given (Some ending) rs = ⊥
+    ⊎ ((more : List Replied) × ((rs ≡ begun ∷ more) × StopsAt name given source source_now refusal more))
+IsIngest name given (Some ending) source source_now rs = ⊥
 
 -- ---- a file that is given back
 
@@ -100,19 +108,19 @@ ReadsFile name segments last rs =
 
 -- The lines of a `restore`, and what was written: the bytes that the segments have, up to the end of the file; or of the last segment
 -- the sink took a first part alone; or a line was refused. Where no line was run, there was no memory.
-abbrev pub IsRestore : List ℕ → Option Ending → List Replied → SinkView → SinkView → Type 0
-IsRestore name None rs sink sink_now =
+abbrev pub IsRestore : List ℕ → Option Ending → SinkView → SinkView → List Replied → Type 0
+IsRestore name None sink sink_now rs =
     (segments : List (List ℕ)) × (ReadsFile name segments (said (lines.Next 0) (replies.End 0)) rs
     × Appended sink.written sink_now.written (concat segments))
-IsRestore name (Some Sink) rs sink sink_now =
+IsRestore name (Some Sink) sink sink_now rs =
     (segments : List (List ℕ)) × ((last : List ℕ) × (ReadsFile name segments (said (lines.Next 0) (replies.Bytes 0 last)) rs
     × ((part : List ℕ) × (IsFirstOf part last × Appended sink.written sink_now.written (concat segments ++ part)))))
-IsRestore name (Some (Refused refusal)) rs sink sink_now =
+IsRestore name (Some (Refused refusal)) sink sink_now rs =
     ((refusal ≡ Memory) × (rs ≡ []) × (sink_now.written ≡ sink.written))
     ⊎ ((rs ≡ refused (lines.Read 0 name) refusal ∷ []) × (sink_now.written ≡ sink.written))
     ⊎ ((segments : List (List ℕ)) × (ReadsFile name segments (refused (lines.Next 0) refusal) rs
     × Appended sink.written sink_now.written (concat segments)))
-IsRestore name (Some ending) rs sink sink_now = ⊥
+IsRestore name (Some ending) sink sink_now rs = ⊥
 
 -- ---- both
 
@@ -124,18 +132,17 @@ pub record OpensNone (ending : Option Ending) (rs : List Replied) (disk disk_now
   pub cause : IsOpenRefusal (Shows disk disk_now) disk.size refusal
   pub wrote : sink_now.written ≡ sink.written
 
-abbrev pub IsSingle : CommandLine → List ℕ → Option Ending → List Replied → SinkView → SinkView → Type 0
-IsSingle (Format slots) given ending rs sink sink_now = rs ≡ []
-IsSingle (Ingest name) given ending rs sink sink_now = IsIngest name given ending rs
-IsSingle (Restore name) given ending rs sink sink_now = IsRestore name ending rs sink sink_now
-
--- A single command as lines of a script; over a disk that stands for files, they are a run of the plain machine.
-pub record Speaks (command : CommandLine) (given : List ℕ) (ending : Option Ending) (rs : List Replied) (disk disk_now : DiskView)
+-- A single command as lines of a script, of which AreSo holds; over a disk that stands for files, they are a run of the plain machine.
+pub record Speaks (AreSo : List Replied → Type 0) (ending : Option Ending) (rs : List Replied) (disk disk_now : DiskView)
     (sink sink_now : SinkView) : Type 0 where
-  pub lines_are : IsSingle command given ending rs sink sink_now ⊎ OpensNone ending rs disk disk_now sink sink_now
+  pub lines_are : AreSo rs ⊎ OpensNone ending rs disk disk_now sink sink_now
   pub machine : RunsEachMap ending rs disk disk_now
 
 -- A `format` has no lines, and nothing is said of it here.
-abbrev pub SpeaksAs : CommandLine → List ℕ → Option Ending → List Replied → DiskView → DiskView → SinkView → SinkView → Type 0
-SpeaksAs (Format slots) given ending rs disk disk_now sink sink_now = rs ≡ []
-SpeaksAs command given ending rs disk disk_now sink sink_now = Speaks command given ending rs disk disk_now sink sink_now
+abbrev pub SpeaksAs : CommandLine → List ℕ → Option Ending → List Replied → DiskView → DiskView → SourceView → SourceView → SinkView
+    → SinkView → Type 0
+SpeaksAs (Format slots) given ending rs disk disk_now source source_now sink sink_now = rs ≡ []
+SpeaksAs (Ingest name) given ending rs disk disk_now source source_now sink sink_now =
+    Speaks (IsIngest name given ending source source_now) ending rs disk disk_now sink sink_now
+SpeaksAs (Restore name) given ending rs disk disk_now source source_now sink sink_now =
+    Speaks (IsRestore name ending sink sink_now) ending rs disk disk_now sink sink_now

@@ -1,14 +1,15 @@
 -- Taking a source in, and storing it (docs/MODEL.md, 'Commands').
-use Rattle.std.specs.Prelude.{◌≡◌, ◌⊎◌, ◌<◌, ◌≤◌, List, [], ℕ, ◌++◌, length, Option, Some, Result, Ok, Err, IfErr, OnOk}
+use Rattle.std.specs.Prelude.{◌≡◌, ◌⊎◌, ◌<◌, ◌≤◌, List, [], ℕ, length, Option, Some, Result, Ok, Err, IfErr, OnOk}
 use Rattle.base_model.specs.Fault.{Rose}
 use Rattle.disk_format.specs.declared.numbers.TheConstants.{MOST_FILE}
-use Rattle.base_model.specs.Known.{Known, Appended}
-use Rattle.dd_io.specs.Flow.{SourceView, SinkView, AppendedPart}
+use Rattle.base_model.specs.Known.{Known}
+use Rattle.dd_io.specs.Flow.{SourceView, SinkView}
 use Rattle.refusals.specs.declared.refusal.Refusal.{Refusal}
 use Rattle.refusals.specs.declared.refusal.Refusal.TheVariants.{Memory, TooLong}
 use Rattle.reply_text.specs.declared.ending.Ending.{Ending}
 use Rattle.reply_text.specs.declared.ending.Ending.TheVariants.{Source, Sink, Refused}
 use Rattle.reply_text.specs.Text.{stored_line}
+use Rattle.script_runner.specs.Runner.{Sent}
 use Rattle.store_model.specs.Trees.{root_of}
 use Rattle.store_core.specs.State.{CoreState}
 use Rattle.backup_engine.specs.Running.{PutRun, HoldsPieces, IsPutRefusal}
@@ -17,10 +18,6 @@ use Rattle.backup_engine.specs.Singles.{IsIngest}
 use Rattle.backup_engine.specs.TopCall.{ending_in}
 
 -- ---- the source
-
--- the bytes taken so far, and the rest that the source has left
-pub record TakenSoFar (first now : Option (List ℕ)) (bytes : List ℕ) : Type 0 where
-  pub rest : Known first (λ all. (rest : List ℕ) × (all ≡ bytes ++ rest) × (now ≡ Some rest))
 
 -- why a source is not taken in
 abbrev pub IsSourceFault : SourceView → SourceView → Ending → Type 0
@@ -44,15 +41,7 @@ IsReadOut (Ok u) left now = Known left (λ all. now ≡ Some [])
 IsReadOut (Err Sink) left now = Known left (λ all. now ≡ Some [])
 IsReadOut (Err ending) left now = Unit {0}
 
--- ---- the reply
-
--- a reply was written, or the sink failed
-abbrev pub Sent : List ℕ → Result Unit Ending → SinkView → SinkView → Type 0
-Sent reply (Ok u) sink sink_now = Appended sink.written sink_now.written reply × (sink_now.faults ≡ sink.faults)
-Sent reply (Err Sink) sink sink_now = AppendedPart sink.written sink_now.written reply × Rose sink.faults sink_now.faults
-Sent reply (Err ending) sink sink_now = ⊥
-
--- once a file was stored, or not
+-- a reply, once a file was stored, or not
 abbrev pub Replies : List ℕ → Result Unit Refusal → Result Unit Ending → SinkView → SinkView → Type 0
 Replies reply (Ok u) result sink sink_now = Sent reply result sink sink_now
 Replies reply (Err refusal) result sink sink_now = (result ≡ Err (Refused refusal)) × (sink_now ≡ sink)
@@ -86,6 +75,6 @@ pub record IngestRun (C : Type 0) (state : C → CoreState) (name : List ℕ) (r
   pub took : Known source.left (λ all. given ≡ all)
   pub to_end : IsReadOut result source.left source_now.left
   pub heard : IsHeard result source source_now
-  pub lines_are : RunsSingle C state (IsIngest name given (ending_in result)) old new
+  pub lines_are : RunsSingle C state (IsIngest name given (ending_in result) source source_now) old new
   pub way : IsStopped C state name given result old new source source_now sink sink_now
       ⊎ IsTaken C state name given result old new sink sink_now

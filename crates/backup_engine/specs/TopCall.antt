@@ -98,7 +98,7 @@ Does None given rs ending disk disk_now source source_now sink sink_now =
     DoesNothing ending disk disk_now source source_now sink sink_now
 Does (Some (Single command)) given rs ending disk disk_now source source_now sink sink_now =
     Keeps command given ending disk disk_now source source_now sink sink_now
-    × SpeaksAs command given ending rs disk disk_now sink sink_now
+    × SpeaksAs command given ending rs disk disk_now source source_now sink sink_now
 Does (Some Run) given rs ending disk disk_now source source_now sink sink_now =
     KeepsScript rs ending disk disk_now source source_now sink sink_now
 

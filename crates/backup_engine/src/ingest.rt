@@ -27,7 +27,7 @@ pub(crate) fn ingest<D: Disk, S: Source, K: Sink>(
     ensures keeps { (given : List ℕ) × (Keeps (Ingest name.now) given (ending_in result) (D.view disk.old) (D.view disk.new)
         (S.view source.old) (S.view source.new) (K.view sink.old) (K.view sink.new)
         × ((rs : List Replied) × SpeaksAs (Ingest name.now) given (ending_in result) rs (D.view disk.old) (D.view disk.new)
-        (K.view sink.old) (K.view sink.new))) }
+        (S.view source.old) (S.view source.new) (K.view sink.old) (K.view sink.new))) }
     ensures later { IsLater (D.view disk.old) (D.view disk.new) }
 {
     scripts_follow_the_machine::<Core<&mut D, NoSummary>>();

@@ -1,5 +1,5 @@
 //! Replies.
-ghost use Rattle.backup_engine.specs.Storing.{Sent};
+ghost use Rattle.script_runner.specs.Runner.{Sent};
 
 use dd_io::Sink;
 use reply_text::Ending;

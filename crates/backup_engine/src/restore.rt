@@ -4,7 +4,7 @@ ghost use Rattle.dd_io.specs.Flow.{SourceView};
 ghost use Rattle.dd_disk.specs.View.{IsLater};
 ghost use Rattle.backup_engine.specs.Line.{Restore};
 ghost use Rattle.plain_machine.specs.Runs.{Replied};
-ghost use Rattle.backup_engine.specs.Singles.{SpeaksAs};
+ghost use Rattle.backup_engine.specs.Singles.{IsRestore, Speaks};
 ghost use Rattle.backup_engine.specs.TopCall.{Keeps, ending_in};
 
 use crate::giving::give_out;
@@ -28,8 +28,8 @@ pub(crate) fn restore<D: Disk, K: Sink>(
 ) -> Result<(), Ending>
     ensures keeps { (source : SourceView) → Keeps (Restore name.now) [] (ending_in result) (D.view disk.old) (D.view disk.new)
         source source (K.view sink.old) (K.view sink.new) }
-    ensures speaks { (rs : List Replied) × SpeaksAs (Restore name.now) [] (ending_in result) rs (D.view disk.old) (D.view disk.new)
-        (K.view sink.old) (K.view sink.new) }
+    ensures speaks { (rs : List Replied) × Speaks (IsRestore name.now (ending_in result) (K.view sink.old) (K.view sink.new))
+        (ending_in result) rs (D.view disk.old) (D.view disk.new) (K.view sink.old) (K.view sink.new) }
     ensures later { IsLater (D.view disk.old) (D.view disk.new) }
 {
     scripts_follow_the_machine::<Core<&mut D, NoSummary>>();

@@ -4,7 +4,7 @@ ghost use Rattle.ingest_session.specs.Due.{due_in};
 ghost use Rattle.script_lines.specs.Grammar.{pushed_bytes};
 ghost use Rattle.session_turns.specs.declared.turns.TheConstants.{MOST_PIECE};
 ghost use Rattle.store_core.specs.State.{IsRunning};
-ghost use Rattle.backup_engine.specs.Feeding.{Fills};
+ghost use Rattle.backup_engine.specs.Feeding.{Fills, SessionLaws};
 ghost use Rattle.backup_engine.specs.Running.{IsFresh};
 ghost use Rattle.backup_engine.specs.Saying.{SaysEnd, SaysPushes};
 ghost use Rattle.backup_engine.specs.Singles.{Digits};
@@ -21,6 +21,16 @@ use reply_text::{Ending, stored_line};
 use session_turns::{MOST_PIECE, feed, make_turns};
 use std::alloc::Global;
 use store_core::HasState;
+
+// The laws that feeding a session rests on. The function does nothing.
+fn sessions_have_laws()
+    ensures { SessionLaws }
+{
+    steps_have_pieces();
+    children_come_first();
+    seals_were_absent();
+    bytes_are_counted();
+}
 
 // Bytes can be pushed by a line of a script. The function does nothing.
 fn can_be_pushed(bytes: &[u8])
@@ -43,10 +53,7 @@ fn fill<C: HasState, S: Source>(
     ensures ongoing { session.new.ended ≡ false }
     ensures running { IsRunning (C.state core.new) }
 {
-    steps_have_pieces();
-    children_come_first();
-    seals_were_absent();
-    bytes_are_counted();
+    sessions_have_laws();
     let mut piece = [0u8; MOST_PIECE];
     loop {
         let Ok(count) = source.read(&mut piece) else {
@@ -75,10 +82,7 @@ fn take_in<C: HasState, S: Source>(
     ensures done { OnOk result (due_in session.new ≡ Due.Nothing) }
     ensures running { IsRunning (C.state core.new) }
 {
-    steps_have_pieces();
-    children_come_first();
-    seals_were_absent();
-    bytes_are_counted();
+    sessions_have_laws();
     fill(core, session, source, buf)?;
     session.finish()?;
     make_turns(core, first(), session, buf)?;

@@ -9,7 +9,7 @@ use Rattle.backup_engine.specs.TopCall.{ending_in}
 use Rattle.backup_engine.proofs.Called.{Called}
 use Rattle.backup_engine.proofs.Kept.{by_error, by_same, later_back}
 use Rattle.backup_engine.proofs.Returned.{first_same, rest_same}
-use Rattle.backup_engine.proofs.ScriptKept.{called_by, no_memory_kept, run_kept, run_later, script_back, unopened_kept}
+use Rattle.backup_engine.proofs.ScriptKept.{called_by, no_memory_kept, run_kept, script_back, unopened_kept}
 use Rattle.backup_engine.proofs.script.run.Goals as goal
 
 -- there was no memory
@@ -43,13 +43,13 @@ returns-in-Err-clause-keeps g c =
     let sink = g.K.Sink.view c.args.sink.now in
     by_same (λ d. (rs : List Replied) × KeepsScript rs (Some (Refused refusal)) (view c.args.disk.now) (view d) source source sink sink) _ c.in-Err.refused.0.now (search rules) (
       [],
-      script_back _ _ is.back.only.later.loans_are (view c.args.disk.now) (view c.in-Err.refused.0.now) [] (Some (Refused refusal)) source source sink sink
+      script_back _ _ (view c.args.disk.now) (view c.in-Err.refused.0.now) [] (Some (Refused refusal)) source source sink sink
           (unopened_kept _ _ refusal (record { cause = is.refused; given_up = is.only; reads = is.back }) source sink c.reads_tell_scripts.ensures),
     )
 
 -- it was
-pub returns-clause-keeps : goal.returns-clause-keeps
-returns-clause-keeps g c =
+pub returns : goal.returns
+returns g c =
     let view = g.D.Disk.view in
     let is = c.in-Ok.ensures in
     let result = c.run_lines-ran.result in
@@ -64,31 +64,14 @@ returns-clause-keeps g c =
     record { opened = is.opened; running = is.running; durable = is.durable; first = is.reads; last = closed.disk; clock = closed.moment } in
     let called = called_by _ _ _ _ c.in-Ok.core c.into_core.result r.core s.core whole c.new-runner.ensures.core c.into_core.ensures.core in
     let run = c.run_lines-ran.ensures in
-    let later =
-    run_later _ _ _ _ (record { ref_ptr = c.args.disk.ref_ptr; ghost_name = _; now = c.args.disk.now }) _ r s called c.an_opened_core_follows.ensures c.scripts_follow_the_machine.ensures c.lines_go_on.ensures c.lines_give_what_is_named.ensures c.lines_keep_what_is_written.ensures.opened
-    c.lines_keep_what_is_written.ensures.lines (c.new-runner.ensures.sessions ∙ c.in_ok-sessions.ensures) result source source_now sink sink_now run in
-    let loans = later.loans_are in
-    let named = first_same c.close-disk.result.ghost_name _ _ _ loans in
     let kept =
     run_kept _ _ _ _ (record { ref_ptr = c.args.disk.ref_ptr; ghost_name = _; now = c.args.disk.now }) _ r s called c.an_opened_core_follows.ensures c.scripts_follow_the_machine.ensures c.lines_go_on.ensures c.lines_give_what_is_named.ensures c.lines_keep_what_is_written.ensures.opened
     c.lines_keep_what_is_written.ensures.lines (c.new-runner.ensures.sessions ∙ c.in_ok-sessions.ensures) result source source_now sink sink_now run in
-    by_same (λ d. (rs : List Replied) × KeepsScript rs (ending_in result) (view c.args.disk.now) (view d) source source_now sink sink_now) _ c.close-disk.result.now (search (rules, named))
-    (run.rs, script_back _ _ loans (view c.args.disk.now) (view c.close-disk.result.now) run.rs (ending_in result) source source_now sink sink_now kept)
-
-pub returns-clause-later : goal.returns-clause-later
-returns-clause-later g c =
-    let view = g.D.Disk.view in
-    let is = c.in-Ok.ensures in
-    let r = c.new-runner.result in
-    let s = c.run_lines-ran.new.runner in
-    let closed = c.close-disk.ensures in
-    let whole : Called _ _ _ _ c.in-Ok.core c.into_core.result =
-    record { opened = is.opened; running = is.running; durable = is.durable; first = is.reads; last = closed.disk; clock = closed.moment } in
-    let called = called_by _ _ _ _ c.in-Ok.core c.into_core.result r.core s.core whole c.new-runner.ensures.core c.into_core.ensures.core in
-    let later =
-    run_later _ _ _ _ (record { ref_ptr = c.args.disk.ref_ptr; ghost_name = _; now = c.args.disk.now }) _ r s called c.an_opened_core_follows.ensures c.scripts_follow_the_machine.ensures c.lines_go_on.ensures c.lines_give_what_is_named.ensures c.lines_keep_what_is_written.ensures.opened
-    c.lines_keep_what_is_written.ensures.lines (c.new-runner.ensures.sessions ∙ c.in_ok-sessions.ensures) c.run_lines-ran.result (g.S.Source.view c.args.source.now) (g.S.Source.view c.run_lines-ran.new.source)
-    (g.K.Sink.view c.args.sink.now) (g.K.Sink.view c.run_lines-ran.new.sink) c.run_lines-ran.ensures in
+    let later = kept.0 in
     let named = first_same c.close-disk.result.ghost_name _ _ _ later.loans_are in
-    by_same (λ d. IsLater (view c.args.disk.now) (view d)) _ c.close-disk.result.now (search (rules, named))
-    (later_back _ _ later.loans_are (view c.args.disk.now) (view c.close-disk.result.now) (sym (rest_same _ _ _ _ later.loans_are)) later)
+    record {
+      keeps = by_same (λ d. (rs : List Replied) × KeepsScript rs (ending_in result) (view c.args.disk.now) (view d) source source_now sink sink_now) _ c.close-disk.result.now (search (rules, named))
+          (run.rs, script_back _ _ (view c.args.disk.now) (view c.close-disk.result.now) run.rs (ending_in result) source source_now sink sink_now kept.1);
+      later = by_same (λ d. IsLater (view c.args.disk.now) (view d)) _ c.close-disk.result.now (search (rules, named))
+          (later_back _ _ (view c.args.disk.now) (view c.close-disk.result.now) (sym (rest_same _ _ _ _ later.loans_are)) later);
+    }

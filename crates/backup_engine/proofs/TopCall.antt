@@ -7,6 +7,7 @@ use Rattle.reply_text.specs.declared.ending.Ending.{Ending}
 use Rattle.reply_text.specs.declared.ending.Ending.TheVariants.{Words}
 use Rattle.reply_text.specs.Table.{status_of}
 use Rattle.backup_engine.specs.Line.{TableLine}
+use Rattle.backup_engine.specs.Seen.{Seen}
 use Rattle.backup_engine.specs.TopCall.{IsSameDisk, Does, Promise, IsNoted, AreNoted, status_by}
 
 same_disk : (v : DiskView) → IsSameDisk v v
@@ -21,9 +22,22 @@ same_disk v = record {
   returned_are = λ t at b. (λ returned. returned, λ returned. returned);
 }
 
+-- what a call saw of these devices
+abbrev saw : (v w : DiskView) (source source_now : SourceView) (sink sink_now notes notes_now : SinkView) → Seen
+saw v w source source_now sink sink_now notes notes_now = record {
+  disk = v;
+  disk_now = w;
+  source = source;
+  source_now = source_now;
+  sink = sink;
+  sink_now = sink_now;
+  notes = notes;
+  notes_now = notes_now;
+}
+
 -- words that are no line
 pub words_promise : (line : Option TableLine) (status : ℕ) (v : DiskView) (source : SourceView) (sink notes notes_now : SinkView) → line ≡ None → status ≡ status_of Words → IsNoted notes notes_now Words
-    → Promise line status v v source source sink sink notes notes_now
+    → Promise line status (saw v v source source sink sink notes notes_now)
 words_promise line status v source sink notes notes_now none is noted = record {
   ending = Some Words;
   given = [];
@@ -43,7 +57,7 @@ does_as line said is given rs ending v w source source_now sink sink_now does = 
 pub line_promise : (line : Option TableLine) (said : TableLine) (status : ℕ) (ending : Option Ending) (v w : DiskView) (source source_now : SourceView) (sink sink_now notes notes_now : SinkView) → line ≡ Some said
     → status ≡ status_by ending → AreNoted notes notes_now ending
     → ((given : List ℕ) × ((rs : List Replied) × Does (Some said) given rs ending v w source source_now sink sink_now))
-    → Promise line status v w source source_now sink sink_now notes notes_now
+    → Promise line status (saw v w source source_now sink sink_now notes notes_now)
 line_promise line said status ending v w source source_now sink sink_now notes notes_now some is noted does = record {
   ending = ending;
   given = does.0;

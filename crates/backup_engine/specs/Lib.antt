@@ -13,6 +13,7 @@ pub mod Running
 pub mod Saying
 pub mod Script
 pub mod ScriptRuns
+pub mod Seen
 pub mod Singles
 pub mod Storing
 pub mod Feeding

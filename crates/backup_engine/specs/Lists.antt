@@ -19,6 +19,7 @@ use Rattle.backup_engine.specs.Line.{CommandLine, Format, TableLine, Single, Run
 use Rattle.backup_engine.specs.Lines.{RunsByMachine, RunsNone}
 use Rattle.backup_engine.specs.PlainMap.{map_after, CanBeDone}
 use Rattle.backup_engine.specs.Promise.{KeepsMap, SinceStart, Stands}
+use Rattle.backup_engine.specs.Seen.{Seen}
 use Rattle.backup_engine.specs.TopCall.{Promise, Does, AreNoted, status_by}
 
 -- One call: the line that its words are, if they are one; its status; source, sink and notes before and after. And, as the
@@ -47,10 +48,23 @@ abbrev pub CallRun : (D : Type 0) → (D → DiskView) → List Call → D → D
 CallRun D view [] old new = new ≡ old
 CallRun D view (c ∷ cs) old new = (mid : D) × (KeepsCall c (view old) (view mid) × CallRun D view cs mid new)
 
+-- what it saw, over this disk
+abbrev pub seen_by : Call → DiskView → DiskView → Seen
+seen_by c disk disk_now = record {
+  disk = disk;
+  disk_now = disk_now;
+  source = c.source;
+  source_now = c.source_now;
+  sink = c.sink;
+  sink_now = c.sink_now;
+  notes = c.notes;
+  notes_now = c.notes_now;
+}
+
 -- What `backup` promises of a call is that, for some ending, bytes given and lines: so calls of it make such a run.
 abbrev pub IsPromised : (D : Type 0) → (D → DiskView) → Type 0
 IsPromised D view = (c : Call) (old new : D)
-    → Promise c.line c.status (view old) (view new) c.source c.source_now c.sink c.sink_now c.notes c.notes_now
+    → Promise c.line c.status (seen_by c (view old) (view new))
     → (ending : Option Ending) × ((given : List ℕ) × ((rs : List Replied)
     × KeepsCall (record c { ending = ending; given = given; rs = rs }) (view old) (view new)))
 

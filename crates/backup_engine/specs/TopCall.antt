@@ -1,7 +1,7 @@
 -- What the top call promises, whatever disk, source, sink and notes it is given (docs/MODEL.md, 'The promise').
 --
--- line: the line of the table of commands that the words are. status: the exit status. Of the disk, the source, the sink
--- and the notes: each before the call, and now.
+-- line: the line of the table of commands that the words are. status: the exit status. saw: the disk, the source, the sink and the
+-- notes, each before the call, and now.
 use Rattle.std.specs.Prelude.{◌≡◌, ◌⊎◌, ℕ, List, Option, Some, None, Result, Ok, Err}
 use Rattle.base_model.specs.Fault.{Rose}
 use Rattle.base_model.specs.Known.{Known, KnownWith, Appended}
@@ -19,6 +19,7 @@ use Rattle.backup_engine.specs.Frame.{KeepsOthers}
 use Rattle.backup_engine.specs.Line.{CommandLine, Format, Ingest, Restore, TableLine, Single, Run}
 use Rattle.backup_engine.specs.Promise.{KeepsEachMap, SinceStart}
 use Rattle.backup_engine.specs.Script.{KeepsScript}
+use Rattle.backup_engine.specs.Seen.{Seen}
 use Rattle.backup_engine.specs.Singles.{SpeaksAs}
 
 -- 0 where the command was done, and else by the table of statuses
@@ -103,11 +104,10 @@ Does (Some Run) given rs ending disk disk_now source source_now sink sink_now =
     KeepsScript rs ending disk disk_now source source_now sink sink_now
 
 -- How the call ended, what the source gave, and which lines were run, are one throughout.
-pub record Promise (line : Option TableLine) (status : ℕ) (disk disk_now : DiskView) (source source_now : SourceView)
-    (sink sink_now notes notes_now : SinkView) : Type 0 where
+pub record Promise (line : Option TableLine) (status : ℕ) (saw : Seen) : Type 0 where
   pub ending : Option Ending
   pub given : List ℕ
   pub rs : List Replied
   pub status_is : status ≡ status_by ending
-  pub noted : AreNoted notes notes_now ending
-  pub does : Does line given rs ending disk disk_now source source_now sink sink_now
+  pub noted : AreNoted saw.notes saw.notes_now ending
+  pub does : Does line given rs ending saw.disk saw.disk_now saw.source saw.source_now saw.sink saw.sink_now

@@ -33,8 +33,16 @@ pub fn backup<R, D: Disk + Send, S: Source, K: Sink, Q: Sink>(
     sink: &mut K,
     notes: &mut Q,
 ) -> u8
-    ensures promise { Promise (line_of (map string_bytes words.now)) result (D.view disk.old) (D.view disk.new)
-        (S.view source.old) (S.view source.new) (K.view sink.old) (K.view sink.new) (Q.view notes.old) (Q.view notes.new) }
+    ensures promise { Promise (line_of (map string_bytes words.now)) result (record {
+      disk = D.view disk.old;
+      disk_now = D.view disk.new;
+      source = S.view source.old;
+      source_now = S.view source.new;
+      sink = K.view sink.old;
+      sink_now = K.view sink.new;
+      notes = Q.view notes.old;
+      notes_now = Q.view notes.new;
+    }) }
     ensures later { IsLater (D.view disk.old) (D.view disk.new) }
 {
     backup_alone(rt, alloc, words, disk, source, sink, notes)
@@ -50,8 +58,16 @@ pub fn backup_alone<R, D: Disk + Send, S: Source, K: Sink, Q: Sink>(
     sink: &mut K,
     notes: &mut Q,
 ) -> u8
-    ensures promise { Promise (line_of (map string_bytes words.now)) result (D.view disk.old) (D.view disk.new)
-        (S.view source.old) (S.view source.new) (K.view sink.old) (K.view sink.new) (Q.view notes.old) (Q.view notes.new) }
+    ensures promise { Promise (line_of (map string_bytes words.now)) result (record {
+      disk = D.view disk.old;
+      disk_now = D.view disk.new;
+      source = S.view source.old;
+      source_now = S.view source.new;
+      sink = K.view sink.old;
+      sink_now = K.view sink.new;
+      notes = Q.view notes.old;
+      notes_now = Q.view notes.new;
+    }) }
     ensures later { IsLater (D.view disk.old) (D.view disk.new) }
 {
     let Some(line) = read_words(words) else {

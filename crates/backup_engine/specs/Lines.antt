@@ -1,4 +1,4 @@
--- A call of the top call as lines of a script, which the plain machine runs (docs/MODEL.md, 'The promise').
+-- A call of the top call as lines of a script, which the plain machine runs (docs/MODEL.md, 'From the machine to `backup`').
 use Rattle.std.specs.Prelude.{◌≡◌, ◌⊎◌, ◌≤◌, ℕ, IsTrue, List, [], ◌∷◌, ◌++◌, Option, Some}
 use Rattle.base_model.specs.Known.{Known}
 use Rattle.dd_disk.specs.View.{DiskView}

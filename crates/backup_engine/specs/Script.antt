@@ -1,4 +1,4 @@
--- What `run` promises: the lines of a script, their replies, and how it ends (docs/MODEL.md, 'The promise').
+-- What `run` promises: the lines of a script, their replies, and how it ends (docs/MODEL.md, 'From the machine to `backup`').
 use Rattle.std.specs.Prelude.{◌≡◌, ◌⊎◌, ℕ, ◌≤◌, IsTrue, List, [], ◌∷◌, ◌++◌, length, take, Option, Some, None}
 use Rattle.base_model.specs.Fault.{Rose}
 use Rattle.base_model.specs.Known.{Known, Appended}

@@ -1,5 +1,5 @@
--- Single commands as lines of a script: `ingest` and `restore` are a few lines of the first actor, and only print in another way
--- (docs/MODEL.md, 'The promise').
+-- Single commands as lines of a script: `ingest` and `restore` are lines of the first actor, and only print in another way
+-- (docs/MODEL.md, 'From the machine to `backup`').
 use Rattle.std.specs.Prelude.{◌≡◌, ◌⊎◌, ◌≤◌, ℕ, ◌+◌, ◌*◌, List, [], ◌∷◌, ◌++◌, length, Option, Some, None}
 use Rattle.std.specs.List.{concat}
 use Rattle.base_model.specs.Known.{Appended, Known}

@@ -98,8 +98,8 @@ fn run_line<D: Disk, S: Source, K: Sink>(
     sink: &mut K,
 ) -> Result<(), Ending>
     requires { IsRightLine line.now }
-    ensures does { (given : List ℕ) × ((rs : List Replied) × Does (Some (line_value line.now)) given rs (ending_in result) (D.view disk.old)
-        (D.view disk.new) (S.view source.old) (S.view source.new) (K.view sink.old) (K.view sink.new)) }
+    ensures does { (given : List ℕ) × ((rs : List Replied) × Does (Some (line_value line.now)) given rs (ending_in result)
+        (D.view disk.old) (D.view disk.new) (S.view source.old) (S.view source.new) (K.view sink.old) (K.view sink.new)) }
     ensures later { IsLater (D.view disk.old) (D.view disk.new) }
 {
     match line {
@@ -117,8 +117,9 @@ fn run_command<D: Disk, S: Source, K: Sink>(
     sink: &mut K,
 ) -> Result<(), Ending>
     requires { IsRightCommand command.now }
-    ensures does { (given : List ℕ) × ((rs : List Replied) × Does (Some (Single (command_value command.now))) given rs (ending_in result)
-        (D.view disk.old) (D.view disk.new) (S.view source.old) (S.view source.new) (K.view sink.old) (K.view sink.new)) }
+    ensures does { (given : List ℕ) × ((rs : List Replied) × Does (Some (Single (command_value command.now))) given rs
+        (ending_in result) (D.view disk.old) (D.view disk.new) (S.view source.old) (S.view source.new) (K.view sink.old)
+        (K.view sink.new)) }
     ensures later { IsLater (D.view disk.old) (D.view disk.new) }
 {
     match command {

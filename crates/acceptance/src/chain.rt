@@ -1,6 +1,6 @@
 //! Commands, and calls of the disk, one after another on one disk.
 use crate::containers::header_text;
-use crate::scripts::{add_replies, script_in, script_of};
+use crate::scripts::{add_replied, add_replies, script_in, script_of};
 use crate::text::Text;
 use crate::words::{Fault, add_piece, bytes_of, number, word_of, words_of};
 use backup_engine::{backup, backup_alone};
@@ -164,7 +164,8 @@ fn add_failing(run: &mut Run, script: &str) -> Result<(), Fault> {
     Ok(())
 }
 
-/// Runs the words over a disk. The answer is the status, then what went to the sink, then the notes; of scripts as `add_replies` has them.
+/// Runs the words over a disk. The answer is the status, then what went to the sink, then the notes; of scripts as `add_replies` has them,
+/// and the lines of a list as those are.
 fn add_run<D: Disk + Send>(rt: &HostRuntime, disk: &mut D, run: Run, text: &mut Text) {
     let alloc = rt.alloc();
     let mut source = MemSource::new(run.source, run.source_fails);
@@ -192,18 +193,20 @@ fn add_run<D: Disk + Send>(rt: &HostRuntime, disk: &mut D, run: Run, text: &mut 
         )
     };
     text.add_number(u64::from(status));
-    if is_script(&run.words) {
-        return add_replies(text, sink.bytes(), notes.bytes(), status == 0);
+    let is_done = status == 0;
+    match command_of(&run.words) {
+        "run" => return add_replies(text, sink.bytes(), notes.bytes(), is_done),
+        "list" => add_replied(text, sink.bytes(), is_done),
+        _ => add_stream(text, sink.bytes(), is_done),
     }
-    add_stream(text, sink.bytes(), status == 0);
     add_stream(text, notes.bytes(), false);
 }
 
-/// Whether the command runs a script.
-fn is_script(words: &[String]) -> bool {
+/// The first word; without one, the empty text.
+fn command_of(words: &[String]) -> &str {
     match words {
-        [command, ..] => command.as_str() == "run",
-        [] => false,
+        [command, ..] => command.as_str(),
+        [] => "",
     }
 }
 

@@ -74,13 +74,18 @@ fn add_word(word: &str, script: &mut Vec<u8>) -> Result<(), Fault> {
 
 /// Shows the replies to a script, parted by ` / `, and then the note, after ` -- `.
 pub(crate) fn add_replies(text: &mut Text, replies: &[u8], note: &[u8], is_done: bool) {
-    if is_done || !replies.is_empty() {
-        text.add(" ");
-        add_shown(text, replies);
-    }
+    add_replied(text, replies, is_done);
     if !note.is_empty() {
         text.add(" -- ");
         text.add_line(note);
+    }
+}
+
+/// Shows the lines that were replied, parted by ` / `, where there are some or the command is done.
+pub(crate) fn add_replied(text: &mut Text, replies: &[u8], is_done: bool) {
+    if is_done || !replies.is_empty() {
+        text.add(" ");
+        add_shown(text, replies);
     }
 }
 

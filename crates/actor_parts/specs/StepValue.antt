@@ -15,6 +15,8 @@ pub data StepValue : Type 0 where
   OpenRead : (name : List ℕ) → StepValue
   ReadNext : StepValue
   EndRead : StepValue
+  Delete : (name : List ℕ) → StepValue
+  ListNames : StepValue
   Stat : StepValue
 
 abbrev pub step_value : steps.Step → StepValue
@@ -26,6 +28,8 @@ step_value asked.Abort = Abort
 step_value (asked.OpenRead name) = OpenRead name.now
 step_value asked.ReadNext = ReadNext
 step_value asked.EndRead = EndRead
+step_value (asked.Delete name) = Delete name.now
+step_value asked.List = ListNames
 step_value asked.Stat = Stat
 
 -- What may be asked: a segment of a tree is a node of its level, and a container holds a segment at least.

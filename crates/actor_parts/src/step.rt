@@ -1,7 +1,7 @@
 //! The steps of the store, and what they answer.
 
 use container_meta::{OpenContainer, Seg};
-use namespace::Root;
+use namespace::{Listing, Root};
 
 /// What an actor asks of the store. docs/MODEL.md, 'Actors, steps and answers', says what each does.
 #[derive(Clone, Copy)]
@@ -22,12 +22,16 @@ pub enum Step<'a> {
     ReadNext,
     /// To give up the file that is being taken.
     EndRead,
+    /// To take a name away, with its file. Which actor asks doesn't matter.
+    Delete { name: &'a [u8] },
+    /// To list the names. Which actor asks doesn't matter.
+    List,
     /// To count what the store has.
     Stat,
 }
 
 /// What a step answers, where it isn't refused.
-#[derive(Clone, Copy)]
+#[derive(Drop)]
 pub enum Answer {
     /// A file may be stored.
     Begun,
@@ -57,6 +61,14 @@ pub enum Answer {
     End,
     /// The file was given up.
     Dropped,
+    /// The name is gone, from this sequence number on.
+    Deleted {
+        sequence: u64,
+    },
+    /// Each name with its root, in the order of the names' bytes.
+    Listed {
+        files: Listing,
+    },
     /// How many names there are, entries of valid containers, bytes of these, and slots that are used and free.
     Stat {
         files: u64,

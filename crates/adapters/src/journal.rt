@@ -1,9 +1,9 @@
-//! Records that are appended without a reading between them, and deletes, which no command does yet.
+//! Records that are appended without a reading between them, deletes and checkpoints, which no command does yet.
 ghost use Rattle.std.specs.Prelude.{◌≡◌, IsTrue};
 ghost use Rattle.disk_format.specs.Cells.{IsChange};
 ghost use Rattle.namespace.specs.Names.{change_value};
 
-use dd_disk::{Disk, MemDisk};
+use dd_disk::{Disk, Fill, MemDisk};
 use journal_cells::{CellFault, Journal, scan};
 use namespace::{Change, Names, Record, Root};
 use sha2::{Digest, Sha256};
@@ -226,5 +226,119 @@ fn a_call_of_the_disk_that_fails_leaves_the_journal(rt: HostRuntime) -> Result<(
         let (again, _names) = read(alloc, &mut disk)?;
         assert_eq!(rt; again.count() == 1, call > 2, "{}", call);
     }
+    Ok(())
+}
+
+/// Makes a checkpoint of a disk's journal.
+fn make_room<D: Disk>(
+    alloc: Global,
+    disk: &mut D,
+    journal: &mut Journal,
+    names: &Names,
+) -> Result<Result<(), CellFault>, Fail> {
+    if disk.size() < SIZE as u64 {
+        return Err("the disk is too small".into());
+    }
+    Ok(journal.checkpoint(alloc, disk, names))
+}
+
+/// A name for each number below 676, in order.
+fn name_of(number: u16) -> [u8; 3] {
+    [
+        b'n',
+        b'a' + (number / 26 % 26) as u8,
+        b'a' + (number % 26) as u8,
+    ]
+}
+
+// The names are put by falling bytes, each of them twice.
+#[test]
+fn a_checkpoint_makes_room(rt: HostRuntime) -> Result<(), Fail> {
+    let alloc = rt.alloc();
+    let mut disk = MemDisk::new(bare(alloc)?, Vec::new(alloc));
+    let (mut journal, mut names) = read(alloc, &mut disk)?;
+    for i in 0..1_024u16 {
+        let value = put(alloc, &name_of(511 - i % 512), u64::from(i) + 1)?;
+        add_both(alloc, &mut disk, &mut journal, &mut names, &value)?;
+    }
+    assert_eq!(rt; (journal.count(), journal.last()), (1_024, 1_024));
+    assert!(rt; make_room(alloc, &mut disk, &mut journal, &names)?.is_ok());
+    assert_eq!(rt; (journal.count(), journal.last()), (512, 1_024));
+    let gone = delete(alloc, &name_of(7), 1_025)?;
+    add_both(alloc, &mut disk, &mut journal, &mut names, &gone)?;
+    let (again, left) = read(alloc, &mut disk)?;
+    assert!(rt; journal == again);
+    assert_eq!(rt; (again.count(), left.count()), (513, 511));
+    assert!(rt; are_same(&left.list(alloc)?, &names.list(alloc)?));
+    Ok(())
+}
+
+/// A disk with two names, whose last sequence number is of a name that is gone.
+fn few(alloc: Global) -> Result<MemDisk, Fail> {
+    let mut disk = MemDisk::new(bare(alloc)?, Vec::new(alloc));
+    let (mut journal, mut names) = read(alloc, &mut disk)?;
+    let records = [
+        put(alloc, b"b", 1)?,
+        put(alloc, b"c", 3)?,
+        put(alloc, b"a", 4)?,
+        delete(alloc, b"b", 6)?,
+    ];
+    for value in &records {
+        add_both(alloc, &mut disk, &mut journal, &mut names, value)?;
+    }
+    Ok(disk)
+}
+
+/// Makes a checkpoint of an image, which takes so many calls of the disk. A stop in each of them leaves the same names and the
+/// same last sequence number.
+fn stopped(
+    rt: &(impl Abort + AllocGlobal),
+    image: Vec<u8>,
+    calls: u64,
+    fills: &[Fill],
+) -> Result<MemDisk, Fail> {
+    let alloc = rt.alloc();
+    let mut disk = MemDisk::new(image, Vec::new(alloc));
+    let (mut journal, names) = read(alloc, &mut disk)?;
+    let wanted = names.list(alloc)?;
+    let before = disk.moment();
+    assert!(rt; make_room(alloc, &mut disk, &mut journal, &names)?.is_ok());
+    assert_eq!(rt; disk.moment().saturating_sub(before), calls);
+    for call in 0..calls {
+        for fill in fills {
+            let stop = before.saturating_add(1).saturating_add(call);
+            let image = disk.crash_image(alloc, stop, *fill)?;
+            let (found, left) = read(alloc, &mut MemDisk::new(image, Vec::new(alloc)))?;
+            assert_eq!(rt; found.last(), journal.last(), "{}", call);
+            assert!(rt; are_same(&left.list(alloc)?, &wanted), "{}", call);
+        }
+    }
+    Ok(disk)
+}
+
+// The second time the other selector is open, and its gate is closed first.
+#[test]
+fn a_stop_in_a_checkpoint_keeps_the_names(rt: HostRuntime) -> Result<(), Fail> {
+    let alloc = rt.alloc();
+    let fills = [Fill::Byte(0xA5), Fill::Byte(0xB5)];
+    let image = few(alloc)?.bytes().to_vec(alloc)?;
+    let disk = stopped(&rt, image, 7, &fills)?;
+    let _disk = stopped(&rt, disk.bytes().to_vec(alloc)?, 9, &fills)?;
+    Ok(())
+}
+
+// The other selector is closed then, over any bytes.
+#[test]
+fn a_stop_after_a_stop_keeps_the_names(rt: HostRuntime) -> Result<(), Fail> {
+    let alloc = rt.alloc();
+    let image = few(alloc)?.bytes().to_vec(alloc)?;
+    let disk = stopped(&rt, image, 7, &[])?;
+    let disk = stopped(&rt, disk.bytes().to_vec(alloc)?, 9, &[])?;
+    // The last calls are the write of a selector's bytes 1 to 511, a sync, the write of its gate, a sync.
+    let stop = disk.moment().saturating_sub(3).max(1);
+    let image = disk.crash_image(alloc, stop, Fill::Byte(0xB5))?;
+    assert!(rt; image.get(512..).unwrap_or(b"").starts_with(b"\x00\xB5"));
+    let fills = [Fill::Old, Fill::New, Fill::Byte(0xA5), Fill::Byte(0xB5)];
+    let _disk = stopped(&rt, image, 7, &fills)?;
     Ok(())
 }

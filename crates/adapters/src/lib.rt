@@ -1,5 +1,5 @@
 //! Tests of what no program reaches: readers and writers of the standard library, a disk that is lent, calls that no command
-//! makes yet, replies to the lines of scripts, and texts whose numbers no disk here has. All else stands in the transcripts of
+//! makes yet, lines of scripts and the replies to them, and texts whose numbers no disk here has. All else stands in the transcripts of
 //! `acceptance`.
 #![tactic(auto)]
 
@@ -9,6 +9,8 @@ mod index;
 mod journal;
 #[cfg(test)]
 mod lent;
+#[cfg(test)]
+mod listed;
 #[cfg(test)]
 mod replies;
 #[cfg(test)]

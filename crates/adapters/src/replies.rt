@@ -1,7 +1,8 @@
 //! Texts of endings and replies whose numbers no disk here has: docs/FORMAT.md, 'Texts' and 'Refusals'.
+use crate::listed::{LISTED, three_files};
 use dd_io::MemSink;
 use refusals::Refusal;
-use reply_text::{Ending, formatted_line, status_of, write_fault};
+use reply_text::{Ending, deleted_line, formatted_line, listing_text, status_of, write_fault};
 use std::test::Fail;
 
 #[test]
@@ -46,5 +47,21 @@ fn a_line_that_is_cut_off_is_a_first_part(rt: HostRuntime) -> Result<(), Fail> {
 fn the_largest_format_has_its_reply(rt: HostRuntime) -> Result<(), Fail> {
     let line = formatted_line(rt.alloc(), 65_536)?;
     assert!(rt; line.as_slice() == b"formatted 65536\n".as_slice());
+    Ok(())
+}
+
+#[test]
+fn a_name_that_is_deleted_has_its_reply(rt: HostRuntime) -> Result<(), Fail> {
+    let line = deleted_line(rt.alloc(), b"a-1")?;
+    assert!(rt; line.as_slice() == b"deleted a-1\n".as_slice());
+    Ok(())
+}
+
+#[test]
+fn names_are_listed_in_the_order_of_their_bytes(rt: HostRuntime) -> Result<(), Fail> {
+    let alloc = rt.alloc();
+    let files = three_files(alloc)?;
+    let text = listing_text(alloc, &files)?;
+    assert!(rt; text.as_slice() == LISTED);
     Ok(())
 }

@@ -1,7 +1,9 @@
-//! The replies to the lines of a script: docs/FORMAT.md, 'Scripts'.
+//! The lines of a script, and the replies to them: docs/FORMAT.md, 'Scripts'.
+use crate::listed::{LISTED, three_files};
 use actor_parts::Actor;
 use refusals::{PartKind, Refusal};
-use script_lines::{Holdings, Reply, Turned, print_reply};
+use script_lines::{Holdings, Line, Reply, Turned, print_reply, read_line};
+use std::alloc::Global;
 use std::test::Fail;
 
 /// The actor of a number below 64.
@@ -13,17 +15,10 @@ fn actor_of(number: u64) -> Result<Actor, Fail> {
 }
 
 #[test]
-fn each_reply_has_its_line(rt: HostRuntime) -> Result<(), Fail> {
+fn each_reply_to_an_actor_has_its_line(rt: HostRuntime) -> Result<(), Fail> {
     let alloc = rt.alloc();
     let (first, actor, last) = (actor_of(0)?, actor_of(7)?, actor_of(63)?);
-    let holdings = Holdings {
-        files: 1,
-        segments: 3,
-        bytes: 23_740,
-        used: 2,
-        free: 6,
-    };
-    let rows: [(Reply<'_>, &[u8]); 17] = [
+    let rows: [(Reply<'_>, &[u8]); 13] = [
         (Reply::Begun { actor: first }, b"begun 0\n"),
         (
             Reply::Pushed {
@@ -63,6 +58,27 @@ fn each_reply_has_its_line(rt: HostRuntime) -> Result<(), Fail> {
         ),
         (Reply::End { actor }, b"end 7\n"),
         (Reply::Dropped { actor }, b"dropped 7\n"),
+    ];
+    for (reply, line) in &rows[..] {
+        assert!(rt; is_printed(alloc, reply, line)?);
+    }
+    Ok(())
+}
+
+#[test]
+fn each_reply_of_the_store_has_its_line(rt: HostRuntime) -> Result<(), Fail> {
+    let alloc = rt.alloc();
+    let files = three_files(alloc)?;
+    let holdings = Holdings {
+        files: 1,
+        segments: 3,
+        bytes: 23_740,
+        used: 2,
+        free: 6,
+    };
+    let rows: [(Reply<'_>, &[u8]); 6] = [
+        (Reply::Deleted { sequence: 1_026 }, b"deleted 1026\n"),
+        (Reply::Listed { files: &files }, LISTED),
         (
             Reply::Stat { holdings },
             b"stat files 1 segments 3 bytes 23740 used 2 free 6\n",
@@ -80,10 +96,53 @@ fn each_reply_has_its_line(rt: HostRuntime) -> Result<(), Fail> {
         ),
     ];
     for (reply, line) in &rows[..] {
-        let printed = print_reply(alloc, reply)?;
-        assert!(rt; printed.as_slice() == *line);
+        assert!(rt; is_printed(alloc, reply, line)?);
     }
     Ok(())
+}
+
+#[test]
+fn a_line_of_names_is_read(rt: HostRuntime) -> Result<(), Fail> {
+    let rows: [(&[u8], &[u8]); 4] = [
+        (b"delete a-1", b"a-1"),
+        (b"delete 7", b"7"),
+        (b"delete 07", b"07"),
+        (b"delete delete", b"delete"),
+    ];
+    for (line, name) in rows {
+        match read_line(line) {
+            Some(Line::Delete(read)) => assert!(rt; read == name),
+            _ => return Err("the line is no delete".into()),
+        }
+    }
+    assert!(rt; matches!(read_line(b"list"), Some(Line::List)));
+    Ok(())
+}
+
+#[test]
+fn a_line_with_other_words_is_none(rt: HostRuntime) -> Result<(), Fail> {
+    let rows: [&[u8]; 10] = [
+        b"delete",
+        b"delete ",
+        b"delete  a",
+        b"delete a ",
+        b"delete a b",
+        b"delete 7 a",
+        b" list",
+        b"list ",
+        b"list 7",
+        b"lists",
+    ];
+    for line in rows {
+        assert!(rt; read_line(line).is_none());
+    }
+    Ok(())
+}
+
+/// Whether a reply is printed as this line, or these lines.
+fn is_printed(alloc: Global, reply: &Reply<'_>, line: &[u8]) -> Result<bool, Fail> {
+    let printed = print_reply(alloc, reply)?;
+    Ok(printed.as_slice() == line)
 }
 
 fn turn<'a>(actor: Actor, turned: Turned) -> Reply<'a> {

@@ -4,13 +4,14 @@ use Rattle.std.proofs.lemmas.List.{append-nil, append_assoc}
 use Rattle.std.specs.List.{AllByRecursion}
 use Rattle.base_model.specs.Known.{KnownWith}
 use Rattle.disk_format.specs.Cells.{Root}
+use Rattle.disk_format.specs.Cells.Change.{Put}
 use Rattle.actor_parts.specs.declared.step.Answer.{Answer}
 use Rattle.actor_parts.specs.declared.step.Answer.TheVariants as answers
 use Rattle.actor_parts.specs.StepValue as asked
 use Rattle.actor_parts.specs.StepValue.{StepValue}
 use Rattle.refusals.specs.declared.refusal.Refusal.{Refusal}
 use Rattle.store_model.specs.Image.{Store, Encodes}
-use Rattle.store_model.specs.Steps.{StoreChange, PutName, changed, with_put}
+use Rattle.store_model.specs.Steps.{StoreChange, ChangeName, changed, with_change}
 use Rattle.store_model.specs.Trees.{root_of}
 use Rattle.store_core.specs.Runs.{ChangesTo, FileEvent, changes_by, changes_of}
 use Rattle.backup_engine.specs.Adding.{AddsTo, AddsOnce}
@@ -30,6 +31,8 @@ kept_seals asked.Abort answer kind = refl
 kept_seals (asked.OpenRead name) answer kind = refl
 kept_seals asked.ReadNext answer kind = refl
 kept_seals asked.EndRead answer kind = refl
+kept_seals (asked.Delete name) answer kind = absurd kind
+kept_seals asked.ListNames answer kind = refl
 kept_seals asked.Stat answer kind = refl
 
 -- one that was refused changes nothing
@@ -42,14 +45,16 @@ refused_changes asked.Abort refusal = refl
 refused_changes (asked.OpenRead name) refusal = refl
 refused_changes asked.ReadNext refusal = refl
 refused_changes asked.EndRead refusal = refl
+refused_changes (asked.Delete name) refusal = refl
+refused_changes asked.ListNames refusal = refl
 refused_changes asked.Stat refusal = refl
 
 module _ (name given : List ℕ) where
-  same_change : (n : List ℕ) (root : Root) → n ≡ name → root ≡ root_of given → PutName n root ∷ [] ≡ PutName name (root_of given) ∷ []
-  same_change n root names roots = ap (λ (x : List ℕ). PutName x root ∷ []) names ∙ ap (λ (r : Root). PutName name r ∷ []) roots
+  same_change : (n : List ℕ) (root : Root) → n ≡ name → root ≡ root_of given → ChangeName n (Put root) ∷ [] ≡ ChangeName name (Put (root_of given)) ∷ []
+  same_change n root names roots = ap (λ (x : List ℕ). ChangeName x (Put root) ∷ []) names ∙ ap (λ (r : Root). ChangeName name (Put r) ∷ []) roots
 
   -- the last one puts the name
-  put_change : (step : StepValue) (answer : Result Answer Refusal) (put : List ℕ) → IsAskedFor name given step put → IsLastPut step answer → changes_by step answer ≡ PutName name (root_of given) ∷ []
+  put_change : (step : StepValue) (answer : Result Answer Refusal) (put : List ℕ) → IsAskedFor name given step put → IsLastPut step answer → changes_by step answer ≡ ChangeName name (Put (root_of given)) ∷ []
   put_change (asked.Commit n root) (Ok answer) put is last = same_change n root is.0 is.1
   put_change (asked.Commit n root) (Err refusal) put is last = absurd last
   put_change step answer put is last = absurd last
@@ -58,7 +63,7 @@ module _ (name given : List ℕ) where
 
   -- what comes after what was sealed
   abbrev pub last_change : Result Unit Refusal → List StoreChange
-  last_change (Ok u) = PutName name (root_of given) ∷ []
+  last_change (Ok u) = ChangeName name (Put (root_of given)) ∷ []
   last_change (Err refusal) = []
 
   abbrev Last : List StoreChange → List StoreChange → List StoreChange → Type 0
@@ -91,7 +96,7 @@ module _ (name given : List ℕ) where
 
   -- the store with the name, where it was put
   abbrev pub put_in : Result Unit Refusal → Store → Store
-  put_in (Ok u) after = with_put name (root_of given) after
+  put_in (Ok u) after = with_change name (Put (root_of given)) after
   put_in (Err refusal) after = after
 
   -- a chain goes by the store between

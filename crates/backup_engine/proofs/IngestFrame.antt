@@ -1,5 +1,5 @@
 -- What `ingest` never changes, whatever the disk holds: all of the call.
-use Rattle.std.proofs.Common.{◌≡◌, ◌⊎◌, inl, inr, ℕ, ◌-◌, ◌^◌, ◌<◌, ◌≤◌, List, Option, Some, None, Result, Ok, Err, sym, ◌∙◌, subst, arith}
+use Rattle.std.proofs.Common.{◌≡◌, ◌⊎◌, inl, inr, ℕ, ◌≤◌, List, Option, Some, None, Result, Ok, Err, sym, ◌∙◌, subst, arith}
 use Rattle.disk_format.specs.declared.numbers.TheConstants.{RESERVE}
 use Rattle.dd_disk.specs.View.{DiskView, IsLater}
 use Rattle.dd_disk.proofs.Later.{reads_here, reads_leave, leaves_weaker}
@@ -26,6 +26,7 @@ use Rattle.backup_engine.proofs.KeptBytes.{KeepsSlots, free_held, slots_here}
 use Rattle.backup_engine.proofs.PutCauses.{opened_on, run_later}
 use Rattle.backup_engine.proofs.PutChanges.{EndsBy, ways_of}
 use Rattle.backup_engine.proofs.PutFrame.{Leaves, IsFramed, framed_way, framed_open, last_put, last_refused}
+use Rattle.backup_engine.proofs.WholeCall.{crash_of}
 
 module _ (C : Type 0) (state : C → CoreState) (v w : DiskView) (old new : C) (called : Called C state v w old new) where
   abbrev store : Store
@@ -112,29 +113,8 @@ module _ (C : Type 0) (state : C → CoreState) (v w : DiskView) (old new : C) (
 
   -- what is so of the core's disk is so of the one that was handed in
   module _ (name : List ℕ) (ending : Option Ending) (left : (base : List ℕ) → v.content ≡ Some base → Left base ending) where
-    at_end : (base : List ℕ) → v.content ≡ Some base → (c : List ℕ) → w.images c → KeepsOpen ending base c
-    at_end base known c image = (left base known).images.now c (called.last.only.images_are c image)
-
-    earlier : (c : List ℕ) → v.clock < 2 ^ 64 - 1 → (state old).disk.images_since v.clock c → v.images c
-    earlier c below since = elim (called.first.only.since_are v.clock c (omega arith) since) [
-      | inl was ↦ v.only_now c below was
-      | inr image ↦ image
-    ]
-
-    since_call : (base : List ℕ) → v.content ≡ Some base → (c : List ℕ) → v.clock < 2 ^ 64 - 1 → (state new).disk.images_since v.clock c → v.images c ⊎ KeepsOpen ending base c
-    since_call base known c below since = elim ((left base known).images.since v.clock c called.first.only.later.clock_is since) [
-      | inl was ↦ inl (earlier c below was)
-      | inr kept ↦ inr kept
-    ]
-
-    -- the end of the core's run is not before the call
     crashed : (base : List ℕ) → v.content ≡ Some base → IsLater (state old).disk (state new).disk → (c : List ℕ) → SinceStart v w c → v.images c ⊎ KeepsRest (Ingest name) ending base c
-    crashed base known later c (inl image) = inr (inr (at_end base known c image))
-    crashed base known later c (inr since) =
-        elim (called.last.only.since_are v.clock c (omega (arith, called.first.only.later.clock_is, later.clock_is)) since.1) [
-          | inl was ↦ elim (since_call base known c since.0 was) [ inl image ↦ inl image | inr kept ↦ inr (inr kept) ]
-          | inr image ↦ inr (inr ((left base known).images.now c image))
-        ]
+    crashed base known later c since = elim (crash_of C state v w old new called (KeepsOpen ending base) later (left base known).images c since) [ inl was ↦ inl was | inr kept ↦ inr (inr kept) ]
 
     pub others_kept : IsLater (state old).disk (state new).disk → KeepsOthers (Ingest name) ending v w
     others_kept later = record {

@@ -12,7 +12,7 @@ use Rattle.reply_text.specs.declared.ending.Ending.{Ending}
 use Rattle.segment_index.specs.Changes.{SameBefore}
 use Rattle.store_model.specs.Image.{Store, Encodes}
 use Rattle.store_model.specs.Slots.{HoldSlots, free_slots, first_free, with_slot}
-use Rattle.store_model.specs.Steps.{StoreChange, SealContainer, PutName, changed}
+use Rattle.store_model.specs.Steps.{StoreChange, SealContainer, ChangeName, changed}
 use Rattle.store_core.specs.Runs.{ChangesTo}
 use Rattle.ingest_steps.specs.Sealing.{SameButSlotOf}
 use Rattle.backup_engine.specs.Frame.{KeepsOpen}
@@ -68,7 +68,7 @@ free_sealed first base (SealContainer id kind segments ∷ changes) s t chain se
       count_is = free.count_is;
       free = closed_with (first_free s.held) 0 _ s.held base free.free;
     })
-free_sealed first base (PutName name root ∷ changes) s t chain seals free = absurd seals.0
+free_sealed first base (ChangeName name change ∷ changes) s t chain seals free = absurd seals.0
 
 -- its first free slot is closed there
 pub first_is_shut : (first : Store) (base : List ℕ) (store : Store) → IsFreeIn first base store → first_free store.held < length store.held → byte_at (slot_at (first_free store.held)) base ≢ CONTAINER_GATE

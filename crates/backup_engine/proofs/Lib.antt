@@ -1,7 +1,11 @@
 pub mod Added
 pub mod Called
+pub mod ClapLines
+pub mod ClapWords
 pub mod Clashes
 pub mod Committed
+pub mod DeleteKept
+pub mod DeleteMap
 pub mod FedOpens
 pub mod Feds
 pub mod Filling
@@ -19,10 +23,14 @@ pub mod Kept
 pub mod KeptBytes
 pub mod KeptPieces
 pub mod LinesRun
+pub mod ListKept
 pub mod Lists
+pub mod NameLines
+pub mod NamesKept
 pub mod NotDone
 pub mod NotOpened
 pub mod Numbers
+pub mod OneLine
 pub mod PutCauses
 pub mod PutChanges
 pub mod PutEnds
@@ -61,3 +69,4 @@ pub mod WayLists
 pub mod WayRefusals
 pub mod WaySeals
 pub mod Ways
+pub mod WholeCall

@@ -19,7 +19,8 @@ use Rattle.recovery.specs.Opening.{IsOpenRefusal, Opens}
 use Rattle.store_core.specs.Opening.{IsGivenUp}
 use Rattle.store_core.specs.Runs.{IsOf}
 use Rattle.store_core.specs.State.{CoreState}
-use Rattle.backup_engine.specs.Line.{CommandLine, Format, Ingest, Restore}
+use Rattle.backup_engine.specs.Line.{CommandLine, Format, Ingest, Restore, Delete}
+use Rattle.backup_engine.specs.Line as table
 use Rattle.backup_engine.specs.Promise.{EndsBy, IsLeftWith}
 use Rattle.backup_engine.specs.AnyDisk.{Holds, IsCaused, Took, WroteOnAny, EndsDurable}
 use Rattle.backup_engine.specs.TopCall.{Keeps, IsLeftBlank, IsUntouched}
@@ -40,6 +41,8 @@ no_memory : (command : CommandLine) (given : List ℕ) (S : List ℕ → Type 0)
 no_memory (Format slots) given S m old content told is = left_with S m old content (λ store. Unit {0}) told is tt
 no_memory (Ingest name) given S m old content told is = left_with S m old content (λ store. Unit {0}) told is tt
 no_memory (Restore name) given S m old content told is = left_with S m old content (λ store. Unit {0}) told is tt
+no_memory (Delete name) given S m old content told is = left_with S m old content (λ store. Unit {0}) told is tt
+no_memory table.List given S m old content told is = left_with S m old content (λ store. Unit {0}) told is tt
 
 -- and whatever the command is
 memory_answers : (command : CommandLine) (given : List ℕ) (v w : DiskView) (sink : SinkView) → OnlyReads v w → AnswersEach command given (Some (Refused Memory)) v w sink sink
@@ -65,6 +68,20 @@ restore_failed name given S m old content told is Memory fails = left_with S m o
 restore_failed name given S m old content told is DiskRead fails = left_with S m old content (λ store. Unit {0}) told is tt
 restore_failed name given S m old content told is DiskWrite fails = left_with S m old content (λ store. Unit {0}) told is tt
 restore_failed name given S m old content told is refusal fails = absurd (false_not_true fails)
+
+delete_failed : (name given : List ℕ) (S : List ℕ → Type 0) (m : Stored) (old : List ℕ) (content : Option (List ℕ)) → content ≡ Some old → IsOf S m old → (refusal : Refusal) → IsTrue (fails refusal)
+    → EndsBy (Delete name) given m content (Some (Refused refusal))
+delete_failed name given S m old content told is Memory fails = left_with S m old content (λ store. Unit {0}) told is tt
+delete_failed name given S m old content told is DiskRead fails = left_with S m old content (λ store. Unit {0}) told is tt
+delete_failed name given S m old content told is DiskWrite fails = tt
+delete_failed name given S m old content told is refusal fails = absurd (false_not_true fails)
+
+list_failed : (given : List ℕ) (S : List ℕ → Type 0) (m : Stored) (old : List ℕ) (content : Option (List ℕ)) → content ≡ Some old → IsOf S m old → (refusal : Refusal) → IsTrue (fails refusal)
+    → EndsBy table.List given m content (Some (Refused refusal))
+list_failed given S m old content told is Memory fails = left_with S m old content (λ store. Unit {0}) told is tt
+list_failed given S m old content told is DiskRead fails = left_with S m old content (λ store. Unit {0}) told is tt
+list_failed given S m old content told is DiskWrite fails = left_with S m old content (λ store. Unit {0}) told is tt
+list_failed given S m old content told is refusal fails = absurd (false_not_true fails)
 
 -- ---- a store that was not opened
 
@@ -96,6 +113,19 @@ module _ (v w : DiskView) (refusal : Refusal) (is : IsUnopened v w refusal) (nam
   restore_answers given old known among m distinct right stands = record {
     by_map = restore_failed name given (IsIn among) m old w.content (is.reads.only.content_is ∙ known) stands refusal (map_fails v w refusal is (IsIn among) m old known stands);
     wrote = wrote_nothing (Restore name) given m (Refused refusal) sink (not_sink refusal);
+  }
+
+module _ (v w : DiskView) (refusal : Refusal) (is : IsUnopened v w refusal) (sink : SinkView) where
+  delete_answers : (name : List ℕ) → AnswersEach (Delete name) [] (Some (Refused refusal)) v w sink sink
+  delete_answers name old known among m distinct right stands = record {
+    by_map = delete_failed name [] (IsIn among) m old w.content (is.reads.only.content_is ∙ known) stands refusal (map_fails v w refusal is (IsIn among) m old known stands);
+    wrote = wrote_nothing (Delete name) [] m (Refused refusal) sink (not_sink refusal);
+  }
+
+  list_answers : AnswersEach table.List [] (Some (Refused refusal)) v w sink sink
+  list_answers old known among m distinct right stands = record {
+    by_map = list_failed [] (IsIn among) m old w.content (is.reads.only.content_is ∙ known) stands refusal (map_fails v w refusal is (IsIn among) m old known stands);
+    wrote = wrote_nothing table.List [] m (Refused refusal) sink (not_sink refusal);
   }
 
 ingest_caused : (v w : DiskView) (name given : List ℕ) (source : SourceView) (sink : SinkView) (refusal : Refusal) → IsOpenRefusal (Shows v w) v.size refusal
@@ -148,27 +178,85 @@ unopened_restore v w refusal is name source sink = record {
   untouched = tt;
 }
 
+delete_caused : (v w : DiskView) (name : List ℕ) (source : SourceView) (sink : SinkView) (refusal : Refusal) → IsOpenRefusal (Shows v w) v.size refusal
+    → IsCaused (Delete name) [] v w source source sink sink (Some (Refused refusal))
+delete_caused v w name source sink Memory cause = tt
+delete_caused v w name source sink DiskRead cause = tt
+delete_caused v w name source sink DiskWrite cause = tt
+delete_caused v w name source sink refusal cause = inl cause
+
+list_caused : (v w : DiskView) (source : SourceView) (sink : SinkView) (refusal : Refusal) → IsOpenRefusal (Shows v w) v.size refusal
+    → IsCaused table.List [] v w source source sink sink (Some (Refused refusal))
+list_caused v w source sink Memory cause = tt
+list_caused v w source sink DiskRead cause = tt
+list_caused v w source sink DiskWrite cause = tt
+list_caused v w source sink refusal cause = cause
+
+pub unopened_delete : (v w : DiskView) (refusal : Refusal) → IsUnopened v w refusal → (name : List ℕ) (source : SourceView) (sink : SinkView)
+    → Keeps (Delete name) [] (Some (Refused refusal)) v w source source sink sink
+unopened_delete v w refusal is name source sink = record {
+  map = reads_map (Delete name) [] (Refused refusal) v w sink sink is.reads.only (not_sink refusal) (delete_answers v w refusal is sink name);
+  any = record {
+    took = (refl, refl);
+    caused = delete_caused v w name source sink refusal is.cause;
+    wrote = refl;
+    faults_are = is.reads.faults_are;
+    durable = tt;
+    source_faults = λ other. refl;
+    sink_faults = λ other. refl;
+  };
+  frame = reads_frame (Delete name) (Some (Refused refusal)) v w is.reads.only;
+  blank = tt;
+  untouched = tt;
+}
+
+pub unopened_list : (v w : DiskView) (refusal : Refusal) → IsUnopened v w refusal → (source : SourceView) (sink : SinkView)
+    → Keeps table.List [] (Some (Refused refusal)) v w source source sink sink
+unopened_list v w refusal is source sink = record {
+  map = reads_map table.List [] (Refused refusal) v w sink sink is.reads.only (not_sink refusal) (list_answers v w refusal is sink);
+  any = record {
+    took = (refl, refl);
+    caused = list_caused v w source sink refusal is.cause;
+    wrote = refl;
+    faults_are = is.reads.faults_are;
+    durable = tt;
+    source_faults = λ other. refl;
+    sink_faults = λ other. refl;
+  };
+  frame = reads_frame table.List (Some (Refused refusal)) v w is.reads.only;
+  blank = tt;
+  untouched = tt;
+}
+
 -- ---- no memory before the disk was called
 
 left_blank : (command : CommandLine) (v w : DiskView) → OnlyReads v w → IsLeftBlank command v w
 left_blank (Format slots) v w reads = λ old known. ((old, reads.content_is ∙ known, inl refl), λ c since. inl (since_start v w reads c since))
 left_blank (Ingest name) v w reads = tt
 left_blank (Restore name) v w reads = tt
+left_blank (Delete name) v w reads = tt
+left_blank table.List v w reads = tt
 
 memory_untouched : (command : CommandLine) (v w : DiskView) → OnlyReads v w → IsUntouched command (Some (Refused Memory)) v w
 memory_untouched (Format slots) v w reads = (reads.content_is, λ old known. reads.images_are)
 memory_untouched (Ingest name) v w reads = tt
 memory_untouched (Restore name) v w reads = tt
+memory_untouched (Delete name) v w reads = tt
+memory_untouched table.List v w reads = tt
 
 memory_wrote : (command : CommandLine) (given : List ℕ) (v w : DiskView) (sink : SinkView) → WroteOnAny command given (Some (Refused Memory)) v w sink sink
 memory_wrote (Format slots) given v w sink = refl
 memory_wrote (Ingest name) given v w sink = refl
 memory_wrote (Restore name) given v w sink = inl refl
+memory_wrote (Delete name) given v w sink = refl
+memory_wrote table.List given v w sink = refl
 
 memory_durable : (command : CommandLine) (w : DiskView) → EndsDurable command (Some (Refused Memory)) w
 memory_durable (Format slots) w = tt
 memory_durable (Ingest name) w = tt
 memory_durable (Restore name) w = tt
+memory_durable (Delete name) w = tt
+memory_durable table.List w = tt
 
 -- There was no memory, and the disk was read at most.
 pub without_memory : (command : CommandLine) (given : List ℕ) (v w : DiskView) (source source_now : SourceView) (sink : SinkView) → Reads NoFault v w → Took command given (Some (Refused Memory)) source source_now → source_now.faults ≡ source.faults

@@ -17,7 +17,9 @@ use Rattle.reply_text.specs.declared.ending.Ending.{Ending}
 use Rattle.reply_text.specs.declared.ending.Ending.TheVariants.{Source, Sink, Refused}
 use Rattle.reply_text.specs.Text.{stored_line}
 use Rattle.store_model.specs.Image.{Store, IsValidFor, names_of}
-use Rattle.store_model.specs.Steps.{StoreChange, CanPut, with_put}
+use Rattle.disk_format.specs.Cells.{Root}
+use Rattle.disk_format.specs.Cells.Change.{Put}
+use Rattle.store_model.specs.Steps.{StoreChange, CanChangeName, with_change}
 use Rattle.store_model.specs.Trees.{root_of}
 use Rattle.store_state.specs.Refused.{blames}
 use Rattle.store_core.specs.Runs.{ChangesTo, CoreRun, FileEvent, events_of}
@@ -132,9 +134,9 @@ module _ (C : Type 0) (state : C → CoreState) (v w : DiskView) (old new : C) (
     cause_of refusal added are later refuses = inr (added, in_call later refusal added.after (refuses.store_has added.after are.represents are.valid are.reserve))
 
     -- a name that can be put has a cell
-    has_cell : (after : Store) → CanPut name after → HasNoRoomForName (room_in (Ingest name) after) → ⊥
-    has_cell after can (inl full) = has_room (names_of after) name can.room full.0 full.1
-    has_cell after can (inr many) = absurd (omega (arith, many, can.cell))
+    has_cell : (after : Store) (root : Root) → CanChangeName name (Put root) after → HasNoRoomForName (room_in (Ingest name) after) → ⊥
+    has_cell after root can (inl full) = has_room (names_of after) name can.place full.0 full.1
+    has_cell after root can (inr many) = absurd (omega (arith, many, can.cell))
 
     module _ (took : Known source.left (λ all. given ≡ all)) where
       refused_took : Known source.left (λ all. (given ≡ all) × Unit {0})
@@ -160,9 +162,9 @@ module _ (C : Type 0) (state : C → CoreState) (v w : DiskView) (old new : C) (
             added = added (Ok tt) run;
             all = record {
               few = few;
-              pieces = held.store_has (with_put name ends.root (puts (Ok tt) run).after) ends.are.represents ends.are.valid ends.are.reserve;
+              pieces = held.store_has (with_change name (Put ends.root) (puts (Ok tt) run).after) ends.are.represents ends.are.valid ends.are.reserve;
               named = ends.can.named;
-              cell = has_cell (puts (Ok tt) run).after ends.can;
+              cell = has_cell (puts (Ok tt) run).after ends.root ends.can;
             };
             number = ends.can.number;
           }

@@ -4,6 +4,7 @@ use Rattle.std.proofs.Common.{◌≡◌, ◌⊎◌, inl, inr, ℕ, suc, ◌≤�
 use Rattle.std.specs.List.{AllByRecursion}
 use Rattle.disk_format.specs.declared.numbers.TheConstants.{RESERVE}
 use Rattle.disk_format.specs.Cells.{Root}
+use Rattle.disk_format.specs.Cells.Change.{Put}
 use Rattle.dd_disk.specs.View.{IsLater, IsDurable}
 use Rattle.container_meta.specs.Places.{PlaceMap}
 use Rattle.container_meta.specs.Segments.{Contents}
@@ -16,11 +17,11 @@ use Rattle.refusals.specs.declared.refusal.Refusal.{Refusal}
 use Rattle.refusals.specs.declared.refusal.Refusal.TheVariants.{Memory, DiskWrite, Damaged}
 use Rattle.store_model.specs.Image.{Store, IsValidFor}
 use Rattle.store_model.specs.Slots.{free_slots, first_free, with_slot}
-use Rattle.store_model.specs.Steps.{StoreChange, SealContainer, PutName, CanPut, changed, with_put}
+use Rattle.store_model.specs.Steps.{StoreChange, SealContainer, ChangeName, CanChangeName, changed, with_change}
 use Rattle.store_state.specs.declared.tables.Tables.{Tables}
 use Rattle.store_state.specs.Tables.{Represents}
 use Rattle.store_core.specs.declared.stop.Stop.{Stop}
-use Rattle.store_core.specs.Core.{CoreStep, Steps, StepsOr, StopsAfter, Row, Effect, Rests, SealsOne, PutsOne, Makes, KeepsTables}
+use Rattle.store_core.specs.Core.{CoreStep, Steps, StepsOr, StopsAfter, Row, Effect, Rests, SealsOne, NamesOne, Makes, KeepsTables}
 use Rattle.store_core.specs.Runs.{ChangesTo, CoreRun, FileEvent, events_of}
 use Rattle.store_core.specs.State.{CoreState, Event}
 use Rattle.backup_engine.specs.Running.{PutRun, EndsPut, IsPutStep, IsAskedFor, IsNoCommit, IsOk, IsDoneBefore, IsLastPut, seal_by, seals_of}
@@ -70,6 +71,8 @@ last_is P commits asked.Abort answer last = absurd last
 last_is P commits (asked.OpenRead name) answer last = absurd last
 last_is P commits asked.ReadNext answer last = absurd last
 last_is P commits asked.EndRead answer last = absurd last
+last_is P commits (asked.Delete name) answer last = absurd last
+last_is P commits asked.ListNames answer last = absurd last
 last_is P commits asked.Stat answer last = absurd last
 
 -- the commit seals nothing, and neither does a step that is refused
@@ -85,6 +88,8 @@ refused_seals asked.Abort refusal = refl
 refused_seals (asked.OpenRead name) refusal = refl
 refused_seals asked.ReadNext refusal = refl
 refused_seals asked.EndRead refusal = refl
+refused_seals (asked.Delete name) refusal = refl
+refused_seals asked.ListNames refusal = refl
 refused_seals asked.Stat refusal = refl
 
 alone : (f : FileEvent) → seal_by f.event.step f.event.answer ≡ [] → seals_of (f ∷ []) ≡ []
@@ -156,7 +161,7 @@ pub record IsOn (s : Store) (c : CoreState) : Type 0 where
 
 abbrev pub IsSeal : StoreChange → Type 0
 IsSeal (SealContainer id kind segments) = Unit {0}
-IsSeal (PutName name root) = ⊥
+IsSeal (ChangeName name change) = ⊥
 
 -- the core is on the store to which these seals lead from another one
 pub record SealedTo (changes : List StoreChange) (s : Store) (c : CoreState) : Type 0 where
@@ -236,6 +241,8 @@ module _ (s : Store) (old new : CoreState) (on : IsOn s old) (runs : new.stop �
   by_step name bytes put actor buf (asked.OpenRead n) (Ok answer) asks other ok row effect = absurd asks
   by_step name bytes put actor buf asked.ReadNext (Ok answer) asks other ok row effect = absurd asks
   by_step name bytes put actor buf asked.EndRead (Ok answer) asks other ok row effect = absurd asks
+  by_step name bytes put actor buf (asked.Delete n) (Ok answer) asks other ok row effect = absurd asks
+  by_step name bytes put actor buf asked.ListNames (Ok answer) asks other ok row effect = absurd asks
   by_step name bytes put actor buf asked.Stat (Ok answer) asks other ok row effect = absurd asks
 
 -- what is done stops no core
@@ -280,9 +287,9 @@ AreUnless refusal s c = AreOf s c
 
 -- the name could be put, and was
 pub record IsPutAt (name : List ℕ) (after : Store) (new : CoreState) : Type 0 where
-  pub can : CanPut name after
   pub root : Root
-  pub are : AreOf (with_put name root after) new
+  pub can : CanChangeName name (Put root) after
+  pub are : AreOf (with_change name (Put root) after) new
   pub durable : IsDurable new.disk
 
 abbrev pub EndsAt : List ℕ → Result Unit Refusal → Store → CoreState → Type 0
@@ -323,14 +330,16 @@ module _ (s : Store) (old new : CoreState) (on : IsOn s old) where
   step_refused (asked.OpenRead n) actor buf refusal row effect = kept refusal effect.tables effect.disk.only.later
   step_refused asked.ReadNext actor buf refusal row effect = kept refusal effect.tables effect.disk.only.later
   step_refused asked.EndRead actor buf refusal row effect = kept refusal effect.tables effect.disk.only.later
+  step_refused (asked.Delete n) actor buf refusal row effect = kept refusal effect.kept effect.disk.later
+  step_refused asked.ListNames actor buf refusal row effect = kept refusal effect.tables effect.disk.only.later
   step_refused asked.Stat actor buf refusal row effect = kept refusal effect.tables effect.disk.only.later
 
-  was_put : (name : List ℕ) (root : Root) (answer : Answer) → PutsOne name root (Ok answer) old new → IsPutAt name s new
+  was_put : (name : List ℕ) (root : Root) (answer : Answer) → NamesOne name (Put root) (Ok answer) old new → IsPutAt name s new
   was_put name root answer effect =
       let made = effect.made in
       record {
-        can = (made.can.store_has s on.represents on.valid on.reserve).0;
         root = root;
+        can = (made.can.store_has s on.represents on.valid on.reserve).0;
         are = record { represents = made.represents.store_has s on.represents on.valid on.reserve; valid = made.valid.store_has s on.represents on.valid on.reserve; reserve = on.reserve };
         durable = effect.durable;
       }
@@ -345,6 +354,8 @@ module _ (s : Store) (old new : CoreState) (on : IsOn s old) where
   put_last name bytes put (asked.OpenRead n) answer asks last effect = absurd last
   put_last name bytes put asked.ReadNext answer asks last effect = absurd last
   put_last name bytes put asked.EndRead answer asks last effect = absurd last
+  put_last name bytes put (asked.Delete n) answer asks last effect = absurd last
+  put_last name bytes put asked.ListNames answer asks last effect = absurd last
   put_last name bytes put asked.Stat answer asks last effect = absurd last
 
 module _ (C : Type 0) (state : C → CoreState) (name bytes : List ℕ) (s : Store) where

@@ -4,7 +4,8 @@ use Rattle.std.specs.List.{AllByRecursion}
 use Rattle.base_model.specs.Frames.{SameOutside}
 use Rattle.base_model.specs.Known.{KnownWith}
 use Rattle.disk_format.specs.declared.numbers.TheConstants.{CELL_BYTES, RESERVE}
-use Rattle.disk_format.specs.Cells.{Root}
+use Rattle.disk_format.specs.Cells.{Change, Root}
+use Rattle.disk_format.specs.Cells.Change.{Put, Delete as Gone}
 use Rattle.disk_format.specs.Layout.{half_cells, cell_at}
 use Rattle.dd_disk.specs.View.{DiskView, OnlyReads, CrashLeaves, SteppedFrom}
 use Rattle.dd_disk.proofs.Later.{reads_here, reads_leave, leaves_on, leaves_weaker}
@@ -22,7 +23,7 @@ use Rattle.store_model.specs.Slots.{free_slots, first_free}
 use Rattle.store_model.proofs.Free.{some_free}
 use Rattle.store_state.specs.Settled.{IsSettled}
 use Rattle.ingest_steps.specs.Sealing.{ChangesSlotAlone, SameButSlotOf}
-use Rattle.store_core.specs.Core.{CoreStep, Row, Effect, SealsOne, PutsOne}
+use Rattle.store_core.specs.Core.{CoreStep, Row, Effect, SealsOne, NamesOne}
 use Rattle.store_core.specs.Runs.{CoreRun, FileEvent, events_of}
 use Rattle.store_core.specs.State.{CoreState}
 use Rattle.store_core.proofs.Stepping.{effect_later}
@@ -115,8 +116,8 @@ module _ (first : Store) (base : List ℕ) (t : Store) (old new : CoreState) (on
           open_next first base right reserve d keeps_there ending may old.tables.journal.half old.tables.journal.count (on.represents.names_are.half ∙ held.free.half_is)
           (on.represents.names_are.count ∙ held.free.count_is) room c same
 
-      by_commit : (name : List ℕ) (root : Root) (answer : Result Answer Refusal) → PutsOne name root answer old new → Leaves Open old.disk new.disk
-      by_commit name root answer effect =
+      by_change : (name : List ℕ) (change : Change) (answer : Result Answer Refusal) → NamesOne name change answer old new → Leaves Open old.disk new.disk
+      by_change name change answer effect =
           let images = leaves_weaker (SteppedFrom SameButNext old.disk) Open old.disk new.disk (λ c from. elim from [
             | inl image ↦ slots_open c (image_keeps c image)
             | inr step ↦ next_open step.0 c (image_keeps step.0 step.1) step.2
@@ -154,6 +155,8 @@ module _ (first : Store) (base : List ℕ) where
     step_held name bytes put (asked.OpenRead n) (Ok answer) asks other ok effect = absurd asks
     step_held name bytes put asked.ReadNext (Ok answer) asks other ok effect = absurd asks
     step_held name bytes put asked.EndRead (Ok answer) asks other ok effect = absurd asks
+    step_held name bytes put (asked.Delete n) (Ok answer) asks other ok effect = absurd asks
+    step_held name bytes put asked.ListNames (Ok answer) asks other ok effect = absurd asks
     step_held name bytes put asked.Stat (Ok answer) asks other ok effect = absurd asks
 
   module _ (name bytes : List ℕ) (start : DiskView) where
@@ -204,7 +207,7 @@ module _ (first : Store) (base : List ℕ) (right : Encodes base first) (reserve
         → Effect step answer old new → EndsSo ending
     put_open ending may actor buf (asked.Commit name root) (Err refusal) last row effect = absurd last
     put_open ending may actor buf (asked.Commit name root) (Ok answer) last row effect =
-        by_commit first base t old new framed.on framed.held ending right reserve may (commit_room old new name root actor buf answer row) name root (Ok answer) effect
+        by_change first base t old new framed.on framed.held ending right reserve may (commit_room old new name root actor buf answer row) name (Put root) (Ok answer) effect
     put_open ending may actor buf asked.Begin answer last row effect = absurd last
     put_open ending may actor buf (asked.Claim seg) answer last row effect = absurd last
     put_open ending may actor buf (asked.Seal filled) answer last row effect = absurd last
@@ -212,15 +215,25 @@ module _ (first : Store) (base : List ℕ) (right : Encodes base first) (reserve
     put_open ending may actor buf (asked.OpenRead name) answer last row effect = absurd last
     put_open ending may actor buf asked.ReadNext answer last row effect = absurd last
     put_open ending may actor buf asked.EndRead answer last row effect = absurd last
+    put_open ending may actor buf (asked.Delete name) answer last row effect = absurd last
+    put_open ending may actor buf asked.ListNames answer last row effect = absurd last
     put_open ending may actor buf asked.Stat answer last row effect = absurd last
 
     -- a commit that was refused wrote nothing, but where a write failed
-    uncommitted : (name : List ℕ) (root : Root) (actor : ℕ) (buf : List ℕ) (refusal : Refusal) → Row (asked.Commit name root) actor (Err refusal) buf old new → PutsOne name root (Err refusal) old new
+    uncommitted : (name : List ℕ) (root : Root) (actor : ℕ) (buf : List ℕ) (refusal : Refusal) → Row (asked.Commit name root) actor (Err refusal) buf old new → NamesOne name (Put root) (Err refusal) old new
         → EndsSo (Some (Refused refusal))
     uncommitted name root actor buf DiskWrite row effect =
-        by_commit first base t old new framed.on framed.held (Some (Refused DiskWrite)) right reserve tt row.0.0.may_name.cell name root (Err DiskWrite) effect
+        by_change first base t old new framed.on framed.held (Some (Refused DiskWrite)) right reserve tt row.0.0.may_name.cell name (Put root) (Err DiskWrite) effect
     uncommitted name root actor buf DiskRead row effect = reads_open (Some (Refused DiskRead)) effect.disk.ends
     uncommitted name root actor buf refusal row effect = reads_open (Some (Refused refusal)) effect.disk.ends
+
+    -- nor did a delete
+    undeleted : (name : List ℕ) (actor : ℕ) (buf : List ℕ) (refusal : Refusal) → Row (asked.Delete name) actor (Err refusal) buf old new → NamesOne name Gone (Err refusal) old new
+        → EndsSo (Some (Refused refusal))
+    undeleted name actor buf DiskWrite row effect =
+        by_change first base t old new framed.on framed.held (Some (Refused DiskWrite)) right reserve tt row.0.0.cell name Gone (Err DiskWrite) effect
+    undeleted name actor buf DiskRead row effect = reads_open (Some (Refused DiskRead)) effect.disk.ends
+    undeleted name actor buf refusal row effect = reads_open (Some (Refused refusal)) effect.disk.ends
 
     refused_open : (actor : ℕ) (buf : List ℕ) (refusal : Refusal) (step : StepValue) → Row step actor (Err refusal) buf old new → Effect step (Err refusal) old new → EndsSo (Some (Refused refusal))
     refused_open actor buf refusal asked.Begin row effect = reads_open (Some (Refused refusal)) effect.disk.only
@@ -231,6 +244,8 @@ module _ (first : Store) (base : List ℕ) (right : Encodes base first) (reserve
     refused_open actor buf refusal (asked.OpenRead name) row effect = reads_open (Some (Refused refusal)) effect.disk.only
     refused_open actor buf refusal asked.ReadNext row effect = reads_open (Some (Refused refusal)) effect.disk.only
     refused_open actor buf refusal asked.EndRead row effect = reads_open (Some (Refused refusal)) effect.disk.only
+    refused_open actor buf refusal (asked.Delete name) row effect = undeleted name actor buf refusal row effect
+    refused_open actor buf refusal asked.ListNames row effect = reads_open (Some (Refused refusal)) effect.disk.only
     refused_open actor buf refusal asked.Stat row effect = reads_open (Some (Refused refusal)) effect.disk.only
 
     -- and what was left before

@@ -17,7 +17,8 @@ use Rattle.store_model.specs.Image.{Store, Encodes, IsValidFor}
 use Rattle.store_model.specs.Slots.{free_slots}
 use Rattle.store_model.specs.Standing.{IsStoreOf, IsSegmentOf}
 use Rattle.store_model.specs.Collisions as collisions
-use Rattle.store_model.specs.Steps.{with_put}
+use Rattle.disk_format.specs.Cells.Change.{Put}
+use Rattle.store_model.specs.Steps.{with_change}
 use Rattle.store_model.proofs.Once.{store_once}
 use Rattle.store_model.specs.Trees.{root_of}
 use Rattle.store_state.specs.Tables.{Represents}
@@ -251,7 +252,7 @@ module _ (C : Type 0) (state : C → CoreState) (v w : DiskView) (old new : C) (
     can = can_be C state v w old new was name given (Ok u) ran among m image told distinct all is (Ok u) ran.ends
 
     -- it runs on
-    done_adds : (store : Store) → Encodes image store → AddsTo given (with_put name (root_of given)) store w.content
+    done_adds : (store : Store) → Encodes image store → AddsTo given (with_change name (Put (root_of given))) store w.content
     done_adds store right =
         let runs = done_on C state among name given distinct ran.steps u old new was.opened.stop_is (run C state v w old new was name given (Ok u) ran among m image told distinct all is) ran.each ran.ends in
         adds C state v w old new was name given (Ok u) ran among m image told distinct all is runs store right

@@ -14,7 +14,8 @@ use Rattle.store_model.specs.Image.{Store, Encodes}
 use Rattle.store_model.specs.Standing.{IsSegmentOf}
 use Rattle.store_core.specs.Runs.{IsOf}
 use Rattle.backup_engine.specs.Adding.{Adds}
-use Rattle.backup_engine.specs.Line.{CommandLine, Format, Ingest, Restore}
+use Rattle.backup_engine.specs.Line.{CommandLine, Format, Ingest, Restore, Delete}
+use Rattle.backup_engine.specs.Line as table
 use Rattle.backup_engine.specs.Promise as promise
 use Rattle.backup_engine.specs.Promise.{EndsBy, WroteFile, IsLeftAs, SinceStart, NothingWritten, KeepsMap, KeepsEachMap}
 use Rattle.backup_engine.specs.Frame.{KeepsRest, KeepsOthers}
@@ -26,6 +27,8 @@ kept : (command : CommandLine) (ending : Option Ending) (old : List ℕ) → Kee
 kept (Format slots) ending old = λ gate. refl
 kept (Ingest name) ending old = inl refl
 kept (Restore name) ending old = refl
+kept (Delete name) ending old = inl refl
+kept table.List ending old = refl
 
 -- of a disk of which all is as it was there was no more than reads
 pub same_reads : (v w : DiskView) → IsSameDisk v w → OnlyReads v w
@@ -73,6 +76,10 @@ AnswersEach command given ending v w sink sink_now =
 pub added_none : (command : CommandLine) (given : List ℕ) (ending : Ending) (store : Store) (old : List ℕ) (content : Option (List ℕ)) → ¬ (ending ≡ Sink) → content ≡ Some old → Encodes old store → Adds command given (Some ending) store content
 added_none (Format slots) given ending store old content not told right = tt
 added_none (Restore name) given ending store old content not told right = tt
+added_none (Delete name) given Sink store old content not told right = absurd (not refl)
+added_none (Delete name) given (Refused DiskWrite) store old content not told right = tt
+added_none (Delete name) given ending store old content not told right = (old, told, right)
+added_none table.List given ending store old content not told right = (old, told, right)
 added_none (Ingest name) given Sink store old content not told right = absurd (not refl)
 added_none (Ingest name) given (Refused DiskWrite) store old content not told right = tt
 added_none (Ingest name) given ending store old content not told right = record { changes = []; after = store; chain = refl; once = tt; content_is = (old, told, right) }
@@ -131,3 +138,7 @@ wrote_nothing (Format slots) given m ending sink not = refl
 wrote_nothing (Ingest name) given m Sink sink not = absurd (not refl)
 wrote_nothing (Ingest name) given m ending sink not = refl
 wrote_nothing (Restore name) given m ending sink not = wrote_no_file (finite.get m.files name) ending sink
+wrote_nothing (Delete name) given m Sink sink not = absurd (not refl)
+wrote_nothing (Delete name) given m ending sink not = refl
+wrote_nothing table.List given m Sink sink not = absurd (not refl)
+wrote_nothing table.List given m ending sink not = refl

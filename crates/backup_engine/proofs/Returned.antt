@@ -20,7 +20,7 @@ pub rest_same : (a b : ℕ) (xs ys : List ℕ) → a ∷ xs ≡ b ∷ ys → xs 
 rest_same a b xs ys same = cc
 
 module _ (C : Type 0) (state : C → CoreState) where
-  one_later : (e : Event) (old new : C) → CoreStep (state old) e (state new) → IsLater (state old).disk (state new).disk
+  pub one_later : (e : Event) (old new : C) → CoreStep (state old) e (state new) → IsLater (state old).disk (state new).disk
   one_later e old new made = run_later C state (e ∷ []) old new (new, (made, refl))
 
   give_later : (name : List ℕ) (result : Result Unit Ending) (old new : C) (sink sink_now : SinkView) → GiveRun C state name result old new sink sink_now → IsLater (state old).disk (state new).disk
@@ -35,7 +35,7 @@ module _ (C : Type 0) (state : C → CoreState) where
     | inr taken ↦ run_later C state (events_of taken.ran.steps) old new taken.ran.ran
   ]
 
-  whole_later : (v w : DiskView) (old new : C) → Called C state v w old new → IsLater (state old).disk (state new).disk → IsLater v w
+  pub whole_later : (v w : DiskView) (old new : C) → Called C state v w old new → IsLater (state old).disk (state new).disk → IsLater v w
   whole_later v w old new called between =
       later_on v (state old).disk w called.first.only.later (later_on (state old).disk (state new).disk w between called.last.only.later)
 

@@ -141,7 +141,7 @@ module _ (C : Type 0) (state : C → CoreState) (laws : ReadsTellScripts) (rs : 
           before = rs;
           last = one;
           has_last = record { are = refl };
-          no_commit = none;
+          no_command = none;
           wrote = subst (λ (v : SinkView). Appended sink.written v.written (printed rs)) (sym sink_is) so_far.wrote;
         });
         source_faults = λ other. heard_all;

@@ -95,9 +95,9 @@ unopened_speaks AreSo v w refusal is sink = record {
 }
 
 -- there was no memory before the store was opened
-pub unbegun_speaks : (name : List ℕ) (v : DiskView) (sink : SinkView) → Speaks (IsRestore name (Some (Refused Memory)) sink sink) (Some (Refused Memory)) [] v v sink sink
-unbegun_speaks name v sink = record {
-  lines_are = inl (inl (refl, refl, refl));
+pub unbegun_speaks : (AreSo : List Replied → Type 0) (v : DiskView) (sink : SinkView) → AreSo [] → Speaks AreSo (Some (Refused Memory)) [] v v sink sink
+unbegun_speaks AreSo v sink none = record {
+  lines_are = inl none;
   machine = none_run v v Memory (reads_here v) refl tt (λ S m image told is. refl);
 }
 

@@ -1,14 +1,22 @@
 -- What the top call promises, from what a command keeps.
-use Rattle.std.proofs.Common.{◌≡◌, refl, sym, subst, ℕ, List, [], Option, Some, None}
+use Rattle.std.proofs.Common.{◌≡◌, inl, inr, refl, sym, subst, ℕ, List, [], Option, Some, None}
 use Rattle.dd_disk.specs.View.{DiskView}
 use Rattle.dd_io.specs.Flow.{SourceView, SinkView}
 use Rattle.plain_machine.specs.Runs.{Replied}
 use Rattle.reply_text.specs.declared.ending.Ending.{Ending}
-use Rattle.reply_text.specs.declared.ending.Ending.TheVariants.{Words}
+use Rattle.refusals.specs.declared.refusal.Refusal.TheVariants.{Memory}
+use Rattle.reply_text.specs.declared.ending.Ending.TheVariants.{Words, Refused}
 use Rattle.reply_text.specs.Table.{status_of}
-use Rattle.backup_engine.specs.Line.{TableLine}
+use Rattle.script_lines.specs.Reader.{ReadsTellScripts}
+use Rattle.backup_engine.specs.Line.{TableLine, Single, Run, Format, Ingest, Restore, Delete}
+use Rattle.backup_engine.specs.Line as table
 use Rattle.backup_engine.specs.Seen.{Seen}
+use Rattle.backup_engine.specs.Singles.{IsDelete, IsIngest, IsListing, IsRestore}
 use Rattle.backup_engine.specs.TopCall.{IsSameDisk, Does, Promise, IsNoted, AreNoted, status_by}
+use Rattle.backup_engine.proofs.NotDone.{not_begun}
+use Rattle.backup_engine.proofs.ScriptKept.{no_memory_kept}
+use Rattle.backup_engine.proofs.SinglesRun.{unbegun_speaks}
+use Rattle.backup_engine.proofs.SourceRuns.{given_of, given_told}
 
 same_disk : (v : DiskView) → IsSameDisk v v
 same_disk v = record {
@@ -45,8 +53,38 @@ words_promise line status v source sink notes notes_now none is noted = record {
   status_is = is;
   noted = noted;
   does = subst (λ (l : Option TableLine). Does l [] [] (Some Words) v v source source sink sink) (sym none)
-      (record { why = refl; disk_is = same_disk v; source_is = refl; sink_is = refl });
+      (record { why = inl refl; disk_is = same_disk v; source_is = refl; sink_is = refl });
 }
+
+-- there was no memory to read the words, whatever line they are
+memory_does : (line : Option TableLine) (v : DiskView) (source : SourceView) (sink : SinkView) → ReadsTellScripts
+    → (given : List ℕ) × ((rs : List Replied) × Does line given rs (Some (Refused Memory)) v v source source sink sink)
+memory_does None v source sink laws = ([], ([], record { why = inr refl; disk_is = same_disk v; source_is = refl; sink_is = refl }))
+memory_does (Some (Single (Format slots))) v source sink laws = ([], ([], (not_begun (Format slots) [] v source sink (refl, refl), refl)))
+memory_does (Some (Single (Ingest name))) v source sink laws =
+    let given = given_of source.left in (
+      given,
+      (
+        [],
+        (
+          not_begun (Ingest name) given v source sink (λ all told. (given_told source.left all told, tt)),
+          unbegun_speaks (IsIngest name given (Some (Refused Memory)) source source) v sink (inl (refl, refl)),
+        ),
+      ),
+    )
+memory_does (Some (Single (Restore name))) v source sink laws =
+    ([], ([], (not_begun (Restore name) [] v source sink (refl, refl), unbegun_speaks (IsRestore name (Some (Refused Memory)) sink sink) v sink (inl (refl, refl, refl)))))
+memory_does (Some (Single (Delete name))) v source sink laws =
+    ([], ([], (not_begun (Delete name) [] v source sink (refl, refl), unbegun_speaks (IsDelete name (Some (Refused Memory)) sink sink) v sink (inl (refl, refl), refl))))
+memory_does (Some (Single table.List)) v source sink laws =
+    ([], ([], (not_begun table.List [] v source sink (refl, refl), unbegun_speaks (IsListing (Some (Refused Memory)) sink sink) v sink (inl (refl, inl refl), refl))))
+memory_does (Some Run) v source sink laws = ([], ([], no_memory_kept v source sink laws))
+
+pub memory_promise : (line : Option TableLine) (status : ℕ) (v : DiskView) (source : SourceView) (sink notes notes_now : SinkView) → ReadsTellScripts → status ≡ status_of (Refused Memory) → IsNoted notes notes_now (Refused Memory)
+    → Promise line status (saw v v source source sink sink notes notes_now)
+memory_promise line status v source sink notes notes_now laws is noted =
+    let does = memory_does line v source sink laws in
+    record { ending = Some (Refused Memory); given = does.0; rs = does.1.0; status_is = is; noted = noted; does = does.1.1 }
 
 -- what is so of a line is so of what is that line
 pub does_as : (line said : TableLine) → line ≡ said → (given : List ℕ) (rs : List Replied) (ending : Option Ending) (v w : DiskView) (source source_now : SourceView) (sink sink_now : SinkView)

@@ -15,9 +15,10 @@ use Rattle.journal_cells.specs.declared.fault.CellFault.{CellFault}
 use Rattle.recovery.specs.Opening.{IsOpenRefusal, IsSized, BreaksFormat, BreaksJournal, BreaksSlots, HasWrongSize}
 use Rattle.recovery.specs.Slots.{IsDamagedSlot}
 use Rattle.read_steps.specs.Walking.{WasRead, IsNextRefusal, IsTopRefusal, IsCopyRefusal, top_key}
-use Rattle.backup_engine.specs.AnyDisk.{Holds, HasAdded, ReadsSince, GivesBack, IsStuck, IsRefused, IsStored, IsCaused, WroteOnAny, EndsDurable}
+use Rattle.backup_engine.specs.AnyDisk.{Holds, HasAdded, ReadsSince, GivesBack, IsDeleted, IsStuck, IsRefused, IsStored, IsCaused, WroteOnAny, EndsDurable}
 use Rattle.backup_engine.specs.Frame.{KeepsOthers}
-use Rattle.backup_engine.specs.Line.{CommandLine, Ingest, Restore}
+use Rattle.backup_engine.specs.Line.{CommandLine, Ingest, Restore, Delete}
+use Rattle.backup_engine.specs.Line as table
 use Rattle.store_model.specs.Collisions.{ByteSet, IsIn}
 use Rattle.backup_engine.specs.Promise.{KeepsEachMap, IsLeftAs, Stands, NothingWritten}
 use Rattle.backup_engine.specs.TopCall.{Keeps}
@@ -203,6 +204,46 @@ module _ (loans loans_now : List ℕ) (v w : DiskView) where
     restore_wrote (Some ending) (inl is) = inl is
     restore_wrote (Some ending) (inr is) = inr (given_back sink sink_now name (Some ending) is)
 
+    delete_refused : (refusal : Refusal) → IsRefused (Delete name) given lent lent_now source source_now sink sink_now refusal → IsRefused (Delete name) given v w source source_now sink sink_now refusal
+    delete_refused DiskRead is = is
+    delete_refused DiskWrite is = is
+    delete_refused refusal (inl is) = inl (opens refusal is)
+    delete_refused refusal (inr is) = inr (holds is.0, is.1)
+
+    deleted : IsDeleted name lent lent_now → IsDeleted name v w
+    deleted is = record { holds = holds is.holds; may = is.may; number = is.number }
+
+    delete_caused : (ending : Option Ending) → IsCaused (Delete name) given lent lent_now source source_now sink sink_now ending → IsCaused (Delete name) given v w source source_now sink sink_now ending
+    delete_caused None is = deleted is
+    delete_caused (Some Source) is = (is.0, added given is.1, is.2)
+    delete_caused (Some Sink) is = (deleted is.0, is.1)
+    delete_caused (Some (Refused Memory)) is = is
+    delete_caused (Some (Refused refusal)) is = delete_refused refusal is
+    delete_caused (Some ending) is = absurd is
+
+    delete_durable : (ending : Option Ending) → EndsDurable (Delete name) ending lent_now → EndsDurable (Delete name) ending w
+    delete_durable None is = is
+    delete_durable (Some Sink) is = is
+    delete_durable (Some ending) is = tt
+
+    list_refused : (refusal : Refusal) → IsRefused table.List given lent lent_now source source_now sink sink_now refusal → IsRefused table.List given v w source source_now sink sink_now refusal
+    list_refused DiskRead is = is
+    list_refused DiskWrite is = is
+    list_refused refusal is = opens refusal is
+
+    list_caused : (ending : Option Ending) → IsCaused table.List given lent lent_now source source_now sink sink_now ending → IsCaused table.List given v w source source_now sink sink_now ending
+    list_caused None is = is
+    list_caused (Some Source) is = (is.0, added given is.1, is.2)
+    list_caused (Some Sink) is = is
+    list_caused (Some (Refused Memory)) is = is
+    list_caused (Some (Refused refusal)) is = list_refused refusal is
+    list_caused (Some ending) is = absurd is
+
+    list_wrote : (ending : Option Ending) → WroteOnAny table.List given ending lent lent_now sink sink_now → WroteOnAny table.List given ending v w sink sink_now
+    list_wrote None is = (holds is.0, is.1)
+    list_wrote (Some Sink) is = (holds is.0, is.1)
+    list_wrote (Some ending) is = is
+
     kept_left : (command : CommandLine) (ending : Option Ending) (among : ByteSet) (m : Stored) → Stands (IsLeftAs (IsIn among) command given m ending) lent_now ⊎ NothingWritten ending lent lent_now
         → Stands (IsLeftAs (IsIn among) command given m ending) w ⊎ NothingWritten ending v w
     kept_left command ending among m (inl is) = inl is
@@ -246,6 +287,40 @@ module _ (loans loans_now : List ℕ) (v w : DiskView) where
         sink_faults = is.any.sink_faults;
       };
       frame = frame_kept (Restore name) ending is.frame;
+      blank = is.blank;
+      untouched = is.untouched;
+    }
+
+    pub delete_kept : (ending : Option Ending) → Keeps (Delete name) given ending lent lent_now source source_now sink sink_now → Keeps (Delete name) given ending v w source source_now sink sink_now
+    delete_kept ending is = record {
+      map = map_kept (Delete name) ending is.map;
+      any = record {
+        took = is.any.took;
+        caused = delete_caused ending is.any.caused;
+        wrote = is.any.wrote;
+        faults_are = is.any.faults_are;
+        durable = delete_durable ending is.any.durable;
+        source_faults = is.any.source_faults;
+        sink_faults = is.any.sink_faults;
+      };
+      frame = frame_kept (Delete name) ending is.frame;
+      blank = is.blank;
+      untouched = is.untouched;
+    }
+
+    pub list_kept : (ending : Option Ending) → Keeps table.List given ending lent lent_now source source_now sink sink_now → Keeps table.List given ending v w source source_now sink sink_now
+    list_kept ending is = record {
+      map = map_kept table.List ending is.map;
+      any = record {
+        took = is.any.took;
+        caused = list_caused ending is.any.caused;
+        wrote = list_wrote ending is.any.wrote;
+        faults_are = is.any.faults_are;
+        durable = is.any.durable;
+        source_faults = is.any.source_faults;
+        sink_faults = is.any.sink_faults;
+      };
+      frame = frame_kept table.List ending is.frame;
       blank = is.blank;
       untouched = is.untouched;
     }

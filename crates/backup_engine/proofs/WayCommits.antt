@@ -3,6 +3,7 @@ use Rattle.std.proofs.Common.{◌≡◌, ◌⊎◌, inl, inr, ◌<◌, ◌≤◌
 use Rattle.std.specs.Prelude.{is_some, IsSome}
 use Rattle.std.specs.FinMap as finite
 use Rattle.disk_format.specs.declared.numbers.TheConstants.{MOST_FILE, MOST_NAMES}
+use Rattle.disk_format.specs.Cells.Change.{Put}
 use Rattle.disk_format.specs.Layout.{half_cells}
 use Rattle.container_meta.specs.declared.kind.Kind.{Kind}
 use Rattle.container_meta.specs.declared.place.Place.{Place}
@@ -22,7 +23,7 @@ use Rattle.store_model.specs.Image.{Store, names_of}
 use Rattle.store_model.specs.Pieces.{Piece, IsPieceOf, piece_bytes, piece_key, piece_segment}
 use Rattle.store_model.specs.Refusals.{root_key}
 use Rattle.store_model.specs.Slots.{Copy, IsIndexOf, newest}
-use Rattle.store_model.specs.Steps.{PutName}
+use Rattle.store_model.specs.Steps.{ChangeName}
 use Rattle.store_model.specs.Trees.{root_of}
 use Rattle.store_state.specs.Tables.{Represents}
 use Rattle.ingest_steps.specs.Claiming.{key_of_seg}
@@ -86,7 +87,7 @@ module _ (C : Type 0) (state : C → CoreState) (files : List ℕ → Type 0) (o
       ∙ piece_long piece.0 piece.1 ∙ ap (λ (n : ℕ). Some n) (sym piece.3)
 
   -- a name that is put leaves the index
-  index_put : Makes (PutName name (root_of file)) (state old) (state new) → (store : Store) → Represents store (state new).known (state new).tables → IsIndexOf store.held w.places
+  index_put : Makes (ChangeName name (Put (root_of file))) (state old) (state new) → (store : Store) → Represents store (state new).known (state new).tables → IsIndexOf store.held w.places
   index_put made store represents key =
       let runs = w.up.runs in
       let told = made.tells w.places w.known in

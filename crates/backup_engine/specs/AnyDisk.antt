@@ -7,6 +7,7 @@ use Rattle.base_model.specs.Fault.{Rose}
 use Rattle.base_model.specs.Known.{Known, KnownWith, Appended}
 use Rattle.disk_format.specs.declared.numbers.TheConstants.{FORMAT_GATE, RESERVE}
 use Rattle.disk_format.specs.Layout.{IsSlotCount, size_of}
+use Rattle.namespace.specs.Listing.{listing_of}
 use Rattle.disk_format.specs.Cells.{Root}
 use Rattle.dd_disk.specs.View.{DiskView, IsDurable}
 use Rattle.dd_disk.specs.Ending.{NoCall, Done, CountsFault, ending_of}
@@ -22,7 +23,7 @@ use Rattle.refusals.specs.declared.refusal.Refusal.{Refusal}
 use Rattle.refusals.specs.declared.refusal.Refusal.TheVariants.{Memory, DiskRead, DiskWrite}
 use Rattle.reply_text.specs.declared.ending.Ending.{Ending}
 use Rattle.reply_text.specs.declared.ending.Ending.TheVariants.{Words, Source, Sink, Line, Script, Refused}
-use Rattle.reply_text.specs.Text.{formatted_line, stored_line}
+use Rattle.reply_text.specs.Text.{formatted_line, stored_line, deleted_line, listing_text}
 use Rattle.store_model.specs.Image.{Store, Encodes, names_of, last_sequence}
 use Rattle.store_model.specs.Pieces.{Node, IsPieceOf}
 use Rattle.store_model.specs.Slots.{Copy, IsIndexOf, free_slots, newest}
@@ -37,8 +38,9 @@ use Rattle.read_steps.specs.Opening.{HasRoot, top_of}
 use Rattle.read_steps.specs.Walking.{GivesAll, IsNextRefusal}
 use Rattle.store_core.specs.Runs.{ChangesTo}
 use Rattle.backup_engine.specs.Adding.{AddsOnce}
-use Rattle.backup_engine.specs.Line.{CommandLine, Format, Ingest, Restore, name_of}
-use Rattle.backup_engine.specs.PlainMap.{Room, room, RefusesIngest, RefusesRestore, HasAll}
+use Rattle.backup_engine.specs.Line.{CommandLine, Format, Ingest, Restore, Delete, name_of}
+use Rattle.backup_engine.specs.Line as table
+use Rattle.backup_engine.specs.PlainMap.{Room, room, RefusesIngest, RefusesRestore, RefusesDelete, MayDelete, HasAll}
 use Rattle.backup_engine.specs.Promise.{WroteReply}
 
 -- ---- what reads showed
@@ -132,6 +134,14 @@ IsRefused (Restore name) given disk disk_now source source_now sink sink_now ref
     IsOpenRefusal (Shows disk disk_now) disk.size refusal
     ⊎ ((holds : Holds disk disk_now) × RefusesRestore name (room_in (Restore name) holds.store) refusal)
     ⊎ ((given : GivesBack name (Some (Refused refusal)) disk disk_now sink sink_now) × IsStuck given refusal)
+IsRefused (Delete name) given disk disk_now source source_now sink sink_now DiskRead = Unit {0}
+IsRefused (Delete name) given disk disk_now source source_now sink sink_now DiskWrite = Unit {0}
+IsRefused (Delete name) given disk disk_now source source_now sink sink_now refusal =
+    IsOpenRefusal (Shows disk disk_now) disk.size refusal
+    ⊎ ((holds : Holds disk disk_now) × RefusesDelete name (room_in (Delete name) holds.store) refusal)
+IsRefused table.List given disk disk_now source source_now sink sink_now DiskRead = Unit {0}
+IsRefused table.List given disk disk_now source source_now sink sink_now DiskWrite = Unit {0}
+IsRefused table.List given disk disk_now source source_now sink sink_now refusal = IsOpenRefusal (Shows disk disk_now) disk.size refusal
 
 -- An `ingest` that was done: each piece of the file is held, the name has a cell, and a number was left.
 pub record IsStored (name given : List ℕ) (disk disk_now : DiskView) : Type 0 where
@@ -139,11 +149,19 @@ pub record IsStored (name given : List ℕ) (disk disk_now : DiskView) : Type 0 
   pub all : HasAll name given (room_in (Ingest name) added.after)
   pub number : last_sequence added.after < 2 ^ 64 - 1
 
+-- A `delete` that was done: the store that the disk held has the name and a cell, and a number was left.
+pub record IsDeleted (name : List ℕ) (disk disk_now : DiskView) : Type 0 where
+  pub holds : Holds disk disk_now
+  pub may : MayDelete name (room_in (Delete name) holds.store)
+  pub number : last_sequence holds.store < 2 ^ 64 - 1
+
 -- what is so of a command that was done, but perhaps for its reply
 abbrev pub IsDone : CommandLine → List ℕ → DiskView → DiskView → Type 0
 IsDone (Format slots) given disk disk_now = Formats slots disk disk_now
 IsDone (Ingest name) given disk disk_now = IsStored name given disk disk_now
 IsDone (Restore name) given disk disk_now = Unit {0}
+IsDone (Delete name) given disk disk_now = IsDeleted name disk disk_now
+IsDone table.List given disk disk_now = Unit {0}
 
 abbrev pub IsCaused : CommandLine → List ℕ → DiskView → DiskView → SourceView → SourceView → SinkView → SinkView → Option Ending → Type 0
 IsCaused command given disk disk_now source source_now sink sink_now None = IsDone command given disk disk_now
@@ -160,6 +178,11 @@ IsCaused command given disk disk_now source source_now sink sink_now (Some (Refu
 
 -- ---- what was written, and taken
 
+-- The names of the store that the disk holds were listed, each with its root.
+abbrev pub ListsNames : Option Ending → DiskView → DiskView → SinkView → SinkView → Type 0
+ListsNames ending disk disk_now sink sink_now =
+    (holds : Holds disk disk_now) × WroteReply (listing_text (listing_of (names_of holds.store))) ending sink sink_now
+
 abbrev pub WroteOnAny : CommandLine → List ℕ → Option Ending → DiskView → DiskView → SinkView → SinkView → Type 0
 WroteOnAny (Format slots) given ending disk disk_now sink sink_now = WroteReply (formatted_line slots) ending sink sink_now
 WroteOnAny (Ingest name) given ending disk disk_now sink sink_now = WroteReply (stored_line name (root_of given)) ending sink sink_now
@@ -167,6 +190,10 @@ WroteOnAny (Restore name) given None disk disk_now sink sink_now = GivesBack nam
 WroteOnAny (Restore name) given (Some Sink) disk disk_now sink sink_now = GivesBack name (Some Sink) disk disk_now sink sink_now
 WroteOnAny (Restore name) given (Some ending) disk disk_now sink sink_now =
     (sink_now.written ≡ sink.written) ⊎ GivesBack name (Some ending) disk disk_now sink sink_now
+WroteOnAny (Delete name) given ending disk disk_now sink sink_now = WroteReply (deleted_line name) ending sink sink_now
+WroteOnAny table.List given None disk disk_now sink sink_now = ListsNames None disk disk_now sink sink_now
+WroteOnAny table.List given (Some Sink) disk disk_now sink sink_now = ListsNames (Some Sink) disk disk_now sink sink_now
+WroteOnAny table.List given (Some ending) disk disk_now sink sink_now = sink_now.written ≡ sink.written
 
 -- it was read to its end, where the command was done, but perhaps for its reply
 abbrev pub IsReadToEnd : Option Ending → SourceView → Type 0
@@ -179,6 +206,8 @@ abbrev pub Took : CommandLine → List ℕ → Option Ending → SourceView → 
 Took (Format slots) given ending source source_now = (given ≡ []) × (source_now.left ≡ source.left)
 Took (Ingest name) given ending source source_now = Known source.left (λ all. (given ≡ all) × IsReadToEnd ending source_now)
 Took (Restore name) given ending source source_now = (given ≡ []) × (source_now.left ≡ source.left)
+Took (Delete name) given ending source source_now = (given ≡ []) × (source_now.left ≡ source.left)
+Took table.List given ending source source_now = (given ≡ []) × (source_now.left ≡ source.left)
 
 -- ---- all of it
 
@@ -192,6 +221,7 @@ disk_ending (Some ending) = ending_of NoCall
 -- a command that writes, and was done, ends with all of it on the disk
 abbrev pub EndsDurable : CommandLine → Option Ending → DiskView → Type 0
 EndsDurable (Restore name) ending disk_now = Unit {0}
+EndsDurable table.List ending disk_now = Unit {0}
 EndsDurable command None disk_now = IsDurable disk_now
 EndsDurable command (Some Sink) disk_now = IsDurable disk_now
 EndsDurable command (Some ending) disk_now = Unit {0}

@@ -1,6 +1,7 @@
 -- What commands never change, whatever the disk holds (docs/MODEL.md, 'The promise').
 use Rattle.std.specs.Prelude.{◌≡◌, ◌⊎◌, ℕ, ◌≤◌, ◌<◌, List, length, Option}
 use Rattle.base_model.specs.Bytes.{range, byte_at}
+use Rattle.base_model.specs.Frames.{SameOutside}
 use Rattle.base_model.specs.Known.{Known, KnownWith}
 use Rattle.dd_disk.specs.View.{DiskView}
 use Rattle.disk_format.specs.declared.numbers.TheConstants.{CELL_BYTES, SLOT_BYTES, FIRST_HALF, CONTAINER_GATE, FORMAT_GATE, RESERVE}
@@ -9,7 +10,8 @@ use Rattle.store_model.specs.Image.{Store, Encodes}
 use Rattle.store_model.specs.Slots.{free_slots}
 use Rattle.reply_text.specs.declared.ending.Ending.{Ending}
 use Rattle.store_core.specs.Frame.{KeepsWritten}
-use Rattle.backup_engine.specs.Line.{CommandLine, Format, Ingest, Restore}
+use Rattle.backup_engine.specs.Line.{CommandLine, Format, Ingest, Restore, Delete}
+use Rattle.backup_engine.specs.Line as table
 use Rattle.backup_engine.specs.Promise.{MayChange, SinceStart}
 
 -- The content held a store that is opened. The format cell and the selectors are as they were; each record cell but the one
@@ -26,11 +28,22 @@ pub record KeepsOpen (ending : Option Ending) (old new : List ℕ) : Type 0 wher
   pub containers : (slot : ℕ) → slot < store.slots → byte_at (slot_at slot) old ≡ CONTAINER_GATE
       → range (slot_at slot) SLOT_BYTES new ≡ range (slot_at slot) SLOT_BYTES old
 
+-- The content held a store that is opened, whose map may have changed. All but the cell after its records is as it was.
+pub record KeepsButCell (ending : Option Ending) (old new : List ℕ) : Type 0 where
+  pub may : MayChange ending
+  pub store : Store
+  pub right : Encodes old store
+  pub reserve : RESERVE ≤ free_slots store.held
+  pub cell : length store.records < half_cells
+  pub same : SameOutside (cell_at store.selector.half (length store.records)) CELL_BYTES old new
+
 -- What a command leaves of any content. Of a disk with no store a `format` says itself what it leaves.
 abbrev pub KeepsRest : CommandLine → Option Ending → List ℕ → List ℕ → Type 0
 KeepsRest (Format slots) ending old new = byte_at 0 old ≡ FORMAT_GATE → new ≡ old
 KeepsRest (Ingest name) ending old new = (new ≡ old) ⊎ KeepsOpen ending old new
 KeepsRest (Restore name) ending old new = new ≡ old
+KeepsRest (Delete name) ending old new = (new ≡ old) ⊎ KeepsButCell ending old new
+KeepsRest table.List ending old new = new ≡ old
 
 -- And so it is of what a crash leaves at any moment, but for what one might have left before.
 pub record KeepsOthers (command : CommandLine) (ending : Option Ending) (disk disk_now : DiskView) : Type 0 where

@@ -6,6 +6,7 @@ pub mod Line
 pub mod LineValue
 pub mod Lines
 pub mod Lists
+pub mod Naming
 pub mod PlainMap
 pub mod Promise
 pub mod Putting
@@ -18,3 +19,4 @@ pub mod Singles
 pub mod Storing
 pub mod Feeding
 pub mod TopCall
+pub mod Words

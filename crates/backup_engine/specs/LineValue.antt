@@ -2,7 +2,7 @@
 use Rattle.std.specs.Prelude.{ℕ, Option, Some, None}
 use Rattle.disk_format.specs.Layout.{IsSlotCount, size_of}
 use Rattle.backup_engine.specs.declared.words.Command.{Command}
-use Rattle.backup_engine.specs.declared.words.Command.TheVariants.{Format, Ingest, Restore}
+use Rattle.backup_engine.specs.declared.words.Command.TheVariants.{Format, Ingest, Restore, Delete, List}
 use Rattle.backup_engine.specs.declared.words.Line.{Line}
 use Rattle.backup_engine.specs.declared.words.Line.TheVariants.{Single, Run}
 use Rattle.backup_engine.specs.Line as table
@@ -11,6 +11,8 @@ abbrev pub command_value : Command → table.CommandLine
 command_value (Format slots) = table.Format slots
 command_value (Ingest name) = table.Ingest name.now
 command_value (Restore name) = table.Restore name.now
+command_value (Delete name) = table.Delete name.now
+command_value List = table.List
 
 abbrev pub line_value : Line → table.TableLine
 line_value (Single command) = table.Single (command_value command)
@@ -21,6 +23,8 @@ abbrev pub IsRightCommand : Command → Type 0
 IsRightCommand (Format slots) = IsSlotCount slots
 IsRightCommand (Ingest name) = Unit {0}
 IsRightCommand (Restore name) = Unit {0}
+IsRightCommand (Delete name) = Unit {0}
+IsRightCommand List = Unit {0}
 
 abbrev pub IsRightLine : Line → Type 0
 IsRightLine (Single command) = IsRightCommand command

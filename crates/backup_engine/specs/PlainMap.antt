@@ -8,25 +8,30 @@ use Rattle.disk_format.specs.Layout.{half_cells, size_of}
 use Rattle.refusals.specs.declared.refusal.Difference.TheVariants.{Length}
 use Rattle.refusals.specs.declared.refusal.Refusal.{Refusal}
 use Rattle.refusals.specs.declared.refusal.Refusal.TheVariants.{Memory, NoFile, BadName, TooMany, TooLong, Full, Clash, DiskRead, DiskWrite, Numbers, Unpinned, AlreadyStore, WrongSize}
-use Rattle.store_model.specs.Files.{Stored, with_stored}
+use Rattle.store_model.specs.Files.{Stored, with_stored, without_stored}
 use Rattle.store_model.specs.Image.{Store}
 use Rattle.store_model.specs.Slots.{newest, free_slots, last_id}
 use Rattle.merkle_file.specs.Node.{Contents}
 use Rattle.store_model.specs.Pieces.{Piece, Node, IsPieceOf, piece_key, piece_bytes}
 use Rattle.store_model.specs.Trees.{node_key}
-use Rattle.backup_engine.specs.Line.{CommandLine, Format, Ingest, Restore, name_of}
+use Rattle.backup_engine.specs.Line.{CommandLine, Format, Ingest, Restore, Delete, name_of}
+use Rattle.backup_engine.specs.Line as table
 
 -- The map after a command that is done: names to byte lists, and the last sequence number. `given` is what the source gave.
 abbrev pub map_after : CommandLine → List ℕ → Stored → Stored
 map_after (Format slots) given m = m
 map_after (Ingest name) given m = with_stored m name given
 map_after (Restore name) given m = m
+map_after (Delete name) given m = without_stored m name
+map_after table.List given m = m
 
 -- What is so of a command that is done. A disk that stands for a map has a store, so `format` is never done there.
 abbrev pub CanBeDone : CommandLine → List ℕ → Stored → Type 0
 CanBeDone (Format slots) given m = ⊥
 CanBeDone (Ingest name) given m = IsName name × (length given ≤ MOST_FILE)
 CanBeDone (Restore name) given m = is_some (finite.get m.files name) ≡ true
+CanBeDone (Delete name) given m = is_some (finite.get m.files name) ≡ true
+CanBeDone table.List given m = Unit {0}
 
 -- What refusals go by: whether the name has a file, how many names have one, the last sequence number; and of the disk its
 -- size, how many slots are free, the last container id, how many records the journal has, and how long a segment is that
@@ -101,10 +106,24 @@ RefusesIngest name given room Numbers =
     ⊎ (HasAll name given room × (room.last ≡ 2 ^ 64 - 1))
 RefusesIngest name given room refusal = ⊥
 
+-- The name has a file, and the journal has a cell left.
+pub record MayDelete (name : List ℕ) (room : Room) : Type 0 where
+  pub named : IsName name
+  pub knows : room.knows ≡ true
+  pub cell : room.records < half_cells
+
 abbrev pub RefusesRestore : List ℕ → Room → Refusal → Type 0
 RefusesRestore name room BadName = ¬ (IsName name)
 RefusesRestore name room NoFile = IsName name × (room.knows ≡ false)
 RefusesRestore name room refusal = ⊥
+
+-- Why a `delete` is refused, in the order of what is looked at: its name, the name's file, a cell for it, a number for it.
+abbrev pub RefusesDelete : List ℕ → Room → Refusal → Type 0
+RefusesDelete name room BadName = ¬ (IsName name)
+RefusesDelete name room NoFile = IsName name × (room.knows ≡ false)
+RefusesDelete name room TooMany = IsName name × (room.knows ≡ true) × (half_cells ≤ room.records)
+RefusesDelete name room Numbers = MayDelete name room × (room.last ≡ 2 ^ 64 - 1)
+RefusesDelete name room refusal = ⊥
 
 abbrev pub RefusesFormat : ℕ → Room → Refusal → Type 0
 RefusesFormat slots room AlreadyStore = room.size ≡ size_of slots
@@ -122,3 +141,7 @@ Refuses (Ingest name) given room DiskWrite = Unit {0}
 Refuses (Ingest name) given room refusal = RefusesIngest name given room refusal
 Refuses (Restore name) given room DiskWrite = Unit {0}
 Refuses (Restore name) given room refusal = RefusesRestore name room refusal
+Refuses (Delete name) given room DiskWrite = Unit {0}
+Refuses (Delete name) given room refusal = RefusesDelete name room refusal
+Refuses table.List given room DiskWrite = Unit {0}
+Refuses table.List given room refusal = ⊥

@@ -11,18 +11,19 @@ use Rattle.refusals.specs.declared.refusal.Difference.TheVariants.{Length, Byte}
 use Rattle.refusals.specs.declared.refusal.Refusal.TheVariants.{DiskWrite, Clash}
 use Rattle.reply_text.specs.declared.ending.Ending.{Ending}
 use Rattle.reply_text.specs.declared.ending.Ending.TheVariants.{Words, Source, Sink, Line, Script, Refused}
-use Rattle.reply_text.specs.Text.{stored_line}
+use Rattle.reply_text.specs.Text.{stored_line, deleted_line, listing_text}
 use Rattle.store_model.specs.Collisions.{HasNoCollisions, ByteSet, IsIn}
 use Rattle.store_model.specs.Files.{Stored}
 use Rattle.store_model.specs.Image.{Store, Encodes}
 use Rattle.store_model.specs.Pieces.{Node, IsPieceOf}
 use Rattle.store_model.specs.Slots.{Copy, newest}
-use Rattle.store_model.specs.Standing.{IsStoreOf, IsSegmentOf}
+use Rattle.store_model.specs.Standing.{IsStoreOf, IsSegmentOf, file_listing}
 use Rattle.store_model.specs.Trees.{bytes_at, node_key, root_of}
 use Rattle.store_state.specs.Comparing.{FirstDifference}
 use Rattle.store_core.specs.Runs.{IsOf}
 use Rattle.backup_engine.specs.Adding.{Adds}
-use Rattle.backup_engine.specs.Line.{CommandLine, Format, Ingest, Restore}
+use Rattle.backup_engine.specs.Line.{CommandLine, Format, Ingest, Restore, Delete}
+use Rattle.backup_engine.specs.Line as table
 use Rattle.backup_engine.specs.PlainMap.{map_after, CanBeDone, Refuses, room_of}
 
 -- ---- how a command ended: as done (None), or not
@@ -63,6 +64,7 @@ EndsBy command given m content (Some Script) = ⊥
 EndsBy command given m content (Some Source) = (name : List ℕ) × (command ≡ Ingest name)
 EndsBy command given m content (Some Sink) = CanBeDone command given m
 EndsBy (Ingest name) given m content (Some (Refused DiskWrite)) = Unit {0}
+EndsBy (Delete name) given m content (Some (Refused DiskWrite)) = Unit {0}
 EndsBy (Ingest name) given m content (Some (Refused (Clash key at))) =
     (store : Store) × KnownWith content (λ image. IsStoreOf store m.files image × HoldsTwin given store image key at)
 EndsBy command given m content (Some (Refused (Clash key at))) = ⊥
@@ -87,6 +89,8 @@ abbrev pub Wrote : CommandLine → List ℕ → Stored → Option Ending → Sin
 Wrote (Format slots) given m ending sink sink_now = sink_now.written ≡ sink.written
 Wrote (Ingest name) given m ending sink sink_now = WroteReply (stored_line name (root_of given)) ending sink sink_now
 Wrote (Restore name) given m ending sink sink_now = WroteFile (finite.get m.files name) ending sink sink_now
+Wrote (Delete name) given m ending sink sink_now = WroteReply (deleted_line name) ending sink sink_now
+Wrote table.List given m ending sink sink_now = WroteReply (listing_text (file_listing m.files)) ending sink sink_now
 
 -- ---- what is left
 

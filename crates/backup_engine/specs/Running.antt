@@ -72,8 +72,10 @@ abbrev pub AreWhole : List ℕ → List KindSegment → List FileEvent → Type 
 AreWhole bytes kept [] = Unit {0}
 AreWhole bytes kept (f ∷ fs) = IsWholeAt bytes kept f.event.step × AreWhole bytes (kept ++ kept_by f.event.step f.event.answer) fs
 
+-- a step that changes no name
 abbrev pub IsNoCommit : StepValue → Type 0
 IsNoCommit (asked.Commit name root) = ⊥
+IsNoCommit (asked.Delete name) = ⊥
 IsNoCommit step = Unit {0}
 
 abbrev pub IsOk : Result Answer Refusal → Type 0

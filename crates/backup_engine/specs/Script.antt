@@ -45,12 +45,12 @@ pub record WrotePart (rs : List Replied) (sink sink_now : SinkView) : Type 0 whe
   pub fits : count ≤ length (reply_line last.reply)
   pub wrote : Appended sink.written sink_now.written (printed before ++ take count (reply_line last.reply))
 
--- all replies but the last, which doesn't acknowledge a commit
+-- all replies but the last, which doesn't acknowledge a commit or a delete
 pub record LeftOut (rs : List Replied) (sink sink_now : SinkView) : Type 0 where
   pub before : List Replied
   pub last : Replied
   pub has_last : HasLast rs before last
-  pub no_commit : ¬ (IsAcknowledged last.reply)
+  pub no_command : ¬ (IsAcknowledged last.reply)
   pub wrote : Appended sink.written sink_now.written (printed before)
 
 -- The replies were written, one after the other. Where the sink failed it took a first part of the last one. Where there was no memory

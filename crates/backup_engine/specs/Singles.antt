@@ -1,5 +1,5 @@
--- Single commands as lines of a script: `ingest` and `restore` are lines of the first actor, and only print in another way
--- (docs/MODEL.md, 'From the machine to `backup`').
+-- Single commands as lines of a script: `ingest` and `restore` are lines of the first actor, `delete` and `list` are one line each; they
+-- only print in another way (docs/MODEL.md, 'From the machine to `backup`').
 use Rattle.std.specs.Prelude.{◌≡◌, ◌⊎◌, ◌≤◌, ℕ, ◌+◌, ◌*◌, List, [], ◌∷◌, ◌++◌, length, Option, Some, None}
 use Rattle.std.specs.List.{concat}
 use Rattle.base_model.specs.Known.{Appended, Known}
@@ -7,18 +7,22 @@ use Rattle.dd_disk.specs.Shows.{Shows}
 use Rattle.dd_disk.specs.View.{DiskView}
 use Rattle.dd_io.specs.Flow.{SinkView, SourceView}
 use Rattle.plain_machine.specs.Runs.{Replied}
+use Rattle.namespace.specs.Listing.{NamedRoot}
 use Rattle.recovery.specs.Opening.{IsOpenRefusal}
 use Rattle.refusals.specs.declared.refusal.Refusal.{Refusal}
 use Rattle.refusals.specs.declared.refusal.Refusal.TheVariants.{Memory}
 use Rattle.reply_text.specs.declared.ending.Ending.{Ending}
 use Rattle.reply_text.specs.declared.ending.Ending.TheVariants.{Source, Sink, Refused}
+use Rattle.reply_text.specs.Text.{deleted_line, listing_text}
 use Rattle.script_lines.specs.Grammar.{IsHex, LineValue, pushed_bytes}
 use Rattle.script_lines.specs.Grammar as lines
 use Rattle.script_lines.specs.ReplyValue.{ReplyValue}
 use Rattle.script_lines.specs.ReplyValue as replies
 use Rattle.session_turns.specs.declared.turns.TheConstants.{MOST_PIECE}
-use Rattle.backup_engine.specs.Line.{CommandLine, Format, Ingest, Restore}
+use Rattle.backup_engine.specs.Line.{CommandLine, Format, Ingest, Restore, Delete}
+use Rattle.backup_engine.specs.Line as table
 use Rattle.backup_engine.specs.Lines.{RunsEachMap}
+use Rattle.backup_engine.specs.Promise.{WroteReply}
 
 -- a line, and what it replied
 abbrev pub said : LineValue → ReplyValue → Replied
@@ -122,7 +126,35 @@ IsRestore name (Some (Refused refusal)) sink sink_now rs =
     × Appended sink.written sink_now.written (concat segments)))
 IsRestore name (Some ending) sink sink_now rs = ⊥
 
--- ---- both
+-- ---- names
+
+-- one line, and what it replied
+abbrev pub IsOne : LineValue → ReplyValue → List Replied → Type 0
+IsOne line reply rs = rs ≡ said line reply ∷ []
+
+-- The line of a `delete`, and what was written: its own reply, where the line was done. Where no line was run, there was no memory.
+abbrev pub IsDelete : List ℕ → Option Ending → SinkView → SinkView → List Replied → Type 0
+IsDelete name None sink sink_now rs =
+    ((sequence : ℕ) × IsOne (lines.Delete name) (replies.Deleted sequence) rs) × WroteReply (deleted_line name) None sink sink_now
+IsDelete name (Some Sink) sink sink_now rs =
+    ((sequence : ℕ) × IsOne (lines.Delete name) (replies.Deleted sequence) rs) × WroteReply (deleted_line name) (Some Sink) sink sink_now
+IsDelete name (Some (Refused refusal)) sink sink_now rs =
+    (((refusal ≡ Memory) × (rs ≡ [])) ⊎ IsOne (lines.Delete name) (replies.Refused refusal) rs) × (sink_now.written ≡ sink.written)
+IsDelete name (Some ending) sink sink_now rs = ⊥
+
+-- The line of a `list`, and what was written: the names that it replied with. Where there was no memory for that, or no line was run,
+-- nothing was.
+abbrev pub IsListing : Option Ending → SinkView → SinkView → List Replied → Type 0
+IsListing None sink sink_now rs =
+    (files : List NamedRoot) × (IsOne lines.ListNames (replies.Listed files) rs × WroteReply (listing_text files) None sink sink_now)
+IsListing (Some Sink) sink sink_now rs =
+    (files : List NamedRoot) × (IsOne lines.ListNames (replies.Listed files) rs × WroteReply (listing_text files) (Some Sink) sink sink_now)
+IsListing (Some (Refused refusal)) sink sink_now rs =
+    (((refusal ≡ Memory) × ((rs ≡ []) ⊎ ((files : List NamedRoot) × IsOne lines.ListNames (replies.Listed files) rs)))
+    ⊎ IsOne lines.ListNames (replies.Refused refusal) rs) × (sink_now.written ≡ sink.written)
+IsListing (Some ending) sink sink_now rs = ⊥
+
+-- ---- all of them
 
 -- the store was not opened, for its cause, so no line was run, and nothing was written
 pub record OpensNone (ending : Option Ending) (rs : List Replied) (disk disk_now : DiskView) (sink sink_now : SinkView) : Type 0 where
@@ -146,3 +178,7 @@ SpeaksAs (Ingest name) given ending rs disk disk_now source source_now sink sink
     Speaks (IsIngest name given ending source source_now) ending rs disk disk_now sink sink_now
 SpeaksAs (Restore name) given ending rs disk disk_now source source_now sink sink_now =
     Speaks (IsRestore name ending sink sink_now) ending rs disk disk_now sink sink_now
+SpeaksAs (Delete name) given ending rs disk disk_now source source_now sink sink_now =
+    Speaks (IsDelete name ending sink sink_now) ending rs disk disk_now sink sink_now
+SpeaksAs table.List given ending rs disk disk_now source source_now sink sink_now =
+    Speaks (IsListing ending sink sink_now) ending rs disk disk_now sink sink_now

@@ -8,7 +8,7 @@ use Rattle.base_model.specs.Known.{Known, KnownWith, Appended}
 use Rattle.dd_disk.specs.View.{DiskView}
 use Rattle.dd_io.specs.Flow.{SourceView, SinkView, AppendedPart}
 use Rattle.plain_machine.specs.Runs.{Replied}
-use Rattle.refusals.specs.declared.refusal.Refusal.TheVariants.{DiskWrite}
+use Rattle.refusals.specs.declared.refusal.Refusal.TheVariants.{DiskWrite, Memory}
 use Rattle.reply_text.specs.declared.ending.Ending.{Ending}
 use Rattle.reply_text.specs.declared.ending.Ending.TheVariants.{Words, Refused}
 use Rattle.reply_text.specs.Table.{status_of}
@@ -16,7 +16,8 @@ use Rattle.reply_text.specs.Text.{fault_line}
 use Rattle.recovery.specs.Formatting.{IsLeftByFormat, IsBlankOrFormatted}
 use Rattle.backup_engine.specs.AnyDisk.{OnAnyDisk}
 use Rattle.backup_engine.specs.Frame.{KeepsOthers}
-use Rattle.backup_engine.specs.Line.{CommandLine, Format, Ingest, Restore, TableLine, Single, Run}
+use Rattle.backup_engine.specs.Line.{CommandLine, Format, Ingest, Restore, Delete, TableLine, Single, Run}
+use Rattle.backup_engine.specs.Line as table
 use Rattle.backup_engine.specs.Promise.{KeepsEachMap, SinceStart}
 use Rattle.backup_engine.specs.Script.{KeepsScript}
 use Rattle.backup_engine.specs.Seen.{Seen}
@@ -49,6 +50,8 @@ IsLeftBlank (Format slots) disk disk_now =
     × ((c : List ℕ) → SinceStart disk disk_now c → disk.images c ⊎ IsBlankOrFormatted slots c))
 IsLeftBlank (Ingest name) disk disk_now = Unit {0}
 IsLeftBlank (Restore name) disk disk_now = Unit {0}
+IsLeftBlank (Delete name) disk disk_now = Unit {0}
+IsLeftBlank table.List disk disk_now = Unit {0}
 
 -- what was not done, but for a write that failed, changed nothing of it
 abbrev pub IsUntouched : CommandLine → Option Ending → DiskView → DiskView → Type 0
@@ -84,10 +87,10 @@ pub record IsSameDisk (disk disk_now : DiskView) : Type 0 where
   pub returned_are : (t at : ℕ) (b : List ℕ)
       → (disk_now.read_returned t at b → disk.read_returned t at b) × (disk.read_returned t at b → disk_now.read_returned t at b)
 
--- Words that are no line of the table: nothing is done.
+-- Words that are no line of the table: nothing is done. That they are none may stay unknown, for want of memory to read them.
 pub record DoesNothing (ending : Option Ending) (disk disk_now : DiskView) (source source_now : SourceView) (sink sink_now : SinkView)
     : Type 0 where
-  pub why : ending ≡ Some Words
+  pub why : (ending ≡ Some Words) ⊎ (ending ≡ Some (Refused Memory))
   pub disk_is : IsSameDisk disk disk_now
   pub source_is : source_now ≡ source
   pub sink_is : sink_now ≡ sink

@@ -1,11 +1,13 @@
 //! The commands of ddfs over any disk, source and sink.
 #![tactic(auto)]
 
+mod deleting;
 mod format;
 mod giving;
 mod ingest;
 mod laws;
 mod lent;
+mod listing;
 mod putting;
 mod reply;
 mod restore;

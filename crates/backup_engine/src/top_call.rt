@@ -7,23 +7,27 @@ ghost use Rattle.backup_engine.specs.Line.{Single, line_of};
 ghost use Rattle.backup_engine.specs.LineValue.{command_value, line_value, IsRightCommand, IsRightLine, size_made};
 ghost use Rattle.backup_engine.specs.TopCall.{Promise, Does, IsNoted, ending_in};
 
+use crate::deleting::delete;
 use crate::format::format;
 use crate::ingest::ingest;
+use crate::listing::list;
 use crate::restore::restore;
 use crate::script::run;
 use crate::words::{Command, Line, read_words};
 use dd_disk::Disk;
 use dd_io::{Sink, Source};
 use disk_format::size_of;
+use refusals::Refusal;
 use reply_text::{Ending, status_of, write_fault};
+use script_lines::reads_tell_scripts;
 use std::alloc::{AllocError, Global};
 
 /// Runs one command, by its words, over a disk, and gives the exit status (docs/FORMAT.md, 'Commands').
 ///
 /// `ingest` reads `source`, to its end where it is done; the reply, or the bytes of the file that is restored, goes to `sink`. `run`
 /// reads a script from `source`, and replies to each line as it ends (docs/FORMAT.md, 'Scripts'). Words that are no line of the table
-/// are 2, and so is a script that is none; a fault of the source is 5, of the sink 6; a refusal has its own status. `notes` get a line
-/// where the status isn't 0; a failure of theirs changes no status.
+/// are 2, and so is a script that is none; a fault of the source is 5, of the sink 6; a refusal has its own status, and so has want of
+/// memory, also for the words. `notes` get a line where the status isn't 0; a failure of theirs changes no status.
 pub fn backup<R, D: Disk + Send, S: Source, K: Sink, Q: Sink>(
     rt: &R,
     alloc: Global,
@@ -70,8 +74,11 @@ pub fn backup_alone<R, D: Disk + Send, S: Source, K: Sink, Q: Sink>(
     }) }
     ensures later { IsLater (D.view disk.old) (D.view disk.new) }
 {
-    let Some(line) = read_words(words) else {
-        return give_up(notes, &Ending::Words);
+    reads_tell_scripts();
+    let line = match read_words(alloc, words) {
+        Ok(Some(line)) => line,
+        Ok(None) => return give_up(notes, &Ending::Words),
+        Err(_) => return give_up(notes, &Ending::Refused(Refusal::Memory)),
     };
     match run_line(alloc, &line, disk, source, sink) {
         Ok(()) => 0,
@@ -80,10 +87,10 @@ pub fn backup_alone<R, D: Disk + Send, S: Source, K: Sink, Q: Sink>(
 }
 
 /// The size in bytes of the disk that `format N` makes a store on, where the words are such a line of the table.
-pub fn size_of_format(_alloc: Global, words: &[String]) -> Result<Option<u64>, AllocError>
+pub fn size_of_format(alloc: Global, words: &[String]) -> Result<Option<u64>, AllocError>
     ensures { IfOk result (λ size. size ≡ size_made (line_of (map string_bytes words.now))) }
 {
-    match read_words(words) {
+    match read_words(alloc, words)? {
         Some(Line::Single(Command::Format(slots))) => Ok(Some(size_of(slots))),
         _ => Ok(None),
     }
@@ -126,6 +133,8 @@ fn run_command<D: Disk, S: Source, K: Sink>(
         Command::Format(slots) => format(alloc, disk, sink, *slots),
         Command::Ingest(name) => ingest(alloc, disk, source, sink, name),
         Command::Restore(name) => restore(alloc, disk, sink, name),
+        Command::Delete(name) => delete(alloc, disk, sink, name),
+        Command::List => list(alloc, disk, sink),
     }
 }
 

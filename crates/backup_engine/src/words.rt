@@ -1,10 +1,15 @@
 //! The words of a command line.
-ghost use Rattle.std.specs.Prelude.{◌≡◌, codes, map, option_map, IfSome, IsTrue, string_bytes};
+ghost use Rattle.std.specs.Prelude.{◌≡◌, false, map, option_map, IfOk, IfSome, string_bytes};
+ghost use Rattle.clap.specs.Words.{app_of, rule_of, subcommand_rows_of};
 ghost use Rattle.disk_format.specs.Layout.{IsSlotCount};
-ghost use Rattle.backup_engine.specs.Line.{line_by, line_of, command_of, argument_of, has_no_argument, is_dashed, all_digits, begins_as_number, is_number, slots_of};
+ghost use Rattle.backup_engine.specs.Line.{line_of, command_of, all_digits, begins_as_number, is_number, slots_of};
 ghost use Rattle.backup_engine.specs.LineValue.{command_value, line_value, IsRightCommand, IsRightLine};
+ghost use Rattle.backup_engine.specs.Words.{argument_rule, line_matched, line_named, table_app, with_none, with_one};
 
+use clap::error::ErrorKind;
+use clap::{Arg, ArgAction, ArgMatches};
 use disk_format::is_slot_count;
+use std::alloc::{AllocError, Global};
 
 /// A command of the table.
 #[derive(Clone, Copy)]
@@ -15,6 +20,9 @@ pub(crate) enum Command<'a> {
     Ingest(&'a str),
     /// A name.
     Restore(&'a str),
+    /// A name.
+    Delete(&'a str),
+    List,
 }
 
 /// A line of the table of commands.
@@ -25,39 +33,96 @@ pub(crate) enum Line<'a> {
     Run,
 }
 
-/// The line of the table that the words are, if they are one.
-pub(crate) fn read_words<'a>(words: &'a [String]) -> Option<Line<'a>>
-    ensures line { option_map line_value result ≡ line_of (map string_bytes words.now) }
-    ensures right { IfSome result IsRightLine }
+/// The line of the table that the words are, if they are one, or want of memory.
+///
+/// clap reads them: a line comes only where clap took the words, and the line is the subcommand that it met, with its argument. No
+/// check by hand stands beside it, since clap's contract says for such a command which words it takes and what it finds in them, and
+/// these are proved to be the words and the values of the table (`line_of`): a last `--` is passed over, a word that begins with a dash
+/// is taken after `--` alone, and a request for help or a version is refused as any other word. Only how a word of `format` spells a
+/// number is looked at here (`slot_count`). Each error of clap's but want of memory says that the words are no line.
+pub(crate) fn read_words<'a>(
+    alloc: Global,
+    words: &'a [String],
+) -> Result<Option<Line<'a>>, AllocError>
+    ensures line { IfOk result (λ line. option_map line_value line ≡ line_of (map string_bytes words.now)) }
+    ensures right { IfOk result (λ line. IfSome line IsRightLine) }
 {
-    let (command, rest) = words.split_first()?;
-    if command.as_str() == "run" {
-        return run_line(rest);
-    }
-    let argument = only_argument(rest)?;
-    Some(Line::Single(read_command(command.as_str(), argument)?))
-}
-
-// `run` has no argument.
-fn run_line<'a>(words: &'a [String]) -> Option<Line<'a>>
-    ensures line { option_map line_value result ≡ line_by (codes "run") (map string_bytes words.now) }
-    ensures right { IfSome result IsRightLine }
-{
-    if has_no_argument(words) {
-        Some(Line::Run)
-    } else {
-        None
+    match table(alloc)?.try_get_matches_from(words) {
+        Ok(matches) => Ok(matched_line(&matches)),
+        Err(error) => match error.kind() {
+            ErrorKind::OutOfMemory => Err(AllocError),
+            _ => Ok(None),
+        },
     }
 }
 
-// A last `--` is passed over.
-fn has_no_argument(words: &[String]) -> bool
-    ensures { result ≡ has_no_argument (map string_bytes words.now) }
+// clap's command, with a subcommand for each command of the table. It knows no help and no version.
+fn table<'a>(alloc: Global) -> Result<clap::Command<'a>, AllocError>
+    ensures { IfOk result (λ command. app_of command ≡ table_app) }
 {
-    match words {
-        [] => true,
-        [word] => word.as_str() == "--",
-        _ => false,
+    let command = clap::Command::new(alloc, "ddfs")
+        .no_binary_name(true)
+        .disable_help_flag(true)
+        .disable_help_subcommand(true)
+        .disable_version_flag(true)
+        .subcommand_required(true);
+    let command = with_argument(alloc, command, "format")?;
+    let command = with_argument(alloc, command, "ingest")?;
+    let command = with_argument(alloc, command, "restore")?;
+    let command = with_argument(alloc, command, "delete")?;
+    let command = without_argument(alloc, command, "list")?;
+    without_argument(alloc, command, "run")
+}
+
+// One more subcommand, with one argument.
+fn with_argument<'a>(
+    alloc: Global,
+    command: clap::Command<'a>,
+    name: &'a str,
+) -> Result<clap::Command<'a>, AllocError>
+    ensures { IfOk result (λ more. app_of more ≡ with_one (app_of command.entry) name.entry.now) }
+{
+    command.subcommand(clap::Command::new(alloc, name).arg(argument(alloc))?)
+}
+
+// An argument that has to be there, as one word.
+fn argument<'a>(alloc: Global) -> Arg<'a>
+    ensures rule { rule_of result ≡ argument_rule }
+    ensures local { result.global ≡ false }
+{
+    Arg::new(alloc, "argument")
+        .required(true)
+        .action(ArgAction::Set)
+}
+
+// One more subcommand, with no argument.
+fn without_argument<'a>(
+    alloc: Global,
+    command: clap::Command<'a>,
+    name: &'a str,
+) -> Result<clap::Command<'a>, AllocError>
+    ensures { IfOk result (λ more. app_of more ≡ with_none (app_of command.entry) name.entry.now) }
+{
+    command.subcommand(clap::Command::new(alloc, name))
+}
+
+// The line that a subcommand is, with the value of its argument.
+fn matched_line<'a>(matches: &ArgMatches<'a>) -> Option<Line<'a>>
+    ensures line { option_map line_value result ≡ line_matched (subcommand_rows_of matches.now) }
+    ensures right { IfSome result IsRightLine }
+{
+    let (name, inner) = matches.subcommand()?;
+    named_line(name, inner.get_str("argument"))
+}
+
+fn named_line<'a>(name: &str, argument: Option<&'a str>) -> Option<Line<'a>>
+    ensures line { option_map line_value result ≡ line_named name.now (option_map (λ text. text.now) argument.entry) }
+    ensures right { IfSome result IsRightLine }
+{
+    match name {
+        "run" => Some(Line::Run),
+        "list" => Some(Line::Single(Command::List)),
+        _ => Some(Line::Single(read_command(name, argument?)?)),
     }
 }
 
@@ -69,42 +134,8 @@ fn read_command<'a>(command: &str, argument: &'a str) -> Option<Command<'a>>
         "format" => Some(Command::Format(slot_count(argument)?)),
         "ingest" => Some(Command::Ingest(argument)),
         "restore" => Some(Command::Restore(argument)),
+        "delete" => Some(Command::Delete(argument)),
         _ => None,
-    }
-}
-
-// The one argument of a command. One that begins with a dash stands after `--`.
-fn only_argument(words: &[String]) -> Option<&str>
-    ensures { option_map (λ word. word.now) result ≡ argument_of (map string_bytes words.now) }
-{
-    match words {
-        [word] => {
-            if is_dashed(word.as_str()) {
-                None
-            } else {
-                Some(word.as_str())
-            }
-        }
-        [first, second] => {
-            if first.as_str() == "--" {
-                Some(second.as_str())
-            } else if second.as_str() == "--" && !is_dashed(first.as_str()) {
-                Some(first.as_str())
-            } else {
-                None
-            }
-        }
-        _ => None,
-    }
-}
-
-// `--` and each longer word that begins with a dash.
-fn is_dashed(word: &str) -> bool
-    ensures { result ≡ is_dashed word.now }
-{
-    match word.as_bytes() {
-        [first, _, ..] => *first == b'-',
-        _ => false,
     }
 }
 

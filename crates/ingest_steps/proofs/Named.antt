@@ -1,4 +1,4 @@
--- What the put of a root makes of the tables, of the store that they represent, and of the disk.
+-- What a change of a name makes of the tables, of the store that they represent, and of the disk.
 use Rattle.std.proofs.Common.{◌≡◌, ◌⊎◌, inl, inr, ℕ, suc, ◌+◌, ◌-◌, ◌^◌, ◌<◌, List, [], ◌∷◌, ◌++◌, length, cond, Option, Some, IsSome, refl, sym, ◌∙◌, ap, subst, arith, rules, length-append}
 use Rattle.std.specs.FinMap as finite
 use Rattle.std.specs.Cmp.{tied_itself}
@@ -7,8 +7,8 @@ use Rattle.std.specs.Cmp.Lexicographic.{nat_list_cmp_total}
 use Rattle.base_model.specs.Frames.{SameOutside}
 use Rattle.disk_format.specs.declared.numbers.TheConstants.{CELL_BYTES}
 use Rattle.disk_format.specs.Layout.{cell_at}
-use Rattle.disk_format.specs.Cells.{Root, Change, RecordValue, IsRoot}
-use Rattle.disk_format.specs.Cells.Change.{Put}
+use Rattle.disk_format.specs.Cells.{Root, Change, RecordValue, IsChange}
+use Rattle.disk_format.specs.Cells.Change.{Delete, Put}
 use Rattle.dd_disk.specs.View.{DiskView, IsDurable, CrashLeaves, SteppedFrom}
 use Rattle.dd_disk.specs.Ending.{Ending, Done}
 use Rattle.dd_disk.specs.Writes.{Writes}
@@ -17,27 +17,26 @@ use Rattle.dd_disk.proofs.Later.{leaves_weaker}
 use Rattle.dd_disk.proofs.Moves.{moves_written}
 use Rattle.container_meta.specs.Places.{PlaceMap}
 use Rattle.namespace.specs.declared.record.Named.{Named}
-use Rattle.namespace.specs.Names.{NameMap, HasRoom, names_changed, names_with}
+use Rattle.namespace.specs.Names.{NameMap, HasPlace, names_changed, names_with}
 use Rattle.journal_cells.specs.Appending.{SameButNext, CanFollow, Appends, IsAppended}
 use Rattle.journal_cells.specs.Journal.{JournalValue, Precedes, IsJournalOf, with_record}
-use Rattle.store_model.specs.Files.{Files, with_file}
+use Rattle.store_model.specs.Files.{Command, Files, files_after}
 use Rattle.store_model.specs.Journal.{HoldsRecords, ClosedFrom}
 use Rattle.store_model.specs.Image.{Store, Encodes}
 use Rattle.store_model.specs.Collisions.{IsIn, Stands}
-use Rattle.store_model.specs.Steps.{CanPut, put_of, with_put}
-use Rattle.store_model.specs.Trees.{root_of, file_tree, HoldsTree}
-use Rattle.store_model.proofs.PutRoots.{record_taken, last_put, right_where, put_still, put_stands}
+use Rattle.store_model.specs.Steps.{CanChangeName, HoldsFor, change_of, name_of, record_of, with_change}
+use Rattle.store_model.proofs.NameChanges.{record_taken, last_changed, right_where, still_stands, change_stands}
 use Rattle.store_model.proofs.Records.{last_of_push, names_after_push}
-use Rattle.store_model.proofs.Valid.{valid_put}
+use Rattle.store_model.proofs.Valid.{valid_change}
 use Rattle.store_state.specs.declared.tables.Tables.{Tables}
 use Rattle.store_state.specs.Tables.{Represents, RepresentsNames}
-use Rattle.ingest_steps.specs.Naming.{MayName, IsNamed, put_after_last, tables_with, naming, putting_root, PutsRoot, ChangesNextAlone, KeepsButNext}
+use Rattle.ingest_steps.specs.Naming.{MayChange, MayDelete, MayName, IsChanged, record_after_last, tables_with, commanding, changing_name, ChangesName, ChangesNextAlone, KeepsButNext}
 
 -- ---- the record
 
 -- it may stand after the journal
-pub precedes : (t : Tables) (name : List ℕ) (root : Root) → MayName t name → IsRoot root → t.journal.last < 2 ^ 64 - 1 → Precedes t.journal (put_after_last t name root)
-precedes t name root may right below = record {
+pub precedes : (t : Tables) (name : List ℕ) (change : Change) → MayChange t name change → IsChange change → t.journal.last < 2 ^ 64 - 1 → Precedes t.journal (record_after_last t name change)
+precedes t name change may right below = record {
   room = may.cell;
   right = record { from_one = omega arith; sequence = omega (arith, below); name = may.named; change = right };
   rises = omega arith;
@@ -55,32 +54,32 @@ there_after r names new root put is =
 
 -- ---- the tables
 
-module _ (name : List ℕ) (root : Root) (t : Tables) where
+module _ (name : List ℕ) (change : Change) (t : Tables) where
   -- it is that of the store
-  put_is : (store : Store) → RepresentsNames store t → put_after_last t name root ≡ put_of name root store
-  put_is store keeps = ap (λ (n : ℕ). record { sequence = suc n; name = name; change = Put root }) keeps.last_is
+  record_same : (store : Store) → RepresentsNames store t → record_after_last t name change ≡ record_of name change store
+  record_same store keeps = ap (λ (n : ℕ). record { sequence = suc n; name = name; change = change }) keeps.last_is
 
-  pub can_put : MayName t name → t.journal.last < 2 ^ 64 - 1 → (store : Store) → RepresentsNames store t → CanPut name store
-  can_put may below store keeps = record {
+  pub can_change : MayChange t name change → t.journal.last < 2 ^ 64 - 1 → (store : Store) → RepresentsNames store t → CanChangeName name change store
+  can_change may below store keeps = record {
     named = may.named;
-    room = subst (λ (names : NameMap). HasRoom names name) keeps.names_are may.room;
+    place = subst (λ (names : NameMap). HasPlace names name change) keeps.names_are may.place;
     cell = omega (arith, keeps.count, may.cell);
     number = omega (arith, keeps.last_is, below);
   }
 
-  names_told : (store : Store) → RepresentsNames store t → RepresentsNames (with_put name root store) (tables_with (put_after_last t name root) t)
+  names_told : (store : Store) → RepresentsNames store t → RepresentsNames (with_change name change store) (tables_with (record_after_last t name change) t)
   names_told store keeps = record {
     half = keeps.half;
     generation = keeps.generation;
-    count = omega (arith, keeps.count, length-append store.records (put_of name root store ∷ []));
-    previous = ap suc keeps.last_is ∙ sym (last_of_push 0 store.records (put_of name root store));
-    names_are = ap (λ (r : RecordValue). names_with r t.names) (put_is store keeps) ∙ ap (names_with (put_of name root store)) keeps.names_are
-        ∙ sym (names_after_push store.records (put_of name root store) finite.empty);
+    count = omega (arith, keeps.count, length-append store.records (record_of name change store ∷ []));
+    previous = ap suc keeps.last_is ∙ sym (last_of_push 0 store.records (record_of name change store));
+    names_are = ap (λ (r : RecordValue). names_with r t.names) (record_same store keeps) ∙ ap (names_with (record_of name change store)) keeps.names_are
+        ∙ sym (names_after_push store.records (record_of name change store) finite.empty);
     journal_last = refl;
-    last_is = ap suc keeps.last_is ∙ sym (last_put name root store);
+    last_is = ap suc keeps.last_is ∙ sym (last_changed name change store);
   }
 
-  represents_with : (store : Store) (known : Option PlaceMap) → Represents store known t → Represents (with_put name root store) known (tables_with (put_after_last t name root) t)
+  represents_with : (store : Store) (known : Option PlaceMap) → Represents store known t → Represents (with_change name change store) known (tables_with (record_after_last t name change) t)
   represents_with store known is = record {
     slots_are = is.slots_are;
     names_are = names_told store is.names_are;
@@ -88,26 +87,27 @@ module _ (name : List ℕ) (root : Root) (t : Tables) where
     index_is_newest = is.index_is_newest;
   }
 
-  pub is_named : (new : Tables) (number : ℕ) → MayName t name → IsRoot root → t.journal.last < 2 ^ 64 - 1 → number ≡ suc t.journal.last → new ≡ tables_with (put_after_last t name root) t
-      → IsNamed t name root new number
-  is_named new number may right below is tables = record {
+  pub is_changed : (new : Tables) (number : ℕ) → MayChange t name change → IsChange change → t.journal.last < 2 ^ 64 - 1 → number ≡ suc t.journal.last → new ≡ tables_with (record_after_last t name change) t
+      → IsChanged t name change new number
+  is_changed new number may right below is tables = record {
     number = is;
     below = below;
     tables_are = tables;
-    root_right = right;
-    can = can_put may below;
-    represents = λ store known keeps. subst (Represents (with_put name root store) known) (sym tables) (represents_with store known keeps);
+    right = right;
+    can = can_change may below;
+    represents = λ store known keeps. subst (Represents (with_change name change store) known) (sym tables) (represents_with store known keeps);
     runs = λ size known runs. record {
-      store = with_put name root runs.store;
-      represents = subst (Represents (with_put name root runs.store) known) (sym tables) (represents_with runs.store known runs.represents);
-      valid = valid_put size name root runs.store runs.valid (can_put may below runs.store runs.represents.names_are) right;
+      store = with_change name change runs.store;
+      represents = subst (Represents (with_change name change runs.store) known) (sym tables) (represents_with runs.store known runs.represents);
+      valid = valid_change size name change runs.store runs.valid (can_change may below runs.store runs.represents.names_are) right;
       reserve_holds = runs.reserve_holds;
     };
   }
 
 -- ---- the image
 
-module _ (name : List ℕ) (root : Root) (S : List ℕ → Type 0) (store : Store) (files : Files) (t : Tables) (keeps : RepresentsNames store t) (can : CanPut name store) where
+module _ (name : List ℕ) (change : Change) (S : List ℕ → Type 0) (store : Store) (files : Files) (t : Tables) (keeps : RepresentsNames store t)
+    (can : CanChangeName name change store) where
   place_is : cell_at t.journal.half t.journal.count ≡ cell_at store.selector.half (length store.records)
   place_is = ap (λ (h : ℕ). cell_at h t.journal.count) keeps.half ∙ ap (λ (n : ℕ). cell_at store.selector.half n) keeps.count
 
@@ -121,59 +121,35 @@ module _ (name : List ℕ) (root : Root) (S : List ℕ → Type 0) (store : Stor
         (subst (λ (n : ℕ). ClosedFrom store.selector.half n image) (sym keeps.count) is.holds.past);
   }
 
-  can_follow : (image : List ℕ) → Stands S store files image → CanFollow t.journal (put_of name root store) store.records image
-  can_follow image is = record { journal_is = journal_of image is; taken = record_taken name root store can }
+  can_follow : (image : List ℕ) → Stands S store files image → CanFollow t.journal (record_of name change store) store.records image
+  can_follow image is = record { journal_is = journal_of image is; taken = record_taken name change store can }
 
   same_after : (old new : List ℕ) → SameButNext t.journal old new → SameOutside (cell_at store.selector.half (length store.records)) CELL_BYTES old new
   same_after old new same = subst (λ (at : ℕ). SameOutside at CELL_BYTES old new) place_is same
 
-  records_in : (new : List ℕ) → IsJournalOf (with_record (put_of name root store) t.journal) (store.records ++ put_of name root store ∷ []) new
-      → HoldsRecords store.selector.half (store.records ++ put_of name root store ∷ []) new
-  records_in new journal = subst (λ (h : ℕ). HoldsRecords h (store.records ++ put_of name root store ∷ []) new) keeps.half journal.holds
+  records_in : (new : List ℕ) → IsJournalOf (with_record (record_of name change store) t.journal) (store.records ++ record_of name change store ∷ []) new
+      → HoldsRecords store.selector.half (store.records ++ record_of name change store ∷ []) new
+  records_in new journal = subst (λ (h : ℕ). HoldsRecords h (store.records ++ record_of name change store ∷ []) new) keeps.half journal.holds
 
   -- the records of before, and none after them
   still : (old new : List ℕ) → Stands S store files old → SameButNext t.journal old new → IsJournalOf t.journal store.records new → Stands S store files new
   still old new is same journal =
-      put_still S old new store files is can.cell (same_after old new same)
+      still_stands S old new store files is can.cell (same_after old new same)
       (subst (λ (h : ℕ). HoldsRecords h store.records new) keeps.half journal.holds)
       (subst (λ (h : ℕ). ClosedFrom h (length store.records) new) keeps.half (subst (λ (n : ℕ). ClosedFrom t.journal.half n new) keeps.count journal.closed))
 
   -- and one more
   put_encodes : (given new : List ℕ) → Stands S store files given → SameButNext t.journal given new
-      → IsJournalOf (with_record (put_of name root store) t.journal) (store.records ++ put_of name root store ∷ []) new → Encodes new (with_put name root store)
+      → IsJournalOf (with_record (record_of name change store) t.journal) (store.records ++ record_of name change store ∷ []) new → Encodes new (with_change name change store)
   put_encodes given new is same journal =
-      right_where given new store is.holds.right can.cell (same_after given new same) (store.records ++ put_of name root store ∷ []) (records_in new journal)
+      right_where given new store is.holds.right can.cell (same_after given new same) (store.records ++ record_of name change store ∷ []) (records_in new journal)
 
-  module _ (bytes : List ℕ) (root_is : root ≡ root_of bytes) where
-    abbrev Before : List ℕ → Type 0
-    Before c = Stands S store files c × HoldsTree store.held c (file_tree bytes)
-
-    put : (given new : List ℕ) → Before given → SameButNext t.journal given new
-        → IsJournalOf (with_record (put_of name root store) t.journal) (store.records ++ put_of name root store ∷ []) new
-        → Stands S (with_put name root store) (with_file files name bytes) new
-    put given new (is, holds) same journal =
-        put_stands S given new store files is can.cell (same_after given new same) name root bytes root_is holds (records_in new journal)
-        (subst (λ (h : ℕ). ClosedFrom h (length store.records + 1) new) keeps.half (subst (λ (n : ℕ). ClosedFrom t.journal.half (n + 1) new) keeps.count journal.closed))
-
-    -- once it is appended
-    named_after : (given c : List ℕ) → Before given → IsAppended t.journal (put_of name root store) given c → Stands S (with_put name root store) (with_file files name bytes) c
-    named_after given c before is = put given c before is.same (is.records_are store.records (can_follow given before.0))
-
-    -- while it is appended
-    named_between : (given d c : List ℕ) → Before given → Before d → Appends t.journal (put_of name root store) given d c
-        → Stands S store files c ⊎ Stands S (with_put name root store) (with_file files name bytes) c
-    named_between given d c before was (inl stands) = inl (still d c was.0 stands.same (stands.records_are store.records (journal_of d was.0)))
-    named_between given d c before was (inr follows) = elim (follows.records_are store.records (can_follow given before.0)) [
-      | inl without ↦ inl (still given c before.0 follows.same without)
-      | inr with ↦ inr (put given c before follows.same with)
-    ]
-
-  -- the same of a root that may be of no file
-  put_after : (given c : List ℕ) → Stands S store files given → IsAppended t.journal (put_of name root store) given c → Encodes c (with_put name root store)
+  -- while it is appended, and after
+  put_after : (given c : List ℕ) → Stands S store files given → IsAppended t.journal (record_of name change store) given c → Encodes c (with_change name change store)
   put_after given c before is = put_encodes given c before is.same (is.records_are store.records (can_follow given before))
 
-  put_between : (given d c : List ℕ) → Stands S store files given → Stands S store files d → Appends t.journal (put_of name root store) given d c
-      → Stands S store files c ⊎ Encodes c (with_put name root store)
+  put_between : (given d c : List ℕ) → Stands S store files given → Stands S store files d → Appends t.journal (record_of name change store) given d c
+      → Stands S store files c ⊎ Encodes c (with_change name change store)
   put_between given d c before was (inl stands) = inl (still d c was stands.same (stands.records_are store.records (journal_of d was)))
   put_between given d c before was (inr follows) = elim (follows.records_are store.records (can_follow given before)) [
     | inl without ↦ inl (still given c before follows.same without)
@@ -182,21 +158,61 @@ module _ (name : List ℕ) (root : Root) (S : List ℕ → Type 0) (store : Stor
 
   -- ---- the disk
 
-  module _ (e : Ending) (old new : DiskView) (writes : Writes (Appends t.journal (put_after_last t name root)) (IsAppended t.journal (put_after_last t name root)) e old new) where
-    of_store : Writes (Appends t.journal (put_of name root store)) (IsAppended t.journal (put_of name root store)) e old new
-    of_store = subst (λ (r : RecordValue). Writes (Appends t.journal r) (IsAppended t.journal r) e old new) (put_is name root t store keeps) writes
+  module _ (e : Ending) (old new : DiskView)
+      (writes : Writes (Appends t.journal (record_after_last t name change)) (IsAppended t.journal (record_after_last t name change)) e old new) where
+    pub of_store : Writes (Appends t.journal (record_of name change store)) (IsAppended t.journal (record_of name change store)) e old new
+    of_store = subst (λ (r : RecordValue). Writes (Appends t.journal r) (IsAppended t.journal r) e old new) (record_same name change t store keeps) writes
 
-    pub moves_named : (bytes : List ℕ) → root ≡ root_of bytes → Moves (naming S name bytes root store files) e old new
-    moves_named bytes root_is =
-        let way = naming S name bytes root store files in
-        moves_written way.before way.between way.after (Appends t.journal (put_of name root store)) (IsAppended t.journal (put_of name root store)) old new
-        (named_after bytes root_is) e (λ c before. inl before.0) (named_between bytes root_is) of_store
-
-    pub moves_put : Moves (putting_root S name root store files) e old new
-    moves_put =
-        let way = putting_root S name root store files in
-        moves_written way.before way.between way.after (Appends t.journal (put_of name root store)) (IsAppended t.journal (put_of name root store)) old new
+    pub moves_change : Moves (changing_name S name change store files) e old new
+    moves_change =
+        let way = changing_name S name change store files in
+        moves_written way.before way.between way.after (Appends t.journal (record_of name change store)) (IsAppended t.journal (record_of name change store)) old new
         put_after e (λ c before. inl before) put_between of_store
+
+-- the same of a command on files
+module _ (command : Command) (S : List ℕ → Type 0) (store : Store) (files : Files) (t : Tables) (keeps : RepresentsNames store t)
+    (can : CanChangeName (name_of command) (change_of command) store) where
+  abbrev r : RecordValue
+  r = record_of (name_of command) (change_of command) store
+
+  abbrev Before : List ℕ → Type 0
+  Before c = Stands S store files c × HoldsFor command store.held c
+
+  abbrev After : List ℕ → Type 0
+  After = Stands S (with_change (name_of command) (change_of command) store) (files_after command files)
+
+  changed_in : (given new : List ℕ) → Before given → SameButNext t.journal given new
+      → IsJournalOf (with_record r t.journal) (store.records ++ r ∷ []) new → After new
+  changed_in given new (is, holds) same journal =
+      change_stands S given new store files is can.cell (same_after (name_of command) (change_of command) S store files t keeps can given new same) command holds
+      (records_in (name_of command) (change_of command) S store files t keeps can new journal)
+      (subst (λ (h : ℕ). ClosedFrom h (length store.records + 1) new) keeps.half (subst (λ (n : ℕ). ClosedFrom t.journal.half (n + 1) new) keeps.count journal.closed))
+
+  -- once it is appended
+  changed_after : (given c : List ℕ) → Before given → IsAppended t.journal r given c → After c
+  changed_after given c before is =
+      changed_in given c before is.same
+      (is.records_are store.records (can_follow (name_of command) (change_of command) S store files t keeps can given before.0))
+
+  -- while it is appended
+  changed_between : (given d c : List ℕ) → Before given → Before d → Appends t.journal r given d c → Stands S store files c ⊎ After c
+  changed_between given d c before was (inl stands) =
+      inl (still (name_of command) (change_of command) S store files t keeps can d c was.0 stands.same
+      (stands.records_are store.records (journal_of (name_of command) (change_of command) S store files t keeps can d was.0)))
+  changed_between given d c before was (inr follows) =
+      elim (follows.records_are store.records (can_follow (name_of command) (change_of command) S store files t keeps can given before.0)) [
+        | inl without ↦ inl (still (name_of command) (change_of command) S store files t keeps can given c before.0 follows.same without)
+        | inr with ↦ inr (changed_in given c before follows.same with)
+      ]
+
+  pub moves_command : (e : Ending) (old new : DiskView)
+      → Writes (Appends t.journal (record_after_last t (name_of command) (change_of command)))
+      (IsAppended t.journal (record_after_last t (name_of command) (change_of command))) e old new
+      → Moves (commanding S command store files) e old new
+  moves_command e old new writes =
+      let way = commanding S command store files in
+      moves_written way.before way.between way.after (Appends t.journal r) (IsAppended t.journal r) old new changed_after e (λ c before. inl before.0) changed_between
+      (of_store (name_of command) (change_of command) S store files t keeps can e old new writes)
 
 -- ---- the bytes
 
@@ -239,16 +255,32 @@ same_but_next journal r old new writes = λ given known.
 
 -- ---- both
 
-pub record_is : (t : Tables) (name : List ℕ) (root : Root) (r : RecordValue) (number : ℕ) → r ≡ record { sequence = number; name = name; change = Put root }
-    → number ≡ suc t.journal.last → r ≡ put_after_last t name root
-record_is t name root r number is next = is ∙ ap (λ (n : ℕ). record { sequence = n; name = name; change = Put root }) next
+-- the record that is written is that of the change
+pub record_is : (t : Tables) (name : List ℕ) (change : Change) (r : RecordValue) (number : ℕ) → r ≡ record { sequence = number; name = name; change = change }
+    → number ≡ suc t.journal.last → r ≡ record_after_last t name change
+record_is t name change r number is next = is ∙ ap (λ (n : ℕ). record { sequence = n; name = name; change = change }) next
 
-pub puts_root : (t : Tables) (name : List ℕ) (root : Root) (r : RecordValue) → r ≡ put_after_last t name root → MayName t name → t.journal.last < 2 ^ 64 - 1
-    → (e : Ending) (old new : DiskView) → Writes (Appends t.journal r) (IsAppended t.journal r) e old new → PutsRoot t name root e old new
-puts_root t name root r is may below e old new writes =
-    let written = subst (λ (v : RecordValue). Writes (Appends t.journal v) (IsAppended t.journal v) e old new) is writes in
-    record {
-      moves = λ among store files bytes keeps root_is.
-          moves_named name root (IsIn among) store files t keeps (can_put name root t may below store keeps) e old new written bytes root_is;
-      keeps = λ among store files keeps. moves_put name root (IsIn among) store files t keeps (can_put name root t may below store keeps) e old new written;
-    }
+-- a name that may have a root may be changed so
+pub of_put : (t : Tables) (name : List ℕ) (root : Root) → MayName t name → MayChange t name (Put root)
+of_put t name root may = record { named = may.named; place = may.room; cell = may.cell }
+
+pub of_delete : (t : Tables) (name : List ℕ) → MayDelete t name → MayChange t name Delete
+of_delete t name may = record { named = may.named; place = may.there; cell = may.cell }
+
+module _ (t : Tables) (e : Ending) (old new : DiskView) where
+  abbrev Written : List ℕ → Change → Type 0
+  Written name change = Writes (Appends t.journal (record_after_last t name change)) (IsAppended t.journal (record_after_last t name change)) e old new
+
+  pub changes_name : (name : List ℕ) (change : Change) (r : RecordValue) → r ≡ record_after_last t name change → MayChange t name change
+      → t.journal.last < 2 ^ 64 - 1 → Writes (Appends t.journal r) (IsAppended t.journal r) e old new → ChangesName t name change e old new
+  changes_name name change r is may below writes =
+      let written : Written name change = subst (λ (v : RecordValue). Writes (Appends t.journal v) (IsAppended t.journal v) e old new) is writes in
+      record {
+        moves = λ among store files command keeps name_is change_is.
+            let can = can_change name change t may below store keeps in
+            let can_command = subst (λ (n : List ℕ). CanChangeName n (change_of command) store) name_is
+            (subst (λ (x : Change). CanChangeName name x store) change_is can) in
+            moves_command command (IsIn among) store files t keeps can_command e old new
+            (subst (λ (n : List ℕ). Written n (change_of command)) name_is (subst (λ (x : Change). Written name x) change_is written));
+        keeps = λ among store files keeps. moves_change name change (IsIn among) store files t keeps (can_change name change t may below store keeps) e old new written;
+      }

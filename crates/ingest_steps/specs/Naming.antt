@@ -1,29 +1,35 @@
--- When a name is given a root, and what that makes of the tables and of the disk (docs/MODEL.md, 'Steps').
-use Rattle.std.specs.Prelude.{◌≡◌, ◌⊎◌, ℕ, suc, ◌-◌, ◌^◌, ◌<◌, ◌≤◌, List, Option}
+-- When a name is given a root or taken away, and what that makes of the tables and of the disk (docs/MODEL.md, 'Steps').
+use Rattle.std.specs.Prelude.{◌≡◌, ◌⊎◌, ℕ, suc, ◌-◌, ◌^◌, ◌<◌, ◌≤◌, List, Option, None, IsSome}
+use Rattle.std.specs.FinMap as finite
 use Rattle.base_model.specs.Known.{Known, KnownWith}
-use Rattle.disk_format.specs.Cells.{Root, RecordValue, IsName, IsRoot}
-use Rattle.disk_format.specs.Cells.Change.{Put}
+use Rattle.disk_format.specs.Cells.{Change, RecordValue, IsName, IsChange}
+use Rattle.disk_format.specs.Cells.Change.{Delete}
 use Rattle.disk_format.specs.Layout.{half_cells}
 use Rattle.dd_disk.specs.View.{DiskView, IsDurable, CrashLeaves, SteppedFrom}
 use Rattle.dd_disk.specs.Ending.{Ending}
 use Rattle.dd_disk.specs.Moves.{Way, step, Moves}
 use Rattle.container_meta.specs.Places.{PlaceMap}
-use Rattle.namespace.specs.Names.{HasRoom, IsFull, names_with}
+use Rattle.namespace.specs.Names.{HasPlace, HasRoom, IsFull, names_with}
 use Rattle.journal_cells.specs.Journal.{JournalValue, with_record}
 use Rattle.journal_cells.specs.Appending.{SameButNext}
 use Rattle.refusals.specs.declared.refusal.Refusal.{Refusal}
-use Rattle.refusals.specs.declared.refusal.Refusal.TheVariants.{Memory, BadName, TooMany, Numbers, DiskWrite}
-use Rattle.store_model.specs.Files.{Files, with_file}
+use Rattle.refusals.specs.declared.refusal.Refusal.TheVariants.{Memory, NoFile, BadName, TooMany, Numbers, DiskWrite}
+use Rattle.store_model.specs.Files.{Command, Files, files_after}
 use Rattle.store_model.specs.Image.{Store, Encodes}
 use Rattle.store_model.specs.Collisions.{ByteSet, IsIn, Stands}
-use Rattle.store_model.specs.Steps.{CanPut, with_put}
-use Rattle.store_model.specs.Trees.{root_of, file_tree, HoldsTree}
+use Rattle.store_model.specs.Steps.{CanChangeName, HoldsFor, change_of, name_of, with_change}
 use Rattle.store_state.specs.declared.tables.Tables.{Tables}
 use Rattle.store_state.specs.Tables.{Represents, RepresentsNames, Runs}
 
 -- ---- when
 
--- The name is good and has room, and the half that counts has a free cell.
+-- The name is good; it has room for a root, or is there to be taken away; and the half that counts has a free cell.
+pub record MayChange (t : Tables) (name : List ℕ) (change : Change) : Type 0 where
+  pub named : IsName name
+  pub place : HasPlace t.names name change
+  pub cell : t.journal.count < half_cells
+
+-- The same of a put.
 pub record MayName (t : Tables) (name : List ℕ) : Type 0 where
   pub named : IsName name
   pub room : HasRoom t.names name
@@ -34,6 +40,19 @@ abbrev pub IsNameRefusal : Tables → List ℕ → Refusal → Type 0
 IsNameRefusal t name BadName = ¬ (IsName name)
 IsNameRefusal t name TooMany = IsName name × (IsFull t.names name ⊎ (HasRoom t.names name × (half_cells ≤ t.journal.count)))
 IsNameRefusal t name refusal = ⊥
+
+-- The same of a delete.
+pub record MayDelete (t : Tables) (name : List ℕ) : Type 0 where
+  pub named : IsName name
+  pub there : IsSome (finite.get t.names name)
+  pub cell : t.journal.count < half_cells
+
+-- why it isn't so: the name is none, or isn't there; or the half has no free cell
+abbrev pub MayNotDelete : Tables → List ℕ → Refusal → Type 0
+MayNotDelete t name BadName = ¬ (IsName name)
+MayNotDelete t name NoFile = IsName name × (finite.get t.names name ≡ None)
+MayNotDelete t name TooMany = IsName name × IsSome (finite.get t.names name) × (half_cells ≤ t.journal.count)
+MayNotDelete t name refusal = ⊥
 
 -- of a write of a record: want of memory is free, and a failed write or sync is told by the count of faults
 abbrev pub IsWriteRefusal : Refusal → Type 0
@@ -49,52 +68,65 @@ IsAppendRefusal t Numbers = t.journal.last ≡ 2 ^ 64 - 1
 IsAppendRefusal t DiskWrite = t.journal.last < 2 ^ 64 - 1
 IsAppendRefusal t refusal = ⊥
 
+-- Why a name isn't deleted.
+abbrev pub IsDeleteRefusal : Tables → List ℕ → Refusal → Type 0
+IsDeleteRefusal t name Memory = Unit {0}
+IsDeleteRefusal t name Numbers = MayDelete t name × (t.journal.last ≡ 2 ^ 64 - 1)
+IsDeleteRefusal t name DiskWrite = MayDelete t name × (t.journal.last < 2 ^ 64 - 1)
+IsDeleteRefusal t name refusal = MayNotDelete t name refusal
+
 -- ---- what becomes of the tables
 
--- the put, under the number after the last one
-abbrev pub put_after_last : Tables → List ℕ → Root → RecordValue
-put_after_last t name root = record { sequence = suc t.journal.last; name = name; change = Put root }
+-- the record of a change, under the number after the last one
+abbrev pub record_after_last : Tables → List ℕ → Change → RecordValue
+record_after_last t name change = record { sequence = suc t.journal.last; name = name; change = change }
 
 -- the tables after a record
 abbrev pub tables_with : RecordValue → Tables → Tables
 tables_with r t = record t { journal = with_record r t.journal; names = names_with r t.names }
 
--- The tables are those of before, with a root under a name: of each store that they were those of, the name could be put,
--- and they are those of the store with it. With `root_right` that is a step of the store.
-pub record IsNamed (old : Tables) (name : List ℕ) (root : Root) (new : Tables) (sequence : ℕ) : Type 0 where
+-- The tables are those of before, with a change of a name: of each store that they were those of, the name could be changed,
+-- and they are those of the store with it. With `right` that is a step of the store.
+pub record IsChanged (old : Tables) (name : List ℕ) (change : Change) (new : Tables) (sequence : ℕ) : Type 0 where
   pub number : sequence ≡ suc old.journal.last
   pub below : old.journal.last < 2 ^ 64 - 1
-  pub tables_are : new ≡ tables_with (put_after_last old name root) old
-  pub root_right : IsRoot root
-  pub can : (store : Store) → RepresentsNames store old → CanPut name store
+  pub tables_are : new ≡ tables_with (record_after_last old name change) old
+  pub right : IsChange change
+  pub can : (store : Store) → RepresentsNames store old → CanChangeName name change store
   pub represents : (store : Store) (known : Option PlaceMap) → Represents store known old
-      → Represents (with_put name root store) known new
+      → Represents (with_change name change store) known new
   pub runs : (size : ℕ) (known : Option PlaceMap) → Runs size known old → Runs size known new
+
+-- The name is gone.
+pub record IsDeleted (old : Tables) (name : List ℕ) (new : Tables) (sequence : ℕ) : Type 0 where
+  pub may : MayDelete old name
+  pub changed : IsChanged old name Delete new sequence
 
 -- ---- what the disk stands for, on the way
 
--- the store of these files, or that with the root of a file that it holds
-abbrev pub naming : (List ℕ → Type 0) → List ℕ → List ℕ → Root → Store → Files → Way
-naming S name bytes root store files = step
-    (λ c. Stands S store files c × HoldsTree store.held c (file_tree bytes))
-    (λ c. Stands S store files c ⊎ Stands S (with_put name root store) (with_file files name bytes) c)
-    (Stands S (with_put name root store) (with_file files name bytes))
+-- the store of these files, where a file that the command puts is held; or that after the command
+abbrev pub commanding : (List ℕ → Type 0) → Command → Store → Files → Way
+commanding S command store files = step
+    (λ c. Stands S store files c × HoldsFor command store.held c)
+    (λ c. Stands S store files c ⊎ Stands S (with_change (name_of command) (change_of command) store) (files_after command files) c)
+    (Stands S (with_change (name_of command) (change_of command) store) (files_after command files))
 
--- the store of these files, or that with a root, whatever it is of
-abbrev pub putting_root : (List ℕ → Type 0) → List ℕ → Root → Store → Files → Way
-putting_root S name root store files = step
+-- the store of these files, or that with a change, whatever root it gives
+abbrev pub changing_name : (List ℕ → Type 0) → List ℕ → Change → Store → Files → Way
+changing_name S name change store files = step
     (Stands S store files)
-    (λ c. Stands S store files c ⊎ Encodes c (with_put name root store))
-    (λ c. Encodes c (with_put name root store))
+    (λ c. Stands S store files c ⊎ Encodes c (with_change name change store))
+    (λ c. Encodes c (with_change name change store))
 
--- A name is given a root: of each store that the tables represent, and of any files.
-pub record PutsRoot (t : Tables) (name : List ℕ) (root : Root) (ending : Ending) (old new : DiskView) : Type 0 where
-  -- where it is that of a file whose tree each image holds
-  pub moves : (among : ByteSet) (store : Store) (files : Files) (bytes : List ℕ) → RepresentsNames store t → root ≡ root_of bytes
-      → Moves (naming (IsIn among) name bytes root store files) ending old new
-  -- and where it is that of none
+-- A name is changed: of each store that the tables represent, and of any files.
+pub record ChangesName (t : Tables) (name : List ℕ) (change : Change) (ending : Ending) (old new : DiskView) : Type 0 where
+  -- where that is a command on files, of which each image holds one that is put
+  pub moves : (among : ByteSet) (store : Store) (files : Files) (command : Command) → RepresentsNames store t
+      → name ≡ name_of command → change ≡ change_of command
+      → Moves (commanding (IsIn among) command store files) ending old new
+  -- and of every change, a delete too, and one that gives a root which is of no file
   pub keeps : (among : ByteSet) (store : Store) (files : Files) → RepresentsNames store t
-      → Moves (putting_root (IsIn among) name root store files) ending old new
+      → Moves (changing_name (IsIn among) name change store files) ending old new
 
 -- ---- what becomes of the bytes
 

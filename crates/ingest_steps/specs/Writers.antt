@@ -3,6 +3,7 @@
 use Rattle.std.specs.Prelude.{◌≡◌, ◌≢◌, ◌⊎◌, ℕ, ◌-◌, ◌^◌, ◌<◌, List, [], Bool, true, false}
 use Rattle.sha2.specs.Sha256.{sha256}
 use Rattle.disk_format.specs.Cells.{Root}
+use Rattle.disk_format.specs.Cells.Change.{Put}
 use Rattle.actor_parts.specs.declared.part.Part.{Part}
 use Rattle.actor_parts.specs.declared.part.Part.TheVariants.{Idle, Writing}
 use Rattle.actor_parts.specs.Kinds.{kind_of}
@@ -14,7 +15,7 @@ use Rattle.refusals.specs.declared.refusal.Refusal.{Refusal}
 use Rattle.refusals.specs.declared.refusal.Refusal.TheVariants.{Memory, WrongPart, Unpinned, Numbers, DiskWrite}
 use Rattle.store_model.specs.Refusals.{root_key}
 use Rattle.store_state.specs.declared.tables.Tables.{Tables}
-use Rattle.ingest_steps.specs.Naming.{MayName, IsNameRefusal, IsNamed}
+use Rattle.ingest_steps.specs.Naming.{MayName, IsNameRefusal, IsChanged}
 
 -- the actor is at something else than the step takes
 abbrev pub IsWrongPart : PartKind → Part → Refusal → Type 0
@@ -66,5 +67,5 @@ IsCommitRefusal part t name root refusal = IsUncommitted part t name root refusa
 pub record IsCommitted (parts : List Part) (actor : ℕ) (t : Tables) (name : List ℕ) (root : Root) (new_parts : List Part) (new : Tables)
     (sequence : ℕ) : Type 0 where
   pub may : MayCommit (part_of parts actor) t name root
-  pub named : IsNamed t name root new sequence
+  pub named : IsChanged t name (Put root) new sequence
   pub parts_are : new_parts ≡ with_part parts actor Idle

@@ -1,20 +1,20 @@
-//! Giving a name a root: what of it needs no actor.
+//! Giving a name a root, and taking it away: what of it needs no actor.
 ghost use Rattle.std.specs.Prelude.{◌≡◌, ◌-◌, ◌^◌, ◌<◌, ◌≤◌, suc, OnOk, OnErr, IfOk, IfErr};
-ghost use Rattle.disk_format.specs.Cells.{Root as FileRoot, IsRoot};
-ghost use Rattle.disk_format.specs.Cells.Change.{Put};
+ghost use Rattle.disk_format.specs.Cells.{Root as FileRoot, IsChange, IsRoot};
+ghost use Rattle.disk_format.specs.Cells.Change.{Delete, Put};
 ghost use Rattle.disk_format.specs.Layout.{least_size};
 ghost use Rattle.dd_disk.specs.Ending.{ending};
 ghost use Rattle.dd_disk.specs.View.{IsDurable};
 ghost use Rattle.dd_disk.specs.Writes.{Writes};
 ghost use Rattle.dd_disk.specs.Moves.{Acts};
-ghost use Rattle.namespace.specs.Names.{IsTaken, record_value};
+ghost use Rattle.namespace.specs.Names.{IsTaken, change_value, record_value};
 ghost use Rattle.journal_cells.specs.Appending.{Appends, IsAppended};
 ghost use Rattle.journal_cells.specs.Faults.{IsWriteFault, blames as call_blamed};
 ghost use Rattle.journal_cells.specs.Journal.{Precedes};
 ghost use Rattle.refusals.specs.declared.refusal.Refusal.TheVariants.{Numbers};
 ghost use Rattle.store_state.specs.Refused.{blames};
-ghost use Rattle.ingest_steps.specs.Naming.{MayName, IsNameRefusal, IsAppendRefusal, IsNamed, PutsRoot, ChangesNextAlone, KeepsButNext};
-ghost use Rattle.ingest_steps.specs.Naming.{IsWriteRefusal, put_after_last, tables_with};
+ghost use Rattle.ingest_steps.specs.Naming.{MayChange, MayName, IsNameRefusal, MayDelete, MayNotDelete, IsAppendRefusal, IsDeleteRefusal};
+ghost use Rattle.ingest_steps.specs.Naming.{IsChanged, IsDeleted, ChangesName, ChangesNextAlone, KeepsButNext, IsWriteRefusal, tables_with};
 
 use dd_disk::Disk;
 use disk_format::HALF_CELLS;
@@ -41,6 +41,23 @@ pub fn may_name(tables: &Tables, name: &[u8]) -> Result<(), Refusal>
     Ok(())
 }
 
+/// Whether a name may be deleted. `BadName`; then `NoFile` where it isn't there, and `TooMany` where the half that counts has its
+/// 1,024 records.
+fn may_delete(tables: &Tables, name: &[u8]) -> Result<(), Refusal>
+    ensures may { OnOk result (MayDelete tables.now name.now) }
+    ensures refused { IfErr result (MayNotDelete tables.now name.now) }
+{
+    match tables.names.get(name) {
+        Ok(_) => {}
+        Err(NameFault::BadName) => return Err(Refusal::BadName),
+        Err(_) => return Err(Refusal::NoFile),
+    }
+    if tables.journal.count() >= HALF_CELLS {
+        return Err(Refusal::TooMany);
+    }
+    Ok(())
+}
+
 // The next sequence number.
 fn next_number(journal: &Journal) -> Result<u64, Refusal>
     ensures next { IfOk result (λ number. number ≡ suc journal.now.last) }
@@ -55,14 +72,14 @@ fn next_number(journal: &Journal) -> Result<u64, Refusal>
     Ok(last + 1)
 }
 
-// The record that gives a name a root.
-fn put_for(alloc: Global, number: u64, name: &[u8], root: &Root) -> Result<Record, AllocError>
-    ensures { IfOk result (λ r. record_value r ≡ record { sequence = number; name = name.now; change = Put root.now }) }
+// The record that changes a name.
+fn record_for(alloc: Global, number: u64, name: &[u8], change: Change) -> Result<Record, AllocError>
+    ensures { IfOk result (λ r. record_value r ≡ record { sequence = number; name = name.now; change = change_value change }) }
 {
     Ok(Record {
         sequence: number,
         name: Vec::from_slice(alloc, name)?,
-        change: Change::Put(*root),
+        change,
     })
 }
 
@@ -110,6 +127,81 @@ fn write_put<D: Disk>(
     }
 }
 
+// Takes a delete into the journal and the names: first on the disk, since the names need no memory for it.
+fn write_delete<D: Disk>(
+    alloc: Global,
+    disk: &mut D,
+    tables: &mut Tables,
+    delete: &Record,
+) -> Result<(), Refusal>
+    requires size { least_size ≤ (D.view disk.old).size }
+    requires delete { (record_value delete.now).change ≡ Delete }
+    requires follows { Precedes tables.old.journal (record_value delete.now) }
+    requires taken { IsTaken tables.old.names (record_value delete.now) }
+    ensures tables { OnOk result (tables.new ≡ tables_with (record_value delete.now) tables.old) }
+    ensures unchanged { OnErr result (tables.new ≡ tables.old) }
+    ensures writes { Writes (Appends tables.old.journal (record_value delete.now)) (IsAppended tables.old.journal (record_value delete.now))
+        (ending blames result) (D.view disk.old) (D.view disk.new) }
+    ensures refused { IfErr result IsWriteRefusal }
+{
+    match tables.journal.append(alloc, disk, delete) {
+        Ok(()) => {}
+        Err(fault) => return Err(unwritten(fault)),
+    }
+    match tables.names.apply(delete) {
+        Ok(()) => Ok(()),
+        Err(_) => unreachable!(),
+    }
+}
+
+// Takes a record into the names and the journal.
+fn write_record<D: Disk>(
+    alloc: Global,
+    disk: &mut D,
+    tables: &mut Tables,
+    made: Record,
+) -> Result<(), Refusal>
+    requires size { least_size ≤ (D.view disk.old).size }
+    requires follows { Precedes tables.old.journal (record_value made) }
+    requires taken { IsTaken tables.old.names (record_value made) }
+    ensures tables { OnOk result (tables.new ≡ tables_with (record_value made) tables.old) }
+    ensures unchanged { OnErr result (tables.new ≡ tables.old) }
+    ensures writes { Writes (Appends tables.old.journal (record_value made)) (IsAppended tables.old.journal (record_value made))
+        (ending blames result) (D.view disk.old) (D.view disk.new) }
+    ensures refused { IfErr result IsWriteRefusal }
+{
+    match made.change {
+        Change::Put(_) => write_put(alloc, disk, tables, made),
+        Change::Delete => write_delete(alloc, disk, tables, &made),
+    }
+}
+
+// Changes a name: appends a record under the next sequence number, which is answered. The name may be changed so.
+fn change_name<D: Disk>(
+    alloc: Global,
+    disk: &mut D,
+    tables: &mut Tables,
+    name: &[u8],
+    change: Change,
+) -> Result<u64, Refusal>
+    requires size { least_size ≤ (D.view disk.old).size }
+    requires may { MayChange tables.old name.now (change_value change) }
+    requires right { IsChange (change_value change) }
+    ensures ok { IfOk result (IsChanged tables.old name.now (change_value change) tables.new) }
+    ensures refused { IfErr result (IsAppendRefusal tables.old) }
+    ensures unchanged { OnErr result (tables.new ≡ tables.old) }
+    ensures durable { OnOk result (IsDurable (D.view disk.new)) }
+    ensures disk { Acts (ending blames result) (D.view disk.old) (D.view disk.new) }
+    ensures moves { ChangesName tables.old name.now (change_value change) (ending blames result) (D.view disk.old) (D.view disk.new) }
+    ensures frame { ChangesNextAlone tables.old.journal (D.view disk.old) (D.view disk.new) }
+    ensures same { OnOk result (KeepsButNext tables.old.journal (D.view disk.old) (D.view disk.new)) }
+{
+    let number = next_number(&tables.journal)?;
+    let made = record_for(alloc, number, name, change)?;
+    write_record(alloc, disk, tables, made)?;
+    Ok(number)
+}
+
 /// Gives a name a root: appends a put under the next sequence number, which is answered.
 ///
 /// `may_name` has taken the name. Refusals: `Numbers` where the last sequence number is 2^64 - 1; `Memory` and `DiskWrite`.
@@ -124,17 +216,39 @@ pub fn put_root<D: Disk>(
     requires size { least_size ≤ (D.view disk.old).size }
     requires may { MayName tables.old name.now }
     requires root { IsRoot root.now }
-    ensures ok { IfOk result (IsNamed tables.old name.now root.now tables.new) }
+    ensures ok { IfOk result (IsChanged tables.old name.now (Put root.now) tables.new) }
     ensures refused { IfErr result (IsAppendRefusal tables.old) }
     ensures unchanged { OnErr result (tables.new ≡ tables.old) }
     ensures durable { OnOk result (IsDurable (D.view disk.new)) }
     ensures disk { Acts (ending blames result) (D.view disk.old) (D.view disk.new) }
-    ensures moves { PutsRoot tables.old name.now root.now (ending blames result) (D.view disk.old) (D.view disk.new) }
+    ensures moves { ChangesName tables.old name.now (Put root.now) (ending blames result) (D.view disk.old) (D.view disk.new) }
     ensures frame { ChangesNextAlone tables.old.journal (D.view disk.old) (D.view disk.new) }
     ensures same { OnOk result (KeepsButNext tables.old.journal (D.view disk.old) (D.view disk.new)) }
 {
-    let number = next_number(&tables.journal)?;
-    let put = put_for(alloc, number, name, root)?;
-    write_put(alloc, disk, tables, put)?;
-    Ok(number)
+    change_name(alloc, disk, tables, name, Change::Put(*root))
+}
+
+/// Takes a name away, with its file: appends a delete under the next sequence number, which is answered.
+///
+/// Refusals, in this order: `BadName`; `NoFile` where the name isn't there; `TooMany` where the half that counts has its 1,024
+/// records; `Numbers` where the last sequence number is 2^64 - 1; `DiskWrite`. `Memory` comes before the first write. Each leaves the
+/// tables as they were.
+pub fn delete<D: Disk>(
+    alloc: Global,
+    disk: &mut D,
+    tables: &mut Tables,
+    name: &[u8],
+) -> Result<u64, Refusal>
+    requires size { least_size ≤ (D.view disk.old).size }
+    ensures ok { IfOk result (IsDeleted tables.old name.now tables.new) }
+    ensures refused { IfErr result (IsDeleteRefusal tables.old name.now) }
+    ensures unchanged { OnErr result (tables.new ≡ tables.old) }
+    ensures durable { OnOk result (IsDurable (D.view disk.new)) }
+    ensures disk { Acts (ending blames result) (D.view disk.old) (D.view disk.new) }
+    ensures moves { ChangesName tables.old name.now Delete (ending blames result) (D.view disk.old) (D.view disk.new) }
+    ensures frame { ChangesNextAlone tables.old.journal (D.view disk.old) (D.view disk.new) }
+    ensures same { OnOk result (KeepsButNext tables.old.journal (D.view disk.old) (D.view disk.new)) }
+{
+    may_delete(tables, name)?;
+    change_name(alloc, disk, tables, name, Change::Delete)
 }

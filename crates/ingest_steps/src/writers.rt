@@ -13,7 +13,8 @@ ghost use Rattle.refusals.specs.declared.refusal.PartKind.TheVariants as kinds;
 ghost use Rattle.refusals.specs.declared.refusal.Refusal.TheVariants.{Unpinned};
 ghost use Rattle.store_model.specs.Refusals.{root_key as key_of_root};
 ghost use Rattle.store_state.specs.Refused.{blames};
-ghost use Rattle.ingest_steps.specs.Naming.{PutsRoot, ChangesNextAlone, KeepsButNext};
+ghost use Rattle.disk_format.specs.Cells.Change.{Put};
+ghost use Rattle.ingest_steps.specs.Naming.{ChangesName, ChangesNextAlone, KeepsButNext};
 ghost use Rattle.ingest_steps.specs.Writers.{IsWrongPart, empty_root, IsStored, IsNotStored};
 ghost use Rattle.ingest_steps.specs.Writers.{MayCommit, IsUncommitted, IsCommitRefusal, IsCommitted};
 
@@ -130,7 +131,7 @@ pub fn commit<D: Disk>(
     ensures unchanged { OnErr result ((tables.new ≡ tables.old) × (parts.new ≡ parts.old)) }
     ensures durable { OnOk result (IsDurable (D.view disk.new)) }
     ensures disk { Acts (ending blames result) (D.view disk.old) (D.view disk.new) }
-    ensures moves { PutsRoot tables.old name.now root.now (ending blames result) (D.view disk.old) (D.view disk.new) }
+    ensures moves { ChangesName tables.old name.now (Put root.now) (ending blames result) (D.view disk.old) (D.view disk.new) }
     ensures frame { ChangesNextAlone tables.old.journal (D.view disk.old) (D.view disk.new) }
     ensures same { OnOk result (KeepsButNext tables.old.journal (D.view disk.old) (D.view disk.new)) }
 {

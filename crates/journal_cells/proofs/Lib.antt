@@ -1,10 +1,13 @@
 pub mod Again
 pub mod Appended
 pub mod Breaks
+pub mod Checkpointed
 pub mod Chosen
 pub mod Damage
+pub mod Filling
 pub mod Formats
 pub mod Found
+pub mod FreshHalf
 pub mod Listed
 pub mod Names
 pub mod Outcomes

@@ -1,4 +1,5 @@
 pub mod Appending
+pub mod Checkpoints
 pub mod Checks
 pub mod Faults
 pub mod Heads

@@ -1,5 +1,5 @@
 //! The journal of a store: which half counts, and where its next record goes.
-ghost use Rattle.std.specs.Prelude.{◌≡◌, ◌≤◌, OnOk, OnErr, IfErr};
+ghost use Rattle.std.specs.Prelude.{◌≡◌, ◌-◌, ◌^◌, ◌<◌, ◌≤◌, OnOk, OnErr, IfOk, IfErr, Err};
 ghost use Rattle.disk_format.specs.Cells.{record_cell};
 ghost use Rattle.disk_format.specs.Layout.{cell_at as place_of_cell};
 ghost use Rattle.dd_disk.specs.Ending.{ending};
@@ -8,14 +8,18 @@ ghost use Rattle.dd_disk.specs.Gated.{TornFrom};
 ghost use Rattle.namespace.specs.Names.{record_value};
 ghost use Rattle.journal_cells.specs.Faults.{blames, IsWriteFault};
 ghost use Rattle.journal_cells.specs.Journal.{IsJournal, Precedes, with_record};
+ghost use Rattle.journal_cells.specs.declared.fault.CellFault.TheVariants.{Numbers};
 ghost use Rattle.journal_cells.specs.Appending.{Appends, IsAppended};
+ghost use Rattle.journal_cells.specs.Checkpoints.{Checkpoints, IsCheckpointed, IsCheckpointFault, checkpointed, next_selector};
 
+use crate::checkpoint::{fresh_half, replace_half};
 use crate::device::write_cell;
 use crate::fault::CellFault;
+use crate::heads::Selector;
 use crate::spelling::encode;
-use dd_disk::Disk;
-use disk_format::{LEAST_SIZE, cell_at};
-use namespace::Record;
+use dd_disk::{Disk, DiskFault};
+use disk_format::{LEAST_SIZE, VERSION, cell_at};
+use namespace::{Names, Record};
 use std::alloc::Global;
 use std::marker::Model;
 
@@ -138,5 +142,62 @@ impl Journal {
         ensures cause { IfErr result IsWriteFault }
     {
         self.write_record(alloc, disk, value)
+    }
+
+    // The selector of the next checkpoint.
+    fn next_selector(&self) -> Result<Selector, CellFault>
+        ensures next { IfOk result (λ selector. selector ≡ next_selector self.now) }
+        ensures below { OnOk result (self.now.generation < 2 ^ 64 - 1) }
+        ensures numbers { IfErr result (λ fault. (fault ≡ Numbers) × (self.now.generation ≡ 2 ^ 64 - 1)) }
+        ensures right { IsJournal self.now }
+    {
+        if self.generation == u64::MAX {
+            return Err(CellFault::Numbers);
+        }
+        Ok(Selector {
+            generation: self.generation + 1,
+            form: VERSION,
+            half: 1 - self.half,
+            last: self.last,
+        })
+    }
+
+    /// Makes room: writes the names anew, as puts by their sequence numbers, into the half that does not count, which counts
+    /// from then on.
+    ///
+    /// The calls of the disk are, in this order: where the gate of that half's selector is open, 0 over it, and a sync; zeros
+    /// over the whole half; the records' cells with open gates from its first cell on, in one write, and none where there is
+    /// no name; a sync; the selector's bytes 1 to 511, a sync; its gate, a sync.
+    ///
+    /// `Numbers` comes exactly where the generation is 2^64 - 1, and `Memory` may come only elsewhere; both come before the
+    /// first write. `DiskWrite` comes where a write or a sync failed: then the old journal may stand on the disk, or the new
+    /// one. Each leaves the journal in memory as it was.
+    pub fn checkpoint<D: Disk>(
+        &mut self,
+        alloc: Global,
+        disk: &mut D,
+        names: &Names,
+    ) -> Result<(), CellFault>
+        requires size { LEAST_SIZE ≤ (D.view disk.old).size }
+        ensures writes { Writes (Checkpoints self.old names.now) (IsCheckpointed self.old names.now) (ending blames result)
+            (D.view disk.old) (D.view disk.new) }
+        ensures journal { OnOk result (self.new ≡ checkpointed names.now self.old) }
+        ensures unchanged { OnErr result (self.new ≡ self.old) }
+        ensures numbers { self.old.generation ≡ 2 ^ 64 - 1 → result ≡ Err Numbers }
+        ensures cause { IfErr result (IsCheckpointFault self.old) }
+    {
+        let selector = self.next_selector()?;
+        let fresh = fresh_half(alloc, &selector, names)?;
+        match replace_half(disk, self.other_open, selector.half, &fresh) {
+            Ok(()) => {}
+            Err(DiskFault) => return Err(CellFault::DiskWrite),
+        }
+        self.half = selector.half;
+        self.generation = selector.generation;
+        self.other_open = true;
+        self.count = fresh.count;
+        self.previous = fresh.previous;
+        self.last = self.last.max(fresh.previous);
+        Ok(())
     }
 }

@@ -3,6 +3,7 @@
 //! The format is docs/FORMAT.md, 'Cells'.
 #![tactic(auto)]
 
+mod checkpoint;
 mod checks;
 mod device;
 mod fault;

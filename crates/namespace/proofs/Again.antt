@@ -70,8 +70,8 @@ pub entries_found : (names : NameMap) → All (λ e. finite.get names e.0 ≡ So
 entries_found names = All-weaker (λ e. finite.find (slice_cmp nat_cmp) e.0 (finite.entries names) ≡ Some e.1) (λ e. finite.get names e.0 ≡ Some e.1) (λ e found. finite.get-entries names e.0 ∙ found) (finite.entries names) (found_each (finite.entries names) (finite.entries_sorted names))
 
 -- each of the puts, in any order, is one of the names
-pub puts_of : (names : NameMap) (puts : List RecordValue) → IsPermutation (map put_of (finite.entries names)) puts → All (IsPutOf names) puts
-puts_of names puts same = All-permutation (IsPutOf names) (map put_of (finite.entries names)) puts same (All-map (IsPutOf names) put_of (finite.entries names) (entries_found names))
+pub each_put : (names : NameMap) (puts : List RecordValue) → IsPermutation (map put_of (finite.entries names)) puts → All (IsPutOf names) puts
+each_put names puts same = All-permutation (IsPutOf names) (map put_of (finite.entries names)) puts same (All-map (IsPutOf names) put_of (finite.entries names) (entries_found names))
 
 -- what holds of each key holds of each put's name, and the other way round
 over_puts : (P : List ℕ → Type 0) (es : List (List ℕ × Named)) → All P (map (λ e. e.0) es) → All (λ r. P r.name) (map put_of es)
@@ -82,7 +82,7 @@ over_keys : (P : List ℕ → Type 0) (es : List (List ℕ × Named)) → All (�
 over_keys P [] h = All-nil _
 over_keys P (e ∷ es) h = All-cons P e.0 (map (λ x. x.0) es) (All-head (λ r. P r.name) (put_of e) (map put_of es) h) (over_keys P es (All-tail (λ r. P r.name) (put_of e) (map put_of es) h))
 
-named_puts : (names : NameMap) (puts : List RecordValue) → AreNames names → IsPermutation (map put_of (finite.entries names)) puts → All (λ r. IsName r.name) puts
+pub named_puts : (names : NameMap) (puts : List RecordValue) → AreNames names → IsPermutation (map put_of (finite.entries names)) puts → All (λ r. IsName r.name) puts
 named_puts names puts h same = All-permutation (λ r. IsName r.name) (map put_of (finite.entries names)) puts same (over_puts IsName (finite.entries names) h.named)
 
 -- what one map finds another finds
@@ -143,7 +143,7 @@ nothing names = λ q x found. let none = finite.get-empty {X = Named} (slice_cmp
 -- the puts of names, in any order, replay to the names
 pub replays : (names : NameMap) (puts : List RecordValue) → IsPermutation (map put_of (finite.entries names)) puts → names_after puts finite.empty ≡ names
 replays names puts same =
-    let of = puts_of names puts same in
+    let of = each_put names puts same in
     let again = names_after puts finite.empty in
     let there : All (λ r. is_some (finite.get again r.name) ≡ true) (map put_of (finite.entries names)) = All-permutation (λ r. is_some (finite.get again r.name) ≡ true) puts (map put_of (finite.entries names)) (IsPermutation-sym _ _ same) (replay_adds names puts finite.empty of) in
     finite.same_map nat_list_cmp_total exact_bytes again names (λ q.
@@ -171,4 +171,4 @@ pub taken : (names : NameMap) (puts : List RecordValue) → AreNames names → I
 taken names puts h same =
     let none : finite.len (finite.empty {R = slice_cmp nat_cmp}) ≡ 0 = finite.len-empty (slice_cmp nat_cmp) Named in
     let count : length puts ≡ finite.len names = length_permutation _ _ same ∙ length-map (finite.entries names) put_of ∙ sym (finite.len-entries names) in
-    taken_each names puts finite.empty (puts_of names puts same) (named_puts names puts h same) (omega (arith, none, h.few, count))
+    taken_each names puts finite.empty (each_put names puts same) (named_puts names puts h same) (omega (arith, none, h.few, count))

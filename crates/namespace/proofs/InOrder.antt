@@ -18,7 +18,7 @@ use Rattle.disk_format.specs.Cells.Change.{Put, Delete}
 use Rattle.namespace.specs.declared.record.Named.{Named}
 use Rattle.namespace.specs.Names.{NameMap, AreNames, put_of}
 use Rattle.namespace.specs.Numbers.{Rise, last_of, AreNumbered, AreInOrder}
-use Rattle.namespace.proofs.Again.{first, second, is_less, IsOf, IsPutOf, entries_found, puts_of, replays, taken}
+use Rattle.namespace.proofs.Again.{first, second, is_less, IsOf, IsPutOf, entries_found, each_put, replays, taken}
 
 -- no later entry has this one's number
 others : (names : NameMap) (last : ℕ) → AreNumbered names last → (e : List ℕ × Named) (es : List (List ℕ × Named)) → T (below_all (slice_cmp nat_cmp) e.0 es) → finite.get names e.0 ≡ Some e.1 → All (λ x. finite.get names x.0 ≡ Some x.1) es
@@ -66,7 +66,7 @@ of_one names last h sequence name Delete of = absurd of
 pub in_order : (names : NameMap) (puts : List RecordValue) (last : ℕ) → AreNames names → AreNumbered names last → IsPermutation (map put_of (finite.entries names)) puts → IsNonDecreasingBy (λ r. r.sequence) puts → AreInOrder puts names last
 in_order names puts last good h same order =
     let listed = map put_of (finite.entries names) in
-    let of = puts_of names puts same in
+    let of = each_put names puts same in
     let within : (r : RecordValue) → IsPutOf names r → (1 ≤ r.sequence) × (r.sequence ≤ last) = λ r o. of_one names last h r.sequence r.name r.change o in
     let apart = apart_each names last h (finite.entries names) (finite.entries_sorted names) (entries_found names) in
     record {

@@ -4,5 +4,7 @@ pub mod InOrder
 pub mod Kept
 pub mod Listed
 pub mod Numbered
+pub mod Puts
 pub mod Replayed
+pub mod Sorted
 pub mod TakenBack

@@ -4,10 +4,12 @@
 #![tactic(auto)]
 
 mod fault;
+mod listing;
 mod name;
 mod names;
 mod record;
 
 pub use fault::NameFault;
+pub use listing::{ListedName, Listing};
 pub use names::Names;
 pub use record::{Change, Named, Record, Root};

@@ -1,12 +1,17 @@
 //! The names of a store.
 
-ghost use Rattle.std.specs.Prelude.{◌≡◌, ◌⊎◌, IfOk, IfErr, OnOk, OnErr, IsTrue, IsSome, None, not, map};
+ghost use Rattle.std.specs.Prelude.{◌≡◌, ◌⊎◌, ℕ, List, IfOk, IfErr, OnOk, OnErr, IsTrue, IsSome, None, not, map};
 ghost use Rattle.std.specs.FinMap as finite;
-ghost use Rattle.disk_format.specs.Cells.{IsName};
+ghost use Rattle.std.specs.List.Sorted.{IsPermutation};
+ghost use Rattle.disk_format.specs.Cells.{RecordValue, IsName};
 ghost use Rattle.namespace.specs.Names.{HasRoom, IsFull, IsTaken, IsRefused, IsPutRefused, AreTaken, AreRefused, IsAnswer, AreNames, record_value};
 ghost use Rattle.namespace.specs.Names.{put_of, names_with, names_after, names_given, NameMap};
+ghost use Rattle.namespace.specs.Listing.{listing_of};
+ghost use Rattle.namespace.specs.Numbers.{Rise, AreNumbered, AreInOrder};
+ghost use Rattle.namespace.specs.Puts.{puts_of};
 
 use crate::fault::NameFault;
+use crate::listing::{ListedName, Listing};
 use crate::name::is_name;
 use crate::record::{Change, Named, Record, Root};
 use disk_format::MOST_NAMES;
@@ -219,6 +224,37 @@ impl Names {
             })?;
         }
         Ok(records)
+    }
+
+    /// Each name with its root, in the order of the names' bytes. It fails for want of memory alone.
+    pub fn files(&self, alloc: Global) -> Result<Listing, AllocError>
+        ensures { IfOk result (λ files. files ≡ listing_of self.now) }
+    {
+        let mut names = Vec::with_capacity(alloc, self.entries.len())?;
+        for (name, named) in &self.entries {
+            names.push(ListedName {
+                name: name.clone()?,
+                root: named.root,
+            })?;
+        }
+        Ok(Listing { names })
+    }
+
+    /// The puts that give the names what they have, by their sequence numbers, the lowest first. It fails for want of memory
+    /// alone.
+    #[tactic(auto, using(crate::proofs::Puts::puts_in_order))]
+    pub fn puts_in_order(&self, alloc: Global) -> Result<Vec<Record>, AllocError>
+        ensures puts { IfOk result (λ puts. map record_value puts.items ≡ puts_of self.now) }
+        // Where each name has a number of its own, these rise, and a replay of the puts gives the names.
+        ensures in_order { (last : ℕ) → AreNumbered self.now last → AreInOrder (puts_of self.now) self.now last }
+        // No other list has the names' puts by rising numbers.
+        ensures only { (last : ℕ) (puts : List RecordValue) → AreNumbered self.now last
+            → IsPermutation (map put_of (finite.entries self.now)) puts → Rise 0 puts → puts ≡ puts_of self.now }
+        ensures names { AreNames self.now }
+    {
+        let mut puts = self.list(alloc)?;
+        puts.sort_by_key(|put| put.sequence)?;
+        Ok(puts)
     }
 
     /// The names after records, the first of them first. The first that is refused refuses all, by what `check` answers.

@@ -21,7 +21,7 @@ use Rattle.plain_machine.specs.Complete.{IsLeft, IsNodeAt, MayReply, WhatCanBeDo
 use Rattle.plain_machine.specs.Content.{HasTwins}
 use Rattle.plain_machine.specs.Lines.{AnswersTurn, Does}
 use Rattle.plain_machine.specs.Machine.{Machine, Part, RunState, Running, Stopped, Finished, part_in}
-use Rattle.plain_machine.specs.Refused.{RefusesBytes, RefusesCommit, RefusesName, RefusesOn, Refuses}
+use Rattle.plain_machine.specs.Refused.{RefusesBytes, RefusesCommit, RefusesDelete, RefusesName, RefusesOn, Refuses}
 use Rattle.plain_machine.specs.Runs.{MachineRun, Replied, StepBy, StepReopen, StepRunning}
 use Rattle.plain_machine.specs.Turns.{Writer, IsWriter, IsDue, MayBe, MachineTurns, RefusesStep, RefusesTurn}
 use Rattle.plain_machine.proofs.Nodes.{IsNodeIn, no_clash, no_twins, offered_node, sealed_node}
@@ -134,6 +134,15 @@ after_turns actor P told m mid n made (inr kept) = inr (then m mid n (turns_keep
 no_turns : (actor : ℕ) (P : Type 0) (m n : Machine) → Ends (Distinct m) P m n → Ends (DistinctBy m) P m n
 no_turns actor P m n ends = after_turns actor P [] m m n refl ends
 
+delete_ends : (name : List ℕ) (refusal : Refusal) (m n : Machine) → RefusesDelete name refusal m n → Ends (DistinctBy m) (IsLeft refusal) m n
+delete_ends name refusals.Memory m n is = inr (same m n is, λ distinct. tt)
+delete_ends name refusals.BadName m n is = inr (same m n is.1, λ distinct. tt)
+delete_ends name refusals.NoFile m n is = inr (same m n is.2, λ distinct. tt)
+delete_ends name refusals.TooMany m n is = inr (same m n is.3, λ distinct. tt)
+delete_ends name refusals.Numbers m n is = inr (same m n is.4, λ distinct. tt)
+delete_ends name refusals.DiskWrite m n is = inl is.4
+delete_ends name refusal m n is = absurd is
+
 on_ends : (line : LineValue) (refusal : Refusal) (m n : Machine) → RefusesOn line refusal m n → Ends (DistinctBy m) (IsLeft refusal) m n
 on_ends (lines.Begin a) refusals.Memory m n is = inr (same m n is, λ distinct. tt)
 on_ends (lines.Push a digits) refusals.Memory m n is =
@@ -151,6 +160,8 @@ on_ends (lines.Read a name) refusals.Memory m n is = inr (same m n is, λ distin
 on_ends (lines.Read a name) refusals.BadName m n is = inr (same m n is.1, λ distinct. tt)
 on_ends (lines.Read a name) refusals.NoFile m n is = inr (same m n is.2, λ distinct. tt)
 on_ends (lines.Next a) refusals.DiskRead m n is = inl is.1.0
+on_ends (lines.Delete name) refusal m n is = delete_ends name refusal m n is
+on_ends lines.ListNames refusals.Memory m n is = inr (same m n is, λ distinct. tt)
 on_ends line refusal m n is = absurd is
 
 refuses_ends : (line : LineValue) (refusal : Refusal) (m n : Machine) → Refuses line refusal m n → Ends (DistinctBy m) (IsLeft refusal) m n
@@ -182,6 +193,8 @@ does_keep (lines.Read a name) (replies.Reading b count) m n is = by m n _ is.1.1
 does_keep (lines.Next a) (replies.Bytes b bytes) m n is = by m n _ is.1.1.1 refl refl
 does_keep (lines.Next a) (replies.End b) m n is = same m n is.2
 does_keep (lines.Drop a) (replies.Dropped b) m n is = by m n _ is.1.1 refl refl
+does_keep (lines.Delete name) (replies.Deleted sequence) m n is = by m n _ is.others refl refl
+does_keep lines.ListNames (replies.Listed files) m n is = same m n is.1
 does_keep lines.Stat (replies.Stat counted) m n is = same m n is.1
 does_keep line reply m n is = absurd is
 

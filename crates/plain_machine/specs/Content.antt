@@ -7,7 +7,7 @@ use Rattle.base_model.specs.Bytes.{range, byte_at}
 use Rattle.container_meta.specs.declared.kind.Kind.TheVariants.{Tree}
 use Rattle.container_meta.specs.Segments.{Contents, KindSegment, segment_key}
 use Rattle.container_meta.specs.Spelling.{HeaderValue}
-use Rattle.disk_format.specs.Cells.{Root}
+use Rattle.disk_format.specs.Cells.{Change}
 use Rattle.disk_format.specs.declared.numbers.TheConstants.{CELL_BYTES, FIRST_HALF, SLOT_BYTES}
 use Rattle.disk_format.specs.Layout.{cell_at, half_cells, slot_at}
 use Rattle.merkle_file.specs.Node as node
@@ -19,7 +19,7 @@ use Rattle.store_model.specs.Image.{Store, Encodes}
 use Rattle.store_model.specs.Indexing.{entries_in, bytes_in_slots}
 use Rattle.store_model.specs.Pieces.{Piece, Node, IsPieceOf, piece_segment}
 use Rattle.store_model.specs.Slots.{Copy, newest, first_free, free_slots, last_id}
-use Rattle.store_model.specs.Steps.{CanPut, CanSeal, with_put, with_sealed}
+use Rattle.store_model.specs.Steps.{CanChangeName, CanSeal, with_change, with_sealed}
 use Rattle.store_model.specs.Trees.{HasNewest, bytes_at, node_key}
 
 -- P is so of the store that the content is: there is one
@@ -90,12 +90,12 @@ pub record AddsContainer (id : ℕ) (filled : Contents) (old new : List ℕ) : T
   pub held : AllByRecursion (λ s. Holds new (record { kind = filled.kind; segment = s })) filled.segments
   pub rest : SameBut (λ half cell. ⊥) (λ slot. slot ≡ first_free store.held) store.slots old new
 
--- A record that puts the root stands in the next cell, and all else is as it was.
-pub record AddsRecord (name : List ℕ) (root : Root) (old new : List ℕ) : Type 0 where
+-- A record of the change of a name stands in the next cell, and all else is as it was.
+pub record AddsRecord (name : List ℕ) (change : Change) (old new : List ℕ) : Type 0 where
   pub store : Store
   pub was : Encodes old store
-  pub can : CanPut name store
-  pub now : Encodes new (with_put name root store)
+  pub can : CanChangeName name change store
+  pub now : Encodes new (with_change name change store)
   pub rest : SameBut (λ half cell. (half ≡ store.selector.half) × (cell ≡ length store.records)) (λ slot. ⊥) store.slots old new
 
 -- A write broke off: each record and each container that was there is as it was.

@@ -1,7 +1,8 @@
 -- What each line of a script does where it is done, and what it replies.
-use Rattle.std.specs.Prelude.{◌≡◌, ◌≤◌, ◌<◌, ℕ, suc, ◌-◌, ◌^◌, List, [], ◌∷◌, ◌++◌, length, Some}
+use Rattle.std.specs.Prelude.{◌≡◌, ◌≤◌, ◌<◌, ℕ, suc, ◌-◌, ◌^◌, List, [], ◌∷◌, ◌++◌, length, true, is_some, Some}
 use Rattle.std.specs.FinMap as finite
 use Rattle.disk_format.specs.Cells.{IsName}
+use Rattle.disk_format.specs.Cells.Change.{Delete, Put}
 use Rattle.disk_format.specs.declared.numbers.TheConstants.{MOST_FILE}
 use Rattle.actor_parts.specs.declared.step.Answer.{Answer}
 use Rattle.actor_parts.specs.declared.step.Answer.TheVariants as answers
@@ -13,11 +14,12 @@ use Rattle.script_lines.specs.Grammar as lines
 use Rattle.script_lines.specs.ReplyValue.{ReplyValue}
 use Rattle.script_lines.specs.ReplyValue as replies
 use Rattle.segmenter.specs.Segments.{segments_of}
-use Rattle.store_model.specs.Files.{with_stored}
+use Rattle.store_model.specs.Files.{with_stored, without_stored}
+use Rattle.store_model.specs.Standing.{file_listing}
 use Rattle.store_model.specs.Trees.{root_of}
 use Rattle.plain_machine.specs.Content.{AddsRecord, Counts, HoldsFile}
 use Rattle.plain_machine.specs.Machine.{Machine, Part, Idle, Writing, Finished, Reading, MayBeFound, opened, one_more, part_in, put_at}
-use Rattle.plain_machine.specs.Refused.{HasRoomForName}
+use Rattle.plain_machine.specs.Refused.{HasCell, HasRoomForName}
 use Rattle.plain_machine.specs.Turns.{Writer, IsWriter, IsDue, MachineTurn, MachineTurns}
 
 -- ---- a file that is given
@@ -68,7 +70,7 @@ pub record Commits (actor : ℕ) (name : List ℕ) (sequence : ℕ) (m n : Machi
   pub room : HasRoomForName name mid
   pub below : mid.stored.last < 2 ^ 64 - 1
   pub sequence_is : sequence ≡ suc mid.stored.last
-  pub recorded : AddsRecord name (root_of file) mid.content n.content
+  pub recorded : AddsRecord name (Put (root_of file)) mid.content n.content
   pub others : n ≡ record (put_at mid actor Idle) {
     stored = with_stored mid.stored name file;
     acknowledged = one_more mid.acknowledged;
@@ -81,7 +83,7 @@ Aborts actor m n = ((w : Writer) × IsWriter (part_in m actor) w) × (n ≡ put_
 
 -- ---- a file that is taken
 
--- The file that the name has now is to come: it stays so, whatever the name is given later.
+-- The file that the name has now is to come: it stays so, whatever becomes of the name.
 abbrev pub Reads : ℕ → List ℕ → ℕ → Machine → Machine → Type 0
 Reads actor name count m n =
     (part_in m actor ≡ Idle) × ((file : List ℕ) × ((finite.get m.stored.files name ≡ Some file) × (count ≡ length file)
@@ -92,6 +94,22 @@ GivesSegment actor bytes m n = (rest : List (List ℕ)) × ((part_in m actor ≡
 
 abbrev pub Drops : ℕ → Machine → Machine → Type 0
 Drops actor m n = ((rest : List (List ℕ)) × (part_in m actor ≡ Reading rest)) × (n ≡ put_at m actor Idle)
+
+-- ---- names
+
+-- The name is gone, and its file, under the next number. An actor that is taking the file still gets all of it.
+pub record Deletes (name : List ℕ) (sequence : ℕ) (m n : Machine) : Type 0 where
+  pub named : IsName name
+  pub there : is_some (finite.get m.stored.files name) ≡ true
+  pub cell : HasCell m
+  pub below : m.stored.last < 2 ^ 64 - 1
+  pub sequence_is : sequence ≡ suc m.stored.last
+  pub recorded : AddsRecord name Delete m.content n.content
+  pub others : n ≡ record m {
+    stored = without_stored m.stored name;
+    acknowledged = one_more m.acknowledged;
+    content = n.content;
+  }
 
 -- ---- all lines of a store that runs, but `reopen`
 
@@ -106,6 +124,8 @@ Does (lines.Read a name) (replies.Reading b count) m n = (b ≡ a) × Reads a na
 Does (lines.Next a) (replies.Bytes b bytes) m n = (b ≡ a) × GivesSegment a bytes m n
 Does (lines.Next a) (replies.End b) m n = (b ≡ a) × (part_in m a ≡ Reading []) × (n ≡ m)
 Does (lines.Drop a) (replies.Dropped b) m n = (b ≡ a) × Drops a m n
+Does (lines.Delete name) (replies.Deleted sequence) m n = Deletes name sequence m n
+Does lines.ListNames (replies.Listed files) m n = (files ≡ file_listing m.stored.files) × (n ≡ m)
 Does lines.Stat (replies.Stat counted) m n = Counts counted m.stored.files m.content × (n ≡ m)
 Does line reply m n = ⊥
 

@@ -30,8 +30,8 @@ all_idle = replicate ACTORS Idle
 
 -- ---- the machine
 
--- It runs; or it is stopped by a write or a sync that failed. `reopen` then finds the files of before or, after a commit, perhaps
--- these.
+-- It runs; or it is stopped by a write or a sync that failed. `reopen` then finds the files of before or, after a commit or a delete,
+-- perhaps these.
 pub data RunState : Type 0 where
   Running : RunState
   Stopped : (other : Option Stored) → RunState

@@ -13,7 +13,7 @@ use Rattle.refusals.specs.declared.refusal.Refusal.{Refusal}
 use Rattle.refusals.specs.declared.refusal.Refusal.TheVariants.{Memory, NoFile, BadName, TooMany, TooLong, WrongPart, DiskRead, DiskWrite, Numbers, Unpinned}
 use Rattle.script_lines.specs.Grammar.{LineValue, pushed_bytes}
 use Rattle.script_lines.specs.Grammar as lines
-use Rattle.store_model.specs.Files.{with_stored}
+use Rattle.store_model.specs.Files.{with_stored, without_stored}
 use Rattle.store_model.specs.Refusals.{root_key}
 use Rattle.store_model.specs.Trees.{root_of}
 use Rattle.plain_machine.specs.Content.{OfStore, BreaksOff, HasTwins}
@@ -33,6 +33,8 @@ actor_of (lines.Abort a) = Some a
 actor_of (lines.Read a name) = Some a
 actor_of (lines.Next a) = Some a
 actor_of (lines.Drop a) = Some a
+actor_of (lines.Delete name) = None
+actor_of lines.ListNames = None
 actor_of lines.Stat = None
 actor_of lines.Reopen = None
 
@@ -53,16 +55,23 @@ takes line kind = false
 
 -- ---- names
 
+-- the journal has a cell left, or none
+abbrev pub HasCell : Machine → Type 0
+HasCell m = OfStore m.content (λ store. length store.records < half_cells)
+
+abbrev pub LacksCell : Machine → Type 0
+LacksCell m = OfStore m.content (λ store. half_cells ≤ length store.records)
+
 -- the name has a file or fewer than 512 have one, and the journal has a cell left
 pub record HasRoomForName (name : List ℕ) (m : Machine) : Type 0 where
   pub names : (is_some (finite.get m.stored.files name) ≡ true) ⊎ (finite.len m.stored.files < MOST_NAMES)
-  pub cell : OfStore m.content (λ store. length store.records < half_cells)
+  pub cell : HasCell m
 
 -- or it is not so
 abbrev pub LacksRoomForName : List ℕ → Machine → Type 0
 LacksRoomForName name m =
     ((finite.get m.stored.files name ≡ None) × (MOST_NAMES ≤ finite.len m.stored.files))
-    ⊎ OfStore m.content (λ store. half_cells ≤ length store.records)
+    ⊎ LacksCell m
 
 -- ---- lines
 
@@ -79,6 +88,20 @@ RefusesName actor name file DiskWrite m n =
     × BreaksOff m.content n.content
     × (n ≡ record m { state = Stopped (Some (with_stored m.stored name file)); content = n.content; faults = n.faults })
 RefusesName actor name file refusal m n = ⊥
+
+-- Why a name isn't deleted. Where a write or a sync failed the store is stopped, and may have deleted it.
+abbrev pub RefusesDelete : List ℕ → Refusal → Machine → Machine → Type 0
+RefusesDelete name Memory m n = n ≡ m
+RefusesDelete name BadName m n = ¬ (IsName name) × (n ≡ m)
+RefusesDelete name NoFile m n = IsName name × (finite.get m.stored.files name ≡ None) × (n ≡ m)
+RefusesDelete name TooMany m n = IsName name × (is_some (finite.get m.stored.files name) ≡ true) × LacksCell m × (n ≡ m)
+RefusesDelete name Numbers m n =
+    IsName name × (is_some (finite.get m.stored.files name) ≡ true) × HasCell m × (m.stored.last ≡ 2 ^ 64 - 1) × (n ≡ m)
+RefusesDelete name DiskWrite m n =
+    IsName name × (is_some (finite.get m.stored.files name) ≡ true) × HasCell m × (m.stored.last < 2 ^ 64 - 1)
+    × Rose m.faults n.faults × BreaksOff m.content n.content
+    × (n ≡ record m { state = Stopped (Some (without_stored m.stored name)); content = n.content; faults = n.faults })
+RefusesDelete name refusal m n = ⊥
 
 -- Bytes are not taken: a turn that was to make room was refused, or the file would be too long.
 abbrev pub RefusesBytes : ℕ → List ℕ → Refusal → Machine → Machine → Type 0
@@ -113,6 +136,8 @@ RefusesOn (lines.Read a name) BadName m n = ¬ (IsName name) × (n ≡ m)
 RefusesOn (lines.Read a name) NoFile m n = IsName name × (finite.get m.stored.files name ≡ None) × (n ≡ m)
 RefusesOn (lines.Next a) DiskRead m n =
     ((bytes : List ℕ) × ((rest : List (List ℕ)) × (part_in m a ≡ Reading (bytes ∷ rest)))) × OnlyFails m n
+RefusesOn (lines.Delete name) refusal m n = RefusesDelete name refusal m n
+RefusesOn lines.ListNames Memory m n = n ≡ m
 RefusesOn line refusal m n = ⊥
 
 -- the actor is at something else than the line takes

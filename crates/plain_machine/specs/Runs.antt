@@ -54,7 +54,7 @@ MachineRun (r ∷ rs) m n =
     (ends r.line r.reply ≡ true → rs ≡ []) × ((mid : Machine) × (Step r.line r.reply m mid × MachineRun rs mid n))
 
 -- These files may be found at a machine of the run whose last number is this one or a later one. Each command that took effect, by
--- a commit or by a `reopen` that finds it, makes that number one more.
+-- a commit, a delete or a `reopen` that finds it, makes that number one more.
 abbrev pub IsPassedFrom : ℕ → (rs : List Replied) (m n : Machine) → MachineRun rs m n → Stored → Type 0
 IsPassedFrom first [] m n run found = (first ≤ m.stored.last) × MayBeFound m.state m.stored found
 IsPassedFrom first (r ∷ rs) m n run found =

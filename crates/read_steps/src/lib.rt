@@ -1,4 +1,4 @@
-//! The steps of an actor that is given a file: the root of its name, and then its segments in order; and a store's counts.
+//! The steps of an actor that is given a file: the root of its name, and then its segments in order; and a store's counts and names.
 #![tactic(auto)]
 
 mod counting;
@@ -7,7 +7,7 @@ mod opening;
 mod readers;
 mod walking;
 
-pub use counting::stat;
+pub use counting::{list, stat};
 pub use laws::readers_go_on;
 pub use opening::begin_walk;
 pub use readers::{end_read, open_read, read_next};

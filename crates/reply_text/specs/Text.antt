@@ -1,7 +1,9 @@
 -- What the program writes (docs/FORMAT.md, 'Texts' and 'Refusals').
-use Rattle.std.specs.Prelude.{ℕ, List, [], ◌∷◌, ◌++◌, codes, decimal}
+use Rattle.std.specs.Prelude.{ℕ, List, [], ◌∷◌, ◌++◌, length, codes, decimal}
+use Rattle.std.specs.List.{flat_map}
 use Rattle.hex.specs.Hex.{encode_lower}
 use Rattle.disk_format.specs.Cells.{Root}
+use Rattle.namespace.specs.Listing.{NamedRoot}
 use Rattle.refusals.specs.declared.refusal.Difference.{Difference}
 use Rattle.refusals.specs.declared.refusal.Difference.TheVariants.{Length, Byte}
 use Rattle.refusals.specs.declared.refusal.PartKind.{PartKind}
@@ -17,11 +19,31 @@ use Rattle.reply_text.specs.declared.ending.Ending.TheVariants.{Words, Source, S
 unfoldable pub formatted_line : ℕ → List ℕ
 formatted_line slots = codes "formatted " ++ decimal slots ++ codes "\n"
 
+-- a word, a name, and the length, the level and the digest of the root that it has
+abbrev pub named_line : List ℕ → List ℕ → Root → List ℕ
+named_line word name root =
+    word ++ name ++ codes " " ++ decimal root.length ++ codes " " ++ decimal root.level ++ codes " " ++ encode_lower root.digest
+    ++ codes "\n"
+
 -- `stored NAME LENGTH LEVEL DIGEST`
 unfoldable pub stored_line : List ℕ → Root → List ℕ
-stored_line name root =
-    codes "stored " ++ name ++ codes " " ++ decimal root.length ++ codes " " ++ decimal root.level ++ codes " "
-    ++ encode_lower root.digest ++ codes "\n"
+stored_line name root = named_line (codes "stored ") name root
+
+-- `deleted NAME`
+unfoldable pub deleted_line : List ℕ → List ℕ
+deleted_line name = codes "deleted " ++ name ++ codes "\n"
+
+-- `file NAME LENGTH LEVEL DIGEST`
+unfoldable pub file_line : NamedRoot → List ℕ
+file_line file = named_line (codes "file ") file.name file.root
+
+-- `listed COUNT`
+unfoldable pub listed_line : ℕ → List ℕ
+listed_line count = codes "listed " ++ decimal count ++ codes "\n"
+
+-- a line for each name, in their order, and then how many they are
+unfoldable pub listing_text : List NamedRoot → List ℕ
+listing_text files = flat_map file_line files ++ listed_line (length files)
 
 -- how two segments of one key differ
 unfoldable pub difference_text : Difference → List ℕ

@@ -1,6 +1,7 @@
 //! What a command says: the lines of its reply, the line in the notes where it was not done, and its exit status.
 #![tactic(auto)]
 
+mod digits;
 mod ending;
 mod notes;
 mod status;
@@ -9,4 +10,4 @@ mod text;
 pub use ending::Ending;
 pub use notes::{refused_line, write_fault};
 pub use status::status_of;
-pub use text::{formatted_line, stored_line};
+pub use text::{deleted_line, formatted_line, listing_text, stored_line};

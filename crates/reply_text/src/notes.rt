@@ -1,7 +1,6 @@
 //! The line in the notes of a command that was not done: docs/FORMAT.md, 'Texts'.
-ghost use Rattle.std.specs.Prelude.{◌≡◌, ◌*◌, ◌≤◌, length, drop, IfOk};
+ghost use Rattle.std.specs.Prelude.{◌≡◌, ◌≤◌, length, drop, IfOk};
 ghost use Rattle.std.specs.List.{flat_map};
-ghost use Rattle.hex.specs.Hex.{encode_lower};
 ghost use Rattle.dd_io.specs.Flow.{Sends};
 ghost use Rattle.refusals.specs.declared.refusal.Difference.TheVariants.{Length, Byte};
 ghost use Rattle.disk_format.specs.declared.why.Why.TheVariants.{Digest, Field};
@@ -10,6 +9,7 @@ ghost use Rattle.refusals.specs.declared.refusal.Refusal.TheVariants.{Full, Clas
 ghost use Rattle.refusals.specs.declared.refusal.Refusal.TheVariants.{NotAStore, Version, Damaged, Unpinned, WrongSize};
 ghost use Rattle.reply_text.specs.Text.{fault_line, refused_line, part_text};
 
+use crate::digits::put_digits;
 use crate::ending::Ending;
 use dd_io::{MemSink, Sink, SinkFault};
 use disk_format::Why;
@@ -388,13 +388,4 @@ fn write_wrong_size<Q: Sink>(notes: &mut Q, want: u64, got: u64) -> Result<(), S
             b"\n",
         ],
     )
-}
-
-// Puts the hexadecimal digits of some bytes, in lower case.
-fn put_digits(bytes: &[u8], digits: &mut [u8])
-    requires { length digits.old ≡ 2 * length bytes.now }
-    ensures { digits.new ≡ encode_lower bytes.now }
-{
-    let done = hex::encode_to_slice(bytes, digits);
-    prove!(done.is_ok());
 }

@@ -7,7 +7,7 @@ use Rattle.std.proofs.lemmas.List.Folds.{list_any-append}
 use Rattle.std.proofs.lemmas.Slice.Eq.{bytes_eq-Decides}
 use Rattle.std.specs.Str.{bytes_eq}
 use Rattle.script_lines.specs.declared.script.TheConstants.{MOST_LINE}
-use Rattle.script_lines.specs.Grammar.{LineValue, Begin, Push, Finish, Turn, Commit, Abort, Read, Next, Drop, Stat, Reopen, IsLine, IsActor, IsHex, IsWord, is_word_byte}
+use Rattle.script_lines.specs.Grammar.{LineValue, Begin, Push, Finish, Turn, Commit, Abort, Read, Next, Drop, Delete, ListNames, Stat, Reopen, IsLine, IsActor, IsHex, IsWord, is_word_byte}
 use Rattle.script_lines.specs.Script.{is_line_end, HasNoLineEnd, IsRightLine}
 use Rattle.script_lines.proofs.Numbers.{number_has_no_line_end}
 use Rattle.script_lines.proofs.Reading.{line_of, same_line, no_line, no_other_line}
@@ -49,6 +49,8 @@ line_has_none (Abort a) line is = two_have_none (codes "abort ") line a refl is.
 line_has_none (Read a name) line is = three_have_none (codes "read ") line name a refl is.0 (name_has_none name is.1.each) is.2
 line_has_none (Next a) line is = two_have_none (codes "next ") line a refl is.0 is.1
 line_has_none (Drop a) line is = two_have_none (codes "drop ") line a refl is.0 is.1
+line_has_none (Delete name) line is = subst HasNoLineEnd (sym is.1) (none_append (codes "delete ") name refl (name_has_none name is.0.each))
+line_has_none ListNames line is = subst HasNoLineEnd (sym is) refl
 line_has_none Stat line is = subst HasNoLineEnd (sym is) refl
 line_has_none Reopen line is = subst HasNoLineEnd (sym is) refl
 
@@ -75,6 +77,8 @@ one_line (Abort a) line other is too = is.1 ∙ sym too.1
 one_line (Read a name) line other is too = is.2 ∙ sym too.2
 one_line (Next a) line other is too = is.1 ∙ sym too.1
 one_line (Drop a) line other is too = is.1 ∙ sym too.1
+one_line (Delete name) line other is too = is.1 ∙ sym too.1
+one_line ListNames line other is too = is ∙ sym too
 one_line Stat line other is too = is ∙ sym too
 one_line Reopen line other is too = is ∙ sym too
 
@@ -141,6 +145,8 @@ line_or_not (Abort a) line = both (actor a) (same_bytes line _)
 line_or_not (Read a name) line = all_three (actor a) (word name) (same_bytes line _)
 line_or_not (Next a) line = both (actor a) (same_bytes line _)
 line_or_not (Drop a) line = both (actor a) (same_bytes line _)
+line_or_not (Delete name) line = both (word name) (same_bytes line _)
+line_or_not ListNames line = same_bytes line _
 line_or_not Stat line = same_bytes line _
 line_or_not Reopen line = same_bytes line _
 

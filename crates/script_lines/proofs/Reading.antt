@@ -1,17 +1,19 @@
 -- What a line says, got back from its bytes, whatever its digits and names are. It is no part of a contract: it shows that
 -- no line is another one too, and that bytes are no line.
-use Rattle.std.proofs.Common.{◌≡◌, ℕ, true, false, cond, List, [], ◌∷◌, ◌++◌, codes, decimal, Option, Some, None, refl, sym, ◌∙◌, ap, subst}
+use Rattle.std.proofs.Common.{◌≡◌, ◌≢◌, ℕ, true, false, cond, List, [], ◌∷◌, ◌++◌, codes, decimal, Option, Some, None, refl, sym, ◌∙◌, ap, subst}
 use Rattle.std.specs.Str.{bytes_eq}
+use Rattle.std.proofs.lemmas.Bool.{false_from_ne_true}
 use Rattle.std.proofs.lemmas.List.{append_assoc}
 use Rattle.std.proofs.lemmas.Slice.Eq.{bytes_eq-Decides}
-use Rattle.script_lines.specs.Grammar.{LineValue, Begin, Push, Finish, Turn, Commit, Abort, Read, Next, Drop, Stat, Reopen, IsLine, IsActor, HasNoSpace}
+use Rattle.script_lines.specs.Grammar.{LineValue, Begin, Push, Finish, Turn, Commit, Abort, Read, Next, Drop, Delete, ListNames, Stat, Reopen, IsLine, IsActor, HasNoSpace}
 use Rattle.script_lines.proofs.Bytes.{before_space, after_space, before-word, after-word, before-all, after-all, grouped}
 use Rattle.script_lines.proofs.Numbers.{number_has_no_space, actor_in, actor_is}
 
 abbrev pub of_one : List ℕ → Option LineValue
 of_one word =
     cond (bytes_eq word (codes "stat")) (Some Stat)
-    (cond (bytes_eq word (codes "reopen")) (Some Reopen) None)
+    (cond (bytes_eq word (codes "reopen")) (Some Reopen)
+    (cond (bytes_eq word (codes "list")) (Some ListNames) None))
 
 abbrev pub of_two : List ℕ → ℕ → Option LineValue
 of_two word actor =
@@ -36,7 +38,7 @@ of_rest word (Some actor) (Some argument) = of_three word actor argument
 
 abbrev of_words : List ℕ → Option (List ℕ) → Option LineValue
 of_words word None = of_one word
-of_words word (Some rest) = of_rest word (actor_in (before_space rest)) (after_space rest)
+of_words word (Some rest) = cond (bytes_eq word (codes "delete")) (Some (Delete rest)) (of_rest word (actor_in (before_space rest)) (after_space rest))
 
 abbrev pub line_of : List ℕ → Option LineValue
 line_of bytes = of_words (before_space bytes) (after_space bytes)
@@ -44,39 +46,48 @@ line_of bytes = of_words (before_space bytes) (after_space bytes)
 pub one_word : (word : List ℕ) → HasNoSpace word → line_of word ≡ of_one word
 one_word word none = rw (before-all word none, after-all word none) refl
 
-words : (word rest : List ℕ) → HasNoSpace word → line_of (word ++ (32 ∷ rest)) ≡ of_rest word (actor_in (before_space rest)) (after_space rest)
+words : (word rest : List ℕ) → HasNoSpace word → line_of (word ++ (32 ∷ rest)) ≡ of_words word (Some rest)
 words word rest none = rw (before-word word rest none, after-word word rest none) refl
 
-pub two_words : (word : List ℕ) (actor : ℕ) → HasNoSpace word → IsActor actor → line_of (word ++ (32 ∷ decimal actor)) ≡ of_two word actor
-two_words word actor none small =
-    let plain = number_has_no_space actor small in
-    words word (decimal actor) none ∙ rw (before-all (decimal actor) plain, after-all (decimal actor) plain, actor_is actor small) refl
+-- what stands after `delete` is a name, and no actor
+pub after_delete : (name : List ℕ) → line_of (codes "delete " ++ name) ≡ Some (Delete name)
+after_delete name = words (codes "delete") name refl
 
-pub three_words : (word : List ℕ) (actor : ℕ) (argument : List ℕ) → HasNoSpace word → IsActor actor
-    → line_of (word ++ (32 ∷ (decimal actor ++ (32 ∷ argument)))) ≡ of_three word actor argument
-three_words word actor argument none small =
-    let plain = number_has_no_space actor small in
-    words word (decimal actor ++ (32 ∷ argument)) none ∙ rw (before-word (decimal actor) argument plain, after-word (decimal actor) argument plain, actor_is actor small) refl
+-- an actor stands after all other words
+module _ (word : List ℕ) (none : HasNoSpace word) (other : bytes_eq word (codes "delete") ≡ false) where
+  words_of : (rest : List ℕ) → line_of (word ++ (32 ∷ rest)) ≡ of_rest word (actor_in (before_space rest)) (after_space rest)
+  words_of rest = words word rest none ∙ rw other refl
 
--- the second word is no actor's number
-pub no_actor : (word second : List ℕ) → HasNoSpace word → HasNoSpace second → actor_in second ≡ None → line_of (word ++ (32 ∷ second)) ≡ None
-no_actor word second none plain is = words word second none ∙ rw (before-all second plain, is) refl
+  pub two_words : (actor : ℕ) → IsActor actor → line_of (word ++ (32 ∷ decimal actor)) ≡ of_two word actor
+  two_words actor small =
+      let plain = number_has_no_space actor small in
+      words_of (decimal actor) ∙ rw (before-all (decimal actor) plain, after-all (decimal actor) plain, actor_is actor small) refl
 
-pub no_actor_before : (word second argument : List ℕ) → HasNoSpace word → HasNoSpace second → actor_in second ≡ None
-    → line_of (word ++ (32 ∷ (second ++ (32 ∷ argument)))) ≡ None
-no_actor_before word second argument none plain is = words word (second ++ (32 ∷ argument)) none ∙ rw (before-word second argument plain, is) refl
+  pub three_words : (actor : ℕ) (argument : List ℕ) → IsActor actor → line_of (word ++ (32 ∷ (decimal actor ++ (32 ∷ argument)))) ≡ of_three word actor argument
+  three_words actor argument small =
+      let plain = number_has_no_space actor small in
+      words_of (decimal actor ++ (32 ∷ argument)) ∙ rw (before-word (decimal actor) argument plain, after-word (decimal actor) argument plain, actor_is actor small) refl
+
+  -- the second word is no actor's number
+  pub no_actor : (second : List ℕ) → HasNoSpace second → actor_in second ≡ None → line_of (word ++ (32 ∷ second)) ≡ None
+  no_actor second plain is = words_of second ∙ rw (before-all second plain, is) refl
+
+  pub no_actor_before : (second argument : List ℕ) → HasNoSpace second → actor_in second ≡ None → line_of (word ++ (32 ∷ (second ++ (32 ∷ argument)))) ≡ None
+  no_actor_before second argument plain is = words_of (second ++ (32 ∷ argument)) ∙ rw (before-word second argument plain, is) refl
 
 -- a line is what is got back from it
 pub got_back : (value : LineValue) (bytes : List ℕ) → IsLine value bytes → line_of bytes ≡ Some value
-got_back (Begin a) bytes line = ap line_of line.1 ∙ two_words (codes "begin") a refl line.0
-got_back (Push a digits) bytes line = ap line_of (line.2 ∙ grouped (codes "push ") (decimal a) digits) ∙ three_words (codes "push") a digits refl line.0
-got_back (Finish a) bytes line = ap line_of line.1 ∙ two_words (codes "finish") a refl line.0
-got_back (Turn a) bytes line = ap line_of line.1 ∙ two_words (codes "turn") a refl line.0
-got_back (Commit a name) bytes line = ap line_of (line.2 ∙ grouped (codes "commit ") (decimal a) name) ∙ three_words (codes "commit") a name refl line.0
-got_back (Abort a) bytes line = ap line_of line.1 ∙ two_words (codes "abort") a refl line.0
-got_back (Read a name) bytes line = ap line_of (line.2 ∙ grouped (codes "read ") (decimal a) name) ∙ three_words (codes "read") a name refl line.0
-got_back (Next a) bytes line = ap line_of line.1 ∙ two_words (codes "next") a refl line.0
-got_back (Drop a) bytes line = ap line_of line.1 ∙ two_words (codes "drop") a refl line.0
+got_back (Begin a) bytes line = ap line_of line.1 ∙ two_words (codes "begin") refl refl a line.0
+got_back (Push a digits) bytes line = ap line_of (line.2 ∙ grouped (codes "push ") (decimal a) digits) ∙ three_words (codes "push") refl refl a digits line.0
+got_back (Finish a) bytes line = ap line_of line.1 ∙ two_words (codes "finish") refl refl a line.0
+got_back (Turn a) bytes line = ap line_of line.1 ∙ two_words (codes "turn") refl refl a line.0
+got_back (Commit a name) bytes line = ap line_of (line.2 ∙ grouped (codes "commit ") (decimal a) name) ∙ three_words (codes "commit") refl refl a name line.0
+got_back (Abort a) bytes line = ap line_of line.1 ∙ two_words (codes "abort") refl refl a line.0
+got_back (Read a name) bytes line = ap line_of (line.2 ∙ grouped (codes "read ") (decimal a) name) ∙ three_words (codes "read") refl refl a name line.0
+got_back (Next a) bytes line = ap line_of line.1 ∙ two_words (codes "next") refl refl a line.0
+got_back (Drop a) bytes line = ap line_of line.1 ∙ two_words (codes "drop") refl refl a line.0
+got_back (Delete name) bytes line = ap line_of line.1 ∙ after_delete name
+got_back ListNames bytes line = ap line_of line
 got_back Stat bytes line = ap line_of line
 got_back Reopen bytes line = ap line_of line
 
@@ -118,8 +129,12 @@ spelled_three word text actor argument same =
     rw is (simp append_assoc)
 
 -- it is no line, since its argument isn't one that the word takes
-pub no_three : (word text : List ℕ) (actor : ℕ) (argument : List ℕ) (found : LineValue) → HasNoSpace word → IsActor actor → true ≡ bytes_eq word text → of_three text actor argument ≡ Some found
+pub no_three : (word text : List ℕ) (actor : ℕ) (argument : List ℕ) (found : LineValue) → HasNoSpace word → bytes_eq word (codes "delete") ≡ false → IsActor actor → true ≡ bytes_eq word text → of_three text actor argument ≡ Some found
     → (IsLine found (word ++ (32 ∷ (decimal actor ++ (32 ∷ argument)))) → ⊥) → (value : LineValue) → IsLine value (word ++ (32 ∷ (decimal actor ++ (32 ∷ argument)))) → ⊥
-no_three word text actor argument found none small same three =
+no_three word text actor argument found none other small same three =
     let is = (bytes_eq-Decides word text).0 (sym same) in
-    no_other_line _ found (three_words word actor argument none small ∙ ap (λ (w : List ℕ). of_three w actor argument) is ∙ three)
+    no_other_line _ found (three_words word none other actor argument small ∙ ap (λ (w : List ℕ). of_three w actor argument) is ∙ three)
+
+-- a word that isn't `delete` is told from it
+pub not_delete : (word : List ℕ) → word ≢ codes "delete" → bytes_eq word (codes "delete") ≡ false
+not_delete word other = false_from_ne_true (bytes_eq word (codes "delete")) (λ is. other ((bytes_eq-Decides word (codes "delete")).0 is))

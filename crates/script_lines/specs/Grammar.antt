@@ -17,6 +17,8 @@ pub data LineValue : Type 0 where
   Read : (actor : ℕ) (name : List ℕ) → LineValue
   Next : (actor : ℕ) → LineValue
   Drop : (actor : ℕ) → LineValue
+  Delete : (name : List ℕ) → LineValue
+  ListNames : LineValue
   Stat : LineValue
   Reopen : LineValue
 
@@ -50,6 +52,8 @@ IsLine (Abort a) bytes = IsActor a × (bytes ≡ codes "abort " ++ decimal a)
 IsLine (Read a name) bytes = IsActor a × IsWord name × (bytes ≡ codes "read " ++ decimal a ++ codes " " ++ name)
 IsLine (Next a) bytes = IsActor a × (bytes ≡ codes "next " ++ decimal a)
 IsLine (Drop a) bytes = IsActor a × (bytes ≡ codes "drop " ++ decimal a)
+IsLine (Delete name) bytes = IsWord name × (bytes ≡ codes "delete " ++ name)
+IsLine ListNames bytes = bytes ≡ codes "list"
 IsLine Stat bytes = bytes ≡ codes "stat"
 IsLine Reopen bytes = bytes ≡ codes "reopen"
 

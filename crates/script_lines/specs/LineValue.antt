@@ -1,6 +1,6 @@
 -- What a line that was read says.
 use Rattle.script_lines.specs.declared.line.Line.{Line}
-use Rattle.script_lines.specs.declared.line.Line.TheVariants.{Begin, Push, Finish, Turn, Commit, Abort, Read, Next, Drop, Stat, Reopen}
+use Rattle.script_lines.specs.declared.line.Line.TheVariants.{Begin, Push, Finish, Turn, Commit, Abort, Read, Next, Drop, Delete, List, Stat, Reopen}
 use Rattle.script_lines.specs.Grammar as grammar
 
 abbrev pub line_value : Line → grammar.LineValue
@@ -13,5 +13,7 @@ line_value (Abort actor) = grammar.Abort actor
 line_value (Read actor name) = grammar.Read actor name.now
 line_value (Next actor) = grammar.Next actor
 line_value (Drop actor) = grammar.Drop actor
+line_value (Delete name) = grammar.Delete name.now
+line_value List = grammar.ListNames
 line_value Stat = grammar.Stat
 line_value Reopen = grammar.Reopen

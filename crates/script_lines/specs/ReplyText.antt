@@ -1,11 +1,11 @@
--- The replies to the lines of a script, each with the LF that ends it (docs/FORMAT.md, 'Scripts').
+-- The replies to the lines of a script, each line with the LF that ends it (docs/FORMAT.md, 'Scripts').
 use Rattle.std.specs.Prelude.{ℕ, List, ◌++◌, codes, decimal}
 use Rattle.hex.specs.Hex.{encode_lower}
-use Rattle.reply_text.specs.Text.{refused_line}
+use Rattle.reply_text.specs.Text.{refused_line, listing_text}
 use Rattle.script_lines.specs.declared.reply.Turned.{Turned}
 use Rattle.script_lines.specs.declared.reply.Turned.TheVariants.{Held, Absent, Sealed, Idle}
 use Rattle.script_lines.specs.declared.reply.Holdings.{Holdings}
-use Rattle.script_lines.specs.ReplyValue.{ReplyValue, Begun, Pushed, Finished, Turn, Committed, Aborted, Reading, Bytes, End, Dropped, Stat, Opened, Refused}
+use Rattle.script_lines.specs.ReplyValue.{ReplyValue, Begun, Pushed, Finished, Turn, Committed, Aborted, Reading, Bytes, End, Dropped, Deleted, Listed, Stat, Opened, Refused}
 
 -- what a turn did
 unfoldable pub turned_line : ℕ → Turned → List ℕ
@@ -32,6 +32,8 @@ reply_line (Reading actor length) = codes "reading " ++ decimal actor ++ codes "
 reply_line (Bytes actor bytes) = codes "bytes " ++ decimal actor ++ codes " " ++ encode_lower bytes ++ codes "\n"
 reply_line (End actor) = codes "end " ++ decimal actor ++ codes "\n"
 reply_line (Dropped actor) = codes "dropped " ++ decimal actor ++ codes "\n"
+reply_line (Deleted sequence) = codes "deleted " ++ decimal sequence ++ codes "\n"
+reply_line (Listed files) = listing_text files
 reply_line (Stat holdings) = stat_line holdings
 reply_line (Opened files) = codes "opened " ++ decimal files ++ codes "\n"
 reply_line (Refused refusal) = refused_line refusal

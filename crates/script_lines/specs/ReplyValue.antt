@@ -1,5 +1,6 @@
 -- What a reply to a line of a script says.
 use Rattle.std.specs.Prelude.{ℕ, List}
+use Rattle.namespace.specs.Listing.{NamedRoot}
 use Rattle.refusals.specs.declared.refusal.Refusal.{Refusal}
 use Rattle.script_lines.specs.declared.reply.Holdings.{Holdings}
 use Rattle.script_lines.specs.declared.reply.Turned.{Turned}
@@ -17,6 +18,8 @@ pub data ReplyValue : Type 0 where
   Bytes : (actor : ℕ) (bytes : List ℕ) → ReplyValue
   End : (actor : ℕ) → ReplyValue
   Dropped : (actor : ℕ) → ReplyValue
+  Deleted : (sequence : ℕ) → ReplyValue
+  Listed : (files : List NamedRoot) → ReplyValue
   Stat : (counted : Holdings) → ReplyValue
   Opened : (files : ℕ) → ReplyValue
   Refused : (refusal : Refusal) → ReplyValue
@@ -32,6 +35,8 @@ reply_value (given.Reading actor length) = Reading actor length
 reply_value (given.Bytes actor bytes) = Bytes actor bytes.now
 reply_value (given.End actor) = End actor
 reply_value (given.Dropped actor) = Dropped actor
+reply_value (given.Deleted sequence) = Deleted sequence
+reply_value (given.Listed files) = Listed files.now
 reply_value (given.Stat holdings) = Stat holdings
 reply_value (given.Opened files) = Opened files
 reply_value (given.Refused refusal) = Refused refusal

@@ -1,5 +1,5 @@
 //! A line of a script: docs/FORMAT.md, 'Scripts'.
-ghost use Rattle.std.specs.Prelude.{◌≡◌, ◌↔◌, ◌++◌, ◌∷◌, ℕ, List, decimal, IfSome, IfNone, IsTrue};
+ghost use Rattle.std.specs.Prelude.{◌≡◌, ◌≢◌, ◌↔◌, ◌++◌, ◌∷◌, ℕ, List, codes, decimal, IfSome, IfNone, IsTrue};
 ghost use Rattle.std.specs.List.{list_all};
 ghost use Rattle.script_lines.specs.Grammar.{LineValue, IsLine, IsActor, IsWord, HasNoSpace, is_word_byte};
 ghost use Rattle.script_lines.specs.LineValue.{line_value};
@@ -30,6 +30,10 @@ pub enum Line<'a> {
     Next(Actor),
     /// `drop A`: it takes no more.
     Drop(Actor),
+    /// `delete NAME`: the name goes away, with its file. The name is as in `commit`.
+    Delete(&'a [u8]),
+    /// `list`: the names, each with its file's root.
+    List,
     /// `stat`: what the store holds.
     Stat,
     /// `reopen`: all actors end, and the store is opened again.
@@ -53,9 +57,24 @@ fn line_of_words<'a>(word: &[u8], rest: &'a [u8]) -> Option<Line<'a>>
     ensures found { IfSome result (λ line. IsLine (line_value line) (word.now ++ (32 ∷ rest.now))) }
     ensures none { IfNone result ((value : LineValue) → IsLine value (word.now ++ (32 ∷ rest.now)) → ⊥) }
 {
+    if word == b"delete".as_slice() {
+        return line_of_delete(rest);
+    }
     match split_word(rest) {
         Some((number, argument)) => line_of_three(word, read_actor(number)?, argument),
         None => line_of_two(word, read_actor(rest)?),
+    }
+}
+
+// The line of what stands after `delete` and the space after it: no actor is read from it.
+fn line_of_delete<'a>(name: &'a [u8]) -> Option<Line<'a>>
+    ensures found { IfSome result (λ line. IsLine (line_value line) (codes "delete " ++ name.now)) }
+    ensures none { IfNone result ((value : LineValue) → IsLine value (codes "delete " ++ name.now) → ⊥) }
+{
+    if is_word(name) {
+        Some(Line::Delete(name))
+    } else {
+        None
     }
 }
 
@@ -68,6 +87,8 @@ fn line_of_one<'a>(word: &[u8]) -> Option<Line<'a>>
         Some(Line::Stat)
     } else if word == b"reopen".as_slice() {
         Some(Line::Reopen)
+    } else if word == b"list".as_slice() {
+        Some(Line::List)
     } else {
         None
     }
@@ -75,6 +96,7 @@ fn line_of_one<'a>(word: &[u8]) -> Option<Line<'a>>
 
 fn line_of_two<'a>(word: &[u8], actor: Actor) -> Option<Line<'a>>
     requires word { HasNoSpace word.now }
+    requires other { word.now ≢ codes "delete" }
     requires actor { IsActor actor }
     ensures found { IfSome result (λ line. IsLine (line_value line) (word.now ++ (32 ∷ decimal actor))) }
     ensures none { IfNone result ((value : LineValue) → IsLine value (word.now ++ (32 ∷ decimal actor)) → ⊥) }
@@ -98,6 +120,7 @@ fn line_of_two<'a>(word: &[u8], actor: Actor) -> Option<Line<'a>>
 
 fn line_of_three<'a>(word: &[u8], actor: Actor, argument: &'a [u8]) -> Option<Line<'a>>
     requires word { HasNoSpace word.now }
+    requires other { word.now ≢ codes "delete" }
     requires actor { IsActor actor }
     ensures found { IfSome result (λ line.
         IsLine (line_value line) (word.now ++ (32 ∷ (decimal actor ++ (32 ∷ argument.now))))) }

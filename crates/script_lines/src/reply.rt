@@ -6,8 +6,9 @@ ghost use Rattle.script_lines.specs.ReplyValue.{reply_value};
 
 use actor_parts::Actor;
 use itoa::Buffer;
+use namespace::Listing;
 use refusals::Refusal;
-use reply_text::refused_line;
+use reply_text::{listing_text, refused_line};
 use std::alloc::{AllocError, Global};
 
 /// What a turn did.
@@ -61,6 +62,11 @@ pub enum Reply<'a> {
     End { actor: Actor },
     /// `dropped A`: no more are taken.
     Dropped { actor: Actor },
+    /// `deleted SEQ`: the name is gone from this sequence number on.
+    Deleted { sequence: u64 },
+    /// `file NAME LENGTH LEVEL DIGEST` for each name, each with the LF that ends it, and then `listed COUNT`. The caller lends
+    /// the names.
+    Listed { files: &'a Listing },
     /// `stat files F segments S bytes B used U free R`.
     Stat { holdings: Holdings },
     /// `opened FILES`: the store is open, and has so many names.
@@ -69,7 +75,7 @@ pub enum Reply<'a> {
     Refused { refusal: Refusal },
 }
 
-/// The line of a reply, with the LF that ends it. It fails for want of memory alone.
+/// The line of a reply, with the LF that ends it; of a listing the lines, each with its own. It fails for want of memory alone.
 #[tactic(auto, unfolding(crate::specs::ReplyText::reply_line))]
 pub fn print_reply(alloc: Global, reply: &Reply<'_>) -> Result<Vec<u8>, AllocError>
     ensures { IfOk result (λ line. line.items ≡ reply_line (reply_value reply.now)) }
@@ -90,8 +96,10 @@ pub fn print_reply(alloc: Global, reply: &Reply<'_>) -> Result<Vec<u8>, AllocErr
         Reply::Bytes { actor, bytes } => bytes_line(alloc, *actor, bytes),
         Reply::End { actor } => actor_line(alloc, b"end ", *actor),
         Reply::Dropped { actor } => actor_line(alloc, b"dropped ", *actor),
+        Reply::Deleted { sequence } => count_line(alloc, b"deleted ", *sequence),
+        Reply::Listed { files } => listing_text(alloc, files),
         Reply::Stat { holdings } => stat_line(alloc, holdings),
-        Reply::Opened { files } => opened_line(alloc, *files),
+        Reply::Opened { files } => count_line(alloc, b"opened ", *files),
         Reply::Refused { refusal } => refused_line(alloc, refusal),
     }
 }
@@ -164,11 +172,12 @@ fn stat_line(alloc: Global, holdings: &Holdings) -> Result<Vec<u8>, AllocError>
     Ok(line)
 }
 
-fn opened_line(alloc: Global, files: u64) -> Result<Vec<u8>, AllocError>
-    ensures { IfOk result (λ line. line.items ≡ codes "opened " ++ decimal files ++ codes "\n") }
+// A word and a number.
+fn count_line(alloc: Global, word: &[u8], number: u64) -> Result<Vec<u8>, AllocError>
+    ensures { IfOk result (λ line. line.items ≡ word.now ++ decimal number ++ codes "\n") }
 {
-    let mut line = Vec::from_slice(alloc, b"opened ")?;
-    add_number(&mut line, files)?;
+    let mut line = Vec::from_slice(alloc, word)?;
+    add_number(&mut line, number)?;
     line.extend_from_slice(b"\n")?;
     Ok(line)
 }

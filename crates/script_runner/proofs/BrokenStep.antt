@@ -35,7 +35,7 @@ abbrev pub IsTried : (List ℕ → Type 0) → Machine → FileEvent → List �
 IsTried S m f image = IsOf S m.stored image ⊎ IsOf S (stored_tried f.event.step f.event.answer f.bytes m.stored) image
 
 -- Of a core that was at this store of the machine's files: it is stopped as a write or a sync failed; what was written stays, and
--- each image is of these files, or of those with the one of a commit.
+-- each image is of these files, or of those after a commit or a delete.
 pub record Broken (S : List ℕ → Type 0) (m : Machine) (f : FileEvent) (store : Store) (stop : Stop) (old new : CoreState) : Type 0 where
   pub refusal_is : f.event.answer ≡ Err refusals.DiskWrite
   pub stop_is : stop ≡ record { refusal = refusals.DiskWrite; at = old.acknowledged }
@@ -60,6 +60,8 @@ why_stopped step answer count stopped stop is stops harmless = absurd (let both 
 same_tables : (step : StepValue) (old new : CoreState) → Effect step (Err refusals.DiskWrite) old new → new.tables ≡ old.tables
 same_tables (asked.Seal filled) old new effect = effect.kept
 same_tables (asked.Commit name root) old new effect = effect.kept.tables_are
+same_tables (asked.Delete name) old new effect = effect.kept.tables_are
+same_tables asked.ListNames old new effect = effect.tables.tables_are
 same_tables asked.Begin old new effect = effect.tables.tables_are
 same_tables (asked.Claim seg) old new effect = effect.tables.tables_are
 same_tables asked.Abort old new effect = effect.tables.tables_are

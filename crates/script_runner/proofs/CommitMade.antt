@@ -1,7 +1,8 @@
 -- A commit of a file of which nothing is due, as the plain machine has it.
 use Rattle.std.proofs.Common.{◌≡◌, ◌⊎◌, inl, inr, ◌∙◌, ◌<◌, ◌-◌, ◌^◌, ℕ, true, List, [], ◌∷◌, length, is_some, None, Result, Ok, Err, refl, sym, ap, subst, length-append, arith}
 use Rattle.std.specs.FinMap as finite
-use Rattle.disk_format.specs.Cells.{IsName, Root}
+use Rattle.disk_format.specs.Cells.{Change, IsName}
+use Rattle.disk_format.specs.Cells.Change.{Put}
 use Rattle.disk_format.specs.declared.numbers.TheConstants.{MOST_NAMES}
 use Rattle.dd_disk.specs.View.{CrashLeaves}
 use Rattle.actor_parts.specs.declared.actor.TheConstants.{ACTORS}
@@ -20,7 +21,7 @@ use Rattle.store_model.specs.Collisions.{HasNoCollisions, ByteSet, IsIn}
 use Rattle.store_model.specs.Files.{Files, with_stored}
 use Rattle.store_model.specs.Image.{Store, Encodes, names_of}
 use Rattle.store_model.specs.Standing.{IsStoreOf}
-use Rattle.store_model.specs.Steps.{CanPut, put_of, with_put}
+use Rattle.store_model.specs.Steps.{CanChangeName, record_of, with_change}
 use Rattle.store_model.specs.Trees.{root_of}
 use Rattle.store_core.specs.Core.{CoreStep, Steps}
 use Rattle.store_core.specs.Frame.{AddsBytes}
@@ -42,12 +43,12 @@ use Rattle.script_runner.proofs.TurnsDone.{IsWhole}
 
 -- ---- what it adds
 
-record_added : (name : List ℕ) (root : Root) (store : Store) (old new : List ℕ) → AddsBytes store (with_put name root store) old new
+pub record_added : (name : List ℕ) (change : Change) (store : Store) (old new : List ℕ) → AddsBytes store (with_change name change store) old new
     → SameBut (λ half cell. (half ≡ store.selector.half) × (cell ≡ length store.records)) (λ slot. ⊥) store.slots old new
-record_added name root store old new adds = record {
+record_added name change store old new adds = record {
   size_is = adds.size_is;
   head = adds.head;
-  cells = λ half cell low within other. adds.cells half cell low within (λ is. other (is.0, omega (arith, is.1, is.2, length-append store.records (put_of name root store ∷ []))));
+  cells = λ half cell low within other. adds.cells half cell low within (λ is. other (is.0, omega (arith, is.1, is.2, length-append store.records (record_of name change store ∷ []))));
   slots_are = λ slot within other. adds.slots slot within refl;
 }
 
@@ -71,7 +72,7 @@ pub record CommitMade (S : List ℕ → Type 0) (m : Machine) (sessions : Sessio
   pub named : IsName name
   pub room : HasRoomForName name m
   pub below : m.stored.last < 2 ^ 64 - 1
-  pub recorded : AddsRecord name (root_of file) m.content image
+  pub recorded : AddsRecord name (Put (root_of file)) m.content image
   pub at : RunsAt S (committed m actor name file image) (with_session sessions actor None) new
   pub leaves : CrashLeaves (λ c. IsOf S m.stored c ⊎ IsOf S (with_stored m.stored name file) c) old.disk new.disk
 
@@ -105,19 +106,19 @@ module _ (C : Type 0) (state : C → CoreState) (among : ByteSet) (distinct : Ha
     leads : Stepped S m sessions f store (state old) (state new)
     leads = stepped C state among distinct m sessions old new at.running at.content_is f (commit_step (Ok (answers.Committed sequence)) step) steps.stops
 
-    can : CanPut name store
+    can : CanChangeName name (Put (root_of whole.file)) store
     can = leads.changes.0.0
 
     abbrev image : List ℕ
     image = leads.content.0
 
-    recorded : AddsRecord name (root_of whole.file) m.content image
+    recorded : AddsRecord name (Put (root_of whole.file)) m.content image
     recorded = record {
       store = store;
       was = right_here S store m.stored (state old) at.running.begins.is_at m.content at.content_is;
       can = can;
       now = subst (Encodes image) leads.changes.1 (right_here S leads.begins.store (with_stored m.stored name whole.file) (state new) leads.begins.is_at image leads.content.1);
-      rest = record_added name (root_of whole.file) store m.content image (subst (λ (u : Store). AddsBytes store u m.content image) leads.changes.1 leads.content.2);
+      rest = record_added name (Put (root_of whole.file)) store m.content image (subst (λ (u : Store). AddsBytes store u m.content image) leads.changes.1 leads.content.2);
     }
 
     own : FollowsPart Idle None (part_of (state new).parts actor) (state new)
@@ -130,7 +131,7 @@ module _ (C : Type 0) (state : C → CoreState) (among : ByteSet) (distinct : Ha
       image = image;
       named = can.named;
       room = record {
-        names = room_of_files store m.stored.files m.content name (store_here S store m.stored (state old) at.running.begins.is_at m.content at.content_is) can.room;
+        names = room_of_files store m.stored.files m.content name (store_here S store m.stored (state old) at.running.begins.is_at m.content at.content_is) can.place;
         cell = (store, (right_here S store m.stored (state old) at.running.begins.is_at m.content at.content_is, can.cell));
       };
       below = subst (λ (n : ℕ). n < 2 ^ 64 - 1) (last_at S store m.stored (state old) at.running.begins.is_at) can.number;

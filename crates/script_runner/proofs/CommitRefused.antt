@@ -2,6 +2,7 @@
 use Rattle.std.proofs.Common.{◌≡◌, ◌≢◌, ◌⊎◌, inl, inr, ◌∙◌, ◌<◌, ◌≤◌, ◌-◌, ◌^◌, ℕ, false, List, length, is_some, Option, Some, None, Result, Err, refl, sym, ap, subst, arith}
 use Rattle.std.specs.FinMap as finite
 use Rattle.base_model.specs.Fault.{Rose}
+use Rattle.disk_format.specs.Cells.Change.{Put}
 use Rattle.disk_format.specs.Layout.{half_cells}
 use Rattle.dd_disk.specs.Ending.{NoCall}
 use Rattle.dd_disk.specs.View.{CrashLeaves}
@@ -40,7 +41,7 @@ use Rattle.script_runner.proofs.BrokenStep.{Broken, IsTried, broken}
 use Rattle.script_runner.proofs.CommitMade.{commit_event, commit_step, room_of_files}
 use Rattle.script_runner.proofs.OneStep.{Stepped, stepped}
 use Rattle.script_runner.proofs.PartsOn.{part_on}
-use Rattle.script_runner.proofs.Resting.{commit_rested, counts_none, refused_faults, refused_stored}
+use Rattle.script_runner.proofs.Resting.{counts_none, names_rested, refused_faults, refused_stored}
 use Rattle.script_runner.proofs.SameNames.{same_count, same_keys}
 use Rattle.script_runner.proofs.TurnHolds.{right_here, store_here}
 use Rattle.script_runner.proofs.TurnParts.{Giving, gives_paused}
@@ -60,7 +61,7 @@ pub record CommitRefused (S : List ℕ → Type 0) (m : Machine) (sessions : Ses
 
 -- ---- names
 
-none_of : {X : Type 0} (o : Option X) → is_some o ≡ false → o ≡ None
+pub none_of : {X : Type 0} (o : Option X) → is_some o ≡ false → o ≡ None
 none_of None is = refl
 none_of (Some x) is = absurd cc
 
@@ -160,7 +161,7 @@ module _ (C : Type 0) (state : C → CoreState) (among : ByteSet) (distinct : Ha
       rested none =
           subst (λ (now : Sessions). RunsAt S m now (state new)) same_sessions
           (runs_on S m m sessions (state old) (state new) f at leads stays at.state_is (refused_stored f.event.step refusal file m.stored)
-          (commit_rested (state old) (state new) name (root_of file) refusal stays steps.stops steps.made.effect ∙ at.content_is)
+          (names_rested (state old) (state new) f.event.step name (Put (root_of file)) refusal stays steps.stops steps.made.effect ∙ at.content_is)
           (counts_none (state old) (state new) refusal none (refused_faults (state old) (state new) f.event.step refusal steps.made.effect) ∙ at.faults_are) (leads.counted ∙ at.counted)
           (part_in m actor) (Some t) (sym (set-get_or m.parts actor _)) own below)
 

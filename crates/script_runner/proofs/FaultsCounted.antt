@@ -30,7 +30,7 @@ use Rattle.store_core.specs.State.{CoreState, Event}
 use Rattle.store_core.proofs.Stepping.{step_later}
 use Rattle.session_turns.specs.Turns.{Asks, Feeds, IsPaused, IsRefusedTurn, TakesTurn, TurnRun, TurnsStopped}
 use Rattle.plain_machine.specs.Runs.{Replied}
-use Rattle.script_runner.specs.Acts.{Acts, ActsReopen, ActsOrNot, BarsBy, RefusesPut, RunnerState, RunsLine}
+use Rattle.script_runner.specs.Acts.{Acts, ActsReopen, ActsOrNot, BarsBy, RefusesPut, RefusesStep, RunnerState, RunsLine}
 use Rattle.script_runner.specs.AnyDisk.{LinesGoOn}
 use Rattle.script_runner.specs.Named.{tells_fault}
 use Rattle.script_runner.specs.Sessions.{Sessions}
@@ -58,6 +58,8 @@ module _ (old new : CoreState) where
   effect_faults (asked.OpenRead name) answer effect = effect.disk.faults_are
   effect_faults asked.ReadNext answer effect = effect.disk.faults_are
   effect_faults asked.EndRead answer effect = effect.disk.faults_are
+  effect_faults (asked.Delete name) answer effect = effect.disk.faults_are
+  effect_faults asked.ListNames answer effect = effect.disk.faults_are
   effect_faults asked.Stat answer effect = effect.disk.faults_are
 
   step_faults : (e : Event) (stop : Option Stop) → StepsOr stop e old new → CountsFault (ending blames e.answer) old.disk.faults new.disk.faults
@@ -98,6 +100,11 @@ module _ (C : Type 0) (state : C → CoreState) where
   no_memory : (refusal : Refusal) (old new : C) → refusal ≡ refusals.Memory → new ≡ old → GoesBy (ending_of (blames refusal)) old new
   no_memory refusal old new is same = none_failed refusal old new (by_memory refusal is) (done_here old new same)
 
+  -- a step was refused, or before it there was no memory
+  refuses_went : (actor : ℕ) (step : StepValue) (refusal : Refusal) (old new : C) → ((refusal ≡ refusals.Memory) × (new ≡ old)) ⊎ RefusesStep actor step refusal (state old) (state new) → GoesBy (ending_of (blames refusal)) old new
+  refuses_went actor step refusal old new (inl memory) = no_memory refusal old new memory.0 memory.1
+  refuses_went actor step refusal old new (inr refuses) = step_went (state old) (state new) _ refuses.1
+
   module _ (actor : ℕ) where
     turns_went : (answers : List Answer) (s t : SessionState) (old new : C) → TurnRun C state actor answers s t old new → GoesBy Done old new
     turns_went [] s t old new run = done_here old new run.1
@@ -136,17 +143,11 @@ module _ (C : Type 0) (state : C → CoreState) where
     put_went : (name : List ℕ) (refusal : Refusal) (s t : SessionState) (old new : C) → RefusesPut C state actor name refusal s t old new → GoesBy (ending_of (blames refusal)) old new
     put_went name refusal s t old new (inl stopped) = stopped_went refusal s t old new stopped
     put_went name refusal s t old new (inr done) =
-        went_on (ending_of (blames refusal)) (state old).disk (state done.1).disk (state new).disk (turns_went done.0 s t old done.1 done.2) (elim done.3.2 [
-          | inl memory ↦ no_memory refusal done.1 new memory.0 memory.1
-          | inr refuses ↦ step_went (state done.1) (state new) _ refuses.1
-        ])
+        went_on (ending_of (blames refusal)) (state old).disk (state done.1).disk (state new).disk (turns_went done.0 s t old done.1 done.2) (refuses_went actor (asked.Commit name done.3.0) refusal done.1 new done.3.2)
 
   acts_went : (line : LineValue) (reply : ReplyValue) (r s : RunnerState C) → Acts C state line reply r s → GoesBy (ending_in reply) r.core s.core
   acts_went (lines.Begin a) (replies.Begun b) r s acts = step_went (state r.core) (state s.core) _ acts.1.0.2.1
-  acts_went (lines.Begin a) (replies.Refused refusal) r s acts = elim acts.0.0 [
-    | inl memory ↦ no_memory refusal r.core s.core memory.0 memory.1
-    | inr refuses ↦ step_went (state r.core) (state s.core) _ refuses.1
-  ]
+  acts_went (lines.Begin a) (replies.Refused refusal) r s acts = refuses_went a asked.Begin refusal r.core s.core acts.0.0
   acts_went (lines.Push a digits) (replies.Pushed b count) r s acts =
       let does = acts.1.0 in
       turns_went a does.3.0 does.0 does.3.1 r.core s.core does.3.2
@@ -170,6 +171,10 @@ module _ (C : Type 0) (state : C → CoreState) where
   acts_went (lines.Next a) (replies.Refused refusal) r s acts = step_went (state r.core) (state s.core) _ acts.1.0
   acts_went (lines.Drop a) (replies.Dropped b) r s acts = step_went (state r.core) (state s.core) _ acts.1.0.1.1
   acts_went (lines.Drop a) (replies.Refused refusal) r s acts = step_went (state r.core) (state s.core) _ acts.0.1
+  acts_went (lines.Delete name) (replies.Deleted sequence) r s acts = step_went (state r.core) (state s.core) _ acts.0.deleted.1
+  acts_went (lines.Delete name) (replies.Refused refusal) r s acts = refuses_went 0 (asked.Delete name) refusal r.core s.core acts.0
+  acts_went lines.ListNames (replies.Listed files) r s acts = step_went (state r.core) (state s.core) _ acts.0.1
+  acts_went lines.ListNames (replies.Refused refusal) r s acts = step_went (state r.core) (state s.core) _ acts.0.1
   acts_went lines.Stat (replies.Stat holdings) r s acts = step_went (state r.core) (state s.core) _ acts.0.1
   acts_went line reply r s acts = absurd acts
 

@@ -40,6 +40,10 @@ module _ (s t : Store) (old new : CoreState) (stays : new.stop ≡ None) (was : 
   last_on actor buf (asked.Commit name root) (Ok (answers.Committed sequence)) row effect stops chain = row.3 ∙ was ∙ ap (λ (store : Store). last_id store.held) (sym chain.1)
   last_on actor buf (asked.Commit name root) (Ok answer) row effect stops chain = absurd row
   last_on actor buf (asked.Commit name root) (Err refusal) row effect stops chain = still effect.kept chain
+  last_on actor buf (asked.Delete name) (Ok (answers.Deleted sequence)) row effect stops chain = row.3 ∙ was ∙ ap (λ (store : Store). last_id store.held) (sym chain.1)
+  last_on actor buf (asked.Delete name) (Ok answer) row effect stops chain = absurd row
+  last_on actor buf (asked.Delete name) (Err refusal) row effect stops chain = still effect.kept chain
+  last_on actor buf asked.ListNames answer row effect stops chain = still effect.tables chain
   last_on actor buf asked.Abort answer row effect stops chain = still effect.tables chain
   last_on actor buf (asked.OpenRead name) answer row effect stops chain = still effect.tables chain
   last_on actor buf asked.ReadNext answer row effect stops chain = still effect.tables chain

@@ -12,6 +12,7 @@ pub mod LineNotes
 pub mod LineSteps
 pub mod LinesBarred
 pub mod LinesCommit
+pub mod LinesDelete
 pub mod LinesFollow
 pub mod LinesFrame
 pub mod LinesGiving
@@ -21,9 +22,12 @@ pub mod LinesStat
 pub mod LinesTaking
 pub mod LinesTurn
 pub mod Lists
+pub mod NameRefused
 pub mod NamedAt
+pub mod NamedChange
 pub mod NamedGiving
 pub mod NamedLines
+pub mod NamedNames
 pub mod NamedSteps
 pub mod NamedTaking
 pub mod OneRead

@@ -17,7 +17,7 @@ use Rattle.store_model.specs.Files.{Stored}
 use Rattle.store_core.specs.State.{CoreState}
 use Rattle.plain_machine.specs.Lines.{AnswersTurn, Does}
 use Rattle.plain_machine.specs.Machine.{Machine, RunState, Running, Stopped, MayBeFound}
-use Rattle.plain_machine.specs.Refused.{RefusesBytes, RefusesCommit, RefusesName, RefusesOn, Refuses, RefusesReopen}
+use Rattle.plain_machine.specs.Refused.{RefusesBytes, RefusesCommit, RefusesDelete, RefusesName, RefusesOn, Refuses, RefusesReopen}
 use Rattle.plain_machine.specs.Runs.{StepBy, StepReopen, StepRunning}
 use Rattle.plain_machine.specs.Turns.{Writer, MachineTurns, RefusesStep, RefusesTurn}
 use Rattle.script_runner.specs.Acts.{Acts, ActsOrNot, ActsReopen, RunnerState, RunsLine, moment_of, noted_if}
@@ -66,6 +66,15 @@ commit_stored : (actor : ℕ) (name : List ℕ) (refusal : Refusal) (m n : Machi
 commit_stored actor name refusal m n (inl turn) = turn_stored actor refusal m n turn
 commit_stored actor name refusal m n (inr named) = name_stored actor name named.1.0 refusal m n named.1.1.1.1
 
+delete_stored : (name : List ℕ) (refusal : Refusal) (m n : Machine) → RefusesDelete name refusal m n → n.stored ≡ m.stored
+delete_stored name refusals.Memory m n is = of_same m n is
+delete_stored name refusals.BadName m n is = of_same m n is.1
+delete_stored name refusals.NoFile m n is = of_same m n is.2
+delete_stored name refusals.TooMany m n is = of_same m n is.3
+delete_stored name refusals.Numbers m n is = of_same m n is.4
+delete_stored name refusals.DiskWrite m n is = ap (λ (x : Machine). x.stored) is.6
+delete_stored name refusal m n is = absurd is
+
 on_stored : (line : LineValue) (refusal : Refusal) (m n : Machine) → RefusesOn line refusal m n → n.stored ≡ m.stored
 on_stored (lines.Begin a) refusals.Memory m n is = of_same m n is
 on_stored (lines.Push a digits) refusals.Memory m n is = ap (λ (x : Machine). x.stored) is.1.1.1.1 ∙ turns_stored a is.0 m is.1.0 is.1.1.0
@@ -79,6 +88,8 @@ on_stored (lines.Read a name) refusals.Memory m n is = of_same m n is
 on_stored (lines.Read a name) refusals.BadName m n is = of_same m n is.1
 on_stored (lines.Read a name) refusals.NoFile m n is = of_same m n is.2
 on_stored (lines.Next a) refusals.DiskRead m n is = ap (λ (x : Machine). x.stored) is.1.1
+on_stored (lines.Delete name) refusal m n is = delete_stored name refusal m n is
+on_stored lines.ListNames refusals.Memory m n is = of_same m n is
 on_stored line refusal m n is = absurd is
 
 refuses_stored : (line : LineValue) (refusal : Refusal) (m n : Machine) → Refuses line refusal m n → n.stored ≡ m.stored
@@ -97,9 +108,10 @@ answers_stored actor turns.Absent m n is = ap (λ (x : Machine). x.stored) is.ot
 answers_stored actor (turns.Sealed id) m n is = ap (λ (x : Machine). x.stored) is.others
 answers_stored actor turns.Idle m n is = of_same m n is.2
 
--- the number rises by a commit, and stays by another line
+-- the number rises by a commit and by a delete, and stays by another line
 abbrev NumberBy : LineValue → ReplyValue → Machine → Machine → Type 0
 NumberBy (lines.Commit a name) (replies.Committed b sequence) m n = n.stored.last ≡ suc m.stored.last
+NumberBy (lines.Delete name) (replies.Deleted sequence) m n = n.stored.last ≡ suc m.stored.last
 NumberBy line reply m n = n.stored.last ≡ m.stored.last
 
 abbrev last_of : Stored → ℕ
@@ -117,6 +129,8 @@ does_number (lines.Read a name) (replies.Reading b count) m n is = ap (λ (x : M
 does_number (lines.Next a) (replies.Bytes b bytes) m n is = ap (λ (x : Machine). x.stored.last) is.1.1.1
 does_number (lines.Next a) (replies.End b) m n is = ap (λ (x : Machine). x.stored.last) is.2
 does_number (lines.Drop a) (replies.Dropped b) m n is = ap (λ (x : Machine). x.stored.last) is.1.1
+does_number (lines.Delete name) (replies.Deleted sequence) m n is = ap (λ (x : Machine). x.stored.last) is.others
+does_number lines.ListNames (replies.Listed files) m n is = ap (λ (x : Machine). x.stored.last) is.1
 does_number lines.Stat (replies.Stat counted) m n is = ap (λ (x : Machine). x.stored.last) is.1
 does_number line reply m n is = absurd is
 
@@ -128,6 +142,7 @@ running_number line reply m n differs is = does_number line reply m n is
 -- of a store that is stopped nothing is taken
 stopped_number : (line : LineValue) (reply : ReplyValue) (refusal : Refusal) (m n : Machine) → reply ≡ replies.Refused refusal → n ≡ m → NumberBy line reply m n
 stopped_number (lines.Commit a name) (replies.Committed b sequence) refusal m n is same = absurd cc
+stopped_number (lines.Delete name) (replies.Deleted sequence) refusal m n is same = absurd cc
 stopped_number line reply refusal m n is same = ap (λ (x : Machine). x.stored.last) same
 
 step_number : (by : RunState) (line : LineValue) (reply : ReplyValue) (m n : Machine) → line ≢ lines.Reopen → StepBy by line reply m n → NumberBy line reply m n
@@ -166,10 +181,12 @@ noted_by was now moment moments (inr next) = inr (next, noted_so false was now m
 
 abbrev MomentsBy : LineValue → ReplyValue → CoreState → List ℕ → List ℕ → Type 0
 MomentsBy (lines.Commit a name) (replies.Committed b sequence) c moments moments_now = moments_now ≡ moments ++ moment_of c ∷ []
+MomentsBy (lines.Delete name) (replies.Deleted sequence) c moments moments_now = moments_now ≡ moments ++ moment_of c ∷ []
 MomentsBy line reply c moments moments_now = moments_now ≡ moments
 
 notes_by : (line : LineValue) (reply : ReplyValue) (c : CoreState) (m n : Machine) (moments moments_now : List ℕ) → NumberBy line reply m n → MomentsBy line reply c moments moments_now → Notes c m n moments moments_now
 notes_by (lines.Commit a name) (replies.Committed b sequence) c m n moments moments_now number noted = inr (number, noted)
+notes_by (lines.Delete name) (replies.Deleted sequence) c m n moments moments_now number noted = inr (number, noted)
 notes_by line reply c m n moments moments_now number noted = inl (number, noted)
 
 module _ (C : Type 0) (state : C → CoreState) (S : List ℕ → Type 0) (m n : Machine) (r s : RunnerState C) (follows : Follows S m r.sessions (state r.core)) (follows_now : Follows S n s.sessions (state s.core)) where
@@ -193,11 +210,16 @@ module _ (C : Type 0) (state : C → CoreState) (S : List ℕ → Type 0) (m n :
   acts_moments (lines.Next a) (replies.Refused refusal) acts = acts.1.2
   acts_moments (lines.Drop a) (replies.Dropped b) acts = acts.1.2
   acts_moments (lines.Drop a) (replies.Refused refusal) acts = acts.2
+  acts_moments (lines.Delete name) (replies.Deleted sequence) acts = acts.0.moments_are
+  acts_moments (lines.Delete name) (replies.Refused refusal) acts = acts.2
+  acts_moments lines.ListNames (replies.Listed files) acts = acts.2
+  acts_moments lines.ListNames (replies.Refused refusal) acts = acts.2
   acts_moments lines.Stat (replies.Stat holdings) acts = acts.2
   acts_moments line reply acts = absurd acts
 
   barred_moments : (line : LineValue) (reply : ReplyValue) (refusal : Refusal) → reply ≡ replies.Refused refusal → s ≡ r → MomentsBy line reply (state s.core) r.moments s.moments
   barred_moments (lines.Commit a name) (replies.Committed b sequence) refusal is same = absurd cc
+  barred_moments (lines.Delete name) (replies.Deleted sequence) refusal is same = absurd cc
   barred_moments line reply refusal is same = ap (λ (t : RunnerState C). t.moments) same
 
   or_not : (line : LineValue) (reply : ReplyValue) → line ≢ lines.Reopen → StepBy m.state line reply m n → ActsOrNot C state line reply r s → Notes (state s.core) m n r.moments s.moments

@@ -115,6 +115,10 @@ module _ (C : Type 0) (state : C → CoreState) where
   acts (lines.Next a) (replies.Refused refusal) r s is = let refused = is.1 in single r.core s.core (record { actor = a; step = asked.ReadNext; answer = Err refusal; buf = is.0 }) refused.0
   acts (lines.Drop a) (replies.Dropped b) r s is = let drops = is.1.0 in does a asked.EndRead drops.0 r.core s.core drops.1
   acts (lines.Drop a) (replies.Refused refusal) r s is = refuses a asked.EndRead refusal r.core s.core is.0
+  acts (lines.Delete name) (replies.Deleted sequence) r s is = does 0 (asked.Delete name) is.0.answer r.core s.core is.0.deleted
+  acts (lines.Delete name) (replies.Refused refusal) r s is = refuses_or 0 (asked.Delete name) refusal r.core s.core is.0
+  acts lines.ListNames (replies.Listed files) r s is = does 0 asked.ListNames (answers.Listed files) r.core s.core is.0
+  acts lines.ListNames (replies.Refused refusal) r s is = refuses 0 asked.ListNames refusal r.core s.core is.0
   acts lines.Stat (replies.Stat holdings) r s is = does 0 asked.Stat (counted holdings) r.core s.core is.0
   acts line reply r s is = absurd is
 

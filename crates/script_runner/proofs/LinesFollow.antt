@@ -10,10 +10,11 @@ use Rattle.script_runner.specs.Follows.{Follows, IsCut, IsOfActor, LinesFollow}
 use Rattle.script_runner.proofs.Along.{GoesAlong}
 use Rattle.script_runner.proofs.LineNotes.{notes}
 use Rattle.script_runner.proofs.LinesCommit.{commit_line}
+use Rattle.script_runner.proofs.LinesDelete.{delete_line}
 use Rattle.script_runner.proofs.LinesGiving.{abort_line, begin_line, finish_line}
 use Rattle.script_runner.proofs.LinesPush.{push_line}
 use Rattle.script_runner.proofs.LinesReopen.{reopen_line}
-use Rattle.script_runner.proofs.LinesStat.{stat_line}
+use Rattle.script_runner.proofs.LinesStat.{list_line, stat_line}
 use Rattle.script_runner.proofs.LinesTaking.{drop_line, next_line, read_line}
 use Rattle.script_runner.proofs.LinesTurn.{turn_line}
 
@@ -29,6 +30,8 @@ lines_along C state among (lines.Abort a) reply m r s distinct actor cut follows
 lines_along C state among (lines.Read a name) reply m r s distinct actor cut follows runs = read_line C state among distinct m r s follows a name reply runs
 lines_along C state among (lines.Next a) reply m r s distinct actor cut follows runs = next_line C state among distinct m r s follows a reply runs
 lines_along C state among (lines.Drop a) reply m r s distinct actor cut follows runs = drop_line C state among distinct m r s follows a reply runs
+lines_along C state among (lines.Delete name) reply m r s distinct actor cut follows runs = delete_line C state among distinct m r s follows name reply runs
+lines_along C state among lines.ListNames reply m r s distinct actor cut follows runs = list_line C state among distinct m r s follows reply runs
 lines_along C state among lines.Stat reply m r s distinct actor cut follows runs = stat_line C state among distinct m r s follows reply runs
 lines_along C state among lines.Reopen reply m r s distinct actor cut follows runs = reopen_line C state (IsIn among) m r s follows reply runs
 

@@ -1,5 +1,5 @@
 -- What a runner has of what lines and their replies tell (specs/Named.antt).
-use Rattle.std.proofs.Common.{◌≡◌, ◌≢◌, inl, inr, ◌∙◌, ◌<◌, ℕ, Bool, true, false, List, length, replicate, Option, Some, None, refl, sym, ap, subst, arith}
+use Rattle.std.proofs.Common.{◌≡◌, ◌≢◌, inl, inr, ◌∙◌, ◌<◌, ℕ, Bool, true, false, List, length, replicate, slice_index_or, Option, Some, None, refl, sym, ap, subst, arith}
 use Rattle.std.proofs.lemmas.Bool.{cases_eq}
 use Rattle.std.proofs.lemmas.List.{get_or-replicate, length-replicate}
 use Rattle.merkle_file.specs.declared.top.Top.{Top}
@@ -17,6 +17,7 @@ use Rattle.ingest_session.specs.History.{History, HasHistory}
 use Rattle.ingest_session.specs.State.{SessionState}
 use Rattle.script_lines.specs.Grammar.{LineValue}
 use Rattle.script_lines.specs.Grammar as lines
+use Rattle.script_lines.specs.ReplyValue as replies
 use Rattle.script_lines.specs.ReplyValue.{ReplyValue}
 use Rattle.store_model.specs.Image.{Store}
 use Rattle.read_steps.specs.Readers.{reading}
@@ -27,7 +28,7 @@ use Rattle.script_runner.specs.Named.{Account, AreNamed, Doing, Idle, Writing, F
 use Rattle.script_runner.specs.Sessions.{Sessions, has_ended, kind_by, session_of, with_session}
 use Rattle.script_runner.proofs.LinesReopen.{idle_part}
 use Rattle.script_runner.proofs.Lists.{OneSet, none_set, one_set, set_here}
-use Rattle.script_runner.proofs.NamedSteps.{Gives, IsTold, IsWriting, Keeps, Quiet, Stands}
+use Rattle.script_runner.proofs.NamedSteps.{Gives, IsTold, IsWriting, Keeps, Quiet, Stands, quiet_here}
 
 -- ---- an actor
 
@@ -150,6 +151,19 @@ module _ (t : Account) (sessions : Sessions) (old : CoreState) (at : At t sessio
     ];
   }
 
+  -- or none is
+  pub at_still : (u : Account) (sessions_now : Sessions) (new : CoreState) → IsRunning new → Counts u new → u.doing ≡ t.doing → sessions_now ≡ sessions → new.parts ≡ old.parts → At u sessions_now new
+  at_still u sessions_now new running counts doing same parts = record {
+    running = running;
+    counts = counts;
+    sessions_are = ap (λ (x : Sessions). length x) same ∙ at.sessions_are;
+    parts_are = ap (λ (x : List core_part.Part). length x) parts ∙ at.parts_are;
+    doing_are = ap (λ (x : List Doing). length x) doing ∙ at.doing_are;
+    each = λ actor below.
+        at_by (doing_of u actor) (doing_of t actor) (session_of sessions_now actor) (session_of sessions actor) (part_of new.parts actor) (part_of old.parts actor)
+        (ap (λ (x : List Doing). slice_index_or x actor Idle) doing) (ap (λ (x : Sessions). session_of x actor) same) (ap (λ (x : List core_part.Part). part_of x actor) parts) (at.each actor below);
+  }
+
   module _ (runs : old.stop ≡ None) where
     pub going : t.stopped ≡ false
     going = runs_so t.stopped old at.counts.stands runs
@@ -202,6 +216,10 @@ same_actor a b is = cc
 -- where its actor is at what it takes
 pub right_part : (line : LineValue) (a : ℕ) (t : Account) → actor_of line ≡ Some a → takes line (kind_of (doing_of t a)) ≡ true → IsAtRightPart line t
 right_part line a t here taken = λ actor is. subst (λ (n : ℕ). takes line (kind_of (doing_of t n)) ≡ true) (same_actor a actor (sym here ∙ is)) taken
+
+-- no actor is barred from a line that has none
+pub no_actor : (line : LineValue) (t : Account) → actor_of line ≡ None → IsAtRightPart line t
+no_actor line t none actor is = absurd (let both = sym none ∙ is in cc)
 
 no_wrong : (line : LineValue) (kind : PartKind) (t : Account) → RefusesOn line (refusals.WrongPart kind) t → ⊥
 no_wrong (lines.Next a) kind t on = on.1.1
@@ -269,3 +287,13 @@ module _ (C : Type 0) (state : C → CoreState) (line : LineValue) (reply : Repl
         (at_by (doing_of t a) (doing_of t a) (session_of s.sessions a) (Some now) (part_of (state s.core).parts a) (part_of (state s.core).parts a)
         refl (session_now t r.sessions (state r.core) at a below s.sessions (Some now) sessions) refl
         (session_kept (doing_of t a) (session_of r.sessions a) was now (part_of (state r.core).parts a) (part_of (state s.core).parts a) session_is kept writing (at.each a below)))
+
+-- there was no memory, where that is free
+pub no_memory : (C : Type 0) (state : C → CoreState) (line : LineValue) (refusal : Refusal) (t : Account) (r s : RunnerState C) → At t r.sessions (state r.core) → (state r.core).stop ≡ None → IsAtRightPart line t
+    → RefusesOn line refusals.Memory t → refusal ≡ refusals.Memory → s.core ≡ r.core → s.sessions ≡ r.sessions → Told C state line (replies.Refused refusal) t s
+no_memory C state line refusal t r s at runs right free memory same sessions =
+    let here : (c : C) → c ≡ r.core → Quiet 0 (state r.core) (state c) × Stands false (state c) = λ c is.
+    subst (λ (x : C). Quiet 0 (state r.core) (state x) × Stands false (state x)) (sym is) (quiet_here 0 (state r.core) at.running, (runs, told t r.sessions (state r.core) at runs)) in
+    let ends = here s.core same in
+    subst (λ (x : Refusal). Told C state line (replies.Refused x) t s) (sym memory)
+    (still C state line (replies.Refused refusals.Memory) t r s at 0 (omega arith) ends.0 false ends.1 (refuses line refusals.Memory t right free, refl) sessions (ap (λ (c : C). part_of (state c).parts 0) same))

@@ -1,7 +1,8 @@
 -- What is told by lines of an actor that gives a file, on any disk.
-use Rattle.std.proofs.Common.{◌≡◌, ◌⊎◌, inl, inr, ◌∙◌, ◌<◌, ◌≤◌, ◌+◌, ◌-◌, ◌^◌, min, ℕ, suc, true, false, List, [], ◌∷◌, ◌++◌, length, Option, Some, None, Result, Ok, Err, refl, sym, ap, subst, length-append, arith}
+use Rattle.std.proofs.Common.{◌≡◌, ◌⊎◌, inl, inr, ◌∙◌, ◌<◌, ◌≤◌, ◌+◌, ◌-◌, ◌^◌, min, ℕ, true, false, List, [], ◌∷◌, ◌++◌, length, Option, Some, None, Result, Ok, Err, refl, sym, ap, subst, length-append, arith}
 use Rattle.std.specs.FinMap as finite
 use Rattle.disk_format.specs.Cells.{Root}
+use Rattle.disk_format.specs.Cells.Change.{Put}
 use Rattle.disk_format.specs.Layout.{half_cells}
 use Rattle.disk_format.specs.declared.numbers.TheConstants.{MOST_FILE}
 use Rattle.actor_parts.specs.declared.actor.TheConstants.{ACTORS}
@@ -26,14 +27,9 @@ use Rattle.script_lines.specs.Grammar.{LineValue, pushed_bytes}
 use Rattle.script_lines.specs.Grammar as lines
 use Rattle.script_lines.specs.ReplyValue as replies
 use Rattle.script_lines.specs.ReplyValue.{ReplyValue}
-use Rattle.store_model.specs.Image.{Store, last_sequence, names_of}
-use Rattle.store_model.specs.Steps.{CanPut, put_of, with_put}
 use Rattle.store_model.specs.Trees.{root_of}
-use Rattle.store_model.proofs.PutRoots.{last_put}
-use Rattle.store_model.proofs.Records.{names_after_push}
-use Rattle.store_state.specs.Tables.{RepresentsNames, Runs}
-use Rattle.store_core.specs.Core.{BeginRow, CommitRow, Steps, StepsOr, counted}
-use Rattle.store_core.specs.State.{CoreState, Event, IsRunning}
+use Rattle.store_core.specs.Core.{BeginRow, CommitRow, NamesOne, Steps, StepsOr, counted}
+use Rattle.store_core.specs.State.{CoreState, Event, IsRunning, IsUp}
 use Rattle.store_core.proofs.CoreRuns.{running_step}
 use Rattle.store_core.proofs.GivingFiles.{length_on, other_part}
 use Rattle.store_core.proofs.Making.{up_of}
@@ -42,13 +38,14 @@ use Rattle.store_core.proofs.Stepping.{ChangesOne, row_one}
 use Rattle.plain_machine.specs.Machine.{one_more}
 use Rattle.plain_machine.specs.Refused.{takes}
 use Rattle.script_runner.specs.Acts.{Acts, Admits, DoesStep, IsReady, RefusesPut, RunnerState}
-use Rattle.script_runner.specs.Named.{Account, Doing, Idle, Writing, Finished, IsAtRightPart, IsGiving, IsOfTurn, MayName, RefusesOn, doing_of, kind_of, stops, with_doing, with_name}
+use Rattle.script_runner.specs.Named.{Account, Doing, Idle, Writing, Finished, IsGiving, IsNumber, IsOfTurn, MayName, RefusesOn, doing_of, kind_of, stops, with_doing, with_name}
 use Rattle.script_runner.specs.Sessions.{session_of, with_session}
 use Rattle.session_turns.specs.Turns.{Feeds, TakesTurn, TurnRun}
 use Rattle.session_turns.proofs.TurnRuns.{no_turns}
 use Rattle.script_runner.proofs.LinesPush.{why_long}
 use Rattle.script_runner.proofs.Lists.{one_set}
-use Rattle.script_runner.proofs.NamedAt.{At, AtPart, Counts, Told, at_by, at_on, changes, doing_now, given_in, given_on, giving, keeps, one_session, own_at, part_now, refuses, right_part, session_now, still, still_runs, taken, told}
+use Rattle.script_runner.proofs.NamedAt.{At, AtPart, Counts, Told, at_by, at_on, changes, doing_now, given_in, given_on, giving, keeps, no_memory, one_session, own_at, part_now, refuses, right_part, session_now, still_runs, taken, told}
+use Rattle.script_runner.proofs.NamedChange.{last_now, names_now, number_so, records_now}
 use Rattle.script_runner.proofs.NamedSteps.{Gives, IsWriting, Quiet, Stands, Turned, done_stands, keeps_paused, quiet_here, quiet_on, quiet_step, refused_stands, refused_turned, stopped_turned, turns_turned}
 use Rattle.script_runner.proofs.TurnRefusals.{no_other}
 
@@ -142,12 +139,6 @@ module _ (C : Type 0) (state : C → CoreState) (t : Account) (r s : RunnerState
     gives : (d : Doing) → doing_of t a ≡ d → IsGiving d → Gives a old
     gives d is giving_so = giving t r.sessions old at runs a below (subst IsGiving (sym is) giving_so)
 
-    -- there was no memory, where that is free
-    no_memory : (line : LineValue) (refusal : Refusal) → IsAtRightPart line t → RefusesOn line refusals.Memory t → refusal ≡ refusals.Memory → s.core ≡ r.core → s.sessions ≡ r.sessions → Told C state line (replies.Refused refusal) t s
-    no_memory line refusal right free memory same sessions =
-        subst (λ (x : Refusal). Told C state line (replies.Refused x) t s) (sym memory)
-        (still C state line (replies.Refused refusals.Memory) t r s at a below (idle_core same) false (idle_stands same) (refuses line refusals.Memory t right free, refl) sessions (same_part same))
-
   -- ---- begin
 
   begun_part : (answer : Answer) → BeginRow a (Ok answer) old new → core_kinds.kind_of (part_of new.parts a) ≡ kinds.Writing
@@ -167,7 +158,7 @@ module _ (C : Type 0) (state : C → CoreState) (t : Account) (r s : RunnerState
   begin_told (replies.Refused refusal) admits acts =
       let right = taken t r.sessions old at (lines.Begin a) a below refl admits in
       elim acts.0.0 [
-        | inl memory ↦ no_memory admits.runs (lines.Begin a) refusal (right_part (lines.Begin a) a t refl right) tt memory.0 memory.1 acts.0.1
+        | inl memory ↦ no_memory C state (lines.Begin a) refusal t r s at admits.runs (right_part (lines.Begin a) a t refl right) tt memory.0 memory.1 acts.0.1
         | inr refused ↦
             let idle = own Idle (idle_taken a (doing_of t a) right) in
             let row = (stepped admits.runs asked.Begin (Err refusal) refused.0 refused.1).made.row in
@@ -259,7 +250,7 @@ module _ (C : Type 0) (state : C → CoreState) (t : Account) (r s : RunnerState
       )
   finish_told (replies.Refused refusal) admits acts =
       let right = right_part (lines.Finish a) a t refl (taken t r.sessions old at (lines.Finish a) a below refl admits) in
-      no_memory admits.runs (lines.Finish a) refusal right tt acts.0.0 acts.0.2 acts.0.1
+      no_memory C state (lines.Finish a) refusal t r s at admits.runs right tt acts.0.0 acts.0.2 acts.0.1
   finish_told reply admits acts = absurd acts
 
   -- ---- turn
@@ -378,39 +369,25 @@ module _ (C : Type 0) (state : C → CoreState) (t : Account) (r s : RunnerState
       one_counted (answers.Committed number) count row = refl
       one_counted answer count row = absurd row
 
-      -- the store that the tables are of
-      abbrev was : Runs between.disk.size between.known between.tables
-      was = (up_of between gives_mid.runs gives_mid.running).runs
+      last_here : between.tables.journal.last ≡ t.last
+      last_here = first.tables.last ∙ at.counts.last
 
-      abbrev store : Store
-      store = was.store
+      abbrev effect : NamesOne name (Put root) (Ok answer) between new
+      effect = steps.made.effect
 
-      can : CanPut name store
-      can = (steps.made.effect.made.can.store_has was.store was.represents was.valid was.reserve_holds).0
+      up : IsUp between
+      up = up_of between gives_mid.runs gives_mid.running
 
-      after : RepresentsNames (with_put name root store) new.tables
-      after = (steps.made.effect.made.represents.store_has was.store was.represents was.valid was.reserve_holds).names_are
-
-      last_is : last_sequence store ≡ t.last
-      last_is = sym was.represents.names_are.last_is ∙ first.tables.last ∙ at.counts.last
-
-      sequence_so : (sequence : ℕ) → sequence ≡ min (between.tables.journal.last + 1) (2 ^ 64 - 1) → sequence ≡ suc t.last
-      sequence_so sequence is = let here : between.tables.journal.last ≡ last_sequence store = was.represents.names_are.last_is in omega (arith, is, here, last_is, can.number)
+      number : (sequence : ℕ) → sequence ≡ min (between.tables.journal.last + 1) (2 ^ 64 - 1) → IsNumber sequence t
+      number = number_so name (Put root) answer between new effect up t (then_names mid first gives_mid) (then_records mid first gives_mid) last_here
 
       counts : Stands t.stopped new → Counts named new
       counts stands = record {
         stands = stands;
         acknowledged = steps.counted_is ∙ one_counted answer between.acknowledged steps.made.row ∙ ap one_more (first.acknowledged ∙ at.counts.acknowledged);
-        names =
-            let names : names_of store ≡ t.names = sym was.represents.names_are.names_are ∙ then_names mid first gives_mid in
-            after.names_are ∙ names_after_push store.records (put_of name root store) finite.empty
-            ∙ ap (λ (n : NameMap). finite.insert n name (record { sequence = suc (last_sequence store); root = root })) names
-            ∙ ap (λ (n : ℕ). finite.insert t.names name (record { sequence = suc n; root = root })) last_is;
-        records =
-            let many : length store.records ≡ t.records = sym was.represents.names_are.count ∙ then_records mid first gives_mid in
-            let more : length (store.records ++ put_of name root store ∷ []) ≡ length store.records + 1 = length-append store.records (put_of name root store ∷ []) in
-            after.count ∙ omega (arith, more, many);
-        last = after.last_is ∙ last_put name root store ∙ ap suc last_is;
+        names = names_now name (Put root) answer between new effect up t (then_names mid first gives_mid) (then_records mid first gives_mid) last_here;
+        records = records_now name (Put root) answer between new effect up t (then_names mid first gives_mid) (then_records mid first gives_mid) last_here;
+        last = last_now name (Put root) answer between new effect up t (then_names mid first gives_mid) (then_records mid first gives_mid) last_here;
       }
 
       changed : ChangesOne a between.parts new.parts
@@ -448,7 +425,7 @@ module _ (C : Type 0) (state : C → CoreState) (t : Account) (r s : RunnerState
             same,
             (
               may_name mid answer root does.0 turned.quiet turned.gives steps answer steps.made.row,
-              sequence_so mid answer root does.0 turned.quiet turned.gives steps sequence sequence_is,
+              number mid answer root does.0 turned.quiet turned.gives steps sequence sequence_is,
               (file, (has.1, ap (λ (x : Root). with_name name x (with_doing t a Idle)) root_is)),
             ),
           );

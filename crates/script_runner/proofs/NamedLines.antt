@@ -1,12 +1,11 @@
 -- Lines over a core that was opened give what is named, on any disk.
-use Rattle.std.proofs.Common.{◌≡◌, inl, inr, ◌∙◌, ◌≤◌, ℕ, Bool, true, false, List, [], ◌∷◌, length, Option, Some, None, Ok, refl, sym, ap, subst}
+use Rattle.std.proofs.Common.{◌≡◌, inl, inr, ◌∙◌, ◌≤◌, ℕ, Bool, true, false, List, [], ◌∷◌, Option, Some, None, Ok, refl, sym, ap, subst}
 use Rattle.std.specs.FinMap as finite
 use Rattle.std.specs.List.{AllByRecursion}
 use Rattle.dd_disk.specs.Shows.{Shows}
 use Rattle.dd_disk.specs.View.{DiskView, IsLater}
 use Rattle.dd_disk.proofs.Later.{later_here, later_on}
 use Rattle.dd_disk.proofs.Shows.{until}
-use Rattle.actor_parts.specs.declared.part.Part as core_part
 use Rattle.actor_parts.specs.Parts.{part_of}
 use Rattle.actor_parts.specs.StepValue as asked
 use Rattle.namespace.specs.Names.{NameMap}
@@ -33,8 +32,9 @@ use Rattle.script_runner.specs.Named.{Account, AllTell, IsOfReopen, Refuses, Tel
 use Rattle.script_runner.specs.Scripts.{AreOfActors, RunsLines}
 use Rattle.script_runner.specs.Sessions.{Sessions, kind_in, session_of}
 use Rattle.script_runner.proofs.FaultsCounted.{line_went}
-use Rattle.script_runner.proofs.NamedAt.{At, AtPart, Told, at_opened, going, part_kind}
+use Rattle.script_runner.proofs.NamedAt.{At, Told, at_opened, at_still, going, part_kind}
 use Rattle.script_runner.proofs.NamedGiving.{abort_told, begin_told, commit_told, finish_told, push_told, turn_told}
+use Rattle.script_runner.proofs.NamedNames.{delete_told, list_told}
 use Rattle.script_runner.proofs.NamedSteps.{Stands, done_stands, quiet_step}
 use Rattle.script_runner.proofs.NamedTaking.{count_names, drop_told, next_told, read_told, stat_told}
 
@@ -148,20 +148,15 @@ module _ (C : Type 0) (state : C → CoreState) (v : DiskView) (t : Account) (r 
   }
     where
       kept : IsKept (state r.core) (state s.core) → IsLater (state r.core).disk (state s.core).disk → At t r.sessions (state s.core)
-      kept same on = record {
-        running = kept_runs (state r.core) (state s.core) on.size_is same at.running;
-        counts = record {
-          stands = stands_kept t.stopped (state r.core) (state s.core) same at.counts.stands;
-          acknowledged = same.counted ∙ at.counts.acknowledged;
-          names = ap (λ (tables : Tables). tables.names) same.tables_are ∙ at.counts.names;
-          records = ap (λ (tables : Tables). tables.journal.count) same.tables_are ∙ at.counts.records;
-          last = ap (λ (tables : Tables). tables.journal.last) same.tables_are ∙ at.counts.last;
-        };
-        sessions_are = at.sessions_are;
-        parts_are = ap (λ (parts : List core_part.Part). length parts) same.parts_are ∙ at.parts_are;
-        doing_are = at.doing_are;
-        each = λ actor below. subst (λ (parts : List core_part.Part). AtPart (doing_of t actor) (session_of r.sessions actor) (part_of parts actor)) (sym same.parts_are) (at.each actor below);
-      }
+      kept same on =
+          at_still t r.sessions (state r.core) at t r.sessions (state s.core) (kept_runs (state r.core) (state s.core) on.size_is same at.running)
+          (record {
+            stands = stands_kept t.stopped (state r.core) (state s.core) same at.counts.stands;
+            acknowledged = same.counted ∙ at.counts.acknowledged;
+            names = ap (λ (tables : Tables). tables.names) same.tables_are ∙ at.counts.names;
+            records = ap (λ (tables : Tables). tables.journal.count) same.tables_are ∙ at.counts.records;
+            last = ap (λ (tables : Tables). tables.journal.last) same.tables_are ∙ at.counts.last;
+          }) refl refl same.parts_are
 
   reopen_told : (reply : ReplyValue) → ActsReopen C state reply r s → LineTold C state (WasShown v (state s.core).disk) lines.Reopen reply t s
   reopen_told (replies.Opened files) acts = reopened files acts
@@ -178,6 +173,8 @@ module _ (C : Type 0) (state : C → CoreState) (v : DiskView) (t : Account) (r 
   acts_told (lines.Read a name) reply of admits acts = read_told C state t r s at a (of a refl) name reply admits acts
   acts_told (lines.Next a) reply of admits acts = next_told C state t r s at a (of a refl) reply admits acts
   acts_told (lines.Drop a) reply of admits acts = drop_told C state t r s at a (of a refl) reply admits acts
+  acts_told (lines.Delete name) reply of admits acts = delete_told C state t r s at name reply admits acts
+  acts_told lines.ListNames reply of admits acts = list_told C state t r s at reply admits acts
   acts_told lines.Stat reply of admits acts = stat_told C state t r s at reply admits acts
   acts_told lines.Reopen reply of admits acts = absurd acts
 

@@ -21,7 +21,6 @@ use Rattle.ingest_session.specs.declared.due.Due.TheVariants.{Claim, Seal, Nothi
 use Rattle.ingest_session.specs.Due.{due_in, open_of}
 use Rattle.ingest_session.specs.History.{History, HasHistory}
 use Rattle.ingest_session.specs.State.{SessionState}
-use Rattle.read_steps.specs.Counting.{counts_of}
 use Rattle.store_core.specs.declared.stop.Stop.{Stop}
 use Rattle.store_core.specs.Core.{ClaimRow, CoreStep, Effect, IsCount, IsUnclaimed, IsUnsealed, KeepsUnlessBroken, Row, SealRow, Steps, StepsOr, StopsAfter, counted}
 use Rattle.store_core.specs.State.{CoreState, Event, IsRunning, IsUp}
@@ -79,9 +78,10 @@ quiet_on actor old mid new first second = record {
   others = λ other differs. second.others other differs ∙ first.others other differs;
 }
 
--- every step but a commit that is done
+-- every step but a commit or a delete that is done
 abbrev pub PutsNone : StepValue → Result Answer Refusal → Type 0
 PutsNone (asked.Commit name root) (Ok answer) = ⊥
+PutsNone (asked.Delete name) (Ok answer) = ⊥
 PutsNone step answer = Unit {0}
 
 -- no damage is met by a seal: where the map is known none is
@@ -112,23 +112,27 @@ module _ (old new : CoreState) where
   names_on (asked.Seal filled) (Err refusal) none effect up = same_names (kept_tables refusal effect.kept)
   names_on (asked.Commit name root) (Ok answer) none effect up = absurd none
   names_on (asked.Commit name root) (Err refusal) none effect up = same_names effect.kept.tables_are
+  names_on (asked.Delete name) (Ok answer) none effect up = absurd none
+  names_on (asked.Delete name) (Err refusal) none effect up = same_names effect.kept.tables_are
+  names_on asked.ListNames answer none effect up = same_names effect.tables.tables_are
   names_on asked.Abort answer none effect up = same_names effect.tables.tables_are
   names_on (asked.OpenRead name) answer none effect up = same_names effect.tables.tables_are
   names_on asked.ReadNext answer none effect up = same_names effect.tables.tables_are
   names_on asked.EndRead answer none effect up = same_names effect.tables.tables_are
   names_on asked.Stat answer none effect up = same_names effect.tables.tables_are
 
-  -- a count of files is no commit
-  no_commit : (number : ℕ) → IsUp old → IsCount (answers.Committed number) old → ⊥
-  no_commit number up is =
+  -- a count of files is no commit, and no delete
+  counts_none : (answer : Answer) (count : ℕ) → IsUp old → IsCount answer old → counted (Ok answer) count ≡ count
+  counts_none answer count up is =
       let was = up.runs in
-      let same : answers.Committed number ≡ counts_of was.store = is.store_has was.store was.represents was.valid was.reserve_holds in
-      absurd cc
+      ap (λ (a : Answer). counted (Ok a) count) (is.store_has was.store was.represents was.valid was.reserve_holds)
 
   counted_on : (step : StepValue) (answer : Result Answer Refusal) (actor : ℕ) (buf : List ℕ) (count : ℕ) → PutsNone step answer → Row step actor answer buf old new → IsUp old → counted answer count ≡ count
   counted_on (asked.Commit name root) (Ok answer) actor buf count none row up = absurd none
-  counted_on asked.Stat (Ok (answers.Committed number)) actor buf count none row up = absurd (no_commit number up row.0)
+  counted_on (asked.Delete name) (Ok answer) actor buf count none row up = absurd none
+  counted_on asked.Stat (Ok answer) actor buf count none row up = counts_none answer count up row.0
   counted_on step (Ok (answers.Committed number)) actor buf count none row up = absurd row
+  counted_on step (Ok (answers.Deleted number)) actor buf count none row up = absurd row
   counted_on step answer actor buf count none row up = refl
 
   quiet_by : (e : Event) (stop : Option Stop) → old.stop ≡ stop → StepsOr stop e old new → PutsNone e.step e.answer → IsRunning old → IsRunning new → Quiet e.actor old new
@@ -163,6 +167,8 @@ module _ (old new : CoreState) where
   told_done (asked.Claim seg) answer effect told = same_told effect.tables.index_is told
   told_done (asked.Seal filled) answer effect told = effect.made.tells told.0 told.1
   told_done (asked.Commit name root) answer effect told = effect.made.tells told.0 told.1
+  told_done (asked.Delete name) answer effect told = effect.made.tells told.0 told.1
+  told_done asked.ListNames answer effect told = same_told effect.tables.index_is told
   told_done asked.Abort answer effect told = same_told effect.tables.index_is told
   told_done (asked.OpenRead name) answer effect told = same_told effect.tables.index_is told
   told_done asked.ReadNext answer effect told = same_told effect.tables.index_is told
@@ -178,6 +184,8 @@ module _ (old new : CoreState) where
   told_refused (asked.Claim seg) refusal stays stops effect told = same_told effect.tables.index_is told
   told_refused (asked.Seal filled) refusal stays stops effect told = same_told (seal_kept old new stays filled refusal old.acknowledged stops effect.kept).index_is told
   told_refused (asked.Commit name root) refusal stays stops effect told = same_told effect.kept.index_is told
+  told_refused (asked.Delete name) refusal stays stops effect told = same_told effect.kept.index_is told
+  told_refused asked.ListNames refusal stays stops effect told = same_told effect.tables.index_is told
   told_refused asked.Abort refusal stays stops effect told = same_told effect.tables.index_is told
   told_refused (asked.OpenRead name) refusal stays stops effect told = same_told effect.tables.index_is told
   told_refused asked.ReadNext refusal stays stops effect told = same_told effect.tables.index_is told

@@ -70,6 +70,7 @@ same_end (change ∷ rest) s t u one two = same_end rest (changed change s) t u 
 tried_same : (step : StepValue) (answer : Result Answer Refusal) (count : ℕ) (stop : Option Stop) (bytes : List ℕ) (stored : Stored) → stop ≡ None → StopsAfter step answer count stop
     → stored_tried step answer bytes stored ≡ stored_with step answer bytes stored
 tried_same (asked.Commit name root) (Err refusals.DiskWrite) count stop bytes stored none stops = absurd (let both = sym none ∙ stops in cc)
+tried_same (asked.Delete name) (Err refusals.DiskWrite) count stop bytes stored none stops = absurd (let both = sym none ∙ stops in cc)
 tried_same step answer count stop bytes stored none stops = refl
 
 module _ (C : Type 0) (state : C → CoreState) (among : ByteSet) (apart : HasNoCollisions (IsIn among)) (m : Machine) (sessions : Sessions) (old new : C)

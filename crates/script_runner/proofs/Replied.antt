@@ -22,6 +22,8 @@ goes_on (lines.Abort a) reply other = refl
 goes_on (lines.Read a name) reply other = refl
 goes_on (lines.Next a) reply other = refl
 goes_on (lines.Drop a) reply other = refl
+goes_on (lines.Delete name) reply other = refl
+goes_on lines.ListNames reply other = refl
 goes_on lines.Stat reply other = refl
 goes_on lines.Reopen reply other = absurd (other refl)
 
@@ -31,7 +33,7 @@ printed items (Ok t) reply none is = is
 printed items (Err e) reply none is = none
 
 module _ (C : Type 0) (state : C → CoreState) where
-  -- a line but a commit acknowledges none
+  -- a line but a commit or a delete acknowledges none
   pub plain_reply : (line : LineValue) (reply : ReplyValue) (r s : RunnerState C) → IsPlain line → Acts C state line reply r s → ¬ (IsAcknowledged reply)
   plain_reply line (replies.Committed b q) r s plain acts ack = by_line line plain acts
     where
@@ -45,6 +47,24 @@ module _ (C : Type 0) (state : C → CoreState) where
       by_line (lines.Read a name) p x = x
       by_line (lines.Next a) p x = p
       by_line (lines.Drop a) p x = x
+      by_line (lines.Delete name) p x = p
+      by_line lines.ListNames p x = p
+      by_line lines.Stat p x = x
+      by_line lines.Reopen p x = p
+  plain_reply line (replies.Deleted q) r s plain acts ack = by_line line plain acts
+    where
+      by_line : (l : LineValue) → IsPlain l → Acts C state l (replies.Deleted q) r s → ⊥
+      by_line (lines.Begin a) p x = x
+      by_line (lines.Push a digits) p x = x
+      by_line (lines.Finish a) p x = x
+      by_line (lines.Turn a) p x = x
+      by_line (lines.Commit a name) p x = p
+      by_line (lines.Abort a) p x = x
+      by_line (lines.Read a name) p x = x
+      by_line (lines.Next a) p x = p
+      by_line (lines.Drop a) p x = x
+      by_line (lines.Delete name) p x = p
+      by_line lines.ListNames p x = p
       by_line lines.Stat p x = x
       by_line lines.Reopen p x = p
   plain_reply line reply r s plain acts ack = ack
@@ -59,6 +79,8 @@ module _ (C : Type 0) (state : C → CoreState) where
   runs_so (lines.Read a name) reply r s other so = so
   runs_so (lines.Next a) reply r s other so = so
   runs_so (lines.Drop a) reply r s other so = so
+  runs_so (lines.Delete name) reply r s other so = so
+  runs_so lines.ListNames reply r s other so = so
   runs_so lines.Stat reply r s other so = so
   runs_so lines.Reopen reply r s other so = absurd (other refl)
 

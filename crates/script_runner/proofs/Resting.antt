@@ -2,6 +2,7 @@
 use Rattle.std.proofs.Common.{◌≡◌, ℕ, List, [], None, Result, Ok, Err, refl, subst, arith}
 use Rattle.base_model.specs.Fault.{Rose}
 use Rattle.base_model.specs.Known.{KnownWith}
+use Rattle.disk_format.specs.Cells.{Change}
 use Rattle.dd_disk.specs.Ending.{CountsFault, NoCall, ending_of}
 use Rattle.actor_parts.specs.declared.step.Answer.{Answer}
 use Rattle.actor_parts.specs.StepValue as asked
@@ -12,7 +13,7 @@ use Rattle.store_model.specs.Files.{Stored}
 use Rattle.store_model.specs.Image.{Store, Encodes}
 use Rattle.store_model.specs.Steps.{StoreChange}
 use Rattle.store_state.specs.Refused.{blames}
-use Rattle.store_core.specs.Core.{Effect, Rests, StopsAfter, counted}
+use Rattle.store_core.specs.Core.{Effect, NamesOne, Rests, StopsAfter, counted}
 use Rattle.store_core.specs.Frame.{AddsBytes}
 use Rattle.store_core.specs.Keeping.{kept_by}
 use Rattle.store_core.specs.Runs.{ChangesTo, FileEvent, changes_by, stored_with}
@@ -29,21 +30,25 @@ use Rattle.script_runner.proofs.OneStep.{Stepped}
 abbrev pub IsResting : StepValue → Type 0
 IsResting (asked.Seal filled) = ⊥
 IsResting (asked.Commit name root) = ⊥
+IsResting (asked.Delete name) = ⊥
 IsResting step = Unit {0}
 
 pub resting_changes : (step : StepValue) (answer : Result Answer Refusal) → IsResting step → changes_by step answer ≡ []
 resting_changes (asked.Seal filled) answer rests = absurd rests
 resting_changes (asked.Commit name root) answer rests = absurd rests
+resting_changes (asked.Delete name) answer rests = absurd rests
 resting_changes step answer rests = refl
 
 pub resting_stored : (step : StepValue) (answer : Result Answer Refusal) (bytes : List ℕ) (stored : Stored) → IsResting step → stored_with step answer bytes stored ≡ stored
 resting_stored (asked.Seal filled) answer bytes stored rests = absurd rests
 resting_stored (asked.Commit name root) answer bytes stored rests = absurd rests
+resting_stored (asked.Delete name) answer bytes stored rests = absurd rests
 resting_stored step answer bytes stored rests = refl
 
 pub refused_changes : (step : StepValue) (refusal : Refusal) → changes_by step (Err refusal) ≡ []
 refused_changes (asked.Seal filled) refusal = refl
 refused_changes (asked.Commit name root) refusal = refl
+refused_changes (asked.Delete name) refusal = refl
 refused_changes step refusal = refl
 
 pub refused_kept : (step : StepValue) (refusal : Refusal) → kept_by step (Err refusal) ≡ []
@@ -53,6 +58,7 @@ refused_kept step refusal = refl
 
 pub refused_stored : (step : StepValue) (refusal : Refusal) (bytes : List ℕ) (stored : Stored) → stored_with step (Err refusal) bytes stored ≡ stored
 refused_stored (asked.Commit name root) refusal bytes stored = refl
+refused_stored (asked.Delete name) refusal bytes stored = refl
 refused_stored step refusal bytes stored = refl
 
 pub refused_counted : (refusal : Refusal) (count : ℕ) → counted (Err refusal) count ≡ count
@@ -64,6 +70,7 @@ module _ (old new : CoreState) where
   pub rests_of : (step : StepValue) (answer : Result Answer Refusal) → IsResting step → Effect step answer old new → Rests answer old new
   rests_of (asked.Seal filled) answer rests effect = absurd rests
   rests_of (asked.Commit name root) answer rests effect = absurd rests
+  rests_of (asked.Delete name) answer rests effect = absurd rests
   rests_of step answer rests effect = effect
 
   pub rested : (answer : Result Answer Refusal) → Rests answer old new → new.disk.content ≡ old.disk.content
@@ -92,6 +99,8 @@ module _ (old new : CoreState) where
   refused_faults (asked.OpenRead name) refusal effect = effect.disk.faults_are
   refused_faults asked.ReadNext refusal effect = effect.disk.faults_are
   refused_faults asked.EndRead refusal effect = effect.disk.faults_are
+  refused_faults (asked.Delete name) refusal effect = effect.disk.faults_are
+  refused_faults asked.ListNames refusal effect = effect.disk.faults_are
   refused_faults asked.Stat refusal effect = effect.disk.faults_are
 
   -- and of any that was done
@@ -104,14 +113,16 @@ module _ (old new : CoreState) where
   done_faults (asked.OpenRead name) answer effect = effect.disk.faults_are
   done_faults asked.ReadNext answer effect = effect.disk.faults_are
   done_faults asked.EndRead answer effect = effect.disk.faults_are
+  done_faults (asked.Delete name) answer effect = effect.disk.faults_are
+  done_faults asked.ListNames answer effect = effect.disk.faults_are
   done_faults asked.Stat answer effect = effect.disk.faults_are
 
   -- ---- refused, and not stopped
 
-  -- a commit has only read
-  pub commit_rested : (name : List ℕ) (root : _) (refusal : Refusal) → new.stop ≡ None → StopsAfter (asked.Commit name root) (Err refusal) old.acknowledged new.stop → Effect (asked.Commit name root) (Err refusal) old new
+  -- a name that was to be changed has only been read
+  pub names_rested : (step : StepValue) (name : List ℕ) (change : Change) (refusal : Refusal) → new.stop ≡ None → StopsAfter step (Err refusal) old.acknowledged new.stop → NamesOne name change (Err refusal) old new
       → new.disk.content ≡ old.disk.content
-  commit_rested name root refusal stays stops effect = (only_reads old new stays (asked.Commit name root) refusal stops effect.disk.ends).content_is
+  names_rested step name change refusal stays stops effect = (only_reads old new stays step refusal stops effect.disk.ends).content_is
 
 -- where nothing was added, all before the end of the slots is as it was
 pub adds_none : (store : Store) (given now : List ℕ) → Encodes given store → AddsBytes store store given now → SameStore given now

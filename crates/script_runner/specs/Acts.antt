@@ -9,6 +9,7 @@ use Rattle.actor_parts.specs.declared.step.Answer.{Answer}
 use Rattle.actor_parts.specs.declared.step.Answer.TheVariants as answers
 use Rattle.actor_parts.specs.StepValue as asked
 use Rattle.actor_parts.specs.StepValue.{StepValue}
+use Rattle.namespace.specs.Listing.{NamedRoot}
 use Rattle.refusals.specs.declared.refusal.Refusal.{Refusal}
 use Rattle.refusals.specs.declared.refusal.Refusal.TheVariants.{Memory, Stopped, WrongPart}
 use Rattle.script_lines.specs.declared.reply.Holdings.{Holdings}
@@ -192,9 +193,33 @@ counted h = answers.Stat h.files h.segments h.bytes h.used h.free
 abbrev pub Counts : (C : Type 0) → (C → CoreState) → Holdings → C → C → Type 0
 Counts C state holdings old new = DoesStep 0 asked.Stat (counted holdings) (state old) (state new)
 
+-- ---- names
+
+-- a name is deleted, and the moment after it is noted; any actor would do
+abbrev pub DeletesName : List ℕ → List ℕ → List ℕ → CoreState → CoreState → Type 0
+DeletesName name moments moments_now old new =
+    ((answer : Answer) × DoesStep 0 (asked.Delete name) answer old new) × (moments_now ≡ moments ++ moment_of new ∷ [])
+
+-- That is `DeletesName`, with the number that the reply has.
+pub record Deletes (C : Type 0) (state : C → CoreState) (name : List ℕ) (sequence : ℕ) (moments moments_now : List ℕ) (old new : C)
+    : Type 0 where
+  pub answer : Answer
+  pub deleted : DoesStep 0 (asked.Delete name) answer (state old) (state new)
+  pub sequence_is : sequence ≡ min ((state old).tables.journal.last + 1) (2 ^ 64 - 1)
+  pub moments_are : moments_now ≡ moments ++ moment_of (state new) ∷ []
+
+-- or isn't
+abbrev pub RefusesDelete : (C : Type 0) → (C → CoreState) → List ℕ → Refusal → C → C → Type 0
+RefusesDelete C state name refusal old new =
+    ((refusal ≡ Memory) × (new ≡ old)) ⊎ RefusesStep 0 (asked.Delete name) refusal (state old) (state new)
+
+abbrev pub Lists : (C : Type 0) → (C → CoreState) → Result (List NamedRoot) Refusal → C → C → Type 0
+Lists C state (Ok files) old new = DoesStep 0 asked.ListNames (answers.Listed files) (state old) (state new)
+Lists C state (Err refusal) old new = RefusesStep 0 asked.ListNames refusal (state old) (state new)
+
 -- ---- an opening
 
--- the moments, and one more where the number is another: so a commit that was left open is found
+-- the moments, and one more where the number is another: so a commit or a delete that was left open is found
 abbrev pub noted_if : ℕ → ℕ → ℕ → List ℕ → List ℕ
 noted_if was now moment moments = if was == now then moments else moments ++ moment ∷ []
 
@@ -256,6 +281,11 @@ Acts C state (lines.Next a) (replies.End b) r s = (b ≡ a) × ((buf : List ℕ)
 Acts C state (lines.Next a) (replies.Refused refusal) r s = (buf : List ℕ) × Core C (GivesNext C state a (Err refusal) buf) r s
 Acts C state (lines.Drop a) (replies.Dropped b) r s = (b ≡ a) × Core C (Drops C state a (Ok tt)) r s
 Acts C state (lines.Drop a) (replies.Refused refusal) r s = Core C (Drops C state a (Err refusal)) r s
+Acts C state (lines.Delete name) (replies.Deleted sequence) r s =
+    Deletes C state name sequence r.moments s.moments r.core s.core × (s.sessions ≡ r.sessions)
+Acts C state (lines.Delete name) (replies.Refused refusal) r s = Core C (RefusesDelete C state name refusal) r s
+Acts C state lines.ListNames (replies.Listed files) r s = Core C (Lists C state (Ok files)) r s
+Acts C state lines.ListNames (replies.Refused refusal) r s = Core C (Lists C state (Err refusal)) r s
 Acts C state lines.Stat (replies.Stat holdings) r s = Core C (Counts C state holdings) r s
 Acts C state line reply r s = ⊥
 

@@ -86,7 +86,7 @@ pub record FollowsStopped (S : List ℕ → Type 0) (m : Machine) (c : CoreState
   pub last_is : c.tables.journal.last ≡ m.stored.last
   pub content : IsOfFound S m.state m.stored m.content
   pub images : (image : List ℕ) → c.disk.images image → IsOfFound S m.state m.stored image
-  -- the files that a commit may have left have the next number
+  -- the files that a commit or a delete may have left have the next number
   pub number : (other : Stored) → m.state ≡ Stopped (Some other) → other.last ≡ suc m.stored.last
 
 abbrev pub FollowsBy : RunState → (List ℕ → Type 0) → Machine → Sessions → CoreState → Type 0

@@ -1,5 +1,5 @@
 -- What lines give by name, on any disk, also one that tells nothing, or lies (docs/MODEL.md, 'Scripts').
-use Rattle.std.specs.Prelude.{◌≡◌, ◌≢◌, ◌⊎◌, ◌≤◌, ◌<◌, ℕ, suc, Bool, true, false, List, [], ◌∷◌, ◌++◌, length, replicate, slice_index_or, slice_set, sum_by, Some}
+use Rattle.std.specs.Prelude.{◌≡◌, ◌≢◌, ◌⊎◌, ◌≤◌, ◌<◌, ◌-◌, ◌^◌, ℕ, suc, Bool, true, false, List, [], ◌∷◌, ◌++◌, length, replicate, slice_index_or, slice_set, sum_by, IsSome, None, Some}
 use Rattle.std.specs.FinMap as finite
 use Rattle.std.specs.List.{AllByRecursion, list_any}
 use Rattle.disk_format.specs.Cells.{IsName, Root}
@@ -11,11 +11,12 @@ use Rattle.actor_parts.specs.declared.actor.TheConstants.{ACTORS}
 use Rattle.actor_parts.specs.Counts.{Counts}
 use Rattle.merkle_file.specs.declared.top.Top.{Top}
 use Rattle.merkle_file.specs.Walk.{start_of}
+use Rattle.namespace.specs.Listing.{listing_of}
 use Rattle.namespace.specs.Names.{HasRoom, IsFull, NameMap}
 use Rattle.refusals.specs.declared.refusal.PartKind.{PartKind}
 use Rattle.refusals.specs.declared.refusal.PartKind.TheVariants as kinds
 use Rattle.refusals.specs.declared.refusal.Refusal.{Refusal}
-use Rattle.refusals.specs.declared.refusal.Refusal.TheVariants.{Memory, BadName, TooMany, TooLong, Full, Clash, WrongPart, DiskRead, DiskWrite, Stopped, Corrupt, Missing, Numbers, NotAStore, Version, Damaged, Unpinned, WrongSize}
+use Rattle.refusals.specs.declared.refusal.Refusal.TheVariants.{Memory, NoFile, BadName, TooMany, TooLong, Full, Clash, WrongPart, DiskRead, DiskWrite, Stopped, Corrupt, Missing, Numbers, NotAStore, Version, Damaged, Unpinned, WrongSize}
 use Rattle.script_lines.specs.Grammar.{LineValue, pushed_bytes}
 use Rattle.script_lines.specs.Grammar as lines
 use Rattle.script_lines.specs.ReplyValue.{ReplyValue}
@@ -40,8 +41,8 @@ pub data Doing : Type 0 where
   -- it takes the file of this root: these segments were given since the `read`
   Reading : (root : Root) (segments : List (List ℕ)) → Doing
 
--- The names with their roots, how many records the journal has, and the number of the last commit; what each actor is at; and, since
--- the opening, how many commits were acknowledged, and whether a write or a sync failed.
+-- The names with their roots, how many records the journal has, and the number of the last command; what each actor is at; and, since
+-- the opening, how many commands were acknowledged, and whether a write or a sync failed.
 pub record Account : Type 0 where
   pub names : NameMap
   pub records : ℕ
@@ -95,11 +96,30 @@ with_name name root t = record t {
   acknowledged = one_more t.acknowledged;
 }
 
+-- a number is left, and this is it
+abbrev pub IsNumber : ℕ → Account → Type 0
+IsNumber sequence t = (t.last < 2 ^ 64 - 1) × (sequence ≡ suc t.last)
+
 -- the name has the root of the file that the actor has given
 abbrev pub Names : ℕ → List ℕ → ℕ → Account → Account → Type 0
 Names actor name sequence t u =
-    MayName name t × (sequence ≡ suc t.last)
+    MayName name t × IsNumber sequence t
     × ((file : List ℕ) × ((doing_of t actor ≡ Finished file) × (u ≡ with_name name (root_of file) (with_doing t actor Idle))))
+
+-- the name is there to be deleted, and the journal has a cell left
+pub record MayDelete (name : List ℕ) (t : Account) : Type 0 where
+  pub good : IsName name
+  pub there : IsSome (finite.get t.names name)
+  pub cell : t.records < half_cells
+
+-- the same, but that the name is gone, under the next number
+abbrev pub without_name : List ℕ → Account → Account
+without_name name t = record t {
+  names = finite.remove t.names name;
+  records = suc t.records;
+  last = suc t.last;
+  acknowledged = one_more t.acknowledged;
+}
 
 -- the file of the root that the name has now is to come, all of it
 abbrev pub Begins : ℕ → List ℕ → ℕ → Account → Account → Type 0
@@ -136,6 +156,8 @@ Agrees (lines.Next a) (replies.Bytes b bytes) t u = (b ≡ a) × GivesNamed a by
 Agrees (lines.Next a) (replies.End b) t u = (b ≡ a) × EndsWhole a t × (u ≡ t)
 Agrees (lines.Drop a) (replies.Dropped b) t u =
     (b ≡ a) × ((root : Root) × ((segments : List (List ℕ)) × (doing_of t a ≡ Reading root segments))) × (u ≡ with_doing t a Idle)
+Agrees (lines.Delete name) (replies.Deleted sequence) t u = MayDelete name t × IsNumber sequence t × (u ≡ without_name name t)
+Agrees lines.ListNames (replies.Listed files) t u = (files ≡ listing_of t.names) × (u ≡ t)
 Agrees lines.Stat (replies.Stat counted) t u = (counted.files ≡ finite.len t.names) × (u ≡ t)
 Agrees line reply t u = ⊥
 
@@ -174,6 +196,16 @@ IsOfNext next (Missing key) = key ≡ top_key next
 IsOfNext next (Damaged at why) = Unit {0}
 IsOfNext next refusal = ⊥
 
+-- why a name isn't deleted
+abbrev pub RefusesDelete : List ℕ → Refusal → Account → Type 0
+RefusesDelete name Memory t = Unit {0}
+RefusesDelete name BadName t = ¬ (IsName name)
+RefusesDelete name NoFile t = IsName name × (finite.get t.names name ≡ None)
+RefusesDelete name TooMany t = IsName name × IsSome (finite.get t.names name) × (half_cells ≤ t.records)
+RefusesDelete name Numbers t = MayDelete name t × (t.last ≡ 2 ^ 64 - 1)
+RefusesDelete name DiskWrite t = MayDelete name t × (t.last < 2 ^ 64 - 1)
+RefusesDelete name refusal t = ⊥
+
 -- Why a line whose actor is at what it takes is refused, and by nothing else. Of a turn the account can't say more than what it may
 -- be refused by, as that goes by what the disk holds or does. Want of memory is free, where the line takes any.
 abbrev pub RefusesOn : LineValue → Refusal → Account → Type 0
@@ -188,6 +220,8 @@ RefusesOn (lines.Commit a name) TooMany t = IsName name × (IsFull t.names name 
 RefusesOn (lines.Commit a name) refusal t = IsOfTurn refusal
 RefusesOn (lines.Read a name) refusal t = IsNameRefusal t.names name refusal
 RefusesOn (lines.Next a) refusal t = (next : Top) × (IsNext a next t × IsOfNext next refusal)
+RefusesOn (lines.Delete name) refusal t = RefusesDelete name refusal t
+RefusesOn lines.ListNames Memory t = Unit {0}
 RefusesOn line refusal t = ⊥
 
 -- the actor is at something else than the line takes

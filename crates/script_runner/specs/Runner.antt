@@ -40,9 +40,10 @@ Tells reply (Err Sink) sink sink_now = Sent (reply_line reply) (Err Sink) sink s
 Tells reply (Err (Refused Memory)) sink sink_now = sink_now ≡ sink
 Tells reply (Err ending) sink sink_now = ⊥
 
--- the reply that a commit was done: its memory is taken before
+-- the reply that a commit or a delete was done: its memory is taken before
 abbrev pub IsAcknowledged : ReplyValue → Type 0
 IsAcknowledged (replies.Committed actor sequence) = Unit {0}
+IsAcknowledged (replies.Deleted sequence) = Unit {0}
 IsAcknowledged reply = ⊥
 
 -- a `reopen` that was refused ends the script, once its reply is written
@@ -51,7 +52,7 @@ EndsBy lines.Reopen (replies.Refused refusal) ending = ending ≡ Refused refusa
 EndsBy line reply ending = ⊥
 
 -- What was sent, and how the line ended: it goes on; or the sink failed, the script ends, or there was no memory for the reply. The
--- line was run all the same, but never was a commit done without its reply for want of memory.
+-- line was run all the same, but never was a commit or a delete done without its reply for want of memory.
 abbrev pub SendsReply : LineValue → ReplyValue → Result Unit Ending → SinkView → SinkView → Type 0
 SendsReply line reply (Ok u) sink sink_now = (ends line reply ≡ false) × Wrote reply sink sink_now
 SendsReply line reply (Err Sink) sink sink_now = Sent (reply_line reply) (Err Sink) sink sink_now
@@ -65,7 +66,7 @@ pub record Replies (C : Type 0) (state : C → CoreState) (line : LineValue) (re
   pub runs : RunsLine C state line reply r s
   pub sends : SendsReply line reply result sink sink_now
 
--- a reply was printed; or there was no memory for it, and it doesn't acknowledge a commit
+-- a reply was printed; or there was no memory for it, and it acknowledges no commit and no delete
 abbrev pub Prints : {T E : Type 0} → (T → List ℕ) → Result T E → ReplyValue → Type 0
 Prints items (Ok text) reply = items text ≡ reply_line reply
 Prints items (Err e) reply = ¬ (IsAcknowledged reply)
@@ -90,10 +91,12 @@ abbrev pub IsRunnable : LineValue → Type 0
 IsRunnable (lines.Push a digits) = IsHex digits × (length digits ≤ 2 * MOST_PIECE)
 IsRunnable line = Unit {0}
 
--- a line whose reply is made once it was run, and lends no bytes
+-- a line whose reply is made once it was run, and lends nothing
 abbrev pub IsPlain : LineValue → Type 0
 IsPlain (lines.Commit a name) = ⊥
 IsPlain (lines.Next a) = ⊥
+IsPlain (lines.Delete name) = ⊥
+IsPlain lines.ListNames = ⊥
 IsPlain lines.Reopen = ⊥
 IsPlain line = Unit {0}
 

@@ -11,6 +11,7 @@ ghost use Rattle.script_runner.specs.Sessions.{Sessions, has_ended, session_of};
 
 use crate::admitting::admit;
 use crate::giving::{abort, begin, commit, finish, push, turn};
+use crate::naming::{delete, list};
 use crate::sessions::Sessions;
 use crate::taking::{count, end_read, open_read, read_next};
 use actor_parts::{Actor, SegBuf};
@@ -77,7 +78,9 @@ fn act<C: HasState>(
         Line::Stat => Ok(Reply::Stat {
             holdings: count(core, buf),
         }),
-        Line::Commit(_, _) | Line::Next(_) | Line::Reopen => unreachable!(),
+        Line::Commit(_, _) | Line::Next(_) | Line::Delete(_) | Line::List | Line::Reopen => {
+            unreachable!()
+        }
     }
 }
 
@@ -126,6 +129,43 @@ fn reply_commit<C: HasState>(
     }
 }
 
+// Deletes a name; the reply is made before.
+fn reply_delete<C: HasState>(
+    alloc: Global,
+    core: &mut C,
+    moments: &mut Vec<u64>,
+    name: &[u8],
+    buf: &mut SegBuf,
+) -> Result<Vec<u8>, AllocError>
+    requires running { IsRunning (C.state core.old) }
+    ensures made { (sessions : Sessions) → ActsWith C C.state (grammar.Delete name.now) (λ reply. Prints (λ text. text.items) result reply)
+        (runner_of core.old sessions moments.old.items) (runner_of core.new sessions moments.new.items) }
+    ensures running { IsRunning (C.state core.new) }
+{
+    match delete(alloc, core, moments, name, buf) {
+        Ok(text) => Ok(text),
+        Err(refusal) => print_reply(alloc, &Reply::Refused { refusal }),
+    }
+}
+
+// Lists the names, and makes the reply.
+fn reply_list<C: HasState>(
+    alloc: Global,
+    core: &mut C,
+    buf: &mut SegBuf,
+) -> Result<Vec<u8>, AllocError>
+    requires running { IsRunning (C.state core.old) }
+    requires runs { (C.state core.old).stop ≡ None }
+    ensures made { (sessions : Sessions) (moments : List ℕ) → ActsWith C C.state grammar.ListNames
+        (λ reply. Prints (λ text. text.items) result reply) (runner_of core.old sessions moments) (runner_of core.new sessions moments) }
+    ensures running { IsRunning (C.state core.new) }
+{
+    match list(core, buf) {
+        Ok(files) => print_reply(alloc, &Reply::Listed { files: &files }),
+        Err(refusal) => print_reply(alloc, &Reply::Refused { refusal }),
+    }
+}
+
 // Runs a line that was taken, and makes the reply then.
 fn reply_plain<C: HasState>(
     alloc: Global,
@@ -170,6 +210,8 @@ pub(crate) fn reply_to<C: HasState>(
             reply_commit(alloc, core, sessions, moments, actor, name, buf)
         }
         Line::Next(actor) => reply_next(alloc, core, actor, buf),
+        Line::Delete(name) => reply_delete(alloc, core, moments, name, buf),
+        Line::List => reply_list(alloc, core, buf),
         _ => reply_plain(alloc, core, sessions, line, buf),
     }
 }

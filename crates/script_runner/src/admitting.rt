@@ -25,7 +25,7 @@ fn actor_of(line: &Line<'_>) -> Option<Actor>
         Line::Read(actor, _) => Some(*actor),
         Line::Next(actor) => Some(*actor),
         Line::Drop(actor) => Some(*actor),
-        Line::Stat | Line::Reopen => None,
+        Line::Delete(_) | Line::List | Line::Stat | Line::Reopen => None,
     }
 }
 

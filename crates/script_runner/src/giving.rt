@@ -2,21 +2,21 @@
 ghost use Rattle.std.specs.Prelude.{◌≡◌, ◌*◌, ◌<◌, ◌≤◌, false, true, length, vec_len, vec_capacity, Some, IsSome, IfOk, OnOk, OnErr, IfErr, option_map};
 ghost use Rattle.actor_parts.specs.StepValue as asked;
 ghost use Rattle.script_lines.specs.Grammar.{IsHex, pushed_bytes};
-ghost use Rattle.script_lines.specs.ReplyText.{reply_line};
 ghost use Rattle.script_lines.specs.ReplyValue.{Committed};
 ghost use Rattle.store_core.specs.State.{IsRunning};
 ghost use Rattle.script_runner.specs.Acts.{Aborts, Begins, Commits, Finishes, GivesRoot, IsText, Pushes, Puts, RefusesCommit, RefusesPut, RefusesStep, Settles, Turns, turned};
 ghost use Rattle.script_runner.specs.Sessions.{has_ended, session_of};
 ghost use Rattle.session_turns.specs.Turns.{TurnsStopped};
 
+use crate::naming::prepare;
 use crate::sessions::Sessions;
 use actor_parts::{Actor, Answer, SegBuf, Step};
 use ingest_session::Session;
 use namespace::Root;
 use refusals::Refusal;
-use script_lines::{Reply, Turned, decode_into, print_reply};
+use script_lines::{Reply, Turned, decode_into};
 use session_turns::{MOST_PIECE, feed, make_turn, make_turns};
-use std::alloc::{AllocError, Global};
+use std::alloc::Global;
 use store_core::HasState;
 
 /// Begins a file.
@@ -139,22 +139,6 @@ fn settle<C: HasState>(
     }
 }
 
-// Takes the memory for the reply and for the moment.
-fn prepare(
-    alloc: Global,
-    moments: &mut Vec<u64>,
-    actor: Actor,
-    sequence: u64,
-) -> Result<Vec<u8>, AllocError>
-    ensures text { IfOk result (λ text. text.items ≡ reply_line (Committed actor sequence)) }
-    ensures room { OnOk result (vec_len moments.new < vec_capacity moments.new) }
-    ensures kept { moments.new.items ≡ moments.old.items }
-{
-    let reply = print_reply(alloc, &Reply::Committed { actor, sequence })?;
-    moments.reserve(1)?;
-    Ok(reply)
-}
-
 // Gives a name the root, and notes the moment, for which there is room.
 fn put_root<C: HasState>(
     core: &mut C,
@@ -198,7 +182,7 @@ fn put<C: HasState>(
 {
     let root = settle(core, session, actor, buf)?;
     let sequence = core.last_sequence().saturating_add(1);
-    let reply = prepare(alloc, moments, actor, sequence)?;
+    let reply = prepare(alloc, moments, &Reply::Committed { actor, sequence })?;
     put_root(core, moments, actor, name, &root, buf)?;
     Ok(reply)
 }

@@ -29,8 +29,8 @@ pub fn an_opened_core_follows<D: Disk, C: HasState>()
 
 /// Over a core that was opened just now, on any disk, also one that tells nothing, or lies, lines give what is named: `read` opens the root
 /// that its name has then, `next` gives the segments that the tree of that root names, one after the other, and ends where they are as long
-/// as that root says. A name has the root of what was committed under it last, or that of the store which the last opening read. The
-/// function does nothing.
+/// as that root says. A name has the root of what was committed under it last, or that of the store which the last opening read, unless
+/// it was deleted since; and `list` gives these roots. The function does nothing.
 pub fn lines_give_what_is_named<D: Disk, C: HasState>()
     ensures { LinesGiveWhatIsNamed D D.view C C.state }
 {}

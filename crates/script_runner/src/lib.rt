@@ -5,6 +5,7 @@ mod acting;
 mod admitting;
 mod giving;
 mod laws;
+mod naming;
 mod reopening;
 mod runner;
 mod sessions;

@@ -10,8 +10,8 @@ use refusals::Refusal;
 use std::alloc::Global;
 use store_core::HasState;
 
-/// Opens the store again: all actors end. It says how many names there are. Where a commit that was left open is found, the moment is
-/// noted; its memory is taken before.
+/// Opens the store again: all actors end. It says how many names there are. Where a commit or a delete that was left open is found,
+/// the moment is noted; its memory is taken before.
 pub(crate) fn reopen<C: HasState>(
     alloc: Global,
     core: &mut C,

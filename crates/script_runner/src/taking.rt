@@ -58,8 +58,8 @@ pub(crate) fn end_read<C: HasState>(
     Ok(())
 }
 
-// The actor that counts: any would do.
-fn first() -> Actor
+/// The actor of lines that have none: any would do.
+pub(crate) fn first() -> Actor
     ensures { result ≡ 0 }
 {
     match Actor::new(0) {

@@ -2,8 +2,9 @@
 use actor_parts::Answer;
 use container_meta::digest_of;
 use dd_io::MemSink;
+use namespace::Listing;
 use refusals::{PartKind, Refusal};
-use reply_text::{Ending, write_fault};
+use reply_text::{Ending, listing_text, write_fault};
 use std::alloc::{AllocError, Global};
 
 /// What a step answered, with what the buffer then holds.
@@ -30,6 +31,8 @@ fn done_text(alloc: Global, answer: &Answer, buf: &[u8]) -> Result<String, Alloc
         Answer::Bytes { count } => bytes_text(alloc, buf.get(..*count as usize).unwrap_or(&[])),
         Answer::End => "end".to_string(alloc),
         Answer::Dropped => "dropped".to_string(alloc),
+        Answer::Deleted { sequence } => format!(in alloc; "deleted {sequence}"),
+        Answer::Listed { files } => listed_text(alloc, files),
         Answer::Stat {
             files,
             segments,
@@ -40,6 +43,19 @@ fn done_text(alloc: Global, answer: &Answer, buf: &[u8]) -> Result<String, Alloc
             "stat files {files} segments {segments} bytes {bytes} used {used} free {free}"
         ),
     }
+}
+
+// The lines of a listing, parted by commas.
+fn listed_text(alloc: Global, files: &Listing) -> Result<String, AllocError> {
+    let lines = listing_text(alloc, files)?;
+    let mut text = String::new(alloc);
+    for line in std::str::from_utf8(&lines).unwrap_or("?").lines() {
+        if !text.is_empty() {
+            text.push_str(", ")?;
+        }
+        text.push_str(line)?;
+    }
+    Ok(text)
 }
 
 // Where they are more than 64, their number and digest.

@@ -23,6 +23,7 @@
 //!
 //!     begin A        claim A NAME        seal A NAME..        commit A FILE NAME        abort A
 //!     read A FILE    next A              drop A               stat                      kind A
+//!     delete FILE    list
 //!     reopen         close               lie PLACE BYTE (opens over a disk that reads so)
 //!     calls (how many there were since the mark)
 #![tactic(auto)]

@@ -19,7 +19,8 @@ pub(crate) fn answer<D: Disk>(
 ) -> Result<String, Fault> {
     let words = words_of(alloc, text)?;
     match words.as_slice() {
-        ["stat"] => plain(alloc, core, "stat", actor_of("0")?),
+        [word] => plain(alloc, core, word, actor_of("0")?),
+        ["delete", file] => delete(alloc, core, names, file),
         [word, actor] => plain(alloc, core, word, actor_of(actor)?),
         [word, actor, rest @ ..] => with_words(alloc, core, names, word, actor_of(actor)?, rest),
         _ => Err(Fault::Line),
@@ -39,10 +40,22 @@ fn plain<D: Disk>(
         "next" => Step::ReadNext,
         "drop" => Step::EndRead,
         "stat" => Step::Stat,
+        "list" => Step::List,
         "kind" => return Ok(core.kind(alloc, actor)?),
         _ => return Err(Fault::Line),
     };
     Ok(core.make(alloc, actor, step)?)
+}
+
+// Which actor deletes doesn't matter, and the row names none.
+fn delete<D: Disk>(
+    alloc: Global,
+    core: &mut Running<Core<D, NoSummary>>,
+    names: &[Named],
+    file: &str,
+) -> Result<String, Fault> {
+    let file = piece_of(alloc, names, file)?;
+    Ok(core.make(alloc, actor_of("0")?, Step::Delete { name: &file })?)
 }
 
 fn with_words<D: Disk>(

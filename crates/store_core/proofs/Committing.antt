@@ -1,65 +1,82 @@
--- What a commit makes of a core.
+-- What a commit or a delete makes of a core.
 use Rattle.std.proofs.Common.{◌≡◌, ℕ, List, length, Option, Some, Ok, sym, ◌∙◌, subst, ap}
 use Rattle.base_model.specs.Known.{Known, KnownWith}
 use Rattle.base_model.specs.Frames.{SameOutside}
-use Rattle.disk_format.specs.Cells.{Root}
+use Rattle.disk_format.specs.Cells.{Change, Root}
+use Rattle.disk_format.specs.Cells.Change.{Delete, Put}
 use Rattle.disk_format.specs.Layout.{cell_at}
 use Rattle.disk_format.specs.declared.numbers.TheConstants.{CELL_BYTES}
 use Rattle.container_meta.specs.Places.{PlaceMap}
 use Rattle.dd_disk.specs.View.{IsLater, IsDurable}
 use Rattle.dd_disk.specs.Ending.{Done, Reads}
 use Rattle.dd_disk.specs.Moves.{Acts}
+use Rattle.actor_parts.specs.declared.step.Answer.{Answer}
 use Rattle.actor_parts.specs.declared.step.Answer.TheVariants as answers
 use Rattle.actor_parts.specs.StepValue as asked
 use Rattle.store_model.specs.Image.{Store, Encodes, IsValidFor}
-use Rattle.store_model.specs.Steps.{PutName, KeepsCopies, with_put}
-use Rattle.store_model.proofs.PutRoots.{put_newest}
-use Rattle.store_model.proofs.Valid.{valid_put}
+use Rattle.store_model.specs.Steps.{ChangeName, KeepsCopies, with_change}
+use Rattle.store_model.proofs.NameChanges.{newest_on}
+use Rattle.store_model.proofs.Valid.{valid_change}
 use Rattle.store_state.specs.declared.tables.Tables.{Tables}
 use Rattle.store_state.specs.Tables.{Represents, Runs}
-use Rattle.ingest_steps.specs.Naming.{IsNamed, PutsRoot, KeepsButNext, ChangesNextAlone}
+use Rattle.ingest_steps.specs.Naming.{IsChanged, IsDeleted, ChangesName, KeepsButNext, ChangesNextAlone}
 use Rattle.ingest_steps.specs.Writers.{IsCommitted}
 use Rattle.read_steps.specs.Readers as readers
-use Rattle.store_core.specs.Core.{Makes, Made, GivesHeld}
+use Rattle.store_core.specs.Core.{Makes, Made, NamesOne, GivesHeld}
 use Rattle.store_core.specs.State.{CoreState}
 
-module _ (old new : CoreState) (name : List ℕ) (root : Root) (sequence : ℕ) (named : IsNamed old.tables name root new.tables sequence) (later : IsLater old.disk new.disk) (index : new.known ≡ old.known) where
-  pub makes_put : Makes (PutName name root) old new
-  makes_put = record {
-    can = record { store_has = λ store represents valid reserve. (named.can store represents.names_are, named.root_right) };
-    represents = record { store_has = λ store represents valid reserve. subst (λ (known : Option PlaceMap). Represents (with_put name root store) known new.tables) (sym index) (named.represents store old.known represents) };
-    valid = record { store_has = λ store represents valid reserve. subst (λ (size : ℕ). IsValidFor size (with_put name root store)) (sym later.size_is) (valid_put old.disk.size name root store valid (named.can store represents.names_are) named.root_right) };
+module _ (old new : CoreState) (name : List ℕ) (change : Change) (sequence : ℕ) (named : IsChanged old.tables name change new.tables sequence) (later : IsLater old.disk new.disk) (index : new.known ≡ old.known) where
+  pub makes_change : Makes (ChangeName name change) old new
+  makes_change = record {
+    can = record { store_has = λ store represents valid reserve. (named.can store represents.names_are, named.right) };
+    represents = record { store_has = λ store represents valid reserve. subst (λ (known : Option PlaceMap). Represents (with_change name change store) known new.tables) (sym index) (named.represents store old.known represents) };
+    valid = record { store_has = λ store represents valid reserve. subst (λ (size : ℕ). IsValidFor size (with_change name change store)) (sym later.size_is) (valid_change old.disk.size name change store valid (named.can store represents.names_are) named.right) };
     tells = λ places is. (places, index ∙ is);
     runs = λ runs. subst (λ (size : ℕ). Runs size new.known new.tables) (sym later.size_is) (subst (λ (known : Option PlaceMap). Runs old.disk.size known new.tables) (sym index) (named.runs old.disk.size old.known runs));
   }
 
   -- what is held goes on
-  pub put_copies : KeepsButNext old.tables.journal old.disk new.disk → (store : Store) → Represents store old.known old.tables
-      → Known old.disk.content (λ before. Encodes before store → KnownWith new.disk.content (KeepsCopies store before (with_put name root store)))
-  put_copies keeps store represents before told right =
+  pub change_copies : KeepsButNext old.tables.journal old.disk new.disk → (store : Store) → Represents store old.known old.tables
+      → Known old.disk.content (λ before. Encodes before store → KnownWith new.disk.content (KeepsCopies store before (with_change name change store)))
+  change_copies keeps store represents before told right =
       let kept = keeps before told in
       let can = named.can store represents.names_are in (
         kept.0,
         kept.1,
-        put_newest before kept.0 store right can.cell
+        newest_on before kept.0 store right can.cell
             (subst (λ (half : ℕ). SameOutside (cell_at half (length store.records)) CELL_BYTES before kept.0) represents.names_are.half
             (subst (λ (count : ℕ). SameOutside (cell_at old.tables.journal.half count) CELL_BYTES before kept.0) represents.names_are.count kept.2)),
       )
 
+-- of the disk and of the tables, by either
+change_effect : (name : List ℕ) (change : Change) (sequence : ℕ) (answer : Answer) (old new : CoreState) → IsChanged old.tables name change new.tables sequence
+    → Acts Done old.disk new.disk → ChangesName old.tables name change Done old.disk new.disk → KeepsButNext old.tables.journal old.disk new.disk
+    → ChangesNextAlone old.tables.journal old.disk new.disk → IsDurable new.disk → new.known ≡ old.known → NamesOne name change (Ok answer) old new
+change_effect name change sequence answer old new changed acts moves keeps frame durable index = record {
+  disk = acts;
+  moves = moves;
+  frame = frame;
+  durable = durable;
+  made = makes_change old new name change sequence changed acts.later index;
+  copies = change_copies old new name change sequence changed acts.later index keeps;
+  kept = tt;
+}
+
 pub made_put : (name : List ℕ) (root : Root) (actor sequence : ℕ) (buf : List ℕ) (old new : CoreState) → IsCommitted old.parts actor old.tables name root new.parts new.tables sequence → Acts Done old.disk new.disk
-    → PutsRoot old.tables name root Done old.disk new.disk → KeepsButNext old.tables.journal old.disk new.disk → ChangesNextAlone old.tables.journal old.disk new.disk → IsDurable new.disk → new.known ≡ old.known → (old.served → new.served)
+    → ChangesName old.tables name (Put root) Done old.disk new.disk → KeepsButNext old.tables.journal old.disk new.disk → ChangesNextAlone old.tables.journal old.disk new.disk → IsDurable new.disk → new.known ≡ old.known → (old.served → new.served)
     → Made (asked.Commit name root) actor (Ok (answers.Committed sequence)) buf old new
 made_put name root actor sequence buf old new committed acts moves keeps frame durable index served = record {
   row = (committed.may, committed.named.number, committed.parts_are, ap (λ (t : Tables). t.held.last_id) committed.named.tables_are);
-  effect = record {
-    disk = acts;
-    moves = moves;
-    frame = frame;
-    durable = durable;
-    made = makes_put old new name root sequence committed.named acts.later index;
-    copies = put_copies old new name root sequence committed.named acts.later index keeps;
-    kept = tt;
-  };
+  effect = change_effect name (Put root) sequence (answers.Committed sequence) old new committed.named acts moves keeps frame durable index;
+  served = served;
+}
+
+pub made_delete : (name : List ℕ) (actor sequence : ℕ) (buf : List ℕ) (old new : CoreState) → IsDeleted old.tables name new.tables sequence → new.parts ≡ old.parts → Acts Done old.disk new.disk
+    → ChangesName old.tables name Delete Done old.disk new.disk → KeepsButNext old.tables.journal old.disk new.disk → ChangesNextAlone old.tables.journal old.disk new.disk → IsDurable new.disk → new.known ≡ old.known → (old.served → new.served)
+    → Made (asked.Delete name) actor (Ok (answers.Deleted sequence)) buf old new
+made_delete name actor sequence buf old new deleted parts acts moves keeps frame durable index served = record {
+  row = (deleted.may, deleted.changed.number, parts, ap (λ (t : Tables). t.held.last_id) deleted.changed.tables_are);
+  effect = change_effect name Delete sequence (answers.Deleted sequence) old new deleted.changed acts moves keeps frame durable index;
   served = served;
 }
 

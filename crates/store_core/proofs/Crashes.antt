@@ -3,7 +3,8 @@ use Rattle.std.proofs.Common.{◌≡◌, ◌⊎◌, inl, inr, ℕ, List, [], ◌
 use Rattle.dd_disk.specs.View.{OnlyReads, CrashLeaves}
 use Rattle.dd_disk.proofs.Later.{reads_here, reads_leave, leaves_on, leaves_weaker}
 use Rattle.container_meta.specs.Segments.{Contents}
-use Rattle.disk_format.specs.Cells.{Root}
+use Rattle.disk_format.specs.Cells.{Change, Root}
+use Rattle.disk_format.specs.Cells.Change.{Delete, Put}
 use Rattle.actor_parts.specs.declared.step.Answer.{Answer}
 use Rattle.actor_parts.specs.StepValue as asked
 use Rattle.actor_parts.specs.StepValue.{StepValue, IsStep}
@@ -11,11 +12,12 @@ use Rattle.refusals.specs.declared.refusal.Refusal.{Refusal}
 use Rattle.refusals.specs.declared.refusal.Refusal.TheVariants as refusals
 use Rattle.store_model.specs.Collisions.{HasNoCollisions, ByteSet, IsIn, Stands}
 use Rattle.store_model.specs.Image.{Store, last_sequence}
-use Rattle.store_model.specs.Steps.{with_sealed, with_put}
-use Rattle.store_model.specs.Files.{with_file, Stored}
-use Rattle.store_model.proofs.PutRoots.{last_put}
+use Rattle.store_model.specs.Steps.{with_sealed, with_change}
+use Rattle.store_model.specs.Files.{Stored, with_file, with_stored, without_file, without_stored}
+use Rattle.store_model.specs.Files as files
+use Rattle.store_model.proofs.NameChanges.{last_changed}
 use Rattle.store_core.specs.declared.stop.Stop.{Stop}
-use Rattle.store_core.specs.Core.{Effect, SealsOne, PutsOne, StepsOr, StopsAfter, next_id}
+use Rattle.store_core.specs.Core.{Effect, SealsOne, NamesOne, StepsOr, StopsAfter, next_id}
 use Rattle.store_core.specs.Runs.{FileEvent, FileStep, FileRun, IsAt, IsOf, IsOnTheWay, IsGivenRight, IsRootOf, SurvivesCrashes, SurvivesSince, KeepsAcknowledged, stored_with, stored_by, stored_after, stored_tried, stored_tried_by, events_of, EndsWithAll}
 use Rattle.store_core.specs.State.{CoreState}
 use Rattle.store_core.proofs.CoreRuns.{stopped_reads, core_run}
@@ -39,8 +41,8 @@ module _ (among : ByteSet) (s : Store) (stored : Stored) (old new : CoreState) (
   abbrev last_here : last_sequence s ≡ stored.last
   last_here = last_at (IsIn among) s stored old at
 
-  last_more : (name : List ℕ) (root : Root) → last_sequence (with_put name root s) ≡ suc stored.last
-  last_more name root = last_put name root s ∙ ap suc last_here
+  last_more : (name : List ℕ) (change : Change) → last_sequence (with_change name change s) ≡ suc stored.last
+  last_more name change = last_changed name change s ∙ ap suc last_here
 
   of_old : (c : List ℕ) → old.disk.images c → IsOf S stored c
   of_old c is = (s, (at.stands.each c is, last_here))
@@ -57,22 +59,50 @@ module _ (among : ByteSet) (s : Store) (stored : Stored) (old new : CoreState) (
       (effect.moves.moves among s stored.files at.index at.index_known at.represents distinct (may_seal_all S filled.kind filled.segments right.1 given) at.stands).leaves
 
   -- of a commit that came to its first write
-  put_leaves : (name : List ℕ) (root : Root) (answer : Result Answer Refusal) → PutsOne name root answer old new → IsRootOf root bytes old
-      → CrashLeaves (λ c. Stands S s stored.files c ⊎ Stands S (with_put name root s) (with_file stored.files name bytes) c) old.disk new.disk
+  put_leaves : (name : List ℕ) (root : Root) (answer : Result Answer Refusal) → NamesOne name (Put root) answer old new → IsRootOf root bytes old
+      → CrashLeaves (λ c. Stands S s stored.files c ⊎ Stands S (with_change name (Put root) s) (with_file stored.files name bytes) c) old.disk new.disk
   put_leaves name root answer effect given =
       let tree = given.tree s at.represents in
-      (effect.moves.moves among s stored.files bytes at.represents.names_are given.root_is (record { known = at.stands.known; each = λ c is. (at.stands.each c is, tree.each c is) })).leaves
+      subst (λ (r : Root). CrashLeaves (λ c. Stands S s stored.files c ⊎ Stands S (with_change name (Put r) s) (with_file stored.files name bytes) c) old.disk new.disk) (sym given.root_is)
+      (effect.moves.moves among s stored.files (files.Put name bytes) at.represents.names_are refl (ap Put given.root_is)
+      (record { known = at.stands.known; each = λ c is. (at.stands.each c is, tree.each c is) })).leaves
 
-  by_commit : (name : List ℕ) (root : Root) (answer : Result Answer Refusal) → PutsOne name root answer old new → IsGivenRight S (asked.Commit name root) answer bytes old
+  -- images of the store, or of that with a change, are of the files before or after
+  either_way : (name : List ℕ) (change : Change) (after : Stored) (step : StepValue) (answer : Result Answer Refusal) → stored_tried step answer bytes stored ≡ after
+      → after.last ≡ suc stored.last
+      → CrashLeaves (λ c. Stands S s stored.files c ⊎ Stands S (with_change name change s) after.files c) old.disk new.disk
+      → CrashLeaves (Either S step answer bytes stored) old.disk new.disk
+  either_way name change after step answer tried last leaves =
+      leaves_weaker (λ c. Stands S s stored.files c ⊎ Stands S (with_change name change s) after.files c) (Either S step answer bytes stored) old.disk new.disk
+      (λ c stands. elim stands [
+        | inl is ↦ inl (s, (is, last_here))
+        | inr is ↦ inr (subst (λ (m : Stored). IsOf S m c) (sym tried) (with_change name change s, (is, last_more name change ∙ sym last)))
+      ]) leaves
+
+  by_commit : (name : List ℕ) (root : Root) (answer : Result Answer Refusal) → NamesOne name (Put root) answer old new → IsGivenRight S (asked.Commit name root) answer bytes old
       → CrashLeaves (Either S (asked.Commit name root) answer bytes stored) old.disk new.disk
   by_commit name root (Ok answer) effect given =
-      leaves_weaker (λ c. Stands S s stored.files c ⊎ Stands S (with_put name root s) (with_file stored.files name bytes) c) (Either S (asked.Commit name root) (Ok answer) bytes stored) old.disk new.disk
-      (λ c stands. elim stands [ inl is ↦ inl (s, (is, last_here)) | inr is ↦ inr (with_put name root s, (is, last_more name root)) ]) (put_leaves name root (Ok answer) effect given)
+      either_way name (Put root) (with_stored stored name bytes) (asked.Commit name root) (Ok answer) refl refl (put_leaves name root (Ok answer) effect given)
   by_commit name root (Err refusals.DiskWrite) effect given =
-      leaves_weaker (λ c. Stands S s stored.files c ⊎ Stands S (with_put name root s) (with_file stored.files name bytes) c) (Either S (asked.Commit name root) (Err refusals.DiskWrite) bytes stored) old.disk new.disk
-      (λ c stands. elim stands [ inl is ↦ inl (s, (is, last_here)) | inr is ↦ inr (with_put name root s, (is, last_more name root)) ]) (put_leaves name root (Err refusals.DiskWrite) effect given)
+      either_way name (Put root) (with_stored stored name bytes) (asked.Commit name root) (Err refusals.DiskWrite) refl refl (put_leaves name root (Err refusals.DiskWrite) effect given)
   by_commit name root (Err refusals.DiskRead) effect given = by_reads (asked.Commit name root) (Err refusals.DiskRead) effect.disk.ends
   by_commit name root (Err refusal) effect given = by_reads (asked.Commit name root) (Err refusal) effect.disk.ends
+
+  -- of a delete
+  delete_leaves : (name : List ℕ) (answer : Result Answer Refusal) → NamesOne name Delete answer old new
+      → CrashLeaves (λ c. Stands S s stored.files c ⊎ Stands S (with_change name Delete s) (without_file stored.files name) c) old.disk new.disk
+  delete_leaves name answer effect =
+      (effect.moves.moves among s stored.files (files.Delete name) at.represents.names_are refl refl
+      (record { known = at.stands.known; each = λ c is. (at.stands.each c is, tt) })).leaves
+
+  by_delete : (name : List ℕ) (answer : Result Answer Refusal) → NamesOne name Delete answer old new
+      → CrashLeaves (Either S (asked.Delete name) answer bytes stored) old.disk new.disk
+  by_delete name (Ok answer) effect =
+      either_way name Delete (without_stored stored name) (asked.Delete name) (Ok answer) refl refl (delete_leaves name (Ok answer) effect)
+  by_delete name (Err refusals.DiskWrite) effect =
+      either_way name Delete (without_stored stored name) (asked.Delete name) (Err refusals.DiskWrite) refl refl (delete_leaves name (Err refusals.DiskWrite) effect)
+  by_delete name (Err refusals.DiskRead) effect = by_reads (asked.Delete name) (Err refusals.DiskRead) effect.disk.ends
+  by_delete name (Err refusal) effect = by_reads (asked.Delete name) (Err refusal) effect.disk.ends
 
   by_effect : (step : StepValue) (answer : Result Answer Refusal) → Effect step answer old new → IsStep step → IsGivenRight S step answer bytes old → CrashLeaves (Either S step answer bytes stored) old.disk new.disk
   by_effect asked.Begin answer effect right given = by_reads asked.Begin answer effect.disk.only
@@ -83,6 +113,8 @@ module _ (among : ByteSet) (s : Store) (stored : Stored) (old new : CoreState) (
   by_effect (asked.OpenRead name) answer effect right given = by_reads (asked.OpenRead name) answer effect.disk.only
   by_effect asked.ReadNext answer effect right given = by_reads asked.ReadNext answer effect.disk.only
   by_effect asked.EndRead answer effect right given = by_reads asked.EndRead answer effect.disk.only
+  by_effect (asked.Delete name) answer effect right given = by_delete name answer effect
+  by_effect asked.ListNames answer effect right given = by_reads asked.ListNames answer effect.disk.only
   by_effect asked.Stat answer effect right given = by_reads asked.Stat answer effect.disk.only
 
   by_stop : (stop : Option Stop) (f : FileEvent) → f.bytes ≡ bytes → StepsOr stop f.event old new → IsStep f.event.step → IsGivenRight S f.event.step f.event.answer bytes old
@@ -159,6 +191,8 @@ put_none asked.Abort at bytes stored = refl
 put_none (asked.OpenRead name) at bytes stored = refl
 put_none asked.ReadNext at bytes stored = refl
 put_none asked.EndRead at bytes stored = refl
+put_none (asked.Delete name) at bytes stored = refl
+put_none asked.ListNames at bytes stored = refl
 put_none asked.Stat at bytes stored = refl
 
 tried_none : (step : StepValue) (at : ℕ) (bytes : List ℕ) (stored : Stored) → stored_tried step (Err (refusals.Stopped at)) bytes stored ≡ stored
@@ -170,11 +204,14 @@ tried_none asked.Abort at bytes stored = refl
 tried_none (asked.OpenRead name) at bytes stored = refl
 tried_none asked.ReadNext at bytes stored = refl
 tried_none asked.EndRead at bytes stored = refl
+tried_none (asked.Delete name) at bytes stored = refl
+tried_none asked.ListNames at bytes stored = refl
 tried_none asked.Stat at bytes stored = refl
 
 -- where a step didn't stop the core, what it tried is what it did
 tried_same : (step : StepValue) (answer : Result Answer Refusal) (count : ℕ) (stop : Option Stop) (bytes : List ℕ) (stored : Stored) → stop ≡ None → StopsAfter step answer count stop → stored_tried step answer bytes stored ≡ stored_with step answer bytes stored
 tried_same (asked.Commit name root) (Err refusals.DiskWrite) count stop bytes stored none stops = absurd (let both = sym none ∙ stops in cc)
+tried_same (asked.Delete name) (Err refusals.DiskWrite) count stop bytes stored none stops = absurd (let both = sym none ∙ stops in cc)
 tried_same step answer count stop bytes stored none stops = refl
 
 put_refused : (step : StepValue) (refusal : Refusal) (bytes : List ℕ) (stored : Stored) → stored_with step (Err refusal) bytes stored ≡ stored
@@ -186,12 +223,15 @@ put_refused asked.Abort refusal bytes stored = refl
 put_refused (asked.OpenRead name) refusal bytes stored = refl
 put_refused asked.ReadNext refusal bytes stored = refl
 put_refused asked.EndRead refusal bytes stored = refl
+put_refused (asked.Delete name) refusal bytes stored = refl
+put_refused asked.ListNames refusal bytes stored = refl
 put_refused asked.Stat refusal bytes stored = refl
 
 -- what stopped the core put no file
 stop_puts_none : (step : StepValue) (answer : Result Answer Refusal) (count : ℕ) (stop : Option Stop) (s : Stop) (bytes : List ℕ) (stored : Stored) → stop ≡ Some s → StopsAfter step answer count stop → stored_with step answer bytes stored ≡ stored
 stop_puts_none (asked.Seal filled) (Ok answer) count stop s bytes stored is stops = refl
 stop_puts_none (asked.Commit name root) (Ok answer) count stop s bytes stored is stops = absurd (let both = sym is ∙ stops in cc)
+stop_puts_none (asked.Delete name) (Ok answer) count stop s bytes stored is stops = absurd (let both = sym is ∙ stops in cc)
 stop_puts_none step (Ok answer) count stop s bytes stored is stops = refl
 stop_puts_none step (Err refusal) count stop s bytes stored is stops = put_refused step refusal bytes stored
 

@@ -1,5 +1,5 @@
 -- No step of a run finds damage, and names are found as they are.
-use Rattle.std.proofs.Common.{◌≡◌, ◌≢◌, ◌<◌, ℕ, zero, suc, List, [], ◌∷◌, length, get_or, Option, Some, None, option_map, Result, Ok, Err, IfErr, refl, sym, ◌∙◌, ap, subst, arith}
+use Rattle.std.proofs.Common.{◌≡◌, ◌≢◌, ◌<◌, ℕ, zero, suc, List, [], ◌∷◌, length, get_or, Option, Some, None, IsSome, option_map, Result, Ok, Err, IfErr, refl, sym, ◌∙◌, ap, subst, arith, rules}
 use Rattle.std.specs.FinMap as finite
 use Rattle.std.specs.List.{AllByRecursion}
 use Rattle.sha2.specs.Sha256.{sha256}
@@ -13,6 +13,7 @@ use Rattle.container_meta.specs.Format.{kind_byte}
 use Rattle.container_meta.specs.Segments.{Segment, KindSegment, Contents, segment_at}
 use Rattle.disk_format.specs.Cells.{Root}
 use Rattle.merkle_file.specs.declared.top.Top.{Top}
+use Rattle.namespace.specs.Listing.{listing_of}
 use Rattle.namespace.specs.Names.{NameMap}
 use Rattle.namespace.specs.declared.record.Named.{Named}
 use Rattle.actor_parts.specs.declared.step.Answer.{Answer}
@@ -32,12 +33,13 @@ use Rattle.store_model.specs.Standing.{IsFileOf}
 use Rattle.store_model.specs.Trees.{bytes_at, root_of}
 use Rattle.store_model.proofs.Copies.{copy_digest}
 use Rattle.store_model.proofs.HeldSlots.{newest_so, IsNodeEntry, nodes_so, IsAmongThese, among_so}
+use Rattle.store_model.proofs.Listed.{listed_as_files}
 use Rattle.store_model.proofs.Roots.{length_of_copy}
 use Rattle.store_state.specs.Comparing.{IsUnlike}
 use Rattle.read_steps.specs.Readers.{IsStuck}
 use Rattle.read_steps.specs.Walking.{IsHeldAnswer}
 use Rattle.store_core.specs.declared.stop.Stop.{Stop}
-use Rattle.store_core.specs.Core.{Row, ClaimRow, SealRow, CommitRow, OpenRow, ReadRow, EndRow, IsAtOther, IsNotGiven, StepsOr}
+use Rattle.store_core.specs.Core.{Row, ClaimRow, SealRow, CommitRow, OpenRow, ReadRow, EndRow, DeleteRow, ListRow, IsAtOther, IsNotGiven, StepsOr}
 use Rattle.store_core.specs.Runs.{FileEvent, FileStep, FileRun, IsAt, IsGivenRight, stored_after}
 use Rattle.store_core.specs.Sound.{HasTwin, IsTwin, MayClash, IsHarmless, NeverDamaged, FindsFile, FindsFiles}
 use Rattle.store_core.specs.State.{CoreState}
@@ -46,6 +48,10 @@ use Rattle.store_core.proofs.OwnParts.{stuck_held}
 
 some_one : {A : Type 0} (x y : A) → Some x ≡ Some y → x ≡ y
 some_one x y same = cc
+
+some_named : {A : Type 0} (o : Option A) → IsSome o → (x : A) × (o ≡ Some x)
+some_named None is = absurd (search rules)
+some_named (Some x) is = (x, refl)
 
 -- the copy whose place the index has
 pub record HasCopy (found : Option Copy) (place : Place) : Type 0 where
@@ -206,6 +212,17 @@ module _ (among : ByteSet) (s : Store) (stored : Stored) (old new : CoreState) (
     open_harmless name (refusals.Damaged at_byte why) row = absurd row.0.1
     open_harmless name refusal row = tt
 
+    delete_harmless : (name : List ℕ) (refusal : Refusal) → DeleteRow name (Err refusal) old new → IsHarmless ⊥ refusal
+    delete_harmless name (refusals.Clash key d) row = absurd row.0
+    delete_harmless name (refusals.Corrupt slot offset count want got) row = absurd row.0
+    delete_harmless name (refusals.Missing key) row = absurd row.0
+    delete_harmless name (refusals.Damaged at_byte why) row = absurd row.0
+    delete_harmless name refusal row = tt
+
+    list_harmless : (refusal : Refusal) → ListRow (Err refusal) old new → IsHarmless ⊥ refusal
+    list_harmless refusals.Memory row = tt
+    list_harmless refusal row = absurd row
+
     end_harmless : (refusal : Refusal) → EndRow actor (Err refusal) old new → IsHarmless ⊥ refusal
     end_harmless (refusals.Clash key d) row = absurd row
     end_harmless (refusals.Corrupt slot offset count want got) row = absurd row
@@ -236,6 +253,8 @@ module _ (among : ByteSet) (s : Store) (stored : Stored) (old new : CoreState) (
     step_harmless (asked.OpenRead name) refusal given row = open_harmless name refusal row
     step_harmless asked.ReadNext refusal given row = read_harmless refusal row
     step_harmless asked.EndRead refusal given row = end_harmless refusal row
+    step_harmless (asked.Delete name) refusal given row = delete_harmless name refusal row
+    step_harmless asked.ListNames refusal given row = list_harmless refusal row
     step_harmless asked.Stat refusal given row = absurd row
 
     pub answer_harmless : (step : StepValue) (answer : Result Answer Refusal) → IsGivenRight (IsIn among) step answer bytes old → Row step actor answer buf old new
@@ -271,8 +290,33 @@ module _ (among : ByteSet) (s : Store) (stored : Stored) (old new : CoreState) (
         unnamed_file (named_of name) (finite.get stored.files name) (ap (λ (names : NameMap). finite.get names name) (sym same_names) ∙ row.0.1.1) (stands_here.holds.files_are name)
     open_finds name answer row = tt
 
+    -- a name that is there has a file
+    has_file : (name : List ℕ) → IsSome (finite.get old.tables.names name) → (bytes : List ℕ) × (finite.get stored.files name ≡ Some bytes)
+    has_file name is =
+        let there = some_named (finite.get old.tables.names name) is in
+        let file = named_file (named_of name) (finite.get stored.files name) there.0 (ap (λ (names : NameMap). finite.get names name) (sym same_names) ∙ there.1) (stands_here.holds.files_are name) in
+        (file.0, file.1.0)
+
+    delete_finds : (name : List ℕ) (answer : Result Answer Refusal) → DeleteRow name answer old new → FindsFile stored.files (asked.Delete name) answer
+    delete_finds name (Ok (answers.Deleted sequence)) row = has_file name row.0.there
+    delete_finds name (Ok answer) row = absurd row
+    delete_finds name (Err refusals.NoFile) row =
+        unnamed_file (named_of name) (finite.get stored.files name) (ap (λ (names : NameMap). finite.get names name) (sym same_names) ∙ row.0.1) (stands_here.holds.files_are name)
+    delete_finds name (Err refusals.TooMany) row = has_file name row.0.1
+    delete_finds name (Err refusals.Numbers) row = has_file name row.0.0.there
+    delete_finds name (Err refusals.DiskWrite) row = has_file name row.0.0.there
+    delete_finds name (Err refusal) row = tt
+
+    list_finds : (answer : Result Answer Refusal) → ListRow answer old new → FindsFile stored.files asked.ListNames answer
+    list_finds (Ok (answers.Listed listed)) row =
+        row.0 ∙ ap listing_of same_names ∙ listed_as_files s.held (names_of s) image stored.files stands_here.holds.files_are
+    list_finds (Ok answer) row = absurd row
+    list_finds (Err refusal) row = tt
+
     pub step_finds : (step : StepValue) (answer : Result Answer Refusal) → Row step actor answer buf old new → FindsFile stored.files step answer
     step_finds (asked.OpenRead name) answer row = open_finds name answer row
+    step_finds (asked.Delete name) answer row = delete_finds name answer row
+    step_finds asked.ListNames answer row = list_finds answer row
     step_finds step answer row = tt
 
 -- ---- a run
@@ -283,6 +327,8 @@ stopped_harmless step answer at is = subst (λ (a : Result Answer Refusal). IfEr
 
 stopped_finds : (files : Files) (step : StepValue) (at : ℕ) → FindsFile files step (Err (refusals.Stopped at))
 stopped_finds files (asked.OpenRead name) at = tt
+stopped_finds files (asked.Delete name) at = tt
+stopped_finds files asked.ListNames at = tt
 stopped_finds files step at = tt
 
 module _ (C : Type 0) (state : C → CoreState) where

@@ -6,7 +6,8 @@ use Rattle.base_model.specs.Bytes.{range}
 use Rattle.base_model.specs.Frames.{SameOutside}
 use Rattle.base_model.specs.Known.{KnownWith}
 use Rattle.disk_format.specs.declared.numbers.TheConstants.{CELL_BYTES, SLOT_BYTES, FIRST_HALF}
-use Rattle.disk_format.specs.Cells.{Root}
+use Rattle.disk_format.specs.Cells.{Change, Root}
+use Rattle.disk_format.specs.Cells.Change.{Delete, Put}
 use Rattle.disk_format.specs.Layout.{half_cells, cell_at, slot_at}
 use Rattle.dd_disk.specs.Ending.{ending_of}
 use Rattle.dd_disk.specs.View.{IsLater, OnlyReads, CrashLeaves, SteppedFrom}
@@ -26,7 +27,7 @@ use Rattle.refusals.specs.declared.refusal.Refusal.TheVariants as refusals
 use Rattle.store_model.specs.Files.{Stored}
 use Rattle.store_model.specs.Image.{Store, IsValidFor}
 use Rattle.store_model.specs.Slots.{free_slots, first_free, with_slot}
-use Rattle.store_model.specs.Steps.{StoreChange, SealContainer, PutName, changed, put_of, with_put}
+use Rattle.store_model.specs.Steps.{StoreChange, SealContainer, ChangeName, changed, record_of, with_change}
 use Rattle.store_model.proofs.Filled.{free_less}
 use Rattle.store_state.specs.declared.tables.Tables.{Tables}
 use Rattle.store_state.specs.Refused.{blames}
@@ -34,7 +35,7 @@ use Rattle.store_state.specs.Settled.{IsSettled, Left}
 use Rattle.store_state.specs.Tables.{Represents}
 use Rattle.ingest_steps.specs.Sealing.{ChangesSlotAlone, SameButSlotOf}
 use Rattle.store_core.specs.declared.stop.Stop.{Stop}
-use Rattle.store_core.specs.Core.{CoreStep, Steps, StepsOr, StopsAfter, Row, Effect, Rests, SealsOne, PutsOne, KeepsTables}
+use Rattle.store_core.specs.Core.{CoreStep, DeleteRow, Steps, StepsOr, StopsAfter, Row, Effect, Rests, SealsOne, NamesOne, KeepsTables}
 use Rattle.store_core.specs.Frame.{IsOn, KeepsBytes, AddsBytes, KeepsWritten, AddsAlone, WrittenStays}
 use Rattle.store_core.specs.Runs.{ChangesTo, CoreRun, FileEvent, IsAt, changes_by, changes_of, events_of}
 use Rattle.store_core.specs.State.{CoreState, Event}
@@ -219,20 +220,27 @@ module _ (s : Store) (base : List ℕ) (t : Store) (old new : CoreState) (framed
       keeps_put s base end Stays d keeps old.tables.journal.half old.tables.journal.count c (framed.on.represents.names_are.half ∙ framed.half_is) few
       (omega (arith, framed.on.represents.names_are.count, framed.more)) before room same
 
-  by_put : (name : List ℕ) (root : Root) (answer : Result Answer Refusal) → PutsOne name root answer old new → old.tables.journal.count < half_cells → CrashLeaves Written old.disk new.disk
-  by_put name root answer effect room =
+  by_name : (name : List ℕ) (change : Change) (answer : Result Answer Refusal) → NamesOne name change answer old new → old.tables.journal.count < half_cells → CrashLeaves Written old.disk new.disk
+  by_name name change answer effect room =
       leaves_weaker (SteppedFrom SameButOne old.disk) Written old.disk new.disk
       (λ c from. elim from [
         | inl image ↦ image_written c image
         | inr step ↦ next_keeps half_cells Was room room step.0 c (image_written step.0 step.1) step.2
       ]) (effect.frame.leaves given known)
 
-  by_commit : (name : List ℕ) (root : Root) (actor : ℕ) (buf : List ℕ) (answer : Result Answer Refusal) → Row (asked.Commit name root) actor answer buf old new → PutsOne name root answer old new → CrashLeaves Written old.disk new.disk
-  by_commit name root actor buf (Ok (answers.Committed sequence)) row effect = by_put name root (Ok (answers.Committed sequence)) effect row.0.may_name.cell
+  by_commit : (name : List ℕ) (root : Root) (actor : ℕ) (buf : List ℕ) (answer : Result Answer Refusal) → Row (asked.Commit name root) actor answer buf old new → NamesOne name (Put root) answer old new → CrashLeaves Written old.disk new.disk
+  by_commit name root actor buf (Ok (answers.Committed sequence)) row effect = by_name name (Put root) (Ok (answers.Committed sequence)) effect row.0.may_name.cell
   by_commit name root actor buf (Ok answer) row effect = absurd row
-  by_commit name root actor buf (Err refusals.DiskWrite) row effect = by_put name root (Err refusals.DiskWrite) effect row.0.0.may_name.cell
+  by_commit name root actor buf (Err refusals.DiskWrite) row effect = by_name name (Put root) (Err refusals.DiskWrite) effect row.0.0.may_name.cell
   by_commit name root actor buf (Err refusals.DiskRead) row effect = by_reads effect.disk.ends
   by_commit name root actor buf (Err refusal) row effect = by_reads effect.disk.ends
+
+  by_delete : (name : List ℕ) (answer : Result Answer Refusal) → DeleteRow name answer old new → NamesOne name Delete answer old new → CrashLeaves Written old.disk new.disk
+  by_delete name (Ok (answers.Deleted sequence)) row effect = by_name name Delete (Ok (answers.Deleted sequence)) effect row.0.cell
+  by_delete name (Ok answer) row effect = absurd row
+  by_delete name (Err refusals.DiskWrite) row effect = by_name name Delete (Err refusals.DiskWrite) effect row.0.0.cell
+  by_delete name (Err refusals.DiskRead) row effect = by_reads effect.disk.ends
+  by_delete name (Err refusal) row effect = by_reads effect.disk.ends
 
   by_effect : (actor : ℕ) (buf : List ℕ) (step : StepValue) (answer : Result Answer Refusal) → Row step actor answer buf old new → Effect step answer old new → CrashLeaves Written old.disk new.disk
   by_effect actor buf asked.Begin answer row effect = by_reads effect.disk.only
@@ -243,6 +251,8 @@ module _ (s : Store) (base : List ℕ) (t : Store) (old new : CoreState) (framed
   by_effect actor buf (asked.OpenRead name) answer row effect = by_reads effect.disk.only
   by_effect actor buf asked.ReadNext answer row effect = by_reads effect.disk.only
   by_effect actor buf asked.EndRead answer row effect = by_reads effect.disk.only
+  by_effect actor buf (asked.Delete name) answer row effect = by_delete name answer row effect
+  by_effect actor buf asked.ListNames answer row effect = by_reads effect.disk.only
   by_effect actor buf asked.Stat answer row effect = by_reads effect.disk.only
 
   step_leaves : (e : Event) (stop : Option Stop) → StepsOr stop e old new → CrashLeaves Written old.disk new.disk
@@ -345,20 +355,20 @@ module _ (s : Store) (base : List ℕ) (t : Store) (old new : CoreState) (framed
         subst (λ (n : ℕ). Leads s base (SealContainer n filled.kind filled.segments ∷ []) t new) (sym id_is) next
 
     -- a record is added
-    puts : (name : List ℕ) (root : Root) (answer : Answer) → PutsOne name root (Ok answer) old new → old.tables.journal.count < half_cells → IsSettled old.tables.slots new.disk → Leads s base (PutName name root ∷ []) t new
-    puts name root answer effect room calm =
+    names : (name : List ℕ) (change : Change) (answer : Answer) → NamesOne name change (Ok answer) old new → old.tables.journal.count < half_cells → IsSettled old.tables.slots new.disk → Leads s base (ChangeName name change ∷ []) t new
+    names name change answer effect room calm =
         let made = effect.made in
         let represents = made.represents.store_has t framed.on.represents framed.on.valid framed.on.reserve in
-        let longer : length (with_put name root t).records ≡ length t.records + 1 = length-append t.records (put_of name root t ∷ []) in
+        let longer : length (with_change name change t).records ≡ length t.records + 1 = length-append t.records (record_of name change t ∷ []) in
         let now = effect.disk.later.tells given known in
-        let end : ℕ = length (with_put name root t).records in
+        let end : ℕ = length (with_change name change t).records in
         let adds = λ (c : List ℕ) (image : old.disk.images c). keeps_fewer s base (length t.records) Same c (image_adds c image) end Same (omega (arith, longer)) (λ slot same. same) in
         let at_end = λ (c : List ℕ) (from : SteppedFrom SameButOne old.disk c). elim from as (λ _. KeepsBytes s end Same base c) [
           | inl image ↦ adds c image
           | inr step ↦ next_keeps end Same room (omega (arith, longer, framed.on.represents.names_are.count)) step.0 c (adds step.0 step.1) step.2
         ] in
         record {
-          after = with_put name root t;
+          after = with_change name change t;
           chain = (made.can.store_has t framed.on.represents framed.on.valid framed.on.reserve, refl);
           framed = record {
             on = record {
@@ -383,7 +393,7 @@ module _ (s : Store) (base : List ℕ) (t : Store) (old new : CoreState) (framed
     leads actor buf (asked.Seal filled) (Ok answer) row effect stops calm = absurd row
     leads actor buf (asked.Seal filled) (Err refusal) row effect stops calm =
         still (seal_kept old new stays filled refusal old.acknowledged stops effect.kept) effect.disk.later (unsealed_counts filled refusal stops effect.disk.later effect.disk.left) calm
-    leads actor buf (asked.Commit name root) (Ok (answers.Committed sequence)) row effect stops calm = puts name root (answers.Committed sequence) effect row.0.may_name.cell calm
+    leads actor buf (asked.Commit name root) (Ok (answers.Committed sequence)) row effect stops calm = names name (Put root) (answers.Committed sequence) effect row.0.may_name.cell calm
     leads actor buf (asked.Commit name root) (Ok answer) row effect stops calm = absurd row
     leads actor buf (asked.Commit name root) (Err refusal) row effect stops calm =
         still effect.kept effect.disk.later (reads_count (only_reads old new stays (asked.Commit name root) refusal stops effect.disk.ends)) calm
@@ -391,6 +401,11 @@ module _ (s : Store) (base : List ℕ) (t : Store) (old new : CoreState) (framed
     leads actor buf (asked.OpenRead name) answer row effect stops calm = rests answer effect calm
     leads actor buf asked.ReadNext answer row effect stops calm = rests answer effect calm
     leads actor buf asked.EndRead answer row effect stops calm = rests answer effect calm
+    leads actor buf (asked.Delete name) (Ok (answers.Deleted sequence)) row effect stops calm = names name Delete (answers.Deleted sequence) effect row.0.cell calm
+    leads actor buf (asked.Delete name) (Ok answer) row effect stops calm = absurd row
+    leads actor buf (asked.Delete name) (Err refusal) row effect stops calm =
+        still effect.kept effect.disk.later (reads_count (only_reads old new stays (asked.Delete name) refusal stops effect.disk.ends)) calm
+    leads actor buf asked.ListNames answer row effect stops calm = rests answer effect calm
     leads actor buf asked.Stat answer row effect stops calm = rests answer effect calm
 
     step_leads : (e : Event) → Steps e old new → Leads s base (changes_by e.step e.answer) t new

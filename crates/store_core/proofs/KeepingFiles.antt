@@ -2,6 +2,7 @@
 use Rattle.std.proofs.Common.{◌≡◌, ◌⊎◌, inl, inr, ◌≤◌, ℕ, List, [], ◌∷◌, ◌++◌, Option, Some, None, Result, Ok, Err, refl, sym, ◌∙◌, subst, ap, suc}
 use Rattle.std.specs.List.{AllByRecursion}
 use Rattle.disk_format.specs.Cells.{Root}
+use Rattle.disk_format.specs.Cells.Change.{Delete, Put}
 use Rattle.dd_disk.specs.View.{DiskView, IsLater, OnlyReads}
 use Rattle.dd_disk.specs.Ending.{ending, ending_of}
 use Rattle.dd_disk.specs.Moves.{StandsFor, Moved, Arrives, Ends}
@@ -21,16 +22,17 @@ use Rattle.actor_parts.specs.StepValue.{StepValue, IsStep}
 use Rattle.refusals.specs.declared.refusal.Refusal.{Refusal}
 use Rattle.refusals.specs.declared.refusal.Refusal.TheVariants as refusals
 use Rattle.store_model.specs.Collisions.{HasNoCollisions, ByteSet, IsIn, IsAmong, Stands}
-use Rattle.store_model.specs.Files.{Stored, with_stored}
+use Rattle.store_model.specs.Files.{Stored, with_stored, without_stored}
+use Rattle.store_model.specs.Files as files
 use Rattle.store_model.specs.Image.{Store, IsValidFor, last_sequence}
 use Rattle.disk_format.specs.declared.numbers.TheConstants.{RESERVE}
 use Rattle.store_model.specs.Slots.{IsIndexOf, free_slots}
-use Rattle.store_model.specs.Steps.{StoreChange, SealContainer, PutName, MaySeal, KeepsCopies, changed, with_sealed, with_put}
+use Rattle.store_model.specs.Steps.{StoreChange, SealContainer, ChangeName, MaySeal, KeepsCopies, changed, with_sealed, with_change}
 use Rattle.store_state.specs.declared.tables.Tables.{Tables}
 use Rattle.store_state.specs.Invariant.{HoldsPart}
 use Rattle.store_state.specs.Refused.{blames}
 use Rattle.store_state.specs.Tables.{Represents}
-use Rattle.store_model.proofs.PutRoots.{last_put}
+use Rattle.store_model.proofs.NameChanges.{last_changed}
 use Rattle.store_state.proofs.Parts.{part_kept, parts_kept}
 use Rattle.ingest_steps.specs.Sealing.{KeepsHeld, sealing_indexed}
 use Rattle.store_core.specs.declared.stop.Stop.{Stop}
@@ -38,7 +40,7 @@ use Rattle.store_core.specs.Core.{Row, Effect, Rests, SealsOne, Makes, KeepsTabl
 use Rattle.store_core.specs.Runs.{FileEvent, FileStep, FileRun, IsAt, ChangesTo, changes_by, changes_of, events_of, KeepsFiles, IsGivenRight, stored_with, stored_by}
 use Rattle.store_core.specs.State.{CoreState}
 use Rattle.store_core.proofs.CoreRuns.{runs_before, core_run}
-use Rattle.store_core.proofs.OwnParts.{all_part, all_own, own_begin, own_claim, own_abort, own_open, own_read, own_drop, own_set, own_stat, own_refused}
+use Rattle.store_core.proofs.OwnParts.{all_part, all_own, own_begin, own_claim, own_abort, own_open, own_read, own_drop, own_set, own_stat, own_list, own_refused}
 use Rattle.store_core.proofs.Stepping.{ChangesOne, row_one}
 
 -- where a step leads, by these changes
@@ -280,17 +282,37 @@ module _ (among : ByteSet) (s : Store) (stored : Stored) (old new : CoreState) (
   commit_next : (name : List ℕ) (root : Root) (answer : Result Answer Refusal) → Goes (asked.Commit name root) answer
   commit_next name root (Ok (answers.Committed sequence)) row effect stops right given =
       let tree = given.tree s at.represents in
-      let moved = effect.moves.moves among s stored.files bytes at.represents.names_are given.root_is (record { known = at.stands.known; each = λ c is. (at.stands.each c is, tree.each c is) }) in
+      let moved = effect.moves.moves among s stored.files (files.Put name bytes) at.represents.names_are refl (ap Put given.root_is) (record { known = at.stands.known; each = λ c is. (at.stands.each c is, tree.each c is) }) in
       let copies = effect.copies s at.represents image here stands_here.holds.right in
-      makes among s stored old new actor at (row_one actor buf old new (asked.Commit name root) (Ok (answers.Committed sequence)) row) (PutName name root) (with_stored stored name bytes) (last_put name root s ∙ ap suc last_here) effect.made effect.disk.later moved.arrives
+      makes among s stored old new actor at (row_one actor buf old new (asked.Commit name root) (Ok (answers.Committed sequence)) row) (ChangeName name (Put root)) (with_stored stored name bytes) (last_changed name (Put root) s ∙ ap suc last_here) effect.made effect.disk.later
+      (subst (λ (r : Root). StandsFor (Stands (IsIn among) (with_change name (Put r) s) (with_stored stored name bytes).files) new.disk) (sym given.root_is) moved.arrives)
       (λ after is. (
-        subst (KeepsCopies s image (with_put name root s)) (one_some copies.0 after (sym copies.1 ∙ is)) copies.2,
+        subst (KeepsCopies s image (with_change name (Put root) s)) (one_some copies.0 after (sym copies.1 ∙ is)) copies.2,
         subst (λ (parts : List Part). HoldsPart s.held after (part_of parts actor)) (sym row.2) (own_set (HoldsPart s.held after) old.parts actor Idle tt tt),
       ))
   commit_next name root (Err refusal) row effect stops right given =
       rests among s stored old new actor at (row_one actor buf old new (asked.Commit name root) (Err refusal) row) effect.kept
       (only_reads old new stays (asked.Commit name root) refusal stops effect.disk.ends) (own_still row.1)
   commit_next name root answer row effect stops right given = absurd row
+
+  -- a name that is deleted
+  delete_next : (name : List ℕ) (answer : Result Answer Refusal) → Goes (asked.Delete name) answer
+  delete_next name (Ok (answers.Deleted sequence)) row effect stops right given =
+      let moved = effect.moves.moves among s stored.files (files.Delete name) at.represents.names_are refl refl (record { known = at.stands.known; each = λ c is. (at.stands.each c is, tt) }) in
+      let copies = effect.copies s at.represents image here stands_here.holds.right in
+      makes among s stored old new actor at (row_one actor buf old new (asked.Delete name) (Ok (answers.Deleted sequence)) row) (ChangeName name Delete) (without_stored stored name) (last_changed name Delete s ∙ ap suc last_here) effect.made effect.disk.later
+      moved.arrives
+      (λ after is.
+      let kept = subst (KeepsCopies s image (with_change name Delete s)) (one_some copies.0 after (sym copies.1 ∙ is)) copies.2 in
+      (kept, part_kept s (with_change name Delete s) image after kept (part_of new.parts actor) (own_still row.2)))
+  delete_next name (Err refusal) row effect stops right given =
+      rests among s stored old new actor at (row_one actor buf old new (asked.Delete name) (Err refusal) row) effect.kept
+      (only_reads old new stays (asked.Delete name) refusal stops effect.disk.ends) (own_still row.1)
+  delete_next name answer row effect stops right given = absurd row
+
+  list_next : (answer : Result Answer Refusal) → Goes asked.ListNames answer
+  list_next answer row effect stops right given =
+      rests_by asked.ListNames answer row effect (own_list among s stored.files image at.index actor buf old new here at.index_known newest_index at.represents.names_are.names_are stands_here distinct holds answer row)
 
   pub step_next : (step : StepValue) (answer : Result Answer Refusal) → Goes step answer
   step_next asked.Begin answer = begin_next answer
@@ -301,6 +323,8 @@ module _ (among : ByteSet) (s : Store) (stored : Stored) (old new : CoreState) (
   step_next (asked.OpenRead name) answer = open_next name answer
   step_next asked.ReadNext answer = read_next answer
   step_next asked.EndRead answer = drop_next answer
+  step_next (asked.Delete name) answer = delete_next name answer
+  step_next asked.ListNames answer = list_next answer
   step_next asked.Stat answer = stat_next answer
 
 -- ---- a run

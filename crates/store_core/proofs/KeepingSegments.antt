@@ -24,7 +24,7 @@ use Rattle.store_model.specs.Collisions.{HasNoCollisions, ByteSet, IsIn, IsAmong
 use Rattle.store_model.specs.Files.{Files, Stored}
 use Rattle.store_model.specs.Image.{Store}
 use Rattle.store_model.specs.Slots.{Copy, newest}
-use Rattle.store_model.specs.Steps.{StoreChange, SealContainer, PutName, with_sealed, with_put}
+use Rattle.store_model.specs.Steps.{StoreChange, SealContainer, ChangeName, with_sealed, with_change}
 use Rattle.store_model.specs.Trees.{HasNewest, bytes_at}
 use Rattle.store_model.proofs.Copies.{copy_digest, headers_of_right}
 use Rattle.store_model.proofs.FramedTrees.{newest_framed}
@@ -131,6 +131,9 @@ module _ (old new : CoreState) (stays : new.stop ≡ None) (given : List ℕ) (h
   effect_settled (asked.Seal filled) (Err refusal) stops effect = seal_settled filled refusal stops effect.disk.left
   effect_settled (asked.Commit name root) (Ok answer) stops effect = durable_settled effect.durable
   effect_settled (asked.Commit name root) (Err refusal) stops effect = reads_settled (only_reads old new stays (asked.Commit name root) refusal stops effect.disk.ends)
+  effect_settled (asked.Delete name) (Ok answer) stops effect = durable_settled effect.durable
+  effect_settled (asked.Delete name) (Err refusal) stops effect = reads_settled (only_reads old new stays (asked.Delete name) refusal stops effect.disk.ends)
+  effect_settled asked.ListNames answer stops effect = reads_settled effect.disk.only
   effect_settled asked.Abort answer stops effect = reads_settled effect.disk.only
   effect_settled (asked.OpenRead name) answer stops effect = reads_settled effect.disk.only
   effect_settled asked.ReadNext answer stops effect = reads_settled effect.disk.only
@@ -141,7 +144,7 @@ module _ (old new : CoreState) (stays : new.stop ≡ None) (given : List ℕ) (h
 same_slots : (changes : List StoreChange) (s t : Store) → ChangesTo changes s t → t.slots ≡ s.slots
 same_slots [] s t chain = ap (λ (store : Store). store.slots) chain
 same_slots (SealContainer id kind segments ∷ rest) s t chain = same_slots rest (with_sealed id kind segments s) t chain.1
-same_slots (PutName name root ∷ rest) s t chain = same_slots rest (with_put name root s) t chain.1
+same_slots (ChangeName name change ∷ rest) s t chain = same_slots rest (with_change name change s) t chain.1
 
 -- ---- along a run
 

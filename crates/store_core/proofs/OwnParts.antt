@@ -23,7 +23,7 @@ use Rattle.store_model.specs.Files.{Files}
 use Rattle.store_model.specs.Image.{Store, names_of}
 use Rattle.store_model.specs.Slots.{IsIndexOf}
 use Rattle.store_state.specs.Invariant.{HoldsPart, HoldsRest}
-use Rattle.store_core.specs.Core.{BeginRow, ClaimRow, AbortRow, OpenRow, ReadRow, EndRow, StatRow, IsGiven, IsNotGiven}
+use Rattle.store_core.specs.Core.{BeginRow, ClaimRow, AbortRow, OpenRow, ReadRow, EndRow, StatRow, ListRow, IsGiven, IsNotGiven}
 use Rattle.store_core.specs.State.{CoreState}
 
 -- ---- a list of parts
@@ -150,6 +150,11 @@ module _ (among : ByteSet) (store : Store) (files : Files) (image : List ℕ) (p
   pub own_stat : (answer : Result Answer Refusal) → StatRow answer old new → Own
   own_stat (Ok answer) row = own_same row.1
   own_stat (Err refusal) row = absurd row
+
+  pub own_list : (answer : Result Answer Refusal) → ListRow answer old new → Own
+  own_list (Ok (answers.Listed listed)) row = own_same row.1
+  own_list (Err refusals.Memory) row = own_same row
+  own_list answer row = absurd row
 
   pub own_refused : new.parts ≡ old.parts → Own
   own_refused = own_same

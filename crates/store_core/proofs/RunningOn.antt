@@ -41,6 +41,9 @@ module _ (old new : CoreState) (stays : new.stop ≡ None) where
   effect_runs (asked.Seal filled) (Err refusal) count stops effect = same_runs effect.disk.later (seal_kept filled refusal count stops effect.kept)
   effect_runs (asked.Commit name root) (Ok answer) count stops effect = effect.made.runs
   effect_runs (asked.Commit name root) (Err refusal) count stops effect = same_runs effect.disk.later effect.kept
+  effect_runs (asked.Delete name) (Ok answer) count stops effect = effect.made.runs
+  effect_runs (asked.Delete name) (Err refusal) count stops effect = same_runs effect.disk.later effect.kept
+  effect_runs asked.ListNames answer count stops effect = same_runs effect.disk.only.later effect.tables
   effect_runs asked.Abort answer count stops effect = same_runs effect.disk.only.later effect.tables
   effect_runs (asked.OpenRead name) answer count stops effect = same_runs effect.disk.only.later effect.tables
   effect_runs asked.ReadNext answer count stops effect = same_runs effect.disk.only.later effect.tables

@@ -13,7 +13,7 @@ use Rattle.actor_parts.proofs.Apart.{apart}
 use Rattle.refusals.specs.declared.refusal.Refusal.{Refusal}
 use Rattle.refusals.specs.declared.refusal.Refusal.TheVariants as refusals
 use Rattle.read_steps.specs.Readers as readers
-use Rattle.store_core.specs.Core.{Row, BeginRow, ClaimRow, SealRow, CommitRow, AbortRow, OpenRow, ReadRow, EndRow, StatRow, Effect, StepsOr}
+use Rattle.store_core.specs.Core.{Row, BeginRow, ClaimRow, SealRow, CommitRow, AbortRow, OpenRow, ReadRow, EndRow, StatRow, DeleteRow, ListRow, Effect, StepsOr}
 use Rattle.store_core.specs.declared.stop.Stop.{Stop}
 use Rattle.store_core.specs.State.{CoreState, Event}
 
@@ -81,6 +81,16 @@ module _ (actor : ℕ) (buf : List ℕ) (old new : CoreState) where
   stat_one (Ok answer) row = same_one actor old.parts new.parts row.1
   stat_one (Err refusal) row = absurd row
 
+  delete_one : (name : List ℕ) (answer : Result Answer Refusal) → DeleteRow name answer old new → ChangesOne actor old.parts new.parts
+  delete_one name (Ok (answers.Deleted sequence)) row = same_one actor old.parts new.parts row.2
+  delete_one name (Err refusal) row = same_one actor old.parts new.parts row.1
+  delete_one name answer row = absurd row
+
+  list_one : (answer : Result Answer Refusal) → ListRow answer old new → ChangesOne actor old.parts new.parts
+  list_one (Ok (answers.Listed files)) row = same_one actor old.parts new.parts row.1
+  list_one (Err refusals.Memory) row = same_one actor old.parts new.parts row
+  list_one answer row = absurd row
+
   pub row_one : (step : StepValue) (answer : Result Answer Refusal) → Row step actor answer buf old new → ChangesOne actor old.parts new.parts
   row_one asked.Begin answer row = begin_one answer row
   row_one (asked.Claim seg) answer row = claim_one seg answer row
@@ -90,6 +100,8 @@ module _ (actor : ℕ) (buf : List ℕ) (old new : CoreState) where
   row_one (asked.OpenRead name) answer row = open_one name answer row
   row_one asked.ReadNext answer row = read_one answer row
   row_one asked.EndRead answer row = end_one answer row
+  row_one (asked.Delete name) answer row = delete_one name answer row
+  row_one asked.ListNames answer row = list_one answer row
   row_one asked.Stat answer row = stat_one answer row
 
 -- ---- the disk
@@ -105,6 +117,8 @@ module _ (old new : CoreState) where
   effect_later (asked.OpenRead name) answer effect = effect.disk.only.later
   effect_later asked.ReadNext answer effect = effect.disk.only.later
   effect_later asked.EndRead answer effect = effect.disk.only.later
+  effect_later (asked.Delete name) answer effect = effect.disk.later
+  effect_later asked.ListNames answer effect = effect.disk.only.later
   effect_later asked.Stat answer effect = effect.disk.only.later
 
 module _ (old new : CoreState) (e : Event) where

@@ -2,7 +2,8 @@
 use Rattle.std.specs.Prelude.{◌≡◌, ℕ, suc, ◌+◌, List, Option, Some, None, Result, Ok, Err, IfErr, OnOk, OnErr}
 use Rattle.std.specs.FinMap as finite
 use Rattle.base_model.specs.Known.{Known, KnownWith}
-use Rattle.disk_format.specs.Cells.{Root}
+use Rattle.disk_format.specs.Cells.{Change, Root}
+use Rattle.disk_format.specs.Cells.Change.{Delete, Put}
 use Rattle.dd_disk.specs.Ending.{Reads, ending}
 use Rattle.dd_disk.specs.Moves.{Acts}
 use Rattle.dd_disk.specs.View.{IsDurable}
@@ -28,11 +29,12 @@ use Rattle.segment_index.specs.Places.{KnownMap}
 use Rattle.store_model.specs.Files.{Files}
 use Rattle.store_model.specs.Image.{Store, Encodes, IsValidFor, names_of}
 use Rattle.store_model.specs.Standing.{IsStoreOf}
-use Rattle.store_model.specs.Steps.{StoreChange, SealContainer, PutName, CanChange, KeepsCopies, changed}
+use Rattle.namespace.specs.Listing.{listing_of}
+use Rattle.store_model.specs.Steps.{StoreChange, SealContainer, ChangeName, CanChange, KeepsCopies, changed}
 use Rattle.store_state.specs.Refused.{blames}
 use Rattle.store_state.specs.Settled as settled
 use Rattle.store_state.specs.Tables.{Represents, Runs, OfEach}
-use Rattle.ingest_steps.specs.Naming.{PutsRoot, ChangesNextAlone}
+use Rattle.ingest_steps.specs.Naming.{ChangesName, ChangesNextAlone, IsDeleteRefusal, MayDelete}
 use Rattle.ingest_steps.specs.declared.claiming.Claimed.{Claimed}
 use Rattle.ingest_steps.specs.declared.claiming.Claimed.TheVariants.{Held, Absent}
 use Rattle.ingest_steps.specs.Claiming.{IsClaimed, IsClaimRefusal, DiffersFrom, KeepsPart}
@@ -180,6 +182,22 @@ abbrev pub StatRow : Result Answer Refusal → CoreState → CoreState → Type 
 StatRow (Ok answer) old new = IsCount answer old × (new.parts ≡ old.parts)
 StatRow (Err refusal) old new = ⊥
 
+-- ---- names
+
+-- The name is gone.
+abbrev pub DeleteRow : List ℕ → Result Answer Refusal → CoreState → CoreState → Type 0
+DeleteRow name (Ok (answers.Deleted sequence)) old new =
+    MayDelete old.tables name × (sequence ≡ suc old.tables.journal.last) × (new.parts ≡ old.parts)
+    × (new.tables.held.last_id ≡ old.tables.held.last_id)
+DeleteRow name (Err refusal) old new = IsDeleteRefusal old.tables name refusal × (new.parts ≡ old.parts)
+DeleteRow name answer old new = ⊥
+
+-- each name with its root
+abbrev pub ListRow : Result Answer Refusal → CoreState → CoreState → Type 0
+ListRow (Ok (answers.Listed files)) old new = (files ≡ listing_of old.tables.names) × (new.parts ≡ old.parts)
+ListRow (Err refusals.Memory) old new = new.parts ≡ old.parts
+ListRow answer old new = ⊥
+
 abbrev pub Row : StepValue → ℕ → Result Answer Refusal → List ℕ → CoreState → CoreState → Type 0
 Row asked.Begin actor answer buf old new = BeginRow actor answer old new
 Row (asked.Claim seg) actor answer buf old new = ClaimRow seg actor answer old new
@@ -189,6 +207,8 @@ Row asked.Abort actor answer buf old new = AbortRow actor answer old new
 Row (asked.OpenRead name) actor answer buf old new = OpenRow name actor answer old new
 Row asked.ReadNext actor answer buf old new = ReadRow actor answer buf old new
 Row asked.EndRead actor answer buf old new = EndRow actor answer old new
+Row (asked.Delete name) actor answer buf old new = DeleteRow name answer old new
+Row asked.ListNames actor answer buf old new = ListRow answer old new
 Row asked.Stat actor answer buf old new = StatRow answer old new
 
 -- ---- what becomes of tables, index and disk
@@ -225,35 +245,37 @@ pub record SealsOne (filled : Contents) (answer : Result Answer Refusal) (old ne
   pub made : OnOk answer (Makes (SealContainer (next_id old) filled.kind filled.segments) old new)
   pub kept : IfErr answer (λ refusal. KeepsUnlessBroken refusal old new)
 
--- A name is given a root, or isn't.
-pub record PutsOne (name : List ℕ) (root : Root) (answer : Result Answer Refusal) (old new : CoreState) : Type 0 where
+-- A name is given a root or taken away, or isn't.
+pub record NamesOne (name : List ℕ) (change : Change) (answer : Result Answer Refusal) (old new : CoreState) : Type 0 where
   pub disk : Acts (ending blames answer) old.disk new.disk
-  pub moves : PutsRoot old.tables name root (ending blames answer) old.disk new.disk
+  pub moves : ChangesName old.tables name change (ending blames answer) old.disk new.disk
   pub frame : ChangesNextAlone old.tables.journal old.disk new.disk
   pub durable : OnOk answer (IsDurable new.disk)
-  pub made : OnOk answer (Makes (PutName name root) old new)
+  pub made : OnOk answer (Makes (ChangeName name change) old new)
   pub copies : OnOk answer ((store : Store) → Represents store old.known old.tables
       → Known old.disk.content (λ before. Encodes before store
-      → KnownWith new.disk.content (KeepsCopies store before (changed (PutName name root) store))))
+      → KnownWith new.disk.content (KeepsCopies store before (changed (ChangeName name change) store))))
   pub kept : OnErr answer (KeepsTables old new)
 
 abbrev pub Effect : StepValue → Result Answer Refusal → CoreState → CoreState → Type 0
 Effect (asked.Seal filled) answer old new = SealsOne filled answer old new
-Effect (asked.Commit name root) answer old new = PutsOne name root answer old new
+Effect (asked.Commit name root) answer old new = NamesOne name (Put root) answer old new
+Effect (asked.Delete name) answer old new = NamesOne name Delete answer old new
 Effect step answer old new = Rests answer old new
 
 -- ---- what stops the core
 
--- a write or a sync that failed, or damage that an index change met; then the refusal, and how many puts were acknowledged
+-- a write or a sync that failed, or damage that an index change met; then the refusal, and how many commands were acknowledged
 abbrev pub StopsAfter : StepValue → Result Answer Refusal → ℕ → Option Stop → Type 0
 StopsAfter step (Err refusals.DiskWrite) count stop = stop ≡ Some (record { refusal = refusals.DiskWrite; at = count })
 StopsAfter (asked.Seal filled) (Err (refusals.Damaged at why)) count stop =
     stop ≡ Some (record { refusal = refusals.Damaged at why; at = count })
 StopsAfter step answer count stop = stop ≡ None
 
--- a put that was acknowledged is counted
+-- a put or a delete that was acknowledged is counted
 abbrev pub counted : Result Answer Refusal → ℕ → ℕ
 counted (Ok (answers.Committed sequence)) count = one_more count
+counted (Ok (answers.Deleted sequence)) count = one_more count
 counted answer count = count
 
 -- ---- a step

@@ -4,6 +4,7 @@ use Rattle.std.specs.FinMap as finite
 use Rattle.std.specs.List.{AllByRecursion}
 use Rattle.base_model.specs.Known.{Known}
 use Rattle.disk_format.specs.Cells.{Root}
+use Rattle.disk_format.specs.Cells.Change.{Delete, Put}
 use Rattle.dd_disk.specs.Moves.{StandsFor}
 use Rattle.dd_disk.specs.View.{CrashLeaves}
 use Rattle.container_meta.specs.Places.{PlaceMap}
@@ -18,9 +19,9 @@ use Rattle.refusals.specs.declared.refusal.Refusal.{Refusal}
 use Rattle.refusals.specs.declared.refusal.Refusal.TheVariants as refusals
 use Rattle.segmenter.specs.Segments.{segments_of}
 use Rattle.store_model.specs.Collisions.{HasNoCollisions, ByteSet, IsIn, IsAmong, Stands}
-use Rattle.store_model.specs.Files.{Stored, with_stored}
+use Rattle.store_model.specs.Files.{Stored, with_stored, without_stored}
 use Rattle.store_model.specs.Image.{Store, IsValidFor, last_sequence}
-use Rattle.store_model.specs.Steps.{StoreChange, SealContainer, PutName, CanChange, changed}
+use Rattle.store_model.specs.Steps.{StoreChange, SealContainer, ChangeName, CanChange, changed}
 use Rattle.store_model.specs.Trees.{root_of, file_tree, HoldsTree}
 use Rattle.store_state.specs.Invariant.{CoreInvariant}
 use Rattle.store_state.specs.Tables.{Represents}
@@ -48,9 +49,10 @@ pub record FileEvent : Type 0 where
   pub event : Event
   pub bytes : List ℕ
 
--- these after a step: a commit that was acknowledged puts a file
+-- these after a step: a commit that was acknowledged puts a file, and a delete takes one away
 abbrev pub stored_with : StepValue → Result Answer Refusal → List ℕ → Stored → Stored
 stored_with (asked.Commit name root) (Ok answer) bytes stored = with_stored stored name bytes
+stored_with (asked.Delete name) (Ok answer) bytes stored = without_stored stored name
 stored_with step answer bytes stored = stored
 
 abbrev pub stored_by : FileEvent → Stored → Stored
@@ -105,10 +107,11 @@ abbrev pub ChangesTo : List StoreChange → Store → Store → Type 0
 ChangesTo [] s t = t ≡ s
 ChangesTo (change ∷ rest) s t = CanChange change s × ChangesTo rest (changed change s) t
 
--- what a step changes, by its answer: a seal under an id that it answers, and a commit that was acknowledged
+-- what a step changes, by its answer: a seal under an id that it answers, and a commit or a delete that was acknowledged
 abbrev pub changes_by : StepValue → Result Answer Refusal → List StoreChange
 changes_by (asked.Seal filled) (Ok (answers.Sealed id)) = SealContainer id filled.kind filled.segments ∷ []
-changes_by (asked.Commit name root) (Ok answer) = PutName name root ∷ []
+changes_by (asked.Commit name root) (Ok answer) = ChangeName name (Put root) ∷ []
+changes_by (asked.Delete name) (Ok answer) = ChangeName name Delete ∷ []
 changes_by step answer = []
 
 -- and what steps change, the first of them first
@@ -122,7 +125,7 @@ pub record Reaches (S : List ℕ → Type 0) (s : Store) (stored : Stored) (step
   pub chain : ChangesTo (changes_of steps) s store
   pub is_at : IsAt S store stored c
 
--- A core that isn't stopped at the end of a run has made exactly the commits and the seals that it acknowledged, and its
+-- A core that isn't stopped at the end of a run has made exactly the commits, the deletes and the seals that it acknowledged, and its
 -- invariant holds.
 abbrev pub KeepsFiles : (C : Type 0) → (C → CoreState) → Type 0
 KeepsFiles C state = (among : ByteSet) (steps : List FileEvent) (s : Store) (stored : Stored) (old new : C)
@@ -138,10 +141,11 @@ IsOf S stored image = (store : Store) × (Stands S store stored.files image × (
 -- the files after a step, where a write that failed stands
 abbrev pub stored_tried : StepValue → Result Answer Refusal → List ℕ → Stored → Stored
 stored_tried (asked.Commit name root) (Err refusals.DiskWrite) bytes stored = with_stored stored name bytes
+stored_tried (asked.Delete name) (Err refusals.DiskWrite) bytes stored = without_stored stored name
 stored_tried step answer bytes stored = stored_with step answer bytes stored
 
--- An image of these files, or of those after some of the steps, the first of them first; and a commit whose write failed may
--- have put its file.
+-- An image of these files, or of those after some of the steps, the first of them first; and a commit or a delete whose write failed
+-- may have taken effect.
 abbrev pub IsOnTheWay : (List ℕ → Type 0) → List FileEvent → Stored → List ℕ → Type 0
 IsOnTheWay S [] stored image = IsOf S stored image
 IsOnTheWay S (f ∷ fs) stored image =
@@ -162,7 +166,7 @@ SurvivesSince C state = (among : ByteSet) (steps : List FileEvent) (s : Store) (
     → (state old).disk.clock < 2 ^ 64 - 1 → (image : List ℕ) → (state new).disk.images_since (state old).disk.clock image
     → IsOnTheWay (IsIn among) steps stored image
 
--- Each image since a moment between two steps is of the files after all commits that were acknowledged before that moment, or is
+-- Each image since a moment between two steps is of the files after all commands that were acknowledged before that moment, or is
 -- one on the way from there.
 abbrev pub KeepsAcknowledged : (C : Type 0) → (C → CoreState) → Type 0
 KeepsAcknowledged C state = (among : ByteSet) (first rest : List FileEvent) (s : Store) (stored : Stored) (old mid new : C)
@@ -176,7 +180,7 @@ abbrev pub stored_tried_by : List FileEvent → Stored → Stored
 stored_tried_by [] stored = stored
 stored_tried_by (f ∷ fs) stored = stored_tried_by fs (stored_tried f.event.step f.event.answer f.bytes stored)
 
--- At the end each image is of the files after all commits that were acknowledged, or after these and the one whose write failed.
+-- At the end each image is of the files after all commands that were acknowledged, or after these and the one whose write failed.
 abbrev pub EndsWithAll : (C : Type 0) → (C → CoreState) → Type 0
 EndsWithAll C state = (among : ByteSet) (steps : List FileEvent) (s : Store) (stored : Stored) (old new : C)
     → HasNoCollisions (IsIn among) → IsAt (IsIn among) s stored (state old) → FileRun C state (IsIn among) steps old new

@@ -14,6 +14,7 @@ use Rattle.refusals.specs.declared.refusal.Refusal.TheVariants as refusals
 use Rattle.store_model.specs.Collisions.{HasNoCollisions, ByteSet, IsIn}
 use Rattle.store_model.specs.Files.{Files, Stored}
 use Rattle.store_model.specs.Image.{Store}
+use Rattle.store_model.specs.Standing.{file_listing}
 use Rattle.store_model.specs.Trees.{IsNodeOf}
 use Rattle.store_core.specs.Runs.{FileEvent, FileStep, FileRun, IsAt, stored_after}
 use Rattle.store_core.specs.State.{CoreState}
@@ -61,14 +62,21 @@ NeverDamaged C state = (among : ByteSet) (steps : List FileEvent) (f : FileEvent
 
 -- ---- names
 
--- a name that is opened has a file, of the length that is answered; one that is not found has none
+-- a name that is opened has a file, of the length that is answered; one that is deleted has a file, and so has one whose delete is
+-- refused for want of a cell or of a number, or as a write failed; one that is not found has none; and what is listed are the files
 abbrev pub FindsFile : Files → StepValue → Result Answer Refusal → Type 0
 FindsFile files (asked.OpenRead name) (Ok (answers.Opened count)) =
     (bytes : List ℕ) × ((finite.get files name ≡ Some bytes) × (count ≡ length bytes))
 FindsFile files (asked.OpenRead name) (Err refusals.NoFile) = finite.get files name ≡ None
+FindsFile files (asked.Delete name) (Ok answer) = (bytes : List ℕ) × (finite.get files name ≡ Some bytes)
+FindsFile files (asked.Delete name) (Err refusals.NoFile) = finite.get files name ≡ None
+FindsFile files (asked.Delete name) (Err refusals.TooMany) = (bytes : List ℕ) × (finite.get files name ≡ Some bytes)
+FindsFile files (asked.Delete name) (Err refusals.Numbers) = (bytes : List ℕ) × (finite.get files name ≡ Some bytes)
+FindsFile files (asked.Delete name) (Err refusals.DiskWrite) = (bytes : List ℕ) × (finite.get files name ≡ Some bytes)
+FindsFile files asked.ListNames (Ok (answers.Listed listed)) = listed ≡ file_listing files
 FindsFile files step answer = Unit {0}
 
--- So it is with the files after the commits that were acknowledged before.
+-- So it is with the files after the commands that were acknowledged before.
 abbrev pub FindsFiles : (C : Type 0) → (C → CoreState) → Type 0
 FindsFiles C state = (among : ByteSet) (steps : List FileEvent) (f : FileEvent) (s : Store) (stored : Stored) (old mid new : C)
     → HasNoCollisions (IsIn among) → IsAt (IsIn among) s stored (state old) → FileRun C state (IsIn among) steps old mid

@@ -26,7 +26,7 @@ pub record CoreState : Type 1 where
   pub parts : List Part
   -- what stopped it
   pub stop : Option Stop
-  -- how many puts were acknowledged since the opening
+  -- how many puts and deletes were acknowledged since the opening
   pub acknowledged : ℕ
 
 -- The tables are those of a store that the disk may hold, with two slots or more free; the index serves it; each actor has a

@@ -20,8 +20,8 @@ pub fn a_core_runs_on<C: HasState>()
     ensures { RunsOn C C.state }
 {}
 
-/// Over data without collisions, a core that began at a store and isn't stopped has made exactly the commits and the seals that
-/// it acknowledged, and its invariant holds. The function does nothing.
+/// Over data without collisions, a core that began at a store and isn't stopped has made exactly the commits, the deletes and
+/// the seals that it acknowledged, and its invariant holds. The function does nothing.
 pub fn a_core_keeps_files<C: HasState>()
     ensures { KeepsFiles C C.state }
 {}
@@ -51,7 +51,7 @@ pub fn a_reader_checks_what_it_gives<C: HasState>()
     ensures whole { EndsAreWhole C C.state }
 {}
 
-/// What a crash leaves at any moment of a run is of the files after some of its commits, the first of them first, and it may
+/// What a crash leaves at any moment of a run is of the files after some of its commands, the first of them first, and it may
 /// be one whose write failed; all that were acknowledged before a moment are among them from then on. Seen from a moment before the
 /// run it is that, or what might have been left before the run. The function does nothing.
 pub fn a_core_survives_crashes<C: HasState>()
@@ -69,7 +69,8 @@ pub fn a_core_keeps_what_is_written<C: HasState>()
 {}
 
 /// Over data without collisions, of a core that began at a store: no step of a run finds damage or misses a segment, and data
-/// never clashes; a name is found exactly where it has a file. The function does nothing.
+/// never clashes; a name is found exactly where it has a file, and deleted only there, and what is listed are the files. The function
+/// does nothing.
 pub fn a_core_finds_no_damage<C: HasState>()
     ensures harmless { NeverDamaged C C.state }
     ensures names { FindsFiles C C.state }

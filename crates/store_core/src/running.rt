@@ -15,9 +15,9 @@ use crate::stop::Stop;
 use actor_parts::{Actor, Answer, Parts, SegBuf, Step};
 use container_meta::{OpenContainer, Seg};
 use dd_disk::Disk;
-use ingest_steps::{Claimed, abort, begin, claim, commit, seal};
+use ingest_steps::{Claimed, abort, begin, claim, commit, delete, seal};
 use namespace::Root;
-use read_steps::{end_read, open_read, read_next, stat};
+use read_steps::{end_read, list, open_read, read_next, stat};
 use refusals::{PartKind, Refusal};
 use segment_index::{Index, StoreIndex};
 use std::alloc::Global;
@@ -35,7 +35,7 @@ pub struct Core<D, M> {
     pub(crate) summary: M,
     /// What stopped it.
     pub(crate) stop: Option<Stop>,
-    /// How many puts were acknowledged since the opening; it stays at 2^64 - 1 once there.
+    /// How many puts and deletes were acknowledged since the opening; it stays at 2^64 - 1 once there.
     pub(crate) acknowledged: u64,
 }
 
@@ -105,12 +105,12 @@ fn stop_after(step: &Step<'_>, answer: &Result<Answer, Refusal>, count: u64) -> 
     }
 }
 
-// How many puts were acknowledged, with this answer.
+// How many puts and deletes were acknowledged, with this answer.
 fn count_after(answer: &Result<Answer, Refusal>, count: u64) -> u64
     ensures { result ≡ counted answer.now count }
 {
     match answer {
-        Ok(Answer::Committed { .. }) => count.saturating_add(1),
+        Ok(Answer::Committed { .. } | Answer::Deleted { .. }) => count.saturating_add(1),
         _ => count,
     }
 }
@@ -225,6 +225,32 @@ impl<D: Disk, M: Summary> Core<D, M> {
         }
     }
 
+    fn delete(&mut self, actor: Actor, name: &[u8]) -> Result<Answer, Refusal>
+        requires up { IsUp (⟦<Core<D, M> as HasState>⟧.state self.old) }
+        ensures made { (buf : List ℕ) → MadeBefore (asked.Delete name.now) actor result buf
+            (⟦<Core<D, M> as HasState>⟧.state self.old)
+            (⟦<Core<D, M> as HasState>⟧.state self.new) }
+        ensures stop { self.new.stop ≡ self.old.stop }
+        ensures count { self.new.acknowledged ≡ self.old.acknowledged }
+    {
+        match delete(self.alloc, &mut self.disk, &mut self.tables, name) {
+            Ok(sequence) => Ok(Answer::Deleted { sequence }),
+            Err(refusal) => Err(refusal),
+        }
+    }
+
+    fn list(&mut self, actor: Actor) -> Result<Answer, Refusal>
+        ensures made { (buf : List ℕ) → MadeBefore asked.ListNames actor result buf (⟦<Core<D, M> as HasState>⟧.state self.old)
+            (⟦<Core<D, M> as HasState>⟧.state self.new) }
+        ensures stop { self.new.stop ≡ self.old.stop }
+        ensures count { self.new.acknowledged ≡ self.old.acknowledged }
+    {
+        match list(self.alloc, &self.tables) {
+            Ok(files) => Ok(Answer::Listed { files }),
+            Err(refusal) => Err(refusal),
+        }
+    }
+
     fn seal(
         &mut self,
         actor: Actor,
@@ -279,6 +305,8 @@ impl<D: Disk, M: Summary> Core<D, M> {
             Step::OpenRead { name } => self.open_read(actor, name),
             Step::ReadNext => self.read_next(actor, buf),
             Step::EndRead => self.end_read(actor),
+            Step::Delete { name } => self.delete(actor, name),
+            Step::List => self.list(actor),
             Step::Stat => Ok(self.stat()),
         }
     }
@@ -286,7 +314,7 @@ impl<D: Disk, M: Summary> Core<D, M> {
     /// Makes a step of an actor. docs/MODEL.md, 'The core', has the table of steps: what each does, answers and is refused by.
     ///
     /// After `DiskWrite`, and after `Damaged` that a seal met in the index, the core is stopped: each further step is refused by
-    /// `Stopped`, with how many puts had been acknowledged since the opening, and changes nothing.
+    /// `Stopped`, with how many puts and deletes had been acknowledged since the opening, and changes nothing.
     pub fn step(
         &mut self,
         actor: Actor,
@@ -312,7 +340,7 @@ impl<D: Disk, M: Summary> Core<D, M> {
         answer
     }
 
-    /// Whether it runs. The refusal is that of each step once it is stopped, with how many puts had been acknowledged.
+    /// Whether it runs. The refusal is that of each step once it is stopped, with how many puts and deletes had been acknowledged.
     pub fn running(&self) -> Result<(), Refusal>
         ensures runs { OnOk result ((⟦<Core<D, M> as HasState>⟧.state self.now).stop ≡ None) }
         ensures stopped { IfErr result (IsStopped (⟦<Core<D, M> as HasState>⟧.state self.now).stop) }

@@ -7,6 +7,6 @@ use refusals::Refusal;
 pub struct Stop {
     /// The refusal that stopped it.
     pub refusal: Refusal,
-    /// How many puts had been acknowledged since the opening.
+    /// How many puts and deletes had been acknowledged since the opening.
     pub at: u64,
 }

@@ -11,11 +11,13 @@ pub mod HeldTrees
 pub mod IndexSize
 pub mod Indexing
 pub mod Kept
+pub mod Listed
 pub mod Lookups
+pub mod NameChanges
 pub mod NewestSealed
 pub mod Once
 pub mod OneNode
-pub mod PutRoots
+pub mod Puts
 pub mod Records
 pub mod Roots
 pub mod SameFiles

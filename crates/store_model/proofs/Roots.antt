@@ -42,7 +42,7 @@ pub roots_after : (previous : ℕ) (names : NameMap) (records : List RecordValue
 roots_after previous names [] follow roots = roots
 roots_after previous names (r ∷ rs) follow roots = roots_after r.sequence (names_with r names) rs follow.3 (roots_changed r.sequence r.name r.change names follow.0.change roots)
 
-no_roots : HaveRoots finite.empty
+pub no_roots : HaveRoots finite.empty
 no_roots q named found =
     let none = sym (finite.get-empty {X = Named} (slice_cmp nat_cmp) q) ∙ found in
     absurd cc

@@ -1,7 +1,7 @@
--- What is so of a store still, once a container was sealed or a record was put.
+-- What is so of a store still, once a container was sealed or a record was added.
 use Rattle.std.proofs.Common.{◌≡◌, ℕ, suc, ◌<◌, ◌≤◌, List, [], ◌∷◌, ◌++◌, length, refl, ◌∙◌, arith, length-append}
 use Rattle.std.specs.FinMap as finite
-use Rattle.disk_format.specs.Cells.{Root, RecordValue, IsRoot, IsRecord}
+use Rattle.disk_format.specs.Cells.{Root, Change, RecordValue, IsChange, IsRecord, IsRoot}
 use Rattle.container_meta.specs.declared.kind.Kind.{Kind}
 use Rattle.container_meta.specs.Segments.{Segment}
 use Rattle.container_meta.specs.Spelling.{HeaderValue, header_of}
@@ -12,9 +12,9 @@ use Rattle.store_model.specs.Slots.{last_id, free_slots, first_free}
 use Rattle.store_model.specs.Image.{Store, IsValidFor}
 use Rattle.store_model.specs.Refusals.{HasRoot}
 use Rattle.store_model.specs.Standing.{IsStoreOf}
-use Rattle.store_model.specs.Steps.{CanSeal, with_sealed, CanPut, put_of, with_put}
+use Rattle.store_model.specs.Steps.{CanSeal, with_sealed, CanChangeName, record_of, with_change}
 use Rattle.store_model.proofs.Filled.{length-with_slot, free_less, headers_with, last_new, different_with}
-use Rattle.store_model.proofs.PutRoots.{record_right, record_taken, record_rises}
+use Rattle.store_model.proofs.NameChanges.{record_right, record_taken, record_rises}
 use Rattle.store_model.proofs.Roots.{root_of_name}
 use Rattle.store_model.proofs.Sound.{sound_of_right}
 
@@ -26,15 +26,15 @@ pub follow_push : (previous : ℕ) (names : NameMap) (rs : List RecordValue) (r 
 follow_push previous names [] r follow right rises taken = (right, rises, taken, tt)
 follow_push previous names (s ∷ rs) r follow right rises taken = (follow.0, follow.1, follow.2, follow_push s.sequence (names_with s names) rs r follow.3 right rises taken)
 
--- a store with one put more
-pub valid_put : (size : ℕ) (name : List ℕ) (root : Root) (store : Store) → IsValidFor size store → CanPut name store → IsRoot root → IsValidFor size (with_put name root store)
-valid_put size name root store sound can right = record {
+-- a store with one record more
+pub valid_change : (size : ℕ) (name : List ℕ) (change : Change) (store : Store) → IsValidFor size store → CanChangeName name change store → IsChange change → IsValidFor size (with_change name change store)
+valid_change size name change store sound can right = record {
   count = sound.count;
   size_is = sound.size_is;
   selector_right = sound.selector_right;
-  few = omega (arith, can.cell, length-append store.records (put_of name root store ∷ []));
-  follow = follow_push 0 finite.empty store.records (put_of name root store) sound.follow (record_right name root store can right) (record_rises name root store)
-      (record_taken name root store can);
+  few = omega (arith, can.cell, length-append store.records (record_of name change store ∷ []));
+  follow = follow_push 0 finite.empty store.records (record_of name change store) sound.follow (record_right name change store can right) (record_rises name change store)
+      (record_taken name change store can);
   many = sound.many;
   headers = sound.headers;
   different = sound.different;

@@ -2,7 +2,7 @@
 use Rattle.std.specs.Prelude.{◌≡◌, ◌≢◌, ◌⊎◌, ℕ, ◌+◌, ◌-◌, ◌<◌, ◌≤◌, List, [], ◌∷◌, length}
 use Rattle.std.specs.FinMap as finite
 use Rattle.base_model.specs.Bytes.{range, byte_at}
-use Rattle.disk_format.specs.declared.numbers.TheConstants.{RECORD_GATE, SELECTOR_GATE}
+use Rattle.disk_format.specs.declared.numbers.TheConstants.{RECORD_GATE, SELECTOR_GATE, VERSION}
 use Rattle.disk_format.specs.Cells.{RecordValue, SelectorValue, IsRecord, IsSelector, record_cell, selector_cell}
 use Rattle.disk_format.specs.Layout.{selector_at, cell_at, half_cells}
 use Rattle.namespace.specs.Names.{NameMap, IsTaken, names_with}
@@ -48,3 +48,7 @@ last_of previous (r ∷ rs) = last_of r.sequence rs
 -- from a cell of a half on none is open
 abbrev pub ClosedFrom : ℕ → ℕ → List ℕ → Type 0
 ClosedFrom half from image = (cell : ℕ) → from ≤ cell → cell < half_cells → byte_at (cell_at half cell) image ≢ RECORD_GATE
+
+-- the selector of a checkpoint: of the other half, under the next generation, with the last sequence number of all
+abbrev pub selector_after : ℕ → ℕ → ℕ → SelectorValue
+selector_after half generation last = record { generation = generation + 1; form = VERSION; half = 1 - half; last = last }

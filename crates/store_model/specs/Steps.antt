@@ -1,20 +1,21 @@
 -- The steps of a store, and what they make of it (docs/MODEL.md, 'Steps').
-use Rattle.std.specs.Prelude.{◌≡◌, ℕ, suc, ◌-◌, ◌^◌, ◌<◌, List, [], ◌∷◌, ◌++◌, length, Some}
-use Rattle.disk_format.specs.Cells.{Root, RecordValue, IsName, IsRoot}
-use Rattle.disk_format.specs.Cells.Change.{Put as PutRoot}
+use Rattle.std.specs.Prelude.{◌≡◌, ℕ, suc, ◌-◌, ◌^◌, ◌<◌, List, [], ◌∷◌, ◌++◌, length, Option, Some}
+use Rattle.disk_format.specs.Cells.{Change, RecordValue, IsName, IsChange}
+use Rattle.disk_format.specs.Cells.Change.{Put as PutRoot, Delete as DeleteName}
 use Rattle.disk_format.specs.Layout.{half_cells}
 use Rattle.disk_format.specs.declared.numbers.TheConstants.{RESERVE}
 use Rattle.container_meta.specs.declared.kind.Kind.{Kind}
 use Rattle.container_meta.specs.declared.kind.Kind.TheVariants as kinds
 use Rattle.container_meta.specs.Segments.{Segment, segment_key}
 use Rattle.container_meta.specs.declared.place.Place.{Place}
-use Rattle.container_meta.specs.Spelling.{IsHeader, header_of}
-use Rattle.namespace.specs.Names.{HasRoom}
+use Rattle.container_meta.specs.Spelling.{HeaderValue, IsHeader, header_of}
+use Rattle.namespace.specs.Names.{HasPlace}
+use Rattle.store_model.specs.Files.{Command, Put, Delete}
 use Rattle.store_model.specs.Image.{Store, names_of, last_sequence}
 use Rattle.store_model.specs.Slots.{Copy, newest, last_id, free_slots, first_free, with_slot}
 use Rattle.store_model.specs.Standing.{IsOfKind}
 use Rattle.store_model.specs.Collisions.{IsAmong}
-use Rattle.store_model.specs.Trees.{HasNewest, bytes_at}
+use Rattle.store_model.specs.Trees.{HasNewest, HoldsTree, bytes_at, file_tree, root_of}
 
 -- ---- a container is sealed
 
@@ -43,37 +44,51 @@ FitsCopy kinds.Tree s place image = bytes_at place image ≡ s.bytes
 abbrev pub FitsHeld : Kind → Store → List ℕ → Segment → Type 0
 FitsHeld kind store image s = (copy : Copy) → newest 0 store.held (segment_key kind s) ≡ Some copy → FitsCopy kind s copy.place image
 
--- ---- a name is given a root
+-- ---- a name is given a root, or taken away
 
-abbrev pub put_of : List ℕ → Root → Store → RecordValue
-put_of name root store = record { sequence = suc (last_sequence store); name = name; change = PutRoot root }
+abbrev pub record_of : List ℕ → Change → Store → RecordValue
+record_of name change store = record { sequence = suc (last_sequence store); name = name; change = change }
 
-abbrev pub with_put : List ℕ → Root → Store → Store
-with_put name root store = record store { records = store.records ++ put_of name root store ∷ [] }
+abbrev pub with_change : List ℕ → Change → Store → Store
+with_change name change store = record store { records = store.records ++ record_of name change store ∷ [] }
 
--- The name is good and has room, the half has a free cell, and a number is left.
-pub record CanPut (name : List ℕ) (store : Store) : Type 0 where
+-- The name is good; it has room for a root, or is there to be taken away; the half has a free cell, and a number is left.
+pub record CanChangeName (name : List ℕ) (change : Change) (store : Store) : Type 0 where
   pub named : IsName name
-  pub room : HasRoom (names_of store) name
+  pub place : HasPlace (names_of store) name change
   pub cell : length store.records < half_cells
   pub number : last_sequence store < 2 ^ 64 - 1
+
+-- what a command changes, of which name
+abbrev pub name_of : Command → List ℕ
+name_of (Put name bytes) = name
+name_of (Delete name) = name
+
+abbrev pub change_of : Command → Change
+change_of (Put name bytes) = PutRoot (root_of bytes)
+change_of (Delete name) = DeleteName
+
+-- the image has what a command puts
+abbrev pub HoldsFor : Command → List (Option HeaderValue) → List ℕ → Type 0
+HoldsFor (Put name bytes) held image = HoldsTree held image (file_tree bytes)
+HoldsFor (Delete name) held image = Unit {0}
 
 -- ---- both
 
 -- what a step changes of a store
 pub data StoreChange : Type 0 where
   SealContainer : (id : ℕ) → (kind : Kind) → (segments : List Segment) → StoreChange
-  PutName : (name : List ℕ) → (root : Root) → StoreChange
+  ChangeName : (name : List ℕ) → (change : Change) → StoreChange
 
 -- the store after a change
 abbrev pub changed : StoreChange → Store → Store
 changed (SealContainer id kind segments) store = with_sealed id kind segments store
-changed (PutName name root) store = with_put name root store
+changed (ChangeName name change) store = with_change name change store
 
 -- it can be made
 abbrev pub CanChange : StoreChange → Store → Type 0
 CanChange (SealContainer id kind segments) store = CanSeal id kind segments store
-CanChange (PutName name root) store = CanPut name store × IsRoot root
+CanChange (ChangeName name change) store = CanChangeName name change store × IsChange change
 
 -- One store comes from another by a change. Each step of the core names its own.
 abbrev pub StoreStep : Store → Store → Type 0

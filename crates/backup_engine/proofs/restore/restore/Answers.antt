@@ -1,6 +1,7 @@
-use Rattle.std.proofs.Common.{rules, refl, sym, List, [], Some}
+use Rattle.std.proofs.Common.{rules, inl, refl, sym, List, [], Some}
 use Rattle.dd_disk.specs.View.{IsLater}
 use Rattle.plain_machine.specs.Runs.{Replied}
+use Rattle.refusals.specs.declared.refusal.Refusal.TheVariants.{Memory}
 use Rattle.reply_text.specs.declared.ending.Ending.TheVariants.{Refused}
 use Rattle.backup_engine.specs.Line.{Restore}
 use Rattle.backup_engine.specs.Singles.{IsRestore, Speaks}
@@ -35,7 +36,9 @@ pub give_out-given-requires : goal.give_out-given-requires
 give_out-given-requires g c = record { fresh = fresh _ _ c.in-Ok-open.ensures.opened c.in-Ok-open.ensures.running }
 
 pub returns-in_default-clause-speaks : goal.returns-in_default-clause-speaks
-returns-in_default-clause-speaks g c = ([], unbegun_speaks c.args.name.now (g.D.Disk.view c.args.disk.now) (g.K.Sink.view c.args.sink.now))
+returns-in_default-clause-speaks g c =
+    let sink = g.K.Sink.view c.args.sink.now in
+    ([], unbegun_speaks (IsRestore c.args.name.now (Some (Refused Memory)) sink sink) (g.D.Disk.view c.args.disk.now) sink (inl (refl, refl, refl)))
 
 pub returns-in-Err-clause-speaks : goal.returns-in-Err-clause-speaks
 returns-in-Err-clause-speaks g c =

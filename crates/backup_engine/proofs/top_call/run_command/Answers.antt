@@ -16,3 +16,13 @@ pub returns-in-Restore-clause-does : goal.returns-in-Restore-clause-does
 returns-in-Restore-clause-does g c =
     let speaks = c.restore.ensures.speaks in
     does_as (Single (command_value c.args.command.now)) _ (ap (λ x. Single (command_value x)) c.in-Restore.is) [] speaks.0 _ _ _ _ _ _ _ (c.restore.ensures.keeps (g.S.Source.view c.args.source.now), speaks.1)
+
+pub returns-in-Delete-clause-does : goal.returns-in-Delete-clause-does
+returns-in-Delete-clause-does g c =
+    let speaks = c.delete.ensures.speaks in
+    does_as (Single (command_value c.args.command.now)) _ (ap (λ x. Single (command_value x)) c.in-Delete.is) [] speaks.0 _ _ _ _ _ _ _ (c.delete.ensures.keeps (g.S.Source.view c.args.source.now), speaks.1)
+
+pub returns-in-List-clause-does : goal.returns-in-List-clause-does
+returns-in-List-clause-does g c =
+    let speaks = c.list.ensures.speaks in
+    does_as (Single (command_value c.args.command.now)) _ (ap (λ x. Single (command_value x)) c.in-List.is) [] speaks.0 _ _ _ _ _ _ _ (c.list.ensures.keeps (g.S.Source.view c.args.source.now), speaks.1)

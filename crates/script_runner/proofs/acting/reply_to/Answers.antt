@@ -22,6 +22,24 @@ returns-in-Next-clause-made g c =
     (subst (λ (l : Line). ActsWith _ state (line_value l) (λ (reply : ReplyValue). Prints (λ text. text.items) c.reply_next.result reply) r s) (sym c.in-Next.is)
     (c.reply_next.ensures.made c.args.sessions.now c.args.moments.now.items))
 
+pub returns-in-Delete-clause-made : goal.returns-in-Delete-clause-made
+returns-in-Delete-clause-made g c =
+    let state = g.C.HasState.state in
+    let r = runner_of c.args.core.now c.args.sessions.now c.args.moments.now.items in
+    let s = runner_of c.reply_delete.new.core c.args.sessions.now c.reply_delete.new.moments.items in
+    taken _ state (line_value c.args.line.now) (λ (reply : ReplyValue). Prints (λ text. text.items) c.reply_delete.result reply) r s c.requires.other c.in_default.ensures.ok
+    (subst (λ (l : Line). ActsWith _ state (line_value l) (λ (reply : ReplyValue). Prints (λ text. text.items) c.reply_delete.result reply) r s) (sym c.in-Delete.is)
+    (c.reply_delete.ensures.made c.args.sessions.now))
+
+pub returns-in-List-clause-made : goal.returns-in-List-clause-made
+returns-in-List-clause-made g c =
+    let state = g.C.HasState.state in
+    let r = runner_of c.args.core.now c.args.sessions.now c.args.moments.now.items in
+    let s = runner_of c.reply_list.new.core c.args.sessions.now c.args.moments.now.items in
+    taken _ state (line_value c.args.line.now) (λ (reply : ReplyValue). Prints (λ text. text.items) c.reply_list.result reply) r s c.requires.other c.in_default.ensures.ok
+    (subst (λ (l : Line). ActsWith _ state (line_value l) (λ (reply : ReplyValue). Prints (λ text. text.items) c.reply_list.result reply) r s) (sym c.in-List.is)
+    (c.reply_list.ensures.made c.args.sessions.now c.args.moments.now.items))
+
 pub returns-in_default-line : goal.returns-in_default-line
 returns-in_default-line g c =
     let r = runner_of c.args.core.now c.args.sessions.now c.args.moments.now.items in

@@ -27,5 +27,11 @@ returns-in-ReadNext-clause-made g c = λ stop count. made_of _ _ (ap step_value 
 pub returns-in-EndRead-clause-made : goal.returns-in-EndRead-clause-made
 returns-in-EndRead-clause-made g c = λ stop count. made_of _ _ (ap step_value c.in-EndRead.is) _ _ _ _ _ (c.end_read.ensures.made c.args.buf.now stop count)
 
+pub returns-in-Delete-clause-made : goal.returns-in-Delete-clause-made
+returns-in-Delete-clause-made g c = λ stop count. made_of _ _ (ap step_value c.in-Delete.is) _ _ _ _ _ (c.delete.ensures.made c.args.buf.now stop count)
+
+pub returns-in-List-clause-made : goal.returns-in-List-clause-made
+returns-in-List-clause-made g c = λ stop count. made_of _ _ (ap step_value c.in-List.is) _ _ _ _ _ (c.list.ensures.made c.args.buf.now stop count)
+
 pub returns-in-Stat-clause-made : goal.returns-in-Stat-clause-made
 returns-in-Stat-clause-made g c = λ stop count. made_stat _ (ap step_value c.in-Stat.is) _ _ _ _ stop count c.stat.ensures

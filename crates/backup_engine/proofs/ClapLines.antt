@@ -1,0 +1,246 @@
+-- The line that clap's matches are.
+use Rattle.std.proofs.Common.{◌≡◌, ◌∙◌, ◌++◌, ◌⊎◌, inl, inr, ℕ, Bool, true, false, List, [], ◌∷◌, codes, map, fold, Option, Some, None, is_some, option_map, option_and_then, refl, sym, ap, ap₂, subst}
+use Rattle.std.specs.Prelude.{slice_get, string_bytes, String}
+use Rattle.std.specs.Global.{Global}
+use Rattle.std.specs.Str.{IsUtf8, bytes_eq, chars}
+use Rattle.std.proofs.lemmas.Slice.Eq.{bytes_eq-Decides}
+use Rattle.std.proofs.lemmas.Str.{IsUtf8-string_bytes}
+use Rattle.clap.specs.Lexer.{long_of, short_of}
+use Rattle.clap.specs.Walk.{Names, Walk, finished, first_of, idle, nothing_held, rows_after, settled, subcommand_met, walk, walk_from, walked}
+use Rattle.clap.specs.Simple.{Shape, built, entered, is_simple, names_of, subcommand_of}
+use Rattle.clap.specs.Kinds.{IsAmong, Kinds, or_else}
+use Rattle.clap.specs.Faults.{check_fault, defaults_fault, entered_fault, fault_of, is_simple_and_free, settle_fault, turn_fault, walk_fault}
+use Rattle.clap.proofs.OnLiterals.{clap_on_literals}
+use Rattle.clap.proofs.WalkLemmas.{walk_stopped}
+use Rattle.backup_engine.specs.Line.{TableLine, Single, Run, argument_of, command_of, has_no_argument, is_separator, line_by, line_of}
+use Rattle.backup_engine.specs.Line as table
+use Rattle.backup_engine.specs.Words.{line_matched, table_app}
+use Rattle.backup_engine.proofs.ClapWords.{AreTexts, Look, fault_in, long, look_of, none, none_taken, one, one_taken, plain, separator, short, unless}
+use Rattle.clap.specs.Words.{Row, Text, subcommand_name_of, subcommand_rows_of}
+use Rattle.clap.specs.declared.error.ErrorKind.{ErrorKind}
+use Rattle.clap.specs.declared.parser.ArgMatches.{ArgMatches}
+
+paired : {B X Y : Type 0} (f : B → X) (g : B → Y) (entered : Option B) (x : X) (y : Y) → Some x ≡ option_map f entered
+    → Some y ≡ option_map (λ (p : X × Y). p.1) (option_map {U = X × Y} (λ b. (f b, g b)) entered) → option_map {U = X × Y} (λ b. (f b, g b)) entered ≡ Some (x, y)
+paired f g None x y named found = absurd (cc)
+paired f g (Some b) x y named found =
+    let first : x ≡ f b = cc in
+    let second : y ≡ g b = cc in
+    rw (first, second) refl
+
+-- the subcommand that was entered, by its name and its rows
+pub subcommand_is : (m : ArgMatches) (name : Text) (rows : List Row) → Some name ≡ subcommand_name_of m
+    → Some rows ≡ option_map (λ found. found.1) (subcommand_rows_of m) → subcommand_rows_of m ≡ Some (name, rows)
+subcommand_is m name rows named found = paired _ _ _ name rows named found
+
+-- ---- words of which the first names a command
+
+abbrev names : Names
+names = names_of (built table_app)
+
+abbrev start : Walk
+start = walk_from nothing_held
+
+-- the walk goes no further than the name, and leaves the other words to the command
+end_is : (name : Text) (words : List Text) → walked [] names start name ≡ record start { stopped = Some (name, []) }
+    → walk [] names nothing_held (name ∷ words) ≡ record start { stopped = Some (name, words) }
+end_is name words met = ap (λ (w : Walk). fold (walked [] names) w words) met ∙ sym (walk_stopped [] names start name [] words)
+
+stopped_fault : (shape : Shape) (c : Names) (w : Walk) (name : Text) (seen words : List Text)
+    → walk_fault shape c (record w { stopped = Some (name, seen) }) words ≡ []
+unfolding walk_fault walked
+stopped_fault shape c w name seen [] = refl
+stopped_fault shape c w name seen (x ∷ xs) = stopped_fault shape c w name (seen ++ x ∷ []) xs
+
+no_walk_fault : (name : Text) (words : List Text) → walked [] names start name ≡ record start { stopped = Some (name, []) }
+    → turn_fault (built table_app).top names start name ≡ [] → walk_fault (built table_app).top names start (name ∷ words) ≡ []
+unfolding walk_fault
+no_walk_fault name words met turn =
+    ap₂ (λ (k : Kinds) (w : Walk). or_else k (walk_fault (built table_app).top names w words)) turn met
+    ∙ stopped_fault (built table_app).top names start name [] words
+
+-- the faults, by the end of the walk and the faults on its way
+abbrev fault_at : Kinds → Walk → Kinds
+fault_at way end = or_else way (or_else (entered_fault (built table_app) end.stopped) (or_else (settle_fault [] false end.held)
+    (or_else (defaults_fault (settled [] end.held).rows [])
+    (check_fault (built table_app).top (finished [] end.held) (is_some (entered (built table_app) end.stopped))))))
+
+abbrev line_at : Walk → Option TableLine
+line_at end = line_matched (entered (built table_app) end.stopped)
+
+abbrev clap_line : List Text → Option TableLine
+clap_line words = unless (fault_of table_app words) (line_matched (subcommand_of table_app words))
+
+named : (name : Text) (words : List Text) → walked [] names start name ≡ record start { stopped = Some (name, []) }
+    → turn_fault (built table_app).top names start name ≡ []
+    → clap_line (name ∷ words) ≡ unless (fault_at [] (record start { stopped = Some (name, words) })) (line_at (record start { stopped = Some (name, words) }))
+named name words met turn =
+    ap₂ (λ (way : Kinds) (end : Walk). unless (fault_at way end) (line_at end)) (no_walk_fault name words met turn) (end_is name words met)
+
+module _ (words : List Text) (texts : AreTexts words) where
+  abbrev answered : Text → Option TableLine
+  answered name = option_map Single (option_and_then (command_of name) (argument_of words))
+
+  one_answers : (name : Text) → unless (fault_in (one name) words)
+      (option_map Single (option_and_then (command_of name) (first_of (codes "argument") (rows_after (one name).rules [] words)))) ≡ answered name
+  one_answers name =
+      inside (fault_in (one name) words) _ ∙ ap (λ (argument : Option Text). option_map Single (option_and_then (command_of name) argument)) (one_taken name words texts)
+    where
+      inside : (faults : Kinds) (argument : Option Text) → unless faults (option_map Single (option_and_then (command_of name) argument))
+          ≡ option_map Single (option_and_then (command_of name) (unless faults argument))
+      inside [] argument = refl
+      inside (fault ∷ more) argument = refl
+
+  format_line : clap_line (codes "format" ∷ words) ≡ line_by (codes "format") words
+  unfolding clap_on_literals
+  format_line = named (codes "format") words refl refl ∙ one_answers (codes "format")
+
+  ingest_line : clap_line (codes "ingest" ∷ words) ≡ line_by (codes "ingest") words
+  unfolding clap_on_literals
+  ingest_line = named (codes "ingest") words refl refl ∙ one_answers (codes "ingest")
+
+  restore_line : clap_line (codes "restore" ∷ words) ≡ line_by (codes "restore") words
+  unfolding clap_on_literals
+  restore_line = named (codes "restore") words refl refl ∙ one_answers (codes "restore")
+
+  delete_line : clap_line (codes "delete" ∷ words) ≡ line_by (codes "delete") words
+  unfolding clap_on_literals
+  delete_line = named (codes "delete") words refl refl ∙ one_answers (codes "delete")
+
+  list_line : clap_line (codes "list" ∷ words) ≡ line_by (codes "list") words
+  unfolding clap_on_literals
+  list_line = named (codes "list") words refl refl ∙ none_taken (codes "list") (Some (Single table.List)) words texts
+
+  run_line : clap_line (codes "run" ∷ words) ≡ line_by (codes "run") words
+  unfolding clap_on_literals
+  run_line = named (codes "run") words refl refl ∙ none_taken (codes "run") (Some Run) words texts
+
+-- ---- words of which the first names no command
+
+record IsNoName (word : Text) : Type 0 where
+  run : (bytes_eq (codes "run") word ≡ false) × (bytes_eq word (codes "run") ≡ false)
+  list : (bytes_eq (codes "list") word ≡ false) × (bytes_eq word (codes "list") ≡ false)
+  format : (bytes_eq (codes "format") word ≡ false) × (bytes_eq word (codes "format") ≡ false)
+  ingest : (bytes_eq (codes "ingest") word ≡ false) × (bytes_eq word (codes "ingest") ≡ false)
+  restore : (bytes_eq (codes "restore") word ≡ false) × (bytes_eq word (codes "restore") ≡ false)
+  delete : (bytes_eq (codes "delete") word ≡ false) × (bytes_eq word (codes "delete") ≡ false)
+
+not_met : (word : Text) → IsNoName word → subcommand_met names idle word ≡ None
+not_met word other =
+    rw (other.format.0, other.ingest.0, other.restore.0, other.delete.0, other.list.0, other.run.0) refl
+
+no_line : (word : Text) (words : List Text) → IsNoName word → line_by word words ≡ None
+no_line word words other = rw (other.run.1, other.list.1) (go (argument_of words))
+  where
+    go : (argument : Option Text) → option_map Single (option_and_then (command_of word) argument) ≡ None
+    go None = refl
+    go (Some a) = rw (other.format.1, other.ingest.1, other.restore.1, other.delete.1) refl
+
+separator_first : (words : List Text) (answer : Option TableLine) → unless (fault_of table_app (codes "--" ∷ words)) answer ≡ None
+unfolding clap_on_literals
+separator_first [] answer = refl
+separator_first (word ∷ words) answer = refl
+
+module _ (word : Text) (words : List Text) (answer : Option TableLine) (met : subcommand_met names idle word ≡ None) (other : is_separator word ≡ false) where
+  long_first : (option : Text × Option Text) → long_of word ≡ Some option → unless (fault_of table_app (word ∷ words)) answer ≡ None
+  unfolding clap_on_literals
+  long_first option is_long = rw (met, other, is_long) refl
+
+  short_first : (x : ℕ) (xs : Text) (first : ℕ) → long_of word ≡ None → short_of word ≡ Some (x ∷ xs)
+      → slice_get (chars (x ∷ xs)) 0 ≡ Some first → unless (fault_of table_app (word ∷ words)) answer ≡ None
+  unfolding clap_on_literals
+  short_first x xs first no_long is_short first_is = rw (met, other, no_long, is_short, first_is) refl
+
+  plain_first : long_of word ≡ None → short_of word ≡ None → unless (fault_of table_app (word ∷ words)) answer ≡ None
+  unfolding clap_on_literals
+  plain_first no_long no_short = rw (met, other, no_long, no_short) refl
+
+unnamed : (word : Text) (words : List Text) → Look word → IsNoName word → clap_line (word ∷ words) ≡ line_by word words
+unnamed word words look other = refused look (line_matched (subcommand_of table_app (word ∷ words))) ∙ sym (no_line word words other)
+  where
+    refused : Look word → (answer : Option TableLine) → unless (fault_of table_app (word ∷ words)) answer ≡ None
+    refused (separator is) answer = subst (λ (w : Text). unless (fault_of table_app (w ∷ words)) answer ≡ None) (sym is) (separator_first words answer)
+    refused (long _ apart option is_long) answer = long_first word words answer (not_met word other) apart option is_long
+    refused (short _ apart no_long x xs is_short first first_is) answer =
+        short_first word words answer (not_met word other) apart x xs first no_long is_short first_is
+    refused (plain _ apart no_long no_short) answer = plain_first word words answer (not_met word other) apart no_long no_short
+
+-- ---- any words
+
+is_name : (name word : Text) → (word ≡ name) ⊎ ((bytes_eq name word ≡ false) × (bytes_eq word name ≡ false))
+is_name name word = go (bytes_eq word name) (bytes_eq name word) refl refl
+  where
+    go : (b d : Bool) → bytes_eq word name ≡ b → bytes_eq name word ≡ d → (word ≡ name) ⊎ ((bytes_eq name word ≡ false) × (bytes_eq word name ≡ false))
+    go true d e f = inl ((bytes_eq-Decides word name).0 e)
+    go false true e f = inl (sym ((bytes_eq-Decides name word).0 f))
+    go false false e f = inr (f, e)
+
+first_line : (word : Text) (words : List Text) → IsUtf8 word → AreTexts words → clap_line (word ∷ words) ≡ line_by word words
+first_line word words text texts = elim (is_name (codes "run") word) [
+  | inl is ↦ at_name (codes "run") is (run_line words texts)
+  | inr run ↦ elim (is_name (codes "list") word) [
+    | inl is ↦ at_name (codes "list") is (list_line words texts)
+    | inr list ↦ elim (is_name (codes "format") word) [
+      | inl is ↦ at_name (codes "format") is (format_line words texts)
+      | inr format ↦ elim (is_name (codes "ingest") word) [
+        | inl is ↦ at_name (codes "ingest") is (ingest_line words texts)
+        | inr ingest ↦ elim (is_name (codes "restore") word) [
+          | inl is ↦ at_name (codes "restore") is (restore_line words texts)
+          | inr restore ↦ elim (is_name (codes "delete") word) [
+            | inl is ↦ at_name (codes "delete") is (delete_line words texts)
+            | inr delete ↦ unnamed word words (look_of word text) (record {
+              run = run;
+              list = list;
+              format = format;
+              ingest = ingest;
+              restore = restore;
+              delete = delete;
+            })
+          ]
+        ]
+      ]
+    ]
+  ]
+]
+  where
+    at_name : (name : Text) → word ≡ name → clap_line (name ∷ words) ≡ line_by name words → clap_line (word ∷ words) ≡ line_by word words
+    at_name name is line = subst (λ (w : Text). clap_line (w ∷ words) ≡ line_by w words) (sym is) line
+
+no_words : clap_line [] ≡ None
+unfolding clap_on_literals
+no_words = refl
+
+-- clap takes the words of each line of the table and no others, and has the line's command and argument
+clap_line_is : (words : List Text) → AreTexts words → clap_line words ≡ line_of words
+clap_line_is [] texts = no_words
+clap_line_is (word ∷ words) texts = first_line word words texts.0 texts.1
+
+are_texts : (words : List (String Global)) → AreTexts (map string_bytes words)
+are_texts [] = tt
+are_texts (word ∷ words) = (IsUtf8-string_bytes word, are_texts words)
+
+pub is_simple_table : is_simple table_app ≡ true
+unfolding clap_on_literals
+is_simple_table = refl
+
+pub is_free_table : is_simple_and_free table_app ≡ true
+unfolding clap_on_literals
+is_free_table = refl
+
+-- where clap took the words
+pub taken_line : (words : List (String Global)) → fault_of table_app (map string_bytes words) ≡ []
+    → line_matched (subcommand_of table_app (map string_bytes words)) ≡ line_of (map string_bytes words)
+taken_line words taken =
+    ap (λ (faults : Kinds). unless faults (line_matched (subcommand_of table_app (map string_bytes words)))) (sym taken)
+    ∙ clap_line_is (map string_bytes words) (are_texts words)
+
+-- where it refused them
+pub refused_line : (words : List (String Global)) (kind : ErrorKind) → IsAmong kind (fault_of table_app (map string_bytes words))
+    → None ≡ line_of (map string_bytes words)
+refused_line words kind among =
+    go (fault_of table_app (map string_bytes words)) among (line_matched (subcommand_of table_app (map string_bytes words)))
+    ∙ clap_line_is (map string_bytes words) (are_texts words)
+  where
+    go : (faults : Kinds) → IsAmong kind faults → (answer : Option TableLine) → None ≡ unless faults answer
+    go [] none answer = absurd none
+    go (fault ∷ more) some answer = refl

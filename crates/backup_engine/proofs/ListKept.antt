@@ -1,0 +1,161 @@
+-- What a `list` keeps: names are listed, and no more than read.
+use Rattle.std.proofs.Common.{◌≡◌, inl, inr, ℕ, List, [], ◌∷◌, Option, None, Some, replicate, Result, Ok, Err, refl, sym, ◌∙◌, ap, subst}
+use Rattle.dd_disk.specs.Ending.{CountsFault, Reads, Refused as NoFault}
+use Rattle.dd_disk.specs.Ending as device
+use Rattle.dd_disk.specs.View.{DiskView}
+use Rattle.dd_io.specs.Flow.{SourceView, SinkView}
+use Rattle.actor_parts.specs.declared.actor.TheConstants.{ACTORS}
+use Rattle.actor_parts.specs.declared.step.Answer.{Answer}
+use Rattle.actor_parts.specs.declared.step.Answer.TheVariants as answers
+use Rattle.actor_parts.specs.StepValue as asked
+use Rattle.namespace.specs.Listing.{NamedRoot, listing_of}
+use Rattle.plain_machine.specs.Machine.{Machine, MayBeFound, Idle, opened}
+use Rattle.plain_machine.specs.Runs.{Step}
+use Rattle.refusals.specs.declared.refusal.Refusal.{Refusal}
+use Rattle.refusals.specs.declared.refusal.Refusal.TheVariants.{Memory}
+use Rattle.reply_text.specs.declared.ending.Ending.{Ending}
+use Rattle.reply_text.specs.declared.ending.Ending.TheVariants.{Sink, Refused}
+use Rattle.reply_text.specs.Text.{listing_text}
+use Rattle.script_lines.specs.Grammar as lines
+use Rattle.script_lines.specs.ReplyValue as replies
+use Rattle.script_runner.specs.Acts.{Lists}
+use Rattle.store_core.specs.Core.{CoreStep, ListRow, Steps}
+use Rattle.store_core.specs.Runs.{IsOf}
+use Rattle.store_core.specs.State.{CoreState, Event}
+use Rattle.store_model.specs.Collisions.{IsIn}
+use Rattle.store_model.specs.Files.{Stored}
+use Rattle.store_model.specs.Image.{Store, Encodes, names_of}
+use Rattle.store_model.specs.Standing.{file_listing}
+use Rattle.backup_engine.specs.Adding.{IsStore}
+use Rattle.backup_engine.specs.AnyDisk.{IsCaused, ListsNames, WroteOnAny, disk_ending}
+use Rattle.backup_engine.specs.Line as table
+use Rattle.backup_engine.specs.Lines.{RunsEachMap}
+use Rattle.backup_engine.specs.Naming.{WritesNames}
+use Rattle.backup_engine.specs.Promise.{KeepsEachMap, KeepsMap, WroteReply}
+use Rattle.backup_engine.specs.Singles.{said}
+use Rattle.backup_engine.specs.TopCall.{Keeps, ending_in}
+use Rattle.backup_engine.proofs.Called.{Called}
+use Rattle.backup_engine.proofs.DeleteMap.{IsDone}
+use Rattle.backup_engine.proofs.NotDone.{holds, without_memory}
+use Rattle.backup_engine.proofs.OneLine.{OneStep, keeps_map, step_of}
+use Rattle.backup_engine.proofs.ReadSteps.{steps_of}
+use Rattle.backup_engine.proofs.Reading.{reads_frame}
+use Rattle.backup_engine.proofs.Replied.{IsReplied, replied_faults, replied_sent, wrote_sent}
+use Rattle.backup_engine.proofs.WholeCall.{all_counted, all_reads, to_end}
+
+-- ---- over a map
+
+listed_idle : (files : List NamedRoot) (m : Stored) (image : List ℕ) (faults : ℕ) (n : Machine) → Step lines.ListNames (replies.Listed files) (opened m image faults) n → n.parts ≡ replicate ACTORS Idle
+listed_idle files m image faults n step = ap (λ (x : Machine). x.parts) step.0.1
+
+module _ (S : List ℕ → Type 0) (files : List NamedRoot) (m : Stored) (image : List ℕ) (v w : DiskView) (told : v.content ≡ Some image) (one : OneStep S lines.ListNames (replies.Listed files) m image v w) where
+  same : one.last ≡ opened m image v.faults
+  same = one.step.0.1
+
+  adds : (store : Store) → Encodes image store → IsStore store w.content
+  adds store right = (image, one.content ∙ ap (λ (n : Machine). Some n.content) same, right)
+
+  leaves : (found : Stored) (d : List ℕ) → MayBeFound one.last.state one.last.stored found → IsOf S found d → IsOf S m d
+  leaves found d may of = subst (λ (x : Stored). IsOf S x d) (subst (λ (n : Machine). MayBeFound n.state n.stored found) same may) of
+
+  wrote_files : (ending : Option Ending) (sink sink_now : SinkView) → WroteReply (listing_text files) ending sink sink_now → WroteReply (listing_text (file_listing m.files)) ending sink sink_now
+  wrote_files ending sink sink_now wrote = subst (λ (l : List NamedRoot). WroteReply (listing_text l) ending sink sink_now) one.step.0.0 wrote
+
+  pub listed_keeps : (ending : Option Ending) (sink sink_now : SinkView) → IsDone ending → WroteReply (listing_text files) ending sink sink_now → KeepsMap S table.List [] ending m v w sink sink_now
+  listed_keeps None sink sink_now done wrote =
+      keeps_map S lines.ListNames (replies.Listed files) m image v w one told table.List None sink sink_now tt (wrote_files None sink sink_now wrote) tt adds leaves
+  listed_keeps (Some Sink) sink sink_now done wrote =
+      keeps_map S lines.ListNames (replies.Listed files) m image v w one told table.List (Some Sink) sink sink_now tt (wrote_files (Some Sink) sink sink_now wrote) tt adds leaves
+  listed_keeps (Some ending) sink sink_now done wrote = absurd done
+
+-- they are the files of the map, which stays
+listed_map : (files : List NamedRoot) (ending : Option Ending) (v w : DiskView) (sink sink_now : SinkView) → RunsEachMap ending (said lines.ListNames (replies.Listed files) ∷ []) v w
+    → IsDone ending → WroteReply (listing_text files) ending sink sink_now → KeepsEachMap table.List [] ending v w sink sink_now
+listed_map files ending v w sink sink_now each done wrote image told among m distinct all is =
+    listed_keeps (IsIn among) files m image v w told (step_of ending lines.ListNames (replies.Listed files) v w each image told among m distinct is (listed_idle files m image v.faults)) ending sink sink_now done wrote
+
+pub is_done : (ending : Option Ending) (sink sink_now : SinkView) → IsReplied ending sink sink_now → IsDone ending
+is_done None sink sink_now replied = tt
+is_done (Some Sink) sink sink_now replied = tt
+is_done (Some ending) sink sink_now replied = absurd replied
+
+-- ---- over any disk
+
+module _ (C : Type 0) (state : C → CoreState) (v w : DiskView) (old new : C) (called : Called C state v w old new) where
+  abbrev asks : Result Answer Refusal → List ℕ → Event
+  asks answer buf = record { actor = 0; step = asked.ListNames; answer = answer; buf = buf }
+
+  made : (answer : Result Answer Refusal) (buf : List ℕ) → CoreStep (state old) (asks answer buf) (state new) → Steps (asks answer buf) (state old) (state new)
+  made answer buf step = steps_of (asks answer buf) (state old) (state new) called.opened.stop_is step
+
+  module _ (files : List NamedRoot) (listed : Lists C state (Ok files) old new) where
+    steps : Steps (asks (Ok (answers.Listed files)) listed.0) (state old) (state new)
+    steps = made (Ok (answers.Listed files)) listed.0 listed.1
+
+    reads : Reads device.Done (state old).disk (state new).disk
+    reads = steps.made.effect.disk
+
+    files_are : files ≡ listing_of (names_of called.opened.store)
+    files_are = steps.made.row.0 ∙ ap listing_of called.opened.represents.names_are.names_are
+
+    lists : (ending : Option Ending) (sink sink_now : SinkView) → WroteReply (listing_text files) ending sink sink_now → ListsNames ending v w sink sink_now
+    lists ending sink sink_now wrote =
+        (holds C state v w old new called (to_end C state v w old new called reads.only.later), subst (λ (l : List NamedRoot). WroteReply (listing_text l) ending sink sink_now) files_are wrote)
+
+    wrote_any : (ending : Option Ending) (sink sink_now : SinkView) → IsReplied ending sink sink_now → WroteReply (listing_text files) ending sink sink_now → WroteOnAny table.List [] ending v w sink sink_now
+    wrote_any None sink sink_now replied wrote = lists None sink sink_now wrote
+    wrote_any (Some Sink) sink sink_now replied wrote = lists (Some Sink) sink sink_now wrote
+    wrote_any (Some ending) sink sink_now replied wrote = absurd replied
+
+    caused : (ending : Option Ending) (source : SourceView) (sink sink_now : SinkView) → IsReplied ending sink sink_now → IsCaused table.List [] v w source source sink sink_now ending
+    caused None source sink sink_now replied = tt
+    caused (Some Sink) source sink sink_now replied = (tt, replied)
+    caused (Some ending) source sink sink_now replied = absurd replied
+
+    faults : (ending : Option Ending) (sink sink_now : SinkView) → IsReplied ending sink sink_now → CountsFault (disk_ending ending) v.faults w.faults
+    faults None sink sink_now replied = all_counted C state v w old new called device.Done reads.faults_are
+    faults (Some Sink) sink sink_now replied = all_counted C state v w old new called device.Done reads.faults_are
+    faults (Some ending) sink sink_now replied = absurd replied
+
+    -- they were written, or the sink failed
+    were_listed : (ending : Option Ending) (source : SourceView) (sink sink_now : SinkView) → IsReplied ending sink sink_now → WroteReply (listing_text files) ending sink sink_now
+        → RunsEachMap ending (said lines.ListNames (replies.Listed files) ∷ []) v w → Keeps table.List [] ending v w source source sink sink_now
+    were_listed ending source sink sink_now replied wrote each = record {
+      map = listed_map files ending v w sink sink_now each (is_done ending sink sink_now replied) wrote;
+      any = record {
+        took = (refl, refl);
+        caused = caused ending source sink sink_now replied;
+        wrote = wrote_any ending sink sink_now replied wrote;
+        faults_are = faults ending sink sink_now replied;
+        durable = tt;
+        source_faults = λ other. refl;
+        sink_faults = replied_faults ending sink sink_now replied;
+      };
+      frame = reads_frame table.List ending v w (all_reads C state v w old new called reads.only);
+      blank = tt;
+      untouched = tt;
+    }
+
+    -- there was no memory for their text
+    untold : (source : SourceView) (sink : SinkView) → Keeps table.List [] (Some (Refused Memory)) v w source source sink sink
+    untold source sink =
+        without_memory table.List [] v w source source sink (record { only = all_reads C state v w old new called reads.only; faults_are = all_counted C state v w old new called NoFault reads.faults_are }) (refl, refl) refl
+
+    pub told_names : (result : Result Unit Ending) (source : SourceView) (sink sink_now : SinkView) → WritesNames (Ok files) result sink sink_now → RunsEachMap (ending_in result) (said lines.ListNames (replies.Listed files) ∷ []) v w
+        → Keeps table.List [] (ending_in result) v w source source sink sink_now
+    told_names result source sink sink_now (inl sent) each =
+        were_listed (ending_in result) source sink sink_now (replied_sent (listing_text files) result sink sink_now sent) (wrote_sent (listing_text files) result sink sink_now sent) each
+    told_names result source sink sink_now (inr (is, stays)) each =
+        subst (λ (r : Result Unit Ending). Keeps table.List [] (ending_in r) v w source source sink sink_now) (sym is)
+        (subst (λ (s : SinkView). Keeps table.List [] (Some (Refused Memory)) v w source source sink s) (sym stays) (untold source sink))
+
+  -- there was no memory for the list
+  by_refusal : (r : Refusal) (buf : List ℕ) → CoreStep (state old) (asks (Err r) buf) (state new) → ListRow (Err r) (state old) (state new) → (source : SourceView) (sink : SinkView)
+      → Keeps table.List [] (Some (Refused r)) v w source source sink sink
+  by_refusal Memory buf step row source sink =
+      let effect = (made (Err Memory) buf step).made.effect in
+      without_memory table.List [] v w source source sink (record { only = all_reads C state v w old new called effect.disk.only; faults_are = all_counted C state v w old new called NoFault effect.disk.faults_are }) (refl, refl) refl
+  by_refusal r buf step row source sink = absurd row
+
+  pub not_listed : (refusal : Refusal) → Lists C state (Err refusal) old new → (source : SourceView) (sink : SinkView) → Keeps table.List [] (Some (Refused refusal)) v w source source sink sink
+  not_listed refusal listed source sink = by_refusal refusal listed.0 listed.1 (made (Err refusal) listed.0 listed.1).made.row source sink

@@ -1,0 +1,118 @@
+-- What `delete` and `list` keep, by what they had a core do, and their lines.
+use Rattle.std.proofs.Common.{ℕ, List, [], ◌∷◌, Option, Some, Result, Ok, Err, refl, sym, subst}
+use Rattle.dd_disk.specs.View.{DiskView, IsLater}
+use Rattle.dd_io.specs.Flow.{SourceView, SinkView}
+use Rattle.actor_parts.specs.declared.step.Answer.{Answer}
+use Rattle.actor_parts.specs.StepValue as asked
+use Rattle.namespace.specs.Listing.{NamedRoot}
+use Rattle.plain_machine.specs.Runs.{Replied}
+use Rattle.refusals.specs.declared.refusal.Refusal.{Refusal}
+use Rattle.reply_text.specs.declared.ending.Ending.{Ending}
+use Rattle.reply_text.specs.declared.ending.Ending.TheVariants.{Refused}
+use Rattle.reply_text.specs.Text.{deleted_line}
+use Rattle.script_lines.specs.Grammar as lines
+use Rattle.script_lines.specs.ReplyValue as replies
+use Rattle.script_runner.specs.Acts.{DoesStep, Lists, RefusesStep}
+use Rattle.script_runner.specs.Opened.{OpenedFollows}
+use Rattle.script_runner.specs.Runner.{Sent}
+use Rattle.script_runner.specs.Scripts.{ScriptsFollow}
+use Rattle.store_core.specs.State.{CoreState}
+use Rattle.backup_engine.specs.Line.{Delete}
+use Rattle.backup_engine.specs.Line as table
+use Rattle.backup_engine.specs.Lines.{RunsEachMap}
+use Rattle.backup_engine.specs.Naming.{AsksDelete, DeleteRun, ListRun}
+use Rattle.backup_engine.specs.Saying.{idle}
+use Rattle.backup_engine.specs.Singles.{refused, said}
+use Rattle.backup_engine.specs.TopCall.{Keeps, ending_in}
+use Rattle.backup_engine.proofs.Called.{Called}
+use Rattle.backup_engine.proofs.DeleteKept.{done_any, done_frame, undone_any, undone_frame}
+use Rattle.backup_engine.proofs.DeleteMap.{deleted_map, undeleted_map}
+use Rattle.backup_engine.proofs.LinesRun.{lines_run}
+use Rattle.backup_engine.proofs.ListKept.{is_done, not_listed, told_names}
+use Rattle.backup_engine.proofs.NameLines.{deleted_line_run, listed_line_run, next_sequence, noted, one_actor, undeleted_line_run}
+use Rattle.backup_engine.proofs.Replied.{replied_sent, wrote_sent}
+use Rattle.backup_engine.proofs.Returned.{one_later, whole_later}
+
+module _ (D : Type 0) (view : D → DiskView) (C : Type 0) (state : C → CoreState) (before : D) (w : DiskView) (old new : C) (called : Called C state (view before) w old new)
+    (opens : OpenedFollows D view C state) (follows : ScriptsFollow C state) where
+  abbrev v : DiskView
+  v = view before
+
+  -- ---- delete
+
+  module _ (name : List ℕ) (source : SourceView) (sink : SinkView) where
+    -- it was done
+    module _ (answer : Answer) (step : DoesStep 0 (asked.Delete name) answer (state old) (state new)) where
+      abbrev number : ℕ
+      number = next_sequence C state old new called.opened.stop_is
+
+      abbrev done_lines : List Replied
+      done_lines = said (lines.Delete name) (replies.Deleted number) ∷ []
+
+      each_map : (ending : Option Ending) → RunsEachMap ending done_lines v w
+      each_map ending =
+          lines_run D view C state before w old new called opens follows ending done_lines (idle old) (noted C state old new called.opened.stop_is) refl refl refl
+          (one_actor (lines.Delete name) refl (replies.Deleted number) done_lines refl) (deleted_line_run C state old new called.opened.stop_is name answer step)
+
+      deleted : (result : Result Unit Ending) (sink_now : SinkView) → Sent (deleted_line name) result sink sink_now → Keeps (Delete name) [] (ending_in result) v w source source sink sink_now
+      deleted result sink_now sent =
+          let ending = ending_in result in
+          let replied = replied_sent (deleted_line name) result sink sink_now sent in
+          let wrote = wrote_sent (deleted_line name) result sink sink_now sent in
+          record {
+            map = deleted_map name number ending v w sink sink_now (each_map ending) (is_done ending sink sink_now replied) wrote;
+            any = done_any C state v w old new called name answer step.0 step.1 ending source sink sink_now replied wrote;
+            frame = done_frame C state v w old new called name answer step.0 step.1 ending sink sink_now replied;
+            blank = tt;
+            untouched = tt;
+          }
+
+    -- it was refused
+    undeleted : (refusal : Refusal) → RefusesStep 0 (asked.Delete name) refusal (state old) (state new) → Keeps (Delete name) [] (Some (Refused refusal)) v w source source sink sink
+    undeleted refusal step =
+        let rs : List Replied = refused (lines.Delete name) refusal ∷ [] in
+        let each =
+        lines_run D view C state before w old new called opens follows (Some (Refused refusal)) rs (idle old) (idle new) refl refl refl
+        (one_actor (lines.Delete name) refl (replies.Refused refusal) rs refl) (undeleted_line_run C state old new called.opened.stop_is name refusal step) in
+        record {
+          map = undeleted_map name refusal v w sink each;
+          any = undone_any C state v w old new called name refusal step.0 step.1 source sink;
+          frame = undone_frame C state v w old new called name refusal step.0 step.1;
+          blank = tt;
+          untouched = tt;
+        }
+
+    pub delete_keeps : (result : Result Unit Ending) (sink_now : SinkView) → DeleteRun C state name (deleted_line name) result old new sink sink_now → Keeps (Delete name) [] (ending_in result) v w source source sink sink_now
+    delete_keeps result sink_now (Ok u, (asks, sent)) = deleted asks.0 asks.1 result sink_now sent
+    delete_keeps result sink_now (Err refusal, (asks, (is, same))) =
+        subst (λ (r : Result Unit Ending). Keeps (Delete name) [] (ending_in r) v w source source sink sink_now) (sym is)
+        (subst (λ (s : SinkView). Keeps (Delete name) [] (Some (Refused refusal)) v w source source sink s) (sym same) (undeleted refusal asks))
+
+  -- ---- list
+
+  pub list_keeps : (result : Result Unit Ending) (source : SourceView) (sink sink_now : SinkView) → ListRun C state result old new sink sink_now → Keeps table.List [] (ending_in result) v w source source sink sink_now
+  list_keeps result source sink sink_now (Ok files, (listed, wrote)) =
+      let rs : List Replied = said lines.ListNames (replies.Listed files) ∷ [] in
+      told_names C state v w old new called files listed result source sink sink_now wrote
+      (lines_run D view C state before w old new called opens follows (ending_in result) rs (idle old) (idle new) refl refl refl
+      (one_actor lines.ListNames refl (replies.Listed files) rs refl) (listed_line_run C state old new called.opened.stop_is files listed))
+  list_keeps result source sink sink_now (Err refusal, (listed, (is, same))) =
+      subst (λ (r : Result Unit Ending). Keeps table.List [] (ending_in r) v w source source sink sink_now) (sym is)
+      (subst (λ (s : SinkView). Keeps table.List [] (Some (Refused refusal)) v w source source sink s) (sym same) (not_listed C state v w old new called refusal listed source sink))
+
+-- ---- the disk, later
+
+module _ (C : Type 0) (state : C → CoreState) (v w : DiskView) (old new : C) (called : Called C state v w old new) where
+  asked_later : (name : List ℕ) (deleted : Result Unit Refusal) → AsksDelete C state name deleted old new → IsLater (state old).disk (state new).disk
+  asked_later name (Ok u) asks = one_later C state _ old new asks.1.1
+  asked_later name (Err refusal) asks = one_later C state _ old new asks.1
+
+  pub delete_later : (name reply : List ℕ) (result : Result Unit Ending) (sink sink_now : SinkView) → DeleteRun C state name reply result old new sink sink_now → IsLater v w
+  delete_later name reply result sink sink_now run = whole_later C state v w old new called (asked_later name run.0 run.1.0)
+
+  listed_later : (listed : Result (List NamedRoot) Refusal) → Lists C state listed old new → IsLater (state old).disk (state new).disk
+  listed_later (Ok files) lists = one_later C state _ old new lists.1
+  listed_later (Err refusal) lists = one_later C state _ old new lists.1
+
+  pub list_later : (result : Result Unit Ending) (sink sink_now : SinkView) → ListRun C state result old new sink sink_now → IsLater v w
+  list_later result sink sink_now run = whole_later C state v w old new called (listed_later run.0 run.1.0)

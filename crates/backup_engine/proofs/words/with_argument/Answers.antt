@@ -1,0 +1,13 @@
+use Rattle.std.proofs.Common.{rules, ◌≡◌, ◌∙◌, ap, ap₂}
+use Rattle.std.proofs.lemmas.Result.{IfOk-weaker}
+use Rattle.clap.specs.Words.{App, app_of, with_rule, with_subcommand}
+use Rattle.backup_engine.specs.Words.{one_argument}
+use Rattle.backup_engine.proofs.words.with_argument.Goals as goal
+
+pub returns : goal.returns
+returns c =
+    let sub_is : app_of c.in_ok-arg.field-0 ≡ one_argument c.args.name.now =
+    c.in_ok-arg.ensures.shape (search rules) ∙ ap₂ with_rule c.new.ensures.app c.argument.ensures.rule in
+    IfOk-weaker c.subcommand.result _ _
+    (λ more h. h.shape (search rules) ∙ ap (λ (sub : App). with_subcommand (app_of c.args.command) sub.top) sub_is)
+    c.subcommand.ensures

@@ -1,0 +1,73 @@
+//! Deleting a name.
+ghost use Rattle.std.specs.Prelude.{◌≡◌, List, []};
+ghost use Rattle.dd_io.specs.Flow.{SourceView};
+ghost use Rattle.dd_disk.specs.View.{IsLater};
+ghost use Rattle.plain_machine.specs.Runs.{Replied};
+ghost use Rattle.store_core.specs.State.{IsRunning};
+ghost use Rattle.backup_engine.specs.Line.{Delete};
+ghost use Rattle.backup_engine.specs.Naming.{DeleteRun};
+ghost use Rattle.backup_engine.specs.Running.{IsFresh};
+ghost use Rattle.backup_engine.specs.Singles.{IsDelete, Speaks};
+ghost use Rattle.backup_engine.specs.TopCall.{Keeps, ending_in};
+
+use crate::lent::handed_back;
+use crate::putting::first;
+use crate::reply::send;
+use actor_parts::{SegBuf, Step};
+use dd_disk::Disk;
+use dd_io::Sink;
+use reply_text::{Ending, deleted_line};
+use script_runner::{an_opened_core_follows, scripts_follow_the_machine};
+use std::alloc::Global;
+use store_core::{Core, HasState};
+use summary_vector::NoSummary;
+
+/// Deletes a name, and writes the reply, which was made before.
+pub(crate) fn delete_name<C: HasState, K: Sink>(
+    core: &mut C,
+    name: &str,
+    reply: &[u8],
+    buf: &mut SegBuf,
+    sink: &mut K,
+) -> Result<(), Ending>
+    requires fresh { IsFresh (C.state core.old) }
+    ensures ran { DeleteRun C C.state name.now reply.now result core.old core.new (K.view sink.old) (K.view sink.new) }
+    ensures running { IsRunning (C.state core.new) }
+{
+    let step = Step::Delete {
+        name: name.as_bytes(),
+    };
+    core.make_step(first(), step, buf)?;
+    send(sink, reply)
+}
+
+/// Deletes a name, and writes the reply.
+pub(crate) fn delete<D: Disk, K: Sink>(
+    alloc: Global,
+    disk: &mut D,
+    sink: &mut K,
+    name: &str,
+) -> Result<(), Ending>
+    ensures keeps { (source : SourceView) → Keeps (Delete name.now) [] (ending_in result) (D.view disk.old) (D.view disk.new)
+        source source (K.view sink.old) (K.view sink.new) }
+    ensures speaks { (rs : List Replied) × Speaks (IsDelete name.now (ending_in result) (K.view sink.old) (K.view sink.new))
+        (ending_in result) rs (D.view disk.old) (D.view disk.new) (K.view sink.old) (K.view sink.new) }
+    ensures later { IsLater (D.view disk.old) (D.view disk.new) }
+{
+    scripts_follow_the_machine::<Core<&mut D, NoSummary>>();
+    an_opened_core_follows::<&mut D, Core<&mut D, NoSummary>>();
+    // All memory is taken before the store is opened, so that a name that is deleted is replied to.
+    let reply = deleted_line(alloc, name.as_bytes())?;
+    let mut buf = SegBuf::new(alloc)?;
+    let mut core = match Core::open(alloc, disk, NoSummary) {
+        Ok(core) => core,
+        Err(refused) => {
+            let refusal = refused.1;
+            let _disk = handed_back(refused);
+            return Err(Ending::Refused(refusal));
+        }
+    };
+    let deleted = delete_name(&mut core, name, &reply, &mut buf, sink);
+    let _disk = core.close();
+    deleted
+}

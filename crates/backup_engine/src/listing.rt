@@ -1,0 +1,69 @@
+//! Listing the names.
+ghost use Rattle.std.specs.Prelude.{◌≡◌, List, []};
+ghost use Rattle.dd_io.specs.Flow.{SourceView};
+ghost use Rattle.dd_disk.specs.View.{IsLater};
+ghost use Rattle.plain_machine.specs.Runs.{Replied};
+ghost use Rattle.store_core.specs.State.{IsRunning};
+ghost use Rattle.backup_engine.specs.Line as table;
+ghost use Rattle.backup_engine.specs.Naming.{ListRun};
+ghost use Rattle.backup_engine.specs.Running.{IsFresh};
+ghost use Rattle.backup_engine.specs.Singles.{IsListing, Speaks};
+ghost use Rattle.backup_engine.specs.TopCall.{Keeps, ending_in};
+
+use crate::lent::handed_back;
+use crate::putting::first;
+use crate::reply::send;
+use actor_parts::{Answer, SegBuf, Step};
+use dd_disk::Disk;
+use dd_io::Sink;
+use reply_text::{Ending, listing_text};
+use script_runner::{an_opened_core_follows, scripts_follow_the_machine};
+use std::alloc::Global;
+use store_core::{Core, HasState};
+use summary_vector::NoSummary;
+
+/// Lists the names, and writes a line for each, and how many they are.
+pub(crate) fn list_names<C: HasState, K: Sink>(
+    alloc: Global,
+    core: &mut C,
+    buf: &mut SegBuf,
+    sink: &mut K,
+) -> Result<(), Ending>
+    requires fresh { IsFresh (C.state core.old) }
+    ensures ran { ListRun C C.state result core.old core.new (K.view sink.old) (K.view sink.new) }
+    ensures running { IsRunning (C.state core.new) }
+{
+    let Answer::Listed { files } = core.make_step(first(), Step::List, buf)? else {
+        unreachable!()
+    };
+    let text = listing_text(alloc, &files)?;
+    send(sink, &text)
+}
+
+/// Writes a line for each name, and how many they are.
+pub(crate) fn list<D: Disk, K: Sink>(
+    alloc: Global,
+    disk: &mut D,
+    sink: &mut K,
+) -> Result<(), Ending>
+    ensures keeps { (source : SourceView) → Keeps table.List [] (ending_in result) (D.view disk.old) (D.view disk.new)
+        source source (K.view sink.old) (K.view sink.new) }
+    ensures speaks { (rs : List Replied) × Speaks (IsListing (ending_in result) (K.view sink.old) (K.view sink.new))
+        (ending_in result) rs (D.view disk.old) (D.view disk.new) (K.view sink.old) (K.view sink.new) }
+    ensures later { IsLater (D.view disk.old) (D.view disk.new) }
+{
+    scripts_follow_the_machine::<Core<&mut D, NoSummary>>();
+    an_opened_core_follows::<&mut D, Core<&mut D, NoSummary>>();
+    let mut buf = SegBuf::new(alloc)?;
+    let mut core = match Core::open(alloc, disk, NoSummary) {
+        Ok(core) => core,
+        Err(refused) => {
+            let refusal = refused.1;
+            let _disk = handed_back(refused);
+            return Err(Ending::Refused(refusal));
+        }
+    };
+    let listed = list_names(alloc, &mut core, &mut buf, sink);
+    let _disk = core.close();
+    listed
+}

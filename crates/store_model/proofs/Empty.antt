@@ -1,5 +1,5 @@
 -- An image with all of an empty store is one.
-use Rattle.std.proofs.Common.{◌≡◌, ◌≢◌, inl, ℕ, zero, suc, ◌+◌, ◌<◌, List, length, replicate, Option, None, refl, sym, ap, arith, subst}
+use Rattle.std.proofs.Common.{◌≡◌, ◌≢◌, inl, ℕ, zero, suc, ◌+◌, ◌<◌, IsTrue, false, List, length, replicate, Option, None, refl, sym, ap, arith, subst}
 use Rattle.std.proofs.lemmas.List.{length-replicate}
 use Rattle.std.specs.Ordering.{nat_cmp}
 use Rattle.std.specs.Cmp.Lexicographic.{slice_cmp}
@@ -44,6 +44,9 @@ no_files_held held image name =
     subst (λ (o : Option Named). IsFileOf held image o (finite.get no_files name)) (sym (finite.get-empty (slice_cmp nat_cmp) name))
     (subst (λ (o : Option (List ℕ)). IsFileOf held image None o) (sym (finite.get-empty (slice_cmp nat_cmp) name)) tt)
 
+no_truth : IsTrue false → ⊥
+no_truth is = cc
+
 -- The cells of an empty store, and no other that is open.
 pub record IsLaidOut (slots : ℕ) (image : List ℕ) : Type 0 where
   pub count : IsSlotCount slots
@@ -66,6 +69,7 @@ formatted_holds slots image laid = record {
       older = inl laid.other_selector;
       records_are = record { few = omega arith; right = tt; stand = tt; ends = λ less. laid.records 0 less };
     };
+    other = (λ is. absurd (no_truth is), λ is. absurd (laid.other_selector is));
     many = length-replicate slots None;
     slots_are = slots_closed 0 slots image (λ one within. laid.containers one (omega arith));
     different = ids_differ slots;

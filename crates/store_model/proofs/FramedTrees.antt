@@ -17,7 +17,7 @@ use Rattle.store_model.specs.Standing.{AreNodes, IsFileOf, AreFilesOf}
 use Rattle.store_model.specs.Collisions.{AreAmong, Stands}
 use Rattle.store_model.specs.Trees.{file_tree, leaf_key, node_key, HasNewest, HoldsTree, HoldsTrees}
 use Rattle.store_model.proofs.Copies.{headers_of_right}
-use Rattle.store_model.proofs.Frames.{SameTo, SameSlots, format_kept, journal_kept, closed_kept, slots_kept, copies_kept}
+use Rattle.store_model.proofs.Frames.{SameTo, SameSlots, format_kept, journal_kept, other_kept, closed_kept, slots_kept, copies_kept}
 use Rattle.store_model.proofs.HeldSlots.{SameHeld, all_held, others_held, newest_still, IsNodeEntry, IsAmongThese, so_still, nodes_so, so_nodes, among_so, so_among}
 use Rattle.store_model.proofs.Kept.{holds_still, copies_still}
 
@@ -52,6 +52,7 @@ encodes_on store image new front size held right many slots_are different = reco
   size = size ∙ right.size;
   format = format_kept image new (λ p n within. front p n (omega (arith, within))) store.slots right.format;
   journal = journal_kept image new front store.selector store.records right.journal;
+  other = other_kept image new (λ p n within. front p n (omega (arith, within))) store.other_open store.selector.half right.other;
   many = many ∙ right.many;
   slots_are = slots_are;
   different = different;

@@ -1,5 +1,5 @@
 -- What an image keeps of a store where parts of it are as they were.
-use Rattle.std.proofs.Common.{◌≡◌, inl, inr, ℕ, ◌+◌, ◌-◌, ◌<◌, ◌≤◌, List, [], ◌∷◌, ◌++◌, length, Option, Some, None, sym, ◌∙◌, ap, arith}
+use Rattle.std.proofs.Common.{◌≡◌, inl, inr, ℕ, ◌+◌, ◌-◌, ◌<◌, ◌≤◌, Bool, List, [], ◌∷◌, ◌++◌, length, Option, Some, None, sym, ◌∙◌, ap, arith}
 use Rattle.std.specs.List.{AllByRecursion}
 use Rattle.std.proofs.lemmas.List.Sums.{sum_by-append, sum_by-cons}
 use Rattle.sha2.specs.Sha256.{sha256}
@@ -11,7 +11,7 @@ use Rattle.disk_format.specs.Layout.{slot_at, data_at, selector_at, cell_at, hal
 use Rattle.container_meta.specs.declared.entry.Entry.{Entry}
 use Rattle.container_meta.specs.declared.kind.Kind.{Kind}
 use Rattle.container_meta.specs.Spelling.{HeaderValue, IsHeader, Follow, bytes_of}
-use Rattle.store_model.specs.Journal.{HoldsSelector, IsOlder, StandFrom, HoldsJournal, ClosedFrom}
+use Rattle.store_model.specs.Journal.{HoldsSelector, IsOlder, KnowsOther, StandFrom, HoldsJournal, ClosedFrom}
 use Rattle.store_model.specs.Slots.{HoldsSlot, HoldSlots, AreHeaders, Copy, newest}
 use Rattle.store_model.specs.Image.{HasFormat, AreCopies}
 use Rattle.store_model.specs.Trees.{bytes_at}
@@ -43,6 +43,12 @@ module _ (old new : List ℕ) (same : SameTo FIRST_HALF old new) where
       let here : range (selector_at (1 - s.half)) 1 new ≡ range (selector_at (1 - s.half)) 1 old = same (selector_at (1 - s.half)) 1 (omega arith) in
       inl (λ opened. closed (sym (byte_of_range (selector_at (1 - s.half)) old new here) ∙ opened))
   older_kept s (inr (t, half, holds, lower)) = inr (t, half, selector_kept t holds, lower)
+
+  -- and its gate
+  pub other_kept : (is_open : Bool) (half : ℕ) → KnowsOther is_open half old → KnowsOther is_open half new
+  other_kept is_open half knows =
+      let here : byte_at (selector_at (1 - half)) new ≡ byte_at (selector_at (1 - half)) old = byte_of_range (selector_at (1 - half)) old new (same (selector_at (1 - half)) 1 (omega arith)) in
+      (λ is. here ∙ knows.0 is, λ is. knows.1 (sym here ∙ is))
 
 -- ---- all before the slots
 

@@ -1,3 +1,4 @@
+pub mod Cells
 pub mod Copies
 pub mod CopyIds
 pub mod Empty
@@ -10,6 +11,7 @@ pub mod HeldSlots
 pub mod HeldTrees
 pub mod IndexSize
 pub mod Indexing
+pub mod Journaled
 pub mod Kept
 pub mod Listed
 pub mod Lookups

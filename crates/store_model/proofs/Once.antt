@@ -1,18 +1,21 @@
 -- An image holds one store at most.
-use Rattle.std.proofs.Common.{◌≡◌, ◌≢◌, inl, inr, ℕ, suc, ◌+◌, ◌-◌, ◌<◌, ◌≤◌, List, [], ◌∷◌, length, Option, Some, None, refl, sym, ◌∙◌, ap, subst, arith}
+use Rattle.std.proofs.Common.{◌≡◌, ◌≢◌, inl, inr, ℕ, suc, ◌+◌, ◌-◌, ◌<◌, ◌≤◌, Bool, true, false, IsTrue, List, [], ◌∷◌, length, Option, Some, None, refl, sym, ◌∙◌, ap, subst, arith}
 use Rattle.std.proofs.lemmas.Bool.Decides.{eqb_tells}
 use Rattle.std.specs.FinMap as finite
 use Rattle.base_model.specs.Bytes.{range, byte_at}
 use Rattle.base_model.proofs.Ranges.{byte-range}
-use Rattle.disk_format.specs.declared.numbers.TheConstants.{RECORD_GATE}
+use Rattle.disk_format.specs.declared.numbers.TheConstants.{RECORD_GATE, SELECTOR_GATE}
 use Rattle.disk_format.specs.Layout.{slot_at, selector_at, cell_at, half_cells}
 use Rattle.disk_format.specs.Cells.{RecordValue, SelectorValue}
 use Rattle.container_meta.specs.Spelling.{HeaderValue}
 use Rattle.namespace.specs.Names.{NameMap, names_with}
-use Rattle.store_model.specs.Journal.{HoldsSelector, IsOlder, Follow, StandFrom, HoldsRecords}
+use Rattle.store_model.specs.Journal.{HoldsSelector, IsOlder, KnowsOther, Follow, StandFrom, HoldsRecords}
 use Rattle.store_model.specs.Slots.{HoldsSlot, HoldSlots}
 use Rattle.store_model.specs.Image.{Store, Encodes}
 use Rattle.store_model.proofs.Spellings.{same_format, same_selector, gate_of_selector, same_record, gate_of_record, same_header, gate_of_header}
+
+no_truth : IsTrue false → ⊥
+no_truth is = cc
 
 -- the first byte of a part
 first_byte : (at count : ℕ) (part image : List ℕ) → 1 ≤ count → range at count image ≡ part → byte_at at image ≡ byte_at 0 part
@@ -83,9 +86,27 @@ records_once half cell previous names (r ∷ rs) (s ∷ ss) image one other stan
 
 -- ---- the store
 
-same_store : (n m : ℕ) (a b : SelectorValue) (r u : List RecordValue) (h k : List (Option HeaderValue)) → n ≡ m → a ≡ b → r ≡ u → h ≡ k
-    → (let s : Store = record { slots = n; selector = a; records = r; held = h } in s) ≡ record { slots = m; selector = b; records = u; held = k }
-same_store n m a b r u h k slots selector records held = cc
+same_store : (n m : ℕ) (a b : SelectorValue) (o p : Bool) (r u : List RecordValue) (h k : List (Option HeaderValue)) → n ≡ m → a ≡ b → o ≡ p → r ≡ u → h ≡ k
+    → (let s : Store = record { slots = n; selector = a; other_open = o; records = r; held = h } in s) ≡ record { slots = m; selector = b; other_open = p; records = u; held = k }
+same_store n m a b o p r u h k slots selector other records held = cc
+
+-- ---- the other selector's gate
+
+-- it is open or not
+pub other_once : (a b : Bool) (half : ℕ) (image : List ℕ) → KnowsOther a half image → KnowsOther b half image → a ≡ b
+other_once true true half image one other = refl
+other_once false false half image one other = refl
+other_once true false half image one other = absurd (no_truth (other.1 (one.0 refl)))
+other_once false true half image one other = absurd (no_truth (one.1 (other.0 refl)))
+
+-- and can be told
+pub other_known : (half : ℕ) (image : List ℕ) → (b : Bool) × KnowsOther b half image
+other_known half image =
+    let gate : ℕ = byte_at (selector_at (1 - half)) image in
+    elim (eqb_tells gate SELECTOR_GATE) [
+      | inl same ↦ (true, (λ is. same.1, λ is. refl))
+      | inr differ ↦ (false, (λ is. absurd (no_truth is), λ is. absurd (differ.1 is)))
+    ]
 
 pub store_once : (image : List ℕ) (s t : Store) → Encodes image s → Encodes image t → s ≡ t
 store_once image s t one other =
@@ -100,7 +121,9 @@ store_once image s t one other =
     (λ below shut. mine.ends (omega (arith, below)) (ap (λ (k : ℕ). byte_at (cell_at s.selector.half k) image) (sym (zero_before (length s.records))) ∙ shut))
     (λ below shut. theirs.ends (omega (arith, below)) (ap (λ (k : ℕ). byte_at (cell_at s.selector.half k) image) (sym (zero_before (length t.records))) ∙ shut)) in
     let held : s.held ≡ t.held = slots_once 0 s.held t.held image (one.many ∙ slots ∙ sym other.many) one.slots_are other.slots_are in
-    same_store s.slots t.slots s.selector t.selector s.records t.records s.held t.held slots selector records held
+    let gate : s.other_open ≡ t.other_open =
+    other_once s.other_open t.other_open s.selector.half image one.other (subst (λ (x : SelectorValue). KnowsOther t.other_open x.half image) (sym selector) other.other) in
+    same_store s.slots t.slots s.selector t.selector s.other_open t.other_open s.records t.records s.held t.held slots selector gate records held
 
 -- ---- the files
 

@@ -90,5 +90,6 @@ module _ (rs : List RecordValue) (follow : Follow 0 finite.empty rs) where
   pub puts_last : last_of 0 (puts_of left) ≤ last_of 0 rs
   puts_last = omega (arith, ordered.most, last_is 0 (puts_of left))
 
-  pub puts_few : length (puts_of left) ≤ half_cells
-  puts_few = omega (arith, length-puts left, good.few)
+  -- a cell is left after them
+  pub puts_room : length (puts_of left) < half_cells
+  puts_room = omega (arith, length-puts left, good.few)

@@ -1,20 +1,21 @@
 -- What is so of a store still, once a container was sealed or a record was added.
-use Rattle.std.proofs.Common.{◌≡◌, ℕ, suc, ◌<◌, ◌≤◌, List, [], ◌∷◌, ◌++◌, length, refl, ◌∙◌, arith, length-append}
+use Rattle.std.proofs.Common.{◌≡◌, ℕ, suc, ◌<◌, ◌≤◌, List, [], ◌∷◌, ◌++◌, length, refl, sym, ◌∙◌, subst, arith, length-append}
 use Rattle.std.specs.FinMap as finite
 use Rattle.disk_format.specs.Cells.{Root, Change, RecordValue, IsChange, IsRecord, IsRoot}
 use Rattle.container_meta.specs.declared.kind.Kind.{Kind}
 use Rattle.container_meta.specs.Segments.{Segment}
 use Rattle.container_meta.specs.Spelling.{HeaderValue, header_of}
-use Rattle.namespace.specs.Names.{NameMap, IsTaken, names_with, names_after}
+use Rattle.namespace.specs.Names.{NameMap, HasPlace, IsTaken, names_with, names_after}
 use Rattle.store_model.specs.Files.{Files}
 use Rattle.store_model.specs.Journal.{Follow, last_of}
 use Rattle.store_model.specs.Slots.{last_id, free_slots, first_free}
-use Rattle.store_model.specs.Image.{Store, IsValidFor}
+use Rattle.store_model.specs.Image.{Store, IsValidFor, names_of}
 use Rattle.store_model.specs.Refusals.{HasRoot}
 use Rattle.store_model.specs.Standing.{IsStoreOf}
-use Rattle.store_model.specs.Steps.{CanSeal, with_sealed, CanChangeName, record_of, with_change}
+use Rattle.store_model.specs.Steps.{CanSeal, with_sealed, CanChangeName, record_of, with_cell, with_change}
 use Rattle.store_model.proofs.Filled.{length-with_slot, free_less, headers_with, last_new, different_with}
-use Rattle.store_model.proofs.NameChanges.{record_right, record_taken, record_rises}
+use Rattle.store_model.proofs.Cells.{names_with_cell, last_with_cell, room_with_cell, valid_with_cell}
+use Rattle.store_model.proofs.NameChanges.{record_right, record_rises}
 use Rattle.store_model.proofs.Roots.{root_of_name}
 use Rattle.store_model.proofs.Sound.{sound_of_right}
 
@@ -28,17 +29,21 @@ follow_push previous names (s ∷ rs) r follow right rises taken = (follow.0, fo
 
 -- a store with one record more
 pub valid_change : (size : ℕ) (name : List ℕ) (change : Change) (store : Store) → IsValidFor size store → CanChangeName name change store → IsChange change → IsValidFor size (with_change name change store)
-valid_change size name change store sound can right = record {
-  count = sound.count;
-  size_is = sound.size_is;
-  selector_right = sound.selector_right;
-  few = omega (arith, can.cell, length-append store.records (record_of name change store ∷ []));
-  follow = follow_push 0 finite.empty store.records (record_of name change store) sound.follow (record_right name change store can right) (record_rises name change store)
-      (record_taken name change store can);
-  many = sound.many;
-  headers = sound.headers;
-  different = sound.different;
-}
+valid_change size name change store sound can right =
+    let base : Store = with_cell store in
+    let valid : IsValidFor size base = valid_with_cell store size sound can.rise in
+    let place : HasPlace (names_of base) name change = subst (λ (n : NameMap). HasPlace n name change) (sym (names_with_cell store sound.follow)) can.place in
+    record {
+      count = valid.count;
+      size_is = valid.size_is;
+      selector_right = valid.selector_right;
+      few = omega (arith, room_with_cell store sound.follow, length-append base.records (record_of name change base ∷ []));
+      follow = follow_push 0 finite.empty base.records (record_of name change base) valid.follow
+          (record_right name change base can.named (omega (arith, can.number, last_with_cell store sound.follow)) right) (record_rises name change base) (can.named, place);
+      many = valid.many;
+      headers = valid.headers;
+      different = valid.different;
+    }
 
 -- ---- a container more
 

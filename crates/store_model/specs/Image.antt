@@ -1,5 +1,5 @@
 -- What a disk image stands for (docs/MODEL.md, 'Images').
-use Rattle.std.specs.Prelude.{◌≡◌, ◌≢◌, ℕ, ◌+◌, ◌≤◌, List, [], ◌∷◌, length, replicate, max, Option, Some, None}
+use Rattle.std.specs.Prelude.{◌≡◌, ◌≢◌, ℕ, ◌+◌, ◌≤◌, Bool, false, List, [], ◌∷◌, length, replicate, max, Option, Some, None}
 use Rattle.std.specs.FinMap as finite
 use Rattle.std.specs.List.{AllByRecursion}
 use Rattle.sha2.specs.Sha256.{sha256}
@@ -9,13 +9,15 @@ use Rattle.disk_format.specs.Cells.{RecordValue, SelectorValue, IsSelector, form
 use Rattle.disk_format.specs.declared.numbers.TheConstants.{FORMAT_GATE}
 use Rattle.container_meta.specs.Spelling.{HeaderValue}
 use Rattle.namespace.specs.Names.{NameMap, names_after}
-use Rattle.store_model.specs.Journal.{last_of, HoldsJournal, Follow}
+use Rattle.store_model.specs.Journal.{last_of, HoldsJournal, KnowsOther, Follow}
 use Rattle.store_model.specs.Slots.{HoldSlots, AreHeaders, DifferentIds}
 
--- what an image holds: how many slots it has, the selector that counts, the records of its half, and what is in each slot
+-- what an image holds: how many slots it has, the selector that counts, whether the gate of the other one is open, the
+-- records of the half that counts, and what is in each slot
 pub record Store : Type 0 where
   pub slots : ℕ
   pub selector : SelectorValue
+  pub other_open : Bool
   pub records : List RecordValue
   pub held : List (Option HeaderValue)
 
@@ -24,6 +26,7 @@ abbrev pub empty_store : ℕ → Store
 empty_store slots = record {
   slots = slots;
   selector = first_selector;
+  other_open = false;
   records = [];
   held = replicate slots None;
 }
@@ -38,6 +41,7 @@ pub record Encodes (image : List ℕ) (store : Store) : Type 0 where
   pub size : length image ≡ size_of store.slots
   pub format : HasFormat store.slots image
   pub journal : HoldsJournal image store.selector store.records
+  pub other : KnowsOther store.other_open store.selector.half image
   pub many : length store.held ≡ store.slots
   pub slots_are : HoldSlots 0 store.held image
   pub different : DifferentIds store.held

@@ -1,5 +1,5 @@
 -- What a disk image holds of the journal (docs/MODEL.md, 'The journal').
-use Rattle.std.specs.Prelude.{◌≡◌, ◌≢◌, ◌⊎◌, ℕ, ◌+◌, ◌-◌, ◌<◌, ◌≤◌, List, [], ◌∷◌, length}
+use Rattle.std.specs.Prelude.{◌≡◌, ◌≢◌, ◌⊎◌, ◌↔◌, ℕ, ◌+◌, ◌-◌, ◌<◌, ◌≤◌, Bool, IsTrue, List, [], ◌∷◌, length}
 use Rattle.std.specs.FinMap as finite
 use Rattle.base_model.specs.Bytes.{range, byte_at}
 use Rattle.disk_format.specs.declared.numbers.TheConstants.{RECORD_GATE, SELECTOR_GATE, VERSION}
@@ -16,6 +16,10 @@ abbrev pub IsOlder : List ℕ → SelectorValue → Type 0
 IsOlder image s =
     (byte_at (selector_at (1 - s.half)) image ≢ SELECTOR_GATE)
     ⊎ ((t : SelectorValue) × (t.half ≡ 1 - s.half) × HoldsSelector image t × (t.generation < s.generation))
+
+-- whether the gate of the selector of the other half is open
+abbrev pub KnowsOther : Bool → ℕ → List ℕ → Type 0
+KnowsOther other_open half image = IsTrue other_open ↔ (byte_at (selector_at (1 - half)) image ≡ SELECTOR_GATE)
 
 -- each record is right after those before it
 abbrev pub Follow : ℕ → NameMap → List RecordValue → Type 0

@@ -1,5 +1,5 @@
 -- The steps of a store, and what they make of it (docs/MODEL.md, 'Steps').
-use Rattle.std.specs.Prelude.{◌≡◌, ℕ, suc, ◌-◌, ◌^◌, ◌<◌, List, [], ◌∷◌, ◌++◌, length, Option, Some}
+use Rattle.std.specs.Prelude.{◌≡◌, ℕ, suc, ◌+◌, ◌-◌, ◌^◌, ◌<◌, ◌≤◌, Bool, true, nat_lt, if◌then◌else◌, List, [], ◌∷◌, ◌++◌, length, Option, Some}
 use Rattle.disk_format.specs.Cells.{Change, RecordValue, IsName, IsChange}
 use Rattle.disk_format.specs.Cells.Change.{Put as PutRoot, Delete as DeleteName}
 use Rattle.disk_format.specs.Layout.{half_cells}
@@ -10,8 +10,10 @@ use Rattle.container_meta.specs.Segments.{Segment, segment_key}
 use Rattle.container_meta.specs.declared.place.Place.{Place}
 use Rattle.container_meta.specs.Spelling.{HeaderValue, IsHeader, header_of}
 use Rattle.namespace.specs.Names.{HasPlace}
+use Rattle.namespace.specs.Puts.{puts_of}
 use Rattle.store_model.specs.Files.{Command, Put, Delete}
 use Rattle.store_model.specs.Image.{Store, names_of, last_sequence}
+use Rattle.store_model.specs.Journal.{selector_after}
 use Rattle.store_model.specs.Slots.{Copy, newest, last_id, free_slots, first_free, with_slot}
 use Rattle.store_model.specs.Standing.{IsOfKind}
 use Rattle.store_model.specs.Collisions.{IsAmong}
@@ -44,19 +46,57 @@ FitsCopy kinds.Tree s place image = bytes_at place image ≡ s.bytes
 abbrev pub FitsHeld : Kind → Store → List ℕ → Segment → Type 0
 FitsHeld kind store image s = (copy : Copy) → newest 0 store.held (segment_key kind s) ≡ Some copy → FitsCopy kind s copy.place image
 
+-- ---- a cell for a record: a free one, or one that a checkpoint makes
+
+-- the half that counts has a free cell
+abbrev pub has_cell : Store → Bool
+has_cell store = nat_lt (length store.records) half_cells
+
+-- it has so many, so that so many records need no checkpoint
+abbrev pub HasCellsFor : Store → ℕ → Type 0
+HasCellsFor store count = length store.records + count ≤ half_cells
+
+-- the store after a checkpoint: the other half counts, with the puts of the names, by their numbers
+abbrev pub with_checkpoint : Store → Store
+with_checkpoint store = record store {
+  selector = selector_after store.selector.half store.selector.generation (last_sequence store);
+  other_open = true;
+  records = puts_of (names_of store);
+}
+
+-- the store with a free cell: it as it is, or where it has none after a checkpoint
+abbrev pub with_cell : Store → Store
+with_cell store = record store {
+  selector = if has_cell store then store.selector else (with_checkpoint store).selector;
+  other_open = if has_cell store then store.other_open else (with_checkpoint store).other_open;
+  records = if has_cell store then store.records else (with_checkpoint store).records;
+}
+
+-- a checkpoint's generation is a number, where one is made
+abbrev pub CanRise : Store → Type 0
+CanRise store = half_cells ≤ length store.records → store.selector.generation < 2 ^ 64 - 1
+
+-- the store, the gate of whose other selector is open or not
+abbrev pub with_other : Bool → Store → Store
+with_other is_open store = record store { other_open = is_open }
+
 -- ---- a name is given a root, or taken away
 
 abbrev pub record_of : List ℕ → Change → Store → RecordValue
 record_of name change store = record { sequence = suc (last_sequence store); name = name; change = change }
 
-abbrev pub with_change : List ℕ → Change → Store → Store
-with_change name change store = record store { records = store.records ++ record_of name change store ∷ [] }
+-- the store with its record after the others
+abbrev pub appended : List ℕ → Change → Store → Store
+appended name change store = record store { records = store.records ++ record_of name change store ∷ [] }
 
--- The name is good; it has room for a root, or is there to be taken away; the half has a free cell, and a number is left.
+abbrev pub with_change : List ℕ → Change → Store → Store
+with_change name change store = appended name change (with_cell store)
+
+-- The name is good; it has room for a root, or is there to be taken away; a cell is free or can be made, and a number is left.
 pub record CanChangeName (name : List ℕ) (change : Change) (store : Store) : Type 0 where
   pub named : IsName name
   pub place : HasPlace (names_of store) name change
-  pub cell : length store.records < half_cells
+  pub rise : CanRise store
   pub number : last_sequence store < 2 ^ 64 - 1
 
 -- what a command changes, of which name

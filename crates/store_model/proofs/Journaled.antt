@@ -1,0 +1,113 @@
+-- What an image stands for where the journal alone has changed: the same files, or those after a command.
+use Rattle.std.proofs.Common.{◌≡◌, ℕ, ◌≤◌, Bool, List, length, sym, ◌∙◌, arith, subst}
+use Rattle.std.specs.FinMap as finite
+use Rattle.base_model.specs.Bytes.{range}
+use Rattle.disk_format.specs.declared.numbers.TheConstants.{FIRST_SLOT}
+use Rattle.disk_format.specs.Cells.{RecordValue, SelectorValue}
+use Rattle.merkle_file.specs.Tree.{Tree}
+use Rattle.namespace.specs.Names.{NameMap, names_after}
+use Rattle.store_model.specs.Files.{Files, Command, Put, Delete, files_after}
+use Rattle.store_model.specs.Journal.{HoldsJournal, KnowsOther, ClosedFrom}
+use Rattle.store_model.specs.Slots.{AreHeaders}
+use Rattle.store_model.specs.Image.{Store, Encodes, names_of}
+use Rattle.store_model.specs.Trees.{file_tree, HasNewest, HoldsTree}
+use Rattle.store_model.specs.Standing.{AreFilesOf}
+use Rattle.store_model.specs.Collisions.{Stands}
+use Rattle.store_model.specs.Steps.{HoldsFor, appended, change_of, name_of}
+use Rattle.store_model.proofs.Copies.{headers_of_right}
+use Rattle.store_model.proofs.Frames.{SameSlots, slots_kept, copies_kept}
+use Rattle.store_model.proofs.HeldKept.{nodes_kept, among_kept, newest_kept, tree_held, file_held}
+use Rattle.store_model.proofs.NameChanges.{files_changed}
+
+-- all bytes but those of the journal are as they were: the format cell, and the slots
+pub record SameButJournal (old new : List ℕ) : Type 0 where
+  pub size : length new ≡ length old
+  pub format : range 0 512 new ≡ range 0 512 old
+  pub slots : (p n : ℕ) → FIRST_SLOT ≤ p → range p n new ≡ range p n old
+
+-- a store with another journal
+abbrev pub with_journal : SelectorValue → Bool → List RecordValue → Store → Store
+with_journal selector other_open records store = record store { selector = selector; other_open = other_open; records = records }
+
+-- the image has this journal, and no record is open after its own
+pub record HasJournal (selector : SelectorValue) (other_open : Bool) (records : List RecordValue) (image : List ℕ) : Type 0 where
+  pub holds : HoldsJournal image selector records
+  pub other : KnowsOther other_open selector.half image
+  pub past : ClosedFrom selector.half (length records) image
+
+module _ (image new : List ℕ) (store : Store) (right : Encodes image store) (same : SameButJournal image new) where
+  slots : SameSlots 0 (length store.held) image new
+  slots slot from below p n above ends = same.slots p n (omega (arith, above))
+
+  headers : AreHeaders store.held
+  headers = headers_of_right image store right
+
+  -- each newest copy is the same
+  pub newest_on : (key : List ℕ) (level : ℕ) (bytes : List ℕ) → HasNewest store.held key level bytes image → HasNewest store.held key level bytes new
+  newest_on = newest_kept image new store.held slots headers
+
+  -- each tree is held on
+  pub tree_on : (t : Tree (List ℕ)) → HoldsTree store.held image t → HoldsTree store.held new t
+  tree_on = tree_held store.held store.held image new newest_on
+
+  -- what isn't of the journal goes on
+  pub right_where : (selector : SelectorValue) (other_open : Bool) (records : List RecordValue) → HasJournal selector other_open records new
+      → Encodes new (with_journal selector other_open records store)
+  right_where selector other_open records has = record {
+    count = right.count;
+    size = same.size ∙ right.size;
+    format = same.format ∙ right.format;
+    journal = has.holds;
+    other = has.other;
+    many = right.many;
+    slots_are = slots_kept image new 0 store.held slots right.slots_are;
+    different = right.different;
+  }
+
+  -- what a command puts is held on
+  pub held_for : (command : Command) → HoldsFor command store.held image → HoldsFor command store.held new
+  held_for (Put name bytes) holds = tree_on (file_tree bytes) holds
+  held_for (Delete name) holds = tt
+
+module _ (S : List ℕ → Type 0) (image new : List ℕ) (store : Store) (files : Files) (is : Stands S store files image) (same : SameButJournal image new) where
+  abbrev encodes : Encodes image store
+  encodes = is.holds.right
+
+  pub files_on : AreFilesOf store.held (names_of store) new files
+  files_on name =
+      file_held store.held store.held image new (tree_on image new store encodes same) (finite.get (names_of store) name) (finite.get files name) (is.holds.files_are name)
+
+  pub stands_where : (selector : SelectorValue) (other_open : Bool) (records : List RecordValue) (filed : Files) → HasJournal selector other_open records new
+      → AreFilesOf store.held (names_after records finite.empty) new filed → Stands S (with_journal selector other_open records store) filed new
+  stands_where selector other_open records filed has files_are = record {
+    holds = record {
+      right = right_where image new store encodes same selector other_open records has;
+      past = has.past;
+      copies = copies_kept image new 0 store.held (slots image new store encodes same) (headers image new store encodes same) is.holds.copies;
+      nodes = nodes_kept image new 0 store.held (slots image new store encodes same) (headers image new store encodes same) is.holds.nodes;
+      files_are = files_are;
+      reserve = is.holds.reserve;
+    };
+    among = among_kept image new S 0 store.held (slots image new store encodes same) (headers image new store encodes same) is.among;
+  }
+
+  -- the same names: the same files
+  pub still_stands : (selector : SelectorValue) (other_open : Bool) (records : List RecordValue) → names_after records finite.empty ≡ names_of store
+      → HasJournal selector other_open records new → Stands S (with_journal selector other_open records store) files new
+  still_stands selector other_open records names has =
+      stands_where selector other_open records files has (subst (λ (n : NameMap). AreFilesOf store.held n new files) (sym names) files_on)
+
+-- And the record of a command after records that leave the same names: the files after the command, where a file that it puts is
+-- held.
+module _ (S : List ℕ → Type 0) (image new : List ℕ) (store : Store) (files : Files) (is : Stands S store files image) (same : SameButJournal image new)
+    (selector : SelectorValue) (is_open : Bool) (records : List RecordValue) (names : names_after records finite.empty ≡ names_of store) where
+  abbrev base : Store
+  base = with_journal selector is_open records store
+
+  pub change_stands : (command : Command) → HoldsFor command store.held image
+      → HasJournal selector is_open (appended (name_of command) (change_of command) base).records new
+      → Stands S (appended (name_of command) (change_of command) base) (files_after command files) new
+  change_stands command holds has =
+      stands_where S image new store files is same selector is_open (appended (name_of command) (change_of command) base).records (files_after command files) has
+      (files_changed command new base files (held_for image new store is.holds.right same command holds)
+      (subst (λ (n : NameMap). AreFilesOf store.held n new files) (sym names) (files_on S image new store files is same)))

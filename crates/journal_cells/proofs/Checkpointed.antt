@@ -1,5 +1,5 @@
 -- What a checkpoint leaves: the journal that stood, or the new one.
-use Rattle.std.proofs.Common.{◌≡◌, ◌≢◌, ◌⊎◌, inl, inr, ℕ, zero, suc, ◌+◌, ◌-◌, ◌*◌, ◌^◌, ◌≤◌, ◌<◌, ◌==◌, Bool, true, false, List, [], ◌∷◌, ◌++◌, length, refl, sym, ap, subst, ◌∙◌, arith, rules, length-append, append_assoc}
+use Rattle.std.proofs.Common.{◌≡◌, ◌≢◌, ◌⊎◌, inl, inr, ℕ, zero, suc, ◌+◌, ◌-◌, ◌*◌, ◌≤◌, ◌<◌, ◌==◌, Bool, true, false, List, [], ◌∷◌, ◌++◌, length, max, refl, sym, ap, subst, ◌∙◌, arith, rules, length-append, append_assoc}
 use Rattle.std.specs.Prelude.{IsTrue}
 use Rattle.std.specs.List.{AllByRecursion}
 use Rattle.std.proofs.lemmas.Bool.{eqb-true, eqb-false}
@@ -20,13 +20,12 @@ use Rattle.dd_disk.proofs.Outside.{same_cell, cell_cases}
 use Rattle.dd_disk.proofs.Writes.{writes_weaker}
 use Rattle.namespace.specs.Names.{NameMap, names_with, names_after}
 use Rattle.namespace.specs.Puts.{puts_of}
-use Rattle.store_model.specs.Journal.{HoldsSelector, IsOlder, Follow, StandFrom, ClosedFrom, last_of}
-use Rattle.store_model.proofs.Puts.{puts_follow, puts_leave, puts_last, puts_few, last_below}
+use Rattle.store_model.specs.Journal.{HoldsSelector, IsOlder, KnowsOther, Follow, StandFrom, ClosedFrom, last_of}
+use Rattle.store_model.proofs.Puts.{puts_follow, puts_leave, puts_last, puts_room, last_below}
 use Rattle.store_model.proofs.Spellings.{gate_of_selector}
 use Rattle.journal_cells.specs.declared.checkpoint.FreshHalf.{FreshHalf}
-use Rattle.journal_cells.specs.Checkpoints.{checkpointed, next_selector, HoldsAlone, IsFoundIn, SameButHalf, StaysFound, HasMoved, StaysOrMoves, Checkpoints, IsCheckpointed}
+use Rattle.journal_cells.specs.Checkpoints.{checkpointed, next_selector, HoldsAlone, IsFoundIn, SameButHalf, HoldsStill, StaysFound, HasMoved, StaysOrMoves, Checkpoints, IsCheckpointed}
 use Rattle.journal_cells.specs.Checkpoints.{cells_of, IsFreshHalf, cells_filled, half_filled, gate_closed, replaced, Replaces}
-use Rattle.journal_cells.specs.Heads.{KnowsOther}
 use Rattle.journal_cells.specs.Journal.{JournalValue, IsTold}
 use Rattle.journal_cells.proofs.Appended.{length_record_cell}
 use Rattle.journal_cells.proofs.Scanned.{gate_read}
@@ -130,10 +129,12 @@ module _ (journal : JournalValue) where
 
   -- an image whose other selector is closed
   stays_shut : (names : NameMap) (selector : SelectorValue) (records : List RecordValue) (old new : List ℕ) → SameButHalf other old new → byte_at (selector_at other) new ≢ SELECTOR_GATE
-      → IsFoundIn journal names selector records old → HoldsAlone new selector records
-  stays_shut names selector records old new same shut found =
-      alone_kept selector records old new (subst (λ (h : ℕ). SameButHalf (1 - h) old new) found.told.half same) found.alone
-      (inl (subst (λ (h : ℕ). byte_at (selector_at (1 - h)) new ≢ SELECTOR_GATE) found.told.half shut))
+      → IsFoundIn journal names selector records old → HoldsStill journal selector records old new
+  stays_shut names selector records old new same shut found = record {
+    alone = alone_kept selector records old new (subst (λ (h : ℕ). SameButHalf (1 - h) old new) found.told.half same) found.alone
+        (inl (subst (λ (h : ℕ). byte_at (selector_at (1 - h)) new ≢ SELECTOR_GATE) found.told.half shut));
+    opens = λ opened. absurd (shut opened);
+  }
 
   gate_after : (p count : ℕ) (old new : List ℕ) → selector_at other + 1 ≤ p → SameOutside p count old new → byte_at (selector_at other) old ≢ SELECTOR_GATE → byte_at (selector_at other) new ≢ SELECTOR_GATE
   gate_after p count old new above same shut opened = shut (sym (byte_of_range (selector_at other) old new (same.before (selector_at other) 1 above)) ∙ opened)
@@ -151,14 +152,17 @@ module _ (journal : JournalValue) where
         stands = λ names selector records found.
             let half = found.told.half in
             let known : KnowsOther true journal.half old = subst (λ (b : Bool). KnowsOther b journal.half old) is found.other in
-            alone_kept selector records old new (subst (λ (h : ℕ). SameButHalf (1 - h) old new) half but) found.alone
-            (older_torn selector old new fits (omega (arith, half, low)) (subst (λ (h : ℕ). SameOutside (selector_at (1 - h)) 1 old new) half same)
-            (subst (λ (h : ℕ). byte_at (selector_at (1 - h)) old ≡ SELECTOR_GATE) half (known.0 (search rules))) found.alone.holds.older);
+            record {
+              alone = alone_kept selector records old new (subst (λ (h : ℕ). SameButHalf (1 - h) old new) half but) found.alone
+                  (older_torn selector old new fits (omega (arith, half, low)) (subst (λ (h : ℕ). SameOutside (selector_at (1 - h)) 1 old new) half same)
+                  (subst (λ (h : ℕ). byte_at (selector_at (1 - h)) old ≡ SELECTOR_GATE) half (known.0 (search rules))) found.alone.holds.older);
+              opens = λ opened. (subst IsTrue (sym is) (search rules), same.after (cell_at other 0) HALF_BYTES (omega (arith, low)));
+            };
       }
 
   -- the half is torn, whose selector is closed
   half_stays : (names : NameMap) (selector : SelectorValue) (records : List RecordValue) (old shut new : List ℕ) → journal.half ≤ 1 → least_size ≤ length shut → SameButHalf other old shut
-      → byte_at (selector_at other) shut ≢ SELECTOR_GATE → Torn (cell_at other 0) HALF_BYTES shut new → IsFoundIn journal names selector records old → HoldsAlone new selector records
+      → byte_at (selector_at other) shut ≢ SELECTOR_GATE → Torn (cell_at other 0) HALF_BYTES shut new → IsFoundIn journal names selector records old → HoldsStill journal selector records old new
   half_stays names selector records old shut new low fits same closed torn found =
       let half = torn_same (cell_at other 0) HALF_BYTES shut new (omega (arith, fits)) torn in
       stays_shut names selector records old new (same_on other old shut new same (from_half other HALF_BYTES shut new (omega arith) half))
@@ -200,7 +204,7 @@ stand_after half cell at (r ∷ rs) old new after same stands = (same.after (cel
 
 -- ---- the new journal
 
-module _ (journal : JournalValue) (names : NameMap) (new : FreshHalf) (is : IsFreshHalf (next_selector journal) names new) (low : journal.half ≤ 1) (below : journal.generation < 2 ^ 64 - 1) where
+module _ (journal : JournalValue) (names : NameMap) (new : FreshHalf) (is : IsFreshHalf (next_selector journal) names new) (low : journal.half ≤ 1) where
   abbrev puts : List RecordValue
   puts = puts_of names
 
@@ -265,7 +269,7 @@ module _ (journal : JournalValue) (names : NameMap) (new : FreshHalf) (is : IsFr
 
     -- an image with the half and its selector
     module _ (given c : List ℕ) (same : SameButHalf (other journal) given shut) (put : c ≡ half_filled (other journal) new shut) (selector : SelectorValue) (records : List RecordValue) (found : IsFoundIn journal names selector records given) where
-      told : IsTold selector records journal names journal.last
+      told : IsTold journal.other_open selector records journal names journal.last
       told = found.told
 
       follow : Follow 0 finite.empty records
@@ -278,7 +282,7 @@ module _ (journal : JournalValue) (names : NameMap) (new : FreshHalf) (is : IsFr
       last_puts = subst (λ (n : NameMap). last_of 0 (puts_of n) ≤ last_of 0 records) (sym told.names_are) (puts_last records follow)
 
       few_puts : length puts ≤ half_cells
-      few_puts = subst (λ (n : NameMap). length (puts_of n) ≤ half_cells) (sym told.names_are) (puts_few records follow)
+      few_puts = subst (λ (n : NameMap). length (puts_of n) ≤ half_cells) (sym told.names_are) (omega (arith, puts_room records follow))
 
       leave_puts : names ≡ names_after puts finite.empty
       leave_puts = subst (λ (n : NameMap). n ≡ names_after (puts_of n) finite.empty) (sym told.names_are) (sym (puts_leave records follow))
@@ -295,7 +299,7 @@ module _ (journal : JournalValue) (names : NameMap) (new : FreshHalf) (is : IsFr
       next_right : IsSelector (next_selector journal)
       next_right = record {
         from_one = omega arith;
-        generation = omega (arith, below);
+        generation = omega (arith, is.below);
         form = refl;
         half = omega arith;
         last = omega (arith, told.last_is, found.alone.holds.selector_is.0.last, last_below 0 finite.empty records (omega arith) follow);
@@ -352,6 +356,7 @@ module _ (journal : JournalValue) (names : NameMap) (new : FreshHalf) (is : IsFr
           told = record {
             half = refl;
             generation = refl;
+            other = refl;
             count = refl;
             previous = refl;
             names_are = leave_puts;
@@ -441,3 +446,14 @@ module _ (journal : JournalValue) (names : NameMap) (new : FreshHalf) (is : IsFr
       (λ given c known put. all_replaced open_gate given c (omega (arith, size, old.sized given known)) put) e
       (λ given d c known image torn. replaces open_gate (sym is_open) given d c (omega (arith, size, old.sized given known)) (omega (arith, size, old.image_sized d image)) torn)
       (subst (λ (h : ℕ). Writes (Replaces open_gate h new) (λ given c. c ≡ replaced open_gate h new given) e old after) here writes)
+
+  -- the journal in memory, of the same half
+  pub renewed_is : (half generation count previous last : ℕ) → half ≡ new.next.half → generation ≡ new.next.generation → count ≡ new.count → previous ≡ new.previous → last ≡ max journal.last new.previous
+      → (let j : JournalValue = record { half = half; generation = generation; other_open = true; count = count; previous = previous; last = last } in j) ≡ checkpointed names journal
+  renewed_is half generation count previous last half_is generation_is count_is previous_is last_is =
+      of_fields half generation count previous last (half_is ∙ ap (λ (s : SelectorValue). s.half) is.next_is) (generation_is ∙ ap (λ (s : SelectorValue). s.generation) is.next_is) (count_is ∙ is.count)
+      (previous_is ∙ is.previous) (last_is ∙ ap (max journal.last) is.previous)
+    where
+      of_fields : (h g c p l : ℕ) → h ≡ 1 - journal.half → g ≡ journal.generation + 1 → c ≡ length (puts_of names) → p ≡ last_of 0 (puts_of names) → l ≡ max journal.last (last_of 0 (puts_of names))
+          → (let j : JournalValue = record { half = h; generation = g; other_open = true; count = c; previous = p; last = l } in j) ≡ checkpointed names journal
+      of_fields h g c p l one two three four five = cc

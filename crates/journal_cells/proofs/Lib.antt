@@ -7,11 +7,11 @@ pub mod Damage
 pub mod Filling
 pub mod Formats
 pub mod Found
-pub mod FreshHalf
 pub mod Listed
 pub mod Names
 pub mod Outcomes
 pub mod Parts
+pub mod Prepared
 pub mod Replays
 pub mod Scanned
 pub mod Selectors

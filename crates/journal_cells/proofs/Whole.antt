@@ -1,13 +1,14 @@
 -- The journal as a whole: the selector that counts and the records of its half.
-use Rattle.std.proofs.Common.{◌≡◌, inl, inr, ℕ, ◌≤◌, List, max, Result, Ok, Err, IsTrue, refl, sym, ap, ◌∙◌, arith}
+use Rattle.std.proofs.Common.{◌≡◌, inl, inr, ℕ, ◌≤◌, Bool, List, max, Result, Ok, Err, IsTrue, refl, sym, ap, subst, ◌∙◌, arith}
 use Rattle.base_model.specs.Checks.{◌>>=◌}
 use Rattle.base_model.proofs.Checks.{then_step}
 use Rattle.disk_format.specs.Cells.{RecordValue, SelectorValue, IsSelector}
 use Rattle.disk_format.specs.Layout.{half_cells}
 use Rattle.dd_disk.specs.View.{DiskView, OnlyReads}
 use Rattle.dd_disk.specs.Shows.{Shows}
-use Rattle.dd_disk.proofs.Shows.{always, weaker, both, until}
-use Rattle.store_model.specs.Journal.{HoldsSelector, IsOlder, HoldsJournal, last_of}
+use Rattle.dd_disk.proofs.Shows.{also, always, weaker, both, until}
+use Rattle.store_model.specs.Journal.{HoldsSelector, IsOlder, HoldsJournal, KnowsOther, last_of}
+use Rattle.store_model.proofs.Once.{other_once}
 use Rattle.journal_cells.specs.declared.fault.CellFault.{CellFault}
 use Rattle.journal_cells.specs.declared.fault.CellFault.TheVariants.{Memory, DiskRead, DiskWrite, Damaged, NotAStore, Version, Numbers}
 use Rattle.journal_cells.specs.Faults.{fails, IsSelectorBreak, IsRecordBreak, IsJournalBreak, IsReadFault, IsCellFault}
@@ -33,12 +34,14 @@ not_both : (r : Replay) (f : CellFault) → (let read : Result Replay CellFault 
 not_both r f e = cc
 
 -- what was read, of a journal that stands there
-told_of : (s : Selection) (t : SelectorValue) (records : List RecordValue) (replay : Replay) → s.selector ≡ t → replay ≡ replay_of nothing_yet records → IsTold t records (opened s replay) replay.names (opened s replay).last
-told_of s t records replay same is =
+told_of : (s : Selection) (t : SelectorValue) (is_open : Bool) (records : List RecordValue) (replay : Replay) → s.selector ≡ t → s.other_open ≡ is_open → replay ≡ replay_of nothing_yet records
+    → IsTold is_open t records (opened s replay) replay.names (opened s replay).last
+told_of s t is_open records replay same other is =
     let previous : replay.previous ≡ last_of 0 records = ap (λ (r : Replay). r.previous) is ∙ replay_previous nothing_yet records in
     record {
       half = ap (λ (v : SelectorValue). v.half) same;
       generation = ap (λ (v : SelectorValue). v.generation) same;
+      other = other;
       count = ap (λ (r : Replay). r.count) is ∙ omega (arith, replay_count nothing_yet records);
       previous = previous;
       names_are = ap (λ (r : Replay). r.names) is ∙ replay_names nothing_yet records;
@@ -92,6 +95,7 @@ module _ (s : Selection) (old mid new : DiskView) (before : OnlyReads old mid) (
           told = record {
             half = refl;
             generation = refl;
+            other = refl;
             count = whole.leave.count;
             previous = whole.leave.previous;
             names_are = whole.leave.names;
@@ -101,24 +105,28 @@ module _ (s : Selection) (old mid new : DiskView) (before : OnlyReads old mid) (
         }
 
     -- the journal that stands there is the one that was read
-    pub only_one : Shows old mid (λ image. (t : SelectorValue) → HoldsSelector image t → IsOlder image t → s.selector ≡ t)
-        → Shows old new (λ image. (t : SelectorValue) (records : List RecordValue) → HoldsJournal image t records → IsTold t records (opened s replay) replay.names (opened s replay).last)
-    only_one selector =
-        weaker old new (λ image sized seen t records held.
-        let same = seen.0 t held.selector_is held.older in
-        told_of s t records replay same (ok_replay replay (replay_of nothing_yet records) (sym seen.1.read ∙ found_there s.selector t records image same held))) (both old mid new selector before whole.seen after.later)
+    pub only_one : Shows old mid (HoldsSelection s) → Shows old mid (λ image. (t : SelectorValue) → HoldsSelector image t → IsOlder image t → s.selector ≡ t)
+        → Shows old new (λ image. (t : SelectorValue) (records : List RecordValue) (is_open : Bool) → HoldsJournal image t records → KnowsOther is_open t.half image
+        → IsTold is_open t records (opened s replay) replay.names (opened s replay).last)
+    only_one held selector =
+        weaker old new (λ image sized seen t records is_open there knows.
+        let same : s.selector ≡ t = seen.0.1 t there.selector_is there.older in
+        let other : s.other_open ≡ is_open =
+        other_once s.other_open is_open t.half image (subst (λ (v : SelectorValue). KnowsOther s.other_open v.half image) same seen.0.0.other) knows in
+        told_of s t is_open records replay same other (ok_replay replay (replay_of nothing_yet records) (sym seen.1.read ∙ found_there s.selector t records image same there)))
+        (both old mid new (also old mid held selector) before whole.seen after.later)
 
   -- where a record has a fault, no journal stands there
   none_stands : (f : CellFault) → Shows old mid (λ image. (t : SelectorValue) → HoldsSelector image t → IsOlder image t → s.selector ≡ t) → Shows mid new (λ image. replayed s.selector.half half_cells nothing_yet image ≡ Err f)
-      → Shows old new (λ image. (t : SelectorValue) (records : List RecordValue) → HoldsJournal image t records → IsTrue (fails f))
+      → Shows old new (λ image. (t : SelectorValue) (records : List RecordValue) (is_open : Bool) → HoldsJournal image t records → KnowsOther is_open t.half image → IsTrue (fails f))
   none_stands f selector fault =
-      weaker old new (λ image sized seen t records held. absurd (not_both (replay_of nothing_yet records) f (sym (found_there s.selector t records image (seen.0 t held.selector_is held.older) held) ∙ seen.1))) (both old mid new selector before fault after.later)
+      weaker old new (λ image sized seen t records is_open held knows. absurd (not_both (replay_of nothing_yet records) f (sym (found_there s.selector t records image (seen.0 t held.selector_is held.older) held) ∙ seen.1))) (both old mid new selector before fault after.later)
 
   -- where one stands, memory or the disk failed
   pub fails_alone : (e : CellFault) → Shows old mid (λ image. (t : SelectorValue) → HoldsSelector image t → IsOlder image t → s.selector ≡ t) → IsCellFault (IsRecordBreak s.selector.half) (λ f. Shows mid new (λ image. replayed s.selector.half half_cells nothing_yet image ≡ Err f)) e
-      → Shows old new (λ image. (t : SelectorValue) (records : List RecordValue) → HoldsJournal image t records → IsTrue (fails e))
-  fails_alone Memory selector is = always old new _ (λ image sized t records held. refl)
-  fails_alone DiskRead selector is = always old new _ (λ image sized t records held. refl)
+      → Shows old new (λ image. (t : SelectorValue) (records : List RecordValue) (is_open : Bool) → HoldsJournal image t records → KnowsOther is_open t.half image → IsTrue (fails e))
+  fails_alone Memory selector is = always old new _ (λ image sized t records is_open held knows. refl)
+  fails_alone DiskRead selector is = always old new _ (λ image sized t records is_open held knows. refl)
   fails_alone DiskWrite selector is = absurd is
   fails_alone (Damaged at why) selector is = none_stands (Damaged at why) selector is.1
   fails_alone (NotAStore g m) selector is = absurd is.0

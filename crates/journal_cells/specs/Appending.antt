@@ -1,5 +1,5 @@
 -- What the journal holds while a record is appended, and after.
-use Rattle.std.specs.Prelude.{◌≡◌, ◌⊎◌, ℕ, List, [], ◌∷◌, ◌++◌}
+use Rattle.std.specs.Prelude.{◌≡◌, ◌⊎◌, ℕ, ◌<◌, List, [], ◌∷◌, ◌++◌}
 use Rattle.std.specs.FinMap as finite
 use Rattle.base_model.specs.Bytes.{byte_at}
 use Rattle.base_model.specs.Frames.{SameOutside}
@@ -7,7 +7,7 @@ use Rattle.disk_format.specs.declared.numbers.TheConstants.{CELL_BYTES, RECORD_G
 use Rattle.disk_format.specs.Cells.{RecordValue}
 use Rattle.disk_format.specs.Layout.{cell_at}
 use Rattle.namespace.specs.Names.{IsTaken, names_after}
-use Rattle.store_model.specs.Journal.{StandFrom}
+use Rattle.store_model.specs.Journal.{StandFrom, last_of}
 use Rattle.journal_cells.specs.Journal.{JournalValue, IsJournalOf, with_record}
 
 -- all bytes but those of the cell after the journal's records are as they were
@@ -22,9 +22,10 @@ IsNextOpen journal image = byte_at (cell_at journal.half journal.count) image �
 abbrev pub HasNext : JournalValue → RecordValue → List ℕ → Type 0
 HasNext journal r image = StandFrom journal.half journal.count (r ∷ []) image
 
--- the records of a journal, and one that the names take
+-- the records of a journal, and one of a greater number that the names take
 pub record CanFollow (journal : JournalValue) (r : RecordValue) (records : List RecordValue) (image : List ℕ) : Type 0 where
   pub journal_is : IsJournalOf journal records image
+  pub rises : last_of 0 records < r.sequence
   pub taken : IsTaken (names_after records finite.empty) r
 
 -- Nothing but the next cell changed, and that was not opened: the journal's records stand still.

@@ -1,19 +1,17 @@
 -- What the journal holds while a checkpoint is made, and after (docs/MODEL.md, 'The journal').
-use Rattle.std.specs.Prelude.{◌≡◌, ◌⊎◌, ℕ, ◌+◌, ◌-◌, ◌^◌, ◌≤◌, Bool, true, false, List, [], ◌∷◌, ◌++◌, length, max, if◌then◌else◌}
-use Rattle.base_model.specs.Bytes.{range, written, zeros}
+use Rattle.std.specs.Prelude.{◌≡◌, ◌⊎◌, ℕ, ◌+◌, ◌-◌, ◌^◌, ◌<◌, ◌≤◌, Bool, true, false, IsTrue, List, [], ◌∷◌, ◌++◌, length, max, if◌then◌else◌}
+use Rattle.base_model.specs.Bytes.{range, byte_at, written, zeros}
 use Rattle.dd_disk.specs.Gated.{CellTorn}
 use Rattle.dd_disk.specs.Writes.{Torn}
-use Rattle.disk_format.specs.declared.numbers.TheConstants.{CELL_BYTES, HALF_BYTES}
+use Rattle.disk_format.specs.declared.numbers.TheConstants.{CELL_BYTES, HALF_BYTES, SELECTOR_GATE}
 use Rattle.disk_format.specs.Cells.{RecordValue, SelectorValue, record_cell, selector_cell}
 use Rattle.disk_format.specs.Layout.{selector_at, cell_at, half_cells}
 use Rattle.namespace.specs.Names.{NameMap}
 use Rattle.namespace.specs.Puts.{puts_of}
-use Rattle.store_model.specs.Journal.{HoldsJournal, ClosedFrom, last_of, selector_after}
+use Rattle.store_model.specs.Journal.{HoldsJournal, KnowsOther, ClosedFrom, last_of, selector_after}
 use Rattle.journal_cells.specs.declared.checkpoint.FreshHalf.{FreshHalf}
 use Rattle.journal_cells.specs.declared.fault.CellFault.{CellFault}
-use Rattle.journal_cells.specs.declared.fault.CellFault.TheVariants.{Numbers}
-use Rattle.journal_cells.specs.Faults.{IsWriteFault}
-use Rattle.journal_cells.specs.Heads.{KnowsOther}
+use Rattle.journal_cells.specs.declared.fault.CellFault.TheVariants.{Memory, Numbers}
 use Rattle.journal_cells.specs.Journal.{JournalValue, IsTold}
 
 -- ---- what a checkpoint makes of a journal
@@ -33,10 +31,11 @@ checkpointed names journal = record {
 abbrev pub next_selector : JournalValue → SelectorValue
 next_selector journal = selector_after journal.half journal.generation journal.last
 
--- why it was not made: for want of memory, for a write or a sync that failed, or where the generation can't rise
-abbrev pub IsCheckpointFault : JournalValue → CellFault → Type 0
-IsCheckpointFault journal Numbers = journal.generation ≡ 2 ^ 64 - 1
-IsCheckpointFault journal fault = IsWriteFault fault
+-- why it was not prepared: for want of memory, or where the generation can't rise
+abbrev pub IsPrepareFault : JournalValue → CellFault → Type 0
+IsPrepareFault journal Memory = Unit {0}
+IsPrepareFault journal Numbers = journal.generation ≡ 2 ^ 64 - 1
+IsPrepareFault journal fault = ⊥
 
 -- ---- images
 
@@ -50,7 +49,7 @@ pub record IsFoundIn (journal : JournalValue) (names : NameMap) (selector : Sele
     (image : List ℕ) : Type 0 where
   pub alone : HoldsAlone image selector records
   pub other : KnowsOther journal.other_open journal.half image
-  pub told : IsTold selector records journal names journal.last
+  pub told : IsTold journal.other_open selector records journal names journal.last
 
 -- a range has no byte of another
 abbrev pub IsApart : ℕ → ℕ → ℕ → ℕ → Type 0
@@ -61,11 +60,25 @@ pub record SameButHalf (half : ℕ) (old new : List ℕ) : Type 0 where
   pub size : length new ≡ length old
   pub same : (p n : ℕ) → IsApart (selector_at half) CELL_BYTES p n → IsApart (cell_at half 0) HALF_BYTES p n → range p n new ≡ range p n old
 
+-- the gate of the other half's selector is open
+abbrev pub IsOtherOpen : JournalValue → List ℕ → Type 0
+IsOtherOpen journal image = byte_at (selector_at (1 - journal.half)) image ≡ SELECTOR_GATE
+
+-- the other half is as it was
+abbrev pub KeepsOtherHalf : JournalValue → List ℕ → List ℕ → Type 0
+KeepsOtherHalf journal old new = range (cell_at (1 - journal.half) 0) HALF_BYTES new ≡ range (cell_at (1 - journal.half) 0) HALF_BYTES old
+
+-- The journal stands. The other half's selector is open only where it was, and then the half is as it was: it is closed before
+-- its half is written.
+pub record HoldsStill (journal : JournalValue) (selector : SelectorValue) (records : List RecordValue) (old new : List ℕ) : Type 0 where
+  pub alone : HoldsAlone new selector records
+  pub opens : IsOtherOpen journal new → IsTrue journal.other_open × KeepsOtherHalf journal old new
+
 -- Nothing but the other half and its selector changed, and that selector doesn't count: the journal stands still.
 pub record StaysFound (journal : JournalValue) (old new : List ℕ) : Type 0 where
   pub same : SameButHalf (1 - journal.half) old new
   pub stands : (names : NameMap) (selector : SelectorValue) (records : List RecordValue) → IsFoundIn journal names selector records old
-      → HoldsAlone new selector records
+      → HoldsStill journal selector records old new
 
 -- the new journal stands, of the same names and the same last sequence number
 pub record HasMoved (journal : JournalValue) (names : NameMap) (image : List ℕ) : Type 0 where
@@ -77,7 +90,7 @@ pub record HasMoved (journal : JournalValue) (names : NameMap) (image : List ℕ
 pub record StaysOrMoves (journal : JournalValue) (names : NameMap) (old new : List ℕ) : Type 0 where
   pub same : SameButHalf (1 - journal.half) old new
   pub stands : (selector : SelectorValue) (records : List RecordValue) → IsFoundIn journal names selector records old
-      → HoldsAlone new selector records ⊎ HasMoved journal names new
+      → HoldsStill journal selector records old new ⊎ HasMoved journal names new
 
 -- A checkpoint is being made: the journal stands still in an image; or that stands which the disk gave at the start, or the
 -- new one.
@@ -103,15 +116,21 @@ pub record FitsHalf (new : FreshHalf) : Type 0 where
   pub cells : length new.cells.items ≤ HALF_BYTES
   pub selector : length new.selector.items ≡ CELL_BYTES
 
--- it has the puts of these names, under this selector
+-- it has the puts of these names, under this selector, and room for a record after them
 pub record IsFreshHalf (selector : SelectorValue) (names : NameMap) (new : FreshHalf) : Type 0 where
   pub count : new.count ≡ length (puts_of names)
-  pub few : new.count ≤ half_cells
+  pub few : new.count < half_cells
   pub previous : new.previous ≡ last_of 0 (puts_of names)
   pub blanks : new.blanks.items ≡ zeros HALF_BYTES
   pub cells : new.cells.items ≡ cells_of (puts_of names)
   pub selector_is : new.selector.items ≡ selector_cell selector
+  pub next_is : new.next ≡ selector
+  pub below : selector.generation < 2 ^ 64
   pub fits : FitsHalf new
+
+-- a half that was prepared for a checkpoint of this journal, of some names
+abbrev pub IsPreparedFor : JournalValue → FreshHalf → Type 0
+IsPreparedFor journal new = (names : NameMap) × IsFreshHalf (next_selector journal) names new
 
 -- the half as it is written, and with its selector
 abbrev pub cells_filled : ℕ → FreshHalf → List ℕ → List ℕ

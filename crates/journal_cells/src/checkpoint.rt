@@ -1,5 +1,5 @@
 //! A checkpoint: the names written anew as puts into the half that does not count, and that half's selector.
-ghost use Rattle.std.specs.Prelude.{◌≡◌, ◌+◌, ◌*◌, ◌≤◌, length, map, option_map, OnOk, IfOk, All};
+ghost use Rattle.std.specs.Prelude.{◌≡◌, ◌+◌, ◌*◌, ◌^◌, ◌<◌, ◌≤◌, length, map, option_map, OnOk, IfOk, All};
 ghost use Rattle.base_model.specs.Bytes.{written};
 ghost use Rattle.disk_format.specs.Layout.{selector_at as place_of_selector, cell_at as place_of_cell};
 ghost use Rattle.dd_disk.specs.View.{IsLater, CrashLeaves, SteppedFrom};
@@ -11,7 +11,7 @@ ghost use Rattle.journal_cells.specs.Checkpoints.{cells_of as cells_of_records};
 ghost use Rattle.journal_cells.specs.Checkpoints.{IsFreshHalf, FitsHalf, FillsHalf, half_filled, Replaces, replaced};
 
 use crate::heads::Selector;
-use crate::spelling::{encode, encode_selector};
+use crate::spelling::{encode_record, encode_selector};
 use base_model::zeros;
 use dd_disk::{Disk, DiskFault, sync_all, write_gated, write_synced};
 use disk_format::{CELL_BYTES, HALF_BYTES, LEAST_SIZE, MOST_NAME, cell_at, selector_at};
@@ -21,9 +21,11 @@ use std::alloc::{AllocError, Global};
 /// The bytes of a half, as the length of a vector.
 const HALF: usize = HALF_BYTES as usize;
 
-/// What is written of a half that is to count.
+/// What a checkpoint writes: the half that is to count, and its selector. It holds all memory that the checkpoint needs.
 #[derive(Drop)]
-pub(crate) struct FreshHalf {
+pub struct FreshHalf {
+    /// What its selector says.
+    pub(crate) next: Selector,
     /// How many records it has.
     pub(crate) count: u32,
     /// The sequence number of the last of them, 0 where there is none.
@@ -44,7 +46,7 @@ fn cells_of(alloc: Global, records: &[Record]) -> Result<Vec<u8>, AllocError>
 {
     let mut cells = Vec::new(alloc);
     for record in records {
-        let cell = encode(alloc, record)?;
+        let cell = encode_record(alloc, record)?;
         cells.extend_from_slice(&cell)?;
     }
     Ok(cells)
@@ -67,10 +69,12 @@ pub(crate) fn fresh_half(
     selector: &Selector,
     names: &Names,
 ) -> Result<FreshHalf, AllocError>
+    requires { selector.now.generation < 2 ^ 64 }
     ensures { IfOk result (IsFreshHalf selector.now names.now) }
 {
     let puts = names.puts_in_order(alloc)?;
     Ok(FreshHalf {
+        next: *selector,
         count: puts.len() as u32,
         previous: last_number(&puts),
         blanks: zeros(alloc, HALF)?,

@@ -14,9 +14,10 @@ mod record;
 mod scanning;
 mod spelling;
 
+pub use checkpoint::FreshHalf;
 pub use fault::CellFault;
 pub use heads::Selector;
 pub use journal::Journal;
 pub use opening::slots_of;
 pub use scanning::scan;
-pub use spelling::{encode_format, encode_selector};
+pub use spelling::{encode_format, encode_record, encode_selector};

@@ -1,10 +1,10 @@
 //! The journal, read from a disk.
-ghost use Rattle.std.specs.Prelude.{◌≡◌, ◌<◌, ◌≤◌, List, option_map, IfOk, IfErr, OnOk, Err};
+ghost use Rattle.std.specs.Prelude.{◌≡◌, ◌<◌, ◌≤◌, Bool, List, option_map, IfOk, IfErr, OnOk, Err};
 ghost use Rattle.disk_format.specs.Cells.{RecordValue, SelectorValue, IsSelector};
 ghost use Rattle.dd_disk.specs.Ending.{ending, Reads, UnlessFailed};
 ghost use Rattle.dd_disk.specs.Shows.{Shows};
 ghost use Rattle.namespace.specs.Names.{IsTaken, record_value};
-ghost use Rattle.store_model.specs.Journal.{HoldsJournal};
+ghost use Rattle.store_model.specs.Journal.{HoldsJournal, KnowsOther};
 ghost use Rattle.journal_cells.specs.Faults.{blames, fails, IsRecordBreak, IsJournalBreak, IsCellFault};
 ghost use Rattle.journal_cells.specs.Records.{nothing_yet, after_record, replayed};
 ghost use Rattle.journal_cells.specs.Journal.{IsScanned, IsTold, journal_in};
@@ -129,8 +129,9 @@ pub fn scan<D: Disk>(alloc: Global, disk: &mut D) -> Result<(Journal, Names, u64
     requires { LEAST_SIZE ≤ (D.view disk.old).size }
     ensures found { IfOk result (λ read. IsScanned (Shows (D.view disk.old) (D.view disk.new)) read.0 read.1 read.2) }
     // A journal that stands there is read, unless memory or the disk fails.
-    ensures only { Shows (D.view disk.old) (D.view disk.new) (λ image. (s : SelectorValue) (records : List RecordValue)
-        → HoldsJournal image s records → UnlessFailed fails (λ read. IsTold s records read.0 read.1 read.2) result) }
+    ensures only { Shows (D.view disk.old) (D.view disk.new) (λ image.
+        (s : SelectorValue) (records : List RecordValue) (is_open : Bool) → HoldsJournal image s records → KnowsOther is_open s.half image
+        → UnlessFailed fails (λ read. IsTold is_open s records read.0 read.1 read.2) result) }
     ensures cause { IfErr result (IsCellFault IsJournalBreak (λ fault. Shows (D.view disk.old) (D.view disk.new) (λ image.
         journal_in image ≡ Err fault))) }
     ensures reads { Reads (ending blames result) (D.view disk.old) (D.view disk.new) }

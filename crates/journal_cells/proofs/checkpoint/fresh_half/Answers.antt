@@ -1,10 +1,10 @@
-use Rattle.std.proofs.Common.{◌≤◌, ◌*◌, length, map, ap, sym, subst, ◌∙◌, arith}
+use Rattle.std.proofs.Common.{◌≤◌, ◌*◌, length, map, ap, refl, sym, subst, ◌∙◌, arith}
 use Rattle.std.specs.List.{All}
 use Rattle.namespace.specs.Names.{record_value}
 use Rattle.disk_format.specs.declared.numbers.TheConstants.{MOST_NAME}
 use Rattle.store_model.specs.Journal.{last_of}
 use Rattle.journal_cells.specs.Checkpoints.{cells_of}
-use Rattle.journal_cells.proofs.FreshHalf.{short, few, half_of}
+use Rattle.journal_cells.proofs.Prepared.{short, few, half_of}
 use Rattle.journal_cells.proofs.checkpoint.fresh_half.Goals as goal
 
 pub overflow_cast-result : goal.overflow_cast-result
@@ -21,4 +21,4 @@ returns c =
     half_of c.args.names.now c.in_ok-puts.puts.items c.puts_in_order.ensures.names c.in_ok-puts.ensures.puts c.args.selector.now _
     (omega (arith, c.len.ensures)) (c.last_number.ensures ∙ ap (λ rs. last_of 0 (map record_value rs)) c.deref.ensures.value) c.in_ok-zeros.ensures
     (c.in_ok-cells_of.ensures.cells ∙ ap (λ rs. cells_of (map record_value rs)) c.deref-2.ensures.value) (c.in_ok-cells_of.ensures.length ∙ ap (λ rs. 512 * length rs) c.deref-2.ensures.value)
-    c.in_ok-encode_selector.ensures.cell c.in_ok-encode_selector.ensures.length
+    c.in_ok-encode_selector.ensures.cell c.in_ok-encode_selector.ensures.length refl c.requires

@@ -1,6 +1,6 @@
 use Rattle.std.proofs.Common.{ap, sym, ◌∙◌}
 use Rattle.std.specs.Option.{option_copied}
-use Rattle.journal_cells.proofs.FreshHalf.{last_one}
+use Rattle.journal_cells.proofs.Prepared.{last_one}
 use Rattle.journal_cells.proofs.checkpoint.last_number.Goals as goal
 
 pub returns-in-Some : goal.returns-in-Some

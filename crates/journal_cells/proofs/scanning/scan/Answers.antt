@@ -19,7 +19,7 @@ pub returns-in_err-left-clause-only : goal.returns-in_err-left-clause-only
 returns-in_err-left-clause-only g c =
     let fault = subst (λ (h : ℕ). IsCellFault (IsRecordBreak h) (λ f. Shows (g.D.Disk.view c.read_selectors.new.disk) (g.D.Disk.view c.read_half.new.disk) (λ image. replayed h half_cells nothing_yet image ≡ Err f)) c.in_err-left.field-0.0)
     (ap (λ v. v.selector.half) c.selection.view_is) c.in_err-left.ensures.cause in
-    weaker _ _ (λ image sized none t records held. failed_on _ c.from_residual-in_err-left.result c.in_err-left.field-0.0 c.from_residual-in_err-left.ensures.1 (none t records held))
+    weaker _ _ (λ image sized none t records is_open held knows. failed_on _ c.from_residual-in_err-left.result c.in_err-left.field-0.0 c.from_residual-in_err-left.ensures.1 (none t records is_open held knows))
     (fails_alone c.in_ok-selection.selection _ _ _ c.in_ok-selection.ensures.reads.only c.in_err-left.ensures.reads.only c.in_err-left.field-0.0 c.in_ok-selection.ensures.only fault)
 
 pub returns-in_err-left-clause-cause : goal.returns-in_err-left-clause-cause
@@ -44,7 +44,7 @@ returns-clause-only g c =
     let mid = g.D.Disk.view c.read_selectors.new.disk in
     let new = g.D.Disk.view c.read_half.new.disk in
     let whole = subst (λ (h : ℕ). IsWhole (Shows mid new) h (replay c.in_ok-left.left)) (ap (λ v. v.selector.half) c.selection.view_is) c.in_ok-left.ensures.whole in
-    weaker _ _ (λ image sized is t records held.
-    subst (λ last. IsTold t records c.journal_of-journal.result c.in_ok-left.left.names last) (sym c.last-last.ensures.last)
-    (subst (λ (j : JournalValue). IsTold t records j c.in_ok-left.left.names j.last) (sym c.journal_of-journal.ensures) (is t records held)))
-    (only_one c.in_ok-selection.selection _ mid new c.in_ok-selection.ensures.reads.only c.in_ok-left.ensures.reads.only (replay c.in_ok-left.left) whole c.in_ok-selection.ensures.only)
+    weaker _ _ (λ image sized is t records is_open held knows.
+    subst (λ last. IsTold is_open t records c.journal_of-journal.result c.in_ok-left.left.names last) (sym c.last-last.ensures.last)
+    (subst (λ (j : JournalValue). IsTold is_open t records j c.in_ok-left.left.names j.last) (sym c.journal_of-journal.ensures) (is t records is_open held knows)))
+    (only_one c.in_ok-selection.selection _ mid new c.in_ok-selection.ensures.reads.only c.in_ok-left.ensures.reads.only (replay c.in_ok-left.left) whole c.in_ok-selection.ensures.shown c.in_ok-selection.ensures.only)

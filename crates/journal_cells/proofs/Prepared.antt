@@ -1,5 +1,5 @@
 -- What is written of a half that is to count.
-use Rattle.std.proofs.Common.{◌≡◌, ℕ, suc, ◌-◌, ◌*◌, ◌≤◌, List, [], ◌∷◌, length, map, Some, sym, ap, subst, ◌∙◌, arith}
+use Rattle.std.proofs.Common.{◌≡◌, ℕ, suc, ◌-◌, ◌*◌, ◌^◌, ◌<◌, ◌≤◌, List, [], ◌∷◌, length, map, Some, sym, ap, subst, ◌∙◌, arith}
 use Rattle.std.specs.Prelude.{slice_get}
 use Rattle.std.specs.List.{All}
 use Rattle.std.proofs.lemmas.List.{length-map}
@@ -45,14 +45,16 @@ module _ (names : NameMap) (puts : List Record) (good : AreNames names) (is : ma
   few = omega (arith, count_is, length-puts names, good.few)
 
   pub half_of : (selector : SelectorValue) (new : FreshHalf) → new.count ≡ length puts → new.previous ≡ last_of 0 (map record_value puts) → new.blanks.items ≡ zeros HALF_BYTES
-      → new.cells.items ≡ cells_of (map record_value puts) → length new.cells.items ≡ CELL_BYTES * length puts → new.selector.items ≡ selector_cell selector → length new.selector.items ≡ CELL_BYTES
+      → new.cells.items ≡ cells_of (map record_value puts) → length new.cells.items ≡ CELL_BYTES * length puts → new.selector.items ≡ selector_cell selector → length new.selector.items ≡ CELL_BYTES → new.next ≡ selector → selector.generation < 2 ^ 64
       → IsFreshHalf selector names new
-  half_of selector new count previous blanks cells long selector_is whole = record {
+  half_of selector new count previous blanks cells long selector_is whole next below = record {
     count = count ∙ count_is;
     few = omega (arith, count, few);
     previous = previous ∙ ap (last_of 0) is;
     blanks = blanks;
     cells = cells ∙ ap cells_of is;
     selector_is = selector_is;
+    next_is = next;
+    below = below;
     fits = record { blanks = ap length blanks ∙ length-zeros HALF_BYTES; cells = omega (arith, long, few); selector = whole };
   }

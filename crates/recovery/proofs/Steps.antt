@@ -20,6 +20,7 @@ use Rattle.journal_cells.specs.Heads.{format_in}
 use Rattle.journal_cells.specs.Journal.{JournalValue, IsScanned, journal_in}
 use Rattle.refusals.specs.declared.refusal.Refusal.{Refusal}
 use Rattle.refusals.specs.declared.refusal.Refusal.TheVariants.{Memory, DiskRead, DiskWrite, Full, Damaged, WrongSize}
+use Rattle.store_model.specs.Journal.{KnowsOther}
 use Rattle.store_model.specs.Image.{Store, HasFormat}
 use Rattle.store_model.proofs.Spellings.{same_format}
 use Rattle.store_state.specs.declared.open_store.OpenStore.{OpenStore}
@@ -170,7 +171,7 @@ module _ (old mid new : DiskView) (before : OnlyReads old mid) where
     -- what was read, as one store
     pub found_all : (o : OpenStore) → IsSized (Shows old mid) old.size o.slots → IsScanned (Shows old mid) o.journal o.names o.journal.last → AreSlots (Shows mid new) o.slots o.containers → IsFound (Shows old new) old.size o
     found_all o sized scanned slots = record {
-      store = record { slots = o.slots; selector = scanned.selector; records = scanned.records; held = slots.held };
+      store = record { slots = o.slots; selector = scanned.selector; other_open = o.journal.other_open; records = scanned.records; held = slots.held };
       represents = record { slots_are = refl; journal = scanned.told; containers = slots.represents };
       valid = record {
         count = sized.count;
@@ -185,11 +186,11 @@ module _ (old mid new : DiskView) (before : OnlyReads old mid) where
       right = weaker old new (λ image long seen. record {
         count = sized.count;
         size = long ∙ sized.size_is;
-        format = seen.0.0;
-        journal = seen.0.1;
+        format = seen.0.0.0;
+        journal = seen.0.0.1;
+        other = subst (λ (h : ℕ). KnowsOther o.journal.other_open h image) scanned.told.half seen.0.1;
         many = slots.many;
         slots_are = seen.1;
         different = slots.different;
-      }) (both old mid new (also old mid sized.format scanned.holds) before slots.holds after.later);
-      other = until old mid new scanned.other before.later.clock_is after.later;
+      }) (both old mid new (also old mid (also old mid sized.format scanned.holds) scanned.other) before slots.holds after.later);
     }

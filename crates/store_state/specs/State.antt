@@ -7,7 +7,7 @@ use Rattle.store_state.specs.Containers.{RepresentsContainers}
 
 -- the journal and the names are those of the store
 abbrev pub RepresentsNames : Store → OpenStore → Type 0
-RepresentsNames store o = IsTold store.selector store.records o.journal o.names o.journal.last
+RepresentsNames store o = IsTold store.other_open store.selector store.records o.journal o.names o.journal.last
 
 -- the tables are those of the store
 pub record Represents (store : Store) (o : OpenStore) : Type 0 where

@@ -30,7 +30,7 @@ pub record IsFirstFree (slot : ℕ) (held : List (Option HeaderValue)) : Type 0 
 
 -- the journal and the names are those of the store
 abbrev pub RepresentsNames : Store → Tables → Type 0
-RepresentsNames store t = IsTold store.selector store.records t.journal t.names t.journal.last
+RepresentsNames store t = IsTold store.other_open store.selector store.records t.journal t.names t.journal.last
 
 -- The tables, and the map of the index where it is known, are those of the store: its journal and names, what its slots
 -- hold, and of each key that is held the place of the newest copy.

@@ -110,9 +110,9 @@ module _ (t new : Tables) (slot id : ℕ) (filled : Contents) (has : HasSlot t s
     index_is_newest = indexed store known is at;
   }
     where
-      told : IsTold store.selector store.records new.journal new.names new.journal.last
-      told = subst (λ (j : JournalValue). IsTold store.selector store.records j new.names j.last) (sym journal_is)
-          (subst (λ (n : NameMap). IsTold store.selector store.records t.journal n t.journal.last) (sym names_are) is.names_are)
+      told : IsTold store.other_open store.selector store.records new.journal new.names new.journal.last
+      told = subst (λ (j : JournalValue). IsTold store.other_open store.selector store.records j new.names j.last) (sym journal_is)
+          (subst (λ (n : NameMap). IsTold store.other_open store.selector store.records t.journal n t.journal.last) (sym names_are) is.names_are)
 
   pub has_sealed : (size : ℕ) (known : Option PlaceMap) → Runs size known t → HasSealed t size known slot filled new id
   has_sealed size known runs = record {

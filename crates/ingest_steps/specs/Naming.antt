@@ -1,78 +1,87 @@
 -- When a name is given a root or taken away, and what that makes of the tables and of the disk (docs/MODEL.md, 'Steps').
-use Rattle.std.specs.Prelude.{◌≡◌, ◌⊎◌, ℕ, suc, ◌-◌, ◌^◌, ◌<◌, ◌≤◌, List, Option, None, IsSome}
+use Rattle.std.specs.Prelude.{◌≡◌, ◌⊎◌, ℕ, suc, ◌-◌, ◌^◌, ◌<◌, Bool, List, Option, None, IsSome}
 use Rattle.std.specs.FinMap as finite
-use Rattle.base_model.specs.Known.{Known, KnownWith}
 use Rattle.disk_format.specs.Cells.{Change, RecordValue, IsName, IsChange}
 use Rattle.disk_format.specs.Cells.Change.{Delete}
-use Rattle.disk_format.specs.Layout.{half_cells}
-use Rattle.dd_disk.specs.View.{DiskView, IsDurable, CrashLeaves, SteppedFrom}
+use Rattle.dd_disk.specs.View.{DiskView}
 use Rattle.dd_disk.specs.Ending.{Ending}
 use Rattle.dd_disk.specs.Moves.{Way, step, Moves}
 use Rattle.container_meta.specs.Places.{PlaceMap}
 use Rattle.namespace.specs.Names.{HasPlace, HasRoom, IsFull, names_with}
-use Rattle.journal_cells.specs.Journal.{JournalValue, with_record}
-use Rattle.journal_cells.specs.Appending.{SameButNext}
+use Rattle.journal_cells.specs.Journal.{with_record}
 use Rattle.refusals.specs.declared.refusal.Refusal.{Refusal}
 use Rattle.refusals.specs.declared.refusal.Refusal.TheVariants.{Memory, NoFile, BadName, TooMany, Numbers, DiskWrite}
 use Rattle.store_model.specs.Files.{Command, Files, files_after}
 use Rattle.store_model.specs.Image.{Store, Encodes}
+use Rattle.store_model.specs.Journal.{Follow}
 use Rattle.store_model.specs.Collisions.{ByteSet, IsIn, Stands}
-use Rattle.store_model.specs.Steps.{CanChangeName, HoldsFor, change_of, name_of, with_change}
+use Rattle.store_model.specs.Steps.{CanChangeName, HoldsFor, change_of, name_of, with_cell, with_change, with_other}
 use Rattle.store_state.specs.declared.tables.Tables.{Tables}
 use Rattle.store_state.specs.Tables.{Represents, RepresentsNames, Runs}
+use Rattle.ingest_steps.specs.Recording.{IsHalfFull, journal_with_cell}
 
 -- ---- when
 
--- The name is good; it has room for a root, or is there to be taken away; and the half that counts has a free cell.
+-- The name is good, and it has room for a root, or is there to be taken away.
 pub record MayChange (t : Tables) (name : List ℕ) (change : Change) : Type 0 where
   pub named : IsName name
   pub place : HasPlace t.names name change
-  pub cell : t.journal.count < half_cells
 
 -- The same of a put.
 pub record MayName (t : Tables) (name : List ℕ) : Type 0 where
   pub named : IsName name
   pub room : HasRoom t.names name
-  pub cell : t.journal.count < half_cells
 
 -- why it isn't so
 abbrev pub IsNameRefusal : Tables → List ℕ → Refusal → Type 0
 IsNameRefusal t name BadName = ¬ (IsName name)
-IsNameRefusal t name TooMany = IsName name × (IsFull t.names name ⊎ (HasRoom t.names name × (half_cells ≤ t.journal.count)))
+IsNameRefusal t name TooMany = IsName name × IsFull t.names name
 IsNameRefusal t name refusal = ⊥
 
 -- The same of a delete.
 pub record MayDelete (t : Tables) (name : List ℕ) : Type 0 where
   pub named : IsName name
   pub there : IsSome (finite.get t.names name)
-  pub cell : t.journal.count < half_cells
 
--- why it isn't so: the name is none, or isn't there; or the half has no free cell
+-- why it isn't so: the name is none, or isn't there
 abbrev pub MayNotDelete : Tables → List ℕ → Refusal → Type 0
 MayNotDelete t name BadName = ¬ (IsName name)
 MayNotDelete t name NoFile = IsName name × (finite.get t.names name ≡ None)
-MayNotDelete t name TooMany = IsName name × IsSome (finite.get t.names name) × (half_cells ≤ t.journal.count)
 MayNotDelete t name refusal = ⊥
 
--- of a write of a record: want of memory is free, and a failed write or sync is told by the count of faults
-abbrev pub IsWriteRefusal : Refusal → Type 0
-IsWriteRefusal Memory = Unit {0}
-IsWriteRefusal DiskWrite = Unit {0}
-IsWriteRefusal refusal = ⊥
+-- A record has its numbers: a sequence number, and where the half is full the generation of a checkpoint.
+pub record HasNumbers (t : Tables) : Type 0 where
+  pub sequence : t.journal.last < 2 ^ 64 - 1
+  pub generation : IsHalfFull t.journal → t.journal.generation < 2 ^ 64 - 1
+
+-- one of them can't rise
+abbrev pub LacksNumbers : Tables → Type 0
+LacksNumbers t = (t.journal.last ≡ 2 ^ 64 - 1) ⊎ (IsHalfFull t.journal × (t.journal.generation ≡ 2 ^ 64 - 1))
+
+-- Why no cell was prepared: for want of memory, which is free, or where a checkpoint's generation can't rise.
+abbrev pub IsUnprepared : Tables → Refusal → Type 0
+IsUnprepared t Memory = Unit {0}
+IsUnprepared t Numbers = IsHalfFull t.journal × (t.journal.generation ≡ 2 ^ 64 - 1)
+IsUnprepared t refusal = ⊥
+
+-- Why a record wasn't written: so, or a write or a sync failed, as the disk counts.
+abbrev pub IsWriteRefusal : Tables → Refusal → Type 0
+IsWriteRefusal t DiskWrite = IsHalfFull t.journal → t.journal.generation < 2 ^ 64 - 1
+IsWriteRefusal t refusal = IsUnprepared t refusal
 
 -- Why no record follows those of the journal: no memory, which is free; no number; or a write or a sync failed, as the disk
 -- counts.
 abbrev pub IsAppendRefusal : Tables → Refusal → Type 0
 IsAppendRefusal t Memory = Unit {0}
-IsAppendRefusal t Numbers = t.journal.last ≡ 2 ^ 64 - 1
-IsAppendRefusal t DiskWrite = t.journal.last < 2 ^ 64 - 1
+IsAppendRefusal t Numbers = LacksNumbers t
+IsAppendRefusal t DiskWrite = HasNumbers t
 IsAppendRefusal t refusal = ⊥
 
 -- Why a name isn't deleted.
 abbrev pub IsDeleteRefusal : Tables → List ℕ → Refusal → Type 0
 IsDeleteRefusal t name Memory = Unit {0}
-IsDeleteRefusal t name Numbers = MayDelete t name × (t.journal.last ≡ 2 ^ 64 - 1)
-IsDeleteRefusal t name DiskWrite = MayDelete t name × (t.journal.last < 2 ^ 64 - 1)
+IsDeleteRefusal t name Numbers = MayDelete t name × LacksNumbers t
+IsDeleteRefusal t name DiskWrite = MayDelete t name × HasNumbers t
 IsDeleteRefusal t name refusal = MayNotDelete t name refusal
 
 -- ---- what becomes of the tables
@@ -83,17 +92,17 @@ record_after_last t name change = record { sequence = suc t.journal.last; name =
 
 -- the tables after a record
 abbrev pub tables_with : RecordValue → Tables → Tables
-tables_with r t = record t { journal = with_record r t.journal; names = names_with r t.names }
+tables_with r t = record t { journal = with_record r (journal_with_cell t.names t.journal); names = names_with r t.names }
 
 -- The tables are those of before, with a change of a name: of each store that they were those of, the name could be changed,
 -- and they are those of the store with it. With `right` that is a step of the store.
 pub record IsChanged (old : Tables) (name : List ℕ) (change : Change) (new : Tables) (sequence : ℕ) : Type 0 where
   pub number : sequence ≡ suc old.journal.last
-  pub below : old.journal.last < 2 ^ 64 - 1
+  pub numbers : HasNumbers old
   pub tables_are : new ≡ tables_with (record_after_last old name change) old
   pub right : IsChange change
   pub can : (store : Store) → RepresentsNames store old → CanChangeName name change store
-  pub represents : (store : Store) (known : Option PlaceMap) → Represents store known old
+  pub represents : (store : Store) (known : Option PlaceMap) → Follow 0 finite.empty store.records → Represents store known old
       → Represents (with_change name change store) known new
   pub runs : (size : ℕ) (known : Option PlaceMap) → Runs size known old → Runs size known new
 
@@ -104,18 +113,23 @@ pub record IsDeleted (old : Tables) (name : List ℕ) (new : Tables) (sequence :
 
 -- ---- what the disk stands for, on the way
 
+-- The names, the last sequence number and the files stand still: the store, whatever the gate of its other selector; or the store
+-- with a free cell, after a checkpoint where it had none.
+abbrev pub FilesStandStill : (List ℕ → Type 0) → Store → Files → List ℕ → Type 0
+FilesStandStill S store files c = ((is_open : Bool) × Stands S (with_other is_open store) files c) ⊎ Stands S (with_cell store) files c
+
 -- the store of these files, where a file that the command puts is held; or that after the command
 abbrev pub commanding : (List ℕ → Type 0) → Command → Store → Files → Way
 commanding S command store files = step
     (λ c. Stands S store files c × HoldsFor command store.held c)
-    (λ c. Stands S store files c ⊎ Stands S (with_change (name_of command) (change_of command) store) (files_after command files) c)
+    (λ c. FilesStandStill S store files c ⊎ Stands S (with_change (name_of command) (change_of command) store) (files_after command files) c)
     (Stands S (with_change (name_of command) (change_of command) store) (files_after command files))
 
 -- the store of these files, or that with a change, whatever root it gives
 abbrev pub changing_name : (List ℕ → Type 0) → List ℕ → Change → Store → Files → Way
 changing_name S name change store files = step
     (Stands S store files)
-    (λ c. Stands S store files c ⊎ Encodes c (with_change name change store))
+    (λ c. FilesStandStill S store files c ⊎ Encodes c (with_change name change store))
     (λ c. Encodes c (with_change name change store))
 
 -- A name is changed: of each store that the tables represent, and of any files.
@@ -127,17 +141,3 @@ pub record ChangesName (t : Tables) (name : List ℕ) (change : Change) (ending 
   -- and of every change, a delete too, and one that gives a root which is of no file
   pub keeps : (among : ByteSet) (store : Store) (files : Files) → RepresentsNames store t
       → Moves (changing_name (IsIn among) name change store files) ending old new
-
--- ---- what becomes of the bytes
-
--- Nothing changes but the cell after the journal's records, whatever the disk holds.
-pub record ChangesNextAlone (journal : JournalValue) (old new : DiskView) : Type 0 where
-  -- At any moment a crash leaves an image from before, or one but for the cell.
-  pub leaves : Known old.content (λ given. CrashLeaves (SteppedFrom (SameButNext journal) old) old new)
-  -- Of a disk that was synced reads give, and a crash leaves, what they gave, but for the cell.
-  pub synced : IsDurable old → Known old.content (λ given.
-      KnownWith new.content (SameButNext journal given) × CrashLeaves (SameButNext journal given) old new)
-
--- where it is done, the content is as before but for the cell
-abbrev pub KeepsButNext : JournalValue → DiskView → DiskView → Type 0
-KeepsButNext journal old new = Known old.content (λ given. KnownWith new.content (SameButNext journal given))

@@ -1,6 +1,6 @@
 -- The steps of an actor that stores a file, as far as they need no segments: when they may be, and what becomes of the
 -- actor's part (docs/MODEL.md, 'Steps').
-use Rattle.std.specs.Prelude.{◌≡◌, ◌≢◌, ◌⊎◌, ℕ, ◌-◌, ◌^◌, ◌<◌, List, [], Bool, true, false}
+use Rattle.std.specs.Prelude.{◌≡◌, ◌≢◌, ◌⊎◌, ℕ, List, [], Bool, true, false}
 use Rattle.sha2.specs.Sha256.{sha256}
 use Rattle.disk_format.specs.Cells.{Root}
 use Rattle.disk_format.specs.Cells.Change.{Put}
@@ -15,7 +15,7 @@ use Rattle.refusals.specs.declared.refusal.Refusal.{Refusal}
 use Rattle.refusals.specs.declared.refusal.Refusal.TheVariants.{Memory, WrongPart, Unpinned, Numbers, DiskWrite}
 use Rattle.store_model.specs.Refusals.{root_key}
 use Rattle.store_state.specs.declared.tables.Tables.{Tables}
-use Rattle.ingest_steps.specs.Naming.{MayName, IsNameRefusal, IsChanged}
+use Rattle.ingest_steps.specs.Naming.{MayName, IsNameRefusal, HasNumbers, LacksNumbers, IsChanged}
 
 -- the actor is at something else than the step takes
 abbrev pub IsWrongPart : PartKind → Part → Refusal → Type 0
@@ -59,8 +59,8 @@ IsUncommitted part t name root refusal = (kind_of part ≡ kinds.Writing) × IsN
 -- Why a commit is refused. Want of memory is free, and a failed write or sync is told by the count of faults.
 abbrev pub IsCommitRefusal : Part → Tables → List ℕ → Root → Refusal → Type 0
 IsCommitRefusal part t name root Memory = Unit {0}
-IsCommitRefusal part t name root Numbers = MayCommit part t name root × (t.journal.last ≡ 2 ^ 64 - 1)
-IsCommitRefusal part t name root DiskWrite = MayCommit part t name root × (t.journal.last < 2 ^ 64 - 1)
+IsCommitRefusal part t name root Numbers = MayCommit part t name root × LacksNumbers t
+IsCommitRefusal part t name root DiskWrite = MayCommit part t name root × HasNumbers t
 IsCommitRefusal part t name root refusal = IsUncommitted part t name root refusal
 
 -- The name has the root, and the actor alone is at something else: at nothing.

@@ -14,7 +14,8 @@ ghost use Rattle.refusals.specs.declared.refusal.Refusal.TheVariants.{Unpinned};
 ghost use Rattle.store_model.specs.Refusals.{root_key as key_of_root};
 ghost use Rattle.store_state.specs.Refused.{blames};
 ghost use Rattle.disk_format.specs.Cells.Change.{Put};
-ghost use Rattle.ingest_steps.specs.Naming.{ChangesName, ChangesNextAlone, KeepsButNext};
+ghost use Rattle.ingest_steps.specs.Naming.{ChangesName};
+ghost use Rattle.ingest_steps.specs.Recording.{ChangesJournalAlone, KeepsButRecord};
 ghost use Rattle.ingest_steps.specs.Writers.{IsWrongPart, empty_root, IsStored, IsNotStored};
 ghost use Rattle.ingest_steps.specs.Writers.{MayCommit, IsUncommitted, IsCommitRefusal, IsCommitted};
 
@@ -115,7 +116,8 @@ fn may_commit(tables: &Tables, part: &Part, name: &[u8], root: &Root) -> Result<
 ///
 /// Refusals, in this order: `WrongPart`; `BadName` and `TooMany` of the name; `Unpinned` where the root's segment isn't
 /// among the actor's with the root's level and length, unless the file is empty; `Numbers` where the last sequence number is
-/// 2^64 - 1; `DiskWrite`. `Memory` comes before the first write. Each leaves the tables and the parts as they were.
+/// 2^64 - 1, or the generation where a checkpoint is due; `DiskWrite`. `Memory` comes before the first write. Each leaves the
+/// tables and the parts as they were.
 pub fn commit<D: Disk>(
     alloc: Global,
     disk: &mut D,
@@ -132,8 +134,8 @@ pub fn commit<D: Disk>(
     ensures durable { OnOk result (IsDurable (D.view disk.new)) }
     ensures disk { Acts (ending blames result) (D.view disk.old) (D.view disk.new) }
     ensures moves { ChangesName tables.old name.now (Put root.now) (ending blames result) (D.view disk.old) (D.view disk.new) }
-    ensures frame { ChangesNextAlone tables.old.journal (D.view disk.old) (D.view disk.new) }
-    ensures same { OnOk result (KeepsButNext tables.old.journal (D.view disk.old) (D.view disk.new)) }
+    ensures frame { ChangesJournalAlone tables.old.journal (D.view disk.old) (D.view disk.new) }
+    ensures same { OnOk result (KeepsButRecord tables.old.journal (D.view disk.old) (D.view disk.new)) }
 {
     may_commit(tables, parts.part(actor), name, root)?;
     let number = put_root(alloc, disk, tables, name, root)?;

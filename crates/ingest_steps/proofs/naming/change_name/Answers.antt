@@ -3,8 +3,9 @@ use Rattle.disk_format.specs.Cells.{RecordValue}
 use Rattle.namespace.specs.Names.{change_value, record_value}
 use Rattle.dd_disk.proofs.Moves.{passed}
 use Rattle.store_state.specs.Refused.{blames}
-use Rattle.ingest_steps.specs.Naming.{ChangesName, tables_with}
-use Rattle.ingest_steps.proofs.Named.{record_is, is_changed, changes_name, changes_next, same_but_next}
+use Rattle.ingest_steps.specs.Naming.{ChangesName, HasNumbers, tables_with}
+use Rattle.ingest_steps.proofs.Named.{record_is, is_changed, changes_name, unwritten_name}
+use Rattle.ingest_steps.proofs.RecordFrames.{changes_journal, same_but_record}
 use Rattle.ingest_steps.proofs.naming.change_name.Goals as goal
 
 pub returns-in_err-write_record-clause-moves : goal.returns-in_err-write_record-clause-moves
@@ -14,16 +15,17 @@ returns-in_err-write_record-clause-moves g c =
     let is = record_is t c.args.name.now (change_value c.args.change) r c.in_ok-number.number c.in_ok-made.ensures c.in_ok-number.ensures.next in
     passed (λ e. ChangesName t c.args.name.now (change_value c.args.change) e (g.D.Disk.view c.args.disk.now) (g.D.Disk.view c.write_record.new.disk)) blames
     c.from_residual-in_err-write_record.result c.in_err-write_record.field-0.0 c.from_residual-in_err-write_record.ensures.1
-    (changes_name t _ _ _ c.args.name.now (change_value c.args.change) r is c.requires.may c.in_ok-number.ensures.below c.in_err-write_record.ensures.writes)
+    (unwritten_name t _ _ c.args.name.now (change_value c.args.change) r c.in_err-write_record.field-0.0 is c.requires.may c.in_ok-number.ensures.below c.in_err-write_record.ensures.refused c.in_err-write_record.ensures.writes)
 
 pub returns-in_err-write_record-clause-frame : goal.returns-in_err-write_record-clause-frame
-returns-in_err-write_record-clause-frame g c = changes_next c.args.tables.now.journal (record_value c.in_ok-made.made) _ _ _ c.in_err-write_record.ensures.writes
+returns-in_err-write_record-clause-frame g c = changes_journal c.args.tables.now.names c.args.tables.now.journal (record_value c.in_ok-made.made) _ _ _ c.in_err-write_record.ensures.writes
 
 pub returns-clause-ok : goal.returns-clause-ok
 returns-clause-ok g c =
     let t = c.args.tables.now in
     let is = record_is t c.args.name.now (change_value c.args.change) (record_value c.in_ok-made.made) c.in_ok-number.number c.in_ok-made.ensures c.in_ok-number.ensures.next in
-    is_changed c.args.name.now (change_value c.args.change) t c.write_record.new.tables c.in_ok-number.number c.requires.may c.requires.right c.in_ok-number.ensures.below c.in_ok-number.ensures.next
+    let numbers : HasNumbers t = record { sequence = c.in_ok-number.ensures.below; generation = c.in_ok-write_record.ensures.below } in
+    is_changed c.args.name.now (change_value c.args.change) t c.requires.may numbers c.write_record.new.tables c.in_ok-number.number c.requires.right c.in_ok-number.ensures.next
     (c.in_ok-write_record.ensures.tables ∙ ap (λ (r : RecordValue). tables_with r t) is)
 
 pub returns-clause-moves : goal.returns-clause-moves
@@ -31,10 +33,11 @@ returns-clause-moves g c =
     let t = c.args.tables.now in
     let r = record_value c.in_ok-made.made in
     let is = record_is t c.args.name.now (change_value c.args.change) r c.in_ok-number.number c.in_ok-made.ensures c.in_ok-number.ensures.next in
-    changes_name t _ _ _ c.args.name.now (change_value c.args.change) r is c.requires.may c.in_ok-number.ensures.below c.in_ok-write_record.ensures.writes
+    let numbers : HasNumbers t = record { sequence = c.in_ok-number.ensures.below; generation = c.in_ok-write_record.ensures.below } in
+    changes_name t _ _ _ c.args.name.now (change_value c.args.change) r is c.requires.may numbers c.in_ok-write_record.ensures.writes
 
 pub returns-clause-frame : goal.returns-clause-frame
-returns-clause-frame g c = changes_next c.args.tables.now.journal (record_value c.in_ok-made.made) _ _ _ c.in_ok-write_record.ensures.writes
+returns-clause-frame g c = changes_journal c.args.tables.now.names c.args.tables.now.journal (record_value c.in_ok-made.made) _ _ _ c.in_ok-write_record.ensures.writes
 
 pub returns-clause-same : goal.returns-clause-same
-returns-clause-same g c = same_but_next c.args.tables.now.journal (record_value c.in_ok-made.made) _ _ c.in_ok-write_record.ensures.writes
+returns-clause-same g c = same_but_record c.args.tables.now.names c.args.tables.now.journal (record_value c.in_ok-made.made) _ _ c.in_ok-write_record.ensures.writes

@@ -1,0 +1,90 @@
+-- What a record that is written makes of the bytes.
+use Rattle.std.proofs.Common.{◌≡◌, inl, inr, ℕ, ◌-◌, ◌<◌, ◌≤◌, Bool, true, false, List, Some, refl, sym, ◌∙◌, subst, arith}
+use Rattle.disk_format.specs.Cells.{RecordValue}
+use Rattle.disk_format.specs.Layout.{half_cells}
+use Rattle.dd_disk.specs.View.{DiskView, IsDurable, CrashLeaves, SteppedFrom}
+use Rattle.dd_disk.specs.Ending.{Ending, Done}
+use Rattle.dd_disk.specs.Writes.{Writes}
+use Rattle.dd_disk.proofs.Later.{leaves_weaker}
+use Rattle.namespace.specs.Names.{NameMap}
+use Rattle.journal_cells.specs.Appending.{SameButNext, Appends}
+use Rattle.journal_cells.specs.Checkpoints.{SameButHalf, checkpointed}
+use Rattle.journal_cells.specs.Journal.{JournalValue}
+use Rattle.store_model.proofs.Journaled.{SameButJournal}
+use Rattle.ingest_steps.proofs.Recorded.{count_of_cell}
+use Rattle.ingest_steps.proofs.Renewed.{next_alone, half_alone}
+use Rattle.ingest_steps.specs.Recording.{RecordsBy, IsRecordedBy, Records, IsRecorded, SameButRecordBy, SameButRecord, ChangesJournalAlone, KeepsButRecord, has_cell}
+
+half_on : (half : ℕ) (old mid new : List ℕ) → SameButHalf half old mid → SameButHalf half mid new → SameButHalf half old new
+half_on half old mid new first second = record {
+  size = second.size ∙ first.size;
+  same = λ p n outside apart. second.same p n outside apart ∙ first.same p n outside apart;
+}
+
+-- a cell of the new half
+next_in : (names : NameMap) (journal : JournalValue) (old new : List ℕ) → (checkpointed names journal).count < half_cells → SameButNext (checkpointed names journal) old new → SameButHalf (1 - journal.half) old new
+next_in names journal old new room same = record {
+  size = same.size;
+  same = λ p n outside apart. elim apart [ inl before ↦ same.before p n (omega (arith, before)) | inr after ↦ same.after p n (omega (arith, after, room)) ];
+}
+
+same_here : (free : Bool) (journal : JournalValue) (bytes : List ℕ) → SameButRecordBy free journal bytes bytes
+same_here true journal bytes = record { size = refl; before = λ p n within. refl; after = λ p n above. refl }
+same_here false journal bytes = record { size = refl; same = λ p n outside apart. refl }
+
+but_appends : (journal : JournalValue) (r : RecordValue) (given old new : List ℕ) → Appends journal r given old new → (Q : Type 0) → (SameButNext journal old new → Q) → (SameButNext journal given new → Q) → Q
+but_appends journal r given old new (inl still) Q from_old from_given = from_old still.same
+but_appends journal r given old new (inr follows) Q from_old from_given = from_given follows.same
+
+-- an image is but for these bytes one from before, or the content
+but_record : (free : Bool) (names : NameMap) (journal : JournalValue) (r : RecordValue) (given old new : List ℕ) → RecordsBy free names journal r given old new
+    → (Q : Type 0) → (SameButRecordBy free journal old new → Q) → (SameButRecordBy free journal given new → Q) → Q
+but_record true names journal r given old new is Q from_old from_given = but_appends journal r given old new is Q from_old from_given
+but_record false names journal r given old new (inl (inl stays)) Q from_old from_given = from_old stays.same
+but_record false names journal r given old new (inl (inr either)) Q from_old from_given = from_given either.same
+but_record false names journal r given old new (inr after) Q from_old from_given =
+    let on = λ (same : SameButNext (checkpointed names journal) after.mid new). from_given (half_on (1 - journal.half) given after.mid new after.is.same (next_in names journal after.mid new after.room same)) in
+    but_appends (checkpointed names journal) r after.mid after.mid new after.appends Q on on
+
+recorded_same : (free : Bool) (names : NameMap) (journal : JournalValue) (r : RecordValue) (given new : List ℕ) → IsRecordedBy free names journal r given new → SameButRecordBy free journal given new
+recorded_same true names journal r given new is = is.same
+recorded_same false names journal r given new is = half_on (1 - journal.half) given is.mid new is.is.same (next_in names journal is.mid new is.room is.appended.same)
+
+module _ (names : NameMap) (journal : JournalValue) (r : RecordValue) (e : Ending) (old new : DiskView) (writes : Writes (Records names journal r) (IsRecorded names journal r) e old new) where
+  leaves_but : (given : List ℕ) → old.content ≡ Some given → CrashLeaves (SteppedFrom (SameButRecord journal) old) old new
+  leaves_but given known =
+      leaves_weaker (SteppedFrom (Records names journal r given) old) (SteppedFrom (SameButRecord journal) old) old new (λ c from. elim from [
+        | inl same ↦ inl same
+        | inr stepped ↦ but_record (has_cell journal) names journal r given stepped.0 c stepped.2 (SteppedFrom (SameButRecord journal) old c)
+            (λ same. inr (stepped.0, stepped.1, same)) (λ same. inr (given, old.as_read given known, same))
+      ]) (writes.steps given known)
+
+  -- of a disk that was synced each image from before is its content
+  leaves_synced : IsDurable old → (given : List ℕ) → old.content ≡ Some given → CrashLeaves (SameButRecord journal given) old new
+  leaves_synced synced given known =
+      leaves_weaker (SteppedFrom (SameButRecord journal) old) (SameButRecord journal given) old new (λ c from. elim from [
+        | inl same ↦ subst (SameButRecord journal given) (sym (synced given known c same)) (same_here (has_cell journal) journal given)
+        | inr stepped ↦ subst (λ (b : List ℕ). SameButRecord journal b c) (synced given known stepped.0 stepped.1) stepped.2
+      ]) (leaves_but given known)
+
+  pub changes_journal : ChangesJournalAlone journal old new
+  changes_journal = record {
+    leaves = leaves_but;
+    synced = λ synced given known.
+        let leaves = leaves_synced synced given known in
+        let now = writes.later.tells given known in
+        ((now.0, now.1, leaves.now now.0 (new.as_read now.0 now.1)), leaves);
+  }
+
+pub same_but_record : (names : NameMap) (journal : JournalValue) (r : RecordValue) (old new : DiskView) → Writes (Records names journal r) (IsRecorded names journal r) Done old new → KeepsButRecord journal old new
+same_but_record names journal r old new writes = λ given known.
+    let written = writes.written.0 given known in
+    (written.0, written.1, recorded_same (has_cell journal) names journal r given written.0 written.2)
+
+-- the format cell and the slots are as they were
+pub record_alone_by : (free : Bool) (journal : JournalValue) (old new : List ℕ) → has_cell journal ≡ free → journal.half ≤ 1 → SameButRecordBy free journal old new → SameButJournal old new
+record_alone_by true journal old new is low same = next_alone journal old new low (count_of_cell journal is) same
+record_alone_by false journal old new is low same = half_alone (1 - journal.half) old new (omega arith) same
+
+pub record_alone : (journal : JournalValue) (old new : List ℕ) → journal.half ≤ 1 → SameButRecord journal old new → SameButJournal old new
+record_alone journal old new low same = record_alone_by (has_cell journal) journal old new refl low same

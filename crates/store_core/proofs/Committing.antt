@@ -1,11 +1,8 @@
 -- What a commit or a delete makes of a core.
-use Rattle.std.proofs.Common.{◌≡◌, ℕ, List, length, Option, Some, Ok, sym, ◌∙◌, subst, ap}
+use Rattle.std.proofs.Common.{◌≡◌, ◌≤◌, ℕ, List, Option, Some, Ok, sym, ◌∙◌, subst, ap, arith}
 use Rattle.base_model.specs.Known.{Known, KnownWith}
-use Rattle.base_model.specs.Frames.{SameOutside}
 use Rattle.disk_format.specs.Cells.{Change, Root}
 use Rattle.disk_format.specs.Cells.Change.{Delete, Put}
-use Rattle.disk_format.specs.Layout.{cell_at}
-use Rattle.disk_format.specs.declared.numbers.TheConstants.{CELL_BYTES}
 use Rattle.container_meta.specs.Places.{PlaceMap}
 use Rattle.dd_disk.specs.View.{IsLater, IsDurable}
 use Rattle.dd_disk.specs.Ending.{Done, Reads}
@@ -15,11 +12,13 @@ use Rattle.actor_parts.specs.declared.step.Answer.TheVariants as answers
 use Rattle.actor_parts.specs.StepValue as asked
 use Rattle.store_model.specs.Image.{Store, Encodes, IsValidFor}
 use Rattle.store_model.specs.Steps.{ChangeName, KeepsCopies, with_change}
-use Rattle.store_model.proofs.NameChanges.{newest_on}
+use Rattle.store_model.proofs.Journaled.{newest_on}
 use Rattle.store_model.proofs.Valid.{valid_change}
 use Rattle.store_state.specs.declared.tables.Tables.{Tables}
 use Rattle.store_state.specs.Tables.{Represents, Runs}
-use Rattle.ingest_steps.specs.Naming.{IsChanged, IsDeleted, ChangesName, KeepsButNext, ChangesNextAlone}
+use Rattle.ingest_steps.specs.Naming.{IsChanged, IsDeleted, ChangesName}
+use Rattle.ingest_steps.specs.Recording.{KeepsButRecord, ChangesJournalAlone}
+use Rattle.ingest_steps.proofs.RecordFrames.{record_alone}
 use Rattle.ingest_steps.specs.Writers.{IsCommitted}
 use Rattle.read_steps.specs.Readers as readers
 use Rattle.store_core.specs.Core.{Makes, Made, NamesOne, GivesHeld}
@@ -29,29 +28,27 @@ module _ (old new : CoreState) (name : List ℕ) (change : Change) (sequence : �
   pub makes_change : Makes (ChangeName name change) old new
   makes_change = record {
     can = record { store_has = λ store represents valid reserve. (named.can store represents.names_are, named.right) };
-    represents = record { store_has = λ store represents valid reserve. subst (λ (known : Option PlaceMap). Represents (with_change name change store) known new.tables) (sym index) (named.represents store old.known represents) };
+    represents = record { store_has = λ store represents valid reserve. subst (λ (known : Option PlaceMap). Represents (with_change name change store) known new.tables) (sym index) (named.represents store old.known valid.follow represents) };
     valid = record { store_has = λ store represents valid reserve. subst (λ (size : ℕ). IsValidFor size (with_change name change store)) (sym later.size_is) (valid_change old.disk.size name change store valid (named.can store represents.names_are) named.right) };
     tells = λ places is. (places, index ∙ is);
     runs = λ runs. subst (λ (size : ℕ). Runs size new.known new.tables) (sym later.size_is) (subst (λ (known : Option PlaceMap). Runs old.disk.size known new.tables) (sym index) (named.runs old.disk.size old.known runs));
   }
 
   -- what is held goes on
-  pub change_copies : KeepsButNext old.tables.journal old.disk new.disk → (store : Store) → Represents store old.known old.tables
+  pub change_copies : KeepsButRecord old.tables.journal old.disk new.disk → (store : Store) → Represents store old.known old.tables
       → Known old.disk.content (λ before. Encodes before store → KnownWith new.disk.content (KeepsCopies store before (with_change name change store)))
   change_copies keeps store represents before told right =
       let kept = keeps before told in
-      let can = named.can store represents.names_are in (
+      let low : old.tables.journal.half ≤ 1 = omega (arith, represents.names_are.half, right.journal.selector_is.0.half) in (
         kept.0,
         kept.1,
-        newest_on before kept.0 store right can.cell
-            (subst (λ (half : ℕ). SameOutside (cell_at half (length store.records)) CELL_BYTES before kept.0) represents.names_are.half
-            (subst (λ (count : ℕ). SameOutside (cell_at old.tables.journal.half count) CELL_BYTES before kept.0) represents.names_are.count kept.2)),
+        newest_on before kept.0 store right (record_alone old.tables.journal before kept.0 low kept.2),
       )
 
 -- of the disk and of the tables, by either
 change_effect : (name : List ℕ) (change : Change) (sequence : ℕ) (answer : Answer) (old new : CoreState) → IsChanged old.tables name change new.tables sequence
-    → Acts Done old.disk new.disk → ChangesName old.tables name change Done old.disk new.disk → KeepsButNext old.tables.journal old.disk new.disk
-    → ChangesNextAlone old.tables.journal old.disk new.disk → IsDurable new.disk → new.known ≡ old.known → NamesOne name change (Ok answer) old new
+    → Acts Done old.disk new.disk → ChangesName old.tables name change Done old.disk new.disk → KeepsButRecord old.tables.journal old.disk new.disk
+    → ChangesJournalAlone old.tables.journal old.disk new.disk → IsDurable new.disk → new.known ≡ old.known → NamesOne name change (Ok answer) old new
 change_effect name change sequence answer old new changed acts moves keeps frame durable index = record {
   disk = acts;
   moves = moves;
@@ -63,7 +60,7 @@ change_effect name change sequence answer old new changed acts moves keeps frame
 }
 
 pub made_put : (name : List ℕ) (root : Root) (actor sequence : ℕ) (buf : List ℕ) (old new : CoreState) → IsCommitted old.parts actor old.tables name root new.parts new.tables sequence → Acts Done old.disk new.disk
-    → ChangesName old.tables name (Put root) Done old.disk new.disk → KeepsButNext old.tables.journal old.disk new.disk → ChangesNextAlone old.tables.journal old.disk new.disk → IsDurable new.disk → new.known ≡ old.known → (old.served → new.served)
+    → ChangesName old.tables name (Put root) Done old.disk new.disk → KeepsButRecord old.tables.journal old.disk new.disk → ChangesJournalAlone old.tables.journal old.disk new.disk → IsDurable new.disk → new.known ≡ old.known → (old.served → new.served)
     → Made (asked.Commit name root) actor (Ok (answers.Committed sequence)) buf old new
 made_put name root actor sequence buf old new committed acts moves keeps frame durable index served = record {
   row = (committed.may, committed.named.number, committed.parts_are, ap (λ (t : Tables). t.held.last_id) committed.named.tables_are);
@@ -72,7 +69,7 @@ made_put name root actor sequence buf old new committed acts moves keeps frame d
 }
 
 pub made_delete : (name : List ℕ) (actor sequence : ℕ) (buf : List ℕ) (old new : CoreState) → IsDeleted old.tables name new.tables sequence → new.parts ≡ old.parts → Acts Done old.disk new.disk
-    → ChangesName old.tables name Delete Done old.disk new.disk → KeepsButNext old.tables.journal old.disk new.disk → ChangesNextAlone old.tables.journal old.disk new.disk → IsDurable new.disk → new.known ≡ old.known → (old.served → new.served)
+    → ChangesName old.tables name Delete Done old.disk new.disk → KeepsButRecord old.tables.journal old.disk new.disk → ChangesJournalAlone old.tables.journal old.disk new.disk → IsDurable new.disk → new.known ≡ old.known → (old.served → new.served)
     → Made (asked.Delete name) actor (Ok (answers.Deleted sequence)) buf old new
 made_delete name actor sequence buf old new deleted parts acts moves keeps frame durable index served = record {
   row = (deleted.may, deleted.changed.number, parts, ap (λ (t : Tables). t.held.last_id) deleted.changed.tables_are);

@@ -12,7 +12,9 @@ use Rattle.refusals.specs.declared.refusal.Refusal.{Refusal}
 use Rattle.refusals.specs.declared.refusal.Refusal.TheVariants as refusals
 use Rattle.store_model.specs.Collisions.{HasNoCollisions, ByteSet, IsIn, Stands}
 use Rattle.store_model.specs.Image.{Store, last_sequence}
-use Rattle.store_model.specs.Steps.{with_sealed, with_change}
+use Rattle.store_model.specs.Steps.{with_cell, with_other, with_sealed, with_change}
+use Rattle.store_model.proofs.Cells.{last_with_cell}
+use Rattle.ingest_steps.specs.Naming.{FilesStandStill}
 use Rattle.store_model.specs.Files.{Stored, with_file, with_stored, without_file, without_stored}
 use Rattle.store_model.specs.Files as files
 use Rattle.store_model.proofs.NameChanges.{last_changed}
@@ -42,10 +44,15 @@ module _ (among : ByteSet) (s : Store) (stored : Stored) (old new : CoreState) (
   last_here = last_at (IsIn among) s stored old at
 
   last_more : (name : List ℕ) (change : Change) → last_sequence (with_change name change s) ≡ suc stored.last
-  last_more name change = last_changed name change s ∙ ap suc last_here
+  last_more name change = last_changed name change s at.valid.follow ∙ ap suc last_here
 
   of_old : (c : List ℕ) → old.disk.images c → IsOf S stored c
   of_old c is = (s, (at.stands.each c is, last_here))
+
+  -- of names that stand still
+  of_still : (c : List ℕ) → FilesStandStill S s stored.files c → IsOf S stored c
+  of_still c (inl is) = (with_other is.0 s, (is.1, last_here))
+  of_still c (inr is) = (with_cell s, (is, last_with_cell s at.valid.follow ∙ last_here))
 
   -- where nothing was written
   by_reads : (step : StepValue) (answer : Result Answer Refusal) → OnlyReads old.disk new.disk → CrashLeaves (Either S step answer bytes stored) old.disk new.disk
@@ -60,22 +67,22 @@ module _ (among : ByteSet) (s : Store) (stored : Stored) (old new : CoreState) (
 
   -- of a commit that came to its first write
   put_leaves : (name : List ℕ) (root : Root) (answer : Result Answer Refusal) → NamesOne name (Put root) answer old new → IsRootOf root bytes old
-      → CrashLeaves (λ c. Stands S s stored.files c ⊎ Stands S (with_change name (Put root) s) (with_file stored.files name bytes) c) old.disk new.disk
+      → CrashLeaves (λ c. FilesStandStill S s stored.files c ⊎ Stands S (with_change name (Put root) s) (with_file stored.files name bytes) c) old.disk new.disk
   put_leaves name root answer effect given =
       let tree = given.tree s at.represents in
-      subst (λ (r : Root). CrashLeaves (λ c. Stands S s stored.files c ⊎ Stands S (with_change name (Put r) s) (with_file stored.files name bytes) c) old.disk new.disk) (sym given.root_is)
+      subst (λ (r : Root). CrashLeaves (λ c. FilesStandStill S s stored.files c ⊎ Stands S (with_change name (Put r) s) (with_file stored.files name bytes) c) old.disk new.disk) (sym given.root_is)
       (effect.moves.moves among s stored.files (files.Put name bytes) at.represents.names_are refl (ap Put given.root_is)
       (record { known = at.stands.known; each = λ c is. (at.stands.each c is, tree.each c is) })).leaves
 
   -- images of the store, or of that with a change, are of the files before or after
   either_way : (name : List ℕ) (change : Change) (after : Stored) (step : StepValue) (answer : Result Answer Refusal) → stored_tried step answer bytes stored ≡ after
       → after.last ≡ suc stored.last
-      → CrashLeaves (λ c. Stands S s stored.files c ⊎ Stands S (with_change name change s) after.files c) old.disk new.disk
+      → CrashLeaves (λ c. FilesStandStill S s stored.files c ⊎ Stands S (with_change name change s) after.files c) old.disk new.disk
       → CrashLeaves (Either S step answer bytes stored) old.disk new.disk
   either_way name change after step answer tried last leaves =
-      leaves_weaker (λ c. Stands S s stored.files c ⊎ Stands S (with_change name change s) after.files c) (Either S step answer bytes stored) old.disk new.disk
+      leaves_weaker (λ c. FilesStandStill S s stored.files c ⊎ Stands S (with_change name change s) after.files c) (Either S step answer bytes stored) old.disk new.disk
       (λ c stands. elim stands [
-        | inl is ↦ inl (s, (is, last_here))
+        | inl is ↦ inl (of_still c is)
         | inr is ↦ inr (subst (λ (m : Stored). IsOf S m c) (sym tried) (with_change name change s, (is, last_more name change ∙ sym last)))
       ]) leaves
 
@@ -90,7 +97,7 @@ module _ (among : ByteSet) (s : Store) (stored : Stored) (old new : CoreState) (
 
   -- of a delete
   delete_leaves : (name : List ℕ) (answer : Result Answer Refusal) → NamesOne name Delete answer old new
-      → CrashLeaves (λ c. Stands S s stored.files c ⊎ Stands S (with_change name Delete s) (without_file stored.files name) c) old.disk new.disk
+      → CrashLeaves (λ c. FilesStandStill S s stored.files c ⊎ Stands S (with_change name Delete s) (without_file stored.files name) c) old.disk new.disk
   delete_leaves name answer effect =
       (effect.moves.moves among s stored.files (files.Delete name) at.represents.names_are refl refl
       (record { known = at.stands.known; each = λ c is. (at.stands.each c is, tt) })).leaves

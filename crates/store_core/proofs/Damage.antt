@@ -302,7 +302,6 @@ module _ (among : ByteSet) (s : Store) (stored : Stored) (old new : CoreState) (
     delete_finds name (Ok answer) row = absurd row
     delete_finds name (Err refusals.NoFile) row =
         unnamed_file (named_of name) (finite.get stored.files name) (ap (λ (names : NameMap). finite.get names name) (sym same_names) ∙ row.0.1) (stands_here.holds.files_are name)
-    delete_finds name (Err refusals.TooMany) row = has_file name row.0.1
     delete_finds name (Err refusals.Numbers) row = has_file name row.0.0.there
     delete_finds name (Err refusals.DiskWrite) row = has_file name row.0.0.there
     delete_finds name (Err refusal) row = tt

@@ -1,12 +1,12 @@
 -- What a run leaves of the bytes of the disk, whatever these are.
 use Rattle.std.proofs.Common.{◌≡◌, ◌≢◌, inl, inr, ℕ, zero, suc, ◌+◌, ◌<◌, ◌≤◌, Bool, true, false, List, [], ◌∷◌, length, Option, Some, None, Result, Ok, Err, refl, sym, ◌∙◌, ap, subst, arith, length-append}
 use Rattle.std.specs.Prelude.{nat_lt, slice_get}
-use Rattle.std.proofs.lemmas.Bool.{ltb-true, ltb-false}
+use Rattle.std.proofs.lemmas.Bool.{ltb-true, ltb-false, lt-ltb}
 use Rattle.base_model.specs.Bytes.{range}
 use Rattle.base_model.specs.Frames.{SameOutside}
 use Rattle.base_model.specs.Known.{KnownWith}
-use Rattle.disk_format.specs.declared.numbers.TheConstants.{CELL_BYTES, SLOT_BYTES, FIRST_HALF}
-use Rattle.disk_format.specs.Cells.{Change, Root}
+use Rattle.disk_format.specs.declared.numbers.TheConstants.{CELL_BYTES, SLOT_BYTES, FIRST_HALF, FIRST_SLOT}
+use Rattle.disk_format.specs.Cells.{Change, SelectorValue}
 use Rattle.disk_format.specs.Cells.Change.{Delete, Put}
 use Rattle.disk_format.specs.Layout.{half_cells, cell_at, slot_at}
 use Rattle.dd_disk.specs.Ending.{ending_of}
@@ -22,21 +22,28 @@ use Rattle.actor_parts.specs.declared.step.Answer.TheVariants as answers
 use Rattle.actor_parts.specs.StepValue as asked
 use Rattle.actor_parts.specs.StepValue.{StepValue}
 use Rattle.journal_cells.specs.Appending.{SameButNext}
+use Rattle.journal_cells.specs.Journal.{JournalValue}
 use Rattle.refusals.specs.declared.refusal.Refusal.{Refusal}
 use Rattle.refusals.specs.declared.refusal.Refusal.TheVariants as refusals
 use Rattle.store_model.specs.Files.{Stored}
 use Rattle.store_model.specs.Image.{Store, IsValidFor}
 use Rattle.store_model.specs.Slots.{free_slots, first_free, with_slot}
-use Rattle.store_model.specs.Steps.{StoreChange, SealContainer, ChangeName, changed, record_of, with_change}
+use Rattle.store_model.specs.Steps.{HasCellsFor, StoreChange, SealContainer, ChangeName, appended, changed, record_of, with_change}
+use Rattle.store_model.specs.Steps.{has_cell as store_has_cell}
+use Rattle.store_model.proofs.Cells.{cell_here, cell_anew, with_cell_is}
 use Rattle.store_model.proofs.Filled.{free_less}
+use Rattle.store_model.proofs.Journaled.{SameButJournal}
 use Rattle.store_state.specs.declared.tables.Tables.{Tables}
 use Rattle.store_state.specs.Refused.{blames}
 use Rattle.store_state.specs.Settled.{IsSettled, Left}
 use Rattle.store_state.specs.Tables.{Represents}
 use Rattle.ingest_steps.specs.Sealing.{ChangesSlotAlone, SameButSlotOf}
+use Rattle.ingest_steps.specs.Recording.{SameButRecord, SameButRecordBy, has_cell}
+use Rattle.ingest_steps.proofs.Recorded.{count_of_cell, same_cell}
+use Rattle.ingest_steps.proofs.RecordFrames.{record_alone}
 use Rattle.store_core.specs.declared.stop.Stop.{Stop}
-use Rattle.store_core.specs.Core.{CoreStep, DeleteRow, Steps, StepsOr, StopsAfter, Row, Effect, Rests, SealsOne, NamesOne, KeepsTables}
-use Rattle.store_core.specs.Frame.{IsOn, KeepsBytes, AddsBytes, KeepsWritten, AddsAlone, WrittenStays}
+use Rattle.store_core.specs.Core.{CoreStep, Steps, StepsOr, StopsAfter, Row, Effect, Rests, SealsOne, NamesOne, KeepsTables}
+use Rattle.store_core.specs.Frame.{IsOn, HadContainer, KeepsJournal, KeepsBytes, AddsBytes, KeepsWritten, AddsAlone, WrittenStays, commands_in, commands_of}
 use Rattle.store_core.specs.Runs.{ChangesTo, CoreRun, FileEvent, IsAt, changes_by, changes_of, events_of}
 use Rattle.store_core.specs.State.{CoreState, Event}
 use Rattle.store_core.proofs.CoreRuns.{was_running, running_step, runs_before, run_later, stopped_reads}
@@ -79,33 +86,71 @@ first_none (Some x ∷ cs) some = first_none cs some
 -- ---- bytes
 
 module _ (s : Store) (base : List ℕ) where
-  keeps_here : (end : ℕ) (Stays : ℕ → Type 0) → KeepsBytes s end Stays base base
-  keeps_here end Stays = record { size_is = refl; head = refl; cells = λ half cell low within other. refl; slots = λ slot within stays. refl }
+  keeps_here : (end : ℕ) (Also : Type 0) (Stays : ℕ → Type 0) → KeepsBytes s end Also Stays base base
+  keeps_here end Also Stays = record {
+    size_is = refl;
+    format = refl;
+    journal = λ also. record { head = refl; cells = λ half cell low within other. refl };
+    slots = λ slot within stays. refl;
+  }
 
-  module _ (end : ℕ) (Stays : ℕ → Type 0) (given : List ℕ) (keeps : KeepsBytes s end Stays base given) where
-    keeps_fewer : (later : ℕ) (Fewer : ℕ → Type 0) → end ≤ later → ((slot : ℕ) → Fewer slot → Stays slot) → KeepsBytes s later Fewer base given
-    keeps_fewer later Fewer more each = record {
+  journal_fewer : (end later : ℕ) (given : List ℕ) → end ≤ later → KeepsJournal s end base given → KeepsJournal s later base given
+  journal_fewer end later given more keeps = record {
+    head = keeps.head;
+    cells = λ half cell low within other. keeps.cells half cell low within (λ is. other (is.0, is.1, omega (arith, is.2, more)));
+  }
+
+  journal_before : (end : ℕ) (given new : List ℕ) → ((p n : ℕ) → p + n ≤ FIRST_SLOT → range p n new ≡ range p n given) → KeepsJournal s end base given → KeepsJournal s end base new
+  journal_before end given new before keeps = record {
+    head = before 0 FIRST_HALF (omega arith) ∙ keeps.head;
+    cells = λ half cell low within other. before (cell_at half cell) CELL_BYTES (omega (arith, low, within)) ∙ keeps.cells half cell low within other;
+  }
+
+  -- where a cell changes that comes after the records, and before the end
+  journal_put : (end place at : ℕ) (given new : List ℕ) → place ≡ s.selector.half → place ≤ 1 → length s.records ≤ at → at < end → at < half_cells → SameOutside (cell_at place at) CELL_BYTES given new
+      → KeepsJournal s end base given → KeepsJournal s end base new
+  journal_put end place at given new place_is few after before room same keeps = record {
+    head = same.before 0 FIRST_HALF (omega arith) ∙ keeps.head;
+    cells = λ half cell low within other.
+        other_cell half cell (nat_lt (cell_at half cell) (cell_at place at)) refl (λ is. other (same_half half cell low within is ∙ place_is, omega (arith, same_cell half cell low within is, after), omega (arith, same_cell half cell low within is, before)))
+        ∙ keeps.cells half cell low within other;
+  }
+    where
+      -- each place has one half and one cell
+      same_half : (half cell : ℕ) → half ≤ 1 → cell < half_cells → cell_at half cell ≡ cell_at place at → half ≡ place
+      same_half half cell low within is = omega (arith, low, within, is, few, room)
+
+      same_cell : (half cell : ℕ) → half ≤ 1 → cell < half_cells → cell_at half cell ≡ cell_at place at → cell ≡ at
+      same_cell half cell low within is = omega (arith, low, within, is, few, room)
+
+      other_cell : (half cell : ℕ) (below : Bool) → nat_lt (cell_at half cell) (cell_at place at) ≡ below → (cell_at half cell ≡ cell_at place at → ⊥) → range (cell_at half cell) CELL_BYTES new ≡ range (cell_at half cell) CELL_BYTES given
+      other_cell half cell true is differ = same.before (cell_at half cell) CELL_BYTES (omega (arith, ltb-true (cell_at half cell) (cell_at place at) is))
+      other_cell half cell false is differ = same.after (cell_at half cell) CELL_BYTES (omega (arith, ltb-false (cell_at half cell) (cell_at place at) is, differ))
+
+  module _ (end : ℕ) (Also : Type 0) (Stays : ℕ → Type 0) (given : List ℕ) (keeps : KeepsBytes s end Also Stays base given) where
+    keeps_fewer : (later : ℕ) (Then : Type 0) (Fewer : ℕ → Type 0) → (Then → Also × (end ≤ later)) → ((slot : ℕ) → Fewer slot → Stays slot) → KeepsBytes s later Then Fewer base given
+    keeps_fewer later Then Fewer more each = record {
       size_is = keeps.size_is;
-      head = keeps.head;
-      cells = λ half cell low within other. keeps.cells half cell low within (λ is. other (is.0, is.1, omega (arith, is.2, more)));
+      format = keeps.format;
+      journal = λ so. journal_fewer end later given (more so).1 (keeps.journal (more so).0);
       slots = λ slot within stays. keeps.slots slot within (each slot stays);
     }
 
     -- where nothing changes but what comes after all slots
-    keeps_counted : (new : List ℕ) → SameBefore (slot_at s.slots) given new → KeepsBytes s end Stays base new
+    keeps_counted : (new : List ℕ) → SameBefore (slot_at s.slots) given new → KeepsBytes s end Also Stays base new
     keeps_counted new same = record {
       size_is = same.size ∙ keeps.size_is;
-      head = same.before 0 FIRST_HALF (omega arith) ∙ keeps.head;
-      cells = λ half cell low within other. same.before (cell_at half cell) CELL_BYTES (omega (arith, low, within)) ∙ keeps.cells half cell low within other;
+      format = same.before 0 CELL_BYTES (omega arith) ∙ keeps.format;
+      journal = λ also. journal_before end given new (λ p n within. same.before p n (omega (arith, within))) (keeps.journal also);
       slots = λ slot within stays. same.before (slot_at slot) SLOT_BYTES (omega (arith, within)) ∙ keeps.slots slot within stays;
     }
 
     -- where a slot changes that is none of these
-    keeps_sealed : (place : ℕ) (new : List ℕ) → ((slot : ℕ) → Stays slot → slot ≢ place) → SameButSlotOf s.slots place given new → KeepsBytes s end Stays base new
+    keeps_sealed : (place : ℕ) (new : List ℕ) → ((slot : ℕ) → Stays slot → slot ≢ place) → SameButSlotOf s.slots place given new → KeepsBytes s end Also Stays base new
     keeps_sealed place new others same = record {
       size_is = same.size ∙ keeps.size_is;
-      head = same.before 0 FIRST_HALF (omega arith) ∙ keeps.head;
-      cells = λ half cell low within other. same.before (cell_at half cell) CELL_BYTES (omega (arith, low, within)) ∙ keeps.cells half cell low within other;
+      format = same.before 0 CELL_BYTES (omega arith) ∙ keeps.format;
+      journal = λ also. journal_before end given new (λ p n within. same.before p n (omega (arith, within))) (keeps.journal also);
       slots = λ slot within stays. other_slot slot within (nat_lt slot place) refl (others slot stays) ∙ keeps.slots slot within stays;
     }
       where
@@ -113,27 +158,70 @@ module _ (s : Store) (base : List ℕ) where
         other_slot slot within true is differ = same.before (slot_at slot) SLOT_BYTES (omega (arith, ltb-true slot place is))
         other_slot slot within false is differ = same.after (slot_at slot) SLOT_BYTES (omega (arith, ltb-false slot place is, differ)) (omega (arith, within))
 
-    -- where a cell changes that comes after the records, and before the end
-    keeps_put : (place at : ℕ) (new : List ℕ) → place ≡ s.selector.half → place ≤ 1 → length s.records ≤ at → at < end → at < half_cells → SameOutside (cell_at place at) CELL_BYTES given new → KeepsBytes s end Stays base new
-    keeps_put place at new place_is few after before room same = record {
+    -- where the journal alone changes
+    keeps_record : (later : ℕ) (Then : Type 0) (new : List ℕ) → SameButJournal given new → (Then → KeepsJournal s later base new) → KeepsBytes s later Then Stays base new
+    keeps_record later Then new same journal = record {
       size_is = same.size ∙ keeps.size_is;
-      head = same.before 0 FIRST_HALF (omega arith) ∙ keeps.head;
-      cells = λ half cell low within other.
-          other_cell half cell (nat_lt (cell_at half cell) (cell_at place at)) refl (λ is. other (same_half half cell low within is ∙ place_is, omega (arith, same_cell half cell low within is, after), omega (arith, same_cell half cell low within is, before)))
-          ∙ keeps.cells half cell low within other;
-      slots = λ slot within stays. same.after (slot_at slot) SLOT_BYTES (omega (arith, few, room)) ∙ keeps.slots slot within stays;
+      format = same.format ∙ keeps.format;
+      journal = journal;
+      slots = λ slot within stays. same.slots (slot_at slot) SLOT_BYTES (omega arith) ∙ keeps.slots slot within stays;
     }
-      where
-        -- each place has one half and one cell
-        same_half : (half cell : ℕ) → half ≤ 1 → cell < half_cells → cell_at half cell ≡ cell_at place at → half ≡ place
-        same_half half cell low within is = omega (arith, low, within, is, few, room)
 
-        same_cell : (half cell : ℕ) → half ≤ 1 → cell < half_cells → cell_at half cell ≡ cell_at place at → cell ≡ at
-        same_cell half cell low within is = omega (arith, low, within, is, few, room)
+-- ---- how many records fit
 
-        other_cell : (half cell : ℕ) (below : Bool) → nat_lt (cell_at half cell) (cell_at place at) ≡ below → (cell_at half cell ≡ cell_at place at → ⊥) → range (cell_at half cell) CELL_BYTES new ≡ range (cell_at half cell) CELL_BYTES given
-        other_cell half cell true is differ = same.before (cell_at half cell) CELL_BYTES (omega (arith, ltb-true (cell_at half cell) (cell_at place at) is))
-        other_cell half cell false is differ = same.after (cell_at half cell) CELL_BYTES (omega (arith, ltb-false (cell_at half cell) (cell_at place at) is, differ))
+-- the changes of names among some changes
+abbrev names_in : List StoreChange → ℕ
+names_in [] = 0
+names_in (SealContainer id kind segments ∷ rest) = names_in rest
+names_in (ChangeName name change ∷ rest) = suc (names_in rest)
+
+few_names : (step : StepValue) (answer : Result Answer Refusal) → names_in (changes_by step answer) ≤ commands_of step
+few_names (asked.Seal filled) (Ok (answers.Sealed id)) = omega arith
+few_names (asked.Commit name root) (Ok answer) = omega arith
+few_names (asked.Delete name) (Ok answer) = omega arith
+few_names step answer = omega arith
+
+-- where the first store's half has cells for all of so many records, the second one's has them for the rest
+abbrev Fits : Store → ℕ → Store → ℕ → Type 0
+Fits s count t more = HasCellsFor s count → (t.selector ≡ s.selector) × (length t.records + more ≤ half_cells)
+
+fits_fewer : (s : Store) (count : ℕ) (t : Store) (more less : ℕ) → less ≤ more → Fits s count t more → Fits s count t less
+fits_fewer s count t more less fewer fits has = ((fits has).0, omega (arith, (fits has).1, fewer))
+
+-- a record that needed no checkpoint
+record Grows (name : List ℕ) (change : Change) (t : Store) : Type 0 where
+  pub free : store_has_cell t ≡ true
+  pub same : (with_change name change t).selector ≡ t.selector
+  pub longer : length (with_change name change t).records ≡ length t.records + 1
+
+module _ (name : List ℕ) (change : Change) (t : Store) where
+  grows : store_has_cell t ≡ true → Grows name change t
+  grows free = record {
+    free = free;
+    same = ap (λ (u : Store). u.selector) (cell_here t free);
+    longer = subst (λ (u : Store). length (appended name change u).records ≡ length t.records + 1) (sym (cell_here t free)) (length-append t.records (record_of name change t ∷ []));
+  }
+
+  rises_on : t.selector.generation ≤ (with_change name change t).selector.generation
+  rises_on = with_cell_is t (λ u. t.selector.generation ≤ u.selector.generation) (λ free. omega arith) (λ full. omega arith)
+
+  -- where the selector is that of before there was a cell
+  had_cell : (s : Store) → s.selector.generation ≤ t.selector.generation → (with_change name change t).selector ≡ s.selector → store_has_cell t ≡ true
+  had_cell s rises same = elim (store_has_cell t) as (λ b. store_has_cell t ≡ b → store_has_cell t ≡ true) [
+    | true ↦ λ is. is
+    | false ↦ λ is.
+        let up : (with_change name change t).selector.generation ≡ t.selector.generation + 1 = ap (λ (u : Store). u.selector.generation) (cell_anew t is) in
+        absurd (omega (arith, up, rises, ap (λ (x : SelectorValue). x.generation) same))
+  ] refl
+
+  fits_changed : (s : Store) (count more : ℕ) → Fits s count t (suc more) → Fits s count (with_change name change t) more
+  fits_changed s count more fits has =
+      let so = fits has in
+      let grown = grows (le_cell t (omega (arith, so.1))) in
+      (grown.same ∙ so.0, omega (arith, grown.longer, so.1))
+    where
+      le_cell : (u : Store) → length u.records < half_cells → store_has_cell u ≡ true
+      le_cell u room = lt-ltb (length u.records) half_cells room
 
 -- ---- one step
 
@@ -141,8 +229,8 @@ module _ (s : Store) (base : List ℕ) where
 record IsFramed (s : Store) (base : List ℕ) (t : Store) (c : CoreState) : Type 0 where
   pub on : IsOn t c
   pub slots_are : t.slots ≡ s.slots
-  pub half_is : t.selector.half ≡ s.selector.half
-  pub more : length s.records ≤ length t.records
+  pub rises : s.selector.generation ≤ t.selector.generation
+  pub more : t.selector ≡ s.selector → length s.records ≤ length t.records
   pub held : (slot : ℕ) (h : HeaderValue) → slice_get s.held slot ≡ Some (Some h) → slice_get t.held slot ≡ Some (Some h)
   pub content : KnownWith c.disk.content (AddsBytes s t base)
 
@@ -151,6 +239,7 @@ record Leads (s : Store) (base : List ℕ) (changes : List StoreChange) (t : Sto
   pub after : Store
   pub chain : ChangesTo changes t after
   pub framed : IsFramed s base after c
+  pub fits : (count more : ℕ) → Fits s count t (names_in changes + more) → Fits s count after more
 
 module _ (s : Store) (base : List ℕ) (t : Store) (old new : CoreState) (framed : IsFramed s base t old) where
   abbrev given : List ℕ
@@ -162,8 +251,12 @@ module _ (s : Store) (base : List ℕ) (t : Store) (old new : CoreState) (framed
   abbrev Same : ℕ → Type 0
   Same slot = slice_get t.held slot ≡ slice_get s.held slot
 
+  -- the same selector counts as first
+  abbrev Still : Type 0
+  Still = t.selector ≡ s.selector
+
   abbrev Was : ℕ → Type 0
-  Was slot = (h : HeaderValue) × (slice_get s.held slot ≡ Some (Some h))
+  Was = HadContainer s
 
   abbrev place : ℕ
   place = first_free t.held
@@ -179,85 +272,89 @@ module _ (s : Store) (base : List ℕ) (t : Store) (old new : CoreState) (framed
 
   -- each image is the content, in what counts
   image_adds : (c : List ℕ) → old.disk.images c → AddsBytes s t base c
-  image_adds c image = keeps_counted s base (length t.records) Same given framed.content.2 c (settled given known c image)
+  image_adds c image = keeps_counted s base (length t.records) Still Same given framed.content.2 c (settled given known c image)
 
   -- a slot that held a container is not the closed one
   not_place : (slot : ℕ) → Was slot → slot ≢ place
   not_place slot was is = some_not_none was.0 (sym (framed.held slot was.0 was.1) ∙ ap (slice_get t.held) is ∙ first_none t.held some)
 
-  adds_written : (c : List ℕ) → AddsBytes s t base c → KeepsWritten s base c
-  adds_written c adds = keeps_fewer s base (length t.records) Same c adds half_cells Was framed.on.valid.few (λ slot was. framed.held slot was.0 was.1 ∙ sym was.1)
-
-  image_written : (c : List ℕ) → old.disk.images c → KeepsWritten s base c
-  image_written c image = adds_written c (image_adds c image)
-
   frame_of : ChangesSlotAlone old.tables.slots place old.disk new.disk → ChangesSlotAlone s.slots place old.disk new.disk
   frame_of frame = subst (λ (n : ℕ). ChangesSlotAlone n place old.disk new.disk) tables_slots frame
 
-  few : old.tables.journal.half ≤ 1
-  few = subst (λ (n : ℕ). n ≤ 1) (sym framed.on.represents.names_are.half) framed.on.valid.selector_right.half
+  abbrev journal : JournalValue
+  journal = old.tables.journal
 
-  -- ---- at any moment
+  low : journal.half ≤ 1
+  low = subst (λ (n : ℕ). n ≤ 1) (sym framed.on.represents.names_are.half) framed.on.valid.selector_right.half
 
-  abbrev Written : List ℕ → Type 0
-  Written = KeepsWritten s base
+  cells_same : has_cell journal ≡ store_has_cell t
+  cells_same = same_cell t old.tables framed.on.represents.names_are
 
-  by_reads : OnlyReads old.disk new.disk → CrashLeaves Written old.disk new.disk
-  by_reads reads = reads_leave Written old.disk new.disk image_written reads
-
-  by_seal : (filled : Contents) (answer : Result Answer Refusal) → SealsOne filled answer old new → CrashLeaves Written old.disk new.disk
-  by_seal filled answer effect =
-      let frame = frame_of (effect.moves.frame.store_has t framed.on.represents framed.on.valid framed.on.reserve) in
-      leaves_weaker (SameButSlotOf s.slots place given) Written old.disk new.disk
-      (λ c same. keeps_sealed s base half_cells Was given (adds_written given framed.content.2) place c not_place same) (frame.settled settled given known).1
-
-  -- all but the cell after the records
+  -- all but the bytes of a record
   abbrev SameButOne : List ℕ → List ℕ → Type 0
-  SameButOne = SameButNext old.tables.journal
+  SameButOne = SameButRecord journal
 
-  next_keeps : (end : ℕ) (Stays : ℕ → Type 0) → old.tables.journal.count < half_cells → old.tables.journal.count < end → (d c : List ℕ) → KeepsBytes s end Stays base d → SameButOne d c → KeepsBytes s end Stays base c
-  next_keeps end Stays room before d c keeps same =
-      keeps_put s base end Stays d keeps old.tables.journal.half old.tables.journal.count c (framed.on.represents.names_are.half ∙ framed.half_is) few
-      (omega (arith, framed.on.represents.names_are.count, framed.more)) before room same
+  -- of the journal, where a cell is free: that cell alone
+  next_put : (end : ℕ) → Still → store_has_cell t ≡ true → length t.records < end → (d c : List ℕ) → KeepsJournal s end base d → SameButOne d c → KeepsJournal s end base c
+  next_put end still free before d c keeps same =
+      let next : SameButNext journal d c = subst (λ (b : Bool). SameButRecordBy b journal d c) (cells_same ∙ free) same in
+      let count = framed.on.represents.names_are.count in
+      journal_put s base end journal.half journal.count d c (framed.on.represents.names_are.half ∙ ap (λ (x : SelectorValue). x.half) still) low
+      (omega (arith, count, framed.more still)) (omega (arith, count, before)) (count_of_cell journal (cells_same ∙ free)) next keeps
 
-  by_name : (name : List ℕ) (change : Change) (answer : Result Answer Refusal) → NamesOne name change answer old new → old.tables.journal.count < half_cells → CrashLeaves Written old.disk new.disk
-  by_name name change answer effect room =
-      leaves_weaker (SteppedFrom SameButOne old.disk) Written old.disk new.disk
-      (λ c from. elim from [
-        | inl image ↦ image_written c image
-        | inr step ↦ next_keeps half_cells Was room room step.0 c (image_written step.0 step.1) step.2
-      ]) (effect.frame.leaves given known)
+  -- ---- at any moment of a run of so many commands
 
-  by_commit : (name : List ℕ) (root : Root) (actor : ℕ) (buf : List ℕ) (answer : Result Answer Refusal) → Row (asked.Commit name root) actor answer buf old new → NamesOne name (Put root) answer old new → CrashLeaves Written old.disk new.disk
-  by_commit name root actor buf (Ok (answers.Committed sequence)) row effect = by_name name (Put root) (Ok (answers.Committed sequence)) effect row.0.may_name.cell
-  by_commit name root actor buf (Ok answer) row effect = absurd row
-  by_commit name root actor buf (Err refusals.DiskWrite) row effect = by_name name (Put root) (Err refusals.DiskWrite) effect row.0.0.may_name.cell
-  by_commit name root actor buf (Err refusals.DiskRead) row effect = by_reads effect.disk.ends
-  by_commit name root actor buf (Err refusal) row effect = by_reads effect.disk.ends
+  module _ (count left : ℕ) (fits : Fits s count t left) where
+    abbrev Written : List ℕ → Type 0
+    Written = KeepsWritten s count base
 
-  by_delete : (name : List ℕ) (answer : Result Answer Refusal) → DeleteRow name answer old new → NamesOne name Delete answer old new → CrashLeaves Written old.disk new.disk
-  by_delete name (Ok (answers.Deleted sequence)) row effect = by_name name Delete (Ok (answers.Deleted sequence)) effect row.0.cell
-  by_delete name (Ok answer) row effect = absurd row
-  by_delete name (Err refusals.DiskWrite) row effect = by_name name Delete (Err refusals.DiskWrite) effect row.0.0.cell
-  by_delete name (Err refusals.DiskRead) row effect = by_reads effect.disk.ends
-  by_delete name (Err refusal) row effect = by_reads effect.disk.ends
+    adds_written : (c : List ℕ) → AddsBytes s t base c → Written c
+    adds_written c adds =
+        keeps_fewer s base (length t.records) Still Same c adds half_cells (HasCellsFor s count) Was (λ has. ((fits has).0, framed.on.valid.few)) (λ slot was. framed.held slot was.0 was.1 ∙ sym was.1)
 
-  by_effect : (actor : ℕ) (buf : List ℕ) (step : StepValue) (answer : Result Answer Refusal) → Row step actor answer buf old new → Effect step answer old new → CrashLeaves Written old.disk new.disk
-  by_effect actor buf asked.Begin answer row effect = by_reads effect.disk.only
-  by_effect actor buf (asked.Claim seg) answer row effect = by_reads effect.disk.only
-  by_effect actor buf (asked.Seal filled) answer row effect = by_seal filled answer effect
-  by_effect actor buf (asked.Commit name root) answer row effect = by_commit name root actor buf answer row effect
-  by_effect actor buf asked.Abort answer row effect = by_reads effect.disk.only
-  by_effect actor buf (asked.OpenRead name) answer row effect = by_reads effect.disk.only
-  by_effect actor buf asked.ReadNext answer row effect = by_reads effect.disk.only
-  by_effect actor buf asked.EndRead answer row effect = by_reads effect.disk.only
-  by_effect actor buf (asked.Delete name) answer row effect = by_delete name answer row effect
-  by_effect actor buf asked.ListNames answer row effect = by_reads effect.disk.only
-  by_effect actor buf asked.Stat answer row effect = by_reads effect.disk.only
+    image_written : (c : List ℕ) → old.disk.images c → Written c
+    image_written c image = adds_written c (image_adds c image)
 
-  step_leaves : (e : Event) (stop : Option Stop) → StepsOr stop e old new → CrashLeaves Written old.disk new.disk
-  step_leaves e None steps = by_effect e.actor e.buf e.step e.answer steps.made.row steps.made.effect
-  step_leaves e (Some stop) steps = by_reads steps.same.disk.only
+    by_reads : OnlyReads old.disk new.disk → CrashLeaves Written old.disk new.disk
+    by_reads reads = reads_leave Written old.disk new.disk image_written reads
+
+    by_seal : (filled : Contents) (answer : Result Answer Refusal) → SealsOne filled answer old new → CrashLeaves Written old.disk new.disk
+    by_seal filled answer effect =
+        let frame = frame_of (effect.moves.frame.store_has t framed.on.represents framed.on.valid framed.on.reserve) in
+        leaves_weaker (SameButSlotOf s.slots place given) Written old.disk new.disk
+        (λ c same. keeps_sealed s base half_cells (HasCellsFor s count) Was given (adds_written given framed.content.2) place c not_place same) (frame.settled settled given known).1
+
+    record_written : 1 ≤ left → (d c : List ℕ) → Written d → SameButOne d c → Written c
+    record_written some_left d c keeps same =
+        keeps_record s base half_cells (HasCellsFor s count) Was d keeps half_cells (HasCellsFor s count) c (record_alone journal d c low same)
+        (λ has. let so = fits has in
+        let room : length t.records < half_cells = omega (arith, so.1, some_left) in
+        next_put half_cells so.0 (lt-ltb (length t.records) half_cells room) room d c (keeps.journal has) same)
+
+    by_name : (name : List ℕ) (change : Change) (answer : Result Answer Refusal) → 1 ≤ left → NamesOne name change answer old new → CrashLeaves Written old.disk new.disk
+    by_name name change answer some_left effect =
+        leaves_weaker (SteppedFrom SameButOne old.disk) Written old.disk new.disk
+        (λ c from. elim from [
+          | inl image ↦ image_written c image
+          | inr step ↦ record_written some_left step.0 c (image_written step.0 step.1) step.2
+        ]) (effect.frame.leaves given known)
+
+    by_effect : (step : StepValue) (answer : Result Answer Refusal) → commands_of step ≤ left → Effect step answer old new → CrashLeaves Written old.disk new.disk
+    by_effect asked.Begin answer few effect = by_reads effect.disk.only
+    by_effect (asked.Claim seg) answer few effect = by_reads effect.disk.only
+    by_effect (asked.Seal filled) answer few effect = by_seal filled answer effect
+    by_effect (asked.Commit name root) answer few effect = by_name name (Put root) answer few effect
+    by_effect asked.Abort answer few effect = by_reads effect.disk.only
+    by_effect (asked.OpenRead name) answer few effect = by_reads effect.disk.only
+    by_effect asked.ReadNext answer few effect = by_reads effect.disk.only
+    by_effect asked.EndRead answer few effect = by_reads effect.disk.only
+    by_effect (asked.Delete name) answer few effect = by_name name Delete answer few effect
+    by_effect asked.ListNames answer few effect = by_reads effect.disk.only
+    by_effect asked.Stat answer few effect = by_reads effect.disk.only
+
+    step_leaves : (e : Event) (stop : Option Stop) → commands_of e.step ≤ left → StepsOr stop e old new → CrashLeaves Written old.disk new.disk
+    step_leaves e None few steps = by_effect e.step e.answer few steps.made.effect
+    step_leaves e (Some stop) few steps = by_reads steps.same.disk.only
 
   -- ---- at the end of a step that doesn't stop the core
 
@@ -285,11 +382,12 @@ module _ (s : Store) (base : List ℕ) (t : Store) (old new : CoreState) (framed
               settled = subst (λ (n : ℕ). IsSettled n new.disk) (new_slots represents) calm;
             };
             slots_are = framed.slots_are;
-            half_is = framed.half_is;
+            rises = framed.rises;
             more = framed.more;
             held = framed.held;
-            content = (counts.0, counts.1, keeps_counted s base (length t.records) Same given framed.content.2 counts.0 counts.2);
+            content = (counts.0, counts.1, keeps_counted s base (length t.records) Still Same given framed.content.2 counts.0 counts.2);
           };
+          fits = λ count more fits. fits_fewer s count t (names_in [] + more) more (omega arith) fits;
         }
 
     reads_count : OnlyReads old.disk new.disk → Counts
@@ -340,50 +438,69 @@ module _ (s : Store) (base : List ℕ) (t : Store) (old new : CoreState) (framed
               settled = subst (λ (n : ℕ). IsSettled n new.disk) (framed.on.represents.slots_are ∙ sym represents.slots_are) calm;
             };
             slots_are = framed.slots_are;
-            half_is = framed.half_is;
+            rises = framed.rises;
             more = framed.more;
             held = λ slot g is. held_with slot h g t.held (framed.held slot g is);
             content = (
               left.0,
               left.1,
-              keeps_sealed s base (length t.records) (Now h) given
-                  (keeps_fewer s base (length t.records) Same given framed.content.2 (length t.records) (Now h) (omega arith) (λ slot now. sym (other_with slot h t.held (now_other h slot now)) ∙ now))
+              keeps_sealed s base (length t.records) Still (Now h) given
+                  (keeps_fewer s base (length t.records) Still Same given framed.content.2 (length t.records) Still (Now h) (λ so. (so, omega arith)) (λ slot now. sym (other_with slot h t.held (now_other h slot now)) ∙ now))
                   place left.0 (now_other h) left.2,
             );
           };
+          fits = λ count more fits. fits_fewer s count t (names_in (change ∷ []) + more) more (omega arith) fits;
         } in
         subst (λ (n : ℕ). Leads s base (SealContainer n filled.kind filled.segments ∷ []) t new) (sym id_is) next
 
     -- a record is added
-    names : (name : List ℕ) (change : Change) (answer : Answer) → NamesOne name change (Ok answer) old new → old.tables.journal.count < half_cells → IsSettled old.tables.slots new.disk → Leads s base (ChangeName name change ∷ []) t new
-    names name change answer effect room calm =
-        let made = effect.made in
-        let represents = made.represents.store_has t framed.on.represents framed.on.valid framed.on.reserve in
-        let longer : length (with_change name change t).records ≡ length t.records + 1 = length-append t.records (record_of name change t ∷ []) in
-        let now = effect.disk.later.tells given known in
-        let end : ℕ = length (with_change name change t).records in
-        let adds = λ (c : List ℕ) (image : old.disk.images c). keeps_fewer s base (length t.records) Same c (image_adds c image) end Same (omega (arith, longer)) (λ slot same. same) in
-        let at_end = λ (c : List ℕ) (from : SteppedFrom SameButOne old.disk c). elim from as (λ _. KeepsBytes s end Same base c) [
-          | inl image ↦ adds c image
-          | inr step ↦ next_keeps end Same room (omega (arith, longer, framed.on.represents.names_are.count)) step.0 c (adds step.0 step.1) step.2
-        ] in
-        record {
-          after = with_change name change t;
-          chain = (made.can.store_has t framed.on.represents framed.on.valid framed.on.reserve, refl);
-          framed = record {
-            on = record {
-              represents = represents;
-              valid = made.valid.store_has t framed.on.represents framed.on.valid framed.on.reserve;
-              reserve = framed.on.reserve;
-              settled = subst (λ (n : ℕ). IsSettled n new.disk) (framed.on.represents.slots_are ∙ sym represents.slots_are) calm;
+    module _ (name : List ℕ) (change : Change) where
+      abbrev later_store : Store
+      later_store = with_change name change t
+
+      -- in a free cell, where the same selector counts
+      along : later_store.selector ≡ s.selector → Grows name change t × (t.selector ≡ s.selector)
+      along so = let grown = grows name change t (had_cell name change t s framed.rises so) in (grown, sym grown.same ∙ so)
+
+      record_adds : (d c : List ℕ) → AddsBytes s t base d → SameButOne d c → AddsBytes s later_store base c
+      record_adds d c adds same =
+          keeps_record s base (length t.records) Still Same d adds (length later_store.records) (later_store.selector ≡ s.selector) c (record_alone journal d c low same)
+          (λ so. let grown = along so in
+          next_put (length later_store.records) grown.1 grown.0.free (omega (arith, grown.0.longer)) d c
+          (journal_fewer s base (length t.records) (length later_store.records) d (omega (arith, grown.0.longer)) (adds.journal grown.1)) same)
+
+      image_more : (c : List ℕ) → old.disk.images c → AddsBytes s later_store base c
+      image_more c image =
+          keeps_fewer s base (length t.records) Still Same c (image_adds c image) (length later_store.records) (later_store.selector ≡ s.selector) Same
+          (λ so. let grown = along so in (grown.1, omega (arith, grown.0.longer))) (λ slot same. same)
+
+      names : (answer : Answer) → NamesOne name change (Ok answer) old new → IsSettled old.tables.slots new.disk → Leads s base (ChangeName name change ∷ []) t new
+      names answer effect calm =
+          let made = effect.made in
+          let represents = made.represents.store_has t framed.on.represents framed.on.valid framed.on.reserve in
+          let now = effect.disk.later.tells given known in
+          let at_end = λ (c : List ℕ) (from : SteppedFrom SameButOne old.disk c). elim from as (λ _. AddsBytes s later_store base c) [
+            | inl image ↦ image_more c image
+            | inr step ↦ record_adds step.0 c (image_adds step.0 step.1) step.2
+          ] in
+          record {
+            after = later_store;
+            chain = (made.can.store_has t framed.on.represents framed.on.valid framed.on.reserve, refl);
+            framed = record {
+              on = record {
+                represents = represents;
+                valid = made.valid.store_has t framed.on.represents framed.on.valid framed.on.reserve;
+                reserve = framed.on.reserve;
+                settled = subst (λ (n : ℕ). IsSettled n new.disk) (framed.on.represents.slots_are ∙ sym represents.slots_are) calm;
+              };
+              slots_are = framed.slots_are;
+              rises = omega (arith, framed.rises, rises_on name change t);
+              more = λ so. let grown = along so in omega (arith, framed.more grown.1, grown.0.longer);
+              held = framed.held;
+              content = (now.0, now.1, at_end now.0 ((effect.frame.leaves given known).now now.0 (new.disk.as_read now.0 now.1)));
             };
-            slots_are = framed.slots_are;
-            half_is = framed.half_is;
-            more = omega (arith, framed.more, longer);
-            held = framed.held;
-            content = (now.0, now.1, at_end now.0 ((effect.frame.leaves given known).now now.0 (new.disk.as_read now.0 now.1)));
-          };
-        }
+            fits = λ count more fits. fits_changed name change t s count more (fits_fewer s count t (names_in (ChangeName name change ∷ []) + more) (suc more) (omega arith) fits);
+          }
 
     leads : (actor : ℕ) (buf : List ℕ) (step : StepValue) (answer : Result Answer Refusal) → Row step actor answer buf old new → Effect step answer old new → StopsAfter step answer old.acknowledged new.stop
         → IsSettled old.tables.slots new.disk → Leads s base (changes_by step answer) t new
@@ -393,7 +510,7 @@ module _ (s : Store) (base : List ℕ) (t : Store) (old new : CoreState) (framed
     leads actor buf (asked.Seal filled) (Ok answer) row effect stops calm = absurd row
     leads actor buf (asked.Seal filled) (Err refusal) row effect stops calm =
         still (seal_kept old new stays filled refusal old.acknowledged stops effect.kept) effect.disk.later (unsealed_counts filled refusal stops effect.disk.later effect.disk.left) calm
-    leads actor buf (asked.Commit name root) (Ok (answers.Committed sequence)) row effect stops calm = names name (Put root) (answers.Committed sequence) effect row.0.may_name.cell calm
+    leads actor buf (asked.Commit name root) (Ok (answers.Committed sequence)) row effect stops calm = names name (Put root) (answers.Committed sequence) effect calm
     leads actor buf (asked.Commit name root) (Ok answer) row effect stops calm = absurd row
     leads actor buf (asked.Commit name root) (Err refusal) row effect stops calm =
         still effect.kept effect.disk.later (reads_count (only_reads old new stays (asked.Commit name root) refusal stops effect.disk.ends)) calm
@@ -401,7 +518,7 @@ module _ (s : Store) (base : List ℕ) (t : Store) (old new : CoreState) (framed
     leads actor buf (asked.OpenRead name) answer row effect stops calm = rests answer effect calm
     leads actor buf asked.ReadNext answer row effect stops calm = rests answer effect calm
     leads actor buf asked.EndRead answer row effect stops calm = rests answer effect calm
-    leads actor buf (asked.Delete name) (Ok (answers.Deleted sequence)) row effect stops calm = names name Delete (answers.Deleted sequence) effect row.0.cell calm
+    leads actor buf (asked.Delete name) (Ok (answers.Deleted sequence)) row effect stops calm = names name Delete (answers.Deleted sequence) effect calm
     leads actor buf (asked.Delete name) (Ok answer) row effect stops calm = absurd row
     leads actor buf (asked.Delete name) (Err refusal) row effect stops calm =
         still effect.kept effect.disk.later (reads_count (only_reads old new stays (asked.Delete name) refusal stops effect.disk.ends)) calm
@@ -415,9 +532,15 @@ module _ (s : Store) (base : List ℕ) (t : Store) (old new : CoreState) (framed
 
 -- ---- a run
 
+-- where a run leads
+record LeadsOn (s : Store) (base : List ℕ) (changes : List StoreChange) (t : Store) (c : CoreState) : Type 0 where
+  pub after : Store
+  pub chain : ChangesTo changes t after
+  pub framed : IsFramed s base after c
+
 module _ (C : Type 0) (state : C → CoreState) where
   module _ (s : Store) (base : List ℕ) where
-    run_leads : (steps : List FileEvent) (t : Store) (old new : C) → IsFramed s base t (state old) → CoreRun C state (events_of steps) old new → (state new).stop ≡ None → Leads s base (changes_of steps) t (state new)
+    run_leads : (steps : List FileEvent) (t : Store) (old new : C) → IsFramed s base t (state old) → CoreRun C state (events_of steps) old new → (state new).stop ≡ None → LeadsOn s base (changes_of steps) t (state new)
     run_leads [] t old new framed run stays = record { after = t; chain = refl; framed = subst (λ (c : C). IsFramed s base t (state c)) (sym run) framed }
     run_leads (f ∷ fs) t old new framed run stays =
         let e : Event = f.event in
@@ -428,38 +551,40 @@ module _ (C : Type 0) (state : C → CoreState) where
         let rest = run_leads fs next.after mid new next.framed run.1.1 stays in
         record { after = rest.after; chain = chain_on (changes_by e.step e.answer) (changes_of fs) t next.after rest.after next.chain rest.chain; framed = rest.framed }
 
-    abbrev LeavesWritten : C → C → Type 0
-    LeavesWritten old new = CrashLeaves (KeepsWritten s base) (state old).disk (state new).disk
+    module _ (count : ℕ) where
+      abbrev LeavesWritten : C → C → Type 0
+      LeavesWritten old new = CrashLeaves (KeepsWritten s count base) (state old).disk (state new).disk
 
-    -- a step, and what follows where it didn't stop the core
-    after_step : (e : Event) (es : List Event) (t : Store) (old mid new : C) → IsFramed s base t (state old) → CoreStep (state old) e (state mid) → CoreRun C state es mid new
-        → ((u : Store) → IsFramed s base u (state mid) → LeavesWritten mid new) → (stop : Option Stop) → (state mid).stop ≡ stop → LeavesWritten old new
-    after_step e es t old mid new framed step run others None is =
-        let was = was_running (state old).stop e (state old) (state mid) refl step is in
-        let next = step_leads s base t (state old) (state mid) framed is e (running_step (state old) (state mid) e was step) in
-        leaves_on (KeepsWritten s base) (KeepsWritten s base) (KeepsWritten s base) (state old).disk (state mid).disk (state new).disk (step_later (state old) (state mid) e (state old).stop step).clock_is
-        (step_leaves s base t (state old) (state mid) framed e (state old).stop step) (others next.after next.framed) (λ c keeps. keeps) (λ c keeps. keeps)
-    after_step e es t old mid new framed step run others (Some stop) is =
-        let first = step_leaves s base t (state old) (state mid) framed e (state old).stop step in
-        leaves_on (KeepsWritten s base) (KeepsWritten s base) (KeepsWritten s base) (state old).disk (state mid).disk (state new).disk (step_later (state old) (state mid) e (state old).stop step).clock_is
-        first (reads_leave (KeepsWritten s base) (state mid).disk (state new).disk first.now (stopped_reads C state stop es mid new is run)) (λ c keeps. keeps) (λ c keeps. keeps)
+      -- a step, and what follows where it didn't stop the core
+      after_step : (e : Event) (es : List Event) (t : Store) (old mid new : C) → IsFramed s base t (state old) → Fits s count t (commands_of e.step + commands_in es) → CoreStep (state old) e (state mid) → CoreRun C state es mid new
+          → ((u : Store) → IsFramed s base u (state mid) → Fits s count u (commands_in es) → LeavesWritten mid new) → (stop : Option Stop) → (state mid).stop ≡ stop → LeavesWritten old new
+      after_step e es t old mid new framed fits step run others None is =
+          let was = was_running (state old).stop e (state old) (state mid) refl step is in
+          let next = step_leads s base t (state old) (state mid) framed is e (running_step (state old) (state mid) e was step) in
+          let rest = next.fits count (commands_in es) (fits_fewer s count t (commands_of e.step + commands_in es) (names_in (changes_by e.step e.answer) + commands_in es) (omega (arith, few_names e.step e.answer)) fits) in
+          leaves_on (KeepsWritten s count base) (KeepsWritten s count base) (KeepsWritten s count base) (state old).disk (state mid).disk (state new).disk (step_later (state old) (state mid) e (state old).stop step).clock_is
+          (step_leaves s base t (state old) (state mid) framed count (commands_of e.step + commands_in es) fits e (state old).stop (omega arith) step) (others next.after next.framed rest) (λ c keeps. keeps) (λ c keeps. keeps)
+      after_step e es t old mid new framed fits step run others (Some stop) is =
+          let first = step_leaves s base t (state old) (state mid) framed count (commands_of e.step + commands_in es) fits e (state old).stop (omega arith) step in
+          leaves_on (KeepsWritten s count base) (KeepsWritten s count base) (KeepsWritten s count base) (state old).disk (state mid).disk (state new).disk (step_later (state old) (state mid) e (state old).stop step).clock_is
+          first (reads_leave (KeepsWritten s count base) (state mid).disk (state new).disk first.now (stopped_reads C state stop es mid new is run)) (λ c keeps. keeps) (λ c keeps. keeps)
 
-    run_leaves : (events : List Event) (t : Store) (old new : C) → IsFramed s base t (state old) → CoreRun C state events old new → LeavesWritten old new
-    run_leaves [] t old new framed run =
-        reads_leave (KeepsWritten s base) (state old).disk (state new).disk (image_written s base t (state old) (state old) framed)
-        (subst (λ (c : C). OnlyReads (state old).disk (state c).disk) (sym run) (reads_here (state old).disk))
-    run_leaves (e ∷ es) t old new framed run =
-        after_step e es t old run.0 new framed run.1.0 run.1.1 (λ u there. run_leaves es u run.0 new there run.1.1) (state run.0).stop refl
+      run_leaves : (events : List Event) (t : Store) (old new : C) → IsFramed s base t (state old) → Fits s count t (commands_in events) → CoreRun C state events old new → LeavesWritten old new
+      run_leaves [] t old new framed fits run =
+          reads_leave (KeepsWritten s count base) (state old).disk (state new).disk (image_written s base t (state old) (state old) framed count 0 fits)
+          (subst (λ (c : C). OnlyReads (state old).disk (state c).disk) (sym run) (reads_here (state old).disk))
+      run_leaves (e ∷ es) t old new framed fits run =
+          after_step e es t old run.0 new framed fits run.1.0 run.1.1 (λ u there rest. run_leaves es u run.0 new there rest run.1.1) (state run.0).stop refl
 
 -- where it begins
 begins : (s : Store) (base : List ℕ) (c : CoreState) → IsOn s c → c.disk.content ≡ Some base → IsFramed s base s c
 begins s base c on told = record {
   on = on;
   slots_are = refl;
-  half_is = refl;
-  more = omega arith;
+  rises = omega arith;
+  more = λ so. omega arith;
   held = λ slot h is. is;
-  content = (base, told, keeps_here s base (length s.records) (λ slot. slice_get s.held slot ≡ slice_get s.held slot));
+  content = (base, told, keeps_here s base (length s.records) (s.selector ≡ s.selector) (λ slot. slice_get s.held slot ≡ slice_get s.held slot));
 }
 
 -- a core that is at a store is on it
@@ -479,6 +604,6 @@ module _ (C : Type 0) (state : C → CoreState) where
 
   pub written_stays : WrittenStays C state
   written_stays events s base old new on told run =
-      let leaves = run_leaves C state s base events s old new (begins s base (state old) on told) run in
+      let leaves = run_leaves C state s base (commands_in events) events s old new (begins s base (state old) on told) (λ has. (refl, has)) run in
       let now = (run_later C state events old new run).tells base told in
       ((now.0, now.1, leaves.now now.0 ((state new).disk.as_read now.0 now.1)), leaves)

@@ -284,7 +284,7 @@ module _ (among : ByteSet) (s : Store) (stored : Stored) (old new : CoreState) (
       let tree = given.tree s at.represents in
       let moved = effect.moves.moves among s stored.files (files.Put name bytes) at.represents.names_are refl (ap Put given.root_is) (record { known = at.stands.known; each = λ c is. (at.stands.each c is, tree.each c is) }) in
       let copies = effect.copies s at.represents image here stands_here.holds.right in
-      makes among s stored old new actor at (row_one actor buf old new (asked.Commit name root) (Ok (answers.Committed sequence)) row) (ChangeName name (Put root)) (with_stored stored name bytes) (last_changed name (Put root) s ∙ ap suc last_here) effect.made effect.disk.later
+      makes among s stored old new actor at (row_one actor buf old new (asked.Commit name root) (Ok (answers.Committed sequence)) row) (ChangeName name (Put root)) (with_stored stored name bytes) (last_changed name (Put root) s at.valid.follow ∙ ap suc last_here) effect.made effect.disk.later
       (subst (λ (r : Root). StandsFor (Stands (IsIn among) (with_change name (Put r) s) (with_stored stored name bytes).files) new.disk) (sym given.root_is) moved.arrives)
       (λ after is. (
         subst (KeepsCopies s image (with_change name (Put root) s)) (one_some copies.0 after (sym copies.1 ∙ is)) copies.2,
@@ -300,7 +300,7 @@ module _ (among : ByteSet) (s : Store) (stored : Stored) (old new : CoreState) (
   delete_next name (Ok (answers.Deleted sequence)) row effect stops right given =
       let moved = effect.moves.moves among s stored.files (files.Delete name) at.represents.names_are refl refl (record { known = at.stands.known; each = λ c is. (at.stands.each c is, tt) }) in
       let copies = effect.copies s at.represents image here stands_here.holds.right in
-      makes among s stored old new actor at (row_one actor buf old new (asked.Delete name) (Ok (answers.Deleted sequence)) row) (ChangeName name Delete) (without_stored stored name) (last_changed name Delete s ∙ ap suc last_here) effect.made effect.disk.later
+      makes among s stored old new actor at (row_one actor buf old new (asked.Delete name) (Ok (answers.Deleted sequence)) row) (ChangeName name Delete) (without_stored stored name) (last_changed name Delete s at.valid.follow ∙ ap suc last_here) effect.made effect.disk.later
       moved.arrives
       (λ after is.
       let kept = subst (KeepsCopies s image (with_change name Delete s)) (one_some copies.0 after (sym copies.1 ∙ is)) copies.2 in

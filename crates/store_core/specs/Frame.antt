@@ -1,14 +1,16 @@
 -- What the steps of a core leave of the bytes of its disk, whatever these are (docs/MODEL.md, 'The core').
-use Rattle.std.specs.Prelude.{◌≡◌, ◌<◌, ◌≤◌, ℕ, List, length, slice_get, None, Some}
+use Rattle.std.specs.Prelude.{◌≡◌, ℕ, ◌+◌, ◌<◌, ◌≤◌, List, [], ◌∷◌, length, slice_get, None, Some}
 use Rattle.base_model.specs.Bytes.{range}
 use Rattle.base_model.specs.Known.{KnownWith}
 use Rattle.disk_format.specs.declared.numbers.TheConstants.{CELL_BYTES, SLOT_BYTES, FIRST_HALF, RESERVE}
 use Rattle.disk_format.specs.Layout.{half_cells, cell_at, slot_at}
 use Rattle.dd_disk.specs.View.{CrashLeaves}
+use Rattle.actor_parts.specs.StepValue as asked
+use Rattle.actor_parts.specs.StepValue.{StepValue}
 use Rattle.container_meta.specs.Spelling.{HeaderValue}
 use Rattle.store_model.specs.Image.{Store, IsValidFor}
 use Rattle.store_model.specs.Slots.{free_slots}
-use Rattle.store_model.specs.Steps.{StoreChange}
+use Rattle.store_model.specs.Steps.{StoreChange, HasCellsFor}
 use Rattle.store_state.specs.Settled.{IsSettled}
 use Rattle.store_state.specs.Tables.{Represents}
 use Rattle.store_core.specs.Runs.{FileEvent, CoreRun, ChangesTo, changes_of, events_of}
@@ -21,24 +23,50 @@ pub record IsOn (store : Store) (c : CoreState) : Type 0 where
   pub reserve : RESERVE ≤ free_slots store.held
   pub settled : IsSettled c.tables.slots c.disk
 
--- Bytes that held the store, and what they have become. The format cell, the selectors and the record cells are as they were,
--- but those of the half that counts from the end of the store's records on and before this one; and so are these slots.
-pub record KeepsBytes (store : Store) (end : ℕ) (Stays : ℕ → Type 0) (old new : List ℕ) : Type 0 where
-  pub size_is : length new ≡ length old
+-- how many cells of the half some steps may need, one each: those that give a name a root or take it away
+abbrev pub commands_of : StepValue → ℕ
+commands_of (asked.Commit name root) = 1
+commands_of (asked.Delete name) = 1
+commands_of step = 0
+
+abbrev pub commands_in : List Event → ℕ
+commands_in [] = 0
+commands_in (e ∷ es) = commands_of e.step + commands_in es
+
+-- The selectors are as they were, and the record cells, but those of the half that counts from the end of the store's records on and
+-- before this one.
+pub record KeepsJournal (store : Store) (end : ℕ) (old new : List ℕ) : Type 0 where
   pub head : range 0 FIRST_HALF new ≡ range 0 FIRST_HALF old
   pub cells : (half cell : ℕ) → half ≤ 1 → cell < half_cells
       → ¬ ((half ≡ store.selector.half) × (length store.records ≤ cell) × (cell < end))
       → range (cell_at half cell) CELL_BYTES new ≡ range (cell_at half cell) CELL_BYTES old
+
+-- Bytes that held the store, and what they have become. The format cell is as it was, and so are these slots; and the journal but
+-- for some cells, where no checkpoint was made.
+pub record KeepsBytes (store : Store) (end : ℕ) (NoCheckpoint : Type 0) (Stays : ℕ → Type 0) (old new : List ℕ) : Type 0 where
+  pub size_is : length new ≡ length old
+  pub format : range 0 CELL_BYTES new ≡ range 0 CELL_BYTES old
+  pub journal : NoCheckpoint → KeepsJournal store end old new
   pub slots : (slot : ℕ) → slot < store.slots → Stays slot
       → range (slot_at slot) SLOT_BYTES new ≡ range (slot_at slot) SLOT_BYTES old
 
--- But the cells of the records more, and the slots with another container than before, all is as it was.
+-- But the cells of the records more, and the slots with another container than before, all is as it was; of the journal, where the
+-- same selector counts.
 abbrev pub AddsBytes : Store → Store → List ℕ → List ℕ → Type 0
-AddsBytes s t = KeepsBytes s (length t.records) (λ slot. slice_get t.held slot ≡ slice_get s.held slot)
+AddsBytes s t = KeepsBytes s (length t.records) (t.selector ≡ s.selector) (λ slot. slice_get t.held slot ≡ slice_get s.held slot)
 
--- But the cells after the records, and the slots that were closed, all is as it was.
-abbrev pub KeepsWritten : Store → List ℕ → List ℕ → Type 0
-KeepsWritten s = KeepsBytes s half_cells (λ slot. (h : HeaderValue) × (slice_get s.held slot ≡ Some (Some h)))
+-- a slot had a container
+abbrev pub HadContainer : Store → ℕ → Type 0
+HadContainer s slot = (h : HeaderValue) × (slice_get s.held slot ≡ Some (Some h))
+
+-- But the cells after the records, and the slots that were closed, all is as it was; of the journal, where its half has cells for so
+-- many records.
+abbrev pub KeepsWritten : Store → ℕ → List ℕ → List ℕ → Type 0
+KeepsWritten s count = KeepsBytes s half_cells (HasCellsFor s count) (HadContainer s)
+
+-- the same of the format cell and the containers alone
+abbrev pub KeepsContainers : Store → List ℕ → List ℕ → Type 0
+KeepsContainers s = KeepsBytes s half_cells ⊥ (HadContainer s)
 
 -- Where steps lead by their changes: no slot has another container than before but those that were closed, and the content has
 -- changed by what was added.
@@ -56,9 +84,10 @@ AddsAlone C state = (steps : List FileEvent) (s : Store) (base : List ℕ) (old 
     → IsOn s (state old) → (state old).disk.content ≡ Some base → CoreRun C state (events_of steps) old new
     → (state new).stop ≡ None → HasGrown (changes_of steps) s base (state new)
 
--- In what reads give, and in what a crash leaves at any moment of a run, what was written stays, also where a write fails.
+-- In what reads give, and in what a crash leaves at any moment of a run, what was written stays, also where a write fails; of the
+-- journal, where its half has cells for all commands of the run.
 abbrev pub WrittenStays : (C : Type 0) → (C → CoreState) → Type 0
 WrittenStays C state = (events : List Event) (s : Store) (base : List ℕ) (old new : C)
     → IsOn s (state old) → (state old).disk.content ≡ Some base → CoreRun C state events old new
-    → KnownWith (state new).disk.content (KeepsWritten s base)
-    × CrashLeaves (KeepsWritten s base) (state old).disk (state new).disk
+    → KnownWith (state new).disk.content (KeepsWritten s (commands_in events) base)
+    × CrashLeaves (KeepsWritten s (commands_in events) base) (state old).disk (state new).disk

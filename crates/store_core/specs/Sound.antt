@@ -70,7 +70,6 @@ FindsFile files (asked.OpenRead name) (Ok (answers.Opened count)) =
 FindsFile files (asked.OpenRead name) (Err refusals.NoFile) = finite.get files name ≡ None
 FindsFile files (asked.Delete name) (Ok answer) = (bytes : List ℕ) × (finite.get files name ≡ Some bytes)
 FindsFile files (asked.Delete name) (Err refusals.NoFile) = finite.get files name ≡ None
-FindsFile files (asked.Delete name) (Err refusals.TooMany) = (bytes : List ℕ) × (finite.get files name ≡ Some bytes)
 FindsFile files (asked.Delete name) (Err refusals.Numbers) = (bytes : List ℕ) × (finite.get files name ≡ Some bytes)
 FindsFile files (asked.Delete name) (Err refusals.DiskWrite) = (bytes : List ℕ) × (finite.get files name ≡ Some bytes)
 FindsFile files asked.ListNames (Ok (answers.Listed listed)) = listed ≡ file_listing files

@@ -61,8 +61,10 @@ pub fn a_core_survives_crashes<C: HasState>()
     ensures end { EndsWithAll C C.state }
 {}
 
-/// Whatever the disk of a core holds, a run adds records and containers to it: no other byte before the end of the slots changes. At
-/// any moment of a run, also where a write fails, what was written before it stays. The function does nothing.
+/// Whatever the disk of a core holds, a run adds records and containers to it: no other byte before the end of the slots
+/// changes, but those of the journal where a checkpoint is made. At any moment of a run, also where a write fails, what was
+/// written before it stays: the containers, and the journal where its half has a cell for each command. The function does
+/// nothing.
 pub fn a_core_keeps_what_is_written<C: HasState>()
     ensures added { AddsAlone C C.state }
     ensures moments { WrittenStays C C.state }

@@ -138,9 +138,8 @@ delete_ends : (name : List ℕ) (refusal : Refusal) (m n : Machine) → RefusesD
 delete_ends name refusals.Memory m n is = inr (same m n is, λ distinct. tt)
 delete_ends name refusals.BadName m n is = inr (same m n is.1, λ distinct. tt)
 delete_ends name refusals.NoFile m n is = inr (same m n is.2, λ distinct. tt)
-delete_ends name refusals.TooMany m n is = inr (same m n is.3, λ distinct. tt)
-delete_ends name refusals.Numbers m n is = inr (same m n is.4, λ distinct. tt)
-delete_ends name refusals.DiskWrite m n is = inl is.4
+delete_ends name refusals.Numbers m n is = inr (same m n is.3, λ distinct. tt)
+delete_ends name refusals.DiskWrite m n is = inl is.3
 delete_ends name refusal m n is = absurd is
 
 on_ends : (line : LineValue) (refusal : Refusal) (m n : Machine) → RefusesOn line refusal m n → Ends (DistinctBy m) (IsLeft refusal) m n

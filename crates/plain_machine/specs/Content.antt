@@ -19,7 +19,7 @@ use Rattle.store_model.specs.Image.{Store, Encodes}
 use Rattle.store_model.specs.Indexing.{entries_in, bytes_in_slots}
 use Rattle.store_model.specs.Pieces.{Piece, Node, IsPieceOf, piece_segment}
 use Rattle.store_model.specs.Slots.{Copy, newest, first_free, free_slots, last_id}
-use Rattle.store_model.specs.Steps.{CanChangeName, CanSeal, with_change, with_sealed}
+use Rattle.store_model.specs.Steps.{CanChangeName, CanSeal, HasCellsFor, with_change, with_sealed}
 use Rattle.store_model.specs.Trees.{HasNewest, bytes_at, node_key}
 
 -- P is so of the store that the content is: there is one
@@ -67,18 +67,23 @@ HasTwins file key =
 
 -- ---- what changes
 
--- But for the record cells of which P holds, and the slots of which Q does, all before the end of the slots is as it was. What
--- lies after them counts for nothing.
-pub record SameBut (P : ℕ → ℕ → Type 0) (Q : ℕ → Type 0) (slots : ℕ) (old new : List ℕ) : Type 0 where
-  pub size_is : length new ≡ length old
+-- but for the record cells of which P holds, the selectors and halves of the journal are as they were
+pub record SameJournal (P : ℕ → ℕ → Type 0) (old new : List ℕ) : Type 0 where
   pub head : range 0 FIRST_HALF new ≡ range 0 FIRST_HALF old
   pub cells : (half cell : ℕ) → half ≤ 1 → cell < half_cells → ¬ (P half cell)
       → range (cell_at half cell) CELL_BYTES new ≡ range (cell_at half cell) CELL_BYTES old
+
+-- But for the record cells of which P holds, and the slots of which Q does, all before the end of the slots is as it was; of the
+-- journal, where no checkpoint was made. What lies after the slots counts for nothing.
+pub record SameBut (NoCheckpoint : Type 0) (P : ℕ → ℕ → Type 0) (Q : ℕ → Type 0) (slots : ℕ) (old new : List ℕ) : Type 0 where
+  pub size_is : length new ≡ length old
+  pub format : range 0 CELL_BYTES new ≡ range 0 CELL_BYTES old
+  pub journal : NoCheckpoint → SameJournal P old new
   pub slots_are : (slot : ℕ) → slot < slots → ¬ (Q slot) → range (slot_at slot) SLOT_BYTES new ≡ range (slot_at slot) SLOT_BYTES old
 
 -- All before the end of the slots is as it was.
 abbrev pub SameStore : List ℕ → List ℕ → Type 0
-SameStore old new = OfStore old (λ store. SameBut (λ half cell. ⊥) (λ slot. ⊥) store.slots old new)
+SameStore old new = OfStore old (λ store. SameBut (Unit {0}) (λ half cell. ⊥) (λ slot. ⊥) store.slots old new)
 
 -- A container stands in the free slot of least number, under the next id, each of its segments is held, and all else is as it was.
 pub record AddsContainer (id : ℕ) (filled : Contents) (old new : List ℕ) : Type 0 where
@@ -88,21 +93,22 @@ pub record AddsContainer (id : ℕ) (filled : Contents) (old new : List ℕ) : T
   pub id_is : id ≡ suc (last_id store.held)
   pub now : Encodes new (with_sealed id filled.kind filled.segments store)
   pub held : AllByRecursion (λ s. Holds new (record { kind = filled.kind; segment = s })) filled.segments
-  pub rest : SameBut (λ half cell. ⊥) (λ slot. slot ≡ first_free store.held) store.slots old new
+  pub rest : SameBut (Unit {0}) (λ half cell. ⊥) (λ slot. slot ≡ first_free store.held) store.slots old new
 
--- A record of the change of a name stands in the next cell, and all else is as it was.
+-- A record of the change of a name stands in the next cell, and all else is as it was. Where the half had no cell for it, a
+-- checkpoint was made before: `now` says what the journal is then.
 pub record AddsRecord (name : List ℕ) (change : Change) (old new : List ℕ) : Type 0 where
   pub store : Store
   pub was : Encodes old store
   pub can : CanChangeName name change store
   pub now : Encodes new (with_change name change store)
-  pub rest : SameBut (λ half cell. (half ≡ store.selector.half) × (cell ≡ length store.records)) (λ slot. ⊥) store.slots old new
+  pub rest : SameBut (HasCellsFor store 1) (λ half cell. (half ≡ store.selector.half) × (cell ≡ length store.records)) (λ slot. ⊥) store.slots old new
 
--- A write broke off: each record and each container that was there is as it was.
-pub record BreaksOff (old new : List ℕ) : Type 0 where
+-- A write broke off: each container that was there is as it was; and so is each record, where the half had cells for so many more.
+pub record BreaksOff (records : ℕ) (old new : List ℕ) : Type 0 where
   pub store : Store
   pub was : Encodes old store
-  pub rest : SameBut (λ half cell. (half ≡ store.selector.half) × (length store.records ≤ cell))
+  pub rest : SameBut (HasCellsFor store records) (λ half cell. (half ≡ store.selector.half) × (length store.records ≤ cell))
       (λ slot. (h : HeaderValue) → slice_get store.held slot ≢ Some (Some h)) store.slots old new
 
 -- ---- what is counted

@@ -1,5 +1,5 @@
 -- What each line of a script does where it is done, and what it replies.
-use Rattle.std.specs.Prelude.{◌≡◌, ◌≤◌, ◌<◌, ℕ, suc, ◌-◌, ◌^◌, List, [], ◌∷◌, ◌++◌, length, true, is_some, Some}
+use Rattle.std.specs.Prelude.{◌≡◌, ◌≤◌, ℕ, suc, List, [], ◌∷◌, ◌++◌, length, true, is_some, Some}
 use Rattle.std.specs.FinMap as finite
 use Rattle.disk_format.specs.Cells.{IsName}
 use Rattle.disk_format.specs.Cells.Change.{Delete, Put}
@@ -19,7 +19,7 @@ use Rattle.store_model.specs.Standing.{file_listing}
 use Rattle.store_model.specs.Trees.{root_of}
 use Rattle.plain_machine.specs.Content.{AddsRecord, Counts, HoldsFile}
 use Rattle.plain_machine.specs.Machine.{Machine, Part, Idle, Writing, Finished, Reading, MayBeFound, opened, one_more, part_in, put_at}
-use Rattle.plain_machine.specs.Refused.{HasCell, HasRoomForName}
+use Rattle.plain_machine.specs.Refused.{HasNumbers, HasRoomForName}
 use Rattle.plain_machine.specs.Turns.{Writer, IsWriter, IsDue, MachineTurn, MachineTurns}
 
 -- ---- a file that is given
@@ -68,7 +68,7 @@ pub record Commits (actor : ℕ) (name : List ℕ) (sequence : ℕ) (m n : Machi
   pub held : HoldsFile mid.content file
   pub named : IsName name
   pub room : HasRoomForName name mid
-  pub below : mid.stored.last < 2 ^ 64 - 1
+  pub numbers : HasNumbers mid
   pub sequence_is : sequence ≡ suc mid.stored.last
   pub recorded : AddsRecord name (Put (root_of file)) mid.content n.content
   pub others : n ≡ record (put_at mid actor Idle) {
@@ -101,8 +101,7 @@ Drops actor m n = ((rest : List (List ℕ)) × (part_in m actor ≡ Reading rest
 pub record Deletes (name : List ℕ) (sequence : ℕ) (m n : Machine) : Type 0 where
   pub named : IsName name
   pub there : is_some (finite.get m.stored.files name) ≡ true
-  pub cell : HasCell m
-  pub below : m.stored.last < 2 ^ 64 - 1
+  pub numbers : HasNumbers m
   pub sequence_is : sequence ≡ suc m.stored.last
   pub recorded : AddsRecord name Delete m.content n.content
   pub others : n ≡ record m {

@@ -15,6 +15,7 @@ use Rattle.script_lines.specs.Grammar.{LineValue, pushed_bytes}
 use Rattle.script_lines.specs.Grammar as lines
 use Rattle.store_model.specs.Files.{with_stored, without_stored}
 use Rattle.store_model.specs.Refusals.{root_key}
+use Rattle.store_model.specs.Steps.{CanRise}
 use Rattle.store_model.specs.Trees.{root_of}
 use Rattle.plain_machine.specs.Content.{OfStore, BreaksOff, HasTwins}
 use Rattle.plain_machine.specs.Machine.{Machine, Writing, Finished, Reading, Stopped, kind_of, part_in}
@@ -55,23 +56,24 @@ takes line kind = false
 
 -- ---- names
 
--- the journal has a cell left, or none
-abbrev pub HasCell : Machine → Type 0
-HasCell m = OfStore m.content (λ store. length store.records < half_cells)
-
-abbrev pub LacksCell : Machine → Type 0
-LacksCell m = OfStore m.content (λ store. half_cells ≤ length store.records)
-
--- the name has a file or fewer than 512 have one, and the journal has a cell left
-pub record HasRoomForName (name : List ℕ) (m : Machine) : Type 0 where
-  pub names : (is_some (finite.get m.stored.files name) ≡ true) ⊎ (finite.len m.stored.files < MOST_NAMES)
-  pub cell : HasCell m
+-- the name has a file or fewer than 512 have one
+abbrev pub HasRoomForName : List ℕ → Machine → Type 0
+HasRoomForName name m = (is_some (finite.get m.stored.files name) ≡ true) ⊎ (finite.len m.stored.files < MOST_NAMES)
 
 -- or it is not so
 abbrev pub LacksRoomForName : List ℕ → Machine → Type 0
-LacksRoomForName name m =
-    ((finite.get m.stored.files name ≡ None) × (MOST_NAMES ≤ finite.len m.stored.files))
-    ⊎ LacksCell m
+LacksRoomForName name m = (finite.get m.stored.files name ≡ None) × (MOST_NAMES ≤ finite.len m.stored.files)
+
+-- a record has its numbers: a sequence number, and the generation of a checkpoint where the half that counts is full
+pub record HasNumbers (m : Machine) : Type 0 where
+  pub sequence : m.stored.last < 2 ^ 64 - 1
+  pub generation : OfStore m.content CanRise
+
+-- or one of them can't rise
+abbrev pub LacksNumbers : Machine → Type 0
+LacksNumbers m =
+    (m.stored.last ≡ 2 ^ 64 - 1)
+    ⊎ OfStore m.content (λ store. (half_cells ≤ length store.records) × (store.selector.generation ≡ 2 ^ 64 - 1))
 
 -- ---- lines
 
@@ -82,10 +84,10 @@ RefusesName actor name file BadName m n = ¬ (IsName name) × (n ≡ m)
 RefusesName actor name file TooMany m n = IsName name × LacksRoomForName name m × (n ≡ m)
 RefusesName actor name file (Unpinned key) m n =
     IsName name × HasRoomForName name m × HasTwins file key × (root_key (root_of file) ≡ key) × (n ≡ m)
-RefusesName actor name file Numbers m n = IsName name × HasRoomForName name m × (m.stored.last ≡ 2 ^ 64 - 1) × (n ≡ m)
+RefusesName actor name file Numbers m n = IsName name × HasRoomForName name m × LacksNumbers m × (n ≡ m)
 RefusesName actor name file DiskWrite m n =
-    IsName name × HasRoomForName name m × (m.stored.last < 2 ^ 64 - 1) × Rose m.faults n.faults
-    × BreaksOff m.content n.content
+    IsName name × HasRoomForName name m × HasNumbers m × Rose m.faults n.faults
+    × BreaksOff 1 m.content n.content
     × (n ≡ record m { state = Stopped (Some (with_stored m.stored name file)); content = n.content; faults = n.faults })
 RefusesName actor name file refusal m n = ⊥
 
@@ -94,12 +96,11 @@ abbrev pub RefusesDelete : List ℕ → Refusal → Machine → Machine → Type
 RefusesDelete name Memory m n = n ≡ m
 RefusesDelete name BadName m n = ¬ (IsName name) × (n ≡ m)
 RefusesDelete name NoFile m n = IsName name × (finite.get m.stored.files name ≡ None) × (n ≡ m)
-RefusesDelete name TooMany m n = IsName name × (is_some (finite.get m.stored.files name) ≡ true) × LacksCell m × (n ≡ m)
 RefusesDelete name Numbers m n =
-    IsName name × (is_some (finite.get m.stored.files name) ≡ true) × HasCell m × (m.stored.last ≡ 2 ^ 64 - 1) × (n ≡ m)
+    IsName name × (is_some (finite.get m.stored.files name) ≡ true) × LacksNumbers m × (n ≡ m)
 RefusesDelete name DiskWrite m n =
-    IsName name × (is_some (finite.get m.stored.files name) ≡ true) × HasCell m × (m.stored.last < 2 ^ 64 - 1)
-    × Rose m.faults n.faults × BreaksOff m.content n.content
+    IsName name × (is_some (finite.get m.stored.files name) ≡ true) × HasNumbers m
+    × Rose m.faults n.faults × BreaksOff 1 m.content n.content
     × (n ≡ record m { state = Stopped (Some (without_stored m.stored name)); content = n.content; faults = n.faults })
 RefusesDelete name refusal m n = ⊥
 

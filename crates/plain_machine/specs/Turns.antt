@@ -98,7 +98,7 @@ RefusesStep (Seal kind) s w (Clash key at) m n = HasSlot m.content × Stays m n
     × ((index : ℕ) × ((x : Segment) × ((slice_get (open_of s kind).segments index ≡ Some x)
     × ClashesWith (record { kind = kind; segment = x }) m.content key at)))
 RefusesStep (Seal kind) s w DiskWrite m n = HasSlot m.content × Rose m.faults n.faults
-    × BreaksOff m.content n.content
+    × BreaksOff 0 m.content n.content
     × (n ≡ record m { state = Stopped None; content = n.content; faults = n.faults })
 RefusesStep due s w refusal m n = ⊥
 

@@ -17,7 +17,7 @@ use Rattle.store_state.specs.declared.tables.Tables.{Tables}
 use Rattle.store_core.specs.declared.stop.Stop.{Stop}
 use Rattle.store_core.specs.Core as core_step
 use Rattle.store_core.specs.Core.{Effect, Steps, StopsAfter}
-use Rattle.store_core.specs.Frame.{KeepsWritten}
+use Rattle.store_core.specs.Frame.{KeepsWritten, commands_in}
 use Rattle.store_core.specs.Runs.{FileEvent, FileRun, FileStep, IsOf, IsOnTheWay, stored_by, stored_tried, stored_with}
 use Rattle.store_core.specs.Sound.{IsHarmless, MayClash}
 use Rattle.store_core.specs.State.{CoreState}
@@ -42,7 +42,7 @@ pub record Broken (S : List ℕ → Type 0) (m : Machine) (f : FileEvent) (store
   pub image : List ℕ
   pub content : new.disk.content ≡ Some image
   pub of : IsTried S m f image
-  pub rest : KeepsWritten store m.content image
+  pub rest : KeepsWritten store (commands_in (f.event ∷ [])) m.content image
   pub images : (c : List ℕ) → new.disk.images c → IsTried S m f c
   pub last_is : new.tables.journal.last ≡ m.stored.last
   pub counted : new.acknowledged ≡ old.acknowledged
@@ -103,7 +103,7 @@ module _ (C : Type 0) (state : C → CoreState) (among : ByteSet) (apart : HasNo
           ]
         ]) (leaves_on_the_way C state among (f ∷ []) store m.stored old new apart running.begins.is_at run)
 
-    written : KnownWith (state new).disk.content (KeepsWritten store m.content)
+    written : KnownWith (state new).disk.content (KeepsWritten store (commands_in (f.event ∷ [])) m.content)
     written = (written_stays C state (f.event ∷ []) store m.content old new (at_on S store m.stored (state old) running.begins.is_at running.begins.settled) content_is (new, (step.made, refl))).0
 
     pub broken : Broken S m f store stop (state old) (state new)

@@ -1,8 +1,10 @@
 -- A commit of a file of which nothing is due, as the plain machine has it.
-use Rattle.std.proofs.Common.{◌≡◌, ◌⊎◌, inl, inr, ◌∙◌, ◌<◌, ◌-◌, ◌^◌, ℕ, true, List, [], ◌∷◌, length, is_some, None, Result, Ok, Err, refl, sym, ap, subst, length-append, arith}
+use Rattle.std.proofs.Common.{◌≡◌, ◌⊎◌, inl, inr, ◌∙◌, ◌<◌, ◌+◌, ◌-◌, ◌^◌, ℕ, true, List, [], ◌∷◌, length, is_some, None, Result, Ok, Err, refl, sym, ap, subst, length-append, arith}
 use Rattle.std.specs.FinMap as finite
 use Rattle.disk_format.specs.Cells.{Change, IsName}
 use Rattle.disk_format.specs.Cells.Change.{Put}
+use Rattle.std.proofs.lemmas.Bool.{lt-ltb}
+use Rattle.disk_format.specs.Layout.{half_cells}
 use Rattle.disk_format.specs.declared.numbers.TheConstants.{MOST_NAMES}
 use Rattle.dd_disk.specs.View.{CrashLeaves}
 use Rattle.actor_parts.specs.declared.actor.TheConstants.{ACTORS}
@@ -21,7 +23,8 @@ use Rattle.store_model.specs.Collisions.{HasNoCollisions, ByteSet, IsIn}
 use Rattle.store_model.specs.Files.{Files, with_stored}
 use Rattle.store_model.specs.Image.{Store, Encodes, names_of}
 use Rattle.store_model.specs.Standing.{IsStoreOf}
-use Rattle.store_model.specs.Steps.{CanChangeName, record_of, with_change}
+use Rattle.store_model.specs.Steps.{CanChangeName, HasCellsFor, appended, record_of, with_cell, with_change}
+use Rattle.store_model.proofs.Cells.{cell_here}
 use Rattle.store_model.specs.Trees.{root_of}
 use Rattle.store_core.specs.Core.{CoreStep, Steps}
 use Rattle.store_core.specs.Frame.{AddsBytes}
@@ -31,7 +34,7 @@ use Rattle.store_core.proofs.CoreRuns.{running_step}
 use Rattle.store_core.proofs.Crashes.{last_at}
 use Rattle.plain_machine.specs.Content.{AddsRecord, SameBut}
 use Rattle.plain_machine.specs.Machine.{Machine, Idle, one_more, put_at}
-use Rattle.plain_machine.specs.Refused.{HasRoomForName}
+use Rattle.plain_machine.specs.Refused.{HasNumbers, HasRoomForName}
 use Rattle.script_runner.specs.Follows.{FollowsPart}
 use Rattle.script_runner.specs.Sessions.{Sessions, with_session}
 use Rattle.script_runner.proofs.OneStep.{Stepped, stepped}
@@ -44,11 +47,16 @@ use Rattle.script_runner.proofs.TurnsDone.{IsWhole}
 -- ---- what it adds
 
 pub record_added : (name : List ℕ) (change : Change) (store : Store) (old new : List ℕ) → AddsBytes store (with_change name change store) old new
-    → SameBut (λ half cell. (half ≡ store.selector.half) × (cell ≡ length store.records)) (λ slot. ⊥) store.slots old new
+    → SameBut (HasCellsFor store 1) (λ half cell. (half ≡ store.selector.half) × (cell ≡ length store.records)) (λ slot. ⊥) store.slots old new
 record_added name change store old new adds = record {
   size_is = adds.size_is;
-  head = adds.head;
-  cells = λ half cell low within other. adds.cells half cell low within (λ is. other (is.0, omega (arith, is.1, is.2, length-append store.records (record_of name change store ∷ []))));
+  format = adds.format;
+  journal = λ has.
+      let here : with_cell store ≡ store = cell_here store (lt-ltb (length store.records) half_cells (omega (arith, has))) in
+      let longer : length (with_change name change store).records ≡ length store.records + 1 =
+      subst (λ (s : Store). length (appended name change s).records ≡ length store.records + 1) (sym here) (length-append store.records (record_of name change store ∷ [])) in
+      let keeps = adds.journal (ap (λ (s : Store). s.selector) here) in
+      record { head = keeps.head; cells = λ half cell low within other. keeps.cells half cell low within (λ is. other (is.0, omega (arith, is.1, is.2, longer))) };
   slots_are = λ slot within other. adds.slots slot within refl;
 }
 
@@ -71,7 +79,7 @@ pub record CommitMade (S : List ℕ → Type 0) (m : Machine) (sessions : Sessio
   pub image : List ℕ
   pub named : IsName name
   pub room : HasRoomForName name m
-  pub below : m.stored.last < 2 ^ 64 - 1
+  pub numbers : HasNumbers m
   pub recorded : AddsRecord name (Put (root_of file)) m.content image
   pub at : RunsAt S (committed m actor name file image) (with_session sessions actor None) new
   pub leaves : CrashLeaves (λ c. IsOf S m.stored c ⊎ IsOf S (with_stored m.stored name file) c) old.disk new.disk
@@ -130,11 +138,11 @@ module _ (C : Type 0) (state : C → CoreState) (among : ByteSet) (distinct : Ha
     commit_made = record {
       image = image;
       named = can.named;
-      room = record {
-        names = room_of_files store m.stored.files m.content name (store_here S store m.stored (state old) at.running.begins.is_at m.content at.content_is) can.place;
-        cell = (store, (right_here S store m.stored (state old) at.running.begins.is_at m.content at.content_is, can.cell));
+      room = room_of_files store m.stored.files m.content name (store_here S store m.stored (state old) at.running.begins.is_at m.content at.content_is) can.place;
+      numbers = record {
+        sequence = subst (λ (n : ℕ). n < 2 ^ 64 - 1) (last_at S store m.stored (state old) at.running.begins.is_at) can.number;
+        generation = (store, (right_here S store m.stored (state old) at.running.begins.is_at m.content at.content_is, can.rise));
       };
-      below = subst (λ (n : ℕ). n < 2 ^ 64 - 1) (last_at S store m.stored (state old) at.running.begins.is_at) can.number;
       recorded = recorded;
       at =
           runs_on S m (committed m actor name whole.file image) sessions (state old) (state new) f at leads steps.stops at.state_is refl leads.content.1

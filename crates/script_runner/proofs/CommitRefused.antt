@@ -1,9 +1,8 @@
 -- A commit of a file of which nothing is due that is refused is so for a reason of the machine, or for want of memory.
-use Rattle.std.proofs.Common.{◌≡◌, ◌≢◌, ◌⊎◌, inl, inr, ◌∙◌, ◌<◌, ◌≤◌, ◌-◌, ◌^◌, ℕ, false, List, length, is_some, Option, Some, None, Result, Err, refl, sym, ap, subst, arith}
+use Rattle.std.proofs.Common.{◌≡◌, ◌≢◌, ◌⊎◌, inl, inr, ◌∙◌, ◌<◌, ℕ, false, List, is_some, Option, Some, None, Result, Err, refl, sym, ap, subst, arith}
 use Rattle.std.specs.FinMap as finite
 use Rattle.base_model.specs.Fault.{Rose}
 use Rattle.disk_format.specs.Cells.Change.{Put}
-use Rattle.disk_format.specs.Layout.{half_cells}
 use Rattle.dd_disk.specs.Ending.{NoCall}
 use Rattle.dd_disk.specs.View.{CrashLeaves}
 use Rattle.dd_disk.proofs.Later.{leaves_weaker}
@@ -39,6 +38,7 @@ use Rattle.script_runner.specs.Follows.{Follows, FollowsPart, IsCut, IsOfFound}
 use Rattle.script_runner.specs.Sessions.{Sessions, session_of, with_session}
 use Rattle.script_runner.proofs.BrokenStep.{Broken, IsTried, broken}
 use Rattle.script_runner.proofs.CommitMade.{commit_event, commit_step, room_of_files}
+use Rattle.script_runner.proofs.Numbered.{no_numbers_of, numbers_of}
 use Rattle.script_runner.proofs.OneStep.{Stepped, stepped}
 use Rattle.script_runner.proofs.PartsOn.{part_on}
 use Rattle.script_runner.proofs.Resting.{counts_none, names_rested, refused_faults, refused_stored}
@@ -98,26 +98,15 @@ module _ (C : Type 0) (state : C → CoreState) (among : ByteSet) (distinct : Ha
   names_are : (state old).tables.names ≡ names_of store
   names_are = at.running.begins.is_at.represents.names_are.names_are
 
-  count_is : (state old).tables.journal.count ≡ length store.records
-  count_is = at.running.begins.is_at.represents.names_are.count
-
-  last_is : (state old).tables.journal.last ≡ m.stored.last
-  last_is = at.running.begins.is_at.last_is
-
   has_room : MayName (state old).tables name → HasRoomForName name m
-  has_room may = record {
-    names = room_of_files store m.stored.files m.content name holds (subst (λ (names : NameMap). HasRoom names name) names_are may.room);
-    cell = (store, (right, omega (arith, may.cell, count_is)));
-  }
+  has_room may = room_of_files store m.stored.files m.content name holds (subst (λ (names : NameMap). HasRoom names name) names_are may.room)
 
-  lacks_room : IsFull (state old).tables.names name ⊎ (HasRoom (state old).tables.names name × (half_cells ≤ (state old).tables.journal.count)) → LacksRoomForName name m
-  lacks_room (inl full) =
-      let here = subst (λ (names : NameMap). IsFull names name) names_are full in
-      inl (
+  lacks_room : IsFull (state old).tables.names name → LacksRoomForName name m
+  lacks_room full =
+      let here = subst (λ (names : NameMap). IsFull names name) names_are full in (
         none_of (finite.get m.stored.files name) (sym (same_keys store m.stored.files m.content holds name) ∙ ap is_some here.0),
         omega (arith, here.1, same_count store m.stored.files m.content holds),
       )
-  lacks_room (inr many) = inr (store, (right, omega (arith, many.1, count_is)))
 
   abbrev Causes : Refusal → Type 0
   Causes refusal = IsCommitRefusal (part_of (state old).parts actor) (state old).tables name (root_of file) refusal
@@ -125,7 +114,7 @@ module _ (C : Type 0) (state : C → CoreState) (among : ByteSet) (distinct : Ha
   -- where no write was begun
   cause_of : (refusal : Refusal) → Causes refusal → refusal ≢ refusals.DiskWrite → (blames refusal ≡ NoCall) × (RefusesName actor name file refusal m m ⊎ ((refusal ≡ refusals.Memory) × Stays m m))
   cause_of refusals.Memory cause unbroken = (refl, inr (refl, stays_here S m sessions (state old) at))
-  cause_of refusals.Numbers cause unbroken = (refl, inl (cause.0.may_name.named, has_room cause.0.may_name, sym last_is ∙ cause.1, refl))
+  cause_of refusals.Numbers cause unbroken = (refl, inl (cause.0.may_name.named, has_room cause.0.may_name, no_numbers_of S m sessions (state old) at cause.1, refl))
   cause_of refusals.DiskWrite cause unbroken = absurd (unbroken refl)
   cause_of refusals.BadName cause unbroken = (refl, inl (cause.1, refl))
   cause_of refusals.TooMany cause unbroken = (refl, inl (cause.1.0, lacks_room cause.1.1, refl))
@@ -234,9 +223,9 @@ module _ (C : Type 0) (state : C → CoreState) (among : ByteSet) (distinct : Ha
           let cause = subst Causes is_write steps.made.row.0 in (
             cause.0.may_name.named,
             has_room cause.0.may_name,
-            subst (λ (n : ℕ). n < 2 ^ 64 - 1) last_is cause.1,
+            numbers_of S m sessions (state old) at cause.1,
             subst (λ (k : ℕ). Rose k (state new).disk.faults) at.faults_are broke.rose,
-            record { store = store; was = right; rest = breaks_off store m.content broke.image broke.rest },
+            record { store = store; was = right; rest = breaks_off store 1 m.content broke.image broke.rest },
             refl,
           )
 

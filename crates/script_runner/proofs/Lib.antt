@@ -31,6 +31,7 @@ pub mod NamedNames
 pub mod NamedSteps
 pub mod NamedTaking
 pub mod OneRead
+pub mod Numbered
 pub mod OneStep
 pub mod Onward
 pub mod OpenedFollow

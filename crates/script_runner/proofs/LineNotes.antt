@@ -70,9 +70,8 @@ delete_stored : (name : List ℕ) (refusal : Refusal) (m n : Machine) → Refuse
 delete_stored name refusals.Memory m n is = of_same m n is
 delete_stored name refusals.BadName m n is = of_same m n is.1
 delete_stored name refusals.NoFile m n is = of_same m n is.2
-delete_stored name refusals.TooMany m n is = of_same m n is.3
-delete_stored name refusals.Numbers m n is = of_same m n is.4
-delete_stored name refusals.DiskWrite m n is = ap (λ (x : Machine). x.stored) is.6
+delete_stored name refusals.Numbers m n is = of_same m n is.3
+delete_stored name refusals.DiskWrite m n is = ap (λ (x : Machine). x.stored) is.5
 delete_stored name refusal m n is = absurd is
 
 on_stored : (line : LineValue) (refusal : Refusal) (m n : Machine) → RefusesOn line refusal m n → n.stored ≡ m.stored

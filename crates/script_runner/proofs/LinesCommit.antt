@@ -124,8 +124,8 @@ module _ (C : Type 0) (state : C → CoreState) (among : ByteSet) (distinct : Ha
                 held = whole.holds;
                 named = commit.named;
                 room = commit.room;
-                below = commit.below;
-                sequence_is = sequence_is ∙ number (state mid).tables.journal.last made.next.stored.last last_is commit.below;
+                numbers = commit.numbers;
+                sequence_is = sequence_is ∙ number (state mid).tables.journal.last made.next.stored.last last_is commit.numbers.sequence;
                 recorded = commit.recorded;
                 others = refl;
               },

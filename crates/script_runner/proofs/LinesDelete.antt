@@ -44,6 +44,7 @@ use Rattle.script_runner.proofs.CommitRefused.{none_of}
 use Rattle.script_runner.proofs.LinesBarred.{right_part, taken_or_not}
 use Rattle.script_runner.proofs.LinesTurn.{found_running, line_to}
 use Rattle.script_runner.proofs.NameRefused.{NameBroken, name_broken, name_rested, not_written, refused_event, rested_leaves}
+use Rattle.script_runner.proofs.Numbered.{no_numbers_of, numbers_of}
 use Rattle.script_runner.proofs.Onward.{images}
 use Rattle.script_runner.proofs.OneStep.{Stepped, stepped}
 use Rattle.script_runner.proofs.PartsOn.{part_on}
@@ -142,8 +143,7 @@ module _ (C : Type 0) (state : C → CoreState) (among : ByteSet) (distinct : Ha
           line_to C state S (lines.Delete name) (replies.Deleted told) m r s is next (record {
             named = can.named;
             there = has_name can.place;
-            cell = (store, (right, can.cell));
-            below = below;
+            numbers = record { sequence = below; generation = (store, (right, can.rise)) };
             sequence_is = told_is ∙ number old.tables.journal.last m.stored.last at.running.begins.is_at.last_is below;
             recorded = recorded;
             others = refl;
@@ -160,9 +160,6 @@ module _ (C : Type 0) (state : C → CoreState) (among : ByteSet) (distinct : Ha
     names_are : old.tables.names ≡ names_of store
     names_are = at.running.begins.is_at.represents.names_are.names_are
 
-    last_is : old.tables.journal.last ≡ m.stored.last
-    last_is = at.running.begins.is_at.last_is
-
     there : (o : NameMap → Type 0) → o old.tables.names → o (names_of store)
     there o is_so = subst o names_are is_so
 
@@ -172,13 +169,11 @@ module _ (C : Type 0) (state : C → CoreState) (among : ByteSet) (distinct : Ha
     cause_of : (refusal : Refusal) → IsDeleteRefusal old.tables name refusal → refusal ≢ refusals.DiskWrite → (blames refusal ≡ NoCall) × RefusesDelete name refusal m m
     cause_of refusals.Memory cause unbroken = (refl, refl)
     cause_of refusals.Numbers cause unbroken =
-        (refl, (cause.0.named, may_name cause.0, (store, (right, omega (arith, cause.0.cell, at.running.begins.is_at.represents.names_are.count))), sym last_is ∙ cause.1, refl))
+        (refl, (cause.0.named, may_name cause.0, no_numbers_of S m r.sessions old at cause.1, refl))
     cause_of refusals.DiskWrite cause unbroken = absurd (unbroken refl)
     cause_of refusals.BadName cause unbroken = (refl, (cause, refl))
     cause_of refusals.NoFile cause unbroken =
         (refl, (cause.0, none_of (finite.get m.stored.files name) (sym (same_keys store m.stored.files m.content holds name) ∙ ap is_some (there (λ names. finite.get names name ≡ None) cause.1)), refl))
-    cause_of refusals.TooMany cause unbroken =
-        (refl, (cause.0, has_name (there (λ names. IsSome (finite.get names name)) cause.1), (store, (right, omega (arith, cause.2, at.running.begins.is_at.represents.names_are.count))), refl))
     cause_of refusal cause unbroken = absurd cause
 
     module _ (refusal : Refusal) (buf : List ℕ) (step : CoreStep old (refused_event 0 (asked.Delete name) [] buf refusal).event new) (sessions : s.sessions ≡ r.sessions) where
@@ -206,14 +201,13 @@ module _ (C : Type 0) (state : C → CoreState) (among : ByteSet) (distinct : Ha
       broken : (stop : Stop) → new.stop ≡ Some stop → Along
       broken stop stopped =
           let broke : NameBroken S m r.sessions refusal (without_stored m.stored name) old new =
-          name_broken C state among distinct m r.sessions r.core s.core at 0 first_below (asked.Delete name) [] buf refusal made row.made.row.1 stop stopped (without_stored m.stored name) refl refl in
+          name_broken C state among distinct m r.sessions r.core s.core at 0 first_below (asked.Delete name) [] buf refusal made row.made.row.1 stop stopped refl (without_stored m.stored name) refl refl in
           let next : Machine = record m { state = Stopped (Some (without_stored m.stored name)); content = broke.image; faults = new.disk.faults } in
           let cause = subst (λ (e : Refusal). IsDeleteRefusal old.tables name e) broke.is_write row.made.row.0 in
           let refuses : RefusesDelete name refusals.DiskWrite m next = (
             cause.0.named,
             may_name cause.0,
-            (store, (right, omega (arith, cause.0.cell, at.running.begins.is_at.represents.names_are.count))),
-            subst (λ (n : ℕ). n < 2 ^ 64 - 1) last_is cause.1,
+            numbers_of S m r.sessions old at cause.1,
             broke.rose,
             broke.breaks,
             refl,

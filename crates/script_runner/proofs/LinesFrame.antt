@@ -1,5 +1,6 @@
 -- Lines one after the other keep what was written before them.
-use Rattle.std.proofs.Common.{◌≡◌, inl, inr, ℕ, true, List, [], ◌∷◌, ◌++◌, Some, refl, sym, ◌∙◌, subst}
+use Rattle.std.proofs.Common.{◌≡◌, ◌≢◌, inl, inr, ℕ, ◌+◌, ◌≤◌, true, List, [], ◌∷◌, ◌++◌, Some, refl, sym, ◌∙◌, subst, arith}
+use Rattle.disk_format.specs.Layout.{half_cells}
 use Rattle.base_model.specs.Known.{KnownWith}
 use Rattle.dd_disk.specs.Ending.{Done, Reads}
 use Rattle.dd_disk.specs.Shows.{Shows}
@@ -13,7 +14,8 @@ use Rattle.script_lines.specs.Grammar.{LineValue}
 use Rattle.script_lines.specs.ReplyValue as replies
 use Rattle.script_lines.specs.ReplyValue.{ReplyValue}
 use Rattle.store_model.specs.Image.{Store, Encodes, IsValidFor}
-use Rattle.store_core.specs.Frame.{IsOn, KeepsWritten}
+use Rattle.store_model.specs.Steps.{HasCellsFor}
+use Rattle.store_core.specs.Frame.{HadContainer, IsOn, KeepsBytes, KeepsContainers, commands_in}
 use Rattle.store_core.specs.Opening.{IsNew}
 use Rattle.store_core.specs.Runs.{CoreRun}
 use Rattle.store_core.specs.State.{CoreState, Event}
@@ -22,10 +24,10 @@ use Rattle.store_core.proofs.Frames.{written_stays}
 use Rattle.store_core.proofs.Opened.{durable_settled}
 use Rattle.plain_machine.specs.Runs.{Replied, ends}
 use Rattle.script_runner.specs.Acts.{ActsReopen, RefusesReopen, RunnerState, RunsLine, counted}
-use Rattle.script_runner.specs.Frame.{IsOnContent, LinesKeepWritten, OpenedIsOn}
+use Rattle.script_runner.specs.Frame.{IsOnContent, LinesKeepWritten, NeedNoCheckpoint, NeverReopens, OpenedIsOn, commands_among, commands_of_line}
 use Rattle.script_runner.specs.Scripts.{RunsLines}
 use Rattle.script_runner.proofs.LaterStores.{keeps_on}
-use Rattle.script_runner.proofs.LineSteps.{MakesSteps, does, line_steps, run_on}
+use Rattle.script_runner.proofs.LineSteps.{MakesSteps, commands-append, does, line_steps, run_on}
 
 -- ---- a core that was opened
 
@@ -45,53 +47,78 @@ opened_by content v c new durable reads told = record {
 pub opened_is_on : (D : Type 0) (view : D → DiskView) (C : Type 0) (state : C → CoreState) → OpenedIsOn D view C state
 opened_is_on D view C state content before c new durable reads told = opened_by content (view before) (state c) new durable reads told
 
+-- ---- what stays
+
+abbrev Kept : Store → Type 0 → List ℕ → List ℕ → Type 0
+Kept s Also = KeepsBytes s half_cells Also (HadContainer s)
+
+kept_where : (s : Store) (Also Less : Type 0) (base c : List ℕ) → (Less → Also) → Kept s Also base c → Kept s Less base c
+kept_where s Also Less base c less kept = record { size_is = kept.size_is; format = kept.format; journal = λ so. kept.journal (less so); slots = kept.slots }
+
 -- ---- what was written
 
 module _ (C : Type 0) (state : C → CoreState) where
-  -- in what reads give, and in what a crash leaves
-  abbrev Keeps : Store → List ℕ → C → C → Type 0
-  Keeps s base old new = KnownWith (state new).disk.content (KeepsWritten s base) × CrashLeaves (KeepsWritten s base) (state old).disk (state new).disk
+  -- in what reads give, and in what a crash leaves; the journal, where this is so
+  abbrev Keeps : Store → Type 0 → List ℕ → C → C → Type 0
+  Keeps s Also base old new = KnownWith (state new).disk.content (Kept s Also base) × CrashLeaves (Kept s Also base) (state old).disk (state new).disk
 
-  -- Wherever steps have led to this core from, what was written there stays in that one.
-  abbrev KeepsFrom : C → C → Type 0
-  KeepsFrom here new = (events : List Event) (s : Store) (base : List ℕ) (old : C) → IsOn s (state old) → (state old).disk.content ≡ Some base → Encodes base s → CoreRun C state events old here
-      → Keeps s base old new
+  keeps_where : (s : Store) (Also Less : Type 0) (base : List ℕ) (old new : C) → (Less → Also) → Keeps s Also base old new → Keeps s Less base old new
+  keeps_where s Also Less base old new less keeps = (
+    (keeps.0.0, keeps.0.1, kept_where s Also Less base keeps.0.0 less keeps.0.2),
+    leaves_weaker (Kept s Also base) (Kept s Less base) (state old).disk (state new).disk (λ c kept. kept_where s Also Less base c less kept) keeps.1,
+  )
+
+  -- the steps made so far and these lines need no checkpoint
+  abbrev Needs : List Event → List Replied → Store → Type 0
+  Needs events rs s = NeverReopens rs × HasCellsFor s (commands_in events + commands_among rs)
+
+  -- Wherever steps have led to this core from, what was written there stays in that one, to which these lines lead.
+  abbrev KeepsFrom : List Replied → C → C → Type 0
+  KeepsFrom rs here new = (events : List Event) (s : Store) (base : List ℕ) (old : C) → IsOn s (state old) → (state old).disk.content ≡ Some base → Encodes base s → CoreRun C state events old here
+      → Keeps s (Needs events rs s) base old new
 
   -- no lines
-  steps_keep : (here : C) → KeepsFrom here here
-  steps_keep here events s base old on told encodes run = written_stays C state events s base old here on told run
+  steps_keep : (here : C) → KeepsFrom [] here here
+  steps_keep here events s base old on told encodes run =
+      keeps_where s (HasCellsFor s (commands_in events)) (Needs events [] s) base old here (λ needs. omega (arith, needs.1)) (written_stays C state events s base old here on told run)
 
   -- steps, and what follows
-  after_steps : (here next new : C) → MakesSteps C state here next → KeepsFrom next new → KeepsFrom here new
-  after_steps here next new makes rest events s base old on told encodes run =
-      rest (events ++ makes.0) s base old on told encodes (run_on C state events makes.0 old here next run makes.1)
+  after_steps : (n : ℕ) (rs more : List Replied) (here next new : C) → n + commands_among more ≤ commands_among rs → (NeverReopens rs → NeverReopens more) → MakesSteps C state n here next → KeepsFrom more next new
+      → KeepsFrom rs here new
+  after_steps n rs more here next new few fewer makes rest events s base old on told encodes run =
+      keeps_where s (Needs (events ++ makes.0) more s) (Needs events rs s) base old new
+      (λ needs. (fewer needs.0, omega (arith, needs.1, few, makes.1.1, commands-append events makes.0)))
+      (rest (events ++ makes.0) s base old on told encodes (run_on C state events makes.0 old here next run makes.1.0))
 
   -- where nothing but reads follows
-  after_reads : (here new : C) → OnlyReads (state here).disk (state new).disk → KeepsFrom here new
-  after_reads here new reads events s base old on told encodes run =
+  after_reads : (rs : List Replied) (here new : C) → OnlyReads (state here).disk (state new).disk → KeepsFrom rs here new
+  after_reads rs here new reads events s base old on told encodes run =
+      let Also : Type 0 = HasCellsFor s (commands_in events) in
       let first = written_stays C state events s base old here on told run in
-      let later = run_later C state events old here run in (
+      let later = run_later C state events old here run in
+      keeps_where s Also (Needs events rs s) base old new (λ needs. omega (arith, needs.1)) (
         (first.0.0, reads.content_is ∙ first.0.1, first.0.2),
-        leaves_on (KeepsWritten s base) (KeepsWritten s base) (KeepsWritten s base) (state old).disk (state here).disk (state new).disk later.clock_is first.1
-            (reads_leave (KeepsWritten s base) (state here).disk (state new).disk first.1.now reads) (λ c keeps. keeps) (λ c keeps. keeps),
+        leaves_on (Kept s Also base) (Kept s Also base) (Kept s Also base) (state old).disk (state here).disk (state new).disk later.clock_is first.1
+            (reads_leave (Kept s Also base) (state here).disk (state new).disk first.1.now reads) (λ c keeps. keeps) (λ c keeps. keeps),
       )
 
-  -- an opening, and what follows
-  after_opening : (here mid new : C) → IsNew (Shows (state here).disk (state mid).disk) (state here).disk.size (state mid) → IsDurable (state mid).disk → Reads Done (state here).disk (state mid).disk
-      → KeepsFrom mid new → KeepsFrom here new
-  after_opening here mid new opened durable reads rest events s base old on told encodes run =
-      let first = written_stays C state events s base old here on told run in
+  -- an opening, and what follows: of the journal nothing is said
+  after_opening : (rs more : List Replied) (here mid new : C) → (NeverReopens rs → ⊥) → IsNew (Shows (state here).disk (state mid).disk) (state here).disk.size (state mid) → IsDurable (state mid).disk
+      → Reads Done (state here).disk (state mid).disk → KeepsFrom more mid new → KeepsFrom rs here new
+  after_opening rs more here mid new again opened durable reads rest events s base old on told encodes run =
+      let first = keeps_where s (HasCellsFor s (commands_in events)) ⊥ base old here (λ none. absurd none) (written_stays C state events s base old here on told run) in
       let later = run_later C state events old here run in
       let image : List ℕ = first.0.0 in
       let there = opened_by image (state here).disk (state mid) opened durable reads first.0.1 in
-      let last = rest [] there.store image mid there.on there.told there.encodes refl in
+      let last = keeps_where there.store (Needs [] more there.store) ⊥ image mid new (λ none. absurd none) (rest [] there.store image mid there.on there.told there.encodes refl) in
       let weaker = keeps_on s there.store base image first.0.2 encodes there.encodes in
-      let after = leaves_weaker (KeepsWritten there.store image) (KeepsWritten s base) (state mid).disk (state new).disk weaker last.1 in
-      let between = reads_leave (KeepsWritten s base) (state here).disk (state mid).disk first.1.now reads.only in
-      let on_from = leaves_on (KeepsWritten s base) (KeepsWritten s base) (KeepsWritten s base) (state here).disk (state mid).disk (state new).disk reads.only.later.clock_is between after
-      (λ c keeps. keeps) (λ c keeps. keeps) in (
+      let after = leaves_weaker (KeepsContainers there.store image) (KeepsContainers s base) (state mid).disk (state new).disk weaker last.1 in
+      let between = reads_leave (KeepsContainers s base) (state here).disk (state mid).disk first.1.now reads.only in
+      let on_from = leaves_on (KeepsContainers s base) (KeepsContainers s base) (KeepsContainers s base) (state here).disk (state mid).disk (state new).disk reads.only.later.clock_is between after
+      (λ c keeps. keeps) (λ c keeps. keeps) in
+      keeps_where s ⊥ (Needs events rs s) base old new (λ needs. again needs.0) (
         (last.0.0, last.0.1, weaker last.0.0 last.0.2),
-        leaves_on (KeepsWritten s base) (KeepsWritten s base) (KeepsWritten s base) (state old).disk (state here).disk (state new).disk later.clock_is first.1 on_from
+        leaves_on (KeepsContainers s base) (KeepsContainers s base) (KeepsContainers s base) (state old).disk (state here).disk (state new).disk later.clock_is first.1 on_from
             (λ c keeps. keeps) (λ c keeps. keeps),
       )
 
@@ -104,26 +131,30 @@ module _ (C : Type 0) (state : C → CoreState) where
     | inr given_up ↦ given_up.2.only
   ]
 
-  after_reopen : (reply : ReplyValue) (more : List Replied) (r mid t : RunnerState C) → (ends lines.Reopen reply ≡ true → more ≡ []) → ActsReopen C state reply r mid → RunsLines C state more mid t
-      → KeepsFrom mid.core t.core → KeepsFrom r.core t.core
-  after_reopen (replies.Opened files) more r mid t last acts runs rest =
-      after_opening r.core acts.mid t.core acts.opened acts.durable acts.reads
-      (after_steps acts.mid mid.core t.core (does C state 0 asked.Stat (counted acts.holdings) acts.mid mid.core acts.counts) rest)
-  after_reopen (replies.Refused refusal) more r mid t last acts runs rest =
+  after_reopen : (reply : ReplyValue) (rs more : List Replied) (r mid t : RunnerState C) → (NeverReopens rs → ⊥) → (ends lines.Reopen reply ≡ true → more ≡ []) → ActsReopen C state reply r mid
+      → RunsLines C state more mid t → KeepsFrom more mid.core t.core → KeepsFrom rs r.core t.core
+  after_reopen (replies.Opened files) rs more r mid t again last acts runs rest =
+      after_opening rs more r.core acts.mid t.core again acts.opened acts.durable acts.reads
+      (after_steps 0 more more acts.mid mid.core t.core (omega arith) (λ never. never)
+      (does C state 0 0 asked.Stat (counted acts.holdings) acts.mid mid.core (omega arith) acts.counts) rest)
+  after_reopen (replies.Refused refusal) rs more r mid t again last acts runs rest =
       let none : t ≡ mid = subst (λ (rs : List Replied). RunsLines C state rs mid t) (last refl) runs in
-      subst (λ (x : RunnerState C). KeepsFrom r.core x.core) (sym none) (after_reads r.core mid.core (refused_reads refusal r.core mid.core acts.0))
-  after_reopen reply more r mid t last acts runs rest = absurd acts
+      subst (λ (x : RunnerState C). KeepsFrom rs r.core x.core) (sym none) (after_reads rs r.core mid.core (refused_reads refusal r.core mid.core acts.0))
+  after_reopen reply rs more r mid t again last acts runs rest = absurd acts
 
-  after_line : (line : LineValue) (reply : ReplyValue) (more : List Replied) (r mid t : RunnerState C) → (ends line reply ≡ true → more ≡ []) → RunsLine C state line reply r mid → RunsLines C state more mid t
-      → KeepsFrom mid.core t.core → KeepsFrom r.core t.core
-  after_line lines.Reopen reply more r mid t last line runs rest = after_reopen reply more r mid t last line runs rest
-  after_line line reply more r mid t last made runs rest = after_steps r.core mid.core t.core (line_steps C state line reply r mid (λ same. cc) made) rest
+  after_line : (line : LineValue) (reply : ReplyValue) (rs more : List Replied) (r mid t : RunnerState C) → (NeverReopens rs → (line ≢ lines.Reopen) × NeverReopens more)
+      → commands_of_line line + commands_among more ≤ commands_among rs → (ends line reply ≡ true → more ≡ []) → RunsLine C state line reply r mid → RunsLines C state more mid t
+      → KeepsFrom more mid.core t.core → KeepsFrom rs r.core t.core
+  after_line lines.Reopen reply rs more r mid t never few last line runs rest = after_reopen reply rs more r mid t (λ none. (never none).0 refl) last line runs rest
+  after_line line reply rs more r mid t never few last made runs rest =
+      after_steps (commands_of_line line) rs more r.core mid.core t.core few (λ none. (never none).1) (line_steps C state line reply r mid (λ same. cc) made) rest
 
-  all : (rs : List Replied) (r t : RunnerState C) → RunsLines C state rs r t → KeepsFrom r.core t.core
-  all [] r t runs = subst (λ (x : RunnerState C). KeepsFrom r.core x.core) (sym runs) (steps_keep r.core)
+  all : (rs : List Replied) (r t : RunnerState C) → RunsLines C state rs r t → KeepsFrom rs r.core t.core
+  all [] r t runs = subst (λ (x : RunnerState C). KeepsFrom [] r.core x.core) (sym runs) (steps_keep r.core)
   all (one ∷ more) r t runs =
       let mid : RunnerState C = runs.1.0 in
-      after_line one.line one.reply more r mid t runs.0 runs.1.1.0 runs.1.1.1 (all more mid t runs.1.1.1)
+      after_line one.line one.reply (one ∷ more) more r mid t (λ never. never) (omega arith) runs.0 runs.1.1.0 runs.1.1.1 (all more mid t runs.1.1.1)
 
   pub lines_keep : LinesKeepWritten C state
-  lines_keep rs s base r t on told encodes runs = all rs r t runs [] s base r.core on told encodes refl
+  lines_keep rs s base r t on told encodes runs =
+      keeps_where s (Needs [] rs s) (NeedNoCheckpoint rs s) base r.core t.core (λ needs. (needs.0, omega (arith, needs.1))) (all rs r t runs [] s base r.core on told encodes refl)

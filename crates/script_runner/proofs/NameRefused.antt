@@ -1,5 +1,5 @@
 -- What the change of a name that was refused leaves of a runner that follows the plain machine: it is a commit or a delete.
-use Rattle.std.proofs.Common.{◌≡◌, ◌≢◌, ◌⊎◌, inl, inr, ◌∙◌, ◌<◌, ℕ, suc, List, Some, None, Result, Err, refl, sym, ap, subst}
+use Rattle.std.proofs.Common.{◌≡◌, ◌≢◌, ◌⊎◌, inl, inr, ◌∙◌, ◌<◌, ℕ, suc, List, Some, None, Result, Err, refl, sym, ap, subst, arith}
 use Rattle.std.proofs.lemmas.List.{set-get_or}
 use Rattle.base_model.specs.Fault.{Rose}
 use Rattle.dd_disk.specs.Ending.{NoCall}
@@ -18,6 +18,7 @@ use Rattle.store_model.specs.Image.{Store}
 use Rattle.store_state.specs.Refused.{blames}
 use Rattle.store_core.specs.declared.stop.Stop.{Stop}
 use Rattle.store_core.specs.Core.{Steps, StopsAfter}
+use Rattle.store_core.specs.Frame.{KeepsWritten, commands_of}
 use Rattle.store_core.specs.Runs.{FileEvent, FileStep, IsOf, stored_tried}
 use Rattle.store_core.specs.State.{CoreState}
 use Rattle.store_core.proofs.CoreRuns.{running_step}
@@ -45,7 +46,7 @@ pub record NameBroken (S : List ℕ → Type 0) (m : Machine) (sessions : Sessio
   pub image : List ℕ
   pub is_write : refusal ≡ refusals.DiskWrite
   pub rose : Rose m.faults new.disk.faults
-  pub breaks : BreaksOff m.content image
+  pub breaks : BreaksOff 1 m.content image
   pub follows : Follows S (record m { state = Stopped (Some tried); content = image; faults = new.disk.faults }) sessions new
   pub leaves : CrashLeaves (λ c. IsOfFound S (Stopped (Some tried)) m.stored c) old.disk new.disk
 
@@ -94,7 +95,7 @@ module _ (C : Type 0) (state : C → CoreState) (among : ByteSet) (distinct : Ha
         (subst (λ (then : Stored). CrashLeaves (λ image. IsOf S m.stored image ⊎ IsOf S then image) (state old).disk (state new).disk) (refused_stored step refusal bytes m.stored) leads.leaves)
 
   -- a write failed, and the store is stopped
-  module _ (stop : Stop) (stopped : (state new).stop ≡ Some stop) (tried : Stored) (tried_is : stored_tried step (Err refusals.DiskWrite) bytes m.stored ≡ tried) (next_is : tried.last ≡ suc m.stored.last) where
+  module _ (stop : Stop) (stopped : (state new).stop ≡ Some stop) (one : commands_of step ≡ 1) (tried : Stored) (tried_is : stored_tried step (Err refusals.DiskWrite) bytes m.stored ≡ tried) (next_is : tried.last ≡ suc m.stored.last) where
     broke : Broken S m f store stop (state old) (state new)
     broke = broken C state among distinct m sessions old new at.running at.content_is f made stop stopped
 
@@ -116,7 +117,7 @@ module _ (C : Type 0) (state : C → CoreState) (among : ByteSet) (distinct : Ha
       breaks = record {
         store = store;
         was = right_here S store m.stored (state old) at.running.begins.is_at m.content at.content_is;
-        rest = breaks_off store m.content broke.image broke.rest;
+        rest = breaks_off store 1 m.content broke.image (subst (λ (n : ℕ). KeepsWritten store n m.content broke.image) (omega (arith, one)) broke.rest);
       };
       follows = record {
         content_is = broke.content;

@@ -106,6 +106,7 @@ pub record Counts (t : Account) (c : CoreState) : Type 0 where
   pub acknowledged : c.acknowledged ≡ t.acknowledged
   pub names : c.tables.names ≡ t.names
   pub records : c.tables.journal.count ≡ t.records
+  pub generation : c.tables.journal.generation ≡ t.generation
   pub last : c.tables.journal.last ≡ t.last
 
 pub record At (t : Account) (sessions : Sessions) (c : CoreState) : Type 0 where
@@ -251,6 +252,7 @@ module _ (C : Type 0) (state : C → CoreState) (line : LineValue) (reply : Repl
           acknowledged = quiet.acknowledged ∙ at.counts.acknowledged;
           names = quiet.tables.names ∙ at.counts.names;
           records = quiet.tables.records ∙ at.counts.records;
+          generation = quiet.tables.generation ∙ at.counts.generation;
           last = quiet.tables.last ∙ at.counts.last;
         }) quiet.many quiet.others (one_set a Idle d t.doing) one
         (subst (λ (x : Doing). AtPart x (session_of s.sessions a) (part_of (state s.core).parts a)) (sym (doing_now t r.sessions (state r.core) at a below d)) own);
@@ -268,6 +270,7 @@ module _ (C : Type 0) (state : C → CoreState) (line : LineValue) (reply : Repl
             acknowledged = quiet.acknowledged ∙ at.counts.acknowledged;
             names = quiet.tables.names ∙ at.counts.names;
             records = quiet.tables.records ∙ at.counts.records;
+            generation = quiet.tables.generation ∙ at.counts.generation;
             last = quiet.tables.last ∙ at.counts.last;
           }) quiet.many quiet.others (none_set a Idle t.doing) one own;
     }

@@ -1,9 +1,8 @@
 -- What is told by lines of an actor that gives a file, on any disk.
-use Rattle.std.proofs.Common.{◌≡◌, ◌⊎◌, inl, inr, ◌∙◌, ◌<◌, ◌≤◌, ◌+◌, ◌-◌, ◌^◌, min, ℕ, true, false, List, [], ◌∷◌, ◌++◌, length, Option, Some, None, Result, Ok, Err, refl, sym, ap, subst, length-append, arith}
+use Rattle.std.proofs.Common.{◌≡◌, inl, inr, ◌∙◌, ◌<◌, ◌≤◌, ◌+◌, ◌-◌, ◌^◌, min, ℕ, true, false, List, [], ◌∷◌, ◌++◌, length, Option, Some, None, Result, Ok, Err, refl, sym, ap, subst, length-append, arith}
 use Rattle.std.specs.FinMap as finite
 use Rattle.disk_format.specs.Cells.{Root}
 use Rattle.disk_format.specs.Cells.Change.{Put}
-use Rattle.disk_format.specs.Layout.{half_cells}
 use Rattle.disk_format.specs.declared.numbers.TheConstants.{MOST_FILE}
 use Rattle.actor_parts.specs.declared.actor.TheConstants.{ACTORS}
 use Rattle.actor_parts.specs.declared.part.Part.TheVariants as core_parts
@@ -45,7 +44,7 @@ use Rattle.session_turns.proofs.TurnRuns.{no_turns}
 use Rattle.script_runner.proofs.LinesPush.{why_long}
 use Rattle.script_runner.proofs.Lists.{one_set}
 use Rattle.script_runner.proofs.NamedAt.{At, AtPart, Counts, Told, at_by, at_on, changes, doing_now, given_in, given_on, giving, keeps, no_memory, one_session, own_at, part_now, refuses, right_part, session_now, still_runs, taken, told}
-use Rattle.script_runner.proofs.NamedChange.{last_now, names_now, number_so, records_now}
+use Rattle.script_runner.proofs.NamedChange.{generation_now, last_now, names_now, number_so, records_now}
 use Rattle.script_runner.proofs.NamedSteps.{Gives, IsWriting, Quiet, Stands, Turned, done_stands, keeps_paused, quiet_here, quiet_on, quiet_step, refused_stands, refused_turned, stopped_turned, turns_turned}
 use Rattle.script_runner.proofs.TurnRefusals.{no_other}
 
@@ -307,17 +306,16 @@ module _ (C : Type 0) (state : C → CoreState) (t : Account) (r s : RunnerState
       abbrev then_records : (state mid).tables.journal.count ≡ t.records
       then_records = first.tables.records ∙ at.counts.records
 
+      abbrev then_generation : (state mid).tables.journal.generation ≡ t.generation
+      then_generation = first.tables.generation ∙ at.counts.generation
+
       -- the name is refused
       unnamed : (root : Root) (refusal : Refusal) → IsCommitRefusal (part_of (state mid).parts a) (state mid).tables name root refusal → RefusesOn (lines.Commit a name) refusal t
       unnamed root refusals.Memory cause = tt
       unnamed root refusals.Numbers cause = tt
       unnamed root refusals.DiskWrite cause = tt
       unnamed root refusals.BadName cause = cause.1
-      unnamed root refusals.TooMany cause = (
-        cause.1.0,
-        subst (λ (names : NameMap). IsFull names name ⊎ (HasRoom names name × (half_cells ≤ t.records))) then_names
-            (subst (λ (n : ℕ). IsFull (state mid).tables.names name ⊎ (HasRoom (state mid).tables.names name × (half_cells ≤ n))) then_records cause.1.1),
-      )
+      unnamed root refusals.TooMany cause = (cause.1.0, subst (λ (names : NameMap). IsFull names name) then_names cause.1.1)
       unnamed root (refusals.WrongPart kind) cause = no_other kinds.Writing (part_of (state mid).parts a) (refusals.WrongPart kind) gives_mid.writing cause
       unnamed root (refusals.Unpinned key) cause = tt
       unnamed root refusal cause = absurd cause.1
@@ -361,7 +359,6 @@ module _ (C : Type 0) (state : C → CoreState) (t : Account) (r s : RunnerState
       may_name (answers.Committed number) row = record {
         good = row.0.may_name.named;
         room = subst (λ (names : NameMap). HasRoom names name) (then_names mid first gives_mid) row.0.may_name.room;
-        cell = subst (λ (n : ℕ). n < half_cells) (then_records mid first gives_mid) row.0.may_name.cell;
       }
       may_name answer row = absurd row
 
@@ -379,15 +376,16 @@ module _ (C : Type 0) (state : C → CoreState) (t : Account) (r s : RunnerState
       up = up_of between gives_mid.runs gives_mid.running
 
       number : (sequence : ℕ) → sequence ≡ min (between.tables.journal.last + 1) (2 ^ 64 - 1) → IsNumber sequence t
-      number = number_so name (Put root) answer between new effect up t (then_names mid first gives_mid) (then_records mid first gives_mid) last_here
+      number = number_so name (Put root) answer between new effect up t (then_names mid first gives_mid) (then_records mid first gives_mid) (then_generation mid first gives_mid) last_here
 
       counts : Stands t.stopped new → Counts named new
       counts stands = record {
         stands = stands;
         acknowledged = steps.counted_is ∙ one_counted answer between.acknowledged steps.made.row ∙ ap one_more (first.acknowledged ∙ at.counts.acknowledged);
-        names = names_now name (Put root) answer between new effect up t (then_names mid first gives_mid) (then_records mid first gives_mid) last_here;
-        records = records_now name (Put root) answer between new effect up t (then_names mid first gives_mid) (then_records mid first gives_mid) last_here;
-        last = last_now name (Put root) answer between new effect up t (then_names mid first gives_mid) (then_records mid first gives_mid) last_here;
+        names = names_now name (Put root) answer between new effect up t (then_names mid first gives_mid) (then_records mid first gives_mid) (then_generation mid first gives_mid) last_here;
+        generation = generation_now name (Put root) answer between new effect up t (then_names mid first gives_mid) (then_records mid first gives_mid) (then_generation mid first gives_mid) last_here;
+        records = records_now name (Put root) answer between new effect up t (then_names mid first gives_mid) (then_records mid first gives_mid) (then_generation mid first gives_mid) last_here;
+        last = last_now name (Put root) answer between new effect up t (then_names mid first gives_mid) (then_records mid first gives_mid) (then_generation mid first gives_mid) last_here;
       }
 
       changed : ChangesOne a between.parts new.parts

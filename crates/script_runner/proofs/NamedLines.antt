@@ -123,6 +123,7 @@ module _ (C : Type 0) (state : C → CoreState) (v : DiskView) (t : Account) (r 
               acknowledged = quiet.acknowledged ∙ is.counted;
               names = quiet.tables.names ∙ names;
               records = quiet.tables.records ∙ is.represents.names_are.count;
+              generation = quiet.tables.generation ∙ is.represents.names_are.generation;
               last = quiet.tables.last ∙ is.represents.names_are.last_is;
             }) acts.sessions_are (steps.made.row.1 ∙ is.parts_are);
       }
@@ -155,6 +156,7 @@ module _ (C : Type 0) (state : C → CoreState) (v : DiskView) (t : Account) (r 
             acknowledged = same.counted ∙ at.counts.acknowledged;
             names = ap (λ (tables : Tables). tables.names) same.tables_are ∙ at.counts.names;
             records = ap (λ (tables : Tables). tables.journal.count) same.tables_are ∙ at.counts.records;
+            generation = ap (λ (tables : Tables). tables.journal.generation) same.tables_are ∙ at.counts.generation;
             last = ap (λ (tables : Tables). tables.journal.last) same.tables_are ∙ at.counts.last;
           }) refl refl same.parts_are
 
@@ -250,6 +252,7 @@ lines_give_what_is_named D view C state rs before r s new reads none actors runs
       acknowledged = new.counted;
       names = new.represents.names_are.names_are;
       records = new.represents.names_are.count;
+      generation = new.represents.names_are.generation;
       last = new.represents.names_are.last_is;
     }) none new.parts_are in
     record {

@@ -1,8 +1,7 @@
 -- What is told by lines that delete a name and that list the names, on any disk.
-use Rattle.std.proofs.Common.{◌≡◌, inl, inr, ◌∙◌, ◌<◌, ◌≤◌, ◌+◌, ◌-◌, ◌^◌, min, ℕ, false, List, IsSome, None, Result, Ok, Err, refl, sym, ap, subst, arith}
+use Rattle.std.proofs.Common.{◌≡◌, inl, inr, ◌∙◌, ◌<◌, ◌+◌, ◌-◌, ◌^◌, min, ℕ, false, List, IsSome, None, Result, Ok, Err, refl, ap, subst, arith}
 use Rattle.std.specs.FinMap as finite
 use Rattle.disk_format.specs.Cells.Change.{Delete}
-use Rattle.disk_format.specs.Layout.{half_cells}
 use Rattle.actor_parts.specs.declared.actor.TheConstants.{ACTORS}
 use Rattle.actor_parts.specs.declared.part.Part as core_part
 use Rattle.actor_parts.specs.declared.step.Answer.{Answer}
@@ -27,7 +26,7 @@ use Rattle.plain_machine.specs.Machine.{one_more}
 use Rattle.script_runner.specs.Acts.{Acts, Admits, DoesStep, Lists, RefusesDelete, RunnerState}
 use Rattle.script_runner.specs.Named.{Account, MayDelete, RefusesOn, stops, without_name}
 use Rattle.script_runner.proofs.NamedAt.{At, Told, at_still, no_actor, no_memory, refuses, still, still_runs, told}
-use Rattle.script_runner.proofs.NamedChange.{last_now, names_now, number_so, records_now}
+use Rattle.script_runner.proofs.NamedChange.{generation_now, last_now, names_now, no_numbers_so, number_so, numbers_so, records_now}
 use Rattle.script_runner.proofs.NamedSteps.{done_stands, quiet_step, refused_stands}
 
 first_below : 0 < ACTORS
@@ -50,7 +49,6 @@ module _ (C : Type 0) (state : C → CoreState) (t : Account) (r s : RunnerState
     may_delete may = record {
       good = may.named;
       there = there (λ names. IsSome (finite.get names name)) may.there;
-      cell = subst (λ (n : ℕ). n < half_cells) at.counts.records may.cell;
     }
 
     -- why it is not deleted
@@ -58,10 +56,8 @@ module _ (C : Type 0) (state : C → CoreState) (t : Account) (r s : RunnerState
     undeleted refusals.Memory cause = tt
     undeleted refusals.BadName cause = cause
     undeleted refusals.NoFile cause = (cause.0, there (λ names. finite.get names name ≡ None) cause.1)
-    undeleted refusals.TooMany cause =
-        (cause.0, there (λ names. IsSome (finite.get names name)) cause.1, subst (λ (n : ℕ). half_cells ≤ n) at.counts.records cause.2)
-    undeleted refusals.Numbers cause = (may_delete cause.0, sym at.counts.last ∙ cause.1)
-    undeleted refusals.DiskWrite cause = (may_delete cause.0, subst (λ (n : ℕ). n < 2 ^ 64 - 1) at.counts.last cause.1)
+    undeleted refusals.Numbers cause = (may_delete cause.0, no_numbers_so old.tables t at.counts.records at.counts.generation at.counts.last cause.1)
+    undeleted refusals.DiskWrite cause = (may_delete cause.0, numbers_so old.tables t at.counts.records at.counts.generation at.counts.last cause.1)
     undeleted refusal cause = absurd cause
 
     abbrev event : Result Answer Refusal → List ℕ → Event
@@ -90,16 +86,17 @@ module _ (C : Type 0) (state : C → CoreState) (t : Account) (r s : RunnerState
           next = without_name name t;
           tells = (
             may_delete steps.made.row.0,
-            number_so name Delete (answers.Deleted number) old new effect up t at.counts.names at.counts.records at.counts.last sequence sequence_is,
+            number_so name Delete (answers.Deleted number) old new effect up t at.counts.names at.counts.records at.counts.generation at.counts.last sequence sequence_is,
             refl,
           );
           at = at_still t r.sessions old at (without_name name t) s.sessions new (step_runs old new e made at.running)
               (record {
                 stands = still_runs t r.sessions old at admits.runs new (done_stands old new (asked.Delete name) 0 (answers.Deleted number) buf steps (told t r.sessions old at admits.runs));
                 acknowledged = steps.counted_is ∙ ap one_more at.counts.acknowledged;
-                names = names_now name Delete (answers.Deleted number) old new effect up t at.counts.names at.counts.records at.counts.last;
-                records = records_now name Delete (answers.Deleted number) old new effect up t at.counts.names at.counts.records at.counts.last;
-                last = last_now name Delete (answers.Deleted number) old new effect up t at.counts.names at.counts.records at.counts.last;
+                names = names_now name Delete (answers.Deleted number) old new effect up t at.counts.names at.counts.records at.counts.generation at.counts.last;
+                generation = generation_now name Delete (answers.Deleted number) old new effect up t at.counts.names at.counts.records at.counts.generation at.counts.last;
+                records = records_now name Delete (answers.Deleted number) old new effect up t at.counts.names at.counts.records at.counts.generation at.counts.last;
+                last = last_now name Delete (answers.Deleted number) old new effect up t at.counts.names at.counts.records at.counts.generation at.counts.last;
               }) refl sessions steps.made.row.2;
         }
 

@@ -49,6 +49,7 @@ Stands true c = (stop : Stop) × ((c.stop ≡ Some stop) × (stop.at ≡ c.ackno
 pub record SameNames (old new : Tables) : Type 0 where
   pub names : new.names ≡ old.names
   pub records : new.journal.count ≡ old.journal.count
+  pub generation : new.journal.generation ≡ old.journal.generation
   pub last : new.journal.last ≡ old.journal.last
 
 -- It runs on or is stopped, with the same names, and counts no commit; at most the part of one actor is another.
@@ -60,7 +61,7 @@ pub record Quiet (actor : ℕ) (old new : CoreState) : Type 0 where
   pub others : (other : ℕ) → other ≢ actor → part_of new.parts other ≡ part_of old.parts other
 
 same_names_here : (tables : Tables) → SameNames tables tables
-same_names_here tables = record { names = refl; records = refl; last = refl }
+same_names_here tables = record { names = refl; records = refl; generation = refl; last = refl }
 
 pub quiet_here : (actor : ℕ) (c : CoreState) → IsRunning c → Quiet actor c c
 quiet_here actor c running = record { running = running; tables = same_names_here c.tables; acknowledged = refl; many = refl; others = λ other differs. refl }
@@ -71,6 +72,7 @@ quiet_on actor old mid new first second = record {
   tables = record {
     names = second.tables.names ∙ first.tables.names;
     records = second.tables.records ∙ first.tables.records;
+    generation = second.tables.generation ∙ first.tables.generation;
     last = second.tables.last ∙ first.tables.last;
   };
   acknowledged = second.acknowledged ∙ first.acknowledged;
@@ -107,6 +109,7 @@ module _ (old new : CoreState) where
       record {
         names = now.names_are ∙ sym was.represents.names_are.names_are;
         records = now.count ∙ sym was.represents.names_are.count;
+        generation = now.generation ∙ sym was.represents.names_are.generation;
         last = now.last_is ∙ sym was.represents.names_are.last_is;
       }
   names_on (asked.Seal filled) (Err refusal) none effect up = same_names (kept_tables refusal effect.kept)

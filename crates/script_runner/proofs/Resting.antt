@@ -132,8 +132,10 @@ adds_none store given now right adds = (
     right,
     record {
       size_is = adds.size_is;
-      head = adds.head;
-      cells = λ half cell low within other. adds.cells half cell low within (λ is. absurd (omega (arith, is.1, is.2)));
+      format = adds.format;
+      journal = λ all.
+          let keeps = adds.journal refl in
+          record { head = keeps.head; cells = λ half cell low within other. keeps.cells half cell low within (λ is. absurd (omega (arith, is.1, is.2))) };
       slots_are = λ slot within other. adds.slots slot within refl;
     },
   ),

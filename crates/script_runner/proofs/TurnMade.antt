@@ -73,11 +73,13 @@ other_with (suc slot) h (Some x ∷ cs) differ = other_with slot h cs (λ is. di
 
 -- bytes to which the record cells and slots of a store with a container more were added
 container_added : (id : ℕ) (filled : Contents) (store : Store) (old new : List ℕ) → AddsBytes store (with_sealed id filled.kind filled.segments store) old new
-    → SameBut (λ half cell. ⊥) (λ slot. slot ≡ first_free store.held) store.slots old new
+    → SameBut (Unit {0}) (λ half cell. ⊥) (λ slot. slot ≡ first_free store.held) store.slots old new
 container_added id filled store old new adds = record {
   size_is = adds.size_is;
-  head = adds.head;
-  cells = λ half cell low within other. adds.cells half cell low within (λ is. omega (arith, is.1, is.2));
+  format = adds.format;
+  journal = λ all.
+      let keeps = adds.journal refl in
+      record { head = keeps.head; cells = λ half cell low within other. keeps.cells half cell low within (λ is. omega (arith, is.1, is.2)) };
   slots_are = λ slot within other. adds.slots slot within (other_with slot (header_of id filled.kind filled.segments) store.held other);
 }
 

@@ -30,6 +30,7 @@ use Rattle.ingest_steps.specs.Claiming.{DiffersFrom, IsClaimRefusal}
 use Rattle.ingest_steps.specs.SealStep.{IsStepRefusal}
 use Rattle.store_core.specs.declared.stop.Stop.{Stop}
 use Rattle.store_core.specs.Core.{CoreStep, IsDamage, Steps, StopsAfter}
+use Rattle.store_model.specs.Steps.{HasCellsFor}
 use Rattle.store_core.specs.Frame.{KeepsWritten}
 use Rattle.store_core.specs.Runs.{FileEvent, FileStep, IsOf, stored_by}
 use Rattle.store_core.specs.State.{CoreState}
@@ -71,12 +72,14 @@ same_some : (x y : List ℕ) → Some x ≡ Some y → x ≡ y
 same_some x y is = cc
 
 -- what was written stays, but where no container is
-pub breaks_off : (store : Store) (old new : List ℕ) → KeepsWritten store old new
-    → SameBut (λ half cell. (half ≡ store.selector.half) × (length store.records ≤ cell)) (λ slot. (h : HeaderValue) → slice_get store.held slot ≢ Some (Some h)) store.slots old new
-breaks_off store old new keeps = record {
+pub breaks_off : (store : Store) (records : ℕ) (old new : List ℕ) → KeepsWritten store records old new
+    → SameBut (HasCellsFor store records) (λ half cell. (half ≡ store.selector.half) × (length store.records ≤ cell)) (λ slot. (h : HeaderValue) → slice_get store.held slot ≢ Some (Some h)) store.slots old new
+breaks_off store records old new keeps = record {
   size_is = keeps.size_is;
-  head = keeps.head;
-  cells = λ half cell low within other. keeps.cells half cell low within (λ is. other (is.0, is.1));
+  format = keeps.format;
+  journal = λ has.
+      let kept = keeps.journal has in
+      record { head = kept.head; cells = λ half cell low within other. kept.cells half cell low within (λ is. other (is.0, is.1)) };
   slots_are = λ slot within other. by_slot slot within (slice_get store.held slot) refl other;
 }
   where
@@ -264,7 +267,7 @@ module _ (C : Type 0) (state : C → CoreState) (among : ByteSet) (distinct : Ha
             record {
               store = begins.store;
               was = right_here S begins.store m.stored (state old) begins.is_at m.content at.content_is;
-              rest = breaks_off begins.store m.content broke.image broke.rest;
+              rest = breaks_off begins.store 0 m.content broke.image broke.rest;
             },
             refl,
           )

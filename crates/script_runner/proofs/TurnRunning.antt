@@ -53,7 +53,7 @@ pub stays_here : (S : List ℕ → Type 0) (m : Machine) (sessions : Sessions) (
 stays_here S m sessions c at =
     let begins = at.running.begins in (
       adds_none begins.store m.content m.content (right_here S begins.store m.stored c begins.is_at m.content at.content_is)
-          (record { size_is = refl; head = refl; cells = λ half cell low within other. refl; slots = λ slot within same. refl }),
+          (record { size_is = refl; format = refl; journal = λ same. record { head = refl; cells = λ half cell low within other. refl }; slots = λ slot within same. refl }),
       refl,
     )
 

@@ -1,24 +1,53 @@
 -- What lines leave of the bytes of the disk, whatever its containers hold (docs/MODEL.md, 'Scripts').
-use Rattle.std.specs.Prelude.{◌≡◌, ℕ, List, Some}
+use Rattle.std.specs.Prelude.{◌≡◌, ◌≢◌, ℕ, ◌+◌, List, [], ◌∷◌, Some}
 use Rattle.base_model.specs.Known.{KnownWith}
 use Rattle.dd_disk.specs.Ending.{Done, Reads}
 use Rattle.dd_disk.specs.Shows.{Shows}
 use Rattle.dd_disk.specs.View.{CrashLeaves, DiskView, IsDurable}
+use Rattle.disk_format.specs.Layout.{half_cells}
+use Rattle.script_lines.specs.Grammar as lines
+use Rattle.script_lines.specs.Grammar.{LineValue}
 use Rattle.store_model.specs.Image.{Store, Encodes}
-use Rattle.store_core.specs.Frame.{IsOn, KeepsWritten}
+use Rattle.store_model.specs.Steps.{HasCellsFor}
+use Rattle.store_core.specs.Frame.{HadContainer, IsOn, KeepsBytes}
 use Rattle.store_core.specs.Opening.{IsNew}
 use Rattle.store_core.specs.State.{CoreState}
 use Rattle.plain_machine.specs.Runs.{Replied}
 use Rattle.script_runner.specs.Acts.{RunnerState}
 use Rattle.script_runner.specs.Scripts.{RunsLines}
 
+-- how many cells of the half a line may need: one, where it gives a name a root or takes it away
+abbrev pub commands_of_line : LineValue → ℕ
+commands_of_line (lines.Commit a name) = 1
+commands_of_line (lines.Delete name) = 1
+commands_of_line line = 0
+
+abbrev pub commands_among : List Replied → ℕ
+commands_among [] = 0
+commands_among (one ∷ more) = commands_of_line one.line + commands_among more
+
+-- none of the lines opens the store again
+abbrev pub NeverReopens : List Replied → Type 0
+NeverReopens [] = Unit {0}
+NeverReopens (one ∷ more) = (one.line ≢ lines.Reopen) × NeverReopens more
+
+-- The half that counts has a cell for each of the lines that may need one, and the store is not opened again between them: so they need
+-- no checkpoint.
+abbrev pub NeedNoCheckpoint : List Replied → Store → Type 0
+NeedNoCheckpoint rs s = NeverReopens rs × HasCellsFor s (commands_among rs)
+
+-- What stays over lines: the format cell and each container; and where they need no checkpoint the journal, but for the cells after the
+-- records.
+abbrev pub KeepsOver : List Replied → Store → List ℕ → List ℕ → Type 0
+KeepsOver rs s = KeepsBytes s half_cells (NeedNoCheckpoint rs s) (HadContainer s)
+
 -- In what reads give, and in what a crash leaves at any moment of lines that are run, what was written before them stays. So it is also
 -- where the store is opened again between them, and where writes fail.
 abbrev pub LinesKeepWritten : (C : Type 0) → (C → CoreState) → Type 0
 LinesKeepWritten C state = (rs : List Replied) (s : Store) (base : List ℕ) (r t : RunnerState C)
     → IsOn s (state r.core) → (state r.core).disk.content ≡ Some base → Encodes base s → RunsLines C state rs r t
-    → KnownWith (state t.core).disk.content (KeepsWritten s base)
-    × CrashLeaves (KeepsWritten s base) (state r.core).disk (state t.core).disk
+    → KnownWith (state t.core).disk.content (KeepsOver rs s base)
+    × CrashLeaves (KeepsOver rs s base) (state r.core).disk (state t.core).disk
 
 -- The core is on the store of a content, which its disk has.
 pub record IsOnContent (content : List ℕ) (c : CoreState) : Type 0 where

@@ -1,5 +1,5 @@
 -- What lines give by name, on any disk, also one that tells nothing, or lies (docs/MODEL.md, 'Scripts').
-use Rattle.std.specs.Prelude.{◌≡◌, ◌≢◌, ◌⊎◌, ◌≤◌, ◌<◌, ◌-◌, ◌^◌, ℕ, suc, Bool, true, false, List, [], ◌∷◌, ◌++◌, length, replicate, slice_index_or, slice_set, sum_by, IsSome, None, Some}
+use Rattle.std.specs.Prelude.{◌≡◌, ◌≢◌, ◌⊎◌, ◌≤◌, ◌<◌, ◌-◌, ◌^◌, ℕ, suc, ◌+◌, nat_lt, if◌then◌else◌, Bool, true, false, List, [], ◌∷◌, ◌++◌, length, replicate, slice_index_or, slice_set, sum_by, IsSome, None, Some}
 use Rattle.std.specs.FinMap as finite
 use Rattle.std.specs.List.{AllByRecursion, list_any}
 use Rattle.disk_format.specs.Cells.{IsName, Root}
@@ -41,11 +41,12 @@ pub data Doing : Type 0 where
   -- it takes the file of this root: these segments were given since the `read`
   Reading : (root : Root) (segments : List (List ℕ)) → Doing
 
--- The names with their roots, how many records the journal has, and the number of the last command; what each actor is at; and, since
--- the opening, how many commands were acknowledged, and whether a write or a sync failed.
+-- The names with their roots, how many records the half of the journal has that counts, its generation, and the number of the last
+-- command; what each actor is at; and, since the opening, how many commands were acknowledged, and whether a write or a sync failed.
 pub record Account : Type 0 where
   pub names : NameMap
   pub records : ℕ
+  pub generation : ℕ
   pub last : ℕ
   pub doing : List Doing
   pub acknowledged : ℕ
@@ -63,6 +64,7 @@ abbrev pub opened : Store → Account
 opened store = record {
   names = names_of store;
   records = length store.records;
+  generation = store.selector.generation;
   last = last_sequence store;
   doing = replicate ACTORS Idle;
   acknowledged = 0;
@@ -81,24 +83,38 @@ IsGiving (Writing given) = Unit {0}
 IsGiving (Finished file) = Unit {0}
 IsGiving doing = ⊥
 
--- the name is good and has room, and the journal has a cell left
+-- the name is good and has room
 pub record MayName (name : List ℕ) (t : Account) : Type 0 where
   pub good : IsName name
   pub room : HasRoom t.names name
-  pub cell : t.records < half_cells
 
--- the same, but that the name has a root, under the next number
-abbrev pub with_name : List ℕ → Root → Account → Account
-with_name name root t = record t {
-  names = finite.insert t.names name (record { sequence = suc t.last; root = root });
-  records = suc t.records;
+-- a record has its numbers: one for itself, and where the half is full one for the generation of a checkpoint
+pub record HasNumbers (t : Account) : Type 0 where
+  pub sequence : t.last < 2 ^ 64 - 1
+  pub generation : half_cells ≤ t.records → t.generation < 2 ^ 64 - 1
+
+-- or one of them can't rise
+abbrev pub LacksNumbers : Account → Type 0
+LacksNumbers t = (t.last ≡ 2 ^ 64 - 1) ⊎ ((half_cells ≤ t.records) × (t.generation ≡ 2 ^ 64 - 1))
+
+-- the same with one record more, under the next number; where the half was full, after a checkpoint, which leaves one for each name
+abbrev pub with_record : Account → Account
+with_record t = record t {
+  records = if nat_lt t.records half_cells then t.records + 1 else finite.len t.names + 1;
+  generation = if nat_lt t.records half_cells then t.generation else t.generation + 1;
   last = suc t.last;
   acknowledged = one_more t.acknowledged;
 }
 
--- a number is left, and this is it
+-- the same, but that the name has a root, under the next number
+abbrev pub with_name : List ℕ → Root → Account → Account
+with_name name root t = record (with_record t) {
+  names = finite.insert t.names name (record { sequence = suc t.last; root = root });
+}
+
+-- numbers are left, and this is the next one
 abbrev pub IsNumber : ℕ → Account → Type 0
-IsNumber sequence t = (t.last < 2 ^ 64 - 1) × (sequence ≡ suc t.last)
+IsNumber sequence t = HasNumbers t × (sequence ≡ suc t.last)
 
 -- the name has the root of the file that the actor has given
 abbrev pub Names : ℕ → List ℕ → ℕ → Account → Account → Type 0
@@ -106,20 +122,14 @@ Names actor name sequence t u =
     MayName name t × IsNumber sequence t
     × ((file : List ℕ) × ((doing_of t actor ≡ Finished file) × (u ≡ with_name name (root_of file) (with_doing t actor Idle))))
 
--- the name is there to be deleted, and the journal has a cell left
+-- the name is there to be deleted
 pub record MayDelete (name : List ℕ) (t : Account) : Type 0 where
   pub good : IsName name
   pub there : IsSome (finite.get t.names name)
-  pub cell : t.records < half_cells
 
 -- the same, but that the name is gone, under the next number
 abbrev pub without_name : List ℕ → Account → Account
-without_name name t = record t {
-  names = finite.remove t.names name;
-  records = suc t.records;
-  last = suc t.last;
-  acknowledged = one_more t.acknowledged;
-}
+without_name name t = record (with_record t) { names = finite.remove t.names name }
 
 -- the file of the root that the name has now is to come, all of it
 abbrev pub Begins : ℕ → List ℕ → ℕ → Account → Account → Type 0
@@ -201,9 +211,8 @@ abbrev pub RefusesDelete : List ℕ → Refusal → Account → Type 0
 RefusesDelete name Memory t = Unit {0}
 RefusesDelete name BadName t = ¬ (IsName name)
 RefusesDelete name NoFile t = IsName name × (finite.get t.names name ≡ None)
-RefusesDelete name TooMany t = IsName name × IsSome (finite.get t.names name) × (half_cells ≤ t.records)
-RefusesDelete name Numbers t = MayDelete name t × (t.last ≡ 2 ^ 64 - 1)
-RefusesDelete name DiskWrite t = MayDelete name t × (t.last < 2 ^ 64 - 1)
+RefusesDelete name Numbers t = MayDelete name t × LacksNumbers t
+RefusesDelete name DiskWrite t = MayDelete name t × HasNumbers t
 RefusesDelete name refusal t = ⊥
 
 -- Why a line whose actor is at what it takes is refused, and by nothing else. Of a turn the account can't say more than what it may
@@ -216,7 +225,7 @@ RefusesOn (lines.Push a digits) refusal t = IsOfTurn refusal
 RefusesOn (lines.Finish a) Memory t = Unit {0}
 RefusesOn (lines.Turn a) refusal t = IsOfTurn refusal
 RefusesOn (lines.Commit a name) BadName t = ¬ (IsName name)
-RefusesOn (lines.Commit a name) TooMany t = IsName name × (IsFull t.names name ⊎ (HasRoom t.names name × (half_cells ≤ t.records)))
+RefusesOn (lines.Commit a name) TooMany t = IsName name × IsFull t.names name
 RefusesOn (lines.Commit a name) refusal t = IsOfTurn refusal
 RefusesOn (lines.Read a name) refusal t = IsNameRefusal t.names name refusal
 RefusesOn (lines.Next a) refusal t = (next : Top) × (IsNext a next t × IsOfNext next refusal)

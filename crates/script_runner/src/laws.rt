@@ -41,9 +41,10 @@ pub fn lines_go_on<C: HasState>()
     ensures { LinesGoOn C C.state }
 {}
 
-/// Whatever the containers of a disk hold: lines that are run one after the other change no byte of what was written before them, also
-/// where the store is opened again between them and where writes fail. They begin at a core that is on a store which the content is, as
-/// one that was opened just now. The function does nothing.
+/// Whatever the containers of a disk hold: lines that are run one after the other change no byte of those that stood before them, nor of
+/// the format cell, also where the store is opened again between them and where writes fail; and where they need no checkpoint, no byte
+/// of what was written in the journal. They begin at a core that is on a store which the content is, as one that was opened just now.
+/// The function does nothing.
 pub fn lines_keep_what_is_written<D: Disk, C: HasState>()
     ensures lines { LinesKeepWritten C C.state }
     ensures opened { OpenedIsOn D D.view C C.state }

@@ -1,6 +1,7 @@
 -- A name that was deleted, or not: what the promise says of any disk, and what is never changed.
-use Rattle.std.proofs.Common.{◌≡◌, inl, inr, ◌<◌, ℕ, List, [], length, is_some, true, Option, None, Some, Result, Ok, Err, refl, sym, ◌∙◌, ap, subst, arith}
+use Rattle.std.proofs.Common.{◌≡◌, inl, inr, ◌-◌, ℕ, Bool, List, [], length, is_some, true, false, Option, None, Some, Result, Ok, Err, refl, sym, ◌∙◌, ap, subst, arith}
 use Rattle.std.specs.Prelude.{IsSome}
+use Rattle.std.proofs.lemmas.Bool.{ltb-false}
 use Rattle.std.specs.FinMap as finite
 use Rattle.base_model.specs.Frames.{SameOutside}
 use Rattle.disk_format.specs.Cells.Change.{Delete as Gone}
@@ -15,11 +16,15 @@ use Rattle.dd_disk.proofs.Shows.{shown_content}
 use Rattle.dd_io.specs.Flow.{SourceView, SinkView}
 use Rattle.actor_parts.specs.declared.step.Answer.{Answer}
 use Rattle.actor_parts.specs.StepValue as asked
-use Rattle.ingest_steps.specs.Naming.{ChangesNextAlone, IsDeleteRefusal}
-use Rattle.journal_cells.specs.Appending.{SameButNext}
+use Rattle.ingest_steps.specs.Naming.{IsDeleteRefusal}
+use Rattle.ingest_steps.specs.Naming as naming
+use Rattle.ingest_steps.specs.Recording.{ChangesJournalAlone, SameButRecord, SameButRecordBy, has_cell}
+use Rattle.ingest_steps.proofs.Recorded.{count_of_cell}
+use Rattle.journal_cells.specs.Checkpoints.{SameButHalf}
+use Rattle.journal_cells.specs.Journal.{JournalValue}
 use Rattle.namespace.specs.Names.{NameMap}
 use Rattle.refusals.specs.declared.refusal.Refusal.{Refusal}
-use Rattle.refusals.specs.declared.refusal.Refusal.TheVariants.{Memory, NoFile, BadName, TooMany, Numbers, DiskRead, DiskWrite}
+use Rattle.refusals.specs.declared.refusal.Refusal.TheVariants.{Memory, NoFile, BadName, Numbers, DiskRead, DiskWrite}
 use Rattle.reply_text.specs.declared.ending.Ending.{Ending}
 use Rattle.reply_text.specs.declared.ending.Ending.TheVariants.{Sink, Refused}
 use Rattle.reply_text.specs.Text.{deleted_line}
@@ -28,9 +33,10 @@ use Rattle.store_model.specs.Steps.{CanChangeName}
 use Rattle.store_state.specs.Refused.{blames}
 use Rattle.store_core.specs.Core.{CoreStep, NamesOne, Steps}
 use Rattle.store_core.specs.State.{CoreState, Event}
-use Rattle.backup_engine.specs.AnyDisk.{EndsDurable, IsCaused, IsDeleted, OnAnyDisk, disk_ending}
-use Rattle.backup_engine.specs.Frame.{KeepsButCell, KeepsOthers}
+use Rattle.backup_engine.specs.AnyDisk.{EndsDurable, IsCaused, IsDeleted, OnAnyDisk, disk_ending, room_in}
+use Rattle.backup_engine.specs.Frame.{KeepsButRecord, KeepsOthers, SameButRecordOf}
 use Rattle.backup_engine.specs.Line.{Delete}
+use Rattle.backup_engine.specs.PlainMap.{LacksNumbers}
 use Rattle.backup_engine.specs.Promise.{MayChange, WroteReply}
 use Rattle.backup_engine.proofs.Called.{Called}
 use Rattle.backup_engine.proofs.DeleteMap.{is_none}
@@ -58,31 +64,41 @@ module _ (C : Type 0) (state : C → CoreState) (v w : DiskView) (old new : C) (
 
     -- ---- the bytes
 
-    module _ (ending : Option Ending) (may : MayChange ending) (cell : length store.records < half_cells) where
-      but_cell : (base : List ℕ) → v.content ≡ Some base → (c : List ℕ) → SameButNext (state old).tables.journal base c → KeepsButCell ending base c
-      but_cell base known c same =
-          let names = called.opened.represents.names_are in
-          let journal = (state old).tables.journal in
-          record {
-            may = may;
-            store = store;
-            right = shown_content v (state old).disk (λ image. Encodes image store) base called.opened.right known;
-            reserve = called.opened.reserve;
-            cell = cell;
-            same = subst (λ (half : ℕ). SameOutside (cell_at half (length store.records)) CELL_BYTES base c) names.half
-                (subst (λ (count : ℕ). SameOutside (cell_at journal.half count) CELL_BYTES base c) names.count same);
-          }
+    module _ (ending : Option Ending) (may : MayChange ending) where
+      abbrev journal : JournalValue
+      journal = (state old).tables.journal
 
-      -- nothing but the cell changed
-      cell_frame : ChangesNextAlone (state old).tables.journal (state old).disk (state new).disk → IsLater (state old).disk (state new).disk → KeepsOthers (Delete name) ending v w
+      of_store : (base c : List ℕ) (free : Bool) → has_cell journal ≡ free → SameButRecordBy free journal base c → SameButRecordOf store base c
+      of_store base c true is same =
+          let names = called.opened.represents.names_are in
+          inl (
+            omega (arith, count_of_cell journal is, names.count),
+            subst (λ (half : ℕ). SameOutside (cell_at half (length store.records)) CELL_BYTES base c) names.half
+                (subst (λ (count : ℕ). SameOutside (cell_at journal.half count) CELL_BYTES base c) names.count same),
+          )
+      of_store base c false is same =
+          let names = called.opened.represents.names_are in
+          inr (omega (arith, ltb-false journal.count half_cells is, names.count), subst (λ (half : ℕ). SameButHalf (1 - half) base c) names.half same)
+
+      but_record : (base : List ℕ) → v.content ≡ Some base → (c : List ℕ) → SameButRecord (state old).tables.journal base c → KeepsButRecord ending base c
+      but_record base known c same = record {
+        may = may;
+        store = store;
+        right = shown_content v (state old).disk (λ image. Encodes image store) base called.opened.right known;
+        reserve = called.opened.reserve;
+        same = of_store base c (has_cell journal) refl same;
+      }
+
+      -- nothing but the bytes of a record changed
+      cell_frame : ChangesJournalAlone (state old).tables.journal (state old).disk (state new).disk → IsLater (state old).disk (state new).disk → KeepsOthers (Delete name) ending v w
       cell_frame alone later = record {
         content = λ base known.
             let now = (alone.synced called.durable base (called.first.only.content_is ∙ known)).0 in
-            (now.0, called.last.only.content_is ∙ now.1, inr (but_cell base known now.0 now.2));
+            (now.0, called.last.only.content_is ∙ now.1, inr (but_record base known now.0 now.2));
         crash = λ base known c since.
-            elim (crash_of C state v w old new called (SameButNext (state old).tables.journal base) later (alone.synced called.durable base (called.first.only.content_is ∙ known)).1 c since) [
+            elim (crash_of C state v w old new called (SameButRecord (state old).tables.journal base) later (alone.synced called.durable base (called.first.only.content_is ∙ known)).1 c since) [
               | inl was ↦ inl was
-              | inr same ↦ inr (inr (but_cell base known c same))
+              | inr same ↦ inr (inr (but_record base known c same))
             ];
       }
 
@@ -100,8 +116,8 @@ module _ (C : Type 0) (state : C → CoreState) (v w : DiskView) (old new : C) (
       was_deleted : IsDeleted name v w
       was_deleted = record {
         holds = holds C state v w old new called (to_end C state v w old new called effect.disk.later);
-        may = record { named = can.named; knows = is_some_of (finite.get (names_of store) name) can.place; cell = can.cell };
-        number = can.number;
+        may = record { named = can.named; knows = is_some_of (finite.get (names_of store) name) can.place };
+        numbers = record { sequence = can.number; generation = can.rise };
       }
 
       done_caused : (ending : Option Ending) (source : SourceView) (sink sink_now : SinkView) → IsReplied ending sink sink_now → IsCaused (Delete name) [] v w source source sink sink_now ending
@@ -139,7 +155,7 @@ module _ (C : Type 0) (state : C → CoreState) (v w : DiskView) (old new : C) (
       done_changes (Some ending) sink sink_now replied = absurd replied
 
       pub done_frame : (ending : Option Ending) (sink sink_now : SinkView) → IsReplied ending sink sink_now → KeepsOthers (Delete name) ending v w
-      done_frame ending sink sink_now replied = cell_frame ending (done_changes ending sink sink_now replied) can.cell effect.frame effect.disk.later
+      done_frame ending sink sink_now replied = cell_frame ending (done_changes ending sink sink_now replied) effect.frame effect.disk.later
 
     -- ---- it was refused
 
@@ -156,6 +172,10 @@ module _ (C : Type 0) (state : C → CoreState) (v w : DiskView) (old new : C) (
       there : IsSome (finite.get (state old).tables.names name) → is_some (finite.get (names_of store) name) ≡ true
       there some = is_some_of (finite.get (names_of store) name) (subst (λ (names : NameMap). IsSome (finite.get names name)) names_are some)
 
+      no_numbers : naming.LacksNumbers (state old).tables → LacksNumbers (room_in (Delete name) store)
+      no_numbers (inl most) = inl (sym called.opened.represents.names_are.last_is ∙ most)
+      no_numbers (inr full) = inr (omega (arith, full.0, called.opened.represents.names_are.count), sym called.opened.represents.names_are.generation ∙ full.1)
+
       caused_by : (r : Refusal) (source : SourceView) (sink : SinkView) → IsDeleteRefusal (state old).tables name r → IsCaused (Delete name) [] v w source source sink sink (Some (Refused r))
       caused_by Memory source sink cause = tt
       caused_by DiskRead source sink cause = tt
@@ -163,14 +183,12 @@ module _ (C : Type 0) (state : C → CoreState) (v w : DiskView) (old new : C) (
       caused_by BadName source sink cause = inr (holds C state v w old new called (to_end C state v w old new called undone.disk.later), cause)
       caused_by NoFile source sink cause =
           inr (holds C state v w old new called (to_end C state v w old new called undone.disk.later), (cause.0, is_none (finite.get (names_of store) name) (ap (λ (names : NameMap). finite.get names name) (sym names_are) ∙ cause.1)))
-      caused_by TooMany source sink cause =
-          inr (holds C state v w old new called (to_end C state v w old new called undone.disk.later), (cause.0, there cause.1, omega (arith, cause.2, called.opened.represents.names_are.count)))
       caused_by Numbers source sink cause =
           inr (
             holds C state v w old new called (to_end C state v w old new called undone.disk.later),
             (
-              record { named = cause.0.named; knows = there cause.0.there; cell = omega (arith, cause.0.cell, called.opened.represents.names_are.count) },
-              sym called.opened.represents.names_are.last_is ∙ cause.1,
+              record { named = cause.0.named; knows = there cause.0.there },
+              no_numbers cause.1,
             ),
           )
       caused_by r source sink cause = absurd cause
@@ -187,7 +205,7 @@ module _ (C : Type 0) (state : C → CoreState) (v w : DiskView) (old new : C) (
       }
 
       frame_by : (r : Refusal) → IsDeleteRefusal (state old).tables name r → Acts (ending_of (blames r)) (state old).disk (state new).disk → KeepsOthers (Delete name) (Some (Refused r)) v w
-      frame_by DiskWrite cause acts = cell_frame (Some (Refused DiskWrite)) tt (omega (arith, cause.0.cell, called.opened.represents.names_are.count)) undone.frame acts.later
+      frame_by DiskWrite cause acts = cell_frame (Some (Refused DiskWrite)) tt undone.frame acts.later
       frame_by DiskRead cause acts = absurd cause
       frame_by r cause acts = reads_frame (Delete name) (Some (Refused r)) v w (all_reads C state v w old new called acts.ends)
 

@@ -1,5 +1,5 @@
 -- What a `delete` keeps of the map, by the machine's step.
-use Rattle.std.proofs.Common.{◌≡◌, inl, inr, ◌≤◌, ◌<◌, ◌-◌, ◌^◌, ℕ, List, [], ◌∷◌, length, is_some, true, false, Option, None, Some, replicate, refl, ◌∙◌, ap, subst}
+use Rattle.std.proofs.Common.{◌≡◌, inl, inr, ◌≤◌, ◌-◌, ◌^◌, ℕ, List, [], ◌∷◌, length, is_some, true, false, Option, None, Some, replicate, refl, ◌∙◌, ap, subst}
 use Rattle.std.specs.FinMap as finite
 use Rattle.disk_format.specs.Cells.{IsName}
 use Rattle.disk_format.specs.Cells.Change.{Delete as Gone}
@@ -13,7 +13,7 @@ use Rattle.plain_machine.specs.Machine.{Machine, MayBeFound, Idle, Stopped, open
 use Rattle.plain_machine.specs.Refused as machine
 use Rattle.plain_machine.specs.Runs.{Step}
 use Rattle.refusals.specs.declared.refusal.Refusal.{Refusal}
-use Rattle.refusals.specs.declared.refusal.Refusal.TheVariants.{Memory, NoFile, BadName, TooMany, Numbers, DiskWrite, WrongPart}
+use Rattle.refusals.specs.declared.refusal.Refusal.TheVariants.{Memory, NoFile, BadName, Numbers, DiskWrite, WrongPart}
 use Rattle.reply_text.specs.declared.ending.Ending.{Ending}
 use Rattle.reply_text.specs.declared.ending.Ending.TheVariants.{Sink, Refused}
 use Rattle.reply_text.specs.Text.{deleted_line}
@@ -28,7 +28,7 @@ use Rattle.store_model.proofs.Once.{store_once}
 use Rattle.backup_engine.specs.Adding.{Adds, IsStore}
 use Rattle.backup_engine.specs.Line.{Delete}
 use Rattle.backup_engine.specs.Lines.{RunsEachMap}
-use Rattle.backup_engine.specs.PlainMap.{MayDelete, room_of}
+use Rattle.backup_engine.specs.PlainMap.{LacksNumbers, MayDelete, room_of}
 use Rattle.backup_engine.specs.Promise.{EndsBy, IsLeftAs, KeepsEachMap, KeepsMap, WroteReply}
 use Rattle.backup_engine.specs.Singles.{refused, said}
 use Rattle.backup_engine.proofs.NotDone.{left_with}
@@ -57,9 +57,8 @@ module _ (name : List ℕ) (m : Stored) (image : List ℕ) (faults : ℕ) where
   refused_idle Memory n is = ap (λ (x : Machine). x.parts) is
   refused_idle BadName n is = ap (λ (x : Machine). x.parts) is.1
   refused_idle NoFile n is = ap (λ (x : Machine). x.parts) is.2
-  refused_idle TooMany n is = ap (λ (x : Machine). x.parts) is.3
-  refused_idle Numbers n is = ap (λ (x : Machine). x.parts) is.4
-  refused_idle DiskWrite n is = ap (λ (x : Machine). x.parts) is.6
+  refused_idle Numbers n is = ap (λ (x : Machine). x.parts) is.3
+  refused_idle DiskWrite n is = ap (λ (x : Machine). x.parts) is.5
   refused_idle refusal n is = absurd is
 
   pub done_idle : (sequence : ℕ) (n : Machine) → Step (lines.Delete name) (replies.Deleted sequence) first n → n.parts ≡ replicate ACTORS Idle
@@ -130,8 +129,12 @@ module _ (S : List ℕ → Type 0) (name : List ℕ) (refusal : Refusal) (m : St
       keeps_map S (lines.Delete name) (replies.Refused refusal) m image v w one told (Delete name) (Some (Refused r)) sink sink by_map refl tt (added_so r (same_content same))
       (λ found d may of. left_so r d (subst (λ (x : Stored). IsOf S x d) (same_found same found may) of))
 
-  may_delete : (name_is : IsName name) (there : is_some (finite.get m.files name) ≡ true) → machine.HasCell start → MayDelete name (room_of (Delete name) m is.0)
-  may_delete name_is there cell = record { named = name_is; knows = there; cell = of_store (λ store. length store.records < half_cells) cell }
+  may_delete : (name_is : IsName name) (there : is_some (finite.get m.files name) ≡ true) → MayDelete name (room_of (Delete name) m is.0)
+  may_delete name_is there = record { named = name_is; knows = there }
+
+  lacks_numbers : machine.LacksNumbers start → LacksNumbers (room_of (Delete name) m is.0)
+  lacks_numbers (inl most) = inl most
+  lacks_numbers (inr full) = inr (of_store (λ store. (half_cells ≤ length store.records) × (store.selector.generation ≡ 2 ^ 64 - 1)) full)
 
   may_be_gone : (found : Stored) (d : List ℕ) → is_some (finite.get m.files name) ≡ true → (n : Machine) → one.last ≡ record start { state = Stopped (Some (without_stored m name)); content = n.content; faults = n.faults }
       → MayBeFound one.last.state one.last.stored found → IsOf S found d → IsLeftAs S (Delete name) [] m (Some (Refused DiskWrite)) d
@@ -146,15 +149,12 @@ module _ (S : List ℕ → Type 0) (name : List ℕ) (refusal : Refusal) (m : St
   by_refusal BadName sink why = undone BadName sink (λ no. cc) why.1 (left_with S m image w.content (λ store. ¬ (IsName name)) (same_content why.1) is why.0)
   by_refusal NoFile sink why =
       undone NoFile sink (λ no. cc) why.2 (left_with S m image w.content (λ store. IsName name × (is_some (finite.get m.files name) ≡ false)) (same_content why.2) is (why.0, is_none (finite.get m.files name) why.1))
-  by_refusal TooMany sink why =
-      undone TooMany sink (λ no. cc) why.3
-      (left_with S m image w.content (λ store. IsName name × (is_some (finite.get m.files name) ≡ true) × (half_cells ≤ length store.records)) (same_content why.3) is (why.0, why.1, of_store (λ store. half_cells ≤ length store.records) why.2))
   by_refusal Numbers sink why =
-      undone Numbers sink (λ no. cc) why.4
-      (left_with S m image w.content (λ store. MayDelete name (room_of (Delete name) m store) × (m.last ≡ 2 ^ 64 - 1)) (same_content why.4) is (may_delete why.0 why.1 why.2, why.3))
+      undone Numbers sink (λ no. cc) why.3
+      (left_with S m image w.content (λ store. MayDelete name (room_of (Delete name) m store) × LacksNumbers (room_of (Delete name) m store)) (same_content why.3) is (may_delete why.0 why.1, lacks_numbers why.2))
   by_refusal DiskWrite sink why =
       keeps_map S (lines.Delete name) (replies.Refused refusal) m image v w one told (Delete name) (Some (Refused DiskWrite)) sink sink tt refl tt (λ store right. tt)
-      (λ found d may of. may_be_gone found d why.1 one.last why.6 may of)
+      (λ found d may of. may_be_gone found d why.1 one.last why.5 may of)
   by_refusal r sink why = absurd why
 
   pub undone_map : (sink : SinkView) → Kept refusal sink

@@ -82,8 +82,10 @@ module _ (C : Type 0) (state : C → CoreState) (v w : DiskView) (old new : C) (
       right = open_there.right;
       reserve = open_there.reserve;
       size_is = open_there.size_is;
-      head = open_there.head;
-      cells = λ half cell low within other. open_there.cells half cell low within (λ same. absurd same.0);
+      format = open_there.format;
+      journal = λ needs.
+          let same = open_there.journal (λ may. absurd may) in
+          record { head = same.head; cells = λ half cell low within other. same.cells half cell low within (λ is. absurd is.0) };
       containers = open_there.containers;
     }
 

@@ -1,10 +1,9 @@
--- What stays of a disk that held a store, where closed slots and the cell after its records are written.
+-- What stays of a disk that held a store, where closed slots and a record are written.
 use Rattle.std.proofs.Common.{◌≡◌, ◌≢◌, ℕ, zero, suc, ◌+◌, ◌<◌, ◌≤◌, Bool, true, false, List, [], ◌∷◌, length, Option, Some, None, refl, sym, ◌∙◌, ap, subst, arith}
 use Rattle.std.specs.Prelude.{nat_lt}
 use Rattle.std.specs.List.{AllByRecursion}
 use Rattle.std.proofs.lemmas.Bool.{ltb-true, ltb-false}
 use Rattle.base_model.specs.Bytes.{range, byte_at}
-use Rattle.base_model.specs.Frames.{SameOutside}
 use Rattle.disk_format.specs.declared.numbers.TheConstants.{CELL_BYTES, SLOT_BYTES, FIRST_SLOT, FIRST_HALF, CONTAINER_GATE, RESERVE}
 use Rattle.disk_format.specs.Layout.{half_cells, cell_at, slot_at}
 use Rattle.container_meta.specs.Spelling.{HeaderValue}
@@ -15,6 +14,13 @@ use Rattle.store_model.specs.Slots.{HoldSlots, free_slots, first_free, with_slot
 use Rattle.store_model.specs.Steps.{StoreChange, SealContainer, ChangeName, changed}
 use Rattle.store_core.specs.Runs.{ChangesTo}
 use Rattle.ingest_steps.specs.Sealing.{SameButSlotOf}
+use Rattle.journal_cells.specs.Appending.{SameButNext}
+use Rattle.journal_cells.specs.Journal.{JournalValue}
+use Rattle.store_model.proofs.Journaled.{SameButJournal}
+use Rattle.ingest_steps.specs.Recording.{SameButRecord, SameButRecordBy}
+use Rattle.ingest_steps.proofs.Recorded.{cell_of_count}
+use Rattle.ingest_steps.proofs.RecordFrames.{record_alone}
+use Rattle.plain_machine.specs.Content.{SameJournal}
 use Rattle.backup_engine.specs.Frame.{KeepsOpen}
 use Rattle.backup_engine.specs.Promise.{MayChange}
 use Rattle.backup_engine.proofs.PutChanges.{IsSeal}
@@ -118,36 +124,54 @@ module _ (store : Store) (base : List ℕ) (right : Encodes base store) (reserve
     right = right;
     reserve = reserve;
     size_is = keeps.size_is;
-    head = keeps.front 0 FIRST_HALF (omega arith);
-    cells = λ half cell low within other. keeps.front (cell_at half cell) CELL_BYTES (omega (arith, low, within));
+    format = keeps.front 0 CELL_BYTES (omega arith);
+    journal = λ needs. record {
+      head = keeps.front 0 FIRST_HALF (omega arith);
+      cells = λ half cell low within other. keeps.front (cell_at half cell) CELL_BYTES (omega (arith, low, within));
+    };
     containers = keeps.containers;
   }
 
-  -- and so it does where the cell after the records changes
-  pub open_next : (ending : Option Ending) → MayChange ending → (half cell : ℕ) → half ≡ store.selector.half → cell ≡ length store.records → cell < half_cells → (new : List ℕ)
-      → SameOutside (cell_at half cell) CELL_BYTES old new → KeepsOpen ending base new
-  open_next ending may half cell half_is cell_is within new same = record {
-    store = store;
-    right = right;
-    reserve = reserve;
-    size_is = same.size ∙ keeps.size_is;
-    head = same.before 0 FIRST_HALF (omega arith) ∙ keeps.front 0 FIRST_HALF (omega arith);
-    cells = λ h c low_too within_too other.
-        below_or h c (nat_lt (cell_at h c) (cell_at half cell)) refl (λ is. other (may, same_half h c low_too within_too is ∙ half_is, same_cell h c low_too within_too is ∙ cell_is))
-        ∙ keeps.front (cell_at h c) CELL_BYTES (omega (arith, low_too, within_too));
-    containers = λ slot below opened. same.after (slot_at slot) SLOT_BYTES (omega (arith, low, within)) ∙ keeps.containers slot below opened;
-  }
-    where
-      low : half ≤ 1
-      low = omega (arith, half_is, right.journal.selector_is.0.half)
+  -- and so it does where a record is written
+  module _ (journal : JournalValue) (half_is : journal.half ≡ store.selector.half) (count_is : journal.count ≡ length store.records) (new : List ℕ) (same : SameButRecord journal old new) where
+    low : journal.half ≤ 1
+    low = omega (arith, half_is, right.journal.selector_is.0.half)
+
+    alone : SameButJournal old new
+    alone = record_alone journal old new low same
+
+    module _ (within : journal.count < half_cells) where
+      next : SameButNext journal old new
+      next = subst (λ (free : Bool). SameButRecordBy free journal old new) (cell_of_count journal within) same
 
       -- each place has one half and one cell
-      same_half : (h c : ℕ) → h ≤ 1 → c < half_cells → cell_at h c ≡ cell_at half cell → h ≡ half
+      same_half : (h c : ℕ) → h ≤ 1 → c < half_cells → cell_at h c ≡ cell_at journal.half journal.count → h ≡ journal.half
       same_half h c low_too within_too is = omega (arith, low_too, within_too, is, low, within)
 
-      same_cell : (h c : ℕ) → h ≤ 1 → c < half_cells → cell_at h c ≡ cell_at half cell → c ≡ cell
+      same_cell : (h c : ℕ) → h ≤ 1 → c < half_cells → cell_at h c ≡ cell_at journal.half journal.count → c ≡ journal.count
       same_cell h c low_too within_too is = omega (arith, low_too, within_too, is, low, within)
 
-      below_or : (h c : ℕ) (below : Bool) → nat_lt (cell_at h c) (cell_at half cell) ≡ below → (cell_at h c ≡ cell_at half cell → ⊥) → range (cell_at h c) CELL_BYTES new ≡ range (cell_at h c) CELL_BYTES old
-      below_or h c true is differ = same.before (cell_at h c) CELL_BYTES (omega (arith, ltb-true (cell_at h c) (cell_at half cell) is))
-      below_or h c false is differ = same.after (cell_at h c) CELL_BYTES (omega (arith, ltb-false (cell_at h c) (cell_at half cell) is, differ))
+      below_or : (h c : ℕ) (below : Bool) → nat_lt (cell_at h c) (cell_at journal.half journal.count) ≡ below → (cell_at h c ≡ cell_at journal.half journal.count → ⊥)
+          → range (cell_at h c) CELL_BYTES new ≡ range (cell_at h c) CELL_BYTES old
+      below_or h c true is differ = next.before (cell_at h c) CELL_BYTES (omega (arith, ltb-true (cell_at h c) (cell_at journal.half journal.count) is))
+      below_or h c false is differ = next.after (cell_at h c) CELL_BYTES (omega (arith, ltb-false (cell_at h c) (cell_at journal.half journal.count) is, differ))
+
+      journal_next : (ending : Option Ending) → MayChange ending → SameJournal (λ half cell. MayChange ending × (half ≡ store.selector.half) × (cell ≡ length store.records)) base new
+      journal_next ending may = record {
+        head = next.before 0 FIRST_HALF (omega arith) ∙ keeps.front 0 FIRST_HALF (omega arith);
+        cells = λ h c low_too within_too other.
+            below_or h c (nat_lt (cell_at h c) (cell_at journal.half journal.count)) refl
+            (λ is. other (may, same_half h c low_too within_too is ∙ half_is, same_cell h c low_too within_too is ∙ count_is))
+            ∙ keeps.front (cell_at h c) CELL_BYTES (omega (arith, low_too, within_too));
+      }
+
+    pub open_next : (ending : Option Ending) → MayChange ending → KeepsOpen ending base new
+    open_next ending may = record {
+      store = store;
+      right = right;
+      reserve = reserve;
+      size_is = alone.size ∙ keeps.size_is;
+      format = alone.format ∙ keeps.front 0 CELL_BYTES (omega arith);
+      journal = λ needs. journal_next (omega (arith, needs may, count_is)) ending may;
+      containers = λ slot below opened. alone.slots (slot_at slot) SLOT_BYTES (omega arith) ∙ keeps.containers slot below opened;
+    }

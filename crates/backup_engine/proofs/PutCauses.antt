@@ -1,5 +1,5 @@
 -- What the top call promises of `ingest` over any disk: each ending has its cause.
-use Rattle.std.proofs.Common.{◌≡◌, ◌⊎◌, inl, inr, ℕ, ◌<◌, ◌≤◌, List, [], ◌∷◌, length, Option, Some, Result, Ok, Err, OnOk, IfErr, refl, sym, ◌∙◌, ap, subst, arith}
+use Rattle.std.proofs.Common.{◌≡◌, ◌⊎◌, inl, inr, ℕ, ◌<◌, ◌≤◌, List, [], ◌∷◌, length, Option, Some, Result, Ok, Err, OnOk, IfErr, refl, sym, ◌∙◌, ap, subst}
 use Rattle.std.specs.List.{AllByRecursion}
 use Rattle.base_model.specs.Known.{Known}
 use Rattle.disk_format.specs.declared.numbers.TheConstants.{MOST_FILE}
@@ -133,10 +133,9 @@ module _ (C : Type 0) (state : C → CoreState) (v w : DiskView) (old new : C) (
     cause_of DiskWrite added are later refuses = tt
     cause_of refusal added are later refuses = inr (added, in_call later refusal added.after (refuses.store_has added.after are.represents are.valid are.reserve))
 
-    -- a name that can be put has a cell
-    has_cell : (after : Store) (root : Root) → CanChangeName name (Put root) after → HasNoRoomForName (room_in (Ingest name) after) → ⊥
-    has_cell after root can (inl full) = has_room (names_of after) name can.place full.0 full.1
-    has_cell after root can (inr many) = absurd (omega (arith, many, can.cell))
+    -- a name that can be put has room
+    has_place : (after : Store) (root : Root) → CanChangeName name (Put root) after → HasNoRoomForName (room_in (Ingest name) after) → ⊥
+    has_place after root can full = has_room (names_of after) name can.place full.0 full.1
 
     module _ (took : Known source.left (λ all. given ≡ all)) where
       refused_took : Known source.left (λ all. (given ≡ all) × Unit {0})
@@ -164,9 +163,9 @@ module _ (C : Type 0) (state : C → CoreState) (v w : DiskView) (old new : C) (
               few = few;
               pieces = held.store_has (with_change name (Put ends.root) (puts (Ok tt) run).after) ends.are.represents ends.are.valid ends.are.reserve;
               named = ends.can.named;
-              cell = has_cell (puts (Ok tt) run).after ends.root ends.can;
+              place = has_place (puts (Ok tt) run).after ends.root ends.can;
             };
-            number = ends.can.number;
+            numbers = record { sequence = ends.can.number; generation = ends.can.rise };
           }
 
       -- the file was put in

@@ -1,17 +1,14 @@
 -- What `ingest` never changes, whatever the disk holds.
-use Rattle.std.proofs.Common.{◌≡◌, inl, inr, ℕ, ◌<◌, ◌≤◌, List, [], ◌∷◌, Option, Some, Result, Ok, Err, sym, ◌∙◌, subst, arith}
+use Rattle.std.proofs.Common.{◌≡◌, inl, inr, ℕ, ◌≤◌, List, [], ◌∷◌, Option, Some, Result, Ok, Err, sym, ◌∙◌, subst, arith}
 use Rattle.std.specs.List.{AllByRecursion}
-use Rattle.base_model.specs.Frames.{SameOutside}
 use Rattle.base_model.specs.Known.{KnownWith}
-use Rattle.disk_format.specs.declared.numbers.TheConstants.{CELL_BYTES, RESERVE}
+use Rattle.disk_format.specs.declared.numbers.TheConstants.{RESERVE}
 use Rattle.disk_format.specs.Cells.{Change, Root}
 use Rattle.disk_format.specs.Cells.Change.{Put, Delete as Gone}
-use Rattle.disk_format.specs.Layout.{half_cells, cell_at}
 use Rattle.dd_disk.specs.View.{DiskView, OnlyReads, CrashLeaves, SteppedFrom}
 use Rattle.dd_disk.proofs.Later.{reads_here, reads_leave, leaves_on, leaves_weaker}
 use Rattle.container_meta.specs.Segments.{Contents}
 use Rattle.actor_parts.specs.declared.step.Answer.{Answer}
-use Rattle.actor_parts.specs.declared.step.Answer.TheVariants as answers
 use Rattle.actor_parts.specs.StepValue as asked
 use Rattle.actor_parts.specs.StepValue.{StepValue}
 use Rattle.refusals.specs.declared.refusal.Refusal.{Refusal}
@@ -22,6 +19,7 @@ use Rattle.store_model.specs.Image.{Store, Encodes}
 use Rattle.store_model.specs.Slots.{free_slots, first_free}
 use Rattle.store_model.proofs.Free.{some_free}
 use Rattle.store_state.specs.Settled.{IsSettled}
+use Rattle.ingest_steps.specs.Recording.{SameButRecord}
 use Rattle.ingest_steps.specs.Sealing.{ChangesSlotAlone, SameButSlotOf}
 use Rattle.store_core.specs.Core.{CoreStep, Row, Effect, SealsOne, NamesOne}
 use Rattle.store_core.specs.Runs.{CoreRun, FileEvent, events_of}
@@ -106,19 +104,18 @@ module _ (first : Store) (base : List ℕ) (t : Store) (old new : CoreState) (on
       images = leaves_weaker Slots Open old.disk new.disk slots_open leaves.images;
     }
 
-    module _ (may : MayChange ending) (room : old.tables.journal.count < half_cells) where
-      -- all but the cell after the journal's records
-      abbrev SameButNext : List ℕ → List ℕ → Type 0
-      SameButNext before after = SameOutside (cell_at old.tables.journal.half old.tables.journal.count) CELL_BYTES before after
+    module _ (may : MayChange ending) where
+      -- all but the bytes of a record
+      abbrev SameButOne : List ℕ → List ℕ → Type 0
+      SameButOne = SameButRecord old.tables.journal
 
-      next_open : (d c : List ℕ) → KeepsSlots slots base d → SameButNext d c → KeepsOpen ending base c
+      next_open : (d c : List ℕ) → KeepsSlots slots base d → SameButOne d c → KeepsOpen ending base c
       next_open d c keeps_there same =
-          open_next first base right reserve d keeps_there ending may old.tables.journal.half old.tables.journal.count (on.represents.names_are.half ∙ held.free.half_is)
-          (on.represents.names_are.count ∙ held.free.count_is) room c same
+          open_next first base right reserve d keeps_there old.tables.journal (on.represents.names_are.half ∙ held.free.half_is) (on.represents.names_are.count ∙ held.free.count_is) c same ending may
 
       by_change : (name : List ℕ) (change : Change) (answer : Result Answer Refusal) → NamesOne name change answer old new → Leaves Open old.disk new.disk
       by_change name change answer effect =
-          let images = leaves_weaker (SteppedFrom SameButNext old.disk) Open old.disk new.disk (λ c from. elim from [
+          let images = leaves_weaker (SteppedFrom SameButOne old.disk) Open old.disk new.disk (λ c from. elim from [
             | inl image ↦ slots_open c (image_keeps c image)
             | inr step ↦ next_open step.0 c (image_keeps step.0 step.1) step.2
           ]) (effect.frame.leaves given known) in
@@ -185,10 +182,6 @@ module _ (first : Store) (base : List ℕ) where
 
 -- ---- the last step
 
-commit_room : (old new : CoreState) (name : List ℕ) (root : Root) (actor : ℕ) (buf : List ℕ) (answer : Answer) → Row (asked.Commit name root) actor (Ok answer) buf old new → old.tables.journal.count < half_cells
-commit_room old new name root actor buf (answers.Committed sequence) row = row.0.may_name.cell
-commit_room old new name root actor buf answer row = absurd row
-
 module _ (first : Store) (base : List ℕ) (right : Encodes base first) (reserve : RESERVE ≤ free_slots first.held) (start : DiskView) where
   module _ (old new : CoreState) (framed : IsFramed first base start old) where
     abbrev t : Store
@@ -207,7 +200,7 @@ module _ (first : Store) (base : List ℕ) (right : Encodes base first) (reserve
         → Effect step answer old new → EndsSo ending
     put_open ending may actor buf (asked.Commit name root) (Err refusal) last row effect = absurd last
     put_open ending may actor buf (asked.Commit name root) (Ok answer) last row effect =
-        by_change first base t old new framed.on framed.held ending right reserve may (commit_room old new name root actor buf answer row) name (Put root) (Ok answer) effect
+        by_change first base t old new framed.on framed.held ending right reserve may name (Put root) (Ok answer) effect
     put_open ending may actor buf asked.Begin answer last row effect = absurd last
     put_open ending may actor buf (asked.Claim seg) answer last row effect = absurd last
     put_open ending may actor buf (asked.Seal filled) answer last row effect = absurd last
@@ -223,7 +216,7 @@ module _ (first : Store) (base : List ℕ) (right : Encodes base first) (reserve
     uncommitted : (name : List ℕ) (root : Root) (actor : ℕ) (buf : List ℕ) (refusal : Refusal) → Row (asked.Commit name root) actor (Err refusal) buf old new → NamesOne name (Put root) (Err refusal) old new
         → EndsSo (Some (Refused refusal))
     uncommitted name root actor buf DiskWrite row effect =
-        by_change first base t old new framed.on framed.held (Some (Refused DiskWrite)) right reserve tt row.0.0.may_name.cell name (Put root) (Err DiskWrite) effect
+        by_change first base t old new framed.on framed.held (Some (Refused DiskWrite)) right reserve tt name (Put root) (Err DiskWrite) effect
     uncommitted name root actor buf DiskRead row effect = reads_open (Some (Refused DiskRead)) effect.disk.ends
     uncommitted name root actor buf refusal row effect = reads_open (Some (Refused refusal)) effect.disk.ends
 
@@ -231,7 +224,7 @@ module _ (first : Store) (base : List ℕ) (right : Encodes base first) (reserve
     undeleted : (name : List ℕ) (actor : ℕ) (buf : List ℕ) (refusal : Refusal) → Row (asked.Delete name) actor (Err refusal) buf old new → NamesOne name Gone (Err refusal) old new
         → EndsSo (Some (Refused refusal))
     undeleted name actor buf DiskWrite row effect =
-        by_change first base t old new framed.on framed.held (Some (Refused DiskWrite)) right reserve tt row.0.0.cell name Gone (Err DiskWrite) effect
+        by_change first base t old new framed.on framed.held (Some (Refused DiskWrite)) right reserve tt name Gone (Err DiskWrite) effect
     undeleted name actor buf DiskRead row effect = reads_open (Some (Refused DiskRead)) effect.disk.ends
     undeleted name actor buf refusal row effect = reads_open (Some (Refused refusal)) effect.disk.ends
 

@@ -28,7 +28,7 @@ use Rattle.script_runner.specs.Frame.{IsOnContent, LinesKeepWritten, OpenedIsOn}
 use Rattle.script_runner.specs.Named.{Account, AllTell, CountFaults, GiveWhatIsNamed, Tells, WasOpened, WasShown, opened}
 use Rattle.script_runner.specs.Opened.{OpenedFollows}
 use Rattle.script_runner.specs.Scripts.{RunsLines, ScriptsFollow}
-use Rattle.store_core.specs.Frame.{KeepsWritten}
+use Rattle.script_runner.specs.Frame.{KeepsOver}
 use Rattle.store_core.specs.Runs.{IsOf}
 use Rattle.store_core.specs.State.{CoreState}
 use Rattle.store_model.specs.Collisions.{IsIn}
@@ -225,13 +225,13 @@ module _ (D : Type 0) (view : D → DiskView) (C : Type 0) (state : C → CoreSt
     stands : IsOnContent base (state r.core)
     stands = is_on base before r.core called.opened called.durable called.first told
 
-    kept_all : (image : List ℕ) → KeepsWritten stands.store base image → KeepsAll base image
+    kept_all : (image : List ℕ) → KeepsOver run.rs stands.store base image → KeepsAll run.rs base image
     kept_all image written = inr (record { store = stands.store; right = stands.encodes; reserve = stands.on.reserve; written = written })
 
-    abbrev kept_lines : KnownWith last.content (KeepsWritten stands.store base) × CrashLeaves (KeepsWritten stands.store base) found last
+    abbrev kept_lines : KnownWith last.content (KeepsOver run.rs stands.store base) × CrashLeaves (KeepsOver run.rs stands.store base) found last
     kept_lines = keep run.rs stands.store base r s stands.on stands.told stands.encodes run.runs
 
-    crashed_since : (c : List ℕ) → v.clock < 2 ^ 64 - 1 → last.images_since v.clock c → v.images c ⊎ KeepsAll base c
+    crashed_since : (c : List ℕ) → v.clock < 2 ^ 64 - 1 → last.images_since v.clock c → v.images c ⊎ KeepsAll run.rs base c
     crashed_since c below since = elim (kept_lines.1.since v.clock c called.first.only.later.clock_is since) [
       | inl was ↦ elim (called.first.only.since_are v.clock c (omega arith) was) [
         | inl before_it ↦ inl (v.only_now c below before_it)
@@ -240,7 +240,7 @@ module _ (D : Type 0) (view : D → DiskView) (C : Type 0) (state : C → CoreSt
       | inr written ↦ inr (kept_all c written)
     ]
 
-    crashed : (c : List ℕ) → SinceStart v w c → v.images c ⊎ KeepsAll base c
+    crashed : (c : List ℕ) → SinceStart v w c → v.images c ⊎ KeepsAll run.rs base c
     crashed c (inl now) = inr (kept_all c (kept_lines.1.now c (called.last.only.images_are c now)))
     crashed c (inr since) =
         elim (called.last.only.since_are v.clock c (omega (arith, called.first.only.later.clock_is, later.clock_is)) since.1) [
@@ -248,7 +248,7 @@ module _ (D : Type 0) (view : D → DiskView) (C : Type 0) (state : C → CoreSt
           | inr now ↦ inr (kept_all c (kept_lines.1.now c now))
         ]
 
-  others : LinesKeepOthers v w
+  others : LinesKeepOthers run.rs v w
   others = record {
     content = λ base told. let there = (kept_lines base told).0 in (there.0, called.last.only.content_is ∙ there.1, kept_all base told there.0 there.2);
     crash = crashed;

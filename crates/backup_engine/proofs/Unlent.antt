@@ -167,7 +167,7 @@ module _ (loans loans_now : List ℕ) (v w : DiskView) where
         inr (added given added_there, inr (unlike_so (ReadsSince lent lent_now) (ReadsSince v w) reads given added_there.after refusal is))
 
     ingest_done : IsStored name given lent lent_now → IsStored name given v w
-    ingest_done is = record { added = added given is.added; all = is.all; number = is.number }
+    ingest_done is = record { added = added given is.added; all = is.all; numbers = is.numbers }
 
     ingest_caused : (ending : Option Ending) → IsCaused (Ingest name) given lent lent_now source source_now sink sink_now ending → IsCaused (Ingest name) given v w source source_now sink sink_now ending
     ingest_caused None is = ingest_done is
@@ -211,7 +211,7 @@ module _ (loans loans_now : List ℕ) (v w : DiskView) where
     delete_refused refusal (inr is) = inr (holds is.0, is.1)
 
     deleted : IsDeleted name lent lent_now → IsDeleted name v w
-    deleted is = record { holds = holds is.holds; may = is.may; number = is.number }
+    deleted is = record { holds = holds is.holds; may = is.may; numbers = is.numbers }
 
     delete_caused : (ending : Option Ending) → IsCaused (Delete name) given lent lent_now source source_now sink sink_now ending → IsCaused (Delete name) given v w source source_now sink sink_now ending
     delete_caused None is = deleted is

@@ -1,10 +1,9 @@
 -- The commit at the end of a way: each piece of the file is held, or why the name isn't given the root.
-use Rattle.std.proofs.Common.{◌≡◌, ◌⊎◌, inl, inr, ◌<◌, ◌≤◌, ℕ, false, List, length, Option, Some, None, option_map, Result, Ok, Err, refl, sym, ◌∙◌, ap, subst, arith}
+use Rattle.std.proofs.Common.{◌≡◌, ◌⊎◌, inl, inr, ◌≤◌, ℕ, false, List, length, Option, Some, None, option_map, Result, Ok, Err, refl, sym, ◌∙◌, ap, subst, arith}
 use Rattle.std.specs.Prelude.{is_some, IsSome}
 use Rattle.std.specs.FinMap as finite
 use Rattle.disk_format.specs.declared.numbers.TheConstants.{MOST_FILE, MOST_NAMES}
 use Rattle.disk_format.specs.Cells.Change.{Put}
-use Rattle.disk_format.specs.Layout.{half_cells}
 use Rattle.container_meta.specs.declared.kind.Kind.{Kind}
 use Rattle.container_meta.specs.declared.place.Place.{Place}
 use Rattle.container_meta.specs.Segments.{KindSegment, Segment}
@@ -35,7 +34,8 @@ use Rattle.store_core.specs.State.{CoreState}
 use Rattle.ingest_session.proofs.Members.{one_of}
 use Rattle.backup_engine.specs.AnyDisk.{room_in}
 use Rattle.backup_engine.specs.Line.{Ingest}
-use Rattle.backup_engine.specs.PlainMap.{HasNoRoomForName, HasPieces, HasTwins}
+use Rattle.ingest_steps.specs.Naming as naming
+use Rattle.backup_engine.specs.PlainMap.{HasNoRoomForName, HasPieces, HasTwins, LacksNumbers}
 use Rattle.backup_engine.specs.Putting.{Way, length_in}
 use Rattle.backup_engine.specs.Running.{HoldsPieces, IsOneOf, IsPutRefusal, IsPutStep, PutRun}
 use Rattle.backup_engine.proofs.FirstActor.{by_first, kept_represents, no_other, steps_of}
@@ -128,16 +128,18 @@ module _ (C : Type 0) (state : C → CoreState) (files : List ℕ → Type 0) (o
     names_are : (state old).tables.names ≡ names_of store
     names_are = before.names_are.names_are
 
-    -- a name that may be put has a cell
-    has_cell : HasRoom (state old).tables.names name → (state old).tables.journal.count < half_cells → HasNoRoomForName (room_in (Ingest name) store) → ⊥
-    has_cell room cell (inl full) = has_room (names_of store) name (subst (λ (names : NameMap). HasRoom names name) names_are room) full.0 full.1
-    has_cell room cell (inr many) = absurd (omega (arith, cell, many, before.names_are.count))
+    -- a name that may be put has room
+    has_place : HasRoom (state old).tables.names name → HasNoRoomForName (room_in (Ingest name) store) → ⊥
+    has_place room full = has_room (names_of store) name (subst (λ (names : NameMap). HasRoom names name) names_are room) full.0 full.1
 
-    no_cell : IsFull (state old).tables.names name ⊎ (HasRoom (state old).tables.names name × (half_cells ≤ (state old).tables.journal.count)) → HasNoRoomForName (room_in (Ingest name) store)
-    no_cell (inl full) =
+    no_place : IsFull (state old).tables.names name → HasNoRoomForName (room_in (Ingest name) store)
+    no_place full =
         let here = subst (λ (names : NameMap). IsFull names name) names_are full in
-        inl (ap is_some here.0, here.1)
-    no_cell (inr many) = inr (omega (arith, many.1, before.names_are.count))
+        (ap is_some here.0, here.1)
+
+    no_numbers : naming.LacksNumbers (state old).tables → LacksNumbers (room_in (Ingest name) store)
+    no_numbers (inl most) = inl (sym before.names_are.last_is ∙ most)
+    no_numbers (inr full) = inr (omega (arith, full.0, before.names_are.count), sym before.names_are.generation ∙ full.1)
 
   commit_cause : (refusal : Refusal) → KeepsTables (state old) (state new) → IsCommitRefusal (part_of (state old).parts 0) (state old).tables name (root_of file) refusal → IsPutRefusal name file (state start).disk (state new) refusal
   commit_cause refusals.Memory same cause = tt
@@ -147,15 +149,15 @@ module _ (C : Type 0) (state : C → CoreState) (files : List ℕ → Type 0) (o
     store_has = λ store represents valid reserve.
         let may = cause.0.may_name in
         inl (inr (
-          record { few = few; pieces = pieces same store represents; named = may.named; cell = has_cell same store represents may.room may.cell },
-          sym (before same store represents).names_are.last_is ∙ cause.1,
+          record { few = few; pieces = pieces same store represents; named = may.named; place = has_place same store represents may.room },
+          no_numbers same store represents cause.1,
         ));
   }
   commit_cause refusals.BadName same cause = record {
     store_has = λ store represents valid reserve. inl (few, pieces same store represents, cause.1);
   }
   commit_cause refusals.TooMany same cause = record {
-    store_has = λ store represents valid reserve. inl (few, pieces same store represents, cause.1.0, no_cell same store represents cause.1.1);
+    store_has = λ store represents valid reserve. inl (few, pieces same store represents, cause.1.0, no_place same store represents cause.1.1);
   }
   commit_cause (refusals.WrongPart kind) same cause = absurd (no_other kinds.Writing (part_of (state old).parts 0) (refusals.WrongPart kind) (ap kind_of w.writing) cause)
   commit_cause (refusals.Unpinned key) same cause = record {

@@ -1,5 +1,5 @@
 -- What the top call promises over any disk, also one that tells nothing, or lies (docs/MODEL.md, 'The promise').
-use Rattle.std.specs.Prelude.{◌≡◌, ◌≢◌, ◌⊎◌, ℕ, ◌-◌, ◌^◌, ◌<◌, ◌≤◌, List, [], length, sum_by, is_some, Option, None, Some}
+use Rattle.std.specs.Prelude.{◌≡◌, ◌≢◌, ◌⊎◌, ℕ, ◌≤◌, List, [], length, sum_by, is_some, Option, None, Some}
 use Rattle.std.specs.FinMap as finite
 use Rattle.std.specs.List.{AllByRecursion, concat}
 use Rattle.base_model.specs.Bytes.{byte_at}
@@ -40,7 +40,7 @@ use Rattle.store_core.specs.Runs.{ChangesTo}
 use Rattle.backup_engine.specs.Adding.{AddsOnce}
 use Rattle.backup_engine.specs.Line.{CommandLine, Format, Ingest, Restore, Delete, name_of}
 use Rattle.backup_engine.specs.Line as table
-use Rattle.backup_engine.specs.PlainMap.{Room, room, RefusesIngest, RefusesRestore, RefusesDelete, MayDelete, HasAll}
+use Rattle.backup_engine.specs.PlainMap.{HasNumbers, Room, room, RefusesIngest, RefusesRestore, RefusesDelete, MayDelete, HasAll}
 use Rattle.backup_engine.specs.Promise.{WroteReply}
 
 -- ---- what reads showed
@@ -143,17 +143,17 @@ IsRefused table.List given disk disk_now source source_now sink sink_now DiskRea
 IsRefused table.List given disk disk_now source source_now sink sink_now DiskWrite = Unit {0}
 IsRefused table.List given disk disk_now source source_now sink sink_now refusal = IsOpenRefusal (Shows disk disk_now) disk.size refusal
 
--- An `ingest` that was done: each piece of the file is held, the name has a cell, and a number was left.
+-- An `ingest` that was done: each piece of the file is held, the name has room, and its record had its numbers.
 pub record IsStored (name given : List ℕ) (disk disk_now : DiskView) : Type 0 where
   pub added : HasAdded given disk disk_now
   pub all : HasAll name given (room_in (Ingest name) added.after)
-  pub number : last_sequence added.after < 2 ^ 64 - 1
+  pub numbers : HasNumbers (room_in (Ingest name) added.after)
 
--- A `delete` that was done: the store that the disk held has the name and a cell, and a number was left.
+-- A `delete` that was done: the store that the disk held has the name, and its record had its numbers.
 pub record IsDeleted (name : List ℕ) (disk disk_now : DiskView) : Type 0 where
   pub holds : Holds disk disk_now
   pub may : MayDelete name (room_in (Delete name) holds.store)
-  pub number : last_sequence holds.store < 2 ^ 64 - 1
+  pub numbers : HasNumbers (room_in (Delete name) holds.store)
 
 -- what is so of a command that was done, but perhaps for its reply
 abbrev pub IsDone : CommandLine → List ℕ → DiskView → DiskView → Type 0

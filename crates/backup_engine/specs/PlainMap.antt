@@ -34,8 +34,8 @@ CanBeDone (Delete name) given m = is_some (finite.get m.files name) ≡ true
 CanBeDone table.List given m = Unit {0}
 
 -- What refusals go by: whether the name has a file, how many names have one, the last sequence number; and of the disk its
--- size, how many slots are free, the last container id, how many records the journal has, and how long a segment is that
--- is held, by its key.
+-- size, how many slots are free, the last container id, how many records the half of the journal has that counts, its generation, and
+-- how long a segment is that is held, by its key.
 pub record Room : Type 0 where
   pub knows : Bool
   pub names : ℕ
@@ -44,6 +44,7 @@ pub record Room : Type 0 where
   pub free : ℕ
   pub last_id : ℕ
   pub records : ℕ
+  pub generation : ℕ
   pub held : List ℕ → Option ℕ
 
 -- those of a store, by what has a file
@@ -56,6 +57,7 @@ room knows names last store = record {
   free = free_slots store.held;
   last_id = last_id store.held;
   records = length store.records;
+  generation = store.selector.generation;
   held = λ key. option_map (λ c. c.place.length) (newest 0 store.held key);
 }
 
@@ -75,16 +77,25 @@ HasPieces given room = (key : List ℕ) (count : ℕ) → IsPiece given key coun
 abbrev pub LacksPiece : List ℕ → Room → Type 0
 LacksPiece given room = (key : List ℕ) × ((count : ℕ) × IsPiece given key count × (room.held key ≡ None))
 
--- there are as many names as there may be, and this one is new; or the journal has no cell left
+-- there are as many names as there may be, and this one is new
 abbrev pub HasNoRoomForName : Room → Type 0
-HasNoRoomForName room = ((room.knows ≡ false) × (MOST_NAMES ≤ room.names)) ⊎ (half_cells ≤ room.records)
+HasNoRoomForName room = (room.knows ≡ false) × (MOST_NAMES ≤ room.names)
 
--- The file is not too long, each piece of it is held, and the name is good and has a cell.
+-- a record has its numbers: one for itself, and where the half is full one for the generation of a checkpoint
+pub record HasNumbers (room : Room) : Type 0 where
+  pub sequence : room.last < 2 ^ 64 - 1
+  pub generation : half_cells ≤ room.records → room.generation < 2 ^ 64 - 1
+
+-- or one of them can't rise
+abbrev pub LacksNumbers : Room → Type 0
+LacksNumbers room = (room.last ≡ 2 ^ 64 - 1) ⊎ ((half_cells ≤ room.records) × (room.generation ≡ 2 ^ 64 - 1))
+
+-- The file is not too long, each piece of it is held, and the name is good and has room.
 pub record HasAll (name given : List ℕ) (room : Room) : Type 0 where
   pub few : length given ≤ MOST_FILE
   pub pieces : HasPieces given room
   pub named : IsName name
-  pub cell : ¬ (HasNoRoomForName room)
+  pub place : ¬ (HasNoRoomForName room)
 
 -- two different nodes of the file's tree have one SHA-256, so that the pin of one stands in the place of the other's
 abbrev pub HasTwins : List ℕ → List ℕ → Type 0
@@ -103,26 +114,24 @@ RefusesIngest name given room BadName = (length given ≤ MOST_FILE) × HasPiece
 RefusesIngest name given room TooMany = (length given ≤ MOST_FILE) × HasPieces given room × IsName name × HasNoRoomForName room
 RefusesIngest name given room Numbers =
     (LacksPiece given room × (RESERVE < room.free) × (room.last_id ≡ LAST_ID))
-    ⊎ (HasAll name given room × (room.last ≡ 2 ^ 64 - 1))
+    ⊎ (HasAll name given room × LacksNumbers room)
 RefusesIngest name given room refusal = ⊥
 
--- The name has a file, and the journal has a cell left.
+-- The name has a file.
 pub record MayDelete (name : List ℕ) (room : Room) : Type 0 where
   pub named : IsName name
   pub knows : room.knows ≡ true
-  pub cell : room.records < half_cells
 
 abbrev pub RefusesRestore : List ℕ → Room → Refusal → Type 0
 RefusesRestore name room BadName = ¬ (IsName name)
 RefusesRestore name room NoFile = IsName name × (room.knows ≡ false)
 RefusesRestore name room refusal = ⊥
 
--- Why a `delete` is refused, in the order of what is looked at: its name, the name's file, a cell for it, a number for it.
+-- Why a `delete` is refused, in the order of what is looked at: its name, the name's file, numbers for it.
 abbrev pub RefusesDelete : List ℕ → Room → Refusal → Type 0
 RefusesDelete name room BadName = ¬ (IsName name)
 RefusesDelete name room NoFile = IsName name × (room.knows ≡ false)
-RefusesDelete name room TooMany = IsName name × (room.knows ≡ true) × (half_cells ≤ room.records)
-RefusesDelete name room Numbers = MayDelete name room × (room.last ≡ 2 ^ 64 - 1)
+RefusesDelete name room Numbers = MayDelete name room × LacksNumbers room
 RefusesDelete name room refusal = ⊥
 
 abbrev pub RefusesFormat : ℕ → Room → Refusal → Type 0

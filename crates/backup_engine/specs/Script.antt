@@ -147,7 +147,7 @@ pub record KeepsScript (rs : List Replied) (ending : Option Ending) (disk disk_n
   pub caused : IsScriptEnd (IsRunRefusal rs disk disk_now source source_now) ending rs source source_now sink sink_now
   pub wrote : WroteReplies ending rs sink sink_now
   -- And whatever the disk holds, what was written stays.
-  pub frame : LinesKeepOthers disk disk_now
+  pub frame : LinesKeepOthers rs disk disk_now
   -- what was given, and opened, is what the store names
   pub named : IsUnopened ending rs ⊎ GiveWhatIsNamed (WasOpened disk disk_now) (WasShown disk disk_now) rs
   -- no fault is passed over

@@ -58,6 +58,7 @@ impl Stage {
             ["save", name] => self.save(alloc, name)?,
             ["load", name] => self.load(name)?,
             ["again", calls @ ..] => self.again(alloc, numbers_of(alloc, calls)?)?,
+            ["stop", call, fill] => self.stop(alloc, number(call)?, fill)?,
             _ => return Err(Fault::Line),
         }
         Ok(())
@@ -93,6 +94,13 @@ impl Stage {
     // From here on the calls of the disk are counted anew, and these fail.
     fn again(&mut self, alloc: Global, fails: Vec<u64>) -> Result<(), Fault> {
         self.disk = MemDisk::new(self.disk.bytes().to_vec(alloc)?, fails);
+        Ok(())
+    }
+
+    // From here on the disk is what a stop inside a call leaves.
+    fn stop(&mut self, alloc: Global, call: u64, fill: &str) -> Result<(), Fault> {
+        let image = self.image_after(alloc, call, fill_of(fill)?)?;
+        self.show(image);
         Ok(())
     }
 
@@ -156,15 +164,20 @@ impl Stage {
         Ok(bytes)
     }
 
-    // What a chain answers over each image that a stop inside a call of the disk leaves.
-    fn after_stops(&self, rt: &HostRuntime, call: u64, chain: &str) -> Result<String, Fault> {
-        let alloc = rt.alloc();
+    // The image that a stop inside a call of the disk leaves.
+    fn image_after(&self, alloc: Global, call: u64, fill: Fill) -> Result<Vec<u8>, Fault> {
         if call == 0 {
             return Err(Fault::Place);
         }
+        Ok(self.disk.crash_image(alloc, call, fill)?)
+    }
+
+    // What a chain answers over each image that a stop inside a call of the disk leaves.
+    fn after_stops(&self, rt: &HostRuntime, call: u64, chain: &str) -> Result<String, Fault> {
+        let alloc = rt.alloc();
         let mut answers = Vec::new(alloc);
         for (_name, fill) in FILLS {
-            let image = self.disk.crash_image(alloc, call, fill)?;
+            let image = self.image_after(alloc, call, fill)?;
             answers.push(answers_of(rt, &mut disk_of(alloc, image), chain)?)?;
         }
         Ok(by_fill(alloc, &answers).whole()?)
@@ -194,6 +207,16 @@ fn edit_of(alloc: Global, edit: &str) -> Result<(u64, Vec<u8>), Fault> {
     let mut bytes = Vec::new(alloc);
     add_piece(alloc, piece, &mut bytes)?;
     Ok((number(offset)?, bytes))
+}
+
+// The fill of a name.
+fn fill_of(name: &str) -> Result<Fill, Fault> {
+    for (known, fill) in FILLS {
+        if known == name {
+            return Ok(fill);
+        }
+    }
+    Err(Fault::Line)
 }
 
 // `PLACE=BYTE` each: what reads give there.

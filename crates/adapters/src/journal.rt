@@ -1,10 +1,10 @@
-//! Records that are appended without a reading between them, deletes and checkpoints, which no command does yet.
+//! Records and deletes that are appended without a reading between them, and checkpoints without a record: no command does so.
 ghost use Rattle.std.specs.Prelude.{◌≡◌, IsTrue};
 ghost use Rattle.disk_format.specs.Cells.{IsChange};
 ghost use Rattle.namespace.specs.Names.{change_value};
 
 use dd_disk::{Disk, Fill, MemDisk};
-use journal_cells::{CellFault, Journal, scan};
+use journal_cells::{CellFault, Journal, encode_record, scan};
 use namespace::{Change, Names, Record, Root};
 use sha2::{Digest, Sha256};
 use std::alloc::Global;
@@ -94,7 +94,8 @@ fn add<D: Disk>(
     if !is_plain(&value.change) {
         return Err("the record has no spelling".into());
     }
-    Ok(journal.append(alloc, disk, value))
+    let cell = encode_record(alloc, value)?;
+    Ok(journal.append(disk, value, &cell))
 }
 
 /// Appends a record to a disk's journal, and gives it to the names.
@@ -239,38 +240,10 @@ fn make_room<D: Disk>(
     if disk.size() < SIZE as u64 {
         return Err("the disk is too small".into());
     }
-    Ok(journal.checkpoint(alloc, disk, names))
-}
-
-/// A name for each number below 676, in order.
-fn name_of(number: u16) -> [u8; 3] {
-    [
-        b'n',
-        b'a' + (number / 26 % 26) as u8,
-        b'a' + (number % 26) as u8,
-    ]
-}
-
-// The names are put by falling bytes, each of them twice.
-#[test]
-fn a_checkpoint_makes_room(rt: HostRuntime) -> Result<(), Fail> {
-    let alloc = rt.alloc();
-    let mut disk = MemDisk::new(bare(alloc)?, Vec::new(alloc));
-    let (mut journal, mut names) = read(alloc, &mut disk)?;
-    for i in 0..1_024u16 {
-        let value = put(alloc, &name_of(511 - i % 512), u64::from(i) + 1)?;
-        add_both(alloc, &mut disk, &mut journal, &mut names, &value)?;
+    match journal.prepare(alloc, names) {
+        Ok(fresh) => Ok(journal.write_checkpoint(disk, &fresh)),
+        Err(fault) => Ok(Err(fault)),
     }
-    assert_eq!(rt; (journal.count(), journal.last()), (1_024, 1_024));
-    assert!(rt; make_room(alloc, &mut disk, &mut journal, &names)?.is_ok());
-    assert_eq!(rt; (journal.count(), journal.last()), (512, 1_024));
-    let gone = delete(alloc, &name_of(7), 1_025)?;
-    add_both(alloc, &mut disk, &mut journal, &mut names, &gone)?;
-    let (again, left) = read(alloc, &mut disk)?;
-    assert!(rt; journal == again);
-    assert_eq!(rt; (again.count(), left.count()), (513, 511));
-    assert!(rt; are_same(&left.list(alloc)?, &names.list(alloc)?));
-    Ok(())
 }
 
 /// A disk with two names, whose last sequence number is of a name that is gone.

@@ -36,7 +36,7 @@ pub enum Refusal {
     NoFile,
     /// 3: the name isn't 1 to 255 bytes from 0x21 to 0x7E.
     BadName,
-    /// 4: there is no room for one more name, or for one more record.
+    /// 4: there is no room for one more name.
     TooMany,
     /// 5: the file is longer than the store takes.
     TooLong,

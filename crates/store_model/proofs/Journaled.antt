@@ -7,15 +7,14 @@ use Rattle.disk_format.specs.Cells.{RecordValue, SelectorValue}
 use Rattle.merkle_file.specs.Tree.{Tree}
 use Rattle.namespace.specs.Names.{NameMap, names_after}
 use Rattle.store_model.specs.Files.{Files, Command, Put, Delete, files_after}
-use Rattle.store_model.specs.Journal.{HoldsJournal, KnowsOther, ClosedFrom}
 use Rattle.store_model.specs.Slots.{AreHeaders}
 use Rattle.store_model.specs.Image.{Store, Encodes, names_of}
 use Rattle.store_model.specs.Trees.{file_tree, HasNewest, HoldsTree}
-use Rattle.store_model.specs.Standing.{AreFilesOf}
+use Rattle.store_model.specs.Standing.{AreFilesOf, HasJournal}
 use Rattle.store_model.specs.Collisions.{Stands}
 use Rattle.store_model.specs.Steps.{HoldsFor, appended, change_of, name_of}
 use Rattle.store_model.proofs.Copies.{headers_of_right}
-use Rattle.store_model.proofs.Frames.{SameSlots, slots_kept, copies_kept}
+use Rattle.store_model.proofs.Frames.{SameTo, SameSlots, slots_kept, copies_kept, other_kept, journal_kept, closed_kept}
 use Rattle.store_model.proofs.HeldKept.{nodes_kept, among_kept, newest_kept, tree_held, file_held}
 use Rattle.store_model.proofs.NameChanges.{files_changed}
 
@@ -29,11 +28,17 @@ pub record SameButJournal (old new : List ℕ) : Type 0 where
 abbrev pub with_journal : SelectorValue → Bool → List RecordValue → Store → Store
 with_journal selector other_open records store = record store { selector = selector; other_open = other_open; records = records }
 
--- the image has this journal, and no record is open after its own
-pub record HasJournal (selector : SelectorValue) (other_open : Bool) (records : List RecordValue) (image : List ℕ) : Type 0 where
-  pub holds : HoldsJournal image selector records
-  pub other : KnowsOther other_open selector.half image
-  pub past : ClosedFrom selector.half (length records) image
+-- the journal of an image that is of files
+pub journal_in : (S : List ℕ → Type 0) (store : Store) (files : Files) (image : List ℕ) → Stands S store files image → HasJournal store image
+journal_in S store files image is = record { holds = is.holds.right.journal; other = is.holds.right.other; past = is.holds.past }
+
+-- and of one that is as it was before the slots
+pub has_kept : (store : Store) (old new : List ℕ) → SameTo FIRST_SLOT old new → HasJournal store old → HasJournal store new
+has_kept store old new same has = record {
+  holds = journal_kept old new same store.selector store.records has.holds;
+  other = other_kept old new (λ p n within. same p n (omega (arith, within))) store.other_open store.selector.half has.other;
+  past = closed_kept old new same store.selector.half (length store.records) has.holds.selector_is.0.half has.past;
+}
 
 module _ (image new : List ℕ) (store : Store) (right : Encodes image store) (same : SameButJournal image new) where
   slots : SameSlots 0 (length store.held) image new
@@ -51,7 +56,7 @@ module _ (image new : List ℕ) (store : Store) (right : Encodes image store) (s
   tree_on = tree_held store.held store.held image new newest_on
 
   -- what isn't of the journal goes on
-  pub right_where : (selector : SelectorValue) (other_open : Bool) (records : List RecordValue) → HasJournal selector other_open records new
+  pub right_where : (selector : SelectorValue) (other_open : Bool) (records : List RecordValue) → HasJournal (with_journal selector other_open records store) new
       → Encodes new (with_journal selector other_open records store)
   right_where selector other_open records has = record {
     count = right.count;
@@ -77,7 +82,7 @@ module _ (S : List ℕ → Type 0) (image new : List ℕ) (store : Store) (files
   files_on name =
       file_held store.held store.held image new (tree_on image new store encodes same) (finite.get (names_of store) name) (finite.get files name) (is.holds.files_are name)
 
-  pub stands_where : (selector : SelectorValue) (other_open : Bool) (records : List RecordValue) (filed : Files) → HasJournal selector other_open records new
+  pub stands_where : (selector : SelectorValue) (other_open : Bool) (records : List RecordValue) (filed : Files) → HasJournal (with_journal selector other_open records store) new
       → AreFilesOf store.held (names_after records finite.empty) new filed → Stands S (with_journal selector other_open records store) filed new
   stands_where selector other_open records filed has files_are = record {
     holds = record {
@@ -93,7 +98,7 @@ module _ (S : List ℕ → Type 0) (image new : List ℕ) (store : Store) (files
 
   -- the same names: the same files
   pub still_stands : (selector : SelectorValue) (other_open : Bool) (records : List RecordValue) → names_after records finite.empty ≡ names_of store
-      → HasJournal selector other_open records new → Stands S (with_journal selector other_open records store) files new
+      → HasJournal (with_journal selector other_open records store) new → Stands S (with_journal selector other_open records store) files new
   still_stands selector other_open records names has =
       stands_where selector other_open records files has (subst (λ (n : NameMap). AreFilesOf store.held n new files) (sym names) files_on)
 
@@ -105,9 +110,29 @@ module _ (S : List ℕ → Type 0) (image new : List ℕ) (store : Store) (files
   base = with_journal selector is_open records store
 
   pub change_stands : (command : Command) → HoldsFor command store.held image
-      → HasJournal selector is_open (appended (name_of command) (change_of command) base).records new
+      → HasJournal (appended (name_of command) (change_of command) base) new
       → Stands S (appended (name_of command) (change_of command) base) (files_after command files) new
   change_stands command holds has =
       stands_where S image new store files is same selector is_open (appended (name_of command) (change_of command) base).records (files_after command files) has
       (files_changed command new base files (held_for image new store is.holds.right same command holds)
       (subst (λ (n : NameMap). AreFilesOf store.held n new files) (sym names) (files_on S image new store files is same)))
+
+-- ---- what stands on a journal
+
+-- What images of a store have that have its journal, and go on having where the journal alone becomes another of the same names.
+pub record IsAbove (Base : Store → List ℕ → Type 0) : Type 0 where
+  pub journal : (store : Store) (image : List ℕ) → Base store image → HasJournal store image
+  pub still : (store : Store) (old new : List ℕ) → Base store old → SameButJournal old new
+      → (selector : SelectorValue) (other_open : Bool) (records : List RecordValue) → names_after records finite.empty ≡ names_of store
+      → HasJournal (with_journal selector other_open records store) new → Base (with_journal selector other_open records store) new
+
+-- the journal itself
+pub journal_above : IsAbove HasJournal
+journal_above = record { journal = λ store image has. has; still = λ store old new was same selector other_open records names has. has }
+
+-- a store of files
+pub files_above : (S : List ℕ → Type 0) (files : Files) → IsAbove (λ store. Stands S store files)
+files_above S files = record {
+  journal = λ store image is. journal_in S store files image is;
+  still = λ store old new was same selector other_open records names has. still_stands S old new store files was same selector other_open records names has;
+}

@@ -14,7 +14,7 @@ use Rattle.namespace.specs.Names.{NameMap}
 use Rattle.segmenter.specs.Segments.{segments_of}
 use Rattle.store_model.specs.Files.{Files, no_files}
 use Rattle.store_model.specs.Image.{Store, Encodes, AreCopies, empty_store, names_of, last_sequence}
-use Rattle.store_model.specs.Journal.{ClosedFrom}
+use Rattle.store_model.specs.Journal.{HoldsJournal, KnowsOther, ClosedFrom}
 use Rattle.store_model.specs.Slots.{free_slots}
 use Rattle.store_model.specs.Trees.{root_of, file_tree, HoldsTree, IsNodeOf}
 
@@ -48,6 +48,12 @@ AreFilesOf held names image files = (name : List ℕ) → IsFileOf held image (f
 -- what is listed of files: each name with the root of its file, in the order of the names' bytes
 abbrev pub file_listing : Files → List NamedRoot
 file_listing files = map (λ (e : List ℕ × List ℕ). record { name = e.0; root = root_of e.1 }) (finite.entries files)
+
+-- The image has the journal of the store, and no record is open after its own; whatever else it has.
+pub record HasJournal (store : Store) (image : List ℕ) : Type 0 where
+  pub holds : HoldsJournal image store.selector store.records
+  pub other : KnowsOther store.other_open store.selector.half image
+  pub past : ClosedFrom store.selector.half (length store.records) image
 
 -- The image holds this store, and is a store of these files. After its records no record is open, each entry's bytes have
 -- its digest and are of its kind, and two slots or more are closed.

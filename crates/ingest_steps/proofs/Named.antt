@@ -4,7 +4,7 @@ use Rattle.std.specs.FinMap as finite
 use Rattle.std.specs.Cmp.{tied_itself}
 use Rattle.std.specs.Ordering.{is_eq}
 use Rattle.std.specs.Cmp.Lexicographic.{nat_list_cmp_total}
-use Rattle.disk_format.specs.Cells.{Root, Change, RecordValue, IsChange, IsRecord}
+use Rattle.disk_format.specs.Cells.{Root, Change, RecordValue, SelectorValue, IsChange, IsRecord}
 use Rattle.disk_format.specs.Cells.Change.{Delete, Put}
 use Rattle.disk_format.specs.Layout.{half_cells}
 use Rattle.dd_disk.specs.View.{DiskView, OnlyReads}
@@ -12,7 +12,7 @@ use Rattle.dd_disk.specs.Ending.{Ending, Broken, Refused, ending_of}
 use Rattle.dd_disk.specs.Writes.{Writes}
 use Rattle.dd_disk.specs.Moves.{Moves, Way, step}
 use Rattle.dd_disk.proofs.Later.{reads_leave}
-use Rattle.dd_disk.proofs.Moves.{moves_written}
+use Rattle.dd_disk.proofs.Moves.{moves_written, moves_wider}
 use Rattle.container_meta.specs.Places.{PlaceMap}
 use Rattle.namespace.specs.declared.record.Named.{Named}
 use Rattle.namespace.specs.Names.{NameMap, HasPlace, names_changed, names_with}
@@ -21,21 +21,23 @@ use Rattle.journal_cells.specs.Checkpoints.{IsCheckpointed, checkpointed}
 use Rattle.journal_cells.specs.Journal.{JournalValue}
 use Rattle.store_model.specs.Files.{Command, Files, files_after}
 use Rattle.store_model.specs.Journal.{Follow}
-use Rattle.store_model.specs.Image.{Store, Encodes, names_of}
+use Rattle.store_model.specs.Image.{Store, names_of}
 use Rattle.store_model.specs.Collisions.{IsIn, Stands}
-use Rattle.store_model.specs.Steps.{CanChangeName, HoldsFor, appended, change_of, name_of, record_of, with_change, with_checkpoint}
+use Rattle.store_model.specs.Standing.{HasJournal}
+use Rattle.store_model.specs.Steps.{CanChangeName, HoldsFor, appended, change_of, name_of, record_of, with_cell, with_change, with_checkpoint}
 use Rattle.store_model.specs.Steps.{has_cell as store_has_cell}
 use Rattle.store_model.proofs.Cells.{cell_here, cell_anew, names_checkpoint}
+use Rattle.store_model.proofs.Journaled.{SameButJournal, IsAbove, with_journal, journal_above, files_above, held_for, change_stands}
 use Rattle.store_model.proofs.Valid.{valid_change}
 use Rattle.refusals.specs.declared.refusal.Refusal.{Refusal}
 use Rattle.refusals.specs.declared.refusal.Refusal.TheVariants.{Memory, Numbers, DiskWrite}
 use Rattle.store_state.specs.Refused.{blames}
 use Rattle.store_state.specs.declared.tables.Tables.{Tables}
 use Rattle.store_state.specs.Tables.{Represents, RepresentsNames}
-use Rattle.ingest_steps.specs.Naming.{MayChange, MayDelete, MayName, HasNumbers, IsWriteRefusal, IsChanged, record_after_last, tables_with, FilesStandStill, commanding, changing_name, ChangesName}
-use Rattle.ingest_steps.specs.Recording.{FollowsCheckpoint, HasFollowed, RecordsBy, IsRecordedBy, Records, IsRecorded, has_cell}
+use Rattle.ingest_steps.specs.Naming.{MayChange, MayDelete, MayName, HasNumbers, IsWriteRefusal, IsChanged, record_after_last, tables_with, StandsStill, commanding, changing_journal, ChangesName}
+use Rattle.ingest_steps.specs.Recording.{RecordsBy, IsRecordedBy, Records, IsRecorded, has_cell}
 use Rattle.ingest_steps.proofs.Recorded.{count_of_cell, same_cell, checkpoint_told, record_same, names_told}
-use Rattle.ingest_steps.proofs.Renewed.{append_after, append_between, command_after, command_between, checkpoint_after, checkpoint_between, held_after}
+use Rattle.ingest_steps.proofs.Renewed.{alone, append_after, append_between, half_of, checkpoint_after, checkpoint_between}
 
 -- ---- the record
 
@@ -102,160 +104,177 @@ module _ (name : List ℕ) (change : Change) (t : Tables) (may : MayChange t nam
 
 -- ---- the image, by whether a cell is free
 
--- what is so of images before, and after; the files are those of the store
-record IsWay (S : List ℕ → Type 0) (store : Store) (files : Files) (journal : JournalValue) (names : NameMap) (r : RecordValue) (Before After : List ℕ → Type 0) : Type 0 where
-  pub stands : (c : List ℕ) → Before c → Stands S store files c
-  pub here_after : store_has_cell store ≡ true → (given c : List ℕ) → Before given → IsAppended journal r given c → After c
-  pub here_between : store_has_cell store ≡ true → (given d c : List ℕ) → Before given → Before d → Appends journal r given d c → Stands S store files c ⊎ After c
-  pub anew_after : store_has_cell store ≡ false → (given c : List ℕ) → Before given → HasFollowed names journal r given c → After c
-  pub anew_between : store_has_cell store ≡ false → (given c : List ℕ) → Before given → FollowsCheckpoint names journal r given c → Stands S (with_checkpoint store) files c ⊎ After c
+-- What a change of a name makes of what images have above a journal: where they have what it asks, and the record after records
+-- that give the same names.
+record Makes (Base : Store → List ℕ → Type 0) (name : List ℕ) (change : Change) (store : Store) (Asks : List ℕ → Type 0) (After : Store → List ℕ → Type 0) : Type 0 where
+  pub above : IsAbove Base
+  pub asks_still : (given c : List ℕ) → Base store given → SameButJournal given c → Asks given → Asks c
+  pub made : (selector : SelectorValue) (is_open : Bool) (records : List RecordValue) (old new : List ℕ)
+      → Base (with_journal selector is_open records store) old → Asks old → SameButJournal old new
+      → HasJournal (appended name change (with_journal selector is_open records store)) new → After (with_journal selector is_open records store) new
 
-module _ (S : List ℕ → Type 0) (store : Store) (files : Files) (t : Tables) (keeps : RepresentsNames store t) (r : RecordValue) (Before After : List ℕ → Type 0)
-    (is : IsWay S store files t.journal t.names r Before After) where
-  recorded : (free : Bool) → store_has_cell store ≡ free → (given c : List ℕ) → Before given → IsRecordedBy free t.names t.journal r given c → After c
-  recorded true free given c before of = is.here_after free given c before of
-  recorded false full given c before of = is.anew_after full given c before of
+module _ (name : List ℕ) (change : Change) (Base : Store → List ℕ → Type 0) (store : Store) (Asks : List ℕ → Type 0) (After : Store → List ℕ → Type 0)
+    (makes : Makes Base name change store Asks After) (t : Tables) (keeps : RepresentsNames store t) (can : CanChangeName name change store) where
+  abbrev r : RecordValue
+  r = record_after_last t name change
 
-  recording : (free : Bool) → store_has_cell store ≡ free → (given d c : List ℕ) → Before given → Before d → RecordsBy free t.names t.journal r given d c → FilesStandStill S store files c ⊎ After c
-  recording true free given d c before was of = elim (is.here_between free given d c before was of) [
+  abbrev Before : List ℕ → Type 0
+  Before c = Base store c × Asks c
+
+  follow_of : (image : List ℕ) → Base store image → Follow 0 finite.empty store.records
+  follow_of image was = (makes.above.journal store image was).holds.records_are.right
+
+  module _ (free : store_has_cell store ≡ true) where
+    room_here : t.journal.count < half_cells
+    room_here = count_of_cell t.journal (same_cell store t keeps ∙ free)
+
+    -- the record is that of the store as it is
+    r_here : Follow 0 finite.empty store.records → r ≡ record_of name change store
+    r_here follow = record_same store t keeps follow name change ∙ ap (record_of name change) (cell_here store free)
+
+    made_here : (given c : List ℕ) → Before given → SameButJournal given c → HasJournal (appended name change store) c → After (with_cell store) c
+    made_here given c before same has =
+        subst (λ (s : Store). After s c) (sym (cell_here store free))
+        (makes.made store.selector store.other_open store.records given c before.0 before.1 same has)
+
+    after_here : (given c : List ℕ) → Before given → IsAppended t.journal r given c → After (with_cell store) c
+    after_here given c before of =
+        let has = makes.above.journal store given before.0 in
+        let is = r_here (follow_of given before.0) in
+        made_here given c before
+        (alone name change Base makes.above store t.journal t.names keeps room_here r is can.named can.place given c has of.same)
+        (append_after name change Base makes.above store t.journal t.names keeps room_here r is can.named can.place given c has of)
+
+    between_here : (given d c : List ℕ) → Before given → Before d → Appends t.journal r given d c → Base store c ⊎ After (with_cell store) c
+    between_here given d c before was of =
+        elim (append_between name change Base makes.above store t.journal t.names keeps room_here r (r_here (follow_of given before.0)) can.named can.place given d c before.0 was.0 of) [
+          | inl still ↦ inl still
+          | inr with ↦ inr (made_here given c before with.0 with.1)
+        ]
+
+  module _ (full : store_has_cell store ≡ false) where
+    abbrev anew : Store
+    anew = with_checkpoint store
+
+    abbrev journal_anew : JournalValue
+    journal_anew = checkpointed t.names t.journal
+
+    at_anew : (c : List ℕ) → Base anew c → Base (with_cell store) c
+    at_anew c has = subst (λ (s : Store). Base s c) (sym (cell_anew store full)) has
+
+    -- or after a checkpoint
+    r_anew : Follow 0 finite.empty store.records → r ≡ record_of name change anew
+    r_anew follow = record_same store t keeps follow name change ∙ ap (record_of name change) (cell_anew store full)
+
+    place_anew : Follow 0 finite.empty store.records → HasPlace (names_of anew) name change
+    place_anew follow = subst (λ (n : NameMap). HasPlace n name change) (sym (names_checkpoint store follow)) can.place
+
+    made_anew : (mid c : List ℕ) → Base anew mid → Asks mid → SameButJournal mid c → HasJournal (appended name change anew) c → After (with_cell store) c
+    made_anew mid c was asks same has =
+        subst (λ (s : Store). After s c) (sym (cell_anew store full)) (makes.made anew.selector true anew.records mid c was asks same has)
+
+    module _ (given mid : List ℕ) (before : Before given) (is : IsCheckpointed t.journal t.names given mid) where
+      follow : Follow 0 finite.empty store.records
+      follow = follow_of given before.0
+
+      came : Base anew mid
+      came = checkpoint_after Base makes.above store t.journal t.names keeps given mid before.0 is
+
+      asks_mid : Asks mid
+      asks_mid = makes.asks_still given mid before.0 (half_of Base makes.above store t.journal t.names keeps given mid is.same) before.1
+
+      has_mid : HasJournal anew mid
+      has_mid = makes.above.journal anew mid came
+
+      module _ (room : journal_anew.count < half_cells) where
+        after_mid : (c : List ℕ) → IsAppended journal_anew r mid c → After (with_cell store) c
+        after_mid c of = made_anew mid c came asks_mid
+            (alone name change Base makes.above anew journal_anew t.names (checkpoint_told store t keeps follow) room r (r_anew follow) can.named (place_anew follow) mid c has_mid of.same)
+            (append_after name change Base makes.above anew journal_anew t.names (checkpoint_told store t keeps follow) room r (r_anew follow) can.named (place_anew follow) mid c has_mid of)
+
+        between_mid : (c : List ℕ) → Appends journal_anew r mid mid c → Base anew c ⊎ After (with_cell store) c
+        between_mid c of =
+            elim (append_between name change Base makes.above anew journal_anew t.names (checkpoint_told store t keeps follow) room r (r_anew follow) can.named (place_anew follow) mid mid c came came of) [
+              | inl still ↦ inl still
+              | inr with ↦ inr (made_anew mid c came asks_mid with.0 with.1)
+            ]
+
+  recorded : (free : Bool) → store_has_cell store ≡ free → (given c : List ℕ) → Before given → IsRecordedBy free t.names t.journal r given c → After (with_cell store) c
+  recorded true free given c before of = after_here free given c before of
+  recorded false full given c before of = after_mid full given of.mid before of.is of.room c of.appended
+
+  recording : (free : Bool) → store_has_cell store ≡ free → (given d c : List ℕ) → Before given → Before d → RecordsBy free t.names t.journal r given d c
+      → StandsStill Base store c ⊎ After (with_cell store) c
+  recording true free given d c before was of = elim (between_here free given d c before was of) [
     | inl still ↦ inl (inl (store.other_open, still))
     | inr with ↦ inr with
   ]
   recording false full given d c before was (inl of) =
-      elim (checkpoint_between S store files t.journal t.names keeps given d c (is.stands given before) (is.stands d was) of) [
+      elim (checkpoint_between Base makes.above store t.journal t.names keeps given d c before.0 was.0 of) [
         | inl still ↦ inl (inl still)
-        | inr anew ↦ inl (inr (subst (λ (s : Store). Stands S s files c) (sym (cell_anew store full)) anew))
+        | inr has ↦ inl (inr (at_anew full c has))
       ]
-  recording false full given d c before was (inr of) = elim (is.anew_between full given c before of) [
-    | inl anew ↦ inl (inr (subst (λ (s : Store). Stands S s files c) (sym (cell_anew store full)) anew))
+  recording false full given d c before was (inr of) = elim (between_mid full given of.mid before of.is of.room c of.appends) [
+    | inl has ↦ inl (inr (at_anew full c has))
     | inr with ↦ inr with
   ]
 
   -- on a disk
   moves_recorded : (e : Ending) (old new : DiskView) → Writes (Records t.names t.journal r) (IsRecorded t.names t.journal r) e old new
-      → Moves (step Before (λ c. FilesStandStill S store files c ⊎ After c) After) e old new
+      → Moves (step Before (λ c. StandsStill Base store c ⊎ After (with_cell store) c) (After (with_cell store))) e old new
   moves_recorded e old new writes =
       let same : store_has_cell store ≡ has_cell t.journal = sym (same_cell store t keeps) in
-      moves_written Before (λ c. FilesStandStill S store files c ⊎ After c) After (Records t.names t.journal r) (IsRecorded t.names t.journal r) old new
-      (recorded (has_cell t.journal) same) e (λ c before. inl (inl (store.other_open, is.stands c before))) (recording (has_cell t.journal) same) writes
+      moves_written Before (λ c. StandsStill Base store c ⊎ After (with_cell store) c) (After (with_cell store)) (Records t.names t.journal r) (IsRecorded t.names t.journal r) old new
+      (recorded (has_cell t.journal) same) e (λ c before. inl (inl (store.other_open, before.0))) (recording (has_cell t.journal) same) writes
 
-module _ (name : List ℕ) (change : Change) (S : List ℕ → Type 0) (store : Store) (files : Files) (t : Tables) (keeps : RepresentsNames store t)
-    (can : CanChangeName name change store) where
-  abbrev r : RecordValue
-  r = record_after_last t name change
+-- ---- of a journal, and of files
 
-  -- the record is that of the store as it is, or after a checkpoint
-  r_here : store_has_cell store ≡ true → Follow 0 finite.empty store.records → r ≡ record_of name change store
-  r_here free follow = record_same store t keeps follow name change ∙ ap (record_of name change) (cell_here store free)
+-- of the journal alone nothing more is asked
+makes_journal : (name : List ℕ) (change : Change) (store : Store) → Makes HasJournal name change store (λ c. Unit {0}) (λ base. HasJournal (appended name change base))
+makes_journal name change store = record {
+  above = journal_above;
+  asks_still = λ given c was same asks. asks;
+  made = λ selector is_open records old new was asks same has. has;
+}
 
-  r_anew : store_has_cell store ≡ false → Follow 0 finite.empty store.records → r ≡ record_of name change (with_checkpoint store)
-  r_anew full follow = record_same store t keeps follow name change ∙ ap (record_of name change) (cell_anew store full)
+-- of files that each image holds one that a command puts
+makes_files : (S : List ℕ → Type 0) (command : Command) (store : Store) (files : Files)
+    → Makes (λ s. Stands S s files) (name_of command) (change_of command) store (HoldsFor command store.held)
+    (λ base. Stands S (appended (name_of command) (change_of command) base) (files_after command files))
+makes_files S command store files = record {
+  above = files_above S files;
+  asks_still = λ given c was same holds. held_for given c store was.holds.right same command holds;
+  made = λ selector is_open records old new was holds same has.
+      change_stands S old new (with_journal selector is_open records store) files was same selector is_open records refl command holds has;
+}
 
-  place_anew : Follow 0 finite.empty store.records → HasPlace (names_of (with_checkpoint store)) name change
-  place_anew follow = subst (λ (n : NameMap). HasPlace n name change) (sym (names_checkpoint store follow)) can.place
-
-  room_here : store_has_cell store ≡ true → t.journal.count < half_cells
-  room_here free = count_of_cell t.journal (same_cell store t keeps ∙ free)
-
-  follow_of : (image : List ℕ) → Stands S store files image → Follow 0 finite.empty store.records
-  follow_of image is = is.holds.right.journal.records_are.right
-
-  checkpointed_to : (given mid : List ℕ) → Stands S store files given → IsCheckpointed t.journal t.names given mid → Stands S (with_checkpoint store) files mid
-  checkpointed_to given mid is of = checkpoint_after S store files t.journal t.names keeps given mid is of
-
-  -- ---- whatever the change
-
-  encodes_here : store_has_cell store ≡ true → (c : List ℕ) → Encodes c (appended name change store) → Encodes c (with_change name change store)
-  encodes_here free c has = subst (λ (s : Store). Encodes c (appended name change s)) (sym (cell_here store free)) has
-
-  encodes_anew : store_has_cell store ≡ false → (c : List ℕ) → Encodes c (appended name change (with_checkpoint store)) → Encodes c (with_change name change store)
-  encodes_anew full c has = subst (λ (s : Store). Encodes c (appended name change s)) (sym (cell_anew store full)) has
-
-  way_change : IsWay S store files t.journal t.names r (Stands S store files) (λ c. Encodes c (with_change name change store))
-  way_change = record {
-    stands = λ c before. before;
-    here_after = λ free given c before of. encodes_here free c
-        (append_after name change S store files t.journal t.names keeps (room_here free) r (r_here free (follow_of given before)) can.named can.place given c before of);
-    here_between = λ free given d c before was of.
-        elim (append_between name change S store files t.journal t.names keeps (room_here free) r (r_here free (follow_of given before)) can.named can.place given d c before was of) [
-          | inl still ↦ inl still
-          | inr with ↦ inr (encodes_here free c with)
-        ];
-    anew_after = λ full given c before of. let follow = follow_of given before in encodes_anew full c
-        (append_after name change S (with_checkpoint store) files (checkpointed t.names t.journal) t.names (checkpoint_told store t keeps follow) of.room r (r_anew full follow) can.named (place_anew follow)
-        of.mid c (checkpointed_to given of.mid before of.is) of.appended);
-    anew_between = λ full given c before of. let follow = follow_of given before in let mid = checkpointed_to given of.mid before of.is in
-        elim (append_between name change S (with_checkpoint store) files (checkpointed t.names t.journal) t.names (checkpoint_told store t keeps follow) of.room r (r_anew full follow) can.named (place_anew follow)
-        of.mid of.mid c mid mid of.appends) [
-          | inl still ↦ inl still
-          | inr with ↦ inr (encodes_anew full c with)
-        ];
-  }
-
-  pub moves_change : (e : Ending) (old new : DiskView) → Writes (Records t.names t.journal r) (IsRecorded t.names t.journal r) e old new → Moves (changing_name S name change store files) e old new
-  moves_change e old new writes = moves_recorded S store files t keeps r (Stands S store files) (λ c. Encodes c (with_change name change store)) way_change e old new writes
-
--- the same of a command on files
-module _ (command : Command) (S : List ℕ → Type 0) (store : Store) (files : Files) (t : Tables) (keeps : RepresentsNames store t)
-    (can : CanChangeName (name_of command) (change_of command) store) where
-  abbrev name : List ℕ
-  name = name_of command
-
-  abbrev change : Change
-  change = change_of command
-
-  abbrev Before : List ℕ → Type 0
-  Before c = Stands S store files c × HoldsFor command store.held c
-
-  abbrev After : List ℕ → Type 0
-  After = Stands S (with_change (name_of command) (change_of command) store) (files_after command files)
-
-  after_here : store_has_cell store ≡ true → (c : List ℕ) → Stands S (appended name change store) (files_after command files) c → After c
-  after_here free c has = subst (λ (s : Store). Stands S (appended name change s) (files_after command files) c) (sym (cell_here store free)) has
-
-  after_anew : store_has_cell store ≡ false → (c : List ℕ) → Stands S (appended name change (with_checkpoint store)) (files_after command files) c → After c
-  after_anew full c has = subst (λ (s : Store). Stands S (appended name change s) (files_after command files) c) (sym (cell_anew store full)) has
-
-  way_command : IsWay S store files t.journal t.names (record_after_last t name change) Before After
-  way_command = record {
-    stands = λ c before. before.0;
-    here_after = λ free given c before of. after_here free c
-        (command_after name change S store files t.journal t.names keeps (room_here name change S store files t keeps can free) (record_after_last t name change)
-        (r_here name change S store files t keeps can free (follow_of name change S store files t keeps can given before.0)) can.named can.place command refl refl given c before.0 before.1 of);
-    here_between = λ free given d c before was of.
-        elim (command_between name change S store files t.journal t.names keeps (room_here name change S store files t keeps can free) (record_after_last t name change)
-        (r_here name change S store files t keeps can free (follow_of name change S store files t keeps can given before.0)) can.named can.place command refl refl given d c before.0 before.1 was.0 of) [
-          | inl still ↦ inl still
-          | inr with ↦ inr (after_here free c with)
-        ];
-    anew_after = λ full given c before of.
-        let follow = follow_of name change S store files t keeps can given before.0 in
-        let mid = checkpointed_to name change S store files t keeps can given of.mid before.0 of.is in
-        let held = held_after S store files t.journal t.names keeps given of.mid command before.0 of.is before.1 in
-        after_anew full c
-        (command_after name change S (with_checkpoint store) files (checkpointed t.names t.journal) t.names (checkpoint_told store t keeps follow) of.room (record_after_last t name change)
-        (r_anew name change S store files t keeps can full follow) can.named (place_anew name change S store files t keeps can follow) command refl refl of.mid c mid held of.appended);
-    anew_between = λ full given c before of.
-        let follow = follow_of name change S store files t keeps can given before.0 in
-        let mid = checkpointed_to name change S store files t keeps can given of.mid before.0 of.is in
-        let held = held_after S store files t.journal t.names keeps given of.mid command before.0 of.is before.1 in
-        elim (command_between name change S (with_checkpoint store) files (checkpointed t.names t.journal) t.names (checkpoint_told store t keeps follow) of.room (record_after_last t name change)
-        (r_anew name change S store files t keeps can full follow) can.named (place_anew name change S store files t keeps can follow) command refl refl of.mid of.mid c mid held mid of.appends) [
-          | inl still ↦ inl still
-          | inr with ↦ inr (after_anew full c with)
-        ];
-  }
-
-  pub moves_command : (e : Ending) (old new : DiskView)
-      → Writes (Records t.names t.journal (record_after_last t (name_of command) (change_of command))) (IsRecorded t.names t.journal (record_after_last t (name_of command) (change_of command))) e old new
-      → Moves (commanding S command store files) e old new
-  moves_command e old new writes = moves_recorded S store files t keeps (record_after_last t name change) Before After way_command e old new writes
-
--- ---- both
+-- an image on the way
+pub journal_between : (name : List ℕ) (change : Change) (store : Store) (t : Tables) → RepresentsNames store t → CanChangeName name change store → (given d c : List ℕ)
+    → HasJournal store given → HasJournal store d → Records t.names t.journal (record_after_last t name change) given d c
+    → StandsStill HasJournal store c ⊎ HasJournal (with_change name change store) c
+journal_between name change store t keeps can given d c has was of =
+    recording name change HasJournal store (λ c. Unit {0}) (λ base. HasJournal (appended name change base)) (makes_journal name change store) t keeps can (has_cell t.journal) (sym (same_cell store t keeps))
+    given d c (has, tt) (was, tt) of
 
 module _ (t : Tables) (e : Ending) (old new : DiskView) where
   abbrev Written : List ℕ → Change → Type 0
   Written name change = Writes (Records t.names t.journal (record_after_last t name change)) (IsRecorded t.names t.journal (record_after_last t name change)) e old new
+
+  moves_journal : (name : List ℕ) (change : Change) (store : Store) → RepresentsNames store t → CanChangeName name change store → Written name change
+      → Moves (changing_journal name change store) e old new
+  moves_journal name change store keeps can written =
+      let Asks = λ (c : List ℕ). Unit {0} in
+      let After = λ (base : Store). HasJournal (appended name change base) in
+      let first = step (λ c. HasJournal store c × Unit {0}) (λ c. StandsStill HasJournal store c ⊎ HasJournal (with_change name change store) c) (HasJournal (with_change name change store)) in
+      moves_wider first (changing_journal name change store) old new
+      (record { before = λ c has. (has, tt); between = λ c has. has; rest = λ c has. has }) (λ c has. has) e
+      (moves_recorded name change HasJournal store Asks After (makes_journal name change store) t keeps can e old new written)
+
+  moves_command : (command : Command) (S : List ℕ → Type 0) (store : Store) (files : Files) → RepresentsNames store t → CanChangeName (name_of command) (change_of command) store
+      → Written (name_of command) (change_of command) → Moves (commanding S command store files) e old new
+  moves_command command S store files keeps can written =
+      moves_recorded (name_of command) (change_of command) (λ s. Stands S s files) store (HoldsFor command store.held)
+      (λ base. Stands S (appended (name_of command) (change_of command) base) (files_after command files)) (makes_files S command store files) t keeps can e old new written
 
   pub changes_name : (name : List ℕ) (change : Change) (r : RecordValue) → r ≡ record_after_last t name change → MayChange t name change → HasNumbers t
       → Writes (Records t.names t.journal r) (IsRecorded t.names t.journal r) e old new → ChangesName t name change e old new
@@ -266,9 +285,9 @@ module _ (t : Tables) (e : Ending) (old new : DiskView) where
             let can = can_change name change t may numbers store keeps in
             let can_command = subst (λ (n : List ℕ). CanChangeName n (change_of command) store) name_is
             (subst (λ (x : Change). CanChangeName name x store) change_is can) in
-            moves_command command (IsIn among) store files t keeps can_command e old new
+            moves_command command (IsIn among) store files keeps can_command
             (subst (λ (n : List ℕ). Written n (change_of command)) name_is (subst (λ (x : Change). Written name x) change_is written));
-        keeps = λ among store files keeps. moves_change name change (IsIn among) store files t keeps (can_change name change t may numbers store keeps) e old new written;
+        journal = λ store keeps. moves_journal name change store keeps (can_change name change t may numbers store keeps) written;
       }
 
 -- a way of which nothing was written
@@ -279,7 +298,7 @@ reads_name : (t : Tables) (name : List ℕ) (change : Change) (old new : DiskVie
 reads_name t name change old new reads = record {
   moves = λ among store files command keeps name_is change_is.
       moves_reads (commanding (IsIn among) command store files) old new (λ c before. inl (inl (store.other_open, before.0))) reads;
-  keeps = λ among store files keeps. moves_reads (changing_name (IsIn among) name change store files) old new (λ c before. inl (inl (store.other_open, before))) reads;
+  journal = λ store keeps. moves_reads (changing_journal name change store) old new (λ c has. inl (inl (store.other_open, has))) reads;
 }
 
 -- it was refused: before the first write, or a write or a sync failed

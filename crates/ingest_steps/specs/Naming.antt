@@ -3,7 +3,8 @@ use Rattle.std.specs.Prelude.{◌≡◌, ◌⊎◌, ℕ, suc, ◌-◌, ◌^◌, 
 use Rattle.std.specs.FinMap as finite
 use Rattle.disk_format.specs.Cells.{Change, RecordValue, IsName, IsChange}
 use Rattle.disk_format.specs.Cells.Change.{Delete}
-use Rattle.dd_disk.specs.View.{DiskView}
+use Rattle.base_model.specs.Known.{Known, KnownWith}
+use Rattle.dd_disk.specs.View.{DiskView, IsDurable, CrashLeaves, SteppedFrom}
 use Rattle.dd_disk.specs.Ending.{Ending}
 use Rattle.dd_disk.specs.Moves.{Way, step, Moves}
 use Rattle.container_meta.specs.Places.{PlaceMap}
@@ -12,13 +13,14 @@ use Rattle.journal_cells.specs.Journal.{with_record}
 use Rattle.refusals.specs.declared.refusal.Refusal.{Refusal}
 use Rattle.refusals.specs.declared.refusal.Refusal.TheVariants.{Memory, NoFile, BadName, TooMany, Numbers, DiskWrite}
 use Rattle.store_model.specs.Files.{Command, Files, files_after}
-use Rattle.store_model.specs.Image.{Store, Encodes}
+use Rattle.store_model.specs.Image.{Store}
 use Rattle.store_model.specs.Journal.{Follow}
 use Rattle.store_model.specs.Collisions.{ByteSet, IsIn, Stands}
+use Rattle.store_model.specs.Standing.{HasJournal}
 use Rattle.store_model.specs.Steps.{CanChangeName, HoldsFor, change_of, name_of, with_cell, with_change, with_other}
 use Rattle.store_state.specs.declared.tables.Tables.{Tables}
 use Rattle.store_state.specs.Tables.{Represents, RepresentsNames, Runs}
-use Rattle.ingest_steps.specs.Recording.{IsHalfFull, journal_with_cell}
+use Rattle.ingest_steps.specs.Recording.{IsHalfFull, SameButRecord, journal_with_cell}
 
 -- ---- when
 
@@ -113,10 +115,21 @@ pub record IsDeleted (old : Tables) (name : List ℕ) (new : Tables) (sequence :
 
 -- ---- what the disk stands for, on the way
 
--- The names, the last sequence number and the files stand still: the store, whatever the gate of its other selector; or the store
--- with a free cell, after a checkpoint where it had none.
+-- What images have of a store stands still: of it, whatever the gate of its other selector; or of the store with a free cell, after
+-- a checkpoint where it had none.
+abbrev pub StandsStill : (Store → List ℕ → Type 0) → Store → List ℕ → Type 0
+StandsStill Base store c = ((is_open : Bool) × Base (with_other is_open store) c) ⊎ Base (with_cell store) c
+
+-- the names, the last sequence number and the files
 abbrev pub FilesStandStill : (List ℕ → Type 0) → Store → Files → List ℕ → Type 0
-FilesStandStill S store files c = ((is_open : Bool) × Stands S (with_other is_open store) files c) ⊎ Stands S (with_cell store) files c
+FilesStandStill S store files = StandsStill (λ s. Stands S s files) store
+
+-- the journal of the store, or that with a change, whatever else the image has and whatever root is given
+abbrev pub changing_journal : List ℕ → Change → Store → Way
+changing_journal name change store = step
+    (HasJournal store)
+    (λ c. StandsStill HasJournal store c ⊎ HasJournal (with_change name change store) c)
+    (HasJournal (with_change name change store))
 
 -- the store of these files, where a file that the command puts is held; or that after the command
 abbrev pub commanding : (List ℕ → Type 0) → Command → Store → Files → Way
@@ -125,19 +138,26 @@ commanding S command store files = step
     (λ c. FilesStandStill S store files c ⊎ Stands S (with_change (name_of command) (change_of command) store) (files_after command files) c)
     (Stands S (with_change (name_of command) (change_of command) store) (files_after command files))
 
--- the store of these files, or that with a change, whatever root it gives
-abbrev pub changing_name : (List ℕ → Type 0) → List ℕ → Change → Store → Files → Way
-changing_name S name change store files = step
-    (Stands S store files)
-    (λ c. FilesStandStill S store files c ⊎ Encodes c (with_change name change store))
-    (λ c. Encodes c (with_change name change store))
-
 -- A name is changed: of each store that the tables represent, and of any files.
 pub record ChangesName (t : Tables) (name : List ℕ) (change : Change) (ending : Ending) (old new : DiskView) : Type 0 where
   -- where that is a command on files, of which each image holds one that is put
   pub moves : (among : ByteSet) (store : Store) (files : Files) (command : Command) → RepresentsNames store t
       → name ≡ name_of command → change ≡ change_of command
       → Moves (commanding (IsIn among) command store files) ending old new
-  -- and of every change, a delete too, and one that gives a root which is of no file
-  pub keeps : (among : ByteSet) (store : Store) (files : Files) → RepresentsNames store t
-      → Moves (changing_name (IsIn among) name change store files) ending old new
+  -- and of every change of an image that has the journal of such a store, whatever its containers hold
+  pub journal : (store : Store) → RepresentsNames store t → Moves (changing_journal name change store) ending old new
+
+-- What it leaves of an image, at any moment: all is as it was but for the bytes of a record; and where the content and this image had
+-- the journal of such a store, it stands still, or is that with the change.
+pub record ChangesBytes (t : Tables) (name : List ℕ) (change : Change) (given old new : List ℕ) : Type 0 where
+  pub same : SameButRecord t.journal old new
+  pub journal : (store : Store) → RepresentsNames store t → HasJournal store given → HasJournal store old
+      → StandsStill HasJournal store new ⊎ HasJournal (with_change name change store) new
+
+-- Nothing else changes, whatever the disk holds.
+pub record ChangesJournalAlone (t : Tables) (name : List ℕ) (change : Change) (old new : DiskView) : Type 0 where
+  -- At any moment a crash leaves an image from before, or one that was changed so.
+  pub leaves : Known old.content (λ given. CrashLeaves (SteppedFrom (ChangesBytes t name change given) old) old new)
+  -- Of a disk that was synced reads give, and a crash leaves, what they gave, but so changed.
+  pub synced : IsDurable old → Known old.content (λ given.
+      KnownWith new.content (ChangesBytes t name change given given) × CrashLeaves (ChangesBytes t name change given given) old new)

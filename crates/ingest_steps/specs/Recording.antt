@@ -2,7 +2,7 @@
 use Rattle.std.specs.Prelude.{◌⊎◌, ℕ, ◌-◌, ◌<◌, ◌≤◌, Bool, true, false, nat_lt, if◌then◌else◌, List, Option, Some, None}
 use Rattle.disk_format.specs.Cells.{RecordValue}
 use Rattle.disk_format.specs.Layout.{half_cells}
-use Rattle.dd_disk.specs.View.{DiskView, IsDurable, CrashLeaves, SteppedFrom}
+use Rattle.dd_disk.specs.View.{DiskView}
 use Rattle.base_model.specs.Known.{Known, KnownWith}
 use Rattle.namespace.specs.Names.{NameMap}
 use Rattle.journal_cells.specs.declared.checkpoint.FreshHalf.{FreshHalf}
@@ -71,14 +71,6 @@ SameButRecordBy false journal old new = SameButHalf (1 - journal.half) old new
 
 abbrev pub SameButRecord : JournalValue → List ℕ → List ℕ → Type 0
 SameButRecord journal = SameButRecordBy (has_cell journal) journal
-
--- Nothing else changes, whatever the disk holds.
-pub record ChangesJournalAlone (journal : JournalValue) (old new : DiskView) : Type 0 where
-  -- At any moment a crash leaves an image from before, or one but for these bytes.
-  pub leaves : Known old.content (λ given. CrashLeaves (SteppedFrom (SameButRecord journal) old) old new)
-  -- Of a disk that was synced reads give, and a crash leaves, what they gave, but for these bytes.
-  pub synced : IsDurable old → Known old.content (λ given.
-      KnownWith new.content (SameButRecord journal given) × CrashLeaves (SameButRecord journal given) old new)
 
 -- where it is done, the content is as before but for these bytes
 abbrev pub KeepsButRecord : JournalValue → DiskView → DiskView → Type 0

@@ -12,8 +12,8 @@ ghost use Rattle.refusals.specs.declared.refusal.Refusal.TheVariants.{DiskWrite,
 ghost use Rattle.store_state.specs.Refused.{blames};
 ghost use Rattle.ingest_steps.specs.Naming.{MayChange, MayName, IsNameRefusal, MayDelete, MayNotDelete};
 ghost use Rattle.ingest_steps.specs.Naming.{IsAppendRefusal, IsDeleteRefusal, IsWriteRefusal, tables_with};
-ghost use Rattle.ingest_steps.specs.Naming.{IsChanged, IsDeleted, ChangesName};
-ghost use Rattle.ingest_steps.specs.Recording.{IsCellFor, IsHalfFull, Records, IsRecorded, ChangesJournalAlone, KeepsButRecord};
+ghost use Rattle.ingest_steps.specs.Naming.{IsChanged, IsDeleted, ChangesName, ChangesJournalAlone};
+ghost use Rattle.ingest_steps.specs.Recording.{IsCellFor, IsHalfFull, Records, IsRecorded, KeepsButRecord};
 
 use crate::recording::{prepare_cell, write_prepared};
 use dd_disk::Disk;
@@ -179,7 +179,7 @@ fn change_name<D: Disk>(
     ensures durable { OnOk result (IsDurable (D.view disk.new)) }
     ensures disk { Acts (ending blames result) (D.view disk.old) (D.view disk.new) }
     ensures moves { ChangesName tables.old name.now (change_value change) (ending blames result) (D.view disk.old) (D.view disk.new) }
-    ensures frame { ChangesJournalAlone tables.old.journal (D.view disk.old) (D.view disk.new) }
+    ensures frame { ChangesJournalAlone tables.old name.now (change_value change) (D.view disk.old) (D.view disk.new) }
     ensures same { OnOk result (KeepsButRecord tables.old.journal (D.view disk.old) (D.view disk.new)) }
 {
     let number = next_number(&tables.journal)?;
@@ -210,7 +210,7 @@ pub fn put_root<D: Disk>(
     ensures durable { OnOk result (IsDurable (D.view disk.new)) }
     ensures disk { Acts (ending blames result) (D.view disk.old) (D.view disk.new) }
     ensures moves { ChangesName tables.old name.now (Put root.now) (ending blames result) (D.view disk.old) (D.view disk.new) }
-    ensures frame { ChangesJournalAlone tables.old.journal (D.view disk.old) (D.view disk.new) }
+    ensures frame { ChangesJournalAlone tables.old name.now (Put root.now) (D.view disk.old) (D.view disk.new) }
     ensures same { OnOk result (KeepsButRecord tables.old.journal (D.view disk.old) (D.view disk.new)) }
 {
     change_name(alloc, disk, tables, name, Change::Put(*root))
@@ -235,7 +235,7 @@ pub fn delete<D: Disk>(
     ensures durable { OnOk result (IsDurable (D.view disk.new)) }
     ensures disk { Acts (ending blames result) (D.view disk.old) (D.view disk.new) }
     ensures moves { ChangesName tables.old name.now Delete (ending blames result) (D.view disk.old) (D.view disk.new) }
-    ensures frame { ChangesJournalAlone tables.old.journal (D.view disk.old) (D.view disk.new) }
+    ensures frame { ChangesJournalAlone tables.old name.now Delete (D.view disk.old) (D.view disk.new) }
     ensures same { OnOk result (KeepsButRecord tables.old.journal (D.view disk.old) (D.view disk.new)) }
 {
     may_delete(tables, name)?;

@@ -14,8 +14,8 @@ ghost use Rattle.refusals.specs.declared.refusal.Refusal.TheVariants.{Unpinned};
 ghost use Rattle.store_model.specs.Refusals.{root_key as key_of_root};
 ghost use Rattle.store_state.specs.Refused.{blames};
 ghost use Rattle.disk_format.specs.Cells.Change.{Put};
-ghost use Rattle.ingest_steps.specs.Naming.{ChangesName};
-ghost use Rattle.ingest_steps.specs.Recording.{ChangesJournalAlone, KeepsButRecord};
+ghost use Rattle.ingest_steps.specs.Naming.{ChangesName, ChangesJournalAlone};
+ghost use Rattle.ingest_steps.specs.Recording.{KeepsButRecord};
 ghost use Rattle.ingest_steps.specs.Writers.{IsWrongPart, empty_root, IsStored, IsNotStored};
 ghost use Rattle.ingest_steps.specs.Writers.{MayCommit, IsUncommitted, IsCommitRefusal, IsCommitted};
 
@@ -134,7 +134,7 @@ pub fn commit<D: Disk>(
     ensures durable { OnOk result (IsDurable (D.view disk.new)) }
     ensures disk { Acts (ending blames result) (D.view disk.old) (D.view disk.new) }
     ensures moves { ChangesName tables.old name.now (Put root.now) (ending blames result) (D.view disk.old) (D.view disk.new) }
-    ensures frame { ChangesJournalAlone tables.old.journal (D.view disk.old) (D.view disk.new) }
+    ensures frame { ChangesJournalAlone tables.old name.now (Put root.now) (D.view disk.old) (D.view disk.new) }
     ensures same { OnOk result (KeepsButRecord tables.old.journal (D.view disk.old) (D.view disk.new)) }
 {
     may_commit(tables, parts.part(actor), name, root)?;

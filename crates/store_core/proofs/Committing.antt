@@ -16,8 +16,8 @@ use Rattle.store_model.proofs.Journaled.{newest_on}
 use Rattle.store_model.proofs.Valid.{valid_change}
 use Rattle.store_state.specs.declared.tables.Tables.{Tables}
 use Rattle.store_state.specs.Tables.{Represents, Runs}
-use Rattle.ingest_steps.specs.Naming.{IsChanged, IsDeleted, ChangesName}
-use Rattle.ingest_steps.specs.Recording.{KeepsButRecord, ChangesJournalAlone}
+use Rattle.ingest_steps.specs.Naming.{IsChanged, IsDeleted, ChangesName, ChangesJournalAlone}
+use Rattle.ingest_steps.specs.Recording.{KeepsButRecord}
 use Rattle.ingest_steps.proofs.RecordFrames.{record_alone}
 use Rattle.ingest_steps.specs.Writers.{IsCommitted}
 use Rattle.read_steps.specs.Readers as readers
@@ -48,7 +48,7 @@ module _ (old new : CoreState) (name : List ℕ) (change : Change) (sequence : �
 -- of the disk and of the tables, by either
 change_effect : (name : List ℕ) (change : Change) (sequence : ℕ) (answer : Answer) (old new : CoreState) → IsChanged old.tables name change new.tables sequence
     → Acts Done old.disk new.disk → ChangesName old.tables name change Done old.disk new.disk → KeepsButRecord old.tables.journal old.disk new.disk
-    → ChangesJournalAlone old.tables.journal old.disk new.disk → IsDurable new.disk → new.known ≡ old.known → NamesOne name change (Ok answer) old new
+    → ChangesJournalAlone old.tables name change old.disk new.disk → IsDurable new.disk → new.known ≡ old.known → NamesOne name change (Ok answer) old new
 change_effect name change sequence answer old new changed acts moves keeps frame durable index = record {
   disk = acts;
   moves = moves;
@@ -60,7 +60,7 @@ change_effect name change sequence answer old new changed acts moves keeps frame
 }
 
 pub made_put : (name : List ℕ) (root : Root) (actor sequence : ℕ) (buf : List ℕ) (old new : CoreState) → IsCommitted old.parts actor old.tables name root new.parts new.tables sequence → Acts Done old.disk new.disk
-    → ChangesName old.tables name (Put root) Done old.disk new.disk → KeepsButRecord old.tables.journal old.disk new.disk → ChangesJournalAlone old.tables.journal old.disk new.disk → IsDurable new.disk → new.known ≡ old.known → (old.served → new.served)
+    → ChangesName old.tables name (Put root) Done old.disk new.disk → KeepsButRecord old.tables.journal old.disk new.disk → ChangesJournalAlone old.tables name (Put root) old.disk new.disk → IsDurable new.disk → new.known ≡ old.known → (old.served → new.served)
     → Made (asked.Commit name root) actor (Ok (answers.Committed sequence)) buf old new
 made_put name root actor sequence buf old new committed acts moves keeps frame durable index served = record {
   row = (committed.may, committed.named.number, committed.parts_are, ap (λ (t : Tables). t.held.last_id) committed.named.tables_are);
@@ -69,7 +69,7 @@ made_put name root actor sequence buf old new committed acts moves keeps frame d
 }
 
 pub made_delete : (name : List ℕ) (actor sequence : ℕ) (buf : List ℕ) (old new : CoreState) → IsDeleted old.tables name new.tables sequence → new.parts ≡ old.parts → Acts Done old.disk new.disk
-    → ChangesName old.tables name Delete Done old.disk new.disk → KeepsButRecord old.tables.journal old.disk new.disk → ChangesJournalAlone old.tables.journal old.disk new.disk → IsDurable new.disk → new.known ≡ old.known → (old.served → new.served)
+    → ChangesName old.tables name Delete Done old.disk new.disk → KeepsButRecord old.tables.journal old.disk new.disk → ChangesJournalAlone old.tables name Delete old.disk new.disk → IsDurable new.disk → new.known ≡ old.known → (old.served → new.served)
     → Made (asked.Delete name) actor (Ok (answers.Deleted sequence)) buf old new
 made_delete name actor sequence buf old new deleted parts acts moves keeps frame durable index served = record {
   row = (deleted.may, deleted.changed.number, parts, ap (λ (t : Tables). t.held.last_id) deleted.changed.tables_are);

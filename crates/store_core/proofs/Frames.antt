@@ -10,9 +10,11 @@ use Rattle.disk_format.specs.Cells.{Change, SelectorValue}
 use Rattle.disk_format.specs.Cells.Change.{Delete, Put}
 use Rattle.disk_format.specs.Layout.{half_cells, cell_at, slot_at}
 use Rattle.dd_disk.specs.Ending.{ending_of}
-use Rattle.dd_disk.specs.View.{IsLater, OnlyReads, CrashLeaves, SteppedFrom}
+use Rattle.dd_disk.specs.View.{DiskView, IsLater, OnlyReads, CrashLeaves, SteppedFrom}
+use Rattle.dd_disk.specs.Moves.{StandsFor}
 use Rattle.dd_disk.specs.Writes.{Both}
 use Rattle.dd_disk.proofs.Later.{reads_here, reads_leave, leaves_on, leaves_weaker}
+use Rattle.dd_disk.proofs.Moves.{stands_content, stands_weaker}
 use Rattle.container_meta.specs.Places.{PlaceMap}
 use Rattle.container_meta.specs.Segments.{Contents}
 use Rattle.container_meta.specs.Spelling.{HeaderValue, header_of}
@@ -28,16 +30,19 @@ use Rattle.refusals.specs.declared.refusal.Refusal.TheVariants as refusals
 use Rattle.store_model.specs.Files.{Stored}
 use Rattle.store_model.specs.Image.{Store, IsValidFor}
 use Rattle.store_model.specs.Slots.{free_slots, first_free, with_slot}
+use Rattle.store_model.specs.Standing.{HasJournal}
 use Rattle.store_model.specs.Steps.{HasCellsFor, StoreChange, SealContainer, ChangeName, appended, changed, record_of, with_change}
 use Rattle.store_model.specs.Steps.{has_cell as store_has_cell}
 use Rattle.store_model.proofs.Cells.{cell_here, cell_anew, with_cell_is}
 use Rattle.store_model.proofs.Filled.{free_less}
-use Rattle.store_model.proofs.Journaled.{SameButJournal}
+use Rattle.store_model.proofs.Frames.{SameTo}
+use Rattle.store_model.proofs.Journaled.{SameButJournal, has_kept}
 use Rattle.store_state.specs.declared.tables.Tables.{Tables}
 use Rattle.store_state.specs.Refused.{blames}
 use Rattle.store_state.specs.Settled.{IsSettled, Left}
 use Rattle.store_state.specs.Tables.{Represents}
 use Rattle.ingest_steps.specs.Sealing.{ChangesSlotAlone, SameButSlotOf}
+use Rattle.ingest_steps.specs.Naming.{ChangesBytes}
 use Rattle.ingest_steps.specs.Recording.{SameButRecord, SameButRecordBy, has_cell}
 use Rattle.ingest_steps.proofs.Recorded.{count_of_cell, same_cell}
 use Rattle.ingest_steps.proofs.RecordFrames.{record_alone}
@@ -233,6 +238,14 @@ record IsFramed (s : Store) (base : List ℕ) (t : Store) (c : CoreState) : Type
   pub more : t.selector ≡ s.selector → length s.records ≤ length t.records
   pub held : (slot : ℕ) (h : HeaderValue) → slice_get s.held slot ≡ Some (Some h) → slice_get t.held slot ≡ Some (Some h)
   pub content : KnownWith c.disk.content (AddsBytes s t base)
+  pub journal : HasJournal s base → StandsFor (HasJournal t) c.disk
+
+-- each image of a settled disk has the journal of its content
+has_settled : (t : Store) (v : DiskView) (slots : ℕ) (bytes : List ℕ) → v.content ≡ Some bytes → IsSettled slots v → HasJournal t bytes → StandsFor (HasJournal t) v
+has_settled t v slots bytes told calm has = record {
+  known = (bytes, told);
+  each = λ c image. has_kept t bytes c (λ p n within. (calm bytes told c image).before p n (omega (arith, within))) has;
+}
 
 -- where a step leads
 record Leads (s : Store) (base : List ℕ) (changes : List StoreChange) (t : Store) (c : CoreState) : Type 0 where
@@ -269,6 +282,14 @@ module _ (s : Store) (base : List ℕ) (t : Store) (old new : CoreState) (framed
 
   settled : IsSettled s.slots old.disk
   settled = subst (λ (n : ℕ). IsSettled n old.disk) tables_slots framed.on.settled
+
+  -- the journal of the content
+  given_has : HasJournal s base → HasJournal t given
+  given_has has = stands_content (HasJournal t) old.disk (framed.journal has) given known
+
+  -- a content of the same cells before the slots, of a settled disk
+  has_still : (bytes : List ℕ) → new.disk.content ≡ Some bytes → IsSettled old.tables.slots new.disk → SameTo FIRST_SLOT given bytes → HasJournal s base → StandsFor (HasJournal t) new.disk
+  has_still bytes told calm same has = has_settled t new.disk old.tables.slots bytes told calm (has_kept t given bytes same (given_has has))
 
   -- each image is the content, in what counts
   image_adds : (c : List ℕ) → old.disk.images c → AddsBytes s t base c
@@ -333,10 +354,10 @@ module _ (s : Store) (base : List ℕ) (t : Store) (old new : CoreState) (framed
 
     by_name : (name : List ℕ) (change : Change) (answer : Result Answer Refusal) → 1 ≤ left → NamesOne name change answer old new → CrashLeaves Written old.disk new.disk
     by_name name change answer some_left effect =
-        leaves_weaker (SteppedFrom SameButOne old.disk) Written old.disk new.disk
+        leaves_weaker (SteppedFrom (ChangesBytes old.tables name change given) old.disk) Written old.disk new.disk
         (λ c from. elim from [
           | inl image ↦ image_written c image
-          | inr step ↦ record_written some_left step.0 c (image_written step.0 step.1) step.2
+          | inr step ↦ record_written some_left step.0 c (image_written step.0 step.1) step.2.same
         ]) (effect.frame.leaves given known)
 
     by_effect : (step : StepValue) (answer : Result Answer Refusal) → commands_of step ≤ left → Effect step answer old new → CrashLeaves Written old.disk new.disk
@@ -386,6 +407,7 @@ module _ (s : Store) (base : List ℕ) (t : Store) (old new : CoreState) (framed
             more = framed.more;
             held = framed.held;
             content = (counts.0, counts.1, keeps_counted s base (length t.records) Still Same given framed.content.2 counts.0 counts.2);
+            journal = has_still counts.0 counts.1 calm (λ p n within. counts.2.before p n (omega (arith, within)));
           };
           fits = λ count more fits. fits_fewer s count t (names_in [] + more) more (omega arith) fits;
         }
@@ -448,6 +470,8 @@ module _ (s : Store) (base : List ℕ) (t : Store) (old new : CoreState) (framed
                   (keeps_fewer s base (length t.records) Still Same given framed.content.2 (length t.records) Still (Now h) (λ so. (so, omega arith)) (λ slot now. sym (other_with slot h t.held (now_other h slot now)) ∙ now))
                   place left.0 (now_other h) left.2,
             );
+            journal = λ has. stands_weaker (HasJournal t) (HasJournal (changed change t)) new.disk (λ c so. record { holds = so.holds; other = so.other; past = so.past })
+                (has_still left.0 left.1 calm (λ p n within. left.2.before p n (omega (arith, within))) has);
           };
           fits = λ count more fits. fits_fewer s count t (names_in (change ∷ []) + more) more (omega arith) fits;
         } in
@@ -479,9 +503,9 @@ module _ (s : Store) (base : List ℕ) (t : Store) (old new : CoreState) (framed
           let made = effect.made in
           let represents = made.represents.store_has t framed.on.represents framed.on.valid framed.on.reserve in
           let now = effect.disk.later.tells given known in
-          let at_end = λ (c : List ℕ) (from : SteppedFrom SameButOne old.disk c). elim from as (λ _. AddsBytes s later_store base c) [
+          let at_end = λ (c : List ℕ) (from : SteppedFrom (ChangesBytes old.tables name change given) old.disk c). elim from as (λ _. AddsBytes s later_store base c) [
             | inl image ↦ image_more c image
-            | inr step ↦ record_adds step.0 c (image_adds step.0 step.1) step.2
+            | inr step ↦ record_adds step.0 c (image_adds step.0 step.1) step.2.same
           ] in
           record {
             after = later_store;
@@ -498,6 +522,7 @@ module _ (s : Store) (base : List ℕ) (t : Store) (old new : CoreState) (framed
               more = λ so. let grown = along so in omega (arith, framed.more grown.1, grown.0.longer);
               held = framed.held;
               content = (now.0, now.1, at_end now.0 ((effect.frame.leaves given known).now now.0 (new.disk.as_read now.0 now.1)));
+              journal = λ has. (effect.moves.journal t framed.on.represents.names_are (framed.journal has)).arrives;
             };
             fits = λ count more fits. fits_changed name change t s count more (fits_fewer s count t (names_in (ChangeName name change ∷ []) + more) (suc more) (omega arith) fits);
           }
@@ -585,6 +610,7 @@ begins s base c on told = record {
   more = λ so. omega arith;
   held = λ slot h is. is;
   content = (base, told, keeps_here s base (length s.records) (s.selector ≡ s.selector) (λ slot. slice_get s.held slot ≡ slice_get s.held slot));
+  journal = has_settled s c.disk c.tables.slots base told on.settled;
 }
 
 -- a core that is at a store is on it
@@ -600,7 +626,7 @@ module _ (C : Type 0) (state : C → CoreState) where
   pub adds_alone : AddsAlone C state
   adds_alone steps s base old new on told run stays =
       let end = run_leads C state s base steps s old new (begins s base (state old) on told) run stays in
-      record { store = end.after; chain = end.chain; on = end.framed.on; held = end.framed.held; content = end.framed.content }
+      record { store = end.after; chain = end.chain; on = end.framed.on; held = end.framed.held; content = end.framed.content; journal = end.framed.journal }
 
   pub written_stays : WrittenStays C state
   written_stays events s base old new on told run =

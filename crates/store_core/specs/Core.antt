@@ -34,8 +34,7 @@ use Rattle.store_model.specs.Steps.{StoreChange, SealContainer, ChangeName, CanC
 use Rattle.store_state.specs.Refused.{blames}
 use Rattle.store_state.specs.Settled as settled
 use Rattle.store_state.specs.Tables.{Represents, Runs, OfEach}
-use Rattle.ingest_steps.specs.Naming.{ChangesName, IsDeleteRefusal, MayDelete}
-use Rattle.ingest_steps.specs.Recording.{ChangesJournalAlone}
+use Rattle.ingest_steps.specs.Naming.{ChangesName, ChangesJournalAlone, IsDeleteRefusal, MayDelete}
 use Rattle.ingest_steps.specs.declared.claiming.Claimed.{Claimed}
 use Rattle.ingest_steps.specs.declared.claiming.Claimed.TheVariants.{Held, Absent}
 use Rattle.ingest_steps.specs.Claiming.{IsClaimed, IsClaimRefusal, DiffersFrom, KeepsPart}
@@ -250,7 +249,7 @@ pub record SealsOne (filled : Contents) (answer : Result Answer Refusal) (old ne
 pub record NamesOne (name : List ℕ) (change : Change) (answer : Result Answer Refusal) (old new : CoreState) : Type 0 where
   pub disk : Acts (ending blames answer) old.disk new.disk
   pub moves : ChangesName old.tables name change (ending blames answer) old.disk new.disk
-  pub frame : ChangesJournalAlone old.tables.journal old.disk new.disk
+  pub frame : ChangesJournalAlone old.tables name change old.disk new.disk
   pub durable : OnOk answer (IsDurable new.disk)
   pub made : OnOk answer (Makes (ChangeName name change) old new)
   pub copies : OnOk answer ((store : Store) → Represents store old.known old.tables

@@ -5,11 +5,13 @@ use Rattle.base_model.specs.Known.{KnownWith}
 use Rattle.disk_format.specs.declared.numbers.TheConstants.{CELL_BYTES, SLOT_BYTES, FIRST_HALF, RESERVE}
 use Rattle.disk_format.specs.Layout.{half_cells, cell_at, slot_at}
 use Rattle.dd_disk.specs.View.{CrashLeaves}
+use Rattle.dd_disk.specs.Moves.{StandsFor}
 use Rattle.actor_parts.specs.StepValue as asked
 use Rattle.actor_parts.specs.StepValue.{StepValue}
 use Rattle.container_meta.specs.Spelling.{HeaderValue}
 use Rattle.store_model.specs.Image.{Store, IsValidFor}
 use Rattle.store_model.specs.Slots.{free_slots}
+use Rattle.store_model.specs.Standing.{HasJournal}
 use Rattle.store_model.specs.Steps.{StoreChange, HasCellsFor}
 use Rattle.store_state.specs.Settled.{IsSettled}
 use Rattle.store_state.specs.Tables.{Represents}
@@ -76,6 +78,8 @@ pub record HasGrown (changes : List StoreChange) (s : Store) (base : List ℕ) (
   pub on : IsOn store c
   pub held : (slot : ℕ) (h : HeaderValue) → slice_get s.held slot ≡ Some (Some h) → slice_get store.held slot ≡ Some (Some h)
   pub content : KnownWith c.disk.content (AddsBytes s store base)
+  -- where the content had the journal of the first store, each image has that of this one, whatever the containers hold
+  pub journal : HasJournal s base → StandsFor (HasJournal store) c.disk
 
 -- A core that isn't stopped at the end of a run has changed no bytes but those of the records and containers that it
 -- acknowledged, and what comes after all slots.

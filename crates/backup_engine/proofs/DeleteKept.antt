@@ -9,16 +9,17 @@ use Rattle.disk_format.specs.declared.numbers.TheConstants.{CELL_BYTES}
 use Rattle.disk_format.specs.Layout.{half_cells, cell_at}
 use Rattle.dd_disk.specs.Ending.{CountsFault, ending_of}
 use Rattle.dd_disk.specs.Ending as device
-use Rattle.dd_disk.specs.Moves.{Acts}
+use Rattle.dd_disk.specs.Moves.{Acts, StandsFor}
 use Rattle.dd_disk.specs.View.{DiskView, IsDurable, IsLater}
 use Rattle.dd_disk.proofs.Later.{durable_reads}
+use Rattle.dd_disk.proofs.Moves.{stands_durable, stands_reads}
 use Rattle.dd_disk.proofs.Shows.{shown_content}
 use Rattle.dd_io.specs.Flow.{SourceView, SinkView}
 use Rattle.actor_parts.specs.declared.step.Answer.{Answer}
 use Rattle.actor_parts.specs.StepValue as asked
-use Rattle.ingest_steps.specs.Naming.{IsDeleteRefusal}
+use Rattle.ingest_steps.specs.Naming.{ChangesBytes, ChangesJournalAlone, IsDeleteRefusal}
 use Rattle.ingest_steps.specs.Naming as naming
-use Rattle.ingest_steps.specs.Recording.{ChangesJournalAlone, SameButRecord, SameButRecordBy, has_cell}
+use Rattle.ingest_steps.specs.Recording.{SameButRecordBy, has_cell}
 use Rattle.ingest_steps.proofs.Recorded.{count_of_cell}
 use Rattle.journal_cells.specs.Checkpoints.{SameButHalf}
 use Rattle.journal_cells.specs.Journal.{JournalValue}
@@ -29,7 +30,8 @@ use Rattle.reply_text.specs.declared.ending.Ending.{Ending}
 use Rattle.reply_text.specs.declared.ending.Ending.TheVariants.{Sink, Refused}
 use Rattle.reply_text.specs.Text.{deleted_line}
 use Rattle.store_model.specs.Image.{Store, Encodes, names_of}
-use Rattle.store_model.specs.Steps.{CanChangeName}
+use Rattle.store_model.specs.Standing.{HasJournal}
+use Rattle.store_model.specs.Steps.{CanChangeName, with_change}
 use Rattle.store_state.specs.Refused.{blames}
 use Rattle.store_core.specs.Core.{CoreStep, NamesOne, Steps}
 use Rattle.store_core.specs.State.{CoreState, Event}
@@ -68,6 +70,9 @@ module _ (C : Type 0) (state : C → CoreState) (v w : DiskView) (old new : C) (
       abbrev journal : JournalValue
       journal = (state old).tables.journal
 
+      abbrev Changes : List ℕ → List ℕ → Type 0
+      Changes base = ChangesBytes (state old).tables name Gone base base
+
       of_store : (base c : List ℕ) (free : Bool) → has_cell journal ≡ free → SameButRecordBy free journal base c → SameButRecordOf store base c
       of_store base c true is same =
           let names = called.opened.represents.names_are in
@@ -80,23 +85,24 @@ module _ (C : Type 0) (state : C → CoreState) (v w : DiskView) (old new : C) (
           let names = called.opened.represents.names_are in
           inr (omega (arith, ltb-false journal.count half_cells is, names.count), subst (λ (half : ℕ). SameButHalf (1 - half) base c) names.half same)
 
-      but_record : (base : List ℕ) → v.content ≡ Some base → (c : List ℕ) → SameButRecord (state old).tables.journal base c → KeepsButRecord ending base c
-      but_record base known c same = record {
+      but_record : (base : List ℕ) → v.content ≡ Some base → (c : List ℕ) → Changes base c → KeepsButRecord name ending base c
+      but_record base known c changes = record {
         may = may;
         store = store;
         right = shown_content v (state old).disk (λ image. Encodes image store) base called.opened.right known;
         reserve = called.opened.reserve;
-        same = of_store base c (has_cell journal) refl same;
+        same = of_store base c (has_cell journal) refl changes.same;
+        names = λ has. changes.journal store called.opened.represents.names_are has has;
       }
 
       -- nothing but the bytes of a record changed
-      cell_frame : ChangesJournalAlone (state old).tables.journal (state old).disk (state new).disk → IsLater (state old).disk (state new).disk → KeepsOthers (Delete name) ending v w
+      cell_frame : ChangesJournalAlone (state old).tables name Gone (state old).disk (state new).disk → IsLater (state old).disk (state new).disk → KeepsOthers (Delete name) ending v w
       cell_frame alone later = record {
         content = λ base known.
             let now = (alone.synced called.durable base (called.first.only.content_is ∙ known)).0 in
             (now.0, called.last.only.content_is ∙ now.1, inr (but_record base known now.0 now.2));
         crash = λ base known c since.
-            elim (crash_of C state v w old new called (SameButRecord (state old).tables.journal base) later (alone.synced called.durable base (called.first.only.content_is ∙ known)).1 c since) [
+            elim (crash_of C state v w old new called (Changes base) later (alone.synced called.durable base (called.first.only.content_is ∙ known)).1 c since) [
               | inl was ↦ inl was
               | inr same ↦ inr (inr (but_record base known c same))
             ];
@@ -113,11 +119,19 @@ module _ (C : Type 0) (state : C → CoreState) (v w : DiskView) (old new : C) (
           let on = opened_on C state v w old new called in
           (effect.made.can.store_has store on.represents on.valid on.reserve).0
 
+      -- the journal of the disk now is that without the name
+      names_without : (base : List ℕ) → v.content ≡ Some base → HasJournal store base → StandsFor (HasJournal (with_change name Gone store)) w
+      names_without base known has =
+          let told : (state old).disk.content ≡ Some base = called.first.only.content_is ∙ known in
+          let moved = effect.moves.journal store called.opened.represents.names_are (stands_durable (HasJournal store) (state old).disk base called.durable told has) in
+          stands_reads (HasJournal (with_change name Gone store)) (state new).disk w moved.arrives called.last.only
+
       was_deleted : IsDeleted name v w
       was_deleted = record {
         holds = holds C state v w old new called (to_end C state v w old new called effect.disk.later);
         may = record { named = can.named; knows = is_some_of (finite.get (names_of store) name) can.place };
         numbers = record { sequence = can.number; generation = can.rise };
+        names = λ base known has. names_without base known has;
       }
 
       done_caused : (ending : Option Ending) (source : SourceView) (sink sink_now : SinkView) → IsReplied ending sink sink_now → IsCaused (Delete name) [] v w source source sink sink_now ending

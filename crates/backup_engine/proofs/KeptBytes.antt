@@ -1,22 +1,26 @@
 -- What stays of a disk that held a store, where closed slots and a record are written.
-use Rattle.std.proofs.Common.{◌≡◌, ◌≢◌, ℕ, zero, suc, ◌+◌, ◌<◌, ◌≤◌, Bool, true, false, List, [], ◌∷◌, length, Option, Some, None, refl, sym, ◌∙◌, ap, subst, arith}
+use Rattle.std.proofs.Common.{◌≡◌, ◌≢◌, ◌⊎◌, inl, inr, ℕ, zero, suc, ◌+◌, ◌<◌, ◌≤◌, Bool, true, false, List, [], ◌∷◌, length, Option, Some, None, refl, sym, ◌∙◌, ap, subst, arith}
 use Rattle.std.specs.Prelude.{nat_lt}
 use Rattle.std.specs.List.{AllByRecursion}
 use Rattle.std.proofs.lemmas.Bool.{ltb-true, ltb-false}
 use Rattle.base_model.specs.Bytes.{range, byte_at}
 use Rattle.disk_format.specs.declared.numbers.TheConstants.{CELL_BYTES, SLOT_BYTES, FIRST_SLOT, FIRST_HALF, CONTAINER_GATE, RESERVE}
+use Rattle.disk_format.specs.Cells.{Change, Root}
+use Rattle.disk_format.specs.Cells.Change.{Put}
 use Rattle.disk_format.specs.Layout.{half_cells, cell_at, slot_at}
 use Rattle.container_meta.specs.Spelling.{HeaderValue}
 use Rattle.reply_text.specs.declared.ending.Ending.{Ending}
 use Rattle.segment_index.specs.Changes.{SameBefore}
 use Rattle.store_model.specs.Image.{Store, Encodes}
 use Rattle.store_model.specs.Slots.{HoldSlots, free_slots, first_free, with_slot}
-use Rattle.store_model.specs.Steps.{StoreChange, SealContainer, ChangeName, changed}
+use Rattle.store_model.specs.Standing.{HasJournal}
+use Rattle.store_model.specs.Steps.{StoreChange, SealContainer, ChangeName, changed, with_cell, with_change, with_other}
 use Rattle.store_core.specs.Runs.{ChangesTo}
+use Rattle.ingest_steps.specs.Naming.{StandsStill}
 use Rattle.ingest_steps.specs.Sealing.{SameButSlotOf}
 use Rattle.journal_cells.specs.Appending.{SameButNext}
 use Rattle.journal_cells.specs.Journal.{JournalValue}
-use Rattle.store_model.proofs.Journaled.{SameButJournal}
+use Rattle.store_model.proofs.Journaled.{SameButJournal, has_kept}
 use Rattle.ingest_steps.specs.Recording.{SameButRecord, SameButRecordBy}
 use Rattle.ingest_steps.proofs.Recorded.{cell_of_count}
 use Rattle.ingest_steps.proofs.RecordFrames.{record_alone}
@@ -57,12 +61,11 @@ first_shut place slot (Some h ∷ cs) image is within closed = first_shut place 
 -- A store with more containers than the first one: the slots in which it has none are closed in the image.
 pub record IsFreeIn (first : Store) (base : List ℕ) (store : Store) : Type 0 where
   pub slots_are : store.slots ≡ first.slots
-  pub half_is : store.selector.half ≡ first.selector.half
-  pub count_is : length store.records ≡ length first.records
+  pub rest_is : store ≡ record first { held = store.held }
   pub free : AreClosed 0 store.held base
 
 pub free_held : (base : List ℕ) (store : Store) → Encodes base store → IsFreeIn store base store
-free_held base store right = record { slots_are = refl; half_is = refl; count_is = refl; free = closed_held 0 store.held base right.slots_are }
+free_held base store right = record { slots_are = refl; rest_is = refl; free = closed_held 0 store.held base right.slots_are }
 
 -- and so it is of a store with more containers
 pub free_sealed : (first : Store) (base : List ℕ) (changes : List StoreChange) (s t : Store) → ChangesTo changes s t → AllByRecursion IsSeal changes → IsFreeIn first base s → IsFreeIn first base t
@@ -70,11 +73,28 @@ free_sealed first base [] s t chain seals free = subst (IsFreeIn first base) (sy
 free_sealed first base (SealContainer id kind segments ∷ changes) s t chain seals free =
     free_sealed first base changes (changed (SealContainer id kind segments) s) t chain.1 seals.1 (record {
       slots_are = free.slots_are;
-      half_is = free.half_is;
-      count_is = free.count_is;
+      rest_is = ap (changed (SealContainer id kind segments)) free.rest_is;
       free = closed_with (first_free s.held) 0 _ s.held base free.free;
     })
 free_sealed first base (ChangeName name change ∷ changes) s t chain seals free = absurd seals.0
+
+-- the journal of the one is that of the other
+module _ (first store : Store) (is : store ≡ record first { held = store.held }) where
+  pub journal_later : (image : List ℕ) → HasJournal first image → HasJournal store image
+  journal_later image has = subst (λ (s : Store). HasJournal s image) (sym is) (record { holds = has.holds; other = has.other; past = has.past })
+
+  pub still_first : (image : List ℕ) → StandsStill HasJournal store image → StandsStill HasJournal first image
+  still_first image (inl (is_open, stands)) =
+      let has = subst (λ (s : Store). HasJournal (with_other is_open s) image) is stands in
+      inl (is_open, record { holds = has.holds; other = has.other; past = has.past })
+  still_first image (inr stands) =
+      let has = subst (λ (s : Store). HasJournal (with_cell s) image) is stands in
+      inr (record { holds = has.holds; other = has.other; past = has.past })
+
+  pub change_first : (name : List ℕ) (change : Change) (image : List ℕ) → HasJournal (with_change name change store) image → HasJournal (with_change name change first) image
+  change_first name change image stands =
+      let has = subst (λ (s : Store). HasJournal (with_change name change s) image) is stands in
+      record { holds = has.holds; other = has.other; past = has.past }
 
 -- its first free slot is closed there
 pub first_is_shut : (first : Store) (base : List ℕ) (store : Store) → IsFreeIn first base store → first_free store.held < length store.held → byte_at (slot_at (first_free store.held)) base ≢ CONTAINER_GATE
@@ -118,8 +138,8 @@ module _ (slots : ℕ) (base old : List ℕ) (keeps : KeepsSlots slots base old)
 
 -- what was open stays
 module _ (store : Store) (base : List ℕ) (right : Encodes base store) (reserve : RESERVE ≤ free_slots store.held) (old : List ℕ) (keeps : KeepsSlots store.slots base old) where
-  pub open_kept : (ending : Option Ending) → KeepsOpen ending base old
-  open_kept ending = record {
+  pub open_kept : (name : List ℕ) (ending : Option Ending) → KeepsOpen name ending base old
+  open_kept name ending = record {
     store = store;
     right = right;
     reserve = reserve;
@@ -130,6 +150,7 @@ module _ (store : Store) (base : List ℕ) (right : Encodes base store) (reserve
       cells = λ half cell low within other. keeps.front (cell_at half cell) CELL_BYTES (omega (arith, low, within));
     };
     containers = keeps.containers;
+    names = λ has. inl (inl (store.other_open, has_kept store base old keeps.front has));
   }
 
   -- and so it does where a record is written
@@ -165,8 +186,9 @@ module _ (store : Store) (base : List ℕ) (right : Encodes base store) (reserve
             ∙ keeps.front (cell_at h c) CELL_BYTES (omega (arith, low_too, within_too));
       }
 
-    pub open_next : (ending : Option Ending) → MayChange ending → KeepsOpen ending base new
-    open_next ending may = record {
+    pub open_next : (name : List ℕ) (ending : Option Ending) → MayChange ending
+        → (HasJournal store base → StandsStill HasJournal store new ⊎ ((root : Root) × HasJournal (with_change name (Put root) store) new)) → KeepsOpen name ending base new
+    open_next name ending may names = record {
       store = store;
       right = right;
       reserve = reserve;
@@ -174,4 +196,5 @@ module _ (store : Store) (base : List ℕ) (right : Encodes base store) (reserve
       format = alone.format ∙ keeps.front 0 CELL_BYTES (omega arith);
       journal = λ needs. journal_next (omega (arith, needs may, count_is)) ending may;
       containers = λ slot below opened. alone.slots (slot_at slot) SLOT_BYTES (omega arith) ∙ keeps.containers slot below opened;
+      names = λ has. elim (names has) [ inl still ↦ inl still | inr put ↦ inr (may, put) ];
     }

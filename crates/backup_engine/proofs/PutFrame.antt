@@ -1,10 +1,10 @@
 -- What `ingest` never changes, whatever the disk holds.
-use Rattle.std.proofs.Common.{◌≡◌, inl, inr, ℕ, ◌≤◌, List, [], ◌∷◌, Option, Some, Result, Ok, Err, sym, ◌∙◌, subst, arith}
+use Rattle.std.proofs.Common.{◌≡◌, ◌⊎◌, inl, inr, ℕ, ◌≤◌, List, [], ◌∷◌, length, Option, Some, Result, Ok, Err, sym, ◌∙◌, ap, subst, arith}
 use Rattle.std.specs.List.{AllByRecursion}
 use Rattle.base_model.specs.Known.{KnownWith}
 use Rattle.disk_format.specs.declared.numbers.TheConstants.{RESERVE}
-use Rattle.disk_format.specs.Cells.{Change, Root}
-use Rattle.disk_format.specs.Cells.Change.{Put, Delete as Gone}
+use Rattle.disk_format.specs.Cells.{Root}
+use Rattle.disk_format.specs.Cells.Change.{Put}
 use Rattle.dd_disk.specs.View.{DiskView, OnlyReads, CrashLeaves, SteppedFrom}
 use Rattle.dd_disk.proofs.Later.{reads_here, reads_leave, leaves_on, leaves_weaker}
 use Rattle.container_meta.specs.Segments.{Contents}
@@ -17,18 +17,21 @@ use Rattle.reply_text.specs.declared.ending.Ending.{Ending}
 use Rattle.reply_text.specs.declared.ending.Ending.TheVariants.{Refused}
 use Rattle.store_model.specs.Image.{Store, Encodes}
 use Rattle.store_model.specs.Slots.{free_slots, first_free}
+use Rattle.store_model.specs.Standing.{HasJournal}
+use Rattle.store_model.specs.Steps.{with_change}
 use Rattle.store_model.proofs.Free.{some_free}
+use Rattle.store_model.proofs.Journaled.{has_kept}
 use Rattle.store_state.specs.Settled.{IsSettled}
-use Rattle.ingest_steps.specs.Recording.{SameButRecord}
+use Rattle.ingest_steps.specs.Naming.{ChangesBytes, StandsStill}
 use Rattle.ingest_steps.specs.Sealing.{ChangesSlotAlone, SameButSlotOf}
-use Rattle.store_core.specs.Core.{CoreStep, Row, Effect, SealsOne, NamesOne}
+use Rattle.store_core.specs.Core.{CoreStep, Effect, SealsOne, NamesOne}
 use Rattle.store_core.specs.Runs.{CoreRun, FileEvent, events_of}
 use Rattle.store_core.specs.State.{CoreState}
 use Rattle.store_core.proofs.Stepping.{effect_later}
 use Rattle.backup_engine.specs.Frame.{KeepsOpen}
 use Rattle.backup_engine.specs.Promise.{MayChange}
 use Rattle.backup_engine.specs.Running.{IsAskedFor, IsNoCommit, IsOk, IsLastPut, seal_by}
-use Rattle.backup_engine.proofs.KeptBytes.{IsFreeIn, KeepsSlots, free_sealed, first_is_shut, slots_settled, slots_sealed, open_kept, open_next}
+use Rattle.backup_engine.proofs.KeptBytes.{IsFreeIn, KeepsSlots, free_sealed, first_is_shut, slots_settled, slots_sealed, journal_later, still_first, change_first, open_kept, open_next}
 use Rattle.backup_engine.proofs.PutChanges.{IsOn, IsPutLast, IsStepRefused, IsWayStep, way_step, running_step}
 
 -- ---- one step
@@ -91,12 +94,12 @@ module _ (first : Store) (base : List ℕ) (t : Store) (old new : CoreState) (on
       subst (λ (n : ℕ). IsSettled n new.disk) tables_slots (effect.disk.left (subst (λ (n : ℕ). IsSettled n old.disk) (sym tables_slots) held.settled))
 
   -- a record was written, or in part
-  module _ (ending : Option Ending) (right : Encodes base first) (reserve : RESERVE ≤ free_slots first.held) where
+  module _ (name : List ℕ) (ending : Option Ending) (right : Encodes base first) (reserve : RESERVE ≤ free_slots first.held) where
     abbrev Open : List ℕ → Type 0
-    Open = KeepsOpen ending base
+    Open = KeepsOpen name ending base
 
-    slots_open : (c : List ℕ) → KeepsSlots slots base c → KeepsOpen ending base c
-    slots_open c keeps_there = open_kept first base right reserve c keeps_there ending
+    slots_open : (c : List ℕ) → KeepsSlots slots base c → KeepsOpen name ending base c
+    slots_open c keeps_there = open_kept first base right reserve c keeps_there name ending
 
     pub slots_leave : Leaves Slots old.disk new.disk → Leaves Open old.disk new.disk
     slots_leave leaves = record {
@@ -104,18 +107,30 @@ module _ (first : Store) (base : List ℕ) (t : Store) (old new : CoreState) (on
       images = leaves_weaker Slots Open old.disk new.disk slots_open leaves.images;
     }
 
-    module _ (may : MayChange ending) where
-      -- all but the bytes of a record
-      abbrev SameButOne : List ℕ → List ℕ → Type 0
-      SameButOne = SameButRecord old.tables.journal
+    module _ (may : MayChange ending) (root : Root) where
+      abbrev Changes : List ℕ → List ℕ → Type 0
+      Changes = ChangesBytes old.tables name (Put root) given
 
-      next_open : (d c : List ℕ) → KeepsSlots slots base d → SameButOne d c → KeepsOpen ending base c
-      next_open d c keeps_there same =
-          open_next first base right reserve d keeps_there old.tables.journal (on.represents.names_are.half ∙ held.free.half_is) (on.represents.names_are.count ∙ held.free.count_is) c same ending may
+      -- the journal of an image on the way
+      has_on : (c : List ℕ) → KeepsSlots slots base c → HasJournal first base → HasJournal t c
+      has_on c keeps_there has = journal_later first t held.free.rest_is c (has_kept first base c keeps_there.front has)
 
-      by_change : (name : List ℕ) (change : Change) (answer : Result Answer Refusal) → NamesOne name change answer old new → Leaves Open old.disk new.disk
-      by_change name change answer effect =
-          let images = leaves_weaker (SteppedFrom SameButOne old.disk) Open old.disk new.disk (λ c from. elim from [
+      names_next : (d c : List ℕ) → KeepsSlots slots base d → Changes d c → HasJournal first base
+          → StandsStill HasJournal first c ⊎ ((r : Root) × HasJournal (with_change name (Put r) first) c)
+      names_next d c keeps_there changes has = elim (changes.journal t on.represents.names_are (has_on given keeps has) (has_on d keeps_there has)) [
+        | inl still ↦ inl (still_first first t held.free.rest_is c still)
+        | inr put ↦ inr (root, change_first first t held.free.rest_is name (Put root) c put)
+      ]
+
+      next_open : (d c : List ℕ) → KeepsSlots slots base d → Changes d c → KeepsOpen name ending base c
+      next_open d c keeps_there changes =
+          open_next first base right reserve d keeps_there old.tables.journal
+          (on.represents.names_are.half ∙ ap (λ (s : Store). s.selector.half) held.free.rest_is)
+          (on.represents.names_are.count ∙ ap (λ (s : Store). length s.records) held.free.rest_is) c changes.same name ending may (names_next d c keeps_there changes)
+
+      by_change : (answer : Result Answer Refusal) → NamesOne name (Put root) answer old new → Leaves Open old.disk new.disk
+      by_change answer effect =
+          let images = leaves_weaker (SteppedFrom Changes old.disk) Open old.disk new.disk (λ c from. elim from [
             | inl image ↦ slots_open c (image_keeps c image)
             | inr step ↦ next_open step.0 c (image_keeps step.0 step.1) step.2
           ]) (effect.frame.leaves given known) in
@@ -182,89 +197,83 @@ module _ (first : Store) (base : List ℕ) where
 
 -- ---- the last step
 
-module _ (first : Store) (base : List ℕ) (right : Encodes base first) (reserve : RESERVE ≤ free_slots first.held) (start : DiskView) where
+module _ (first : Store) (base : List ℕ) (right : Encodes base first) (reserve : RESERVE ≤ free_slots first.held) (start : DiskView) (name : List ℕ) where
   module _ (old new : CoreState) (framed : IsFramed first base start old) where
     abbrev t : Store
     t = framed.store
 
     abbrev EndsSo : Option Ending → Type 0
-    EndsSo ending = Leaves (KeepsOpen ending base) old.disk new.disk
+    EndsSo ending = Leaves (KeepsOpen name ending base) old.disk new.disk
 
     here_open : (ending : Option Ending) → Leaves (KeepsSlots first.slots base) old.disk new.disk → EndsSo ending
-    here_open ending leaves = slots_leave first base t old new framed.on framed.held ending right reserve leaves
+    here_open ending leaves = slots_leave first base t old new framed.on framed.held name ending right reserve leaves
 
     reads_open : (ending : Option Ending) → OnlyReads old.disk new.disk → EndsSo ending
     reads_open ending reads = here_open ending (by_reads first base t old new framed.on framed.held reads)
 
-    put_open : (ending : Option Ending) → MayChange ending → (actor : ℕ) (buf : List ℕ) (step : StepValue) (answer : Result Answer Refusal) → IsLastPut step answer → Row step actor answer buf old new
+    -- a root was given to the name, or in part
+    put_change : (ending : Option Ending) → MayChange ending → (n : List ℕ) (root : Root) (answer : Result Answer Refusal) → n ≡ name → NamesOne n (Put root) answer old new → EndsSo ending
+    put_change ending may n root answer is effect =
+        by_change first base t old new framed.on framed.held name ending right reserve may root answer (subst (λ (x : List ℕ). NamesOne x (Put root) answer old new) is effect)
+
+    put_open : (ending : Option Ending) → MayChange ending → (bytes put : List ℕ) (step : StepValue) (answer : Result Answer Refusal) → IsAskedFor name bytes step put → IsLastPut step answer
         → Effect step answer old new → EndsSo ending
-    put_open ending may actor buf (asked.Commit name root) (Err refusal) last row effect = absurd last
-    put_open ending may actor buf (asked.Commit name root) (Ok answer) last row effect =
-        by_change first base t old new framed.on framed.held ending right reserve may name (Put root) (Ok answer) effect
-    put_open ending may actor buf asked.Begin answer last row effect = absurd last
-    put_open ending may actor buf (asked.Claim seg) answer last row effect = absurd last
-    put_open ending may actor buf (asked.Seal filled) answer last row effect = absurd last
-    put_open ending may actor buf asked.Abort answer last row effect = absurd last
-    put_open ending may actor buf (asked.OpenRead name) answer last row effect = absurd last
-    put_open ending may actor buf asked.ReadNext answer last row effect = absurd last
-    put_open ending may actor buf asked.EndRead answer last row effect = absurd last
-    put_open ending may actor buf (asked.Delete name) answer last row effect = absurd last
-    put_open ending may actor buf asked.ListNames answer last row effect = absurd last
-    put_open ending may actor buf asked.Stat answer last row effect = absurd last
+    put_open ending may bytes put (asked.Commit n root) (Err refusal) asks last effect = absurd last
+    put_open ending may bytes put (asked.Commit n root) (Ok answer) asks last effect = put_change ending may n root (Ok answer) asks.0 effect
+    put_open ending may bytes put asked.Begin answer asks last effect = absurd last
+    put_open ending may bytes put (asked.Claim seg) answer asks last effect = absurd last
+    put_open ending may bytes put (asked.Seal filled) answer asks last effect = absurd last
+    put_open ending may bytes put asked.Abort answer asks last effect = absurd last
+    put_open ending may bytes put (asked.OpenRead n) answer asks last effect = absurd last
+    put_open ending may bytes put asked.ReadNext answer asks last effect = absurd last
+    put_open ending may bytes put asked.EndRead answer asks last effect = absurd last
+    put_open ending may bytes put (asked.Delete n) answer asks last effect = absurd last
+    put_open ending may bytes put asked.ListNames answer asks last effect = absurd last
+    put_open ending may bytes put asked.Stat answer asks last effect = absurd last
 
     -- a commit that was refused wrote nothing, but where a write failed
-    uncommitted : (name : List ℕ) (root : Root) (actor : ℕ) (buf : List ℕ) (refusal : Refusal) → Row (asked.Commit name root) actor (Err refusal) buf old new → NamesOne name (Put root) (Err refusal) old new
-        → EndsSo (Some (Refused refusal))
-    uncommitted name root actor buf DiskWrite row effect =
-        by_change first base t old new framed.on framed.held (Some (Refused DiskWrite)) right reserve tt name (Put root) (Err DiskWrite) effect
-    uncommitted name root actor buf DiskRead row effect = reads_open (Some (Refused DiskRead)) effect.disk.ends
-    uncommitted name root actor buf refusal row effect = reads_open (Some (Refused refusal)) effect.disk.ends
+    uncommitted : (n : List ℕ) (root : Root) (refusal : Refusal) → n ≡ name → NamesOne n (Put root) (Err refusal) old new → EndsSo (Some (Refused refusal))
+    uncommitted n root DiskWrite is effect = put_change (Some (Refused DiskWrite)) tt n root (Err DiskWrite) is effect
+    uncommitted n root DiskRead is effect = reads_open (Some (Refused DiskRead)) effect.disk.ends
+    uncommitted n root refusal is effect = reads_open (Some (Refused refusal)) effect.disk.ends
 
-    -- nor did a delete
-    undeleted : (name : List ℕ) (actor : ℕ) (buf : List ℕ) (refusal : Refusal) → Row (asked.Delete name) actor (Err refusal) buf old new → NamesOne name Gone (Err refusal) old new
-        → EndsSo (Some (Refused refusal))
-    undeleted name actor buf DiskWrite row effect =
-        by_change first base t old new framed.on framed.held (Some (Refused DiskWrite)) right reserve tt name Gone (Err DiskWrite) effect
-    undeleted name actor buf DiskRead row effect = reads_open (Some (Refused DiskRead)) effect.disk.ends
-    undeleted name actor buf refusal row effect = reads_open (Some (Refused refusal)) effect.disk.ends
-
-    refused_open : (actor : ℕ) (buf : List ℕ) (refusal : Refusal) (step : StepValue) → Row step actor (Err refusal) buf old new → Effect step (Err refusal) old new → EndsSo (Some (Refused refusal))
-    refused_open actor buf refusal asked.Begin row effect = reads_open (Some (Refused refusal)) effect.disk.only
-    refused_open actor buf refusal (asked.Claim seg) row effect = reads_open (Some (Refused refusal)) effect.disk.only
-    refused_open actor buf refusal (asked.Seal filled) row effect = here_open (Some (Refused refusal)) (by_seal first base t old new framed.on framed.held filled (Err refusal) effect)
-    refused_open actor buf refusal (asked.Commit name root) row effect = uncommitted name root actor buf refusal row effect
-    refused_open actor buf refusal asked.Abort row effect = reads_open (Some (Refused refusal)) effect.disk.only
-    refused_open actor buf refusal (asked.OpenRead name) row effect = reads_open (Some (Refused refusal)) effect.disk.only
-    refused_open actor buf refusal asked.ReadNext row effect = reads_open (Some (Refused refusal)) effect.disk.only
-    refused_open actor buf refusal asked.EndRead row effect = reads_open (Some (Refused refusal)) effect.disk.only
-    refused_open actor buf refusal (asked.Delete name) row effect = undeleted name actor buf refusal row effect
-    refused_open actor buf refusal asked.ListNames row effect = reads_open (Some (Refused refusal)) effect.disk.only
-    refused_open actor buf refusal asked.Stat row effect = reads_open (Some (Refused refusal)) effect.disk.only
+    refused_open : (bytes put : List ℕ) (refusal : Refusal) (step : StepValue) → IsAskedFor name bytes step put → Effect step (Err refusal) old new → EndsSo (Some (Refused refusal))
+    refused_open bytes put refusal asked.Begin asks effect = reads_open (Some (Refused refusal)) effect.disk.only
+    refused_open bytes put refusal (asked.Claim seg) asks effect = reads_open (Some (Refused refusal)) effect.disk.only
+    refused_open bytes put refusal (asked.Seal filled) asks effect = here_open (Some (Refused refusal)) (by_seal first base t old new framed.on framed.held filled (Err refusal) effect)
+    refused_open bytes put refusal (asked.Commit n root) asks effect = uncommitted n root refusal asks.0 effect
+    refused_open bytes put refusal asked.Abort asks effect = absurd asks
+    refused_open bytes put refusal (asked.OpenRead n) asks effect = absurd asks
+    refused_open bytes put refusal asked.ReadNext asks effect = absurd asks
+    refused_open bytes put refusal asked.EndRead asks effect = absurd asks
+    refused_open bytes put refusal (asked.Delete n) asks effect = absurd asks
+    refused_open bytes put refusal asked.ListNames asks effect = absurd asks
+    refused_open bytes put refusal asked.Stat asks effect = absurd asks
 
     -- and what was left before
-    since_start : (ending : Option Ending) → EndsSo ending → Leaves (KeepsOpen ending base) start new.disk
+    since_start : (ending : Option Ending) → EndsSo ending → Leaves (KeepsOpen name ending base) start new.disk
     since_start ending leaves = record {
       content = leaves.content;
-      images = leaves_on (KeepsSlots first.slots base) (KeepsOpen ending base) (KeepsOpen ending base) start old.disk new.disk framed.clock framed.images leaves.images
-          (λ c keeps_it. open_kept first base right reserve c keeps_it ending) (λ c keeps_it. keeps_it);
+      images = leaves_on (KeepsSlots first.slots base) (KeepsOpen name ending base) (KeepsOpen name ending base) start old.disk new.disk framed.clock framed.images leaves.images
+          (λ c keeps_it. open_kept first base right reserve c keeps_it name ending) (λ c keeps_it. keeps_it);
     }
 
   -- the core is as it was
-  pub framed_open : (c : CoreState) (ending : Option Ending) → IsFramed first base start c → Leaves (KeepsOpen ending base) start c.disk
+  pub framed_open : (c : CoreState) (ending : Option Ending) → IsFramed first base start c → Leaves (KeepsOpen name ending base) start c.disk
   framed_open c ending framed = since_start c c framed ending (reads_open c c framed ending (reads_here c.disk))
 
-  pub last_put : (name bytes : List ℕ) (ending : Option Ending) → MayChange ending → (mid new : CoreState) → IsFramed first base start mid → IsPutLast name bytes mid new
-      → Leaves (KeepsOpen ending base) start new.disk
-  last_put name bytes ending may mid new framed last =
+  pub last_put : (bytes : List ℕ) (ending : Option Ending) → MayChange ending → (mid new : CoreState) → IsFramed first base start mid → IsPutLast name bytes mid new
+      → Leaves (KeepsOpen name ending base) start new.disk
+  last_put bytes ending may mid new framed last =
       let e = last.f.event in
       let steps = running_step mid new e framed.on.runs last.made in
-      since_start mid new framed ending (put_open mid new framed ending may e.actor e.buf e.step e.answer last.last steps.made.row steps.made.effect)
+      since_start mid new framed ending (put_open mid new framed ending may bytes last.f.bytes e.step e.answer last.put_step.asked_for last.last steps.made.effect)
 
-  pub last_refused : (name bytes : List ℕ) (refusal : Refusal) (mid new : CoreState) → IsFramed first base start mid → IsStepRefused name bytes refusal mid new
-      → Leaves (KeepsOpen (Some (Refused refusal)) base) start new.disk
-  last_refused name bytes refusal mid new framed last =
+  pub last_refused : (bytes : List ℕ) (refusal : Refusal) (mid new : CoreState) → IsFramed first base start mid → IsStepRefused name bytes refusal mid new
+      → Leaves (KeepsOpen name (Some (Refused refusal)) base) start new.disk
+  last_refused bytes refusal mid new framed last =
       let e = last.f.event in
       let steps = running_step mid new e framed.on.runs last.made in
       since_start mid new framed (Some (Refused refusal))
-      (refused_open mid new framed e.actor e.buf refusal e.step (subst (λ (answer : Result Answer Refusal). Row e.step e.actor answer e.buf mid new) last.answer_is steps.made.row)
+      (refused_open mid new framed bytes last.f.bytes refusal e.step last.put_step.asked_for
       (subst (λ (answer : Result Answer Refusal). Effect e.step answer mid new) last.answer_is steps.made.effect))

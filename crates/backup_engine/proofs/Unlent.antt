@@ -211,7 +211,12 @@ module _ (loans loans_now : List ℕ) (v w : DiskView) where
     delete_refused refusal (inr is) = inr (holds is.0, is.1)
 
     deleted : IsDeleted name lent lent_now → IsDeleted name v w
-    deleted is = record { holds = holds is.holds; may = is.may; numbers = is.numbers }
+    deleted is = record {
+      holds = holds is.holds;
+      may = is.may;
+      numbers = is.numbers;
+      names = λ old told has. let stands = is.names old told has in record { known = stands.known; each = stands.each };
+    }
 
     delete_caused : (ending : Option Ending) → IsCaused (Delete name) given lent lent_now source source_now sink sink_now ending → IsCaused (Delete name) given v w source source_now sink sink_now ending
     delete_caused None is = deleted is

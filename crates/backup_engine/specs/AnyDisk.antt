@@ -9,7 +9,9 @@ use Rattle.disk_format.specs.declared.numbers.TheConstants.{FORMAT_GATE, RESERVE
 use Rattle.disk_format.specs.Layout.{IsSlotCount, size_of}
 use Rattle.namespace.specs.Listing.{listing_of}
 use Rattle.disk_format.specs.Cells.{Root}
+use Rattle.disk_format.specs.Cells.Change.{Delete as Gone}
 use Rattle.dd_disk.specs.View.{DiskView, IsDurable}
+use Rattle.dd_disk.specs.Moves.{StandsFor}
 use Rattle.dd_disk.specs.Ending.{NoCall, Done, CountsFault, ending_of}
 use Rattle.dd_disk.specs.Ending as device
 use Rattle.dd_disk.specs.Shows.{Part, HasPart, Shows}
@@ -27,8 +29,8 @@ use Rattle.reply_text.specs.Text.{formatted_line, stored_line, deleted_line, lis
 use Rattle.store_model.specs.Image.{Store, Encodes, names_of, last_sequence}
 use Rattle.store_model.specs.Pieces.{Node, IsPieceOf}
 use Rattle.store_model.specs.Slots.{Copy, IsIndexOf, free_slots, newest}
-use Rattle.store_model.specs.Standing.{IsFormatted}
-use Rattle.store_model.specs.Steps.{StoreChange}
+use Rattle.store_model.specs.Standing.{HasJournal, IsFormatted}
+use Rattle.store_model.specs.Steps.{StoreChange, with_change}
 use Rattle.store_model.specs.Trees.{node_key, root_of}
 use Rattle.store_state.specs.Comparing.{IsNodeRefusal}
 use Rattle.store_state.specs.Refused.{blames}
@@ -149,11 +151,13 @@ pub record IsStored (name given : List ℕ) (disk disk_now : DiskView) : Type 0 
   pub all : HasAll name given (room_in (Ingest name) added.after)
   pub numbers : HasNumbers (room_in (Ingest name) added.after)
 
--- A `delete` that was done: the store that the disk held has the name, and its record had its numbers.
+-- A `delete` that was done: the store that the disk held has the name, and its record had its numbers. The disk's journal is now
+-- that without the name, whatever its containers hold, where no record was open after the store's own.
 pub record IsDeleted (name : List ℕ) (disk disk_now : DiskView) : Type 0 where
   pub holds : Holds disk disk_now
   pub may : MayDelete name (room_in (Delete name) holds.store)
   pub numbers : HasNumbers (room_in (Delete name) holds.store)
+  pub names : Known disk.content (λ old. HasJournal holds.store old → StandsFor (HasJournal (with_change name Gone holds.store)) disk_now)
 
 -- what is so of a command that was done, but perhaps for its reply
 abbrev pub IsDone : CommandLine → List ℕ → DiskView → DiskView → Type 0

@@ -5,11 +5,15 @@ use Rattle.base_model.specs.Frames.{SameOutside}
 use Rattle.base_model.specs.Known.{Known, KnownWith}
 use Rattle.dd_disk.specs.View.{DiskView}
 use Rattle.disk_format.specs.declared.numbers.TheConstants.{CELL_BYTES, SLOT_BYTES, CONTAINER_GATE, FORMAT_GATE, RESERVE}
+use Rattle.disk_format.specs.Cells.{Root}
+use Rattle.disk_format.specs.Cells.Change.{Put, Delete as Gone}
 use Rattle.disk_format.specs.Layout.{half_cells, cell_at, slot_at}
 use Rattle.journal_cells.specs.Checkpoints.{SameButHalf}
 use Rattle.store_model.specs.Image.{Store, Encodes}
 use Rattle.store_model.specs.Slots.{free_slots}
-use Rattle.store_model.specs.Steps.{HasCellsFor}
+use Rattle.store_model.specs.Standing.{HasJournal}
+use Rattle.store_model.specs.Steps.{HasCellsFor, with_change}
+use Rattle.ingest_steps.specs.Naming.{StandsStill}
 use Rattle.reply_text.specs.declared.ending.Ending.{Ending}
 use Rattle.plain_machine.specs.Content.{SameJournal}
 use Rattle.plain_machine.specs.Runs.{Replied}
@@ -21,7 +25,7 @@ use Rattle.backup_engine.specs.Promise.{MayChange, SinceStart}
 -- The content held a store that is opened. The format cell is as it was, and each container slot that was open. So is the journal
 -- but for the cell after its records, and that, too, where the map may not have changed; where it may have, and no cell was free, a
 -- checkpoint may have written the journal anew.
-pub record KeepsOpen (ending : Option Ending) (old new : List ℕ) : Type 0 where
+pub record KeepsOpen (name : List ℕ) (ending : Option Ending) (old new : List ℕ) : Type 0 where
   pub store : Store
   pub right : Encodes old store
   pub reserve : RESERVE ≤ free_slots store.held
@@ -31,6 +35,9 @@ pub record KeepsOpen (ending : Option Ending) (old new : List ℕ) : Type 0 wher
       → SameJournal (λ half cell. MayChange ending × (half ≡ store.selector.half) × (cell ≡ length store.records)) old new
   pub containers : (slot : ℕ) → slot < store.slots → byte_at (slot_at slot) old ≡ CONTAINER_GATE
       → range (slot_at slot) SLOT_BYTES new ≡ range (slot_at slot) SLOT_BYTES old
+  -- names and last number stand still, or the name was given a root, where no record was open after the store's own
+  pub names : HasJournal store old
+      → StandsStill HasJournal store new ⊎ (MayChange ending × ((root : Root) × HasJournal (with_change name (Put root) store) new))
 
 -- all bytes but those of a record of this store: the next cell's; or, where none is free, those of the other half of the journal and of
 -- its selector
@@ -40,19 +47,21 @@ SameButRecordOf store old new =
     ⊎ ((half_cells ≤ length store.records) × SameButHalf (1 - store.selector.half) old new)
 
 -- The content held a store that is opened, whose map may have changed. All but the bytes of one record is as it was.
-pub record KeepsButRecord (ending : Option Ending) (old new : List ℕ) : Type 0 where
+-- Names and last number stand still, or the name is gone, where no record was open after the store's own.
+pub record KeepsButRecord (name : List ℕ) (ending : Option Ending) (old new : List ℕ) : Type 0 where
   pub may : MayChange ending
   pub store : Store
   pub right : Encodes old store
   pub reserve : RESERVE ≤ free_slots store.held
   pub same : SameButRecordOf store old new
+  pub names : HasJournal store old → StandsStill HasJournal store new ⊎ HasJournal (with_change name Gone store) new
 
 -- What a command leaves of any content. Of a disk with no store a `format` says itself what it leaves.
 abbrev pub KeepsRest : CommandLine → Option Ending → List ℕ → List ℕ → Type 0
 KeepsRest (Format slots) ending old new = byte_at 0 old ≡ FORMAT_GATE → new ≡ old
-KeepsRest (Ingest name) ending old new = (new ≡ old) ⊎ KeepsOpen ending old new
+KeepsRest (Ingest name) ending old new = (new ≡ old) ⊎ KeepsOpen name ending old new
 KeepsRest (Restore name) ending old new = new ≡ old
-KeepsRest (Delete name) ending old new = (new ≡ old) ⊎ KeepsButRecord ending old new
+KeepsRest (Delete name) ending old new = (new ≡ old) ⊎ KeepsButRecord name ending old new
 KeepsRest table.List ending old new = new ≡ old
 
 -- And so it is of what a crash leaves at any moment, but for what one might have left before.

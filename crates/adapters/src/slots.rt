@@ -1,4 +1,4 @@
-//! Slots that are freed, which no command does yet.
+//! Slots that are freed.
 use container_log::{LogFault, Spot, free, read_segment, read_slot, seal};
 use container_meta::{Fit, Kind, OpenContainer, Seg};
 use dd_disk::{Disk, MemDisk};

@@ -11,13 +11,13 @@ use Rattle.segment_index.specs.Changes.{SameBefore}
 use Rattle.actor_parts.specs.declared.actor.TheConstants.{ACTORS}
 use Rattle.actor_parts.specs.declared.part.Part.TheVariants.{Idle}
 use Rattle.store_model.specs.Image.{Store, Encodes, IsValidFor}
-use Rattle.store_model.specs.Collisions.{Stands}
+use Rattle.store_model.specs.Collisions.{Stands, IsOf}
 use Rattle.store_model.proofs.Once.{store_once}
 use Rattle.store_state.specs.Invariant.{HoldsPart}
 use Rattle.store_state.specs.Settled.{IsSettled}
 use Rattle.store_state.specs.Tables.{Represents}
 use Rattle.store_core.specs.Opening.{IsNew}
-use Rattle.store_core.specs.Runs.{IsOf, IsAt}
+use Rattle.store_core.specs.Runs.{IsAt}
 use Rattle.store_core.specs.State.{CoreState, IsRunning}
 
 -- the disk as it was before the opening, and as the closing gave it back

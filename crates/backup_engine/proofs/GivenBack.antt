@@ -13,8 +13,8 @@ use Rattle.reply_text.specs.declared.ending.Ending.TheVariants as endings
 use Rattle.segmenter.specs.Segments.{segments_of}
 use Rattle.segmenter.proofs.SegmentLemmas.{segments_of-laws}
 use Rattle.store_model.specs.Files.{Stored}
-use Rattle.store_model.specs.Collisions.{IsIn}
-use Rattle.store_core.specs.Runs.{IsOf, CoreRun, FileEvent, FileStep, FileRun, IsGivenRight, ReadsAlone, GivesInOrder, events_of, given_to, opens}
+use Rattle.store_model.specs.Collisions.{IsIn, IsOf}
+use Rattle.store_core.specs.Runs.{CoreRun, FileEvent, FileStep, FileRun, IsGivenRight, ReadsAlone, GivesInOrder, events_of, given_to, opens}
 use Rattle.store_core.specs.State.{CoreState, Event}
 use Rattle.store_core.proofs.Damage.{finds_files}
 use Rattle.store_core.proofs.GivingFiles.{gives_the_file}

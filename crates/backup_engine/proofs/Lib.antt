@@ -3,6 +3,7 @@ pub mod Called
 pub mod ClapLines
 pub mod ClapWords
 pub mod Clashes
+pub mod Commanded
 pub mod Committed
 pub mod DeleteKept
 pub mod DeleteMap
@@ -22,15 +23,18 @@ pub mod Ingesting
 pub mod Kept
 pub mod KeptBytes
 pub mod KeptPieces
+pub mod Lending
 pub mod LinesRun
 pub mod ListKept
 pub mod Lists
+pub mod ListsFormat
 pub mod NameLines
 pub mod NamesKept
 pub mod NotDone
 pub mod NotOpened
 pub mod Numbers
 pub mod OneLine
+pub mod Opens
 pub mod PutCauses
 pub mod PutChanges
 pub mod PutEnds
@@ -69,4 +73,7 @@ pub mod WayLists
 pub mod WayRefusals
 pub mod WaySeals
 pub mod Ways
+pub mod UnlentRoom
 pub mod WholeCall
+pub mod WholeLines
+pub mod WholeMade

@@ -11,9 +11,8 @@ use Rattle.script_runner.specs.Acts.{RunnerState}
 use Rattle.script_runner.specs.Follows.{Follows}
 use Rattle.script_runner.specs.Opened.{OpenedFollows}
 use Rattle.script_runner.specs.Scripts.{AreOfActors, RunsLines, ScriptsFollow}
-use Rattle.store_core.specs.Runs.{IsOf}
 use Rattle.store_core.specs.State.{CoreState}
-use Rattle.store_model.specs.Collisions.{IsIn}
+use Rattle.store_model.specs.Collisions.{IsIn, IsOf}
 use Rattle.store_model.specs.Files.{Stored}
 use Rattle.backup_engine.specs.Lines.{RunsEachMap}
 use Rattle.backup_engine.proofs.Called.{Called}

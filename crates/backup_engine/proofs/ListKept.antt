@@ -20,9 +20,8 @@ use Rattle.script_lines.specs.Grammar as lines
 use Rattle.script_lines.specs.ReplyValue as replies
 use Rattle.script_runner.specs.Acts.{Lists}
 use Rattle.store_core.specs.Core.{CoreStep, ListRow, Steps}
-use Rattle.store_core.specs.Runs.{IsOf}
 use Rattle.store_core.specs.State.{CoreState, Event}
-use Rattle.store_model.specs.Collisions.{IsIn}
+use Rattle.store_model.specs.Collisions.{IsIn, IsOf}
 use Rattle.store_model.specs.Files.{Stored}
 use Rattle.store_model.specs.Image.{Store, Encodes, names_of}
 use Rattle.store_model.specs.Standing.{file_listing}

@@ -11,20 +11,22 @@ use Rattle.refusals.specs.declared.refusal.Refusal.TheVariants.{Memory, NoFile, 
 use Rattle.reply_text.specs.declared.ending.Ending.{Ending}
 use Rattle.reply_text.specs.declared.ending.Ending.TheVariants.{Words, Source, Sink, Line, Script, Refused}
 use Rattle.reply_text.specs.Table.{status_of_refusal}
-use Rattle.store_model.specs.Collisions.{HasNoCollisions, ByteSet, IsIn, AreAmong}
+use Rattle.store_model.specs.Collisions.{HasNoCollisions, ByteSet, IsIn, AreAmong, IsOf, OpensAs}
 use Rattle.store_model.specs.Files.{Stored, no_files}
 use Rattle.store_model.specs.Image.{empty_store}
 use Rattle.store_model.specs.Standing.{IsFormatted}
-use Rattle.store_core.specs.Runs.{IsOf}
 use Rattle.backup_engine.specs.AnyDisk.{Formats}
-use Rattle.backup_engine.specs.Line.{CommandLine, Format, TableLine, Single, Run}
-use Rattle.backup_engine.specs.Lines.{RunsByMachine, RunsNone}
+use Rattle.backup_engine.specs.Line.{CommandLine, Format, Ingest, Restore, Delete, TableLine, Single, Run}
+use Rattle.backup_engine.specs.Line as table
+use Rattle.backup_engine.specs.Lines.{RunsBy}
 use Rattle.backup_engine.specs.PlainMap.{map_after}
-use Rattle.backup_engine.specs.Promise.{KeepsMap, IsLeftAs, MayBeMeanwhile, SinceStart, NothingWritten, Stands}
+use Rattle.backup_engine.specs.Promise.{IsLeftBy, MayBeBetween, SinceStart, NothingWritten, Stands}
 use Rattle.backup_engine.specs.TopCall.{Does, DoesNothing, status_by}
-use Rattle.backup_engine.specs.Lists.{Call, KeepsCall, CallRun, IsGivenAmong, IsPromised, BeginsOfMap, LeadsBy, MayLead, MayPass, LeadsTo, Passed, Possible, RunsByTheMap, ScriptLeads, StandsEmpty, FormatBegins, LeavesPossible, AnswersByTheMap, SurvivesACrash}
+use Rattle.backup_engine.specs.Whole.{KeepsWhole, RunsFrom, RunsNoLine}
+use Rattle.backup_engine.specs.Lists.{AnswersBy, Call, KeepsCall, CallRun, IsGivenAmong, IsPromised, BeginsOfMap, LeadsBy, MayLead, MayPass, LeadsTo, Passed, Possible, RunsByTheMap, ScriptLeads, StandsEmpty, FormatBegins, LeavesPossible, AnswersByTheMap, SurvivesACrash}
 use Rattle.backup_engine.proofs.LinesRun.{passed_last}
-use Rattle.backup_engine.proofs.Reading.{same_reads, since_start}
+use Rattle.backup_engine.proofs.ListsFormat.{formats_nothing}
+use Rattle.backup_engine.proofs.Reading.{same_reads, since_began, since_start}
 
 -- ---- one call
 
@@ -32,9 +34,9 @@ use Rattle.backup_engine.proofs.Reading.{same_reads, since_start}
 pub promised : (D : Type 0) (view : D → DiskView) → IsPromised D view
 promised D view c old new promise = (promise.ending, (promise.given, (promise.rs, record { status_is = promise.status_is; noted = promise.noted; does = promise.does })))
 
--- the image is of a map that has P
+-- the image can be opened as a map that has P
 abbrev pub OfSome : (List ℕ → Type 0) → (Stored → Type 0) → List ℕ → Type 0
-OfSome S P image = (next : Stored) × (P next × IsOf S next image)
+OfSome S P image = (next : Stored) × (P next × OpensAs S next image)
 
 -- a line that wrote nothing may leave any map as it was
 leads_nowhere : (command : CommandLine) (given : List ℕ) (ending : Option Ending) (m : Stored) → ((e : Ending) × (ending ≡ Some e) × ¬ (e ≡ Sink)) → LeadsBy command given ending m m
@@ -46,7 +48,7 @@ leads_nowhere command given (Some ending) m not_done = refl
 -- What the promise says of images is read here alone.
 module _ (S : List ℕ → Type 0) (command : CommandLine) (given : List ℕ) where
   -- what is left of a map is one that the line may lead to
-  leads_left : (ending : Option Ending) (m : Stored) (image : List ℕ) → IsLeftAs S command given m ending image → OfSome S (LeadsBy command given ending m) image
+  leads_left : (ending : Option Ending) (m : Stored) (image : List ℕ) → IsLeftBy (OpensAs S) command given m ending image → OfSome S (LeadsBy command given ending m) image
   leads_left None m image left = (map_after command given m, (refl, left))
   leads_left (Some Sink) m image left = (map_after command given m, (refl, left))
   leads_left (Some (Refused DiskWrite)) m image (inl left) = (m, (inl refl, left))
@@ -54,8 +56,8 @@ module _ (S : List ℕ → Type 0) (command : CommandLine) (given : List ℕ) wh
   leads_left (Some ending) m image left = (m, (refl, left))
 
   -- and so is what a crash leaves meanwhile, but for the map as it was
-  leads_meanwhile : (ending : Option Ending) (m : Stored) (image : List ℕ) → MayBeMeanwhile S command given m ending image
-      → IsOf S m image ⊎ OfSome S (LeadsBy command given ending m) image
+  leads_meanwhile : (ending : Option Ending) (m : Stored) (image : List ℕ) → MayBeBetween (OpensAs S) command given m ending image
+      → OpensAs S m image ⊎ OfSome S (LeadsBy command given ending m) image
   leads_meanwhile ending m image (inl was) = inl was
   leads_meanwhile None m image (inr done) = inr (map_after command given m, (refl, done.2))
   leads_meanwhile (Some Sink) m image (inr done) = inr (map_after command given m, (refl, done.2))
@@ -65,8 +67,24 @@ module _ (S : List ℕ → Type 0) (command : CommandLine) (given : List ℕ) wh
 -- what a call answers to a map that it finds: words that are no line do nothing
 abbrev pub Answers : Option TableLine → (List ℕ → Type 0) → Call → Stored → DiskView → DiskView → Type 0
 Answers None S c m v w = DoesNothing c.ending v w c.source c.source_now c.sink c.sink_now
-Answers (Some (Single command)) S c m v w = KeepsMap S command c.given c.ending m v w c.sink c.sink_now
-Answers (Some Run) S c m v w = KnownWith v.content (λ image. IsOf S m image × (RunsByMachine S c.rs m image v w ⊎ RunsNone c.ending c.rs v w))
+Answers (Some (Single command)) S c m v w = AnswersBy S command c m v w
+Answers (Some Run) S c m v w = RunsFrom S c.rs m v w ⊎ RunsNoLine (OpensAs S m) c.ending c.rs v w
+
+-- what a command leaves of it, now and meanwhile
+record Leaves (S : List ℕ → Type 0) (command : CommandLine) (c : Call) (m : Stored) (v w : DiskView) : Type 0 where
+  left : Stands (IsLeftBy (OpensAs S) command c.given m c.ending) w ⊎ NothingWritten c.ending v w
+  crash : (image : List ℕ) → SinceStart v w image → v.images image ⊎ MayBeBetween (OpensAs S) command c.given m c.ending image
+
+module _ (S : List ℕ → Type 0) (c : Call) (m : Stored) (v w : DiskView) where
+  whole_leaves : (command : CommandLine) → KeepsWhole S command c.given c.ending m v w c.sink c.sink_now → Leaves S command c m v w
+  whole_leaves command keeps = record { left = keeps.left; crash = since_began (MayBeBetween (OpensAs S) command c.given m c.ending) v w keeps.crash }
+
+  command_leaves : (command : CommandLine) → AnswersBy S command c m v w → Leaves S command c m v w
+  command_leaves (Format slots) stays = record { left = inr stays.nothing; crash = λ image since. inl (stays.crash image since) }
+  command_leaves (Ingest name) keeps = whole_leaves (Ingest name) keeps
+  command_leaves (Restore name) keeps = whole_leaves (Restore name) keeps
+  command_leaves (Delete name) keeps = whole_leaves (Delete name) keeps
+  command_leaves table.List keeps = whole_leaves table.List keeps
 
 -- the maps after a call, from those that have P
 abbrev pub After : (Stored → Type 0) → Option TableLine → Call → Stored → Type 0
@@ -83,60 +101,67 @@ module _ (S : List ℕ → Type 0) (P : Stored → Type 0) (c : Call) where
   no_lines : (rs : List Replied) (m : Stored) → rs ≡ [] → ScriptLeads rs m m
   no_lines rs m none = subst (λ (l : List Replied). ScriptLeads l m m) (sym none) (record { image = []; faults = 0; last = opened m [] 0; run = refl; found = refl })
 
-  script_nowhere : (image : List ℕ) → c.rs ≡ [] → OfSome S P image → OfSome S (After P (Some Run) c) image
-  script_nowhere image none (next, (has, of)) = (next, ((next, (has, no_lines c.rs next none)), of))
-
   module _ (m : Stored) (v w : DiskView) (has : P m) (stands : Stands (OfSome S P) v) where
-    line_leads : (command : CommandLine) (image : List ℕ) → IsLeftAs S command c.given m c.ending image → OfSome S (After P (Some (Single command)) c) image
+    line_leads : (command : CommandLine) (image : List ℕ) → IsLeftBy (OpensAs S) command c.given m c.ending image → OfSome S (After P (Some (Single command)) c) image
     line_leads command image left = let one = leads_left S command c.given c.ending m image left in (one.0, ((m, (has, one.1.0)), one.1.1))
 
-    line_leaves : (command : CommandLine) → Stands (IsLeftAs S command c.given m c.ending) w ⊎ NothingWritten c.ending v w → Stands (OfSome S (After P (Some (Single command)) c)) w
+    line_leaves : (command : CommandLine) → Stands (IsLeftBy (OpensAs S) command c.given m c.ending) w ⊎ NothingWritten c.ending v w → Stands (OfSome S (After P (Some (Single command)) c)) w
     line_leaves command (inl left) = ((left.0.0, left.0.1, line_leads command left.0.0 left.0.2), λ d is. line_leads command d (left.1 d is))
     line_leaves command (inr none) =
         ((stands.0.0, none.content ∙ stands.0.1, same_leads command stands.0.0 none.not_done stands.0.2), λ d is. same_leads command d none.not_done (stands.1 d (none.images d is)))
 
-    module _ (image : List ℕ) (machine : RunsByMachine S c.rs m image v w) where
+    -- lines that are a run of the machine, from a content of the files
+    module _ (start : List ℕ) (machine : RunsBy (OpensAs S) c.rs m start v w) where
       script_now : (d : List ℕ) → w.images d → OfSome S (After P (Some Run) c) d
       script_now d is =
           let found = machine.through.now d is in
-          (found.0, ((m, (has, record { image = image; faults = v.faults; last = machine.last; run = machine.run; found = found.1.0 })), found.1.1))
+          (found.0, ((m, (has, record { image = start; faults = v.faults; last = machine.last; run = machine.run; found = found.1.0 })), found.1.1))
 
-      script_passes : (d : List ℕ) → IsOfSome (IsOf S) (IsPassedFrom m.last c.rs (opened m image v.faults) machine.last machine.run) d → OfSome S (MayPass (Some Run) c m) d
-      script_passes d passed = (passed.0, (record { image = image; faults = v.faults; last = machine.last; run = machine.run; passed = passed.1.0 }, passed.1.1))
+      script_passes : (d : List ℕ) → IsOfSome (OpensAs S) (IsPassedFrom m.last c.rs (opened m start v.faults) machine.last machine.run) d → OfSome S (MayPass (Some Run) c m) d
+      script_passes d passed = (passed.0, (record { image = start; faults = v.faults; last = machine.last; run = machine.run; passed = passed.1.0 }, passed.1.1))
 
       script_crash : (d : List ℕ) → SinceStart v w d → OfSome S P d ⊎ OfSome S (MayPass (Some Run) c m) d
       script_crash d (inl is) =
           let found = machine.through.now d is in
-          inr (script_passes d (found.0, (passed_last c.rs (opened m image v.faults) machine.last machine.run m.last found.0 (omega (arith, machine.through.many)) found.1.0, found.1.1)))
+          inr (script_passes d (found.0, (passed_last c.rs (opened m start v.faults) machine.last machine.run m.last found.0 (omega (arith, machine.through.many)) found.1.0, found.1.1)))
       script_crash d (inr since) = elim (machine.through.since v.clock d (omega arith) since.0 since.1) [
         | inl was ↦ inl (stands.1 d (v.only_now d since.0 was))
         | inr passed ↦ inr (script_passes d passed)
       ]
 
-    script_leaves : (image : List ℕ) → RunsByMachine S c.rs m image v w ⊎ RunsNone c.ending c.rs v w → Stands (OfSome S (After P (Some Run) c)) w
-    script_leaves image (inl machine) =
+    -- no line: the files are as they were
+    module _ (none : RunsNoLine (OpensAs S m) c.ending c.rs v w) where
+      none_same : (d : List ℕ) → OpensAs S m d → OfSome S (After P (Some Run) c) d
+      none_same d opens = (m, ((m, (has, no_lines c.rs m none.none)), opens))
+
+      none_before : (d : List ℕ) → OfSome S P d → OfSome S (After P (Some Run) c) d
+      none_before d (next, (was, opens)) = (next, ((next, (was, no_lines c.rs next none.none)), opens))
+
+      none_now : (d : List ℕ) → w.images d → OfSome S (After P (Some Run) c) d
+      none_now d is = elim (none.leaves.now d is) [ inl was ↦ none_before d (stands.1 d was) | inr opens ↦ none_same d opens ]
+
+      none_crash : (d : List ℕ) → SinceStart v w d → OfSome S P d
+      none_crash d since = elim (since_began (OpensAs S m) v w none.leaves d since) [ inl was ↦ stands.1 d was | inr opens ↦ (m, (has, opens)) ]
+
+    script_leaves : RunsFrom S c.rs m v w ⊎ RunsNoLine (OpensAs S m) c.ending c.rs v w → Stands (OfSome S (After P (Some Run) c)) w
+    script_leaves (inl (start, (of, machine))) =
         let told = machine.through.content in
-        ((machine.last.content, told, script_now image machine machine.last.content (w.as_read machine.last.content told)), script_now image machine)
-    script_leaves image (inr none) =
-        ((stands.0.0, none.content ∙ stands.0.1, script_nowhere stands.0.0 none.none stands.0.2), λ d is. script_nowhere d none.none (stands.1 d (none.images d is)))
+        ((machine.last.content, told, script_now start machine machine.last.content (w.as_read machine.last.content told)), script_now start machine)
+    script_leaves (inr none) = ((none.content.0, none.content.1, none_same none none.content.0 none.content.2), none_now none)
 
-    none_crash : RunsNone c.ending c.rs v w → (d : List ℕ) → SinceStart v w d → v.images d
-    none_crash none d (inl is) = none.images d is
-    none_crash none d (inr since) = elim (none.since v.clock d (omega arith) since.1) [ inl was ↦ v.only_now d since.0 was | inr there ↦ there ]
-
-    script_meanwhile : (image : List ℕ) → RunsByMachine S c.rs m image v w ⊎ RunsNone c.ending c.rs v w → (d : List ℕ) → SinceStart v w d → OfSome S P d ⊎ OfSome S (MayPass (Some Run) c m) d
-    script_meanwhile image (inl machine) d since = script_crash image machine d since
-    script_meanwhile image (inr none) d since = inl (stands.1 d (none_crash none d since))
+    script_meanwhile : RunsFrom S c.rs m v w ⊎ RunsNoLine (OpensAs S m) c.ending c.rs v w → (d : List ℕ) → SinceStart v w d → OfSome S P d ⊎ OfSome S (MayPass (Some Run) c m) d
+    script_meanwhile (inl (start, (of, machine))) d since = script_crash start machine d since
+    script_meanwhile (inr none) d since = inl (none_crash none d since)
 
     -- what it leaves
     leaves : (line : Option TableLine) → Answers line S c m v w → Stands (OfSome S (After P line c)) w
     leaves None nothing =
         let reads = same_reads v w nothing.disk_is in
         ((stands.0.0, reads.content_is ∙ stands.0.1, words_lead stands.0.0 stands.0.2), λ d is. words_lead d (stands.1 d (reads.images_are d is)))
-    leaves (Some (Single command)) keeps = line_leaves command keeps.left
-    leaves (Some Run) runs = script_leaves runs.0 runs.2.1
+    leaves (Some (Single command)) answers = let left = command_leaves S c m v w command answers in line_leaves command left.left
+    leaves (Some Run) runs = script_leaves runs
 
-    line_crash : (command : CommandLine) (image : List ℕ) → v.images image ⊎ MayBeMeanwhile S command c.given m c.ending image
+    line_crash : (command : CommandLine) (image : List ℕ) → v.images image ⊎ MayBeBetween (OpensAs S) command c.given m c.ending image
         → OfSome S P image ⊎ OfSome S (MayPass (Some (Single command)) c m) image
     line_crash command image (inl before) = inl (stands.1 image before)
     line_crash command image (inr meanwhile) = elim (leads_meanwhile S command c.given c.ending m image meanwhile) [ inl was ↦ inl (m, (has, was)) | inr led ↦ inr led ]
@@ -144,8 +169,8 @@ module _ (S : List ℕ → Type 0) (P : Stored → Type 0) (c : Call) where
     -- and what a crash since it began leaves
     crash_leaves : (line : Option TableLine) → Answers line S c m v w → (image : List ℕ) → SinceStart v w image → OfSome S P image ⊎ OfSome S (MayPass line c m) image
     crash_leaves None nothing image since = inl (stands.1 image (since_start v w (same_reads v w nothing.disk_is) image since))
-    crash_leaves (Some (Single command)) keeps image since = line_crash command image (keeps.crash image since)
-    crash_leaves (Some Run) runs image since = script_meanwhile runs.0 runs.2.1 image since
+    crash_leaves (Some (Single command)) answers image since = let left = command_leaves S c m v w command answers in line_crash command image (left.crash image since)
+    crash_leaves (Some Run) runs image since = script_meanwhile runs image since
 
 -- ---- calls, one after the other
 
@@ -169,49 +194,53 @@ given_last : (S : List ℕ → Type 0) (calls : List Call) (last : Call) → All
 given_last S [] last given = given.0
 given_last S (c ∷ cs) last given = given_last S cs last given.1
 
-module _ (among : ByteSet) (apart : HasNoCollisions (IsIn among)) where
-  answers_line : (line : Option TableLine) (c : Call) (m : Stored) (v w : DiskView) (image : List ℕ) → IsGivenAmong (IsIn among) c → v.content ≡ Some image → IsOf (IsIn among) m image
-      → Does line c.given c.rs c.ending v w c.source c.source_now c.sink c.sink_now → Answers line (IsIn among) c m v w
-  answers_line None c m v w image given told of does = does
-  answers_line (Some (Single command)) c m v w image given told of does = does.0.map image told among m apart given.given of
-  answers_line (Some Run) c m v w image given told of does = (image, told, (of, does.machine image told among m apart (given.cut m image v.faults) of))
+module _ (D : Type 0) (view : D → DiskView) (among : ByteSet) (apart : HasNoCollisions (IsIn among)) where
+  answers_line : (line : Option TableLine) (c : Call) (m : Stored) (v w : DiskView) (image : List ℕ) → IsGivenAmong (IsIn among) c → v.content ≡ Some image → OpensAs (IsIn among) m image
+      → Does D view line c.given c.rs c.ending v w c.source c.source_now c.sink c.sink_now → Answers line (IsIn among) c m v w
+  answers_line None c m v w image given told opens does = does
+  answers_line (Some (Single (Format slots))) c m v w image given told opens does = formats_nothing among apart slots c m v w image given.given told opens does.0
+  answers_line (Some (Single (Ingest name))) c m v w image given told opens does = does.whole image told among m apart given.given opens
+  answers_line (Some (Single (Restore name))) c m v w image given told opens does = does.whole image told among m apart given.given opens
+  answers_line (Some (Single (Delete name))) c m v w image given told opens does = does.whole image told among m apart given.given opens
+  answers_line (Some (Single table.List)) c m v w image given told opens does = does.whole image told among m apart given.given opens
+  answers_line (Some Run) c m v w image given told opens does = does.lines image told among m apart (λ start. given.cut m start v.faults) opens
 
   -- the map that a call finds in the content
-  found : (P : Stored → Type 0) (c : Call) (v w : DiskView) → IsGivenAmong (IsIn among) c → Stands (OfSome (IsIn among) P) v → KeepsCall c v w
-      → (m : Stored) × (P m × KnownWith v.content (IsOf (IsIn among) m) × Answers c.line (IsIn among) c m v w)
-  found P c v w given ((image, told, (m, (has, of))), each) keeps = (m, (has, (image, told, of), answers_line c.line c m v w image given told of keeps.does))
+  found : (P : Stored → Type 0) (c : Call) (v w : DiskView) → IsGivenAmong (IsIn among) c → Stands (OfSome (IsIn among) P) v → KeepsCall D view c v w
+      → (m : Stored) × (P m × KnownWith v.content (OpensAs (IsIn among) m) × Answers c.line (IsIn among) c m v w)
+  found P c v w given ((image, told, (m, (has, opens))), each) keeps = (m, (has, (image, told, opens), answers_line c.line c m v w image given told opens keeps.does))
 
-  one_call : (P : Stored → Type 0) (c : Call) (v w : DiskView) → IsGivenAmong (IsIn among) c → Stands (OfSome (IsIn among) P) v → KeepsCall c v w
+  one_call : (P : Stored → Type 0) (c : Call) (v w : DiskView) → IsGivenAmong (IsIn among) c → Stands (OfSome (IsIn among) P) v → KeepsCall D view c v w
       → Stands (OfSome (IsIn among) (After P c.line c)) w
   one_call P c v w given stands keeps =
       let one = found P c v w given stands keeps in
       leaves (IsIn among) P c one.0 v w one.1.0 stands c.line one.1.2
 
-  all_calls : (D : Type 0) (view : D → DiskView) (P : Stored → Type 0) (calls : List Call) (old new : D) → AllByRecursion (IsGivenAmong (IsIn among)) calls
+  all_calls : (P : Stored → Type 0) (calls : List Call) (old new : D) → AllByRecursion (IsGivenAmong (IsIn among)) calls
       → Stands (OfSome (IsIn among) P) (view old) → CallRun D view calls old new → Stands (OfSome (IsIn among) (AfterAll P calls)) (view new)
-  all_calls D view P [] old new given stands run =
+  all_calls P [] old new given stands run =
       subst (λ (d : D). Stands (OfSome (IsIn among) (AfterAll P [])) (view d)) (sym run) (weaker (IsIn among) P (AfterAll P []) (view old) (λ m has. (m, (has, refl))) stands)
-  all_calls D view P (c ∷ cs) old new given stands (mid, (keeps, rest)) =
+  all_calls P (c ∷ cs) old new given stands (mid, (keeps, rest)) =
       weaker (IsIn among) (AfterAll (After P c.line c) cs) (AfterAll P (c ∷ cs)) (view new) (λ next all. (all.1.0.0, (all.1.0.1.0, (all.0, (all.1.0.1.1, all.1.1)))))
-      (all_calls D view (After P c.line c) cs mid new given.1 (one_call P c (view old) (view mid) given.0 stands keeps) rest)
+      (all_calls (After P c.line c) cs mid new given.1 (one_call P c (view old) (view mid) given.0 stands keeps) rest)
 
 -- ---- the theorem
 
-only_one : (S : List ℕ → Type 0) (m : Stored) (v : DiskView) → Stands (IsOf S m) v → Stands (OfSome S (λ s. s ≡ m)) v
+only_one : (S : List ℕ → Type 0) (m : Stored) (v : DiskView) → Stands (OpensAs S m) v → Stands (OfSome S (λ s. s ≡ m)) v
 only_one S m v stands = ((stands.0.0, stands.0.1, (m, (refl, stands.0.2))), λ d is. (m, (refl, stands.1 d is)))
 
 pub leaves_possible : (D : Type 0) (view : D → DiskView) → LeavesPossible D view
 leaves_possible D view among m calls old new begins run =
     weaker (IsIn among) (AfterAll (λ s. s ≡ m) calls) (LeadsTo calls m) (view new) (λ next all. subst (λ (s : Stored). LeadsTo calls s next) all.1.0 all.1.1)
-    (all_calls among begins.apart D view (λ s. s ≡ m) calls old new begins.given (only_one (IsIn among) m (view old) begins.stands) run)
+    (all_calls D view among begins.apart (λ s. s ≡ m) calls old new begins.given (only_one (IsIn among) m (view old) begins.stands) run)
 
 module _ (D : Type 0) (view : D → DiskView) (among : ByteSet) (m : Stored) (calls : List Call) (last : Call) (old mid new : D) (begins : BeginsOfMap (IsIn among) (calls ++ last ∷ []) m (view old))
-    (run : CallRun D view calls old mid) (keeps : KeepsCall last (view mid) (view new)) where
+    (run : CallRun D view calls old mid) (keeps : KeepsCall D view last (view mid) (view new)) where
   before : Stands (Possible (IsIn among) calls m) (view mid)
   before = leaves_possible D view among m calls old mid (record { apart = begins.apart; given = given_before (IsIn among) calls last begins.given; stands = begins.stands }) run
 
-  last_finds : (now : Stored) × (LeadsTo calls m now × KnownWith (view mid).content (IsOf (IsIn among) now) × Answers last.line (IsIn among) last now (view mid) (view new))
-  last_finds = found among begins.apart (LeadsTo calls m) last (view mid) (view new) (given_last (IsIn among) calls last begins.given) before keeps
+  last_finds : (now : Stored) × (LeadsTo calls m now × KnownWith (view mid).content (OpensAs (IsIn among) now) × Answers last.line (IsIn among) last now (view mid) (view new))
+  last_finds = found D view among begins.apart (LeadsTo calls m) last (view mid) (view new) (given_last (IsIn among) calls last begins.given) before keeps
 
   by_led : (now : Stored) → LeadsTo calls m now → (c : List ℕ) → Possible (IsIn among) calls m c ⊎ OfSome (IsIn among) (MayPass last.line last now) c
       → Possible (IsIn among) calls m c ⊎ Passed (IsIn among) calls last m c
@@ -226,7 +255,7 @@ answers_by_the_map D view among m calls last command old mid new begins run keep
 pub runs_by_the_map : (D : Type 0) (view : D → DiskView) → RunsByTheMap D view
 runs_by_the_map D view among m calls last old mid new begins run keeps line_is =
     let one = last_finds D view among m calls last old mid new begins run keeps in
-    (one.0, (one.1.0, subst (λ (l : Option TableLine). Answers l (IsIn among) last one.0 (view mid) (view new)) line_is one.1.2))
+    (one.0, (one.1.0, one.1.1, subst (λ (l : Option TableLine). Answers l (IsIn among) last one.0 (view mid) (view new)) line_is one.1.2))
 
 pub survives_a_crash : (D : Type 0) (view : D → DiskView) → SurvivesACrash D view
 survives_a_crash D view among m calls last old mid new begins run keeps c since =
@@ -285,16 +314,16 @@ done_at_zero (Some (Line number)) is = cc
 done_at_zero (Some Script) is = cc
 done_at_zero (Some (Refused refusal)) is = absurd (refused refusal is)
 
-module _ (slots : ℕ) (c : Call) (v w : DiskView) where
+module _ (D : Type 0) (view : D → DiskView) (slots : ℕ) (c : Call) (v w : DiskView) where
   abbrev DoesBy : Option TableLine → Option Ending → Type 0
-  DoesBy line ending = Does line c.given c.rs ending v w c.source c.source_now c.sink c.sink_now
+  DoesBy line ending = Does D view line c.given c.rs ending v w c.source c.source_now c.sink c.sink_now
 
-  format_done : KeepsCall c v w → c.line ≡ Some (Single (Format slots)) → c.status ≡ 0 → Formats slots v w × IsDurable w
+  format_done : KeepsCall D view c v w → c.line ≡ Some (Single (Format slots)) → c.status ≡ 0 → Formats slots v w × IsDurable w
   format_done keeps line_is zero_is =
       let done : DoesBy (Some (Single (Format slots))) None = subst (DoesBy (Some (Single (Format slots)))) (done_at_zero c.ending (sym keeps.status_is ∙ zero_is)) (subst (λ (l : Option TableLine). DoesBy l c.ending) line_is keeps.does) in
       (done.0.any.caused, done.0.any.durable)
 
 pub format_begins : (D : Type 0) (view : D → DiskView) → FormatBegins D view
 format_begins D view among slots c old new told keeps line_is zero_is =
-    let done = format_done slots c (view old) (view new) keeps line_is zero_is in
+    let done = format_done D view slots c (view old) (view new) keeps line_is zero_is in
     stands_empty D view among slots old new told done.0 done.1

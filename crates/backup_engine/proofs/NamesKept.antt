@@ -31,7 +31,7 @@ use Rattle.backup_engine.proofs.LinesRun.{lines_run}
 use Rattle.backup_engine.proofs.ListKept.{is_done, not_listed, told_names}
 use Rattle.backup_engine.proofs.NameLines.{deleted_line_run, listed_line_run, next_sequence, noted, one_actor, undeleted_line_run}
 use Rattle.backup_engine.proofs.Replied.{replied_sent, wrote_sent}
-use Rattle.backup_engine.proofs.Returned.{one_later, whole_later}
+use Rattle.backup_engine.proofs.Returned.{one_later}
 
 module _ (D : Type 0) (view : D → DiskView) (C : Type 0) (state : C → CoreState) (before : D) (w : DiskView) (old new : C) (called : Called C state (view before) w old new)
     (opens : OpenedFollows D view C state) (follows : ScriptsFollow C state) where
@@ -102,17 +102,17 @@ module _ (D : Type 0) (view : D → DiskView) (C : Type 0) (state : C → CoreSt
 
 -- ---- the disk, later
 
-module _ (C : Type 0) (state : C → CoreState) (v w : DiskView) (old new : C) (called : Called C state v w old new) where
+module _ (C : Type 0) (state : C → CoreState) (old new : C) where
   asked_later : (name : List ℕ) (deleted : Result Unit Refusal) → AsksDelete C state name deleted old new → IsLater (state old).disk (state new).disk
   asked_later name (Ok u) asks = one_later C state _ old new asks.1.1
   asked_later name (Err refusal) asks = one_later C state _ old new asks.1
 
-  pub delete_later : (name reply : List ℕ) (result : Result Unit Ending) (sink sink_now : SinkView) → DeleteRun C state name reply result old new sink sink_now → IsLater v w
-  delete_later name reply result sink sink_now run = whole_later C state v w old new called (asked_later name run.0 run.1.0)
+  pub delete_later : (name reply : List ℕ) (result : Result Unit Ending) (sink sink_now : SinkView) → DeleteRun C state name reply result old new sink sink_now → IsLater (state old).disk (state new).disk
+  delete_later name reply result sink sink_now run = asked_later name run.0 run.1.0
 
   listed_later : (listed : Result (List NamedRoot) Refusal) → Lists C state listed old new → IsLater (state old).disk (state new).disk
   listed_later (Ok files) lists = one_later C state _ old new lists.1
   listed_later (Err refusal) lists = one_later C state _ old new lists.1
 
-  pub list_later : (result : Result Unit Ending) (sink sink_now : SinkView) → ListRun C state result old new sink sink_now → IsLater v w
-  list_later result sink sink_now run = whole_later C state v w old new called (listed_later run.0 run.1.0)
+  pub list_later : (result : Result Unit Ending) (sink sink_now : SinkView) → ListRun C state result old new sink sink_now → IsLater (state old).disk (state new).disk
+  list_later result sink sink_now run = listed_later run.0 run.1.0

@@ -2,7 +2,7 @@
 use Rattle.std.proofs.Common.{◌≡◌, inl, ◌≤◌, ℕ, List, [], IsTrue, false, true, Option, Some, Err, refl, ◌∙◌, arith}
 use Rattle.base_model.specs.Known.{Known}
 use Rattle.dd_disk.specs.View.{DiskView, IsLater, OnlyReads}
-use Rattle.dd_disk.specs.Ending.{Reads, Refused as NoFault, ending_of}
+use Rattle.dd_disk.specs.Ending.{Reads, Refused as NoFault}
 use Rattle.dd_disk.specs.Shows.{Shows}
 use Rattle.dd_disk.proofs.Ended.{reads_refused}
 use Rattle.dd_disk.proofs.Shows.{until, shown_content}
@@ -13,11 +13,10 @@ use Rattle.reply_text.specs.declared.ending.Ending.TheVariants.{Sink, Refused}
 use Rattle.store_model.specs.Files.{Stored}
 use Rattle.store_model.specs.Image.{Store}
 use Rattle.store_model.specs.Slots.{free_slots}
-use Rattle.store_model.specs.Collisions.{IsIn}
-use Rattle.store_state.specs.Refused.{blames, fails}
+use Rattle.store_model.specs.Collisions.{IsIn, IsOf}
+use Rattle.store_state.specs.Refused.{fails}
 use Rattle.recovery.specs.Opening.{IsOpenRefusal, Opens}
-use Rattle.store_core.specs.Opening.{IsGivenUp}
-use Rattle.store_core.specs.Runs.{IsOf}
+use Rattle.store_core.specs.Opening.{IsGivenUp, IsNotRead}
 use Rattle.store_core.specs.State.{CoreState}
 use Rattle.backup_engine.specs.Line.{CommandLine, Format, Ingest, Restore, Delete}
 use Rattle.backup_engine.specs.Line as table
@@ -90,11 +89,9 @@ fails_alone : (store : Store) (refusal : Refusal) → 2 ≤ free_slots store.hel
 fails_alone store (Full free) reserve opens = absurd (omega (arith, reserve, opens.0, opens.1))
 fails_alone store refusal reserve opens = opens
 
--- what the opening of a disk promises where it refuses
-pub record IsUnopened (v w : DiskView) (refusal : Refusal) : Type 0 where
-  pub cause : IsOpenRefusal (Shows v w) v.size refusal
-  pub given_up : Shows v w (IsGivenUp refusal)
-  pub reads : Reads (ending_of (blames refusal)) v w
+-- the opening of a disk was refused
+abbrev pub IsUnopened : DiskView → DiskView → Refusal → Type 0
+IsUnopened v w refusal = IsNotRead refusal v w
 
 module _ (v w : DiskView) (refusal : Refusal) (is : IsUnopened v w refusal) where
   pub map_fails : (S : List ℕ → Type 0) (m : Stored) (old : List ℕ) → v.content ≡ Some old → IsOf S m old → IsTrue (fails refusal)

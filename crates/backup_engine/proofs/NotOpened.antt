@@ -19,11 +19,11 @@ use Rattle.disk_format.specs.Cells.{IsName}
 use Rattle.namespace.specs.Names.{NameMap}
 use Rattle.store_model.specs.Files.{Stored}
 use Rattle.store_model.specs.Image.{names_of}
-use Rattle.store_model.specs.Collisions.{IsIn}
+use Rattle.store_model.specs.Collisions.{IsIn, IsOf}
 use Rattle.store_state.specs.Refused.{blames}
 use Rattle.read_steps.specs.Readers as readers
 use Rattle.store_core.specs.Core.{CoreStep, OpenRow}
-use Rattle.store_core.specs.Runs.{IsOf, FileEvent}
+use Rattle.store_core.specs.Runs.{FileEvent}
 use Rattle.store_core.specs.Sound.{FindsFile}
 use Rattle.store_core.specs.State.{CoreState, Event}
 use Rattle.store_core.proofs.Damage.{finds_files}

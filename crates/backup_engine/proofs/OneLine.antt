@@ -1,5 +1,5 @@
 -- One line over a core that was opened: what the machine's step says of the disk, and of the map.
-use Rattle.std.proofs.Common.{◌≡◌, ◌⊎◌, inl, inr, ℕ, zero, suc, List, [], ◌∷◌, Option, None, Some, replicate, refl, sym, ◌∙◌, subst, arith}
+use Rattle.std.proofs.Common.{◌≡◌, ◌⊎◌, inl, inr, ℕ, zero, suc, List, [], ◌∷◌, Option, None, Some, replicate, refl, sym, ◌∙◌, subst}
 use Rattle.std.specs.Prelude.{slice_index_or}
 use Rattle.dd_disk.specs.View.{DiskView}
 use Rattle.dd_io.specs.Flow.{SinkView}
@@ -15,8 +15,7 @@ use Rattle.script_lines.specs.Grammar.{LineValue}
 use Rattle.script_lines.specs.ReplyValue.{ReplyValue}
 use Rattle.script_runner.specs.Follows.{IsCut}
 use Rattle.script_runner.specs.Scripts.{IsCutBy}
-use Rattle.store_core.specs.Runs.{IsOf}
-use Rattle.store_model.specs.Collisions.{ByteSet, HasNoCollisions, IsIn}
+use Rattle.store_model.specs.Collisions.{ByteSet, HasNoCollisions, IsIn, IsOf}
 use Rattle.store_model.specs.Files.{Stored}
 use Rattle.store_model.specs.Image.{Store, Encodes}
 use Rattle.backup_engine.specs.Adding.{Adds}
@@ -24,7 +23,8 @@ use Rattle.backup_engine.specs.Line.{CommandLine}
 use Rattle.backup_engine.specs.Lines.{RunsByMachine, RunsEachMap}
 use Rattle.backup_engine.specs.PlainMap.{CanBeDone}
 use Rattle.backup_engine.specs.Promise as promise
-use Rattle.backup_engine.specs.Promise.{EndsBy, IsLeftAs, KeepsMap, MayBeMeanwhile, SinceStart}
+use Rattle.backup_engine.specs.Promise.{EndsBy, IsLeftAs, KeepsMap, LeavesMeanwhile, MayBeMeanwhile}
+use Rattle.backup_engine.proofs.WholeCall.{leaves_more}
 use Rattle.backup_engine.specs.Singles.{said}
 
 -- ---- what is cut
@@ -56,7 +56,7 @@ pub record OneStep (S : List ℕ → Type 0) (line : LineValue) (reply : ReplyVa
   pub step : Step line reply (opened m image v.faults) last
   pub content : w.content ≡ Some last.content
   pub now : (d : List ℕ) → w.images d → IsOfSome (IsOf S) (MayBeFound last.state last.stored) d
-  pub crash : (d : List ℕ) → SinceStart v w d → v.images d ⊎ (IsOf S m d ⊎ IsOfSome (IsOf S) (MayBeFound last.state last.stored) d)
+  pub crash : LeavesMeanwhile (λ d. IsOf S m d ⊎ IsOfSome (IsOf S) (MayBeFound last.state last.stored) d) v w
 
 module _ (S : List ℕ → Type 0) (line : LineValue) (reply : ReplyValue) (m : Stored) (image : List ℕ) (v w : DiskView) where
   abbrev first : Machine
@@ -82,12 +82,11 @@ module _ (S : List ℕ → Type 0) (line : LineValue) (reply : ReplyValue) (m : 
     found_now : (d : List ℕ) → w.images d → Found mid d
     found_now d left = subst (λ (n : Machine). Found n d) same (is.through.now d left)
 
-    crashed : (d : List ℕ) → SinceStart v w d → v.images d ⊎ (IsOf S m d ⊎ Found mid d)
-    crashed d (inl left) = inr (inr (found_now d left))
-    crashed d (inr since) = elim (is.through.since v.clock d (omega arith) since.0 since.1) [
-      | inl was ↦ inl (v.only_now d since.0 was)
-      | inr there ↦ inr (passed is.last is.run d there)
-    ]
+    crashed : LeavesMeanwhile (λ d. IsOf S m d ⊎ Found mid d) v w
+    crashed = record {
+      now = λ d left. inr (inr (found_now d left));
+      since = λ t d within below since. elim (is.through.since t d within below since) [ inl was ↦ inl was | inr there ↦ inr (passed is.last is.run d there) ];
+    }
 
     pub one_step : OneStep S line reply m image v w
     one_step = record {
@@ -134,11 +133,7 @@ module _ (S : List ℕ → Type 0) (line : LineValue) (reply : ReplyValue) (m : 
     wrote = wrote;
     added = λ old known store right. adds store (subst (λ (bytes : List ℕ). Encodes bytes store) (same_content old known) right);
     left = inl ((one.last.content, one.content, left one.last.content (w.as_read one.last.content one.content)), left);
-    crash = λ d since. elim (one.crash d since) [
-      | inl was ↦ inl was
-      | inr (inl is) ↦ inr (inl is)
-      | inr (inr found) ↦ inr (meanwhile S command [] m ending d can (leaves found.0 d found.1.0 found.1.1))
-    ];
+    crash = leaves_more (λ d. IsOf S m d ⊎ IsOfSome (IsOf S) (MayBeFound one.last.state one.last.stored) d) (MayBeMeanwhile S command [] m ending) v w between one.crash;
   }
     where
       same_content : (old : List ℕ) → v.content ≡ Some old → old ≡ image
@@ -146,3 +141,7 @@ module _ (S : List ℕ → Type 0) (line : LineValue) (reply : ReplyValue) (m : 
 
       left : (d : List ℕ) → w.images d → IsLeftAs S command [] m ending d
       left d is = let found = one.now d is in leaves found.0 d found.1.0 found.1.1
+
+      between : (d : List ℕ) → IsOf S m d ⊎ IsOfSome (IsOf S) (MayBeFound one.last.state one.last.stored) d → MayBeMeanwhile S command [] m ending d
+      between d (inl is) = inl is
+      between d (inr found) = meanwhile S command [] m ending d can (leaves found.0 d found.1.0 found.1.1)

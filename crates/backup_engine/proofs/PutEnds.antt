@@ -1,5 +1,6 @@
 -- Which maps the steps by which a file is stored lead to.
 use Rattle.std.proofs.Common.{◌≡◌, ◌⊎◌, inl, inr, ℕ, List, [], ◌∷◌, Option, Some, None, Result, Ok, Err, refl, ◌∙◌, ap, subst}
+use Rattle.store_model.specs.Collisions.{IsOf}
 use Rattle.store_model.specs.Files.{Stored, with_stored}
 use Rattle.std.specs.List.{AllByRecursion}
 use Rattle.actor_parts.specs.declared.step.Answer.{Answer}
@@ -9,7 +10,7 @@ use Rattle.refusals.specs.declared.refusal.Refusal.{Refusal}
 use Rattle.refusals.specs.declared.refusal.Refusal.TheVariants as refusals
 use Rattle.reply_text.specs.declared.ending.Ending.{Ending}
 use Rattle.reply_text.specs.declared.ending.Ending.TheVariants.{Refused}
-use Rattle.store_core.specs.Runs.{FileEvent, IsOf, IsOnTheWay, stored_with, stored_by, stored_after, stored_tried, stored_tried_by}
+use Rattle.store_core.specs.Runs.{FileEvent, IsOnTheWay, stored_with, stored_by, stored_after, stored_tried, stored_tried_by}
 use Rattle.backup_engine.specs.Line.{Ingest}
 use Rattle.backup_engine.specs.PlainMap.{CanBeDone}
 use Rattle.backup_engine.specs.Promise.{IsLeftAs, MayBeMeanwhile}

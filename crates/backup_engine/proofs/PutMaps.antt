@@ -1,5 +1,5 @@
 -- Over a disk that stands for a map an `ingest` keeps the map.
-use Rattle.std.proofs.Common.{◌≡◌, ◌⊎◌, inl, inr, ℕ, ◌-◌, ◌^◌, ◌<◌, ◌≤◌, List, length, Option, Some, None, Result, Ok, Err, refl, sym, ◌∙◌, subst, arith}
+use Rattle.std.proofs.Common.{◌≡◌, ◌⊎◌, inl, inr, ℕ, ◌<◌, ◌≤◌, List, length, Option, Some, None, Result, Ok, Err, refl, sym, ◌∙◌, subst}
 use Rattle.store_model.specs.Files.{Stored}
 use Rattle.std.specs.List.{AllByRecursion}
 use Rattle.base_model.specs.Known.{KnownWith}
@@ -12,7 +12,7 @@ use Rattle.refusals.specs.declared.refusal.Refusal.TheVariants.{Memory, TooLong,
 use Rattle.reply_text.specs.declared.ending.Ending.{Ending}
 use Rattle.reply_text.specs.declared.ending.Ending.TheVariants.{Source, Sink, Refused}
 use Rattle.reply_text.specs.Text.{stored_line}
-use Rattle.store_model.specs.Collisions.{HasNoCollisions, ByteSet, IsIn}
+use Rattle.store_model.specs.Collisions.{HasNoCollisions, ByteSet, IsIn, IsOf}
 use Rattle.store_model.specs.Image.{Store, Encodes, IsValidFor}
 use Rattle.store_model.specs.Slots.{free_slots}
 use Rattle.store_model.specs.Standing.{IsStoreOf, IsSegmentOf}
@@ -22,7 +22,7 @@ use Rattle.store_model.specs.Steps.{with_change}
 use Rattle.store_model.proofs.Once.{store_once}
 use Rattle.store_model.specs.Trees.{root_of}
 use Rattle.store_state.specs.Tables.{Represents}
-use Rattle.store_core.specs.Runs.{FileRun, IsAt, IsOf, IsOnTheWay, Reaches, stored_after}
+use Rattle.store_core.specs.Runs.{FileRun, IsAt, IsOnTheWay, Reaches, stored_after}
 use Rattle.store_core.specs.State.{CoreState}
 use Rattle.store_core.proofs.Crashes.{last_at, leaves, ends_with_all}
 use Rattle.store_core.proofs.KeepingFiles.{keeps_files}
@@ -30,13 +30,14 @@ use Rattle.backup_engine.specs.Adding.{Adds, AddsTo, AddsOnce}
 use Rattle.backup_engine.specs.Line.{Ingest}
 use Rattle.backup_engine.specs.AnyDisk.{ReadsSince, room_in}
 use Rattle.backup_engine.specs.PlainMap.{CanBeDone, Room, room_of, RefusesIngest}
-use Rattle.backup_engine.specs.Promise.{KeepsMap, KeepsEachMap, IsLeftWith, IsLeftAs, EndsBy, WroteReply, SinceStart, MayBeMeanwhile}
+use Rattle.backup_engine.specs.Promise.{KeepsMap, KeepsEachMap, IsLeftWith, IsLeftAs, EndsBy, LeavesMeanwhile, WroteReply, MayBeMeanwhile}
 use Rattle.backup_engine.specs.Running.{EndsPut, PutRun, IsPutRefusal, seals_of}
 use Rattle.backup_engine.specs.Storing.{IsSourceFault}
 use Rattle.backup_engine.proofs.Added.{adds_to, put_in}
+use Rattle.backup_engine.proofs.WholeCall.{leaves_more, leaves_of}
 use Rattle.backup_engine.proofs.Called.{Called, Starts, settled, starts}
 use Rattle.backup_engine.proofs.Clashes.{IsRight, RefusesBut, ends_by, not_unlike}
-use Rattle.backup_engine.proofs.PutEnds.{CanBe, CanTryBy, Left, LeftMeanwhile, meanwhile, maps_after, left_at_end, left_on_the_way}
+use Rattle.backup_engine.proofs.PutEnds.{CanBe, CanTryBy, Left, LeftMeanwhile, maps_after, left_at_end, left_on_the_way}
 use Rattle.backup_engine.proofs.RightPuts.{file_run}
 use Rattle.backup_engine.proofs.PutStops.{RunsOn, refused_on, done_can, done_on, run_later, run_tries}
 use Rattle.backup_engine.proofs.SameRoom.{same_room}
@@ -111,24 +112,12 @@ module _ (C : Type 0) (state : C → CoreState) (v w : DiskView) (old new : C) (
       (now.0, here, images_left now.0 (w.as_read now.0 here))
 
   -- at any moment
-  left_since : (c : List ℕ) → v.clock < 2 ^ 64 - 1 → (state new).disk.images_since v.clock c → v.images c ⊎ LeftMeanwhile S name given m put c
-  left_since c below since =
-      elim (crashes.since v.clock c was.first.only.later.clock_is since) [
-        | inr on ↦ inr (left_on_the_way S name given m ran.steps put c ran.each ran.ends (can_be put ran.ends) can_try on)
-        | inl before ↦ elim (was.first.only.since_are v.clock c (omega arith) before) [
-          | inl first ↦ inl (v.only_now c below first)
-          | inr there ↦ inl there
-        ]
-      ]
+  on_the_way : (c : List ℕ) → IsOnTheWay S ran.steps m c → LeftMeanwhile S name given m put c
+  on_the_way c on = left_on_the_way S name given m ran.steps put c ran.each ran.ends (can_be put ran.ends) can_try on
 
-  left_meanwhile : (c : List ℕ) → SinceStart v w c → v.images c ⊎ LeftMeanwhile S name given m put c
-  left_meanwhile c (inl there) = inr (meanwhile S name given m put c (can_be put ran.ends) (images_left c there))
-  left_meanwhile c (inr since) =
-      let within : v.clock ≤ (state new).disk.clock = omega (arith, was.first.only.later.clock_is, (run_later C state among name given distinct ran.steps old new run).clock_is) in
-      elim (was.last.only.since_are v.clock c within since.1) [
-        | inl before ↦ left_since c since.0 before
-        | inr there ↦ inr (meanwhile S name given m put c (can_be put ran.ends) (image_left c there))
-      ]
+  left_meanwhile : LeavesMeanwhile (LeftMeanwhile S name given m put) v w
+  left_meanwhile = leaves_more (IsOnTheWay S ran.steps m) (LeftMeanwhile S name given m put) v w on_the_way
+      (leaves_of C state v w old new was (IsOnTheWay S ran.steps m) (run_later C state among name given distinct ran.steps old new run) crashes)
 
   -- A command that ended so, and left what the put left.
   keeps : (ending : Option Ending) (sink sink_now : SinkView) → EndsBy (Ingest name) given m w.content ending → WroteReply (stored_line name (root_of given)) ending sink sink_now
@@ -140,7 +129,7 @@ module _ (C : Type 0) (state : C → CoreState) (v w : DiskView) (old new : C) (
     wrote = wrote;
     added = λ first known store right. adds store (subst (λ (bytes : List ℕ). Encodes bytes store) (one_image first image (sym known ∙ told)) right);
     left = inl ((content_left.0, content_left.1, at_end content_left.0 content_left.2), λ c there. at_end c (images_left c there));
-    crash = λ c since. elim (left_meanwhile c since) [ inl first ↦ inl first | inr left ↦ inr (between c left) ];
+    crash = leaves_more (LeftMeanwhile S name given m put) (MayBeMeanwhile S (Ingest name) given m ending) v w between left_meanwhile;
   }
 
   -- where the core runs on

@@ -1,5 +1,5 @@
 -- What a command leaves that did no more than read.
-use Rattle.std.proofs.Common.{◌≡◌, inl, inr, ℕ, List, [], Option, Some, None, refl, sym, ◌∙◌, ap, subst, arith}
+use Rattle.std.proofs.Common.{◌⊎◌, ◌≡◌, inl, inr, ℕ, List, [], Option, Some, None, refl, sym, ◌∙◌, ap, subst, arith}
 use Rattle.std.proofs.lemmas.List.{append-nil}
 use Rattle.std.specs.FinMap as finite
 use Rattle.base_model.specs.Known.{Known, Appended}
@@ -8,16 +8,15 @@ use Rattle.dd_io.specs.Flow.{SinkView, AppendedPart}
 use Rattle.refusals.specs.declared.refusal.Refusal.TheVariants.{DiskWrite}
 use Rattle.reply_text.specs.declared.ending.Ending.{Ending}
 use Rattle.reply_text.specs.declared.ending.Ending.TheVariants.{Sink, Refused}
-use Rattle.store_model.specs.Collisions.{HasNoCollisions, ByteSet, IsIn}
+use Rattle.store_model.specs.Collisions.{HasNoCollisions, ByteSet, IsIn, IsOf}
 use Rattle.store_model.specs.Files.{Stored}
 use Rattle.store_model.specs.Image.{Store, Encodes}
 use Rattle.store_model.specs.Standing.{IsSegmentOf}
-use Rattle.store_core.specs.Runs.{IsOf}
 use Rattle.backup_engine.specs.Adding.{Adds}
 use Rattle.backup_engine.specs.Line.{CommandLine, Format, Ingest, Restore, Delete}
 use Rattle.backup_engine.specs.Line as table
 use Rattle.backup_engine.specs.Promise as promise
-use Rattle.backup_engine.specs.Promise.{EndsBy, WroteFile, IsLeftAs, SinceStart, NothingWritten, KeepsMap, KeepsEachMap}
+use Rattle.backup_engine.specs.Promise.{EndsBy, WroteFile, IsLeftAs, LeavesMeanwhile, SinceStart, NothingWritten, KeepsMap, KeepsEachMap}
 use Rattle.backup_engine.specs.Frame.{KeepsRest, KeepsOthers}
 use Rattle.backup_engine.specs.TopCall.{IsSameDisk}
 
@@ -52,6 +51,18 @@ pub since_start : (v w : DiskView) → OnlyReads v w → (c : List ℕ) → Sinc
 since_start v w reads c (inl now) = reads.images_are c now
 since_start v w reads c (inr before) =
     elim (reads.since_are v.clock c (omega arith) before.1) [ inl past ↦ v.only_now c before.0 past | inr here ↦ here ]
+
+pub reads_leave : (v w : DiskView) → OnlyReads v w → (P : List ℕ → Type 0) → LeavesMeanwhile P v w
+reads_leave v w reads P = record {
+  now = λ c image. inl (reads.images_are c image);
+  since = λ t c within below image. elim (reads.since_are t c within image) [ inl past ↦ inl past | inr here ↦ inl (v.counts_now t c within here) ];
+}
+
+-- what it leaves since it began
+pub since_began : (P : List ℕ → Type 0) (v w : DiskView) → LeavesMeanwhile P v w → (c : List ℕ) → SinceStart v w c → v.images c ⊎ P c
+since_began P v w leaves c (inl now) = leaves.now c now
+since_began P v w leaves c (inr since) =
+    elim (leaves.since v.clock c (omega arith) since.0 since.1) [ inl was ↦ inl (v.only_now c since.0 was) | inr there ↦ inr there ]
 
 pub reads_frame : (command : CommandLine) (ending : Option Ending) (v w : DiskView) → OnlyReads v w → KeepsOthers command ending v w
 reads_frame command ending v w reads = record {
@@ -94,7 +105,7 @@ reads_map command given ending v w sink sink_now reads not answers old known amo
       wrote = answer.wrote;
       added = λ first told store right. added_none command given ending store first w.content not (reads.content_is ∙ told) right;
       left = inr (record { not_done = (ending, refl, not); content = reads.content_is; images = reads.images_are });
-      crash = λ c since. inl (since_start v w reads c since);
+      crash = reads_leave v w reads _;
     }
 
 -- the map after a `restore` is what it was, however it ended
@@ -116,7 +127,7 @@ reads_restore name given ending v w sink sink_now reads durable answers old know
       wrote = answer.wrote;
       added = λ first first_is store right. tt;
       left = inl ((old, told, left), λ c image. subst (λ (b : List ℕ). IsLeftAs (IsIn among) (Restore name) given m ending b) (sym (durable old told c image)) left);
-      crash = λ c since. inl (since_start v w reads c since);
+      crash = reads_leave v w reads _;
     }
 
 -- ---- nothing is written

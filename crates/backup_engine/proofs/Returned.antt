@@ -1,6 +1,6 @@
 -- A disk that was lent to a core comes back: it is the same one, later.
 use Rattle.std.proofs.Common.{◌≡◌, inl, inr, ◌∷◌, [], List, ℕ, Result, refl}
-use Rattle.dd_disk.specs.View.{DiskView, IsLater}
+use Rattle.dd_disk.specs.View.{IsLater}
 use Rattle.dd_disk.proofs.Later.{later_on}
 use Rattle.dd_io.specs.Flow.{SourceView, SinkView}
 use Rattle.reply_text.specs.declared.ending.Ending.{Ending}
@@ -9,7 +9,6 @@ use Rattle.store_core.specs.Runs.{events_of}
 use Rattle.store_core.specs.State.{CoreState, Event}
 use Rattle.backup_engine.specs.Running.{GiveRun}
 use Rattle.backup_engine.specs.Storing.{IngestRun}
-use Rattle.backup_engine.proofs.Called.{Called}
 use Rattle.backup_engine.proofs.PutCauses.{run_later}
 
 -- the first of two lists is the first of the other
@@ -23,27 +22,14 @@ module _ (C : Type 0) (state : C → CoreState) where
   pub one_later : (e : Event) (old new : C) → CoreStep (state old) e (state new) → IsLater (state old).disk (state new).disk
   one_later e old new made = run_later C state (e ∷ []) old new (new, (made, refl))
 
-  give_later : (name : List ℕ) (result : Result Unit Ending) (old new : C) (sink sink_now : SinkView) → GiveRun C state name result old new sink sink_now → IsLater (state old).disk (state new).disk
+  pub give_later : (name : List ℕ) (result : Result Unit Ending) (old new : C) (sink sink_now : SinkView) → GiveRun C state name result old new sink sink_now → IsLater (state old).disk (state new).disk
   give_later name result old new sink sink_now (inl none) = one_later _ old new none.asked
   give_later name result old new sink sink_now (inr out) =
       later_on (state old).disk (state out.mid).disk (state new).disk (one_later _ old out.mid out.opened) (run_later C state out.reads out.mid new out.ran)
 
-  ingest_later : (name : List ℕ) (result : Result Unit Ending) (old new : C) (source source_now : SourceView) (sink sink_now : SinkView) → IngestRun C state name result old new source source_now sink sink_now
+  pub ingest_later : (name : List ℕ) (result : Result Unit Ending) (old new : C) (source source_now : SourceView) (sink sink_now : SinkView) → IngestRun C state name result old new source source_now sink sink_now
       → IsLater (state old).disk (state new).disk
   ingest_later name result old new source source_now sink sink_now run = elim run.way [
     | inl none ↦ run_later C state (events_of none.ran.steps) old new none.ran.ran
     | inr taken ↦ run_later C state (events_of taken.ran.steps) old new taken.ran.ran
   ]
-
-  pub whole_later : (v w : DiskView) (old new : C) → Called C state v w old new → IsLater (state old).disk (state new).disk → IsLater v w
-  whole_later v w old new called between =
-      later_on v (state old).disk w called.first.only.later (later_on (state old).disk (state new).disk w between called.last.only.later)
-
-  pub given_later : (v w : DiskView) (old new : C) → Called C state v w old new → (name : List ℕ) (result : Result Unit Ending) (sink sink_now : SinkView)
-      → GiveRun C state name result old new sink sink_now → IsLater v w
-  given_later v w old new called name result sink sink_now run = whole_later v w old new called (give_later name result old new sink sink_now run)
-
-  pub stored_later : (v w : DiskView) (old new : C) → Called C state v w old new → (name : List ℕ) (result : Result Unit Ending) (source source_now : SourceView) (sink sink_now : SinkView)
-      → IngestRun C state name result old new source source_now sink sink_now → IsLater v w
-  stored_later v w old new called name result source source_now sink sink_now run =
-      whole_later v w old new called (ingest_later name result old new source source_now sink sink_now run)

@@ -29,9 +29,8 @@ use Rattle.script_runner.specs.Named.{Account, AllTell, CountFaults, GiveWhatIsN
 use Rattle.script_runner.specs.Opened.{OpenedFollows}
 use Rattle.script_runner.specs.Scripts.{RunsLines, ScriptsFollow}
 use Rattle.script_runner.specs.Frame.{KeepsOver}
-use Rattle.store_core.specs.Runs.{IsOf}
 use Rattle.store_core.specs.State.{CoreState}
-use Rattle.store_model.specs.Collisions.{IsIn}
+use Rattle.store_model.specs.Collisions.{IsIn, IsOf}
 use Rattle.store_model.specs.Files.{Stored}
 use Rattle.store_model.specs.Image.{Store, Encodes}
 use Rattle.store_state.specs.Refused.{blames, fails}
@@ -388,3 +387,9 @@ module _ (loans loans_now : List ℕ) (v w : DiskView) where
 pub called_by : (C : Type 0) (state : C → CoreState) (v w : DiskView) (old new first last : C) → Called C state v w old new → first ≡ old → new ≡ last → Called C state v w first last
 called_by C state v w old new first last called begins ends =
     subst (λ (c : C). Called C state v w c last) (sym begins) (subst (λ (c : C). Called C state v w old c) ends called)
+
+-- (by `opens` a caller tells C and its state)
+pub later_by : (D : Type 0) (view : D → DiskView) (C : Type 0) (state : C → CoreState) → OpenedFollows D view C state → (old new first last : C) → first ≡ old → new ≡ last
+    → IsLater (state first).disk (state last).disk → IsLater (state old).disk (state new).disk
+later_by D view C state opens old new first last begins ends later =
+    subst (λ (c : C). IsLater (state c).disk (state new).disk) begins (subst (λ (c : C). IsLater (state first).disk (state c).disk) (sym ends) later)

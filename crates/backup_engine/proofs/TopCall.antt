@@ -14,6 +14,7 @@ use Rattle.backup_engine.specs.Seen.{Seen}
 use Rattle.backup_engine.specs.Singles.{IsDelete, IsIngest, IsListing, IsRestore}
 use Rattle.backup_engine.specs.TopCall.{IsSameDisk, Does, Promise, IsNoted, AreNoted, status_by}
 use Rattle.backup_engine.proofs.NotDone.{not_begun}
+use Rattle.backup_engine.proofs.Opens.{does_without_memory, runs_without_memory}
 use Rattle.backup_engine.proofs.ScriptKept.{no_memory_kept}
 use Rattle.backup_engine.proofs.SinglesRun.{unbegun_speaks}
 use Rattle.backup_engine.proofs.SourceRuns.{given_of, given_told}
@@ -44,63 +45,61 @@ saw v w source source_now sink sink_now notes notes_now = record {
 }
 
 -- words that are no line
-pub words_promise : (line : Option TableLine) (status : ℕ) (v : DiskView) (source : SourceView) (sink notes notes_now : SinkView) → line ≡ None → status ≡ status_of Words → IsNoted notes notes_now Words
-    → Promise line status (saw v v source source sink sink notes notes_now)
-words_promise line status v source sink notes notes_now none is noted = record {
+pub words_promise : (D : Type 0) (view : D → DiskView) (line : Option TableLine) (status : ℕ) (v : DiskView) (source : SourceView) (sink notes notes_now : SinkView) → line ≡ None → status ≡ status_of Words → IsNoted notes notes_now Words
+    → Promise D view line status (saw v v source source sink sink notes notes_now)
+words_promise D view line status v source sink notes notes_now none is noted = record {
   ending = Some Words;
   given = [];
   rs = [];
   status_is = is;
   noted = noted;
-  does = subst (λ (l : Option TableLine). Does l [] [] (Some Words) v v source source sink sink) (sym none)
+  does = subst (λ (l : Option TableLine). Does D view l [] [] (Some Words) v v source source sink sink) (sym none)
       (record { why = inl refl; disk_is = same_disk v; source_is = refl; sink_is = refl });
 }
 
 -- there was no memory to read the words, whatever line they are
-memory_does : (line : Option TableLine) (v : DiskView) (source : SourceView) (sink : SinkView) → ReadsTellScripts
-    → (given : List ℕ) × ((rs : List Replied) × Does line given rs (Some (Refused Memory)) v v source source sink sink)
-memory_does None v source sink laws = ([], ([], record { why = inr refl; disk_is = same_disk v; source_is = refl; sink_is = refl }))
-memory_does (Some (Single (Format slots))) v source sink laws = ([], ([], (not_begun (Format slots) [] v source sink (refl, refl), refl)))
-memory_does (Some (Single (Ingest name))) v source sink laws =
+memory_does : (D : Type 0) (view : D → DiskView) (line : Option TableLine) (v : DiskView) (source : SourceView) (sink : SinkView) → ReadsTellScripts
+    → (given : List ℕ) × ((rs : List Replied) × Does D view line given rs (Some (Refused Memory)) v v source source sink sink)
+memory_does D view None v source sink laws = ([], ([], record { why = inr refl; disk_is = same_disk v; source_is = refl; sink_is = refl }))
+memory_does D view (Some (Single (Format slots))) v source sink laws = ([], ([], (not_begun (Format slots) [] v source sink (refl, refl), refl)))
+memory_does D view (Some (Single (Ingest name))) v source sink laws =
     let given = given_of source.left in (
       given,
       (
         [],
-        (
-          not_begun (Ingest name) given v source sink (λ all told. (given_told source.left all told, tt)),
-          unbegun_speaks (IsIngest name given (Some (Refused Memory)) source source) v sink (inl (refl, refl)),
-        ),
+        does_without_memory D view v source sink (Ingest name) given (not_begun (Ingest name) given v source sink (λ all told. (given_told source.left all told, tt)))
+            (unbegun_speaks (IsIngest name given (Some (Refused Memory)) source source) v sink (inl (refl, refl))),
       ),
     )
-memory_does (Some (Single (Restore name))) v source sink laws =
-    ([], ([], (not_begun (Restore name) [] v source sink (refl, refl), unbegun_speaks (IsRestore name (Some (Refused Memory)) sink sink) v sink (inl (refl, refl, refl)))))
-memory_does (Some (Single (Delete name))) v source sink laws =
-    ([], ([], (not_begun (Delete name) [] v source sink (refl, refl), unbegun_speaks (IsDelete name (Some (Refused Memory)) sink sink) v sink (inl (refl, refl), refl))))
-memory_does (Some (Single table.List)) v source sink laws =
-    ([], ([], (not_begun table.List [] v source sink (refl, refl), unbegun_speaks (IsListing (Some (Refused Memory)) sink sink) v sink (inl (refl, inl refl), refl))))
-memory_does (Some Run) v source sink laws = ([], ([], no_memory_kept v source sink laws))
+memory_does D view (Some (Single (Restore name))) v source sink laws =
+    ([], ([], does_without_memory D view v source sink (Restore name) [] (not_begun (Restore name) [] v source sink (refl, refl)) (unbegun_speaks (IsRestore name (Some (Refused Memory)) sink sink) v sink (inl (refl, refl, refl)))))
+memory_does D view (Some (Single (Delete name))) v source sink laws =
+    ([], ([], does_without_memory D view v source sink (Delete name) [] (not_begun (Delete name) [] v source sink (refl, refl)) (unbegun_speaks (IsDelete name (Some (Refused Memory)) sink sink) v sink (inl (refl, refl), refl))))
+memory_does D view (Some (Single table.List)) v source sink laws =
+    ([], ([], does_without_memory D view v source sink table.List [] (not_begun table.List [] v source sink (refl, refl)) (unbegun_speaks (IsListing (Some (Refused Memory)) sink sink) v sink (inl (refl, inl refl), refl))))
+memory_does D view (Some Run) v source sink laws = ([], ([], runs_without_memory D view v source sink (no_memory_kept v source sink laws)))
 
-pub memory_promise : (line : Option TableLine) (status : ℕ) (v : DiskView) (source : SourceView) (sink notes notes_now : SinkView) → ReadsTellScripts → status ≡ status_of (Refused Memory) → IsNoted notes notes_now (Refused Memory)
-    → Promise line status (saw v v source source sink sink notes notes_now)
-memory_promise line status v source sink notes notes_now laws is noted =
-    let does = memory_does line v source sink laws in
+pub memory_promise : (D : Type 0) (view : D → DiskView) (line : Option TableLine) (status : ℕ) (v : DiskView) (source : SourceView) (sink notes notes_now : SinkView) → ReadsTellScripts → status ≡ status_of (Refused Memory) → IsNoted notes notes_now (Refused Memory)
+    → Promise D view line status (saw v v source source sink sink notes notes_now)
+memory_promise D view line status v source sink notes notes_now laws is noted =
+    let does = memory_does D view line v source sink laws in
     record { ending = Some (Refused Memory); given = does.0; rs = does.1.0; status_is = is; noted = noted; does = does.1.1 }
 
 -- what is so of a line is so of what is that line
-pub does_as : (line said : TableLine) → line ≡ said → (given : List ℕ) (rs : List Replied) (ending : Option Ending) (v w : DiskView) (source source_now : SourceView) (sink sink_now : SinkView)
-    → Does (Some said) given rs ending v w source source_now sink sink_now → (given : List ℕ) × ((rs : List Replied) × Does (Some line) given rs ending v w source source_now sink sink_now)
-does_as line said is given rs ending v w source source_now sink sink_now does = (given, (rs, subst (λ (l : TableLine). Does (Some l) given rs ending v w source source_now sink sink_now) (sym is) does))
+pub does_as : (D : Type 0) (view : D → DiskView) (line said : TableLine) → line ≡ said → (given : List ℕ) (rs : List Replied) (ending : Option Ending) (v w : DiskView) (source source_now : SourceView) (sink sink_now : SinkView)
+    → Does D view (Some said) given rs ending v w source source_now sink sink_now → (given : List ℕ) × ((rs : List Replied) × Does D view (Some line) given rs ending v w source source_now sink sink_now)
+does_as D view line said is given rs ending v w source source_now sink sink_now does = (given, (rs, subst (λ (l : TableLine). Does D view (Some l) given rs ending v w source source_now sink sink_now) (sym is) does))
 
 -- a line, as it ended
-pub line_promise : (line : Option TableLine) (said : TableLine) (status : ℕ) (ending : Option Ending) (v w : DiskView) (source source_now : SourceView) (sink sink_now notes notes_now : SinkView) → line ≡ Some said
+pub line_promise : (D : Type 0) (view : D → DiskView) (line : Option TableLine) (said : TableLine) (status : ℕ) (ending : Option Ending) (v w : DiskView) (source source_now : SourceView) (sink sink_now notes notes_now : SinkView) → line ≡ Some said
     → status ≡ status_by ending → AreNoted notes notes_now ending
-    → ((given : List ℕ) × ((rs : List Replied) × Does (Some said) given rs ending v w source source_now sink sink_now))
-    → Promise line status (saw v w source source_now sink sink_now notes notes_now)
-line_promise line said status ending v w source source_now sink sink_now notes notes_now some is noted does = record {
+    → ((given : List ℕ) × ((rs : List Replied) × Does D view (Some said) given rs ending v w source source_now sink sink_now))
+    → Promise D view line status (saw v w source source_now sink sink_now notes notes_now)
+line_promise D view line said status ending v w source source_now sink sink_now notes notes_now some is noted does = record {
   ending = ending;
   given = does.0;
   rs = does.1.0;
   status_is = is;
   noted = noted;
-  does = subst (λ (l : Option TableLine). Does l does.0 does.1.0 ending v w source source_now sink sink_now) (sym some) does.1.1;
+  does = subst (λ (l : Option TableLine). Does D view l does.0 does.1.0 ending v w source source_now sink sink_now) (sym some) does.1.1;
 }

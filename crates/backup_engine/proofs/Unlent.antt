@@ -88,13 +88,13 @@ module _ (shown other : (List ℕ → Type 0) → Type 0) (each : (P : List ℕ 
 -- ---- what a command keeps
 
 module _ (loans loans_now : List ℕ) (v w : DiskView) where
-  abbrev lent : DiskView
+  abbrev pub lent : DiskView
   lent = record v { loans = loans }
 
-  abbrev lent_now : DiskView
+  abbrev pub lent_now : DiskView
   lent_now = record w { loans = loans_now }
 
-  on : (P : List ℕ → Type 0) → Shows lent lent_now P → Shows v w P
+  pub on : (P : List ℕ → Type 0) → Shows lent lent_now P → Shows v w P
   on = shows loans loans_now v w
 
   pub reads : (P : List ℕ → Type 0) → ReadsSince lent lent_now P → ReadsSince v w P
@@ -109,13 +109,13 @@ module _ (loans loans_now : List ℕ) (v w : DiskView) where
   -- ---- a walk that is stuck
 
   module _ (known : Option PlaceMap) where
-    abbrev read : (key bytes : List ℕ) → WasRead known lent lent_now key bytes → WasRead known v w key bytes
+    abbrev pub read : (key bytes : List ℕ) → WasRead known lent lent_now key bytes → WasRead known v w key bytes
     read key bytes is = record {
       place = is.place;
       copy = record { place_is = is.copy.place_is; right = is.copy.right; long = is.copy.long; there = on _ is.copy.there };
     }
 
-    abbrev breaks : ℕ → Why → List ℕ → Type 0
+    abbrev pub breaks : ℕ → Why → List ℕ → Type 0
     breaks at why image = ⊥
 
     copy_refusal : (key digest : List ℕ) (refusal : Refusal) → IsCopyRefusal known breaks lent lent_now key digest refusal → IsCopyRefusal known breaks v w key digest refusal
@@ -132,7 +132,7 @@ module _ (loans loans_now : List ℕ) (v w : DiskView) where
         inr (record { bytes = is.bytes; was_read = read _ is.bytes is.was_read; at_is = is.at_is; digest = is.digest; wrong = is.wrong })
     top_refusal t refusal is = copy_refusal (top_key t) t.digest refusal is
 
-    next_refusal : (ahead : List Top) (refusal : Refusal) → IsNextRefusal known breaks lent lent_now ahead refusal → IsNextRefusal known breaks v w ahead refusal
+    pub next_refusal : (ahead : List Top) (refusal : Refusal) → IsNextRefusal known breaks lent lent_now ahead refusal → IsNextRefusal known breaks v w ahead refusal
     next_refusal [] refusal is = absurd is
     next_refusal (t ∷ ts) refusal is = top_refusal t refusal is
 
@@ -257,7 +257,7 @@ module _ (loans loans_now : List ℕ) (v w : DiskView) where
     map_kept : (command : CommandLine) (ending : Option Ending) → KeepsEachMap command given ending lent lent_now sink sink_now → KeepsEachMap command given ending v w sink sink_now
     map_kept command ending each = λ old told among m apart segments is.
         let kept = each old told among m apart segments is in
-        record { by_map = kept.by_map; wrote = kept.wrote; added = kept.added; left = kept_left command ending among m kept.left; crash = kept.crash }
+        record { by_map = kept.by_map; wrote = kept.wrote; added = kept.added; left = kept_left command ending among m kept.left; crash = record { now = kept.crash.now; since = kept.crash.since } }
 
     frame_kept : (command : CommandLine) (ending : Option Ending) → KeepsOthers command ending lent lent_now → KeepsOthers command ending v w
     frame_kept command ending is = record { content = is.content; crash = is.crash }

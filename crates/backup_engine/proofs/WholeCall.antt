@@ -5,7 +5,7 @@ use Rattle.dd_disk.specs.Ending as device
 use Rattle.dd_disk.specs.View.{CrashLeaves, DiskView, IsLater, OnlyReads}
 use Rattle.dd_disk.proofs.Later.{later_on, reads_on}
 use Rattle.store_core.specs.State.{CoreState}
-use Rattle.backup_engine.specs.Promise.{SinceStart}
+use Rattle.backup_engine.specs.Promise.{LeavesMeanwhile, SinceStart}
 use Rattle.backup_engine.proofs.Called.{Called}
 
 module _ (C : Type 0) (state : C → CoreState) (v w : DiskView) (old new : C) (called : Called C state v w old new) where
@@ -30,3 +30,23 @@ module _ (C : Type 0) (state : C → CoreState) (v w : DiskView) (old new : C) (
         ]
         | inr image ↦ inr (leaves.now c image)
       ]
+
+  -- and at all moments
+  pub leaves_of : (P : List ℕ → Type 0) → IsLater (state old).disk (state new).disk → CrashLeaves P (state old).disk (state new).disk → LeavesMeanwhile P v w
+  leaves_of P later leaves = record {
+    now = λ c image. inr (leaves.now c (called.last.only.images_are c image));
+    since = λ t c within below image.
+        elim (called.last.only.since_are t c (omega (arith, within, called.first.only.later.clock_is, later.clock_is)) image) [
+          | inl was ↦ elim (leaves.since t c (omega (arith, within, called.first.only.later.clock_is)) was) [
+            | inl before ↦ elim (called.first.only.since_are t c within before) [ inl earlier ↦ inl earlier | inr there ↦ inl (v.counts_now t c within there) ]
+            | inr kept ↦ inr kept
+          ]
+          | inr there ↦ inr (leaves.now c there)
+        ];
+  }
+
+pub leaves_more : (P Q : List ℕ → Type 0) (v w : DiskView) → ((c : List ℕ) → P c → Q c) → LeavesMeanwhile P v w → LeavesMeanwhile Q v w
+leaves_more P Q v w more leaves = record {
+  now = λ c image. elim (leaves.now c image) [ inl was ↦ inl was | inr there ↦ inr (more c there) ];
+  since = λ t c within below image. elim (leaves.since t c within below image) [ inl was ↦ inl was | inr there ↦ inr (more c there) ];
+}

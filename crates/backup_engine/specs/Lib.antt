@@ -19,4 +19,5 @@ pub mod Singles
 pub mod Storing
 pub mod Feeding
 pub mod TopCall
+pub mod Whole
 pub mod Words

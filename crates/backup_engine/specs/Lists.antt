@@ -1,7 +1,7 @@
 -- What holds of calls of `backup`, one after the other over one disk (docs/MODEL.md, 'Lists of commands').
 use Rattle.std.specs.Prelude.{◌≡◌, ◌⊎◌, ℕ, List, [], ◌∷◌, ◌++◌, Option, None, Some}
 use Rattle.std.specs.List.{AllByRecursion}
-use Rattle.base_model.specs.Known.{KnownWith}
+use Rattle.base_model.specs.Known.{Known, KnownWith}
 use Rattle.dd_disk.specs.View.{DiskView, IsDurable}
 use Rattle.dd_io.specs.Flow.{SourceView, SinkView}
 use Rattle.plain_machine.specs.Machine.{Machine, MayBeFound, opened}
@@ -10,17 +10,16 @@ use Rattle.refusals.specs.declared.refusal.Refusal.TheVariants.{DiskWrite}
 use Rattle.reply_text.specs.declared.ending.Ending.{Ending}
 use Rattle.reply_text.specs.declared.ending.Ending.TheVariants.{Sink, Refused}
 use Rattle.script_runner.specs.Scripts.{IsCutBy}
-use Rattle.store_model.specs.Collisions.{HasNoCollisions, ByteSet, IsIn}
+use Rattle.store_model.specs.Collisions.{HasNoCollisions, ByteSet, IsIn, IsOf, OpensAs}
 use Rattle.store_model.specs.Files.{Stored, no_files}
 use Rattle.store_model.specs.Standing.{IsSegmentOf}
-use Rattle.store_core.specs.Runs.{IsOf}
 use Rattle.backup_engine.specs.AnyDisk.{Formats}
 use Rattle.backup_engine.specs.Line.{CommandLine, Format, TableLine, Single, Run}
-use Rattle.backup_engine.specs.Lines.{RunsByMachine, RunsNone}
 use Rattle.backup_engine.specs.PlainMap.{map_after, CanBeDone}
-use Rattle.backup_engine.specs.Promise.{KeepsMap, SinceStart, Stands}
+use Rattle.backup_engine.specs.Promise.{KeepsMap, NothingWritten, SinceStart, Stands}
 use Rattle.backup_engine.specs.Seen.{Seen}
 use Rattle.backup_engine.specs.TopCall.{Promise, Does, AreNoted, status_by}
+use Rattle.backup_engine.specs.Whole.{KeepsWhole, RunsFrom, RunsNoLine}
 
 -- One call: the line that its words are, if they are one; its status; source, sink and notes before and after. And, as the
 -- promise has it, how it ended, what its source gave, and which lines of a script were run.
@@ -38,15 +37,15 @@ pub record Call : Type 0 where
   pub rs : List Replied
 
 -- what `Promise` says of a call, with its ending, what was given and which lines were run (specs/TopCall.antt)
-pub record KeepsCall (c : Call) (disk disk_now : DiskView) : Type 0 where
+pub record KeepsCall (D : Type 0) (view : D → DiskView) (c : Call) (disk disk_now : DiskView) : Type 0 where
   pub status_is : c.status ≡ status_by c.ending
   pub noted : AreNoted c.notes c.notes_now c.ending
-  pub does : Does c.line c.given c.rs c.ending disk disk_now c.source c.source_now c.sink c.sink_now
+  pub does : Does D view c.line c.given c.rs c.ending disk disk_now c.source c.source_now c.sink c.sink_now
 
 -- The first call makes of the disk one of which the others make the last one. A disk is anything that has a view.
 abbrev pub CallRun : (D : Type 0) → (D → DiskView) → List Call → D → D → Type 0
 CallRun D view [] old new = new ≡ old
-CallRun D view (c ∷ cs) old new = (mid : D) × (KeepsCall c (view old) (view mid) × CallRun D view cs mid new)
+CallRun D view (c ∷ cs) old new = (mid : D) × (KeepsCall D view c (view old) (view mid) × CallRun D view cs mid new)
 
 -- what it saw, over this disk
 abbrev pub seen_by : Call → DiskView → DiskView → Seen
@@ -64,9 +63,9 @@ seen_by c disk disk_now = record {
 -- What `backup` promises of a call is that, for some ending, bytes given and lines: so calls of it make such a run.
 abbrev pub IsPromised : (D : Type 0) → (D → DiskView) → Type 0
 IsPromised D view = (c : Call) (old new : D)
-    → Promise c.line c.status (seen_by c (view old) (view new))
+    → Promise D view c.line c.status (seen_by c (view old) (view new))
     → (ending : Option Ending) × ((given : List ℕ) × ((rs : List Replied)
-    × KeepsCall (record c { ending = ending; given = given; rs = rs }) (view old) (view new)))
+    × KeepsCall D view (record c { ending = ending; given = given; rs = rs }) (view old) (view new)))
 
 -- A line that was done, but perhaps for its reply, leads to the map after it; where a write or a sync failed, to that, if it
 -- could be done, or to the map as it was; and at any other ending to the map as it was.
@@ -109,12 +108,12 @@ LeadsTo (c ∷ cs) m next = (mid : Stored) × (MayLead c.line c m mid × LeadsTo
 
 -- the image is of a map that the calls may lead to
 abbrev pub Possible : (List ℕ → Type 0) → List Call → Stored → List ℕ → Type 0
-Possible S calls m image = (next : Stored) × (LeadsTo calls m next × IsOf S next image)
+Possible S calls m image = (next : Stored) × (LeadsTo calls m next × OpensAs S next image)
 
 -- or of one to which the last may have come after them
 abbrev pub Passed : (List ℕ → Type 0) → List Call → Call → Stored → List ℕ → Type 0
 Passed S calls last m image =
-    (mid : Stored) × (LeadsTo calls m mid × ((found : Stored) × (MayPass last.line last mid found × IsOf S found image)))
+    (mid : Stored) × (LeadsTo calls m mid × ((found : Stored) × (MayPass last.line last mid found × OpensAs S found image)))
 
 -- A list can begin: a `format` that was done, of a disk that told its content, leaves one that stands for the empty map.
 abbrev pub StandsEmpty : (D : Type 0) → (D → DiskView) → Type 0
@@ -125,7 +124,7 @@ StandsEmpty D view = (among : ByteSet) (slots : ℕ) (old new : D) → KnownWith
 -- So does each call whose line is a `format` and whose status is 0.
 abbrev pub FormatBegins : (D : Type 0) → (D → DiskView) → Type 0
 FormatBegins D view = (among : ByteSet) (slots : ℕ) (c : Call) (old new : D) → KnownWith (view old).content (λ _. Unit {0})
-    → KeepsCall c (view old) (view new) → c.line ≡ Some (Single (Format slots)) → c.status ≡ 0
+    → KeepsCall D view c (view old) (view new) → c.line ≡ Some (Single (Format slots)) → c.status ≡ 0
     → Stands (IsOf (IsIn among) (record { files = no_files; last = 0 })) (view new)
 
 -- What a call is given, and what is cut of it on the way, is among S.
@@ -138,33 +137,47 @@ pub record IsGivenAmong (S : List ℕ → Type 0) (c : Call) : Type 0 where
 pub record BeginsOfMap (S : List ℕ → Type 0) (calls : List Call) (m : Stored) (disk : DiskView) : Type 0 where
   pub apart : HasNoCollisions S
   pub given : AllByRecursion (IsGivenAmong S) calls
-  pub stands : Stands (IsOf S m) disk
+  pub stands : Stands (OpensAs S m) disk
 
 -- After the calls the disk tells its content, and that and each image are of maps that the calls may lead to.
 abbrev pub LeavesPossible : (D : Type 0) → (D → DiskView) → Type 0
 LeavesPossible D view = (among : ByteSet) (m : Stored) (calls : List Call) (old new : D) → BeginsOfMap (IsIn among) calls m (view old)
     → CallRun D view calls old new → Stands (Possible (IsIn among) calls m) (view new)
 
+-- A `format` opens no store, and so makes no room. Over one it is not done, and changes nothing; and where the store can run, it answers
+-- by the map.
+pub record FormatsNothing (S : List ℕ → Type 0) (slots : ℕ) (c : Call) (m : Stored) (disk disk_now : DiskView) : Type 0 where
+  pub nothing : NothingWritten c.ending disk disk_now
+  pub crash : (image : List ℕ) → SinceStart disk disk_now image → disk.images image
+  pub by_map : Known disk.content (λ old. IsOf S m old
+      → KeepsMap S (Format slots) c.given c.ending m disk disk_now c.sink c.sink_now)
+
+-- what a command answers to a map that it finds
+abbrev pub AnswersBy : (List ℕ → Type 0) → CommandLine → Call → Stored → DiskView → DiskView → Type 0
+AnswersBy S (Format slots) c m disk disk_now = FormatsNothing S slots c m disk disk_now
+AnswersBy S command c m disk disk_now = KeepsWhole S command c.given c.ending m disk disk_now c.sink c.sink_now
+
 -- A command that is called after them answers by one of these maps: that of the content which it finds.
 abbrev pub AnswersByTheMap : (D : Type 0) → (D → DiskView) → Type 0
 AnswersByTheMap D view = (among : ByteSet) (m : Stored) (calls : List Call) (last : Call) (command : CommandLine) (old mid new : D)
     → BeginsOfMap (IsIn among) (calls ++ last ∷ []) m (view old) → CallRun D view calls old mid
-    → KeepsCall last (view mid) (view new) → last.line ≡ Some (Single command)
-    → (found : Stored) × (LeadsTo calls m found × KnownWith (view mid).content (IsOf (IsIn among) found)
-    × KeepsMap (IsIn among) command last.given last.ending found (view mid) (view new) last.sink last.sink_now)
+    → KeepsCall D view last (view mid) (view new) → last.line ≡ Some (Single command)
+    → (found : Stored) × (LeadsTo calls m found × KnownWith (view mid).content (OpensAs (IsIn among) found)
+    × AnswersBy (IsIn among) command last found (view mid) (view new))
 
 -- And a script that is run after them is a run of the machine from one of these maps.
 abbrev pub RunsByTheMap : (D : Type 0) → (D → DiskView) → Type 0
 RunsByTheMap D view = (among : ByteSet) (m : Stored) (calls : List Call) (last : Call) (old mid new : D)
     → BeginsOfMap (IsIn among) (calls ++ last ∷ []) m (view old) → CallRun D view calls old mid
-    → KeepsCall last (view mid) (view new) → last.line ≡ Some Run
-    → (found : Stored) × (LeadsTo calls m found × KnownWith (view mid).content (λ image. IsOf (IsIn among) found image
-    × (RunsByMachine (IsIn among) last.rs found image (view mid) (view new) ⊎ RunsNone last.ending last.rs (view mid) (view new))))
+    → KeepsCall D view last (view mid) (view new) → last.line ≡ Some Run
+    → (found : Stored) × (LeadsTo calls m found × KnownWith (view mid).content (OpensAs (IsIn among) found)
+    × (RunsFrom (IsIn among) last.rs found (view mid) (view new)
+    ⊎ RunsNoLine (OpensAs (IsIn among) found) last.ending last.rs (view mid) (view new)))
 
 -- A crash since the last began leaves what those before it may lead to, or what the last may have come to: so each that was done before
 -- is there.
 abbrev pub SurvivesACrash : (D : Type 0) → (D → DiskView) → Type 0
 SurvivesACrash D view = (among : ByteSet) (m : Stored) (calls : List Call) (last : Call) (old mid new : D)
     → BeginsOfMap (IsIn among) (calls ++ last ∷ []) m (view old) → CallRun D view calls old mid
-    → KeepsCall last (view mid) (view new) → (c : List ℕ) → SinceStart (view mid) (view new) c
+    → KeepsCall D view last (view mid) (view new) → (c : List ℕ) → SinceStart (view mid) (view new) c
     → Possible (IsIn among) calls m c ⊎ Passed (IsIn among) calls last m c

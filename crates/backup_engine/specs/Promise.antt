@@ -1,5 +1,5 @@
--- What the top call promises over a disk that tells its content and stands for a map (docs/MODEL.md, 'The promise').
-use Rattle.std.specs.Prelude.{◌≡◌, ◌≢◌, ◌⊎◌, ℕ, ◌-◌, ◌^◌, ◌<◌, List, length, Option, None, Some}
+-- What a command does over a disk that tells its content and stands for a map (docs/MODEL.md, 'The promise').
+use Rattle.std.specs.Prelude.{◌≡◌, ◌≢◌, ◌⊎◌, ℕ, ◌-◌, ◌^◌, ◌<◌, ◌≤◌, List, length, Option, None, Some}
 use Rattle.std.specs.FinMap as finite
 use Rattle.sha2.specs.Sha256.{sha256}
 use Rattle.base_model.specs.Known.{Known, KnownWith, Appended}
@@ -12,7 +12,7 @@ use Rattle.refusals.specs.declared.refusal.Refusal.TheVariants.{DiskWrite, Clash
 use Rattle.reply_text.specs.declared.ending.Ending.{Ending}
 use Rattle.reply_text.specs.declared.ending.Ending.TheVariants.{Words, Source, Sink, Line, Script, Refused}
 use Rattle.reply_text.specs.Text.{stored_line, deleted_line, listing_text}
-use Rattle.store_model.specs.Collisions.{HasNoCollisions, ByteSet, IsIn}
+use Rattle.store_model.specs.Collisions.{HasNoCollisions, ByteSet, IsIn, IsOf}
 use Rattle.store_model.specs.Files.{Stored}
 use Rattle.store_model.specs.Image.{Store, Encodes}
 use Rattle.store_model.specs.Pieces.{Node, IsPieceOf}
@@ -20,7 +20,6 @@ use Rattle.store_model.specs.Slots.{Copy, newest}
 use Rattle.store_model.specs.Standing.{IsStoreOf, IsSegmentOf, file_listing}
 use Rattle.store_model.specs.Trees.{bytes_at, node_key, root_of}
 use Rattle.store_state.specs.Comparing.{FirstDifference}
-use Rattle.store_core.specs.Runs.{IsOf}
 use Rattle.backup_engine.specs.Adding.{Adds}
 use Rattle.backup_engine.specs.Line.{CommandLine, Format, Ingest, Restore, Delete}
 use Rattle.backup_engine.specs.Line as table
@@ -94,23 +93,34 @@ Wrote table.List given m ending sink sink_now = WroteReply (listing_text (file_l
 
 -- ---- what is left
 
--- at the end, in what reads give and in each image that a crash leaves then: the map as it was, or as it is after the command,
--- where that could be done
-abbrev pub IsLeftAs : (List ℕ → Type 0) → CommandLine → List ℕ → Stored → Option Ending → List ℕ → Type 0
-IsLeftAs S command given m None image = IsOf S (map_after command given m) image
-IsLeftAs S command given m (Some Sink) image = IsOf S (map_after command given m) image
-IsLeftAs S command given m (Some (Refused DiskWrite)) image =
-    IsOf S m image ⊎ (CanBeDone command given m × IsOf S (map_after command given m) image)
-IsLeftAs S command given m (Some ending) image = IsOf S m image
+-- At the end, in what reads give and in each image that a crash leaves then: the map as it was, or as it is after the command, where that
+-- could be done. `Is` says what it is for an image to be of a map.
+abbrev pub IsLeftBy : (Stored → List ℕ → Type 0) → CommandLine → List ℕ → Stored → Option Ending → List ℕ → Type 0
+IsLeftBy Is command given m None image = Is (map_after command given m) image
+IsLeftBy Is command given m (Some Sink) image = Is (map_after command given m) image
+IsLeftBy Is command given m (Some (Refused DiskWrite)) image = Is m image ⊎ (CanBeDone command given m × Is (map_after command given m) image)
+IsLeftBy Is command given m (Some ending) image = Is m image
 
 -- what a crash may leave at any moment of the command
+abbrev pub MayBeBetween : (Stored → List ℕ → Type 0) → CommandLine → List ℕ → Stored → Option Ending → List ℕ → Type 0
+MayBeBetween Is command given m ending image = Is m image ⊎ (MayChange ending × CanBeDone command given m × Is (map_after command given m) image)
+
+-- the same, of images of stores that can run
+abbrev pub IsLeftAs : (List ℕ → Type 0) → CommandLine → List ℕ → Stored → Option Ending → List ℕ → Type 0
+IsLeftAs S command given m ending image = IsLeftBy (IsOf S) command given m ending image
+
 abbrev pub MayBeMeanwhile : (List ℕ → Type 0) → CommandLine → List ℕ → Stored → Option Ending → List ℕ → Type 0
-MayBeMeanwhile S command given m ending image =
-    IsOf S m image ⊎ (MayChange ending × CanBeDone command given m × IsOf S (map_after command given m) image)
+MayBeMeanwhile S command given m ending image = MayBeBetween (IsOf S) command given m ending image
 
 -- what a crash at the end may leave, or might have left at a moment since the call began
 abbrev pub SinceStart : DiskView → DiskView → List ℕ → Type 0
 SinceStart disk disk_now c = disk_now.images c ⊎ ((disk.clock < 2 ^ 64 - 1) × disk_now.images_since disk.clock c)
+
+-- A crash at the end leaves an image that has P, or one that it might have left when the call began; and so it is of a crash since any
+-- moment up to then.
+pub record LeavesMeanwhile (P : List ℕ → Type 0) (disk disk_now : DiskView) : Type 0 where
+  pub now : (c : List ℕ) → disk_now.images c → disk.images c ⊎ P c
+  pub since : (t : ℕ) (c : List ℕ) → t ≤ disk.clock → t < 2 ^ 64 - 1 → disk_now.images_since t c → disk.images_since t c ⊎ P c
 
 -- P holds of what reads give, and of each image that a crash leaves now
 abbrev pub Stands : (List ℕ → Type 0) → DiskView → Type 0
@@ -122,15 +132,16 @@ pub record NothingWritten (ending : Option Ending) (disk disk_now : DiskView) : 
   pub content : disk_now.content ≡ disk.content
   pub images : (c : List ℕ) → disk_now.images c → disk.images c
 
--- Over a content that stands for the map m the command answers by the map, and leaves it as it was or as it is after the
--- command, at the end and at every moment before, but for what a crash might have left before it.
+-- Over a content that is a store of the map m, which can run, the command answers by the map, and leaves it as it was or as it is after
+-- the command, at the end and at every moment before, but for what a crash might have left before it. (Where room has to be made first,
+-- it is so from then on; Whole.antt has the call from its beginning.)
 pub record KeepsMap (S : List ℕ → Type 0) (command : CommandLine) (given : List ℕ) (ending : Option Ending) (m : Stored)
     (disk disk_now : DiskView) (sink sink_now : SinkView) : Type 0 where
   pub by_map : EndsBy command given m disk_now.content ending
   pub wrote : Wrote command given m ending sink sink_now
   pub added : Known disk.content (λ old. (store : Store) → Encodes old store → Adds command given ending store disk_now.content)
   pub left : Stands (IsLeftAs S command given m ending) disk_now ⊎ NothingWritten ending disk disk_now
-  pub crash : (c : List ℕ) → SinceStart disk disk_now c → disk.images c ⊎ MayBeMeanwhile S command given m ending c
+  pub crash : LeavesMeanwhile (MayBeMeanwhile S command given m ending) disk disk_now
 
 -- It holds where no two different data segments have one digest: of a set of those that the disk holds and is given.
 abbrev pub KeepsEachMap : CommandLine → List ℕ → Option Ending → DiskView → DiskView → SinkView → SinkView → Type 0

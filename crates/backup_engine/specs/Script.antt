@@ -22,8 +22,7 @@ use Rattle.script_lines.specs.declared.script.TheConstants.{MOST_LINE}
 use Rattle.script_runner.specs.Named.{CountFaults, GiveWhatIsNamed, WasOpened, WasShown}
 use Rattle.script_runner.specs.Runner.{IsAcknowledged}
 use Rattle.script_runner.specs.Scripts.{IsCutBy}
-use Rattle.store_core.specs.Runs.{IsOf}
-use Rattle.store_model.specs.Collisions.{HasNoCollisions, ByteSet, IsIn}
+use Rattle.store_model.specs.Collisions.{HasNoCollisions, ByteSet, IsIn, IsOf}
 use Rattle.store_model.specs.Files.{Stored}
 use Rattle.store_state.specs.Refused.{blames, fails}
 use Rattle.backup_engine.specs.AnyDisk.{ReadsSince}

@@ -156,7 +156,7 @@ IsListing (Some ending) sink sink_now rs = ⊥
 
 -- ---- all of them
 
--- the store was not opened, for its cause, so no line was run, and nothing was written
+-- the store was not read, for its cause, so no line was run, and nothing was written to the sink
 pub record OpensNone (ending : Option Ending) (rs : List Replied) (disk disk_now : DiskView) (sink sink_now : SinkView) : Type 0 where
   pub refusal : Refusal
   pub ending_is : ending ≡ Some (Refused refusal)

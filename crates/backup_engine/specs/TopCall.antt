@@ -2,19 +2,21 @@
 --
 -- line: the line of the table of commands that the words are. status: the exit status. saw: the disk, the source, the sink and the
 -- notes, each before the call, and now.
-use Rattle.std.specs.Prelude.{◌≡◌, ◌⊎◌, ℕ, List, Option, Some, None, Result, Ok, Err}
+use Rattle.std.specs.Prelude.{◌≡◌, ◌⊎◌, ℕ, List, [], Option, Some, None, Result, Ok, Err}
 use Rattle.base_model.specs.Fault.{Rose}
 use Rattle.base_model.specs.Known.{Known, KnownWith, Appended}
 use Rattle.dd_disk.specs.View.{DiskView}
 use Rattle.dd_io.specs.Flow.{SourceView, SinkView, AppendedPart}
 use Rattle.plain_machine.specs.Runs.{Replied}
+use Rattle.refusals.specs.declared.refusal.Refusal.{Refusal}
 use Rattle.refusals.specs.declared.refusal.Refusal.TheVariants.{DiskWrite, Memory}
 use Rattle.reply_text.specs.declared.ending.Ending.{Ending}
 use Rattle.reply_text.specs.declared.ending.Ending.TheVariants.{Words, Refused}
 use Rattle.reply_text.specs.Table.{status_of}
 use Rattle.reply_text.specs.Text.{fault_line}
 use Rattle.recovery.specs.Formatting.{IsLeftByFormat, IsBlankOrFormatted}
-use Rattle.backup_engine.specs.AnyDisk.{OnAnyDisk}
+use Rattle.recovery.specs.Room.{FromRoom, RoomUnmade}
+use Rattle.backup_engine.specs.AnyDisk.{OnAnyDisk, Took}
 use Rattle.backup_engine.specs.Frame.{KeepsOthers}
 use Rattle.backup_engine.specs.Line.{CommandLine, Format, Ingest, Restore, Delete, TableLine, Single, Run}
 use Rattle.backup_engine.specs.Line as table
@@ -22,6 +24,7 @@ use Rattle.backup_engine.specs.Promise.{KeepsEachMap, SinceStart}
 use Rattle.backup_engine.specs.Script.{KeepsScript}
 use Rattle.backup_engine.specs.Seen.{Seen}
 use Rattle.backup_engine.specs.Singles.{SpeaksAs}
+use Rattle.backup_engine.specs.Whole.{FailsAloneWhole, KeepsEachWhole, RunsEachWhole}
 
 -- 0 where the command was done, and else by the table of statuses
 abbrev pub status_by : Option Ending → ℕ
@@ -60,7 +63,7 @@ IsUntouched (Format slots) (Some (Refused refusal)) disk disk_now =
     (disk_now.content ≡ disk.content) × (Known disk.content (λ old. (c : List ℕ) → disk_now.images c → disk.images c))
 IsUntouched command ending disk disk_now = Unit {0}
 
--- ---- all of it
+-- ---- all of it, over a store that can run
 
 pub record Keeps (command : CommandLine) (given : List ℕ) (ending : Option Ending) (disk disk_now : DiskView)
     (source source_now : SourceView) (sink sink_now : SinkView) : Type 0 where
@@ -95,22 +98,54 @@ pub record DoesNothing (ending : Option Ending) (disk disk_now : DiskView) (sour
   pub source_is : source_now ≡ source
   pub sink_is : sink_now ≡ sink
 
--- What a line of the table does: a single command, also as lines of a script; or the lines of the script that the source has.
-abbrev pub Does : Option TableLine → List ℕ → List Replied → Option Ending → DiskView → DiskView → SourceView → SourceView → SinkView
-    → SinkView → Type 0
-Does None given rs ending disk disk_now source source_now sink sink_now =
+-- ---- the store is opened
+
+-- No room was made, where too few slots were closed: nothing was done.
+pub record MakesNoRoom (rs : List Replied) (ending : Option Ending) (disk disk_now : DiskView) (source source_now : SourceView)
+    (sink sink_now : SinkView) : Type 0 where
+  pub refusal : Refusal
+  pub ending_is : ending ≡ Some (Refused refusal)
+  pub unmade : RoomUnmade refusal disk disk_now
+  pub none : rs ≡ []
+  pub source_is : source_now ≡ source
+  pub sink_is : sink_now ≡ sink
+
+-- A single command but a `format`: what it does of the files, and as lines of a script, from the beginning of the call on; and, from the
+-- disk as it was once there was room, all that it keeps.
+pub record DoesCommand (D : Type 0) (view : D → DiskView) (command : CommandLine) (given : List ℕ) (rs : List Replied)
+    (ending : Option Ending) (disk disk_now : DiskView) (source source_now : SourceView) (sink sink_now : SinkView) : Type 0 where
+  pub whole : KeepsEachWhole command given ending disk disk_now sink sink_now
+  pub lines : RunsEachWhole ending rs disk disk_now
+  pub took : Took command given ending source source_now
+  pub way : FromRoom D view (λ v. Keeps command given ending v disk_now source source_now sink sink_now
+      × SpeaksAs command given ending rs v disk_now source source_now sink sink_now) disk
+      ⊎ MakesNoRoom rs ending disk disk_now source source_now sink sink_now
+
+-- The lines of the script that the source has.
+pub record RunsScript (D : Type 0) (view : D → DiskView) (rs : List Replied) (ending : Option Ending) (disk disk_now : DiskView)
+    (source source_now : SourceView) (sink sink_now : SinkView) : Type 0 where
+  pub lines : RunsEachWhole ending rs disk disk_now
+  pub fails_alone : FailsAloneWhole ending rs disk
+  pub way : FromRoom D view (λ v. KeepsScript rs ending v disk_now source source_now sink sink_now) disk
+      ⊎ MakesNoRoom rs ending disk disk_now source source_now sink sink_now
+
+-- What a line of the table does. A disk is anything that has a view.
+abbrev pub Does : (D : Type 0) → (D → DiskView) → Option TableLine → List ℕ → List Replied → Option Ending → DiskView → DiskView → SourceView
+    → SourceView → SinkView → SinkView → Type 0
+Does D view None given rs ending disk disk_now source source_now sink sink_now =
     DoesNothing ending disk disk_now source source_now sink sink_now
-Does (Some (Single command)) given rs ending disk disk_now source source_now sink sink_now =
-    Keeps command given ending disk disk_now source source_now sink sink_now
-    × SpeaksAs command given ending rs disk disk_now source source_now sink sink_now
-Does (Some Run) given rs ending disk disk_now source source_now sink sink_now =
-    KeepsScript rs ending disk disk_now source source_now sink sink_now
+Does D view (Some (Single (Format slots))) given rs ending disk disk_now source source_now sink sink_now =
+    Keeps (Format slots) given ending disk disk_now source source_now sink sink_now × (rs ≡ [])
+Does D view (Some (Single command)) given rs ending disk disk_now source source_now sink sink_now =
+    DoesCommand D view command given rs ending disk disk_now source source_now sink sink_now
+Does D view (Some Run) given rs ending disk disk_now source source_now sink sink_now =
+    RunsScript D view rs ending disk disk_now source source_now sink sink_now
 
 -- How the call ended, what the source gave, and which lines were run, are one throughout.
-pub record Promise (line : Option TableLine) (status : ℕ) (saw : Seen) : Type 0 where
+pub record Promise (D : Type 0) (view : D → DiskView) (line : Option TableLine) (status : ℕ) (saw : Seen) : Type 0 where
   pub ending : Option Ending
   pub given : List ℕ
   pub rs : List Replied
   pub status_is : status ≡ status_by ending
   pub noted : AreNoted saw.notes saw.notes_now ending
-  pub does : Does line given rs ending saw.disk saw.disk_now saw.source saw.source_now saw.sink saw.sink_now
+  pub does : Does D view line given rs ending saw.disk saw.disk_now saw.source saw.source_now saw.sink saw.sink_now

@@ -7,8 +7,7 @@ ghost use Rattle.store_core.specs.State.{IsRunning};
 ghost use Rattle.backup_engine.specs.Line.{Delete};
 ghost use Rattle.backup_engine.specs.Naming.{DeleteRun};
 ghost use Rattle.backup_engine.specs.Running.{IsFresh};
-ghost use Rattle.backup_engine.specs.Singles.{IsDelete, Speaks};
-ghost use Rattle.backup_engine.specs.TopCall.{Keeps, ending_in};
+ghost use Rattle.backup_engine.specs.TopCall.{DoesCommand, ending_in};
 
 use crate::lent::handed_back;
 use crate::putting::first;
@@ -48,10 +47,8 @@ pub(crate) fn delete<D: Disk, K: Sink>(
     sink: &mut K,
     name: &str,
 ) -> Result<(), Ending>
-    ensures keeps { (source : SourceView) → Keeps (Delete name.now) [] (ending_in result) (D.view disk.old) (D.view disk.new)
-        source source (K.view sink.old) (K.view sink.new) }
-    ensures speaks { (rs : List Replied) × Speaks (IsDelete name.now (ending_in result) (K.view sink.old) (K.view sink.new))
-        (ending_in result) rs (D.view disk.old) (D.view disk.new) (K.view sink.old) (K.view sink.new) }
+    ensures does { (source : SourceView) → (rs : List Replied) × DoesCommand D D.view (Delete name.now) [] rs (ending_in result)
+        (D.view disk.old) (D.view disk.new) source source (K.view sink.old) (K.view sink.new) }
     ensures later { IsLater (D.view disk.old) (D.view disk.new) }
 {
     scripts_follow_the_machine::<Core<&mut D, NoSummary>>();

@@ -3,8 +3,7 @@ ghost use Rattle.std.specs.Prelude.{◌≡◌, List, ℕ};
 ghost use Rattle.dd_disk.specs.View.{IsLater};
 ghost use Rattle.backup_engine.specs.Line.{Ingest};
 ghost use Rattle.plain_machine.specs.Runs.{Replied};
-ghost use Rattle.backup_engine.specs.Singles.{SpeaksAs};
-ghost use Rattle.backup_engine.specs.TopCall.{Keeps, ending_in};
+ghost use Rattle.backup_engine.specs.TopCall.{DoesCommand, ending_in};
 
 use crate::lent::handed_back;
 use crate::storing::store_source;
@@ -24,10 +23,8 @@ pub(crate) fn ingest<D: Disk, S: Source, K: Sink>(
     sink: &mut K,
     name: &str,
 ) -> Result<(), Ending>
-    ensures keeps { (given : List ℕ) × (Keeps (Ingest name.now) given (ending_in result) (D.view disk.old) (D.view disk.new)
-        (S.view source.old) (S.view source.new) (K.view sink.old) (K.view sink.new)
-        × ((rs : List Replied) × SpeaksAs (Ingest name.now) given (ending_in result) rs (D.view disk.old) (D.view disk.new)
-        (S.view source.old) (S.view source.new) (K.view sink.old) (K.view sink.new))) }
+    ensures does { (given : List ℕ) × ((rs : List Replied) × DoesCommand D D.view (Ingest name.now) given rs (ending_in result)
+        (D.view disk.old) (D.view disk.new) (S.view source.old) (S.view source.new) (K.view sink.old) (K.view sink.new)) }
     ensures later { IsLater (D.view disk.old) (D.view disk.new) }
 {
     scripts_follow_the_machine::<Core<&mut D, NoSummary>>();

@@ -7,8 +7,7 @@ ghost use Rattle.store_core.specs.State.{IsRunning};
 ghost use Rattle.backup_engine.specs.Line as table;
 ghost use Rattle.backup_engine.specs.Naming.{ListRun};
 ghost use Rattle.backup_engine.specs.Running.{IsFresh};
-ghost use Rattle.backup_engine.specs.Singles.{IsListing, Speaks};
-ghost use Rattle.backup_engine.specs.TopCall.{Keeps, ending_in};
+ghost use Rattle.backup_engine.specs.TopCall.{DoesCommand, ending_in};
 
 use crate::lent::handed_back;
 use crate::putting::first;
@@ -46,10 +45,8 @@ pub(crate) fn list<D: Disk, K: Sink>(
     disk: &mut D,
     sink: &mut K,
 ) -> Result<(), Ending>
-    ensures keeps { (source : SourceView) → Keeps table.List [] (ending_in result) (D.view disk.old) (D.view disk.new)
-        source source (K.view sink.old) (K.view sink.new) }
-    ensures speaks { (rs : List Replied) × Speaks (IsListing (ending_in result) (K.view sink.old) (K.view sink.new))
-        (ending_in result) rs (D.view disk.old) (D.view disk.new) (K.view sink.old) (K.view sink.new) }
+    ensures does { (source : SourceView) → (rs : List Replied) × DoesCommand D D.view table.List [] rs (ending_in result)
+        (D.view disk.old) (D.view disk.new) source source (K.view sink.old) (K.view sink.new) }
     ensures later { IsLater (D.view disk.old) (D.view disk.new) }
 {
     scripts_follow_the_machine::<Core<&mut D, NoSummary>>();

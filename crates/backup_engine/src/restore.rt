@@ -4,8 +4,7 @@ ghost use Rattle.dd_io.specs.Flow.{SourceView};
 ghost use Rattle.dd_disk.specs.View.{IsLater};
 ghost use Rattle.backup_engine.specs.Line.{Restore};
 ghost use Rattle.plain_machine.specs.Runs.{Replied};
-ghost use Rattle.backup_engine.specs.Singles.{IsRestore, Speaks};
-ghost use Rattle.backup_engine.specs.TopCall.{Keeps, ending_in};
+ghost use Rattle.backup_engine.specs.TopCall.{DoesCommand, ending_in};
 
 use crate::giving::give_out;
 use crate::lent::handed_back;
@@ -26,10 +25,8 @@ pub(crate) fn restore<D: Disk, K: Sink>(
     sink: &mut K,
     name: &str,
 ) -> Result<(), Ending>
-    ensures keeps { (source : SourceView) → Keeps (Restore name.now) [] (ending_in result) (D.view disk.old) (D.view disk.new)
-        source source (K.view sink.old) (K.view sink.new) }
-    ensures speaks { (rs : List Replied) × Speaks (IsRestore name.now (ending_in result) (K.view sink.old) (K.view sink.new))
-        (ending_in result) rs (D.view disk.old) (D.view disk.new) (K.view sink.old) (K.view sink.new) }
+    ensures does { (source : SourceView) → (rs : List Replied) × DoesCommand D D.view (Restore name.now) [] rs (ending_in result)
+        (D.view disk.old) (D.view disk.new) source source (K.view sink.old) (K.view sink.new) }
     ensures later { IsLater (D.view disk.old) (D.view disk.new) }
 {
     scripts_follow_the_machine::<Core<&mut D, NoSummary>>();

@@ -3,9 +3,8 @@ ghost use Rattle.std.specs.Prelude.{◌≡◌, ◌≤◌, List};
 ghost use Rattle.dd_disk.specs.View.{IsLater};
 ghost use Rattle.plain_machine.specs.Runs.{Replied};
 ghost use Rattle.script_lines.specs.declared.script.TheConstants.{MOST_SCRIPT};
-ghost use Rattle.backup_engine.specs.Script.{KeepsScript};
 ghost use Rattle.backup_engine.specs.ScriptRuns.{RunsNext, ScriptRun};
-ghost use Rattle.backup_engine.specs.TopCall.{ending_in};
+ghost use Rattle.backup_engine.specs.TopCall.{RunsScript, ending_in};
 
 use crate::lent::handed_back;
 use actor_parts::SegBuf;
@@ -70,7 +69,7 @@ pub(crate) fn run<D: Disk, S: Source, K: Sink>(
     source: &mut S,
     sink: &mut K,
 ) -> Result<(), Ending>
-    ensures keeps { (rs : List Replied) × KeepsScript rs (ending_in result) (D.view disk.old) (D.view disk.new) (S.view source.old)
+    ensures runs { (rs : List Replied) × RunsScript D D.view rs (ending_in result) (D.view disk.old) (D.view disk.new) (S.view source.old)
         (S.view source.new) (K.view sink.old) (K.view sink.new) }
     ensures later { IsLater (D.view disk.old) (D.view disk.new) }
 {

@@ -37,7 +37,7 @@ pub fn backup<R, D: Disk + Send, S: Source, K: Sink, Q: Sink>(
     sink: &mut K,
     notes: &mut Q,
 ) -> u8
-    ensures promise { Promise (line_of (map string_bytes words.now)) result (record {
+    ensures promise { Promise D D.view (line_of (map string_bytes words.now)) result (record {
       disk = D.view disk.old;
       disk_now = D.view disk.new;
       source = S.view source.old;
@@ -62,7 +62,7 @@ pub fn backup_alone<R, D: Disk + Send, S: Source, K: Sink, Q: Sink>(
     sink: &mut K,
     notes: &mut Q,
 ) -> u8
-    ensures promise { Promise (line_of (map string_bytes words.now)) result (record {
+    ensures promise { Promise D D.view (line_of (map string_bytes words.now)) result (record {
       disk = D.view disk.old;
       disk_now = D.view disk.new;
       source = S.view source.old;
@@ -105,8 +105,8 @@ fn run_line<D: Disk, S: Source, K: Sink>(
     sink: &mut K,
 ) -> Result<(), Ending>
     requires { IsRightLine line.now }
-    ensures does { (given : List ℕ) × ((rs : List Replied) × Does (Some (line_value line.now)) given rs (ending_in result)
-        (D.view disk.old) (D.view disk.new) (S.view source.old) (S.view source.new) (K.view sink.old) (K.view sink.new)) }
+    ensures does { (given : List ℕ) × ((rs : List Replied) × Does D D.view (Some (line_value line.now)) given rs
+        (ending_in result) (D.view disk.old) (D.view disk.new) (S.view source.old) (S.view source.new) (K.view sink.old) (K.view sink.new)) }
     ensures later { IsLater (D.view disk.old) (D.view disk.new) }
 {
     match line {
@@ -124,7 +124,7 @@ fn run_command<D: Disk, S: Source, K: Sink>(
     sink: &mut K,
 ) -> Result<(), Ending>
     requires { IsRightCommand command.now }
-    ensures does { (given : List ℕ) × ((rs : List Replied) × Does (Some (Single (command_value command.now))) given rs
+    ensures does { (given : List ℕ) × ((rs : List Replied) × Does D D.view (Some (Single (command_value command.now))) given rs
         (ending_in result) (D.view disk.old) (D.view disk.new) (S.view source.old) (S.view source.new) (K.view sink.old)
         (K.view sink.new)) }
     ensures later { IsLater (D.view disk.old) (D.view disk.new) }

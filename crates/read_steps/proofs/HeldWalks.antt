@@ -1,6 +1,6 @@
 -- A walk down trees that are held: what is read of each is what it is.
-use Rattle.std.proofs.Common.{◌≡◌, inl, inr, ℕ, ◌+◌, List, [], ◌∷◌, ◌++◌, map, drop, take, Option, Some, None, Result, Ok, Err, IfOk, IfErr, option_map, refl, sym, ◌∙◌, ap, subst, arith}
-use Rattle.std.specs.List.{AllByRecursion}
+use Rattle.std.proofs.Common.{◌≡◌, inl, inr, ℕ, ◌+◌, List, [], ◌∷◌, ◌++◌, map, drop, take, Option, Some, None, Result, Ok, Err, IfOk, IfErr, option_map, refl, sym, ◌∙◌, ap, subst, append_assoc, arith}
+use Rattle.std.specs.List.{AllByRecursion, flat_map}
 use Rattle.std.proofs.lemmas.List.Concat.{flat_map-cons}
 use Rattle.sha2.specs.Sha256.{sha256}
 use Rattle.base_model.specs.Bytes.{key_of, range}
@@ -23,6 +23,7 @@ use Rattle.merkle_file.proofs.Unfolding.{walk_law}
 use Rattle.merkle_file.proofs.Walking.{is_within, may_ask}
 use Rattle.refusals.specs.declared.refusal.Refusal.{Refusal}
 use Rattle.refusals.specs.declared.refusal.Refusal.TheVariants.{DiskRead, Corrupt, Missing, Damaged}
+use Rattle.store_model.specs.Reserve.{tree_keys, keys_below}
 use Rattle.store_model.specs.Slots.{Copy}
 use Rattle.store_model.specs.Trees.{HasNewest, HoldsTree, HoldsTrees, bytes_at, leaf_key, node_key}
 use Rattle.store_model.proofs.Copies.{some_same}
@@ -85,7 +86,7 @@ module _ (held : List (Option HeaderValue)) (known : Option PlaceMap) (old new :
       not_wrong (Field offset got) (inr leaf) = absurd (omega (arith, leaf.0, right.above))
       not_wrong (Digest want got) wrong = absurd wrong
 
-  first_same : (t u : Top) (ts us : List Top) → t ∷ ts ≡ u ∷ us → t ≡ u
+  pub first_same : (t u : Top) (ts us : List Top) → t ∷ ts ≡ u ∷ us → t ≡ u
   first_same t u ts us same = cc
 
   first_of : (t : Top) (tops : List Top) (ts : List (Tree (List ℕ))) → HeldAhead held image (t ∷ tops) ts → HasFirst t
@@ -126,7 +127,7 @@ module _ (held : List (Option HeaderValue)) (known : Option PlaceMap) (old new :
     read_failed t first (Damaged at why) cause = absurd (never_damaged t first at why cause)
     read_failed t first refusal cause = absurd cause
 
-    next_failed : (ahead : List Top) (ts : List (Tree (List ℕ))) (refusal : Refusal) → HeldAhead held image ahead ts → IsNextRefusal known breaks old new ahead refusal → refusal ≡ DiskRead
+    pub next_failed : (ahead : List Top) (ts : List (Tree (List ℕ))) (refusal : Refusal) → HeldAhead held image ahead ts → IsNextRefusal known breaks old new ahead refusal → refusal ≡ DiskRead
     next_failed [] ts refusal ahead cause = absurd cause
     next_failed (t ∷ tops) ts refusal ahead cause = read_failed t (first_of t tops ts ahead) refusal cause
 
@@ -141,8 +142,15 @@ module _ (held : List (Option HeaderValue)) (known : Option PlaceMap) (old new :
       (node_again any_node n (record { lowest = omega arith; greatest = omega arith; most = omega arith }) right
       (record { lowest = right.above; greatest = right.level; least = omega arith; most = right.total })).1
 
-  open_held : (t : Top) (tops : List Top) (bytes : List ℕ) (ts : List (Tree (List ℕ))) → IsNodeRead (WasRead known old new) (t ∷ tops) bytes → HeldAhead held image (t ∷ tops) ts
+  keys_opened : (ts : Trees (List ℕ)) (us : List (Tree (List ℕ))) → flat_map tree_keys (list_of ts ++ us) ≡ keys_below ts ++ flat_map tree_keys us
+  keys_opened tree.NoTree us = refl
+  keys_opened (tree.Then t ts) us =
+      flat_map-cons tree_keys t (list_of ts ++ us) ∙ ap (λ (keys : List (List ℕ)). tree_keys t ++ keys) (keys_opened ts us)
+      ∙ sym (append_assoc (tree_keys t) (keys_below ts) (flat_map tree_keys us))
+
+  pub open_held : (t : Top) (tops : List Top) (bytes : List ℕ) (ts : List (Tree (List ℕ))) → IsNodeRead (WasRead known old new) (t ∷ tops) bytes → HeldAhead held image (t ∷ tops) ts
       → (us : List (Tree (List ℕ))) × HeldAhead held image (opened (contents_in bytes) ++ drop 1 (t ∷ tops)) us × (segments_in us ≡ segments_in ts)
+      × (flat_map tree_keys ts ≡ top_key t ∷ flat_map tree_keys us)
   open_held t tops bytes [] read ahead = absurd (let wrong : t ∷ tops ≡ [] = ahead.trees.tops in cc)
   open_held t tops bytes (tree.Empty ∷ us) read ahead = absurd ahead.trees.each.0
   open_held t tops bytes (tree.Leaf segment ∷ us) read ahead =
@@ -153,7 +161,11 @@ module _ (held : List (Option HeaderValue)) (known : Option PlaceMap) (old new :
       let was : WasRead known old new (node_key n) bytes = subst (λ (d : List ℕ). WasRead known old new (1 ∷ d) bytes) digest read.1 in
       let is : bytes ≡ spelling n = read_newest (node_key n) level (spelling n) bytes ahead.each.0.0 was in
       let law = walk_law (t ∷ tops) (opened (contents_in bytes) ++ drop 1 (t ∷ tops)) bytes level ts us (Ok tt) (λ m right named e. (refl, ap contents_in e ∙ right_any m right)) refl ahead.trees is in
-      (list_of ts ++ us, record { trees = law.1; each = all_held ts us ahead.each.0.1 ahead.each.1 }, law.2)
+      let key : node_key n ≡ top_key t = ap (λ (d : List ℕ). 1 ∷ d) (sym digest) ∙ sym (key_of_node t read.0) in
+      let keys : flat_map tree_keys (tree.Node level ts ∷ us) ≡ top_key t ∷ flat_map tree_keys (list_of ts ++ us) =
+      flat_map-cons tree_keys (tree.Node level ts) us ∙ ap (λ (rest : List (List ℕ)). node_key n ∷ rest) (sym (keys_opened ts us))
+      ∙ ap (λ (k : List ℕ). k ∷ flat_map tree_keys (list_of ts ++ us)) key in
+      (list_of ts ++ us, record { trees = law.1; each = all_held ts us ahead.each.0.1 ahead.each.1 }, law.2, keys)
 
   opened_held : (nodes : List (List ℕ)) (before after : List Top) (ts : List (Tree (List ℕ))) → Opened (WasRead known old new) nodes before after → HeldAhead held image before ts
       → (us : List (Tree (List ℕ))) × HeldAhead held image after us × (segments_in us ≡ segments_in ts)
@@ -176,7 +188,7 @@ module _ (held : List (Option HeaderValue)) (known : Option PlaceMap) (old new :
   none_ahead [] ahead = refl
   none_ahead (t ∷ ts) ahead = absurd (let wrong : [] ≡ root_of of_segment t ∷ map (root_of of_segment) ts = ahead.trees.tops in cc)
 
-  rest_same : (t u : Top) (ts us : List Top) → t ∷ ts ≡ u ∷ us → ts ≡ us
+  pub rest_same : (t u : Top) (ts us : List Top) → t ∷ ts ≡ u ∷ us → ts ≡ us
   rest_same t u ts us same = cc
 
   leaf_given : (t : Top) (tops : List Top) (bytes : List ℕ) (ts : List (Tree (List ℕ))) → t.level ≡ 0 → WasRead known old new (key_of 0 t.digest) bytes → HeldAhead held image (t ∷ tops) ts

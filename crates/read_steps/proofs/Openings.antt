@@ -25,7 +25,7 @@ use Rattle.read_steps.specs.Walking.{HeldAhead, SegmentsAhead}
 
 -- ---- a tree that is to come
 
-tree_held : (held : List (Option HeaderValue)) (image : List ℕ) (t : Tree (List ℕ)) → HoldsTree held image t → AllByRecursion (HoldsTree held image) (trees_in t)
+pub tree_held : (held : List (Option HeaderValue)) (image : List ℕ) (t : Tree (List ℕ)) → HoldsTree held image t → AllByRecursion (HoldsTree held image) (trees_in t)
 tree_held held image tree.Empty holds = tt
 tree_held held image (tree.Leaf segment) holds = (holds, tt)
 tree_held held image (tree.Node level ts) holds = (holds, tt)

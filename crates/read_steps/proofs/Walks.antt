@@ -27,7 +27,8 @@ use Rattle.refusals.specs.declared.refusal.Refusal.TheVariants.{DiskRead, Corrup
 use Rattle.segment_index.specs.Places.{IsPlace}
 use Rattle.store_model.specs.Refusals.{WereFound}
 use Rattle.store_state.specs.Comparing as copies
-use Rattle.read_steps.specs.Walking.{IsPlaceOf, IsCopyRefusal, IsAnswer, IsCopyAt, WasRead, Opened, Walked, IsLeafRead, Gives, IsDamage, IsTopRefusal, IsNextRefusal, IsWalkRefusal, IsNodeNamed, top_key, level_ahead, leaf_top, bytes_ahead, GivesAll, AnyBytes, ReadsAreWhole}
+use Rattle.read_steps.specs.Visiting.{HasPlace, IsVisitRefusal}
+use Rattle.read_steps.specs.Walking.{IsPlaceOf, IsLookupRefusal, IsCopyRefusal, IsAnswer, IsCopyAt, WasRead, Opened, Walked, IsLeafRead, Gives, IsDamage, IsTopRefusal, IsNextRefusal, IsWalkRefusal, IsNodeNamed, top_key, level_ahead, leaf_top, bytes_ahead, GivesAll, AnyBytes, ReadsAreWhole}
 
 -- the key of a node that is to come
 pub key_of_node : (t : Top) → 1 ≤ t.level → top_key t ≡ 1 ∷ t.digest
@@ -105,6 +106,9 @@ module _ (known : Option PlaceMap) (old mid new : DiskView) where
     };
   }
 
+  pub placed_since : (sooner : Option PlaceMap) → sooner ≡ known → (key : List ℕ) → HasPlace sooner key → HasPlace known key
+  placed_since sooner same key has = (has.0, λ m is. has.1 m (same ∙ is))
+
   pub walked_then : (sooner : Option PlaceMap) → sooner ≡ known → OnlyReads old mid → OnlyReads mid new → (a b c : List Top)
       → Walked (WasRead known old mid) a b → Walked (WasRead sooner mid new) b c → Walked (WasRead known old new) a c
   walked_then sooner same first second a b c one other =
@@ -152,6 +156,17 @@ module _ (known : Option PlaceMap) (old mid new : DiskView) where
     next_since : (ahead : List Top) (refusal : Refusal) → IsNextRefusal sooner broke mid new ahead refusal → IsNextRefusal known breaks old new ahead refusal
     next_since [] refusal cause = absurd cause
     next_since (t ∷ ts) refusal cause = top_since t refusal cause
+
+    lookup_since : (key : List ℕ) (refusal : Refusal) → IsLookupRefusal sooner broke mid new key refusal → IsLookupRefusal known breaks old new key refusal
+    lookup_since key DiskRead cause = tt
+    lookup_since key (Missing k) cause = (cause.0, λ m is. cause.1 m (same ∙ is))
+    lookup_since key (Damaged at why) cause = damage_since at why cause
+    lookup_since key refusal cause = absurd cause
+
+    pub visit_since : (ahead : List Top) (refusal : Refusal) → IsVisitRefusal sooner broke mid new ahead refusal → IsVisitRefusal known breaks old new ahead refusal
+    visit_since [] refusal cause = absurd cause
+    visit_since (t ∷ ts) refusal (inl leaf) = inl (leaf.0, lookup_since (top_key t) refusal leaf.1)
+    visit_since (t ∷ ts) refusal (inr node) = inr (node.0, top_since t refusal node.1)
 
     -- a refusal after some nodes were opened
     pub refused_then : OnlyReads mid new → (a b c : List Top) (refusal : Refusal) → Walked (WasRead known old mid) a b → IsWalkRefusal sooner broke mid new b c refusal

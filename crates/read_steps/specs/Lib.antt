@@ -1,4 +1,5 @@
 pub mod Counting
 pub mod Opening
 pub mod Readers
+pub mod Visiting
 pub mod Walking

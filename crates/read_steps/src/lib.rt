@@ -5,10 +5,12 @@ mod counting;
 mod laws;
 mod opening;
 mod readers;
+mod visiting;
 mod walking;
 
 pub use counting::{list, stat};
 pub use laws::readers_go_on;
 pub use opening::begin_walk;
 pub use readers::{end_read, open_read, read_next};
+pub use visiting::visit;
 pub use walking::next_segment;

@@ -1,5 +1,5 @@
 //! The next segment on a walk down a tree.
-ghost use Rattle.std.specs.Prelude.{◌≡◌, ◌↔◌, ℕ, ◌+◌, ◌<◌, ◌≤◌, List, [], ◌∷◌, length, take, Option, None, Ok, IfOk, IfErr, OnOk};
+ghost use Rattle.std.specs.Prelude.{◌≡◌, ◌↔◌, ℕ, ◌+◌, ◌<◌, ◌≤◌, List, [], ◌∷◌, length, take, Option, None, Ok, IfOk, IfErr, OnErr, OnOk};
 ghost use Rattle.sha2.specs.Sha256.{sha256};
 ghost use Rattle.base_model.specs.Bytes.{key_of as key_in};
 ghost use Rattle.dd_disk.specs.Ending.{ending, Reads};
@@ -14,6 +14,7 @@ ghost use Rattle.segment_index.specs.Places.{IsPlace};
 ghost use Rattle.store_state.specs.Refused.{blames};
 ghost use Rattle.read_steps.specs.Walking.{IsPlaceOf, IsCopyAt, WasRead, IsLookupRefusal, IsCopyRefusal, IsNextRefusal, IsWalkRefusal};
 ghost use Rattle.read_steps.specs.Walking.{IsNodeNamed, IsLeafRead, Walked, leaf_top, level_ahead};
+ghost use Rattle.read_steps.specs.Visiting.{VisitsPlaced};
 ghost use Rattle.read_steps.specs.Walking.{IsAnswer, IsHeldAnswer, IsIndexed, SegmentsAhead};
 
 use container_meta::{Key, Kind, Place, key_of};
@@ -25,7 +26,11 @@ use segment_index::{Index, IndexFault};
 use store_state::read_copy;
 
 // Where the index has a key.
-fn find_place<D: Disk, X: Index>(disk: &mut D, index: &mut X, key: &Key) -> Result<Place, Refusal>
+pub(crate) fn find_place<D: Disk, X: Index>(
+    disk: &mut D,
+    index: &mut X,
+    key: &Key,
+) -> Result<Place, Refusal>
     requires { X.serves index.old (D.view disk.old).size }
     ensures found { IfOk result (IsPlaceOf (X.places index.old (D.view disk.old).content) key.now) }
     ensures place { IfOk result (IsPlace (D.view disk.old).size) }
@@ -81,20 +86,25 @@ fn damaged(place: &Place, offset: u32, got: u64) -> Refusal
     }
 }
 
-// Opens the node that comes first.
-fn open_node<D: Disk, X: Index>(
+// Opens the node that comes first, and answers its place. Where it is refused, what is to come stays.
+pub(crate) fn open_node<D: Disk, X: Index>(
     disk: &mut D,
     index: &mut X,
     cursor: &mut Cursor,
     digest: &Hash,
     buf: &mut [u8],
-) -> Result<(), Refusal>
+) -> Result<Place, Refusal>
     requires serves { X.serves index.old (D.view disk.old).size }
     requires room { LONGEST ≤ length buf.old }
     requires node { IsNodeNamed cursor.old digest.now }
+    ensures visits { IfOk result (VisitsPlaced (X.places index.old (D.view disk.old).content) (D.view disk.old) (D.view disk.new)
+        cursor.old cursor.new) }
     ensures walked { OnOk result (Walked (WasRead (X.places index.old (D.view disk.old).content) (D.view disk.old) (D.view disk.new))
         cursor.old cursor.new) }
     ensures falls { OnOk result (level_ahead cursor.new < level_ahead cursor.old) }
+    ensures kept { OnErr result (cursor.new ≡ cursor.old) }
+    ensures cause { IfErr result (IsNextRefusal (X.places index.old (D.view disk.old).content) (X.breaks index.old)
+        (D.view disk.old) (D.view disk.new) cursor.old) }
     ensures refused { IfErr result (IsWalkRefusal (X.places index.old (D.view disk.old).content) (X.breaks index.old)
         (D.view disk.old) (D.view disk.new) cursor.old cursor.new) }
     ensures map { X.places index.new (D.view disk.new).content ≡ X.places index.old (D.view disk.old).content }
@@ -104,7 +114,7 @@ fn open_node<D: Disk, X: Index>(
 {
     let place = read_newest(disk, index, Kind::Tree, digest, buf)?;
     match cursor.feed(&buf[..place.length as usize]) {
-        Ok(()) => Ok(()),
+        Ok(()) => Ok(place),
         Err(fault) => Err(damaged(&place, fault.offset, fault.got)),
     }
 }

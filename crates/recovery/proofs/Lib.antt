@@ -1,6 +1,11 @@
 mod Blank
 mod Formatted
+mod Giving
+mod Marks
+mod Opens
 mod Pushed
 mod Reading
+mod Rooms
+mod Spare
 mod Steps
 mod Storing

@@ -1,3 +1,6 @@
 pub mod Formatting
+pub mod Making
+pub mod Marking
 pub mod Opening
+pub mod Room
 pub mod Slots

@@ -1,11 +1,15 @@
-//! Making an empty store, and opening a store: what is on its disk, in the order in which it is looked at.
+//! Making an empty store, and opening a store: what is on its disk, in the order in which it is looked at, and what is given
+//! back of it where too few slots are closed.
 //!
-//! The rules are docs/MODEL.md, 'Opening'.
+//! The rules are docs/MODEL.md, 'Opening' and 'The reserve'.
 #![tactic(auto)]
 
 mod formatting;
+mod freeing;
+mod marking;
 mod opening;
+mod room;
 mod slots;
 
 pub use formatting::format;
-pub use opening::open;
+pub use opening::{open, reopen};

@@ -8,7 +8,9 @@ ghost use Rattle.journal_cells.specs.Journal.{IsScanned};
 ghost use Rattle.store_model.specs.Image.{Store, Encodes, HasFormat};
 ghost use Rattle.store_state.specs.Refused.{blames, fails};
 ghost use Rattle.recovery.specs.Opening.{IsSized, IsFound, IsOpened, Opens, IsBeginRefusal, IsOpenRefusal, cell_refusal};
+ghost use Rattle.recovery.specs.Room.{IsNotFull, Opening};
 
+use crate::room::make_room;
 use crate::slots::read_slots;
 use dd_disk::{Disk, DiskFault, sync_all};
 use disk_format::{LEAST_SIZE, RESERVE, size_of};
@@ -47,6 +49,7 @@ fn begin<D: Disk>(disk: &mut D) -> Result<(), Refusal>
     ensures durable { OnOk result (IsDurable (D.view disk.new)) }
     ensures reads { Reads (ending blames result) (D.view disk.old) (D.view disk.new) }
     ensures refused { IfErr result (IsBeginRefusal (D.view disk.old).size) }
+    ensures not_full { IfErr result IsNotFull }
 {
     match sync_all(disk) {
         Ok(()) => {}
@@ -72,6 +75,7 @@ fn count_slots<D: Disk>(disk: &mut D) -> Result<u32, Refusal>
     ensures durable { OnOk result (IsDurable (D.view disk.new)) }
     ensures reads { Reads (ending blames result) (D.view disk.old) (D.view disk.new) }
     ensures refused { IfErr result (IsOpenRefusal (Shows (D.view disk.old) (D.view disk.new)) (D.view disk.old).size) }
+    ensures not_full { IfErr result IsNotFull }
 {
     begin(disk)?;
     match slots_of(disk) {
@@ -88,6 +92,7 @@ fn read_format<D: Disk>(disk: &mut D) -> Result<u32, Refusal>
     ensures durable { OnOk result (IsDurable (D.view disk.new)) }
     ensures reads { Reads (ending blames result) (D.view disk.old) (D.view disk.new) }
     ensures refused { IfErr result (IsOpenRefusal (Shows (D.view disk.old) (D.view disk.new)) (D.view disk.old).size) }
+    ensures not_full { IfErr result IsNotFull }
 {
     let slots = count_slots(disk)?;
     let want = size_of(slots);
@@ -108,6 +113,7 @@ fn read_front<D: Disk>(alloc: Global, disk: &mut D) -> Result<Front, Refusal>
     ensures durable { OnOk result (IsDurable (D.view disk.new)) }
     ensures reads { Reads (ending blames result) (D.view disk.old) (D.view disk.new) }
     ensures refused { IfErr result (IsOpenRefusal (Shows (D.view disk.old) (D.view disk.new)) (D.view disk.old).size) }
+    ensures not_full { IfErr result IsNotFull }
 {
     let slots = read_format(disk)?;
     match scan(alloc, disk) {
@@ -128,6 +134,7 @@ fn open_all<D: Disk>(alloc: Global, disk: &mut D) -> Result<OpenStore, Refusal>
     ensures durable { OnOk result (IsDurable (D.view disk.new)) }
     ensures reads { Reads (ending blames result) (D.view disk.old) (D.view disk.new) }
     ensures refused { IfErr result (IsOpenRefusal (Shows (D.view disk.old) (D.view disk.new)) (D.view disk.old).size) }
+    ensures not_full { IfErr result IsNotFull }
 {
     let front = read_front(alloc, disk)?;
     let containers = read_slots(alloc, disk, front.slots)?;
@@ -139,17 +146,18 @@ fn open_all<D: Disk>(alloc: Global, disk: &mut D) -> Result<OpenStore, Refusal>
     })
 }
 
-/// Opens the store on a disk: a sync, and then, in this order, the format cell, the selectors, the records of the half
-/// that counts, and of each slot its gate and, where that is open, its header and entries.
+/// Reads the store of a disk: a sync, and then, in this order, the format cell, the selectors, the records of the half that
+/// counts, and of each slot its gate and, where that is open, its header and entries. So a store is opened again that ran: it
+/// keeps two slots closed.
 ///
 /// Refusals, in the order in which they come: `DiskWrite` where the sync fails; `WrongSize` below the smallest size;
 /// `NotAStore`, `Version` and `Damaged` of the format cell; `WrongSize` where the size isn't that of its slots; `Damaged`
 /// and `Version` of the journal; `Damaged` of a container; `Full` where fewer than two slots are closed. `DiskRead` and
-/// `Memory` may come in place of any after the first size. No file is read.
-pub fn open<D: Disk>(alloc: Global, disk: &mut D) -> Result<OpenStore, Refusal>
+/// `Memory` may come in place of any after the first size. No file is read, and nothing is written.
+pub fn reopen<D: Disk>(alloc: Global, disk: &mut D) -> Result<OpenStore, Refusal>
     ensures opened { IfOk result (IsOpened (Shows (D.view disk.old) (D.view disk.new)) (D.view disk.old).size) }
     // A store of the right size, whose cells and headers are right and whose ids differ, is opened, unless memory or the
-    // disk fails, or too few slots are free.
+    // disk fails, or too few slots are closed.
     ensures only { Shows (D.view disk.old) (D.view disk.new) (λ image. (store : Store) → Encodes image store → Opens store result) }
     // All that was written stands after a crash.
     ensures durable { OnOk result (IsDurable (D.view disk.new)) }
@@ -162,4 +170,23 @@ pub fn open<D: Disk>(alloc: Global, disk: &mut D) -> Result<OpenStore, Refusal>
         return Err(Refusal::Full { free });
     }
     Ok(opened)
+}
+
+/// Opens the store on a disk, as `reopen` does. Where fewer than two slots are closed, the trees of all names are walked, in
+/// the order of the names' bytes, their nodes read and their segments not; then containers that hold the newest copy of none
+/// of their keys are given back, the one of the least id first, until two slots are closed or no such is left; and the store
+/// is read again. Before a container is given back nothing is written.
+///
+/// Refusals: those of `reopen`, where `Full` comes once no container is left to be given back; and, where too few slots are
+/// closed, `Memory`, those of `read_steps::visit`, and `DiskWrite`.
+pub fn open<D: Disk>(alloc: Global, disk: &mut D) -> Result<OpenStore, Refusal>
+    ensures { Opening D D.view result disk.old disk.new }
+{
+    let opened = open_all(alloc, disk)?;
+    let closed = opened.containers.free();
+    if closed >= RESERVE {
+        return Ok(opened);
+    }
+    make_room(alloc, disk, opened, closed)?;
+    reopen(alloc, disk)
 }

@@ -10,7 +10,7 @@ use Rattle.actor_parts.specs.StepValue as asked
 use Rattle.actor_parts.specs.StepValue.{StepValue}
 use Rattle.refusals.specs.declared.refusal.Refusal.{Refusal}
 use Rattle.refusals.specs.declared.refusal.Refusal.TheVariants as refusals
-use Rattle.store_model.specs.Collisions.{HasNoCollisions, ByteSet, IsIn}
+use Rattle.store_model.specs.Collisions.{HasNoCollisions, ByteSet, IsIn, IsOf}
 use Rattle.store_model.specs.Files.{Stored}
 use Rattle.store_model.specs.Image.{Store}
 use Rattle.store_state.specs.declared.tables.Tables.{Tables}
@@ -18,7 +18,7 @@ use Rattle.store_core.specs.declared.stop.Stop.{Stop}
 use Rattle.store_core.specs.Core as core_step
 use Rattle.store_core.specs.Core.{Effect, Steps, StopsAfter}
 use Rattle.store_core.specs.Frame.{KeepsWritten, commands_in}
-use Rattle.store_core.specs.Runs.{FileEvent, FileRun, FileStep, IsOf, IsOnTheWay, stored_by, stored_tried, stored_with}
+use Rattle.store_core.specs.Runs.{FileEvent, FileRun, FileStep, IsOnTheWay, stored_by, stored_tried, stored_with}
 use Rattle.store_core.specs.Sound.{IsHarmless, MayClash}
 use Rattle.store_core.specs.State.{CoreState}
 use Rattle.store_core.proofs.CoreRuns.{running_step}

@@ -19,7 +19,7 @@ use Rattle.refusals.specs.declared.refusal.Refusal.{Refusal}
 use Rattle.refusals.specs.declared.refusal.Refusal.TheVariants as refusals
 use Rattle.ingest_session.specs.State.{SessionState}
 use Rattle.namespace.specs.Names.{HasRoom}
-use Rattle.store_model.specs.Collisions.{HasNoCollisions, ByteSet, IsIn}
+use Rattle.store_model.specs.Collisions.{HasNoCollisions, ByteSet, IsIn, IsOf}
 use Rattle.store_model.specs.Files.{Files, with_stored}
 use Rattle.store_model.specs.Image.{Store, Encodes, names_of}
 use Rattle.store_model.specs.Standing.{IsStoreOf}
@@ -28,7 +28,7 @@ use Rattle.store_model.proofs.Cells.{cell_here}
 use Rattle.store_model.specs.Trees.{root_of}
 use Rattle.store_core.specs.Core.{CoreStep, Steps}
 use Rattle.store_core.specs.Frame.{AddsBytes}
-use Rattle.store_core.specs.Runs.{FileEvent, FileStep, IsOf, IsRightCommit}
+use Rattle.store_core.specs.Runs.{FileEvent, FileStep, IsRightCommit}
 use Rattle.store_core.specs.State.{CoreState}
 use Rattle.store_core.proofs.CoreRuns.{running_step}
 use Rattle.store_core.proofs.Crashes.{last_at}

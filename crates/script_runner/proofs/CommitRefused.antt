@@ -20,7 +20,7 @@ use Rattle.ingest_session.specs.State.{SessionState}
 use Rattle.ingest_steps.specs.Naming.{MayName}
 use Rattle.ingest_steps.specs.Writers.{IsCommitRefusal}
 use Rattle.namespace.specs.Names.{HasRoom, IsFull, NameMap}
-use Rattle.store_model.specs.Collisions.{HasNoCollisions, ByteSet, IsIn}
+use Rattle.store_model.specs.Collisions.{HasNoCollisions, ByteSet, IsIn, IsOf}
 use Rattle.store_model.specs.Files.{Stored, with_stored}
 use Rattle.store_model.specs.Image.{Store, Encodes, names_of}
 use Rattle.store_model.specs.Standing.{IsStoreOf}
@@ -28,7 +28,7 @@ use Rattle.store_model.specs.Trees.{root_of}
 use Rattle.store_state.specs.Refused.{blames}
 use Rattle.store_core.specs.declared.stop.Stop.{Stop}
 use Rattle.store_core.specs.Core.{CoreStep, Steps, StopsAfter}
-use Rattle.store_core.specs.Runs.{FileEvent, FileStep, IsOf}
+use Rattle.store_core.specs.Runs.{FileEvent, FileStep}
 use Rattle.store_core.specs.State.{CoreState}
 use Rattle.store_core.proofs.CoreRuns.{running_step}
 use Rattle.plain_machine.specs.Machine.{Machine, Stopped, part_in}

@@ -14,10 +14,9 @@ use Rattle.ingest_session.specs.State.{SessionState}
 use Rattle.script_lines.specs.Grammar as lines
 use Rattle.script_lines.specs.ReplyValue as replies
 use Rattle.script_lines.specs.ReplyValue.{ReplyValue}
-use Rattle.store_model.specs.Collisions.{HasNoCollisions, ByteSet, IsIn}
+use Rattle.store_model.specs.Collisions.{HasNoCollisions, ByteSet, IsIn, IsOf}
 use Rattle.store_model.specs.Files.{Stored, with_stored}
 use Rattle.store_model.specs.Trees.{root_of}
-use Rattle.store_core.specs.Runs.{IsOf}
 use Rattle.store_core.specs.State.{CoreState, Event}
 use Rattle.store_core.proofs.CoreRuns.{running_step}
 use Rattle.plain_machine.specs.Machine.{Machine, RunState, Running}

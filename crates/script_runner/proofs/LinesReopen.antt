@@ -1,5 +1,6 @@
 -- `reopen` follows the plain machine, whether the store was opened again or not.
 use Rattle.std.proofs.Common.{◌≡◌, ◌⊎◌, inl, inr, ◌≤◌, ◌<◌, ◌-◌, ℕ, false, true, List, length, replicate, Option, None, Ok, Err, refl, sym, ◌∙◌, ap, subst, arith}
+use Rattle.store_model.specs.Collisions.{IsOf}
 use Rattle.std.proofs.lemmas.List.{get_or-replicate, length-replicate}
 use Rattle.std.specs.FinMap as finite
 use Rattle.std.specs.List.{AllByRecursion}
@@ -39,7 +40,7 @@ use Rattle.store_core.specs.declared.stop.Stop.{Stop}
 use Rattle.store_core.specs.Core.{Steps}
 use Rattle.store_core.specs.Keeping.{IsHeldIn}
 use Rattle.store_core.specs.Opening.{BeginsAt, IsGivenUp, IsKept}
-use Rattle.store_core.specs.Runs.{IsAt, IsOf}
+use Rattle.store_core.specs.Runs.{IsAt}
 use Rattle.store_core.specs.State.{CoreState, Event, IsUp, UnlessStopped}
 use Rattle.store_core.proofs.CoreRuns.{running_step}
 use Rattle.store_core.proofs.Crashes.{last_at}

@@ -15,9 +15,8 @@ use Rattle.script_lines.specs.declared.reply.Turned.TheVariants as turns
 use Rattle.script_lines.specs.Grammar as lines
 use Rattle.script_lines.specs.ReplyValue as replies
 use Rattle.script_lines.specs.ReplyValue.{ReplyValue}
-use Rattle.store_model.specs.Collisions.{HasNoCollisions, ByteSet, IsIn}
+use Rattle.store_model.specs.Collisions.{HasNoCollisions, ByteSet, IsIn, IsOf}
 use Rattle.store_model.specs.Files.{Stored}
-use Rattle.store_core.specs.Runs.{IsOf}
 use Rattle.store_core.specs.State.{CoreState}
 use Rattle.plain_machine.specs.Lines.{AnswersTurn}
 use Rattle.plain_machine.specs.Machine.{Machine, RunState, Running, MayBeFound}

@@ -12,14 +12,14 @@ use Rattle.actor_parts.specs.Parts.{part_of}
 use Rattle.actor_parts.specs.StepValue.{StepValue}
 use Rattle.refusals.specs.declared.refusal.Refusal.{Refusal}
 use Rattle.refusals.specs.declared.refusal.Refusal.TheVariants as refusals
-use Rattle.store_model.specs.Collisions.{HasNoCollisions, ByteSet, IsIn}
+use Rattle.store_model.specs.Collisions.{HasNoCollisions, ByteSet, IsIn, IsOf}
 use Rattle.store_model.specs.Files.{Stored}
 use Rattle.store_model.specs.Image.{Store}
 use Rattle.store_state.specs.Refused.{blames}
 use Rattle.store_core.specs.declared.stop.Stop.{Stop}
 use Rattle.store_core.specs.Core.{Steps, StopsAfter}
 use Rattle.store_core.specs.Frame.{KeepsWritten, commands_of}
-use Rattle.store_core.specs.Runs.{FileEvent, FileStep, IsOf, stored_tried}
+use Rattle.store_core.specs.Runs.{FileEvent, FileStep, stored_tried}
 use Rattle.store_core.specs.State.{CoreState}
 use Rattle.store_core.proofs.CoreRuns.{running_step}
 use Rattle.plain_machine.specs.Content.{BreaksOff}

@@ -2,11 +2,11 @@
 use Rattle.std.proofs.Common.{◌≡◌, inl, inr, [], Some, None, subst}
 use Rattle.dd_disk.proofs.Later.{leaves_weaker}
 use Rattle.actor_parts.specs.StepValue.{IsStep}
-use Rattle.store_model.specs.Collisions.{HasNoCollisions, ByteSet, IsIn}
+use Rattle.store_model.specs.Collisions.{HasNoCollisions, ByteSet, IsIn, IsOf}
 use Rattle.store_model.specs.Files.{Stored}
 use Rattle.store_core.specs.Core.{CoreStep, Rests}
 use Rattle.store_core.specs.Opening.{BeginsAt}
-use Rattle.store_core.specs.Runs.{FileEvent, IsGivenRight, IsOf, stored_with}
+use Rattle.store_core.specs.Runs.{FileEvent, IsGivenRight, stored_with}
 use Rattle.store_core.specs.State.{CoreState, Event}
 use Rattle.plain_machine.specs.Machine.{Machine}
 use Rattle.script_runner.specs.Follows.{FollowsRunning}

@@ -14,7 +14,7 @@ use Rattle.actor_parts.specs.StepValue as asked
 use Rattle.actor_parts.specs.StepValue.{StepValue}
 use Rattle.refusals.specs.declared.refusal.Refusal.{Refusal}
 use Rattle.refusals.specs.declared.refusal.Refusal.TheVariants as refusals
-use Rattle.store_model.specs.Collisions.{HasNoCollisions, ByteSet, IsIn}
+use Rattle.store_model.specs.Collisions.{HasNoCollisions, ByteSet, IsIn, IsOf}
 use Rattle.store_model.specs.Files.{Stored}
 use Rattle.store_model.specs.Image.{Store}
 use Rattle.store_model.specs.Steps.{StoreChange, changed}
@@ -24,7 +24,7 @@ use Rattle.store_core.specs.Core.{Steps, StopsAfter}
 use Rattle.store_core.specs.Frame.{AddsBytes}
 use Rattle.store_core.specs.Keeping.{IsHeldIn, kept_by}
 use Rattle.store_core.specs.Opening.{BeginsAt}
-use Rattle.store_core.specs.Runs.{ChangesTo, FileEvent, FileRun, FileStep, IsOf, IsOnTheWay, changes_by, stored_by, stored_tried, stored_with}
+use Rattle.store_core.specs.Runs.{ChangesTo, FileEvent, FileRun, FileStep, IsOnTheWay, changes_by, stored_by, stored_tried, stored_with}
 use Rattle.store_core.specs.State.{CoreState, IsUp, UnlessStopped}
 use Rattle.store_core.proofs.CoreRuns.{core_run, running_step}
 use Rattle.store_core.proofs.Crashes.{leaves_on_the_way}

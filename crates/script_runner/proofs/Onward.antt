@@ -1,5 +1,6 @@
 -- A core that goes on at the same files, and what becomes of one actor, as a runner that follows the plain machine sees it.
 use Rattle.std.proofs.Common.{◌≡◌, ◌≢◌, ◌⊎◌, inl, inr, ◌<◌, ◌∙◌, ℕ, List, slice_index_or, Option, None, refl, sym, subst}
+use Rattle.store_model.specs.Collisions.{IsOf}
 use Rattle.std.proofs.lemmas.Bool.{cases_eq}
 use Rattle.dd_disk.specs.View.{CrashLeaves}
 use Rattle.dd_disk.proofs.Later.{leaves_weaker, reads_here, reads_leave}
@@ -14,7 +15,6 @@ use Rattle.script_lines.specs.ReplyValue.{ReplyValue}
 use Rattle.store_model.specs.Files.{Stored}
 use Rattle.store_core.specs.Keeping.{IsHeldIn}
 use Rattle.store_core.specs.Opening.{BeginsAt}
-use Rattle.store_core.specs.Runs.{IsOf}
 use Rattle.store_core.specs.State.{CoreState, IsUp}
 use Rattle.store_core.proofs.Crashes.{last_at}
 use Rattle.plain_machine.specs.Machine.{Machine, Part, Idle, RunState, Running, Stopped, MayBeFound, part_in}

@@ -3,9 +3,8 @@ use Rattle.std.proofs.Common.{◌≡◌, true, ◌⊎◌, inl, inr, ◌∙◌, �
 use Rattle.std.proofs.lemmas.Bool.{cases_lt}
 use Rattle.std.proofs.lemmas.List.{append_assoc, append-nil}
 use Rattle.dd_disk.specs.View.{DiskView}
-use Rattle.store_model.specs.Collisions.{HasNoCollisions, ByteSet, IsIn}
+use Rattle.store_model.specs.Collisions.{HasNoCollisions, ByteSet, IsIn, IsOf}
 use Rattle.store_model.specs.Files.{Stored}
-use Rattle.store_core.specs.Runs.{IsOf}
 use Rattle.store_core.specs.State.{CoreState}
 use Rattle.plain_machine.specs.Machine.{Machine, MayBeFound}
 use Rattle.plain_machine.specs.Runs.{MachineRun, IsPassedFrom, Replied, ends}

@@ -1,11 +1,12 @@
 -- What a crash leaves while turns are made: the files stay as they are.
 use Rattle.std.proofs.Common.{◌≡◌, ◌⊎◌, inl, inr, ◌≤◌, ℕ, List, subst, arith}
+use Rattle.store_model.specs.Collisions.{IsOf}
 use Rattle.dd_disk.specs.View.{DiskView, CrashLeaves}
 use Rattle.dd_disk.proofs.Later.{leaves_on, leaves_weaker, reads_here, reads_leave}
 use Rattle.store_model.specs.Files.{Stored}
 use Rattle.store_model.specs.Image.{Store}
 use Rattle.store_core.specs.Core.{CoreStep}
-use Rattle.store_core.specs.Runs.{IsAt, IsOf}
+use Rattle.store_core.specs.Runs.{IsAt}
 use Rattle.store_core.specs.State.{CoreState, Event}
 use Rattle.store_core.proofs.Crashes.{last_at}
 use Rattle.store_core.proofs.Stepping.{step_later}

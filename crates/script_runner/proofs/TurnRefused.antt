@@ -22,7 +22,7 @@ use Rattle.actor_parts.specs.StepValue as asked
 use Rattle.actor_parts.specs.StepValue.{StepValue}
 use Rattle.refusals.specs.declared.refusal.Refusal.{Refusal}
 use Rattle.refusals.specs.declared.refusal.Refusal.TheVariants as refusals
-use Rattle.store_model.specs.Collisions.{HasNoCollisions, ByteSet, IsIn}
+use Rattle.store_model.specs.Collisions.{HasNoCollisions, ByteSet, IsIn, IsOf}
 use Rattle.store_model.specs.Image.{Store}
 use Rattle.store_state.specs.Comparing.{IsFirstUnlike}
 use Rattle.store_state.specs.Refused.{blames}
@@ -32,7 +32,7 @@ use Rattle.store_core.specs.declared.stop.Stop.{Stop}
 use Rattle.store_core.specs.Core.{CoreStep, IsDamage, Steps, StopsAfter}
 use Rattle.store_model.specs.Steps.{HasCellsFor}
 use Rattle.store_core.specs.Frame.{KeepsWritten}
-use Rattle.store_core.specs.Runs.{FileEvent, FileStep, IsOf, stored_by}
+use Rattle.store_core.specs.Runs.{FileEvent, FileStep, stored_by}
 use Rattle.store_core.specs.State.{CoreState}
 use Rattle.store_core.proofs.CoreRuns.{running_step}
 use Rattle.ingest_session.specs.declared.due.Due.{Due}

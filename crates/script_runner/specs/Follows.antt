@@ -18,7 +18,7 @@ use Rattle.ingest_session.specs.State.{SessionState}
 use Rattle.read_steps.specs.Walking.{SegmentsAhead}
 use Rattle.script_lines.specs.Grammar.{LineValue}
 use Rattle.script_lines.specs.ReplyValue.{ReplyValue}
-use Rattle.store_model.specs.Collisions.{HasNoCollisions, ByteSet, IsIn}
+use Rattle.store_model.specs.Collisions.{HasNoCollisions, ByteSet, IsIn, IsOf}
 use Rattle.store_model.specs.Files.{Stored}
 use Rattle.store_model.specs.Image.{Store}
 use Rattle.store_model.specs.Standing.{IsSegmentOf}
@@ -26,7 +26,6 @@ use Rattle.store_state.specs.Tables.{Represents}
 use Rattle.store_core.specs.declared.stop.Stop.{Stop}
 use Rattle.store_core.specs.Keeping.{IsHeldIn}
 use Rattle.store_core.specs.Opening.{BeginsAt}
-use Rattle.store_core.specs.Runs.{IsOf}
 use Rattle.store_core.specs.State.{CoreState, IsUp}
 use Rattle.plain_machine.specs.Machine.{Machine, Part, Idle, Writing, Finished, Reading, RunState, Running, Stopped, MayBeFound, part_in}
 use Rattle.plain_machine.specs.Refused.{actor_of}

@@ -4,10 +4,9 @@ use Rattle.dd_disk.specs.Ending.{Done, Reads}
 use Rattle.dd_disk.specs.Shows.{Shows}
 use Rattle.dd_disk.specs.View.{DiskView, IsDurable}
 use Rattle.actor_parts.specs.declared.actor.TheConstants.{ACTORS}
-use Rattle.store_model.specs.Collisions.{ByteSet, IsIn}
+use Rattle.store_model.specs.Collisions.{ByteSet, IsIn, IsOf}
 use Rattle.store_model.specs.Files.{Stored}
 use Rattle.store_core.specs.Opening.{IsNew}
-use Rattle.store_core.specs.Runs.{IsOf}
 use Rattle.store_core.specs.State.{CoreState}
 use Rattle.plain_machine.specs.Machine.{opened}
 use Rattle.script_runner.specs.Follows.{Follows}

@@ -1,7 +1,6 @@
 -- Lines that are run one after the other follow the plain machine, with the moments that the runner notes (docs/MODEL.md, 'Scripts').
 use Rattle.std.specs.Prelude.{◌≡◌, ◌⊎◌, ℕ, true, List, [], ◌∷◌, ◌++◌}
-use Rattle.store_model.specs.Collisions.{HasNoCollisions, ByteSet, IsIn}
-use Rattle.store_core.specs.Runs.{IsOf}
+use Rattle.store_model.specs.Collisions.{HasNoCollisions, ByteSet, IsIn, IsOf}
 use Rattle.store_core.specs.State.{CoreState}
 use Rattle.plain_machine.specs.Machine.{Machine}
 use Rattle.plain_machine.specs.Runs.{MachineRun, Replied, Step, ends}

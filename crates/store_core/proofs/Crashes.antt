@@ -10,7 +10,7 @@ use Rattle.actor_parts.specs.StepValue as asked
 use Rattle.actor_parts.specs.StepValue.{StepValue, IsStep}
 use Rattle.refusals.specs.declared.refusal.Refusal.{Refusal}
 use Rattle.refusals.specs.declared.refusal.Refusal.TheVariants as refusals
-use Rattle.store_model.specs.Collisions.{HasNoCollisions, ByteSet, IsIn, Stands}
+use Rattle.store_model.specs.Collisions.{HasNoCollisions, ByteSet, IsIn, Stands, IsOf}
 use Rattle.store_model.specs.Image.{Store, last_sequence}
 use Rattle.store_model.specs.Steps.{with_cell, with_other, with_sealed, with_change}
 use Rattle.store_model.proofs.Cells.{last_with_cell}
@@ -20,7 +20,7 @@ use Rattle.store_model.specs.Files as files
 use Rattle.store_model.proofs.NameChanges.{last_changed}
 use Rattle.store_core.specs.declared.stop.Stop.{Stop}
 use Rattle.store_core.specs.Core.{Effect, SealsOne, NamesOne, StepsOr, StopsAfter, next_id}
-use Rattle.store_core.specs.Runs.{FileEvent, FileStep, FileRun, IsAt, IsOf, IsOnTheWay, IsGivenRight, IsRootOf, SurvivesCrashes, SurvivesSince, KeepsAcknowledged, stored_with, stored_by, stored_after, stored_tried, stored_tried_by, events_of, EndsWithAll}
+use Rattle.store_core.specs.Runs.{FileEvent, FileStep, FileRun, IsAt, IsOnTheWay, IsGivenRight, IsRootOf, SurvivesCrashes, SurvivesSince, KeepsAcknowledged, stored_with, stored_by, stored_after, stored_tried, stored_tried_by, events_of, EndsWithAll}
 use Rattle.store_core.specs.State.{CoreState}
 use Rattle.store_core.proofs.CoreRuns.{stopped_reads, core_run}
 use Rattle.store_core.proofs.KeepingFiles.{file_step, keeps_files, may_seal_all}

@@ -1,5 +1,5 @@
 -- A core that was opened runs, and runs can begin at it; one that was not opened again runs on.
-use Rattle.std.proofs.Common.{◌≡◌, ℕ, zero, suc, List, length, Option, None, Some, Result, Ok, Err, IsErr, OnErr, replicate, refl, sym, ◌∙◌, ap, subst}
+use Rattle.std.proofs.Common.{◌≡◌, ℕ, zero, suc, List, length, Option, None, Some, Result, Ok, Err, IsErr, OnErr, replicate, refl, sym, ◌∙◌, ap, subst, inl, inr}
 use Rattle.std.proofs.lemmas.List.{length-replicate}
 use Rattle.std.specs.List.{AllByRecursion}
 use Rattle.dd_disk.specs.Ending.{Done, Reads}
@@ -11,8 +11,13 @@ use Rattle.segment_index.specs.Changes.{SameBefore}
 use Rattle.container_meta.specs.Places.{PlaceMap}
 use Rattle.actor_parts.specs.declared.actor.TheConstants.{ACTORS}
 use Rattle.actor_parts.specs.declared.part.Part.TheVariants.{Idle}
+use Rattle.actor_parts.specs.declared.part.Part.{Part}
+use Rattle.disk_format.specs.declared.why.Why.{Why}
 use Rattle.recovery.specs.Opening.{IsOpened}
-use Rattle.store_model.specs.Collisions.{IsIn, Stands}
+use Rattle.recovery.specs.Room.{Opening, ReadsStore}
+use Rattle.refusals.specs.declared.refusal.Refusal.{Refusal}
+use Rattle.refusals.specs.declared.refusal.Refusal.TheVariants.{Memory}
+use Rattle.store_model.specs.Collisions.{IsIn, Stands, IsOf}
 use Rattle.store_model.specs.Files.{Stored}
 use Rattle.store_model.specs.Image.{Store, Encodes, IsValidFor}
 use Rattle.store_model.specs.Slots.{last_id}
@@ -24,8 +29,7 @@ use Rattle.store_state.specs.Settled.{IsSettled}
 use Rattle.store_state.specs.State as opened
 use Rattle.store_state.specs.Tables.{Represents, Runs}
 use Rattle.store_core.specs.declared.stop.Stop.{Stop}
-use Rattle.store_core.specs.Opening.{IsNew, IsKept, BeginsAt, IsNewAt}
-use Rattle.store_core.specs.Runs.{IsOf}
+use Rattle.store_core.specs.Opening.{IsNew, IsKept, BeginsAt, IsNewAt, IsNotRead, IsReadFrom, OpensCore, OpensNone}
 use Rattle.store_core.specs.State.{CoreState, IsUp, UnlessStopped, IsRunning}
 
 pub new_core : (shown : (List ℕ → Type 0) → Type 0) (size : ℕ) (o : OpenStore) (c : CoreState) → IsOpened shown size o → c.disk.size ≡ size
@@ -51,6 +55,65 @@ new_runs shown size c same is = subst (λ (stop : Option Stop). UnlessStopped st
   many = ap length is.parts_are ∙ length-replicate ACTORS Idle;
   served = is.served;
 })
+
+-- ---- one over a store that was opened, with room that may have been made
+
+module _ (D : Type 0) (view : D → DiskView) (old new : D) where
+  read_core : (found : OpenStore) (tables : Tables) (known : Option PlaceMap) (served : Type 0) (breaks : ℕ → Why → List ℕ → Type 0) (parts : List Part)
+      → ((store : Store) → opened.Represents store found → Represents store known tables)
+      → ((store : Store) → opened.Represents store found → IsValidFor (view new).size store → served)
+      → tables.held.last_id ≡ found.containers.last_id → ((places : PlaceMap) × (known ≡ Some places)) → parts ≡ replicate ACTORS Idle
+      → (mid : D) → ReadsStore (Ok found) (view mid) (view new)
+      → IsReadFrom (view mid) (record { disk = view new; tables = tables; known = known; served = served; breaks = breaks; parts = parts; stop = None; acknowledged = 0 })
+  read_core found tables known served breaks parts represents serves last told are mid reads =
+      let same : (view new).size ≡ (view mid).size = reads.reads.only.later.size_is in
+      record {
+        opened = new_core (Shows (view mid) (view new)) (view mid).size found
+            (record { disk = view new; tables = tables; known = known; served = served; breaks = breaks; parts = parts; stop = None; acknowledged = 0 })
+            reads.opened same represents (λ store is valid. serves store is (subst (λ (n : ℕ). IsValidFor n store) (sym same) valid)) last told are refl refl;
+        durable = reads.durable;
+        reads = reads.reads;
+      }
+
+  pub core_read : (found : OpenStore) (tables : Tables) (known : Option PlaceMap) (served : Type 0) (breaks : ℕ → Why → List ℕ → Type 0) (parts : List Part)
+      → Opening D view (Ok found) old new
+      → ((store : Store) → opened.Represents store found → Represents store known tables)
+      → ((store : Store) → opened.Represents store found → IsValidFor (view new).size store → served)
+      → tables.held.last_id ≡ found.containers.last_id → ((places : PlaceMap) × (known ≡ Some places)) → parts ≡ replicate ACTORS Idle
+      → OpensCore D view (view old) (record { disk = view new; tables = tables; known = known; served = served; breaks = breaks; parts = parts; stop = None; acknowledged = 0 })
+  core_read found tables known served breaks parts (inl is) represents serves last told are =
+      inl (read_core found tables known served breaks parts represents serves last told are old is.0)
+  core_read found tables known served breaks parts (inr (inl is)) represents serves last told are =
+      inr (is.0, (is.1.0, read_core found tables known served breaks parts represents serves last told are is.0 is.1.1))
+  core_read found tables known served breaks parts (inr (inr is)) represents serves last told are = absurd is
+
+  refused_reading : (refusal : Refusal) (before : DiskView) → ReadsStore (Err refusal) before (view new) → IsNotRead refusal before (view new)
+  refused_reading refusal before reads = record { cause = reads.refused; given_up = reads.only; reads = reads.reads }
+
+  pub not_read : (refusal : Refusal) → Opening D view (Err refusal) old new → OpensNone D view refusal (view old) (view new)
+  not_read refusal (inl is) = inl (refused_reading refusal (view old) is.0, is.1)
+  not_read refusal (inr (inl is)) = inr (inl (is.0, (is.1.0, refused_reading refusal (view is.0) is.1.1)))
+  not_read refusal (inr (inr is)) = inr (inr is)
+
+  -- there was no memory for the parts
+  started_not : (found : OpenStore) (before : DiskView) → ReadsStore (Ok found) before (view new) → IsNotRead Memory before (view new)
+  started_not found before reads = record {
+    cause = tt;
+    given_up = record { parts = reads.only.parts; returned = reads.only.returned; known = reads.only.known; shows = λ image sized has store right. refl };
+    reads = record { only = reads.reads.only; faults_are = reads.reads.faults_are };
+  }
+
+  pub not_started : (found : OpenStore) → Opening D view (Ok found) old new → OpensNone D view Memory (view old) (view new)
+  not_started found (inl is) = inl (started_not found (view old) is.0, tt)
+  not_started found (inr (inl is)) = inr (inl (is.0, (is.1.0, started_not found (view is.0) is.1.1)))
+  not_started found (inr (inr is)) = absurd is
+
+read_runs : (before : DiskView) (c : CoreState) → IsReadFrom before c → IsRunning c
+read_runs before c is = new_runs (Shows before c.disk) before.size c is.reads.only.later.size_is is.opened
+
+pub opened_runs : (D : Type 0) (view : D → DiskView) (old : DiskView) (c : CoreState) → OpensCore D view old c → IsRunning c
+opened_runs D view old c (inl is) = read_runs old c is
+opened_runs D view old c (inr is) = read_runs (view is.0) c is.1.1
 
 -- ---- one that was not opened again
 

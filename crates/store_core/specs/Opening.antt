@@ -1,6 +1,6 @@
 -- A core that was opened (docs/MODEL.md, 'The core').
-use Rattle.std.specs.Prelude.{◌≡◌, ◌≤◌, ℕ, List, None, Some, Err, replicate}
-use Rattle.dd_disk.specs.Ending.{Done, Reads}
+use Rattle.std.specs.Prelude.{◌≡◌, ◌⊎◌, ◌≤◌, ℕ, List, None, Some, Err, replicate}
+use Rattle.dd_disk.specs.Ending.{Done, Reads, ending_of}
 use Rattle.dd_disk.specs.Shows.{Shows}
 use Rattle.dd_disk.specs.View.{DiskView, IsDurable}
 use Rattle.disk_format.specs.declared.numbers.TheConstants.{RESERVE}
@@ -8,14 +8,16 @@ use Rattle.container_meta.specs.Places.{PlaceMap}
 use Rattle.actor_parts.specs.declared.actor.TheConstants.{ACTORS}
 use Rattle.actor_parts.specs.declared.part.Part.TheVariants.{Idle}
 use Rattle.refusals.specs.declared.refusal.Refusal.{Refusal}
-use Rattle.store_model.specs.Collisions.{ByteSet, IsIn}
+use Rattle.store_model.specs.Collisions.{ByteSet, IsIn, IsOf}
 use Rattle.store_model.specs.Files.{Stored}
 use Rattle.store_model.specs.Image.{Store, Encodes, IsValidFor}
 use Rattle.store_model.specs.Slots.{free_slots, last_id}
+use Rattle.store_state.specs.Refused.{blames}
 use Rattle.store_state.specs.Settled.{IsSettled}
 use Rattle.store_state.specs.Tables.{Represents}
-use Rattle.recovery.specs.Opening.{Opens}
-use Rattle.store_core.specs.Runs.{IsAt, IsOf}
+use Rattle.recovery.specs.Opening.{IsOpenRefusal, Opens}
+use Rattle.recovery.specs.Room.{FromRoom, IsNotFull, RoomMade, RoomUnmade}
+use Rattle.store_core.specs.Runs.{IsAt}
 use Rattle.store_core.specs.State.{CoreState}
 
 -- Its tables and index are those of a store that reads showed; it runs, each actor is idle, and nothing is acknowledged.
@@ -37,6 +39,30 @@ pub record IsNew (shown : (List ℕ → Type 0) → Type 0) (size : ℕ) (c : Co
 -- why an image that holds a store is not opened: memory or the disk failed, or too few of its slots are free
 abbrev pub IsGivenUp : Refusal → List ℕ → Type 0
 IsGivenUp refusal image = (store : Store) → Encodes image store → Opens store (Err refusal)
+
+-- The store of a disk that was so before was read, and this is its core.
+pub record IsReadFrom (before : DiskView) (c : CoreState) : Type 0 where
+  pub opened : IsNew (Shows before c.disk) before.size c
+  -- All that was written stands after a crash.
+  pub durable : IsDurable c.disk
+  pub reads : Reads Done before c.disk
+
+-- It was not read, for its cause.
+pub record IsNotRead (refusal : Refusal) (before new : DiskView) : Type 0 where
+  pub cause : IsOpenRefusal (Shows before new) before.size refusal
+  pub given_up : Shows before new (IsGivenUp refusal)
+  pub reads : Reads (ending_of (blames refusal)) before new
+
+-- A core was opened: two slots or more were closed, or room was made; and then the store was read.
+abbrev pub OpensCore : (D : Type 0) → (D → DiskView) → DiskView → CoreState → Type 0
+OpensCore D view old c = FromRoom D view (λ before. IsReadFrom before c) old
+
+-- None was opened: the store was not read, though not because too few slots are closed; or not once room was made; or no room was made.
+abbrev pub OpensNone : (D : Type 0) → (D → DiskView) → Refusal → DiskView → DiskView → Type 0
+OpensNone D view refusal old new =
+    (IsNotRead refusal old new × IsNotFull refusal)
+    ⊎ ((mid : D) × (RoomMade old (view mid) × IsNotRead refusal (view mid) new))
+    ⊎ RoomUnmade refusal old new
 
 -- One that was not opened again: nothing of it is another, but that its disk was read. What it knows of the disk is the same, so
 -- where it ran it runs.

@@ -18,9 +18,9 @@ use Rattle.actor_parts.specs.StepValue.{StepValue, IsStep}
 use Rattle.refusals.specs.declared.refusal.Refusal.{Refusal}
 use Rattle.refusals.specs.declared.refusal.Refusal.TheVariants as refusals
 use Rattle.segmenter.specs.Segments.{segments_of}
-use Rattle.store_model.specs.Collisions.{HasNoCollisions, ByteSet, IsIn, IsAmong, Stands}
+use Rattle.store_model.specs.Collisions.{HasNoCollisions, ByteSet, IsIn, IsAmong, Stands, IsOf}
 use Rattle.store_model.specs.Files.{Stored, with_stored, without_stored}
-use Rattle.store_model.specs.Image.{Store, IsValidFor, last_sequence}
+use Rattle.store_model.specs.Image.{Store, IsValidFor}
 use Rattle.store_model.specs.Steps.{StoreChange, SealContainer, ChangeName, CanChange, changed}
 use Rattle.store_model.specs.Trees.{root_of, file_tree, HoldsTree}
 use Rattle.store_state.specs.Invariant.{CoreInvariant}
@@ -133,10 +133,6 @@ KeepsFiles C state = (among : ByteSet) (steps : List FileEvent) (s : Store) (sto
     → (state new).stop ≡ None → Reaches (IsIn among) s (stored_after steps stored) steps (state new)
 
 -- ---- crashes
-
--- an image is that of a store of these files, with this last sequence number
-abbrev pub IsOf : (List ℕ → Type 0) → Stored → List ℕ → Type 0
-IsOf S stored image = (store : Store) × (Stands S store stored.files image × (last_sequence store ≡ stored.last))
 
 -- the files after a step, where a write that failed stands
 abbrev pub stored_tried : StepValue → Result Answer Refusal → List ℕ → Stored → Stored

@@ -63,7 +63,7 @@ NeverDamaged C state = (among : ByteSet) (steps : List FileEvent) (f : FileEvent
 -- ---- names
 
 -- a name that is opened has a file, of the length that is answered; one that is deleted has a file, and so has one whose delete is
--- refused for want of a cell or of a number, or as a write failed; one that is not found has none; and what is listed are the files
+-- refused for want of a number, or as a write failed; one that is not found has none; and what is listed are the files
 abbrev pub FindsFile : Files → StepValue → Result Answer Refusal → Type 0
 FindsFile files (asked.OpenRead name) (Ok (answers.Opened count)) =
     (bytes : List ℕ) × ((finite.get files name ≡ Some bytes) × (count ≡ length bytes))

@@ -6,6 +6,9 @@ pub mod Filled
 pub mod FramedTrees
 pub mod Frames
 pub mod Free
+pub mod Freed
+pub mod FreedFiles
+pub mod FreedTrees
 pub mod HeldKept
 pub mod HeldSlots
 pub mod HeldTrees

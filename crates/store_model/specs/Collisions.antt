@@ -5,9 +5,9 @@ use Rattle.sha2.specs.Sha256.{sha256}
 use Rattle.container_meta.specs.declared.kind.Kind.{Kind}
 use Rattle.container_meta.specs.declared.kind.Kind.TheVariants.{Leaf, Tree}
 use Rattle.container_meta.specs.Spelling.{HeaderValue}
-use Rattle.store_model.specs.Files.{Files}
-use Rattle.store_model.specs.Image.{Store}
-use Rattle.store_model.specs.Standing.{IsStoreOf, entry_bytes}
+use Rattle.store_model.specs.Files.{Files, Stored}
+use Rattle.store_model.specs.Image.{Store, last_sequence}
+use Rattle.store_model.specs.Standing.{CanBeOpened, IsStoreOf, entry_bytes}
 
 -- No collisions: no two different ones of these byte lists have one digest.
 abbrev pub HasNoCollisions : (List ℕ → Type 0) → Type 0
@@ -37,3 +37,14 @@ AreAmong S slot (Some h ∷ cs) image =
 pub record Stands (S : List ℕ → Type 0) (store : Store) (files : Files) (image : List ℕ) : Type 0 where
   pub holds : IsStoreOf store files image
   pub among : AreAmong S 0 store.held image
+
+-- an image is that of a store of these files that can run, with this last sequence number
+abbrev pub IsOf : (List ℕ → Type 0) → Stored → List ℕ → Type 0
+IsOf S stored image = (store : Store) × (Stands S store stored.files image × (last_sequence store ≡ stored.last))
+
+-- The image can be opened as a store of these files, with this last sequence number; each data segment that it holds is among S.
+pub record OpensAs (S : List ℕ → Type 0) (stored : Stored) (image : List ℕ) : Type 0 where
+  pub store : Store
+  pub holds : CanBeOpened store stored.files image
+  pub among : AreAmong S 0 store.held image
+  pub last_is : last_sequence store ≡ stored.last

@@ -1,9 +1,11 @@
 pub mod Collisions
 pub mod Files
+pub mod Freeing
 pub mod Image
 pub mod Indexing
 pub mod Journal
 pub mod Refusals
+pub mod Reserve
 pub mod Slots
 pub mod Standing
 pub mod Pieces

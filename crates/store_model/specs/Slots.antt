@@ -113,3 +113,9 @@ abbrev pub with_slot : ℕ → HeaderValue → List (Option HeaderValue) → Lis
 with_slot slot h [] = []
 with_slot zero h (c ∷ cs) = Some h ∷ cs
 with_slot (suc slot) h (c ∷ cs) = c ∷ with_slot slot h cs
+
+-- the slots once one of them is closed
+abbrev pub without_slot : ℕ → List (Option HeaderValue) → List (Option HeaderValue)
+without_slot slot [] = []
+without_slot zero (c ∷ cs) = None ∷ cs
+without_slot (suc slot) (c ∷ cs) = c ∷ without_slot slot cs

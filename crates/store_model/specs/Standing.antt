@@ -15,6 +15,7 @@ use Rattle.segmenter.specs.Segments.{segments_of}
 use Rattle.store_model.specs.Files.{Files, no_files}
 use Rattle.store_model.specs.Image.{Store, Encodes, AreCopies, empty_store, names_of, last_sequence}
 use Rattle.store_model.specs.Journal.{HoldsJournal, KnowsOther, ClosedFrom}
+use Rattle.store_model.specs.Reserve.{HasReserve, IsReachable}
 use Rattle.store_model.specs.Slots.{free_slots}
 use Rattle.store_model.specs.Trees.{root_of, file_tree, HoldsTree, IsNodeOf}
 
@@ -55,20 +56,28 @@ pub record HasJournal (store : Store) (image : List ℕ) : Type 0 where
   pub other : KnowsOther store.other_open store.selector.half image
   pub past : ClosedFrom store.selector.half (length store.records) image
 
--- The image holds this store, and is a store of these files. After its records no record is open, each entry's bytes have
--- its digest and are of its kind, and two slots or more are closed.
-pub record IsStoreOf (store : Store) (files : Files) (image : List ℕ) : Type 0 where
+-- The image holds this store, and is a store of these files: after its records no record is open, and each entry's bytes have its
+-- digest and are of its kind. It has a reserve of slots, as Reserve says.
+pub record IsStoreWith (store : Store) (files : Files) (image : List ℕ) (Reserve : Type 0) : Type 0 where
   pub right : Encodes image store
   pub past : ClosedFrom store.selector.half (length store.records) image
   pub copies : AreCopies 0 store.held image
   pub nodes : AreNodes 0 store.held image
   pub files_are : AreFilesOf store.held (names_of store) image files
-  pub reserve : 2 ≤ free_slots store.held
+  pub reserve : Reserve
 
--- The image is a store of these files, with this last sequence number.
+-- It can run: two slots or more are closed.
+abbrev pub IsStoreOf : Store → Files → List ℕ → Type 0
+IsStoreOf store files image = IsStoreWith store files image (2 ≤ free_slots store.held)
+
+-- It can be opened: two different slots are closed, or have containers that no file needs, so that an opening can close them.
+abbrev pub CanBeOpened : Store → Files → List ℕ → Type 0
+CanBeOpened store files image = IsStoreWith store files image (HasReserve (IsReachable files) store.held)
+
+-- The image is a store of these files that can be opened, with this last sequence number.
 pub record StandsFor (files : Files) (last : ℕ) (image : List ℕ) : Type 0 where
   pub store : Store
-  pub holds : IsStoreOf store files image
+  pub holds : CanBeOpened store files image
   pub last_is : last ≡ last_sequence store
 
 -- the image is an empty store, as `format` makes it

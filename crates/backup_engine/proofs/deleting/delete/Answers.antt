@@ -1,4 +1,5 @@
-use Rattle.std.proofs.Common.{rules, inl, ap, ◌∙◌, refl, sym, subst, List, [], Some, Result, ℕ}
+use Rattle.std.proofs.Common.{rules, inl, refl, sym, ◌∙◌, ap, subst, List, [], ℕ, Some, Result}
+use Rattle.std.specs.Borrow.{MutBor}
 use Rattle.dd_disk.specs.View.{IsLater}
 use Rattle.plain_machine.specs.Runs.{Replied}
 use Rattle.refusals.specs.declared.refusal.Refusal.TheVariants.{Memory}
@@ -7,111 +8,104 @@ use Rattle.reply_text.specs.declared.ending.Ending.TheVariants.{Refused}
 use Rattle.reply_text.specs.Text.{deleted_line}
 use Rattle.backup_engine.specs.Line.{Delete}
 use Rattle.backup_engine.specs.Naming.{DeleteRun}
-use Rattle.backup_engine.specs.Singles.{IsDelete, Speaks}
-use Rattle.backup_engine.specs.TopCall.{Keeps, ending_in}
-use Rattle.backup_engine.proofs.Called.{Called}
-use Rattle.backup_engine.proofs.Fresh.{fresh}
+use Rattle.backup_engine.specs.Singles.{IsDelete}
+use Rattle.backup_engine.specs.TopCall.{DoesCommand, ending_in}
 use Rattle.backup_engine.proofs.Kept.{by_error, by_same, later_back}
+use Rattle.backup_engine.proofs.Lending.{none_back, none_later}
 use Rattle.backup_engine.proofs.NameLines.{delete_actors, delete_lines}
 use Rattle.backup_engine.proofs.NamesKept.{delete_keeps, delete_later}
 use Rattle.backup_engine.proofs.NotDone.{not_begun, unopened_delete}
+use Rattle.backup_engine.proofs.Opens.{does_none, does_opened, does_without_memory, opened_fresh, opened_later}
 use Rattle.backup_engine.proofs.Returned.{first_same, rest_same}
 use Rattle.backup_engine.proofs.SinglesRun.{run_speaks, speaks_back, unbegun_speaks, unopened_speaks}
 use Rattle.backup_engine.proofs.Unlent.{delete_kept}
 use Rattle.backup_engine.proofs.deleting.delete.Goals as goal
 
 -- there was no memory
-pub returns-in_err-reply-clause-keeps : goal.returns-in_err-reply-clause-keeps
-returns-in_err-reply-clause-keeps g c = λ source.
+pub returns-in_err-reply-clause-does : goal.returns-in_err-reply-clause-does
+returns-in_err-reply-clause-does g c = λ source.
     let disk = g.D.Disk.view c.args.disk.now in
-    let sink = g.K.Sink.view c.args.sink.now in
-    by_error (λ (x : Result (Unit {0}) Ending). Keeps (Delete c.args.name.now) [] (ending_in x) disk disk source source sink sink) c.from_residual.result (Refused Memory) c.from_residual.ensures.1
-    (not_begun (Delete c.args.name.now) [] disk source sink (refl, refl))
-
-pub returns-in_err-reply-clause-speaks : goal.returns-in_err-reply-clause-speaks
-returns-in_err-reply-clause-speaks g c =
-    let disk = g.D.Disk.view c.args.disk.now in
-    let sink = g.K.Sink.view c.args.sink.now in
-    let name = c.args.name.now in (
+    let sink = g.K.Sink.view c.args.sink.now in (
       [],
-      by_error (λ (x : Result (Unit {0}) Ending). Speaks (IsDelete name (ending_in x) sink sink) (ending_in x) [] disk disk sink sink) c.from_residual.result (Refused Memory) c.from_residual.ensures.1
-          (unbegun_speaks (IsDelete name (Some (Refused Memory)) sink sink) disk sink (inl (refl, refl), refl)),
+      by_error (λ (x : Result (Unit {0}) Ending). DoesCommand _ g.D.Disk.view (Delete c.args.name.now) [] [] (ending_in x) disk disk source source sink sink) c.from_residual.result (Refused Memory) c.from_residual.ensures.1
+          (does_without_memory _ g.D.Disk.view disk source sink (Delete c.args.name.now) [] (not_begun (Delete c.args.name.now) [] disk source sink (refl, refl))
+          (unbegun_speaks (IsDelete c.args.name.now (Some (Refused Memory)) sink sink) disk sink (inl (refl, refl), refl))),
     )
 
-pub returns-in_err-buf-clause-keeps : goal.returns-in_err-buf-clause-keeps
-returns-in_err-buf-clause-keeps g c = λ source.
+pub returns-in_err-buf-clause-does : goal.returns-in_err-buf-clause-does
+returns-in_err-buf-clause-does g c = λ source.
     let disk = g.D.Disk.view c.args.disk.now in
-    let sink = g.K.Sink.view c.args.sink.now in
-    by_error (λ (x : Result (Unit {0}) Ending). Keeps (Delete c.args.name.now) [] (ending_in x) disk disk source source sink sink) c.from_residual-in_err-buf.result (Refused Memory) c.from_residual-in_err-buf.ensures.1
-    (not_begun (Delete c.args.name.now) [] disk source sink (refl, refl))
-
-pub returns-in_err-buf-clause-speaks : goal.returns-in_err-buf-clause-speaks
-returns-in_err-buf-clause-speaks g c =
-    let disk = g.D.Disk.view c.args.disk.now in
-    let sink = g.K.Sink.view c.args.sink.now in
-    let name = c.args.name.now in (
+    let sink = g.K.Sink.view c.args.sink.now in (
       [],
-      by_error (λ (x : Result (Unit {0}) Ending). Speaks (IsDelete name (ending_in x) sink sink) (ending_in x) [] disk disk sink sink) c.from_residual-in_err-buf.result (Refused Memory) c.from_residual-in_err-buf.ensures.1
-          (unbegun_speaks (IsDelete name (Some (Refused Memory)) sink sink) disk sink (inl (refl, refl), refl)),
+      by_error (λ (x : Result (Unit {0}) Ending). DoesCommand _ g.D.Disk.view (Delete c.args.name.now) [] [] (ending_in x) disk disk source source sink sink) c.from_residual-in_err-buf.result (Refused Memory) c.from_residual-in_err-buf.ensures.1
+          (does_without_memory _ g.D.Disk.view disk source sink (Delete c.args.name.now) [] (not_begun (Delete c.args.name.now) [] disk source sink (refl, refl))
+          (unbegun_speaks (IsDelete c.args.name.now (Some (Refused Memory)) sink sink) disk sink (inl (refl, refl), refl))),
     )
 
 -- the store was not opened
-pub returns-in-Err-clause-keeps : goal.returns-in-Err-clause-keeps
-returns-in-Err-clause-keeps g c = λ source.
+pub returns-in-Err : goal.returns-in-Err
+returns-in-Err g c =
     let view = g.D.Disk.view in
-    let is = c.in-Err.ensures in
-    let name = c.args.name.now in
     let refusal = c.in-Err.refused.1 in
     let sink = g.K.Sink.view c.args.sink.now in
-    by_same (λ d. Keeps (Delete name) [] (Some (Refused refusal)) (view c.args.disk.now) (view d) source source sink sink) _ c.in-Err.refused.0.now (search rules)
-    (delete_kept _ _ (view c.args.disk.now) (view c.in-Err.refused.0.now) source source sink sink [] name (Some (Refused refusal))
-    (unopened_delete _ _ refusal (record { cause = is.refused; given_up = is.only; reads = is.back }) name source sink))
-
-pub returns-in-Err-clause-speaks : goal.returns-in-Err-clause-speaks
-returns-in-Err-clause-speaks g c =
-    let view = g.D.Disk.view in
-    let is = c.in-Err.ensures in
-    let name = c.args.name.now in
-    let refusal = c.in-Err.refused.1 in
-    let sink = g.K.Sink.view c.args.sink.now in
-    let are = IsDelete name (Some (Refused refusal)) sink sink in
-    by_same (λ d. (rs : List Replied) × Speaks are (Some (Refused refusal)) rs (view c.args.disk.now) (view d) sink sink) _ c.in-Err.refused.0.now (search rules) (
-      [],
-      speaks_back _ _ (view c.args.disk.now) (view c.in-Err.refused.0.now) are (Some (Refused refusal)) [] sink sink
-          (unopened_speaks are _ _ refusal (record { cause = is.refused; given_up = is.only; reads = is.back }) sink),
-    )
+    let are = IsDelete c.args.name.now (Some (Refused refusal)) sink sink in
+    let w = view c.in-Err.refused.0.now in
+    let first : MutBor g.row.D.Denot = record { ref_ptr = c.args.disk.ref_ptr; ghost_name = _; now = c.args.disk.now } in
+    let later = none_later _ view first _ w refusal c.in-Err.ensures.refused in
+    record {
+      does = λ source. by_same (λ d. (rs : List Replied) × DoesCommand _ view (Delete c.args.name.now) [] rs (Some (Refused refusal)) (view c.args.disk.now) (view d) source source sink sink) _ c.in-Err.refused.0.now (search rules) (
+        [],
+        does_none _ view refusal (view c.args.disk.now) w source sink (Delete c.args.name.now) [] (refl, refl)
+            (λ before is. record {
+              keeps = unopened_delete before w refusal is c.args.name.now source sink;
+              speaks = unopened_speaks are before w refusal is sink;
+              machine = (unopened_speaks are before w refusal is sink).machine;
+            })
+            (none_back _ view first _ w refusal c.in-Err.ensures.refused),
+      );
+      later = by_same (λ d. IsLater (view c.args.disk.now) (view d)) _ c.in-Err.refused.0.now (search rules)
+          (later_back _ _ (view c.args.disk.now) w (sym (rest_same _ _ _ _ later.loans_are)) later);
+    }
 
 pub delete_name-deleted-requires : goal.delete_name-deleted-requires
-delete_name-deleted-requires g c = record { fresh = fresh _ _ c.in-Ok.ensures.opened c.in-Ok.ensures.running }
+delete_name-deleted-requires g c = record { fresh = opened_fresh _ _ _ _ c.in-Ok.ensures.opened c.in-Ok.ensures.running }
 
--- it was opened
+-- it was
 pub returns : goal.returns
 returns g c =
     let view = g.D.Disk.view in
     let is = c.in-Ok.ensures in
-    let name = c.args.name.now in
     let result = c.delete_name-deleted.result in
     let sink = g.K.Sink.view c.args.sink.now in
     let sink_now = g.K.Sink.view c.delete_name-deleted.new.sink in
     let closed = c.close-disk.ensures in
-    let ran =
-    subst (λ (reply : List ℕ). DeleteRun _ _ name reply result c.in-Ok.core c.delete_name-deleted.new.core sink sink_now) (c.deref.ensures.value ∙ c.in_ok-reply.ensures ∙ ap deleted_line c.as_bytes.ensures.value) c.delete_name-deleted.ensures.ran in
-    let called : Called _ _ _ _ c.in-Ok.core c.delete_name-deleted.new.core =
-    record { opened = is.opened; running = is.running; durable = is.durable; first = is.reads; last = closed.disk; clock = closed.moment } in
-    let later = delete_later _ _ _ _ _ _ called name _ result sink sink_now ran in
-    let named = first_same c.close-disk.result.ghost_name _ _ _ later.loans_are in
+    let w = view c.close-disk.result.now in
+    let core = c.in-Ok.core in
+    let core_now = c.delete_name-deleted.new.core in
     let opens = c.an_opened_core_follows.ensures in
     let follows = c.scripts_follow_the_machine.ensures in
-    let are = IsDelete name (ending_in result) sink sink_now in
-    let said =
-    run_speaks _ _ _ _ (record { ref_ptr = (0, 0); ghost_name = _; now = c.args.disk.now }) _ _ _ called opens follows are (ending_in result) sink sink_now
-    (delete_actors name (ending_in result) sink sink_now) (delete_lines _ _ c.in-Ok.core c.delete_name-deleted.new.core is.opened.stop_is name result sink sink_now ran) in
+    let stop_is = (opened_fresh _ _ _ _ is.opened is.running).runs in
+    let name = c.args.name.now in
+    let ran =
+    subst (λ (reply : List ℕ). DeleteRun _ _ name reply result core core_now sink sink_now) (c.deref.ensures.value ∙ c.in_ok-reply.ensures ∙ ap deleted_line c.as_bytes.ensures.value) c.delete_name-deleted.ensures.ran in
+    let are = IsDelete c.args.name.now (ending_in result) sink sink_now in
+    let first : MutBor g.row.D.Denot = record { ref_ptr = c.args.disk.ref_ptr; ghost_name = _; now = c.args.disk.now } in
+    let later = opened_later _ view _ _ first _ w core core_now opens is.running closed.disk closed.moment is.opened (delete_later _ _ core core_now name _ result sink sink_now ran) in
+    let named = first_same c.close-disk.result.ghost_name _ _ _ later.loans_are in
     record {
-      keeps = λ source. by_same (λ d. Keeps (Delete name) [] (ending_in result) (view c.args.disk.now) (view d) source source sink sink_now) _ c.close-disk.result.now (search (rules, named))
-          (delete_kept _ _ (view c.args.disk.now) (view c.close-disk.result.now) source source sink sink_now [] name (ending_in result)
-          (delete_keeps _ _ _ _ (record { ref_ptr = (0, 0); ghost_name = _; now = c.args.disk.now }) _ _ _ called opens follows name source sink result sink_now ran));
-      speaks = by_same (λ d. (rs : List Replied) × Speaks are (ending_in result) rs (view c.args.disk.now) (view d) sink sink_now) _ c.close-disk.result.now (search (rules, named))
-          (said.0, speaks_back _ _ (view c.args.disk.now) (view c.close-disk.result.now) are (ending_in result) said.0 sink sink_now said.1);
+      does = λ source. by_same (λ d. (rs : List Replied) × DoesCommand _ view (Delete c.args.name.now) [] rs (ending_in result) (view c.args.disk.now) (view d) source source sink sink_now) _ c.close-disk.result.now (search (rules, named))
+          (does_opened _ view _ _ first _ w core core_now opens is.running closed.disk closed.moment (Delete c.args.name.now) [] (ending_in result) source source sink sink_now is.opened
+          (λ before called.
+          let said = run_speaks _ _ _ _ before _ _ _ called opens follows are (ending_in result) sink sink_now (delete_actors name (ending_in result) sink sink_now) (delete_lines _ _ core core_now stop_is name result sink sink_now ran) in
+          let speaks = speaks_back _ _ (view before.now) w are (ending_in result) said.0 sink sink_now said.1 in (
+            said.0,
+            (
+              delete_kept _ _ (view before.now) w source source sink sink_now [] name (ending_in result)
+                  (delete_keeps _ _ _ _ before _ _ _ called opens follows name source sink result sink_now ran),
+              speaks,
+              speaks.machine,
+            ),
+          )));
       later = by_same (λ d. IsLater (view c.args.disk.now) (view d)) _ c.close-disk.result.now (search (rules, named))
-          (later_back _ _ (view c.args.disk.now) (view c.close-disk.result.now) (sym (rest_same _ _ _ _ later.loans_are)) later);
+          (later_back _ _ (view c.args.disk.now) w (sym (rest_same _ _ _ _ later.loans_are)) later);
     }

@@ -1,53 +1,62 @@
 use Rattle.std.proofs.Common.{rules, sym, List, [], ℕ, Option, Some}
+use Rattle.std.specs.Borrow.{MutBor}
 use Rattle.dd_disk.specs.View.{DiskView, IsLater}
 use Rattle.dd_io.specs.Flow.{SourceView, SinkView}
 use Rattle.plain_machine.specs.Runs.{Replied}
 use Rattle.reply_text.specs.declared.ending.Ending.{Ending}
 use Rattle.reply_text.specs.declared.ending.Ending.TheVariants.{Refused}
 use Rattle.backup_engine.specs.Line.{Ingest}
-use Rattle.backup_engine.specs.Singles.{IsIngest, SpeaksAs}
-use Rattle.backup_engine.specs.TopCall.{Keeps, ending_in}
-use Rattle.backup_engine.proofs.Called.{Called}
-use Rattle.backup_engine.proofs.Fresh.{fresh}
+use Rattle.backup_engine.specs.Singles.{IsIngest}
+use Rattle.backup_engine.specs.TopCall.{DoesCommand, ending_in}
 use Rattle.backup_engine.proofs.Ingesting.{ingest_keeps}
 use Rattle.backup_engine.proofs.Kept.{by_same, later_back}
+use Rattle.backup_engine.proofs.Lending.{none_back, none_later}
 use Rattle.backup_engine.proofs.NotDone.{unopened_ingest}
-use Rattle.backup_engine.proofs.Returned.{first_same, rest_same, stored_later}
+use Rattle.backup_engine.proofs.Opens.{does_none, does_opened, opened_fresh, opened_later}
+use Rattle.backup_engine.proofs.Returned.{first_same, ingest_later, rest_same}
 use Rattle.backup_engine.proofs.SinglesRun.{ingest_actors, run_speaks, speaks_back, unopened_speaks}
 use Rattle.backup_engine.proofs.SourceRuns.{given_of, given_told}
 use Rattle.backup_engine.proofs.Unlent.{ingest_kept}
 use Rattle.backup_engine.proofs.ingest.ingest.Goals as goal
 
--- all that is kept
-abbrev Ingested : DiskView → DiskView → List ℕ → List ℕ → Option Ending → SourceView → SourceView → SinkView → SinkView → Type 0
-Ingested v w name given ending source source_now sink sink_now =
-    Keeps (Ingest name) given ending v w source source_now sink sink_now × ((rs : List Replied) × SpeaksAs (Ingest name) given ending rs v w source source_now sink sink_now)
+-- all that is done
+abbrev Ingested : (D : Type 0) → (D → DiskView) → DiskView → DiskView → List ℕ → Option Ending → SourceView → SourceView → SinkView → SinkView → Type 0
+Ingested D view v w name ending source source_now sink sink_now =
+    (given : List ℕ) × ((rs : List Replied) × DoesCommand D view (Ingest name) given rs ending v w source source_now sink sink_now)
 
 -- the store was not opened
-pub returns-in-Err-clause-keeps : goal.returns-in-Err-clause-keeps
-returns-in-Err-clause-keeps g c =
+pub returns-in-Err : goal.returns-in-Err
+returns-in-Err g c =
     let view = g.D.Disk.view in
-    let is = c.in-Err.ensures in
     let name = c.args.name.now in
     let refusal = c.in-Err.refused.1 in
     let source = g.S.Source.view c.args.source.now in
     let sink = g.K.Sink.view c.args.sink.now in
     let given = given_of source.left in
-    by_same (λ d. (given : List ℕ) × Ingested (view c.args.disk.now) (view d) name given (Some (Refused refusal)) source source sink sink) _ c.in-Err.refused.0.now (search rules) (
-      given,
-      (
-        ingest_kept _ _ (view c.args.disk.now) (view c.in-Err.refused.0.now) source source sink sink given name (Some (Refused refusal))
-            (unopened_ingest _ _ refusal (record { cause = is.refused; given_up = is.only; reads = is.back }) name given source sink (given_told source.left)),
+    let are = IsIngest name given (Some (Refused refusal)) source source in
+    let w = view c.in-Err.refused.0.now in
+    let first : MutBor g.row.D.Denot = record { ref_ptr = c.args.disk.ref_ptr; ghost_name = _; now = c.args.disk.now } in
+    let later = none_later _ view first _ w refusal c.in-Err.ensures.refused in
+    record {
+      does = by_same (λ d. Ingested _ view (view c.args.disk.now) (view d) name (Some (Refused refusal)) source source sink sink) _ c.in-Err.refused.0.now (search rules) (
+        given,
         (
           [],
-          speaks_back _ _ (view c.args.disk.now) (view c.in-Err.refused.0.now) (IsIngest name given (Some (Refused refusal)) source source) (Some (Refused refusal)) [] sink sink
-              (unopened_speaks (IsIngest name given (Some (Refused refusal)) source source) _ _ refusal (record { cause = is.refused; given_up = is.only; reads = is.back }) sink),
+          does_none _ view refusal (view c.args.disk.now) w source sink (Ingest name) given ((λ all told. (given_told source.left all told, tt)))
+              (λ before is. record {
+                keeps = unopened_ingest before w refusal is name given source sink (given_told source.left);
+                speaks = unopened_speaks are before w refusal is sink;
+                machine = (unopened_speaks are before w refusal is sink).machine;
+              })
+              (none_back _ view first _ w refusal c.in-Err.ensures.refused),
         ),
-      ),
-    )
+      );
+      later = by_same (λ d. IsLater (view c.args.disk.now) (view d)) _ c.in-Err.refused.0.now (search rules)
+          (later_back _ _ (view c.args.disk.now) w (sym (rest_same _ _ _ _ later.loans_are)) later);
+    }
 
 pub store_source-stored-requires : goal.store_source-stored-requires
-store_source-stored-requires g c = record { fresh = fresh _ _ c.in-Ok.ensures.opened c.in-Ok.ensures.running }
+store_source-stored-requires g c = record { fresh = opened_fresh _ _ _ _ c.in-Ok.ensures.opened c.in-Ok.ensures.running }
 
 -- it was
 pub returns : goal.returns
@@ -62,23 +71,20 @@ returns g c =
     let sink_now = g.K.Sink.view c.store_source-stored.new.sink in
     let closed = c.close-disk.ensures in
     let ran = c.store_source-stored.ensures.ran in
-    let called : Called _ _ _ _ c.in-Ok.core c.store_source-stored.new.core =
-    record { opened = is.opened; running = is.running; durable = is.durable; first = is.reads; last = closed.disk; clock = closed.moment } in
-    let later = stored_later _ _ _ _ _ _ called name result source source_now sink sink_now ran in
-    let named = first_same c.close-disk.result.ghost_name _ _ _ later.loans_are in
-    let kept = ingest_keeps _ _ _ _ _ _ called name result source source_now sink sink_now ran in
+    let w = view c.close-disk.result.now in
     let are = IsIngest name ran.given (ending_in result) source source_now in
-    let said =
-    run_speaks _ _ _ _ (record { ref_ptr = (0, 0); ghost_name = _; now = c.args.disk.now }) _ _ _ called c.an_opened_core_follows.ensures c.scripts_follow_the_machine.ensures are (ending_in result) sink sink_now
+    let first : MutBor g.row.D.Denot = record { ref_ptr = c.args.disk.ref_ptr; ghost_name = _; now = c.args.disk.now } in
+    let later = opened_later _ view _ _ first _ w c.in-Ok.core c.store_source-stored.new.core c.an_opened_core_follows.ensures is.running closed.disk closed.moment is.opened
+    (ingest_later _ _ name result c.in-Ok.core c.store_source-stored.new.core source source_now sink sink_now ran) in
+    let named = first_same c.close-disk.result.ghost_name _ _ _ later.loans_are in
+    let done = does_opened _ view _ _ first _ w c.in-Ok.core c.store_source-stored.new.core c.an_opened_core_follows.ensures is.running closed.disk closed.moment (Ingest name) ran.given (ending_in result) source source_now sink sink_now is.opened
+    (λ before called.
+    let said = run_speaks _ _ _ _ before _ _ _ called c.an_opened_core_follows.ensures c.scripts_follow_the_machine.ensures are (ending_in result) sink sink_now
     (ingest_actors name ran.given (ending_in result) source source_now) ran.lines_are in
+    let speaks = speaks_back _ _ (view before.now) w are (ending_in result) said.0 sink sink_now said.1 in
+    (said.0, (ingest_kept _ _ (view before.now) w source source_now sink sink_now ran.given name (ending_in result) (ingest_keeps _ _ _ _ _ _ called name result source source_now sink sink_now ran), speaks, speaks.machine))) in
     record {
-      keeps = by_same (λ d. (given : List ℕ) × Ingested (view c.args.disk.now) (view d) name given (ending_in result) source source_now sink sink_now) _ c.close-disk.result.now (search (rules, named)) (
-        ran.given,
-        (
-          ingest_kept _ _ (view c.args.disk.now) (view c.close-disk.result.now) source source_now sink sink_now ran.given name (ending_in result) kept,
-          (said.0, speaks_back _ _ (view c.args.disk.now) (view c.close-disk.result.now) are (ending_in result) said.0 sink sink_now said.1),
-        ),
-      );
+      does = by_same (λ d. Ingested _ view (view c.args.disk.now) (view d) name (ending_in result) source source_now sink sink_now) _ c.close-disk.result.now (search (rules, named)) (ran.given, done);
       later = by_same (λ d. IsLater (view c.args.disk.now) (view d)) _ c.close-disk.result.now (search (rules, named))
-          (later_back _ _ (view c.args.disk.now) (view c.close-disk.result.now) (sym (rest_same _ _ _ _ later.loans_are)) later);
+          (later_back _ _ (view c.args.disk.now) w (sym (rest_same _ _ _ _ later.loans_are)) later);
     }

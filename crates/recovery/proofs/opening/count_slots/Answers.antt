@@ -7,6 +7,7 @@ use Rattle.dd_disk.proofs.Ended.{reads_on}
 use Rattle.store_state.specs.Refused.{blames}
 use Rattle.recovery.specs.Opening.{IsOpenRefusal}
 use Rattle.recovery.proofs.Steps.{begin_fails, is_large, cell_fails, cell_reads, format_refusal}
+use Rattle.recovery.proofs.Opens.{cell_not_full}
 use Rattle.recovery.proofs.opening.count_slots.Goals as goal
 
 pub returns-in_err-begin-clause-only : goal.returns-in_err-begin-clause-only
@@ -31,3 +32,6 @@ returns-in-Err-clause-refused g c =
     let view = g.D.Disk.view in
     subst (IsOpenRefusal (Shows (view c.args.disk.now) (view c.slots_of.new.disk)) (view c.args.disk.now).size) (sym c.refused_by.ensures)
     (format_refusal _ _ _ c.in_ok-begin.ensures.reads.only c.in_ok-begin.ensures.least c.in-Err.fault c.in-Err.ensures.cause)
+
+pub returns-in-Err-clause-not_full : goal.returns-in-Err-clause-not_full
+returns-in-Err-clause-not_full g c = cell_not_full c.in-Err.fault c.refused_by.result c.refused_by.ensures

@@ -6,6 +6,7 @@ use Rattle.dd_disk.proofs.Ended.{reads_on}
 use Rattle.dd_disk.proofs.Moves.{passed}
 use Rattle.store_state.specs.Refused.{blames}
 use Rattle.recovery.proofs.Steps.{slots_refusal, found_all, format_slots}
+use Rattle.recovery.proofs.Opens.{slots_not_full}
 use Rattle.recovery.proofs.opening.open_all.Goals as goal
 
 pub returns-in_err-containers-clause-only : goal.returns-in_err-containers-clause-only
@@ -31,3 +32,8 @@ pub returns-clause-found : goal.returns-clause-found
 returns-clause-found g c =
     let reads = c.in_ok-containers.ensures.reads in
     found_all _ _ _ c.in_ok-front.ensures.reads.only reads.only _ c.in_ok-front.ensures.sized c.in_ok-front.ensures.scanned c.in_ok-containers.ensures.found
+
+pub returns-in_err-containers-clause-not_full : goal.returns-in_err-containers-clause-not_full
+returns-in_err-containers-clause-not_full g c =
+    passed_on c.from_residual-in_err-containers.result _ c.in_err-containers.field-0.0 c.from_residual-in_err-containers.ensures.1
+    (slots_not_full _ c.in_ok-front.front.slots c.in_err-containers.field-0.0 c.in_err-containers.ensures.refused)

@@ -6,6 +6,7 @@ use Rattle.dd_disk.proofs.Ended.{reads_on}
 use Rattle.store_state.specs.Refused.{blames}
 use Rattle.recovery.specs.Opening.{IsOpenRefusal}
 use Rattle.recovery.proofs.Steps.{cell_fails, cell_reads, own_last, scanned_since, journal_refusal}
+use Rattle.recovery.proofs.Opens.{cell_not_full}
 use Rattle.recovery.proofs.opening.read_front.Goals as goal
 
 pub returns-in-Ok-clause-scanned : goal.returns-in-Ok-clause-scanned
@@ -26,3 +27,6 @@ returns-in-Err-clause-refused g c =
     let reads = c.in-Err.ensures.reads in
     subst (IsOpenRefusal (Shows (view c.args.disk.now) (view c.scan.new.disk)) (view c.args.disk.now).size) (sym c.refused_by.ensures)
     (journal_refusal _ _ _ c.in_ok-slots.ensures.reads.only reads.only c.in_ok-slots.slots c.in_ok-slots.ensures.sized c.in-Err.fault c.in-Err.ensures.cause)
+
+pub returns-in-Err-clause-not_full : goal.returns-in-Err-clause-not_full
+returns-in-Err-clause-not_full g c = cell_not_full c.in-Err.fault c.refused_by.result c.refused_by.ensures

@@ -1,0 +1,69 @@
+-- A `format` of a disk that has a store which can be opened, whether it can run or not: it is not done, and changes nothing.
+use Rattle.std.proofs.Common.{◌≡◌, inl, inr, ℕ, List, Option, Some, None, refl, sym, ◌∙◌, ap, subst, arith}
+use Rattle.base_model.specs.Bytes.{byte_at}
+use Rattle.base_model.proofs.Ranges.{byte-range}
+use Rattle.disk_format.specs.declared.numbers.TheConstants.{FORMAT_GATE}
+use Rattle.disk_format.specs.Cells.{format_cell, sealed}
+use Rattle.dd_disk.specs.View.{DiskView}
+use Rattle.dd_disk.proofs.Shows.{shown_content}
+use Rattle.dd_io.specs.Flow.{SourceView, SinkView}
+use Rattle.reply_text.specs.declared.ending.Ending.{Ending}
+use Rattle.reply_text.specs.declared.ending.Ending.TheVariants.{Words, Source, Sink, Line, Script, Refused}
+use Rattle.store_model.specs.Collisions.{HasNoCollisions, ByteSet, IsIn, OpensAs}
+use Rattle.store_model.specs.Files.{Stored}
+use Rattle.store_model.specs.Image.{Store, Encodes}
+use Rattle.store_model.specs.Standing.{IsSegmentOf}
+use Rattle.backup_engine.specs.AnyDisk.{Formats, IsCaused}
+use Rattle.backup_engine.specs.Line.{Format}
+use Rattle.backup_engine.specs.Promise.{SinceStart}
+use Rattle.backup_engine.specs.TopCall.{Keeps}
+use Rattle.backup_engine.specs.Lists.{Call, FormatsNothing}
+
+gate_of_format : (slots : ℕ) → byte_at 0 (format_cell slots) ≡ FORMAT_GATE
+unfolding sealed
+gate_of_format slots = refl
+
+-- the gate of a store is open
+gate_open : (image : List ℕ) (store : Store) → Encodes image store → byte_at 0 image ≡ FORMAT_GATE
+gate_open image store right = sym (byte-range 0 0 512 image (omega arith)) ∙ ap (byte_at 0) right.format ∙ gate_of_format store.slots
+
+module _ (slots : ℕ) (given : List ℕ) (v w : DiskView) (source source_now : SourceView) (sink sink_now : SinkView) (old : List ℕ) (known : v.content ≡ Some old)
+    (gate : byte_at 0 old ≡ FORMAT_GATE) where
+  -- one that was done found no store
+  formats_none : Formats slots v w → ⊥
+  formats_none formats = shown_content v w _ old formats.closed known gate
+
+  not_done : (ending : Option Ending) → IsCaused (Format slots) given v w source source_now sink sink_now ending → (e : Ending) × (ending ≡ Some e) × ¬ (e ≡ Sink)
+  not_done None caused = absurd (formats_none caused)
+  not_done (Some Sink) caused = absurd (formats_none caused.0)
+  not_done (Some Words) caused = (Words, refl, λ is. cc)
+  not_done (Some Source) caused = (Source, refl, λ is. cc)
+  not_done (Some (Line number)) caused = (Line number, refl, λ is. cc)
+  not_done (Some Script) caused = (Script, refl, λ is. cc)
+  not_done (Some (Refused refusal)) caused = (Refused refusal, refl, λ is. cc)
+
+  module _ (ending : Option Ending) (keeps : Keeps (Format slots) given ending v w source source_now sink sink_now) where
+    content_stays : w.content ≡ v.content
+    content_stays = let there = keeps.frame.content old known in there.1 ∙ ap (λ (b : List ℕ). Some b) (there.2 gate) ∙ sym known
+
+    images_stay : (c : List ℕ) → SinceStart v w c → v.images c
+    images_stay c since = elim (keeps.frame.crash old known c since) [
+      | inl was ↦ was
+      | inr rest ↦ subst (λ (b : List ℕ). v.images b) (sym (rest gate)) (v.as_read old known)
+    ]
+
+pub formats_nothing : (among : ByteSet) → HasNoCollisions (IsIn among) → (slots : ℕ) (c : Call) (m : Stored) (v w : DiskView) (image : List ℕ) → ((bytes : List ℕ) → IsSegmentOf c.given bytes → IsIn among bytes)
+    → v.content ≡ Some image → OpensAs (IsIn among) m image → Keeps (Format slots) c.given c.ending v w c.source c.source_now c.sink c.sink_now
+    → FormatsNothing (IsIn among) slots c m v w
+formats_nothing among apart slots c m v w image given told opens keeps =
+    let gate = gate_open image opens.store opens.holds.right in
+    let stays = images_stay slots c.given v w c.source c.source_now c.sink c.sink_now image told gate c.ending keeps in
+    record {
+      nothing = record {
+        not_done = not_done slots c.given v w c.source c.source_now c.sink c.sink_now image told gate c.ending keeps.any.caused;
+        content = content_stays slots c.given v w c.source c.source_now c.sink c.sink_now image told gate c.ending keeps;
+        images = λ d is. stays d (inl is);
+      };
+      crash = stays;
+      by_map = λ old known of. keeps.map old known among m apart given of;
+    }

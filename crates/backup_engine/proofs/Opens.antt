@@ -1,0 +1,153 @@
+-- A command that opens a core and closes it then: what the top call says of it, by what it does from the disk on that was read.
+use Rattle.std.proofs.Common.{◌≡◌, inl, inr, List, [], ℕ, Option, Some, refl}
+use Rattle.std.specs.Borrow.{MutBor}
+use Rattle.dd_disk.specs.Ending.{Done, Reads}
+use Rattle.dd_disk.proofs.Ended.{reads_refused}
+use Rattle.dd_disk.specs.View.{DiskView, IsLater}
+use Rattle.dd_disk.proofs.Later.{later_on}
+use Rattle.dd_io.specs.Flow.{SinkView, SourceView}
+use Rattle.plain_machine.specs.Runs.{Replied}
+use Rattle.refusals.specs.declared.refusal.Refusal.{Refusal}
+use Rattle.refusals.specs.declared.refusal.Refusal.TheVariants.{Memory}
+use Rattle.reply_text.specs.declared.ending.Ending.{Ending}
+use Rattle.reply_text.specs.declared.ending.Ending.TheVariants.{Refused}
+use Rattle.script_runner.specs.Opened.{OpenedFollows}
+use Rattle.store_core.specs.Opening.{IsNotRead, IsReadFrom, OpensCore, OpensNone}
+use Rattle.store_core.specs.State.{CoreState, IsRunning}
+use Rattle.backup_engine.specs.AnyDisk.{Took}
+use Rattle.backup_engine.specs.Line.{CommandLine}
+use Rattle.backup_engine.specs.Lines.{RunsEachMap}
+use Rattle.backup_engine.specs.Running.{IsFresh}
+use Rattle.backup_engine.specs.Script.{KeepsScript}
+use Rattle.backup_engine.specs.Singles.{SpeaksAs}
+use Rattle.backup_engine.specs.TopCall.{DoesCommand, Keeps, RunsScript}
+use Rattle.backup_engine.proofs.Called.{Called}
+use Rattle.backup_engine.proofs.Commanded.{does_here, does_made, does_unmade, does_unread}
+use Rattle.backup_engine.proofs.Fresh.{fresh}
+use Rattle.backup_engine.proofs.Lending.{lent_end, lent_view, made_there}
+use Rattle.backup_engine.proofs.WholeLines.{fails_here, fails_made, fails_unmade, fails_unread, lines_here, lines_made, lines_unmade, lines_unread}
+use Rattle.backup_engine.proofs.WholeMade.{read_runs}
+
+-- a core that was opened is fresh
+pub opened_fresh : (D : Type 0) (view : D → DiskView) (v : DiskView) (c : CoreState) → OpensCore D view v c → IsRunning c → IsFresh c
+opened_fresh D view v c (inl is) running = fresh v c is.opened running
+opened_fresh D view v c (inr is) running = fresh (view is.0) c is.1.1.opened running
+
+-- ---- no core was opened
+
+-- what a command keeps, and says, of a disk whose store was not read
+pub record Unread (command : CommandLine) (given : List ℕ) (refusal : Refusal) (v w : DiskView) (source : SourceView) (sink : SinkView) : Type 0 where
+  pub keeps : Keeps command given (Some (Refused refusal)) v w source source sink sink
+  pub speaks : SpeaksAs command given (Some (Refused refusal)) [] v w source source sink sink
+  pub machine : RunsEachMap (Some (Refused refusal)) [] v w
+
+module _ (D : Type 0) (view : D → DiskView) (refusal : Refusal) (v w : DiskView) (source : SourceView) (sink : SinkView) where
+  pub does_none : (command : CommandLine) (given : List ℕ) → Took command given (Some (Refused refusal)) source source
+      → ((before : DiskView) → IsNotRead refusal before w → Unread command given refusal before w source sink)
+      → OpensNone D view refusal v w → DoesCommand D view command given [] (Some (Refused refusal)) v w source source sink sink
+  does_none command given took unread (inl is) =
+      let un = unread v is.0 in does_unread D view command given v w source sink refusal is.0 is.1 un.keeps un.speaks
+  does_none command given took unread (inr (inl is)) =
+      let un = unread (view is.0) is.1.1 in does_made D view command given v w source source sink sink [] (Some (Refused refusal)) is.0 is.1.0 un.keeps un.speaks un.machine
+  does_none command given took unread (inr (inr is)) = does_unmade D view command given v w source sink refusal is took
+
+  pub runs_none : ((before : DiskView) → IsNotRead refusal before w → KeepsScript [] (Some (Refused refusal)) before w source source sink sink)
+      → OpensNone D view refusal v w → RunsScript D view [] (Some (Refused refusal)) v w source source sink sink
+  runs_none unread (inl is) = record {
+    lines = lines_unread refusal v w is.0 is.1;
+    fails_alone = fails_unread refusal v w is.0 is.1;
+    way = inl (inl (unread v is.0));
+  }
+  runs_none unread (inr (inl is)) =
+      let kept = unread (view is.0) is.1.1 in
+      record {
+        lines = lines_made (Some (Refused refusal)) [] v (view is.0) is.1.0 w kept.machine;
+        fails_alone = fails_made (Some (Refused refusal)) [] v (view is.0) is.1.0 kept.fails_alone;
+        way = inl (inr (is.0, (is.1.0, kept)));
+      }
+  runs_none unread (inr (inr is)) = record {
+    lines = lines_unmade refusal v w is;
+    fails_alone = fails_unmade refusal v w is;
+    way = inr (record { refusal = refusal; ending_is = refl; unmade = is; none = refl; source_is = refl; sink_is = refl });
+  }
+
+-- there was no memory, before the disk was called
+unbegun : (v : DiskView) → IsNotRead Memory v v
+unbegun v = record {
+  cause = tt;
+  given_up = record { parts = []; returned = tt; known = λ image told. tt; shows = λ image sized has store right. refl };
+  reads = reads_refused v;
+}
+
+pub does_without_memory : (D : Type 0) (view : D → DiskView) (v : DiskView) (source : SourceView) (sink : SinkView) (command : CommandLine) (given : List ℕ)
+    → Keeps command given (Some (Refused Memory)) v v source source sink sink → SpeaksAs command given (Some (Refused Memory)) [] v v source source sink sink
+    → DoesCommand D view command given [] (Some (Refused Memory)) v v source source sink sink
+does_without_memory D view v source sink command given keeps speaks = does_unread D view command given v v source sink Memory (unbegun v) tt keeps speaks
+
+pub runs_without_memory : (D : Type 0) (view : D → DiskView) (v : DiskView) (source : SourceView) (sink : SinkView) → KeepsScript [] (Some (Refused Memory)) v v source source sink sink
+    → RunsScript D view [] (Some (Refused Memory)) v v source source sink sink
+runs_without_memory D view v source sink keeps = record {
+  lines = lines_unread Memory v v (unbegun v) tt;
+  fails_alone = fails_unread Memory v v (unbegun v) tt;
+  way = inl (inl keeps);
+}
+
+-- ---- one was
+
+module _ (D : Type 0) (view : D → DiskView) (C : Type 0) (state : C → CoreState) (first : MutBor D) (n : ℕ) (w : DiskView) (old new : C) where
+  abbrev lent : MutBor D → DiskView
+  lent = lent_view D view
+
+  abbrev end : DiskView
+  end = lent_end D view first n w
+
+  -- (by `opens` a caller tells C and its state)
+  module _ (opens : OpenedFollows (MutBor D) lent C state) (running : IsRunning (state old)) (last : Reads Done (state new).disk end) (clock : end.clock ≡ (state new).disk.clock) where
+    abbrev called : (before : MutBor D) → IsReadFrom (lent before) (state old) → Called C state (lent before) end old new
+    called before read = record { opened = read.opened; running = running; durable = read.durable; first = read.reads; last = last; clock = clock }
+
+    pub opened_later : OpensCore (MutBor D) lent (lent first) (state old) → IsLater (state old).disk (state new).disk → IsLater (lent first) end
+    opened_later (inl read) between = later_on (lent first) (state old).disk end read.reads.only.later (later_on (state old).disk (state new).disk end between last.only.later)
+    opened_later (inr is) between =
+        later_on (lent first) (lent is.0) end is.1.0.later
+        (later_on (lent is.0) (state old).disk end is.1.1.reads.only.later (later_on (state old).disk (state new).disk end between last.only.later))
+
+    module _ (command : CommandLine) (given : List ℕ) (ending : Option Ending) (source source_now : SourceView) (sink sink_now : SinkView) where
+      -- What it does from the disk on that was read.
+      abbrev pub Goes : MutBor D → Type 0
+      Goes before = (rs : List Replied) × (Keeps command given ending (view before.now) w source source_now sink sink_now
+          × SpeaksAs command given ending rs (view before.now) w source source_now sink sink_now × RunsEachMap ending rs (view before.now) w)
+
+      pub does_opened : OpensCore (MutBor D) lent (lent first) (state old) → ((before : MutBor D) → Called C state (lent before) end old new → Goes before)
+          → (rs : List Replied) × DoesCommand D view command given rs ending (view first.now) w source source_now sink sink_now
+      does_opened (inl read) goes =
+          let went = goes first (called first read) in
+          (went.0, does_here D view command given (view first.now) w source source_now sink sink_now went.0 ending (read_runs (lent first) (state old) read) went.1.0 went.1.1 went.1.2)
+      does_opened (inr is) goes =
+          let went = goes is.0 (called is.0 is.1.1) in
+          (went.0, does_made D view command given (view first.now) w source source_now sink sink_now went.0 ending is.0.now (made_there D view first is.0 is.1.0) went.1.0 went.1.1 went.1.2)
+
+    module _ (ending : Option Ending) (source source_now : SourceView) (sink sink_now : SinkView) where
+      pub runs_opened : OpensCore (MutBor D) lent (lent first) (state old)
+          → ((before : MutBor D) → Called C state (lent before) end old new → (rs : List Replied) × KeepsScript rs ending (view before.now) w source source_now sink sink_now)
+          → (rs : List Replied) × RunsScript D view rs ending (view first.now) w source source_now sink sink_now
+      runs_opened (inl read) goes =
+          let went = goes first (called first read) in
+          let runs = read_runs (lent first) (state old) read in (
+            went.0,
+            record {
+              lines = lines_here ending went.0 (view first.now) w runs went.1.machine;
+              fails_alone = fails_here ending went.0 (view first.now) w runs went.1.fails_alone;
+              way = inl (inl went.1);
+            },
+          )
+      runs_opened (inr is) goes =
+          let went = goes is.0 (called is.0 is.1.1) in
+          let made = made_there D view first is.0 is.1.0 in (
+            went.0,
+            record {
+              lines = lines_made ending went.0 (view first.now) (view is.0.now) made w went.1.machine;
+              fails_alone = fails_made ending went.0 (view first.now) (view is.0.now) made went.1.fails_alone;
+              way = inl (inr (is.0.now, (made, went.1)));
+            },
+          )

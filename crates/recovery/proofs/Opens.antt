@@ -1,0 +1,263 @@
+-- An opening: room that was made, or not, as it is told of the disk from its start on.
+use Rattle.std.proofs.Common.{◌≡◌, inl, inr, ℕ, ◌<◌, ◌≤◌, List, [], ◌∷◌, map, Some, Result, Ok, Err, IfErr, IsTrue, refl, sym, ◌∙◌, subst}
+use Rattle.std.specs.FinMap as finite
+use Rattle.std.specs.List.{All}
+use Rattle.std.specs.Result.{IsErrAnd}
+use Rattle.std.proofs.lemmas.List.Elements.{All-head, All-tail}
+use Rattle.container_meta.specs.Places.{PlaceMap}
+use Rattle.dd_disk.specs.Ending.{Done, Reads, ending_of}
+use Rattle.dd_disk.specs.Shows.{Shows}
+use Rattle.dd_disk.specs.View.{DiskView, IsDurable, IsLater, OnlyReads}
+use Rattle.dd_disk.proofs.Ended.{counts_on}
+use Rattle.dd_disk.proofs.Later.{later_on}
+use Rattle.dd_disk.proofs.Shows.{shown_content, until, weaker}
+use Rattle.disk_format.specs.declared.numbers.TheConstants.{RESERVE}
+use Rattle.journal_cells.specs.declared.fault.CellFault.{CellFault}
+use Rattle.journal_cells.specs.declared.fault.CellFault.TheVariants as cell
+use Rattle.merkle_file.specs.declared.top.Top.{Top}
+use Rattle.namespace.specs.declared.record.Named.{Named}
+use Rattle.namespace.specs.Listing.{NamedRoot, listing_of, named_root}
+use Rattle.namespace.proofs.Again.{entries_found}
+use Rattle.refusals.specs.declared.refusal.Refusal.{Refusal}
+use Rattle.refusals.specs.declared.refusal.Refusal.TheVariants.{Memory, DiskRead, DiskWrite, Corrupt, Missing, Damaged}
+use Rattle.store_model.specs.Collisions.{ByteSet, IsIn, IsOf, OpensAs}
+use Rattle.store_model.specs.Files.{Files, Stored}
+use Rattle.store_model.specs.Freeing.{FreesSome, FreesTo, IsPartlyFreed, SameButGates, with_all_freed}
+use Rattle.store_model.specs.Image.{Store, Encodes, names_of}
+use Rattle.store_model.specs.Reserve.{HasReserve, IsReachable}
+use Rattle.store_model.specs.Slots.{IsIndexOf, free_slots}
+use Rattle.store_model.specs.Standing.{CanBeOpened, IsStoreWith}
+use Rattle.store_model.proofs.FreedFiles.{freed_stands, partly_opens}
+use Rattle.store_model.proofs.Once.{store_once}
+use Rattle.store_state.specs.declared.open_store.OpenStore.{OpenStore}
+use Rattle.store_state.specs.Refused.{blames, fails}
+use Rattle.store_state.specs.State.{Represents}
+use Rattle.read_steps.specs.Visiting.{HasPlace, IsVisitRefusal, IsVisited, VisitsRoots}
+use Rattle.read_steps.specs.Walking.{WasRead}
+use Rattle.read_steps.proofs.Visited.{held_start, needed_visited, read_earlier, roots_wider, visited_needed}
+use Rattle.recovery.specs.Making.{IsMakeRefusal, IsWalkedFirst, MakesNoRoom, MakesRoom}
+use Rattle.recovery.specs.Marking.{AllHeld, IsStuckAmong}
+use Rattle.recovery.specs.Opening.{IsFound, IsOpenRefusal, cell_refusal}
+use Rattle.recovery.specs.Room.{FreesAfterAll, GivesUp, IsNotFull, IsRoomRefusal, IsShort, IsStuck, ReadsStore, RoomMade, RoomUnmade}
+use Rattle.recovery.specs.Slots.{IsSlotsRefusal}
+use Rattle.recovery.proofs.Marks.{among_since}
+use Rattle.recovery.proofs.Rooms.{leaves_since}
+use Rattle.recovery.proofs.Spare.{frees_all}
+use Rattle.recovery.proofs.Steps.{opens_passed}
+
+-- ---- files
+
+-- the trees of all names are held
+all_held : (store : Store) (files : Files) (R : Type 0) (image : List ℕ) (holds : IsStoreWith store files image R) (es : List (List ℕ × Named)) → All (λ e. finite.get (names_of store) e.0 ≡ Some e.1) es
+    → AllHeld store.held image (map named_root es)
+all_held store files R image holds [] all = tt
+all_held store files R image holds (e ∷ es) all = (
+  held_start store files R image holds e.0 e.1 (All-head (λ x. finite.get (names_of store) x.0 ≡ Some x.1) e es all),
+  all_held store files R image holds es (All-tail (λ x. finite.get (names_of store) x.0 ≡ Some x.1) e es all),
+)
+
+module _ (store : Store) (among : ByteSet) (stored : Stored) (given : List ℕ) (right : Encodes given store) (opens : OpensAs (IsIn among) stored given) where
+  abbrev reserve : Type 0
+  reserve = HasReserve (IsReachable stored.files) store.held
+
+  can_open : IsStoreWith store stored.files given reserve
+  can_open = subst (λ (s : Store). CanBeOpened s stored.files given) (store_once given opens.store store opens.holds.right right) opens.holds
+
+  names_held : AllHeld store.held given (listing_of (names_of store))
+  names_held = all_held store stored.files reserve given can_open (finite.entries (names_of store)) (entries_found (names_of store))
+
+  opens_none : (c : List ℕ) → IsPartlyFreed store [] given c → OpensAs (IsIn among) stored c
+  opens_none c part = partly_opens (IsIn among) (IsReachable stored.files) stored store [] given c (λ key is. is) (λ key is. is) opens right tt part
+
+  module _ (index : PlaceMap) (newest : IsIndexOf store.held index) (old new : DiskView) (told : old.content ≡ Some given) (visited : List Top)
+      (visits : VisitsRoots (WasRead (Some index) old new) (HasPlace (Some index)) (listing_of (names_of store)) visited) where
+    fewer : (key : List ℕ) → IsVisited visited key → IsReachable stored.files key
+    fewer = needed_visited store stored.files reserve given index old new visited told can_open newest visits
+
+    needed : (key : List ℕ) → IsReachable stored.files key → IsVisited visited key
+    needed = visited_needed store stored.files reserve given index old new visited told can_open newest visits
+
+    opens_some : (freed c : List ℕ) → FreesSome (IsVisited visited) freed store → IsPartlyFreed store freed given c → OpensAs (IsIn among) stored c
+    opens_some freed c frees part = partly_opens (IsIn among) (IsVisited visited) stored store freed given c fewer needed opens right frees part
+
+    stands_all : (freed now : List ℕ) (after : Store) → FreesTo (IsVisited visited) freed store after → Encodes now after → SameButGates freed given now → IsOf (IsIn among) stored now
+    stands_all freed now after frees there same = freed_stands (IsIn among) (IsVisited visited) stored store after freed given now fewer needed opens right frees there same
+
+-- ---- from the start of an opening on
+
+module _ (old mid new : DiskView) (reads : Reads Done old mid) (o : OpenStore) (found : IsFound (Shows old mid) old.size o) (closed : ℕ) (few : closed < RESERVE) (closed_is : closed ≡ free_slots found.store.held)
+    (later : IsLater mid new) where
+  abbrev short : IsShort (Shows old new) old.size
+  short = record {
+    store = found.store;
+    right = until old mid new found.right reads.only.later.clock_is later;
+    valid = found.valid;
+    few = subst (λ (n : ℕ). n < RESERVE) closed_is few;
+    index = o.containers.index;
+    index_is = found.represents.containers.index;
+  }
+
+  abbrev roots : List NamedRoot
+  roots = listing_of (names_of found.store)
+
+  abbrev placed : List ℕ → Type 0
+  placed = HasPlace (Some o.containers.index)
+
+  visits_earlier : (ns : List NamedRoot) (visited : List Top) → VisitsRoots (WasRead (Some o.containers.index) mid new) placed ns visited → VisitsRoots (WasRead (Some o.containers.index) old new) placed ns visited
+  visits_earlier ns visited visits =
+      roots_wider (WasRead (Some o.containers.index) mid new) (WasRead (Some o.containers.index) old new) placed placed ns visited visits (read_earlier (Some o.containers.index) old mid new reads.only)
+      (λ key has. has)
+
+  content_encodes : (given : List ℕ) → old.content ≡ Some given → Encodes given found.store
+  content_encodes given known = shown_content old mid (λ image. Encodes image found.store) given found.right known
+
+  pub room_made : MakesRoom found.store o.containers.index mid new → RoomMade old new
+  room_made makes =
+      let freed = makes.gives.freed in
+      let visits : VisitsRoots (WasRead (Some o.containers.index) old new) placed roots makes.visited = visits_earlier roots makes.visited makes.visits in
+      let frees : FreesTo (IsVisited makes.visited) freed found.store (with_all_freed freed found.store) = frees_all (IsVisited makes.visited) freed found.store makes.gives.are_freed.frees makes.gives.enough in
+      record {
+        later = later_on old mid new reads.only.later later;
+        faults_are = makes.steady.faults_are ∙ reads.faults_are;
+        durable = makes.steady.durable;
+        short = short;
+        walk = record { visited = makes.visited; visits = visits };
+        freed = freed;
+        after = with_all_freed freed found.store;
+        frees = frees;
+        content = λ given known.
+            let right = content_encodes given known in
+            let now = makes.gives.are_freed.content given (reads.only.content_is ∙ known) right in (
+              now.0,
+              now.1,
+              (
+                now.2.0,
+                now.2.1,
+                (record {
+                  stands = λ among stored opens. stands_all found.store among stored given right opens o.containers.index found.represents.containers.index old new known makes.visited visits freed now.0
+                      (with_all_freed freed found.store) frees now.2.0 now.2.1;
+                  on_the_way = λ among stored c opens part. opens_some found.store among stored given right opens o.containers.index found.represents.containers.index old new known makes.visited visits freed c
+                      makes.gives.are_freed.frees part;
+                }),
+                now.2.2,
+              ),
+            );
+        crash = λ given known. leaves_since found.store o.containers.index old mid new reads.only freed later makes.gives.are_freed.crash given known (content_encodes given known);
+      }
+
+  -- ---- why none was made
+
+  stuck_earlier : OnlyReads mid new → (refusal : Refusal) → IsStuckAmong o.containers.index mid new roots refusal → IsStuck old new short refusal
+  stuck_earlier only refusal stuck =
+      let earlier = among_since o.containers.index o.containers.index old mid new refl reads.only only roots refusal stuck in
+      record {
+        before = earlier.before;
+        at = earlier.at;
+        rest = earlier.rest;
+        names_are = earlier.roots_are;
+        visited = earlier.visited;
+        visits = earlier.visits;
+        visited_there = earlier.stuck.visited;
+        ahead = earlier.stuck.ahead;
+        way = earlier.stuck.way;
+        cause = earlier.stuck.cause;
+      }
+
+  stuck_refusal : (refusal : Refusal) → IsStuck old new short refusal → IsRoomRefusal old new short refusal
+  stuck_refusal Memory is = tt
+  stuck_refusal DiskRead is = tt
+  stuck_refusal DiskWrite is = tt
+  stuck_refusal (Corrupt slot offset count want got) is = is
+  stuck_refusal (Missing key) is = is
+  stuck_refusal (Damaged at why) is = is
+  stuck_refusal refusal is = elim is.ahead as (λ (tops : List Top). IsVisitRefusal (Some o.containers.index) (λ at why image. ⊥) old new tops refusal → ⊥) [
+    | [] ↦ λ none. none
+    | t ∷ ts ↦ λ none. elim none [ inl leaf ↦ leaf.1 | inr node ↦ node.1 ]
+  ] is.cause
+
+  room_refusal : (refusal : Refusal) → IsMakeRefusal found.store o.containers.index mid new refusal → IsRoomRefusal old new short refusal
+  room_refusal refusal (inl is) = subst (IsRoomRefusal old new short) (sym is) tt
+  room_refusal refusal (inr (only, inl is)) = subst (IsRoomRefusal old new short) (sym is) tt
+  room_refusal refusal (inr (only, inr stuck)) = stuck_refusal refusal (stuck_earlier only refusal stuck)
+
+  walked_earlier : (refusal : Refusal) (freed : List ℕ) → IsWalkedFirst found.store o.containers.index refusal mid new freed → FreesAfterAll refusal old new short freed
+  walked_earlier refusal freed (inl none) = inl none
+  walked_earlier refusal freed (inr (is, walk)) = inr (is, (record { visited = walk.0; visits = visits_earlier roots walk.0 walk.1.0 }, walk.1.1))
+
+  opens_after : (refusal : Refusal) (among : ByteSet) (stored : Stored) (given freed c : List ℕ) → old.content ≡ Some given → OpensAs (IsIn among) stored given → IsWalkedFirst found.store o.containers.index refusal mid new freed
+      → IsPartlyFreed found.store freed given c → OpensAs (IsIn among) stored c
+  opens_after refusal among stored given freed c known opens (inl none) part =
+      opens_none found.store among stored given (content_encodes given known) opens c (subst (λ (slots : List ℕ). IsPartlyFreed found.store slots given c) none part)
+  opens_after refusal among stored given freed c known opens (inr (is, walk)) part =
+      opens_some found.store among stored given (content_encodes given known) opens o.containers.index found.represents.containers.index old new known walk.0 (visits_earlier roots walk.0 walk.1.0) freed c walk.1.1 part
+
+  pub room_unmade : (refusal : Refusal) → MakesNoRoom found.store o.containers.index refusal mid new → RoomUnmade refusal old new
+  room_unmade refusal makes = record {
+    later = later_on old mid new reads.only.later later;
+    faults_are = counts_on (ending_of (blames refusal)) old.faults mid.faults new.faults reads.faults_are makes.faults_are;
+    short = short;
+    cause = room_refusal refusal makes.cause;
+    freed = makes.freed;
+    frees = walked_earlier refusal makes.freed makes.walked;
+    content = λ given known. makes.content given (reads.only.content_is ∙ known) (content_encodes given known);
+    images = λ given known. makes.images given (reads.only.content_is ∙ known) (content_encodes given known);
+    crash = λ given known. leaves_since found.store o.containers.index old mid new reads.only makes.freed later makes.crash given known (content_encodes given known);
+    files = λ given known among stored opens. (
+      makes.failed found.store.held given
+          (record { told = reads.only.content_is ∙ known; index = o.containers.index; index_known = refl; index_is_newest = found.represents.containers.index })
+          (names_held found.store among stored given (content_encodes given known) opens),
+      λ c part. opens_after refusal among stored given makes.freed c known opens makes.walked part,
+    );
+  }
+
+-- ---- what is answered
+
+pub gives_up : (result : Result OpenStore Refusal) (error : Refusal) (old new : DiskView) → IsErrAnd result (λ y. y ≡ error) → RoomUnmade error old new → GivesUp result old new
+gives_up (Ok o) error old new passed unmade = passed
+gives_up (Err y) error old new passed unmade = subst (λ (r : Refusal). RoomUnmade r old new) (sym passed) unmade
+
+-- the store was not read
+pub reads_failed : (result : Result OpenStore Refusal) (error : Refusal) (old new : DiskView) → IsErrAnd result (λ y. y ≡ error) → Shows old new (λ image. (store : Store) → Encodes image store → IsTrue (fails error))
+    → Reads (ending_of (blames error)) old new → IsOpenRefusal (Shows old new) old.size error → IsNotFull error → ReadsStore result old new × IfErr result IsNotFull
+reads_failed (Ok o) error old new passed only reads refused not_full = absurd passed
+reads_failed (Err y) error old new passed only reads refused not_full = (
+  record {
+    opened = tt;
+    only = weaker old new (λ image sized none store right. opens_passed store (Err y) error passed (none store right)) only;
+    durable = tt;
+    reads = subst (λ (r : Refusal). Reads (ending_of (blames r)) old new) (sym passed) reads;
+    refused = subst (IsOpenRefusal (Shows old new) old.size) (sym passed) refused;
+  },
+  subst IsNotFull (sym passed) not_full,
+)
+
+-- it was, and enough slots are closed
+pub reads_opened : (o : OpenStore) (old new : DiskView) (closed : ℕ) (found : IsFound (Shows old new) old.size o) → RESERVE ≤ closed → closed ≡ free_slots found.store.held → IsDurable new → Reads Done old new
+    → ReadsStore (Ok o) old new
+reads_opened o old new closed found enough is durable reads = record {
+  opened = record { found = found; reserve = subst (λ n. RESERVE ≤ n) is enough };
+  only = weaker old new (λ image sized right store other. subst (λ (s : Store). Represents s o) (store_once image found.store store right other) found.represents) found.right;
+  durable = durable;
+  reads = reads;
+  refused = tt;
+}
+
+-- ---- no part of an opening but its last check says that too few slots are closed
+
+pub cell_not_full : (fault : CellFault) (refusal : Refusal) → refusal ≡ cell_refusal fault → IsNotFull refusal
+cell_not_full fault refusal is = subst IsNotFull (sym is) (by_fault fault)
+  where
+    by_fault : (f : CellFault) → IsNotFull (cell_refusal f)
+    by_fault cell.Memory = tt
+    by_fault cell.DiskRead = tt
+    by_fault cell.DiskWrite = tt
+    by_fault (cell.Damaged at why) = tt
+    by_fault (cell.NotAStore gate magic) = tt
+    by_fault (cell.Version n) = tt
+    by_fault cell.Numbers = tt
+
+pub slots_not_full : (shown : (List ℕ → Type 0) → Type 0) (slots : ℕ) (refusal : Refusal) → IsSlotsRefusal shown slots refusal → IsNotFull refusal
+slots_not_full shown slots Memory is = tt
+slots_not_full shown slots DiskRead is = tt
+slots_not_full shown slots (Damaged at why) is = tt
+slots_not_full shown slots refusal is = absurd is

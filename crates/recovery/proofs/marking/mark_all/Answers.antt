@@ -1,0 +1,36 @@
+use Rattle.std.proofs.Common.{map, take, drop, ◌+◌}
+use Rattle.base_model.proofs.Outcome.{passed_on}
+use Rattle.namespace.specs.declared.listing.ListedName.{ListedName}
+use Rattle.namespace.specs.Listing.{listed_value}
+use Rattle.recovery.proofs.Marks.{file_among, file_taken, marking_all_more, tree_failed, tree_refused}
+use Rattle.recovery.proofs.marking.mark_all.Goals as goal
+
+pub returns-in_err-mark_tree-clause-refused : goal.returns-in_err-mark_tree-clause-refused
+returns-in_err-mark_tree-clause-refused g c =
+    let view = g.D.Disk.view in
+    let so_far = c.loop-file.invariant in
+    let files = c.args.files.now in
+    let file : ListedName = c.file-item.result in
+    let k = c.loop-file.file-index in
+    passed_on c.from_residual.result _ c.in_err-mark_tree.field-0.0 c.from_residual.ensures.1
+    (tree_refused c.args.index.now c.loop-file.index (view c.args.disk.now) (view c.loop-file.disk) (view c.mark_tree.new.disk) so_far.index_is so_far.reads.only c.in_err-mark_tree.ensures.reads.only
+    (take k (map listed_value files)) (drop (k + 1) (map listed_value files)) (map listed_value files) (listed_value file) c.args.used.now c.loop-file.used c.in_err-mark_tree.field-0.0
+    (file_among files k file c.loop-file-test.true c.file-item.is) so_far.marks c.in_err-mark_tree.ensures.refused)
+
+pub returns-in_err-mark_tree-clause-failed : goal.returns-in_err-mark_tree-clause-failed
+returns-in_err-mark_tree-clause-failed g c =
+    let view = g.D.Disk.view in
+    let so_far = c.loop-file.invariant in
+    passed_on c.from_residual.result _ c.in_err-mark_tree.field-0.0 c.from_residual.ensures.1
+    (tree_failed c.args.index.now c.loop-file.index (view c.args.disk.now) (view c.loop-file.disk) c.args.files.now c.loop-file.file-index c.file-item.result c.in_err-mark_tree.field-0.0
+    c.loop-file-test.true c.file-item.is so_far.index_is so_far.reads.only c.in_err-mark_tree.ensures.failed)
+
+pub loop-file-preserved : goal.loop-file-preserved
+loop-file-preserved g c =
+    let view = g.D.Disk.view in
+    let so_far = c.loop-file.invariant in
+    let files = c.args.files.now in
+    let k = c.loop-file.file-index in
+    marking_all_more c.args.index.now c.loop-file.index c.mark_tree.new.index (view c.args.disk.now) (view c.loop-file.disk) (view c.mark_tree.new.disk) (take k (map listed_value files))
+    (take (k + 1) (map listed_value files)) (listed_value c.file-item.result) c.args.used.now c.loop-file.used c.mark_tree.new.used so_far
+    (file_taken files k c.file-item.result c.loop-file-test.true c.file-item.is) c.in_ok-mark_tree.ensures.marks c.mark_tree.ensures.index c.in_ok-mark_tree.ensures.reads

@@ -1,0 +1,9 @@
+use Rattle.std.proofs.Common.{map, take}
+use Rattle.namespace.specs.Listing.{listed_value}
+use Rattle.recovery.specs.Marking.{IsMarkingAll}
+use Rattle.recovery.proofs.marking.mark_all.Given as goal
+
+abbrev pub invariant-loop-file : goal.invariant-loop-file
+invariant-loop-file g l =
+    let view = g.D.Disk.view in
+    IsMarkingAll l.fn.index l.index (view l.fn.disk) (view l.disk) (take l.file-index (map listed_value l.files)) l.fn.used l.used

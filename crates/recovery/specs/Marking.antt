@@ -1,0 +1,106 @@
+-- Slots that are marked as the trees of all names are walked (docs/MODEL.md, 'The reserve').
+use Rattle.std.specs.Prelude.{◌≡◌, ◌⊎◌, ℕ, List, ◌∷◌, ◌++◌, get_or, Bool, true, false, Option, Some}
+use Rattle.std.specs.FinMap as finite
+use Rattle.std.specs.List.{AllByRecursion}
+use Rattle.container_meta.specs.declared.place.Place.{Place}
+use Rattle.container_meta.specs.Places.{PlaceMap}
+use Rattle.container_meta.specs.Spelling.{HeaderValue}
+use Rattle.dd_disk.specs.Ending.{Done, Reads}
+use Rattle.dd_disk.specs.View.{DiskView}
+use Rattle.merkle_file.specs.declared.top.Top.{Top}
+use Rattle.merkle_file.specs.Tree.{Tree}
+use Rattle.merkle_file.specs.Walk.{start_of}
+use Rattle.namespace.specs.Listing.{NamedRoot}
+use Rattle.read_steps.specs.Opening.{top_of}
+use Rattle.read_steps.specs.Visiting.{HasPlace, IsVisitRefusal, IsVisited, VisitsRoots, VisitsTo}
+use Rattle.read_steps.specs.Walking.{HeldAhead, IsIndexed, WasRead}
+use Rattle.refusals.specs.declared.refusal.Refusal.{Refusal}
+use Rattle.refusals.specs.declared.refusal.Refusal.TheVariants.{Memory}
+
+-- ---- marks
+
+-- the index has a key that was visited in the slot
+abbrev pub IsNeeded : PlaceMap → List Top → ℕ → Type 0
+IsNeeded index visited slot =
+    (key : List ℕ) × ((place : Place) × (IsVisited visited key × (finite.get index key ≡ Some place) × (place.slot ≡ slot)))
+
+-- just the slots are marked in which the index has keys that were visited
+pub record IsMarked (index : PlaceMap) (visited : List Top) (used : List Bool) : Type 0 where
+  pub all : (key : List ℕ) (place : Place) → IsVisited visited key → finite.get index key ≡ Some place
+      → get_or used place.slot false ≡ true
+  pub only : (slot : ℕ) → get_or used slot false ≡ true → IsNeeded index visited slot
+
+-- those of these were marked, too
+abbrev pub AddsMarks : PlaceMap → List Top → List Bool → List Bool → Type 0
+AddsMarks index visited used marked = (before : List Top) → IsMarked index before used → IsMarked index (before ++ visited) marked
+
+-- A part of a tree was walked, and its slots are marked.
+pub record MarksTo (index : PlaceMap) (old new : DiskView) (before after : List Top) (used marked : List Bool) : Type 0 where
+  pub visited : List Top
+  pub way : VisitsTo (WasRead (Some index) old new) (HasPlace (Some index)) before visited after
+  pub adds : AddsMarks index visited used marked
+
+-- The trees of these roots were walked.
+pub record MarksAll (index : PlaceMap) (old new : DiskView) (roots : List NamedRoot) (used marked : List Bool) : Type 0 where
+  pub visited : List Top
+  pub visits : VisitsRoots (WasRead (Some index) old new) (HasPlace (Some index)) roots visited
+  pub adds : AddsMarks index visited used marked
+
+-- ---- what stops it
+
+-- the walk of a tree can't go on
+pub record IsStuckOn (index : PlaceMap) (old new : DiskView) (start : List Top) (refusal : Refusal) : Type 0 where
+  pub visited : List Top
+  pub ahead : List Top
+  pub way : VisitsTo (WasRead (Some index) old new) (HasPlace (Some index)) start visited ahead
+  pub cause : IsVisitRefusal (Some index) (λ at why image. ⊥) old new ahead refusal
+
+-- that of one of these roots
+pub record IsStuckAmong (index : PlaceMap) (old new : DiskView) (roots : List NamedRoot) (refusal : Refusal) : Type 0 where
+  pub before : List NamedRoot
+  pub at : NamedRoot
+  pub rest : List NamedRoot
+  pub roots_are : roots ≡ before ++ at ∷ rest
+  pub visited : List Top
+  pub visits : VisitsRoots (WasRead (Some index) old new) (HasPlace (Some index)) before visited
+  pub stuck : IsStuckOn index old new (start_of (top_of at.root)) refusal
+
+abbrev pub IsTreeRefusal : PlaceMap → DiskView → DiskView → List Top → Refusal → Type 0
+IsTreeRefusal index old new start refusal = (refusal ≡ Memory) ⊎ IsStuckOn index old new start refusal
+
+abbrev pub IsMarkRefusal : PlaceMap → DiskView → DiskView → List NamedRoot → Refusal → Type 0
+IsMarkRefusal index old new roots refusal = (refusal ≡ Memory) ⊎ IsStuckAmong index old new roots refusal
+
+-- ---- trees that are held
+
+-- held trees are to come
+abbrev pub IsHeld : List (Option HeaderValue) → List ℕ → List Top → Type 0
+IsHeld held image ahead = (ts : List (Tree (List ℕ))) × HeldAhead held image ahead ts
+
+abbrev pub AllHeld : List (Option HeaderValue) → List ℕ → List NamedRoot → Type 0
+AllHeld held image roots = AllByRecursion (λ n. IsHeld held image (start_of (top_of n.root))) roots
+
+-- where the trees to come are held, so P holds
+abbrev pub WhereHeld : PlaceMap → Option (List ℕ) → (List (Option HeaderValue) → List ℕ → Type 0)
+    → (List (Option HeaderValue) → List ℕ → Type 0) → Type 0
+WhereHeld index content Held P = (held : List (Option HeaderValue)) (image : List ℕ) → IsIndexed held (Some index) content image
+    → Held held image → P held image
+
+-- a part of a tree was walked
+pub record IsMarking (first index : PlaceMap) (old new : DiskView) (before after : List Top) (used marked : List Bool) : Type 0 where
+  pub marks : MarksTo first old new before after used marked
+  pub index_is : index ≡ first
+  pub reads : Reads Done old new
+  pub held : WhereHeld first old.content (λ held image. IsHeld held image before) (λ held image. IsHeld held image after)
+
+-- some of the trees were
+pub record IsMarkingAll (first index : PlaceMap) (old new : DiskView) (roots : List NamedRoot) (used marked : List Bool) : Type 0 where
+  pub marks : MarksAll first old new roots used marked
+  pub index_is : index ≡ first
+  pub reads : Reads Done old new
+
+-- The trees of these roots were walked, and just their slots are marked.
+pub record MarksFor (index : PlaceMap) (old new : DiskView) (roots : List NamedRoot) (marked : List Bool) : Type 0 where
+  pub visited : List Top
+  pub visits : VisitsRoots (WasRead (Some index) old new) (HasPlace (Some index)) roots visited
+  pub marks : IsMarked index visited marked

@@ -1,14 +1,15 @@
 -- A single command over a store for which room was made, or was there; or that was not opened: what the top call says of it.
-use Rattle.std.proofs.Common.{inl, inr, List, [], ℕ, Option, Some, refl}
-use Rattle.dd_disk.specs.View.{DiskView}
+use Rattle.std.proofs.Common.{◌≡◌, inl, inr, List, [], ℕ, Option, Some, refl, subst}
+use Rattle.dd_disk.specs.View.{DiskView, IsLater}
 use Rattle.dd_io.specs.Flow.{SinkView, SourceView}
 use Rattle.plain_machine.specs.Runs.{Replied}
 use Rattle.recovery.specs.Room.{IsNotFull, RoomMade, RoomUnmade}
 use Rattle.refusals.specs.declared.refusal.Refusal.{Refusal}
+use Rattle.refusals.specs.declared.refusal.Refusal.TheVariants.{Full}
 use Rattle.reply_text.specs.declared.ending.Ending.{Ending}
 use Rattle.reply_text.specs.declared.ending.Ending.TheVariants.{Refused}
 use Rattle.store_core.specs.Opening.{IsNotRead}
-use Rattle.backup_engine.specs.AnyDisk.{Took}
+use Rattle.backup_engine.specs.AnyDisk.{Holds, Took}
 use Rattle.backup_engine.specs.Line.{CommandLine}
 use Rattle.backup_engine.specs.Lines.{RunsEachMap}
 use Rattle.backup_engine.specs.Singles.{SpeaksAs}
@@ -19,23 +20,29 @@ use Rattle.backup_engine.proofs.WholeMade.{RunsIfOpened, whole_here, whole_made,
 module _ (D : Type 0) (view : D → DiskView) (command : CommandLine) (given : List ℕ) (v w : DiskView) (source source_now : SourceView) (sink sink_now : SinkView) where
   -- it was opened as it was
   pub does_here : (rs : List Replied) (ending : Option Ending) → RunsIfOpened v → Keeps command given ending v w source source_now sink sink_now → SpeaksAs command given ending rs v w source source_now sink sink_now
-      → RunsEachMap ending rs v w → DoesCommand D view command given rs ending v w source source_now sink sink_now
-  does_here rs ending runs keeps speaks machine = record {
+      → RunsEachMap ending rs v w → Holds v w → DoesCommand D view command given rs ending v w source source_now sink sink_now
+  does_here rs ending runs keeps speaks machine holds = record {
     whole = whole_here command given ending sink sink_now v w runs keeps.map;
-    lines = lines_here ending rs v w runs machine;
+    lines = lines_here D view ending rs v w runs machine;
     took = keeps.any.took;
-    way = inl (inl (keeps, speaks));
+    way = inl (inl ((keeps, speaks), λ free is. holds));
   }
 
   -- or once room was made
   pub does_made : (rs : List Replied) (ending : Option Ending) (mid : D) → RoomMade v (view mid) → Keeps command given ending (view mid) w source source_now sink sink_now
-      → SpeaksAs command given ending rs (view mid) w source source_now sink sink_now → RunsEachMap ending rs (view mid) w → DoesCommand D view command given rs ending v w source source_now sink sink_now
-  does_made rs ending mid made keeps speaks machine = record {
+      → SpeaksAs command given ending rs (view mid) w source source_now sink sink_now → RunsEachMap ending rs (view mid) w → IsLater (view mid) w → DoesCommand D view command given rs ending v w source source_now sink sink_now
+  does_made rs ending mid made keeps speaks machine later = record {
     whole = whole_made command given ending sink sink_now v (view mid) w made keeps.map;
-    lines = lines_made ending rs v (view mid) made w machine;
+    lines = lines_made D view ending rs v mid made w machine;
     took = keeps.any.took;
-    way = inl (inr (mid, (made, (keeps, speaks))));
+    way = inl (inr (mid, (made, later, (keeps, speaks))));
   }
+
+-- what is refused for another reason is not refused for that
+pub full_not : (refusal : Refusal) (free : ℕ) → ◌≡◌ {A = Option Ending} (Some (Refused refusal)) (Some (Refused (Full free))) → IsNotFull refusal → ⊥
+full_not refusal free is not =
+    let same : refusal ≡ Full free = cc in
+    subst IsNotFull same not
 
 module _ (D : Type 0) (view : D → DiskView) (command : CommandLine) (given : List ℕ) (v w : DiskView) (source : SourceView) (sink : SinkView) (refusal : Refusal) where
   -- it wasn't, though not because too few slots are closed
@@ -43,16 +50,16 @@ module _ (D : Type 0) (view : D → DiskView) (command : CommandLine) (given : L
       → SpeaksAs command given (Some (Refused refusal)) [] v w source source sink sink → DoesCommand D view command given [] (Some (Refused refusal)) v w source source sink sink
   does_unread is not keeps speaks = record {
     whole = whole_unread command given refusal sink v w is not;
-    lines = lines_unread refusal v w is not;
+    lines = lines_unread D view refusal v w is not;
     took = keeps.any.took;
-    way = inl (inl (keeps, speaks));
+    way = inl (inl ((keeps, speaks), λ free is. absurd (full_not refusal free is not)));
   }
 
   -- or no room was made
   pub does_unmade : RoomUnmade refusal v w → Took command given (Some (Refused refusal)) source source → DoesCommand D view command given [] (Some (Refused refusal)) v w source source sink sink
   does_unmade is took = record {
     whole = whole_unmade command given refusal sink v w is;
-    lines = lines_unmade refusal v w is;
+    lines = lines_unmade D view refusal v w is;
     took = took;
     way = inr (record { refusal = refusal; ending_is = refl; unmade = is; none = refl; source_is = refl; sink_is = refl });
   }

@@ -36,7 +36,7 @@ use Rattle.store_state.specs.Refused.{blames}
 use Rattle.store_core.specs.Core.{CoreStep, NamesOne, Steps}
 use Rattle.store_core.specs.State.{CoreState, Event}
 use Rattle.backup_engine.specs.AnyDisk.{EndsDurable, IsCaused, IsDeleted, OnAnyDisk, disk_ending, room_in}
-use Rattle.backup_engine.specs.Frame.{KeepsButRecord, KeepsOthers, SameButRecordOf}
+use Rattle.backup_engine.specs.Frame.{KeepsButRecord, KeepsOthers, SameButRecordOf, KeepsRest}
 use Rattle.backup_engine.specs.Line.{Delete}
 use Rattle.backup_engine.specs.PlainMap.{LacksNumbers}
 use Rattle.backup_engine.specs.Promise.{MayChange, WroteReply}
@@ -47,7 +47,7 @@ use Rattle.backup_engine.proofs.PutCauses.{opened_on}
 use Rattle.backup_engine.proofs.ReadSteps.{steps_of}
 use Rattle.backup_engine.proofs.Reading.{reads_frame}
 use Rattle.backup_engine.proofs.Replied.{IsReplied, replied_faults}
-use Rattle.backup_engine.proofs.WholeCall.{all_counted, all_reads, crash_of, to_end}
+use Rattle.backup_engine.proofs.WholeCall.{all_counted, all_reads, leaves_more, leaves_of, to_end}
 
 -- a name has what its entry says
 is_some_of : {A : Type 0} (o : Option A) → IsSome o → is_some o ≡ true
@@ -101,11 +101,9 @@ module _ (C : Type 0) (state : C → CoreState) (v w : DiskView) (old new : C) (
         content = λ base known.
             let now = (alone.synced called.durable base (called.first.only.content_is ∙ known)).0 in
             (now.0, called.last.only.content_is ∙ now.1, inr (but_record base known now.0 now.2));
-        crash = λ base known c since.
-            elim (crash_of C state v w old new called (Changes base) later (alone.synced called.durable base (called.first.only.content_is ∙ known)).1 c since) [
-              | inl was ↦ inl was
-              | inr same ↦ inr (inr (but_record base known c same))
-            ];
+        crash = λ base known.
+            leaves_more (Changes base) (KeepsRest (Delete name) ending base) v w (λ c same. inr (but_record base known c same))
+            (leaves_of C state v w old new called (Changes base) later (alone.synced called.durable base (called.first.only.content_is ∙ known)).1);
       }
 
     -- ---- it was done

@@ -26,10 +26,10 @@ use Rattle.backup_engine.specs.AnyDisk.{Formats, IsCaused, EndsDurable, disk_end
 use Rattle.backup_engine.specs.Frame.{KeepsRest, KeepsOthers}
 use Rattle.backup_engine.specs.Line.{Format}
 use Rattle.backup_engine.specs.PlainMap.{Refuses, room_of}
-use Rattle.backup_engine.specs.Promise.{EndsBy, IsLeftWith, WroteReply, SinceStart}
+use Rattle.backup_engine.specs.Promise.{EndsBy, IsLeftWith, LeavesMeanwhile, WroteReply, SinceStart}
 use Rattle.backup_engine.specs.TopCall.{Keeps, IsLeftBlank, IsUntouched}
 use Rattle.backup_engine.proofs.Replied.{IsReplied, replied_faults}
-use Rattle.backup_engine.proofs.Reading.{reads_map, AnswersEach, since_start}
+use Rattle.backup_engine.proofs.Reading.{reads_map, AnswersEach, reads_leave}
 
 gate_of_format : (slots : ℕ) → byte_at 0 (format_cell slots) ≡ FORMAT_GATE
 unfolding sealed
@@ -85,17 +85,19 @@ module _ (slots : ℕ) (v w : DiskView) where
   one_content : OnlyReads v w → (old now : List ℕ) → v.content ≡ Some old → w.content ≡ Some now → now ≡ old
   one_content reads old now known told = let same : Some now ≡ Some old = sym told ∙ reads.content_is ∙ known in cc
 
-  by_gate : (ending : Option Ending) → ReadsAStore → (old : List ℕ) → v.content ≡ Some old → (c : List ℕ) → SinceStart v w c → (stands : Bool) → byte_at 0 old == FORMAT_GATE ≡ stands
-      → v.images c ⊎ KeepsRest (Format slots) ending old c
-  by_gate ending store old known c since true is = inl (since_start v w (store old known (eqb-true (byte_at 0 old) FORMAT_GATE is)) c since)
-  by_gate ending store old known c since false is = inr (λ gate. absurd (eqb-false (byte_at 0 old) FORMAT_GATE is gate))
+  by_gate : (ending : Option Ending) → ReadsAStore → (old : List ℕ) → v.content ≡ Some old → (stands : Bool) → byte_at 0 old == FORMAT_GATE ≡ stands → LeavesMeanwhile (KeepsRest (Format slots) ending old) v w
+  by_gate ending store old known true is = reads_leave v w (store old known (eqb-true (byte_at 0 old) FORMAT_GATE is)) _
+  by_gate ending store old known false is = record {
+    now = λ c image. inr (λ gate. absurd (eqb-false (byte_at 0 old) FORMAT_GATE is gate));
+    since = λ t c within below image. inr (λ gate. absurd (eqb-false (byte_at 0 old) FORMAT_GATE is gate));
+  }
 
   frame : (ending : Option Ending) → ReadsAStore → Known v.content (λ image. KnownWith w.content (IsLeftByFormat slots image)) → KeepsOthers (Format slots) ending v w
   frame ending store left = record {
     content = λ old known.
         let there = left old known in
         (there.0, there.1, λ gate. one_content (store old known gate) old there.0 known there.1);
-    crash = λ old known c since. by_gate ending store old known c since (byte_at 0 old == FORMAT_GATE) refl;
+    crash = λ old known. by_gate ending store old known (byte_at 0 old == FORMAT_GATE) refl;
   }
 
   abbrev IsLeft : Type 0

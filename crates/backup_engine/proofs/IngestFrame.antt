@@ -17,7 +17,7 @@ use Rattle.store_core.specs.Runs.{events_of}
 use Rattle.store_core.specs.State.{CoreState}
 use Rattle.backup_engine.specs.Frame.{KeepsOpen, KeepsRest, KeepsOthers}
 use Rattle.backup_engine.specs.Line.{Ingest}
-use Rattle.backup_engine.specs.Promise.{MayChange, SinceStart}
+use Rattle.backup_engine.specs.Promise.{LeavesMeanwhile, MayChange}
 use Rattle.backup_engine.specs.Running.{PutRun}
 use Rattle.backup_engine.specs.Storing.{IsSourceFault, Replies, IngestRun}
 use Rattle.backup_engine.specs.TopCall.{ending_in}
@@ -26,7 +26,7 @@ use Rattle.backup_engine.proofs.KeptBytes.{KeepsSlots, free_held, slots_here}
 use Rattle.backup_engine.proofs.PutCauses.{opened_on, run_later}
 use Rattle.backup_engine.proofs.PutChanges.{EndsBy, ways_of}
 use Rattle.backup_engine.proofs.PutFrame.{Leaves, IsFramed, framed_way, framed_open, last_put, last_refused}
-use Rattle.backup_engine.proofs.WholeCall.{crash_of}
+use Rattle.backup_engine.proofs.WholeCall.{leaves_more, leaves_of}
 
 module _ (C : Type 0) (state : C → CoreState) (v w : DiskView) (old new : C) (called : Called C state v w old new) where
   abbrev store : Store
@@ -116,8 +116,9 @@ module _ (C : Type 0) (state : C → CoreState) (v w : DiskView) (old new : C) (
 
   -- what is so of the core's disk is so of the one that was handed in
   module _ (name : List ℕ) (ending : Option Ending) (left : (base : List ℕ) → v.content ≡ Some base → Left name base ending) where
-    crashed : (base : List ℕ) → v.content ≡ Some base → IsLater (state old).disk (state new).disk → (c : List ℕ) → SinceStart v w c → v.images c ⊎ KeepsRest (Ingest name) ending base c
-    crashed base known later c since = elim (crash_of C state v w old new called (KeepsOpen name ending base) later (left base known).images c since) [ inl was ↦ inl was | inr kept ↦ inr (inr kept) ]
+    crashed : (base : List ℕ) → v.content ≡ Some base → IsLater (state old).disk (state new).disk → LeavesMeanwhile (KeepsRest (Ingest name) ending base) v w
+    crashed base known later =
+        leaves_more (KeepsOpen name ending base) (KeepsRest (Ingest name) ending base) v w (λ c kept. inr kept) (leaves_of C state v w old new called (KeepsOpen name ending base) later (left base known).images)
 
     pub others_kept : IsLater (state old).disk (state new).disk → KeepsOthers (Ingest name) ending v w
     others_kept later = record {

@@ -65,10 +65,10 @@ module _ (S : List ℕ → Type 0) (command : CommandLine) (given : List ℕ) wh
   leads_meanwhile (Some ending) m image (inr done) = absurd done.0
 
 -- what a call answers to a map that it finds: words that are no line do nothing
-abbrev pub Answers : Option TableLine → (List ℕ → Type 0) → Call → Stored → DiskView → DiskView → Type 0
-Answers None S c m v w = DoesNothing c.ending v w c.source c.source_now c.sink c.sink_now
-Answers (Some (Single command)) S c m v w = AnswersBy S command c m v w
-Answers (Some Run) S c m v w = RunsFrom S c.rs m v w ⊎ RunsNoLine (OpensAs S m) c.ending c.rs v w
+abbrev pub Answers : (D : Type 0) → (D → DiskView) → Option TableLine → (List ℕ → Type 0) → Call → Stored → DiskView → DiskView → Type 0
+Answers D view None S c m v w = DoesNothing c.ending v w c.source c.source_now c.sink c.sink_now
+Answers D view (Some (Single command)) S c m v w = AnswersBy S command c m v w
+Answers D view (Some Run) S c m v w = RunsFrom D view S c.rs m v w ⊎ RunsNoLine (OpensAs S m) c.ending c.rs v w
 
 -- what a command leaves of it, now and meanwhile
 record Leaves (S : List ℕ → Type 0) (command : CommandLine) (c : Call) (m : Stored) (v w : DiskView) : Type 0 where
@@ -143,23 +143,25 @@ module _ (S : List ℕ → Type 0) (P : Stored → Type 0) (c : Call) where
       none_crash : (d : List ℕ) → SinceStart v w d → OfSome S P d
       none_crash d since = elim (since_began (OpensAs S m) v w none.leaves d since) [ inl was ↦ stands.1 d was | inr opens ↦ (m, (has, opens)) ]
 
-    script_leaves : RunsFrom S c.rs m v w ⊎ RunsNoLine (OpensAs S m) c.ending c.rs v w → Stands (OfSome S (After P (Some Run) c)) w
-    script_leaves (inl (start, (of, machine))) =
-        let told = machine.through.content in
-        ((machine.last.content, told, script_now start machine machine.last.content (w.as_read machine.last.content told)), script_now start machine)
-    script_leaves (inr none) = ((none.content.0, none.content.1, none_same none none.content.0 none.content.2), none_now none)
+    script_leaves : (D : Type 0) (view : D → DiskView) → RunsFrom D view S c.rs m v w ⊎ RunsNoLine (OpensAs S m) c.ending c.rs v w → Stands (OfSome S (After P (Some Run) c)) w
+    script_leaves D view (inl from) =
+        let last = from.runs.last.content in
+        let told = from.runs.through.content in
+        ((last, told, script_now from.start from.runs last (w.as_read last told)), script_now from.start from.runs)
+    script_leaves D view (inr none) = ((none.content.0, none.content.1, none_same none none.content.0 none.content.2), none_now none)
 
-    script_meanwhile : RunsFrom S c.rs m v w ⊎ RunsNoLine (OpensAs S m) c.ending c.rs v w → (d : List ℕ) → SinceStart v w d → OfSome S P d ⊎ OfSome S (MayPass (Some Run) c m) d
-    script_meanwhile (inl (start, (of, machine))) d since = script_crash start machine d since
-    script_meanwhile (inr none) d since = inl (none_crash none d since)
+    script_meanwhile : (D : Type 0) (view : D → DiskView) → RunsFrom D view S c.rs m v w ⊎ RunsNoLine (OpensAs S m) c.ending c.rs v w
+        → (d : List ℕ) → SinceStart v w d → OfSome S P d ⊎ OfSome S (MayPass (Some Run) c m) d
+    script_meanwhile D view (inl from) d since = script_crash from.start from.runs d since
+    script_meanwhile D view (inr none) d since = inl (none_crash none d since)
 
     -- what it leaves
-    leaves : (line : Option TableLine) → Answers line S c m v w → Stands (OfSome S (After P line c)) w
-    leaves None nothing =
+    leaves : (D : Type 0) (view : D → DiskView) (line : Option TableLine) → Answers D view line S c m v w → Stands (OfSome S (After P line c)) w
+    leaves D view None nothing =
         let reads = same_reads v w nothing.disk_is in
         ((stands.0.0, reads.content_is ∙ stands.0.1, words_lead stands.0.0 stands.0.2), λ d is. words_lead d (stands.1 d (reads.images_are d is)))
-    leaves (Some (Single command)) answers = let left = command_leaves S c m v w command answers in line_leaves command left.left
-    leaves (Some Run) runs = script_leaves runs
+    leaves D view (Some (Single command)) answers = let left = command_leaves S c m v w command answers in line_leaves command left.left
+    leaves D view (Some Run) runs = script_leaves D view runs
 
     line_crash : (command : CommandLine) (image : List ℕ) → v.images image ⊎ MayBeBetween (OpensAs S) command c.given m c.ending image
         → OfSome S P image ⊎ OfSome S (MayPass (Some (Single command)) c m) image
@@ -167,10 +169,10 @@ module _ (S : List ℕ → Type 0) (P : Stored → Type 0) (c : Call) where
     line_crash command image (inr meanwhile) = elim (leads_meanwhile S command c.given c.ending m image meanwhile) [ inl was ↦ inl (m, (has, was)) | inr led ↦ inr led ]
 
     -- and what a crash since it began leaves
-    crash_leaves : (line : Option TableLine) → Answers line S c m v w → (image : List ℕ) → SinceStart v w image → OfSome S P image ⊎ OfSome S (MayPass line c m) image
-    crash_leaves None nothing image since = inl (stands.1 image (since_start v w (same_reads v w nothing.disk_is) image since))
-    crash_leaves (Some (Single command)) answers image since = let left = command_leaves S c m v w command answers in line_crash command image (left.crash image since)
-    crash_leaves (Some Run) runs image since = script_meanwhile runs image since
+    crash_leaves : (D : Type 0) (view : D → DiskView) (line : Option TableLine) → Answers D view line S c m v w → (image : List ℕ) → SinceStart v w image → OfSome S P image ⊎ OfSome S (MayPass line c m) image
+    crash_leaves D view None nothing image since = inl (stands.1 image (since_start v w (same_reads v w nothing.disk_is) image since))
+    crash_leaves D view (Some (Single command)) answers image since = let left = command_leaves S c m v w command answers in line_crash command image (left.crash image since)
+    crash_leaves D view (Some Run) runs image since = script_meanwhile D view runs image since
 
 -- ---- calls, one after the other
 
@@ -196,7 +198,7 @@ given_last S (c ∷ cs) last given = given_last S cs last given.1
 
 module _ (D : Type 0) (view : D → DiskView) (among : ByteSet) (apart : HasNoCollisions (IsIn among)) where
   answers_line : (line : Option TableLine) (c : Call) (m : Stored) (v w : DiskView) (image : List ℕ) → IsGivenAmong (IsIn among) c → v.content ≡ Some image → OpensAs (IsIn among) m image
-      → Does D view line c.given c.rs c.ending v w c.source c.source_now c.sink c.sink_now → Answers line (IsIn among) c m v w
+      → Does D view line c.given c.rs c.ending v w c.source c.source_now c.sink c.sink_now → Answers D view line (IsIn among) c m v w
   answers_line None c m v w image given told opens does = does
   answers_line (Some (Single (Format slots))) c m v w image given told opens does = formats_nothing among apart slots c m v w image given.given told opens does.0
   answers_line (Some (Single (Ingest name))) c m v w image given told opens does = does.whole image told among m apart given.given opens
@@ -207,14 +209,14 @@ module _ (D : Type 0) (view : D → DiskView) (among : ByteSet) (apart : HasNoCo
 
   -- the map that a call finds in the content
   found : (P : Stored → Type 0) (c : Call) (v w : DiskView) → IsGivenAmong (IsIn among) c → Stands (OfSome (IsIn among) P) v → KeepsCall D view c v w
-      → (m : Stored) × (P m × KnownWith v.content (OpensAs (IsIn among) m) × Answers c.line (IsIn among) c m v w)
+      → (m : Stored) × (P m × KnownWith v.content (OpensAs (IsIn among) m) × Answers D view c.line (IsIn among) c m v w)
   found P c v w given ((image, told, (m, (has, opens))), each) keeps = (m, (has, (image, told, opens), answers_line c.line c m v w image given told opens keeps.does))
 
   one_call : (P : Stored → Type 0) (c : Call) (v w : DiskView) → IsGivenAmong (IsIn among) c → Stands (OfSome (IsIn among) P) v → KeepsCall D view c v w
       → Stands (OfSome (IsIn among) (After P c.line c)) w
   one_call P c v w given stands keeps =
       let one = found P c v w given stands keeps in
-      leaves (IsIn among) P c one.0 v w one.1.0 stands c.line one.1.2
+      leaves (IsIn among) P c one.0 v w one.1.0 stands D view c.line one.1.2
 
   all_calls : (P : Stored → Type 0) (calls : List Call) (old new : D) → AllByRecursion (IsGivenAmong (IsIn among)) calls
       → Stands (OfSome (IsIn among) P) (view old) → CallRun D view calls old new → Stands (OfSome (IsIn among) (AfterAll P calls)) (view new)
@@ -239,7 +241,7 @@ module _ (D : Type 0) (view : D → DiskView) (among : ByteSet) (m : Stored) (ca
   before : Stands (Possible (IsIn among) calls m) (view mid)
   before = leaves_possible D view among m calls old mid (record { apart = begins.apart; given = given_before (IsIn among) calls last begins.given; stands = begins.stands }) run
 
-  last_finds : (now : Stored) × (LeadsTo calls m now × KnownWith (view mid).content (OpensAs (IsIn among) now) × Answers last.line (IsIn among) last now (view mid) (view new))
+  last_finds : (now : Stored) × (LeadsTo calls m now × KnownWith (view mid).content (OpensAs (IsIn among) now) × Answers D view last.line (IsIn among) last now (view mid) (view new))
   last_finds = found D view among begins.apart (LeadsTo calls m) last (view mid) (view new) (given_last (IsIn among) calls last begins.given) before keeps
 
   by_led : (now : Stored) → LeadsTo calls m now → (c : List ℕ) → Possible (IsIn among) calls m c ⊎ OfSome (IsIn among) (MayPass last.line last now) c
@@ -250,18 +252,18 @@ module _ (D : Type 0) (view : D → DiskView) (among : ByteSet) (m : Stored) (ca
 pub answers_by_the_map : (D : Type 0) (view : D → DiskView) → AnswersByTheMap D view
 answers_by_the_map D view among m calls last command old mid new begins run keeps line_is =
     let one = last_finds D view among m calls last old mid new begins run keeps in
-    (one.0, (one.1.0, one.1.1, subst (λ (l : Option TableLine). Answers l (IsIn among) last one.0 (view mid) (view new)) line_is one.1.2))
+    (one.0, (one.1.0, one.1.1, subst (λ (l : Option TableLine). Answers D view l (IsIn among) last one.0 (view mid) (view new)) line_is one.1.2))
 
 pub runs_by_the_map : (D : Type 0) (view : D → DiskView) → RunsByTheMap D view
 runs_by_the_map D view among m calls last old mid new begins run keeps line_is =
     let one = last_finds D view among m calls last old mid new begins run keeps in
-    (one.0, (one.1.0, one.1.1, subst (λ (l : Option TableLine). Answers l (IsIn among) last one.0 (view mid) (view new)) line_is one.1.2))
+    (one.0, (one.1.0, one.1.1, subst (λ (l : Option TableLine). Answers D view l (IsIn among) last one.0 (view mid) (view new)) line_is one.1.2))
 
 pub survives_a_crash : (D : Type 0) (view : D → DiskView) → SurvivesACrash D view
 survives_a_crash D view among m calls last old mid new begins run keeps c since =
     let one = last_finds D view among m calls last old mid new begins run keeps in
     by_led D view among m calls last old mid new begins run keeps one.0 one.1.0 c
-    (crash_leaves (IsIn among) (LeadsTo calls m) last one.0 (view mid) (view new) one.1.0 (before D view among m calls last old mid new begins run keeps) last.line one.1.2 c since)
+    (crash_leaves (IsIn among) (LeadsTo calls m) last one.0 (view mid) (view new) one.1.0 (before D view among m calls last old mid new begins run keeps) D view last.line one.1.2 c since)
 
 -- ---- the empty map
 

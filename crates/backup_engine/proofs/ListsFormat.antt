@@ -18,6 +18,7 @@ use Rattle.backup_engine.specs.Line.{Format}
 use Rattle.backup_engine.specs.Promise.{SinceStart}
 use Rattle.backup_engine.specs.TopCall.{Keeps}
 use Rattle.backup_engine.specs.Lists.{Call, FormatsNothing}
+use Rattle.backup_engine.proofs.Reading.{since_began}
 
 gate_of_format : (slots : ℕ) → byte_at 0 (format_cell slots) ≡ FORMAT_GATE
 unfolding sealed
@@ -47,7 +48,7 @@ module _ (slots : ℕ) (given : List ℕ) (v w : DiskView) (source source_now : 
     content_stays = let there = keeps.frame.content old known in there.1 ∙ ap (λ (b : List ℕ). Some b) (there.2 gate) ∙ sym known
 
     images_stay : (c : List ℕ) → SinceStart v w c → v.images c
-    images_stay c since = elim (keeps.frame.crash old known c since) [
+    images_stay c since = elim (since_began _ v w (keeps.frame.crash old known) c since) [
       | inl was ↦ was
       | inr rest ↦ subst (λ (b : List ℕ). v.images b) (sym (rest gate)) (v.as_read old known)
     ]

@@ -14,7 +14,7 @@ use Rattle.reply_text.specs.declared.ending.Ending.TheVariants.{Refused}
 use Rattle.script_runner.specs.Opened.{OpenedFollows}
 use Rattle.store_core.specs.Opening.{IsNotRead, IsReadFrom, OpensCore, OpensNone}
 use Rattle.store_core.specs.State.{CoreState, IsRunning}
-use Rattle.backup_engine.specs.AnyDisk.{Took}
+use Rattle.backup_engine.specs.AnyDisk.{Holds, Took}
 use Rattle.backup_engine.specs.Line.{CommandLine}
 use Rattle.backup_engine.specs.Lines.{RunsEachMap}
 use Rattle.backup_engine.specs.Running.{IsFresh}
@@ -22,9 +22,12 @@ use Rattle.backup_engine.specs.Script.{KeepsScript}
 use Rattle.backup_engine.specs.Singles.{SpeaksAs}
 use Rattle.backup_engine.specs.TopCall.{DoesCommand, Keeps, RunsScript}
 use Rattle.backup_engine.proofs.Called.{Called}
-use Rattle.backup_engine.proofs.Commanded.{does_here, does_made, does_unmade, does_unread}
+use Rattle.backup_engine.proofs.Commanded.{does_here, does_made, does_unmade, does_unread, full_not}
 use Rattle.backup_engine.proofs.Fresh.{fresh}
-use Rattle.backup_engine.proofs.Lending.{lent_end, lent_view, made_there}
+use Rattle.backup_engine.proofs.Kept.{later_back}
+use Rattle.backup_engine.proofs.Lending.{below, lent_end, lent_view, made_there}
+use Rattle.backup_engine.proofs.NotDone.{holds}
+use Rattle.backup_engine.proofs.Unlent.{holds as holds_back}
 use Rattle.backup_engine.proofs.WholeLines.{fails_here, fails_made, fails_unmade, fails_unread, lines_here, lines_made, lines_unmade, lines_unread}
 use Rattle.backup_engine.proofs.WholeMade.{read_runs}
 
@@ -48,26 +51,26 @@ module _ (D : Type 0) (view : D → DiskView) (refusal : Refusal) (v w : DiskVie
   does_none command given took unread (inl is) =
       let un = unread v is.0 in does_unread D view command given v w source sink refusal is.0 is.1 un.keeps un.speaks
   does_none command given took unread (inr (inl is)) =
-      let un = unread (view is.0) is.1.1 in does_made D view command given v w source source sink sink [] (Some (Refused refusal)) is.0 is.1.0 un.keeps un.speaks un.machine
+      let un = unread (view is.0) is.1.1 in does_made D view command given v w source source sink sink [] (Some (Refused refusal)) is.0 is.1.0 un.keeps un.speaks un.machine is.1.1.reads.only.later
   does_none command given took unread (inr (inr is)) = does_unmade D view command given v w source sink refusal is took
 
   pub runs_none : ((before : DiskView) → IsNotRead refusal before w → KeepsScript [] (Some (Refused refusal)) before w source source sink sink)
       → OpensNone D view refusal v w → RunsScript D view [] (Some (Refused refusal)) v w source source sink sink
   runs_none unread (inl is) = record {
-    lines = lines_unread refusal v w is.0 is.1;
-    fails_alone = fails_unread refusal v w is.0 is.1;
-    way = inl (inl (unread v is.0));
+    lines = lines_unread D view refusal v w is.0 is.1;
+    fails_alone = fails_unread D view refusal v w is.0 is.1;
+    way = inl (inl (unread v is.0, λ free same. absurd (full_not refusal free same is.1)));
   }
   runs_none unread (inr (inl is)) =
       let kept = unread (view is.0) is.1.1 in
       record {
-        lines = lines_made (Some (Refused refusal)) [] v (view is.0) is.1.0 w kept.machine;
-        fails_alone = fails_made (Some (Refused refusal)) [] v (view is.0) is.1.0 kept.fails_alone;
-        way = inl (inr (is.0, (is.1.0, kept)));
+        lines = lines_made D view (Some (Refused refusal)) [] v is.0 is.1.0 w kept.machine;
+        fails_alone = fails_made D view (Some (Refused refusal)) [] v is.0 is.1.0 kept.fails_alone;
+        way = inl (inr (is.0, (is.1.0, is.1.1.reads.only.later, kept)));
       }
   runs_none unread (inr (inr is)) = record {
-    lines = lines_unmade refusal v w is;
-    fails_alone = fails_unmade refusal v w is;
+    lines = lines_unmade D view refusal v w is;
+    fails_alone = fails_unmade D view refusal v w is;
     way = inr (record { refusal = refusal; ending_is = refl; unmade = is; none = refl; source_is = refl; sink_is = refl });
   }
 
@@ -87,9 +90,9 @@ does_without_memory D view v source sink command given keeps speaks = does_unrea
 pub runs_without_memory : (D : Type 0) (view : D → DiskView) (v : DiskView) (source : SourceView) (sink : SinkView) → KeepsScript [] (Some (Refused Memory)) v v source source sink sink
     → RunsScript D view [] (Some (Refused Memory)) v v source source sink sink
 runs_without_memory D view v source sink keeps = record {
-  lines = lines_unread Memory v v (unbegun v) tt;
-  fails_alone = fails_unread Memory v v (unbegun v) tt;
-  way = inl (inl keeps);
+  lines = lines_unread D view Memory v v (unbegun v) tt;
+  fails_alone = fails_unread D view Memory v v (unbegun v) tt;
+  way = inl (inl (keeps, λ free same. absurd (full_not Memory free same tt)));
 }
 
 -- ---- one was
@@ -102,15 +105,29 @@ module _ (D : Type 0) (view : D → DiskView) (C : Type 0) (state : C → CoreSt
   end = lent_end D view first n w
 
   -- (by `opens` a caller tells C and its state)
-  module _ (opens : OpenedFollows (MutBor D) lent C state) (running : IsRunning (state old)) (last : Reads Done (state new).disk end) (clock : end.clock ≡ (state new).disk.clock) where
+  module _ (opens : OpenedFollows (MutBor D) lent C state) (running : IsRunning (state old)) (last : Reads Done (state new).disk end) (clock : end.clock ≡ (state new).disk.clock)
+      (between : IsLater (state old).disk (state new).disk) where
     abbrev called : (before : MutBor D) → IsReadFrom (lent before) (state old) → Called C state (lent before) end old new
     called before read = record { opened = read.opened; running = running; durable = read.durable; first = read.reads; last = last; clock = clock }
 
-    pub opened_later : OpensCore (MutBor D) lent (lent first) (state old) → IsLater (state old).disk (state new).disk → IsLater (lent first) end
-    opened_later (inl read) between = later_on (lent first) (state old).disk end read.reads.only.later (later_on (state old).disk (state new).disk end between last.only.later)
-    opened_later (inr is) between =
-        later_on (lent first) (lent is.0) end is.1.0.later
-        (later_on (lent is.0) (state old).disk end is.1.1.reads.only.later (later_on (state old).disk (state new).disk end between last.only.later))
+    to_end : IsLater (state old).disk end
+    to_end = later_on (state old).disk (state new).disk end between last.only.later
+
+    read_later : (before : MutBor D) → IsReadFrom (lent before) (state old) → IsLater (lent before) end
+    read_later before read = later_on (lent before) (state old).disk end read.reads.only.later to_end
+
+    pub opened_later : OpensCore (MutBor D) lent (lent first) (state old) → IsLater (lent first) end
+    opened_later (inl read) = read_later first read
+    opened_later (inr is) = later_on (lent first) (lent is.0) end is.1.0.later (read_later is.0 is.1.1)
+
+    -- the same of what was lent
+    made_later : (before : MutBor D) → IsReadFrom (lent before) (state old) → IsLater (view before.now) w
+    made_later before read =
+        let later = read_later before read in
+        later_back _ _ (view before.now) w (below D view before n w later) later
+
+    read_holds : (before : MutBor D) → IsReadFrom (lent before) (state old) → Holds (view before.now) w
+    read_holds before read = holds_back _ _ (view before.now) w (holds C state (lent before) end old new (called before read) to_end)
 
     module _ (command : CommandLine) (given : List ℕ) (ending : Option Ending) (source source_now : SourceView) (sink sink_now : SinkView) where
       -- What it does from the disk on that was read.
@@ -122,10 +139,10 @@ module _ (D : Type 0) (view : D → DiskView) (C : Type 0) (state : C → CoreSt
           → (rs : List Replied) × DoesCommand D view command given rs ending (view first.now) w source source_now sink sink_now
       does_opened (inl read) goes =
           let went = goes first (called first read) in
-          (went.0, does_here D view command given (view first.now) w source source_now sink sink_now went.0 ending (read_runs (lent first) (state old) read) went.1.0 went.1.1 went.1.2)
+          (went.0, does_here D view command given (view first.now) w source source_now sink sink_now went.0 ending (read_runs (lent first) (state old) read) went.1.0 went.1.1 went.1.2 (read_holds first read))
       does_opened (inr is) goes =
           let went = goes is.0 (called is.0 is.1.1) in
-          (went.0, does_made D view command given (view first.now) w source source_now sink sink_now went.0 ending is.0.now (made_there D view first is.0 is.1.0) went.1.0 went.1.1 went.1.2)
+          (went.0, does_made D view command given (view first.now) w source source_now sink sink_now went.0 ending is.0.now (made_there D view first is.0 is.1.0) went.1.0 went.1.1 went.1.2 (made_later is.0 is.1.1))
 
     module _ (ending : Option Ending) (source source_now : SourceView) (sink sink_now : SinkView) where
       pub runs_opened : OpensCore (MutBor D) lent (lent first) (state old)
@@ -136,9 +153,9 @@ module _ (D : Type 0) (view : D → DiskView) (C : Type 0) (state : C → CoreSt
           let runs = read_runs (lent first) (state old) read in (
             went.0,
             record {
-              lines = lines_here ending went.0 (view first.now) w runs went.1.machine;
-              fails_alone = fails_here ending went.0 (view first.now) w runs went.1.fails_alone;
-              way = inl (inl went.1);
+              lines = lines_here D view ending went.0 (view first.now) w runs went.1.machine;
+              fails_alone = fails_here D view ending went.0 (view first.now) w runs went.1.fails_alone;
+              way = inl (inl (went.1, λ free is. read_holds first read));
             },
           )
       runs_opened (inr is) goes =
@@ -146,8 +163,8 @@ module _ (D : Type 0) (view : D → DiskView) (C : Type 0) (state : C → CoreSt
           let made = made_there D view first is.0 is.1.0 in (
             went.0,
             record {
-              lines = lines_made ending went.0 (view first.now) (view is.0.now) made w went.1.machine;
-              fails_alone = fails_made ending went.0 (view first.now) (view is.0.now) made went.1.fails_alone;
-              way = inl (inr (is.0.now, (made, went.1)));
+              lines = lines_made D view ending went.0 (view first.now) is.0.now made w went.1.machine;
+              fails_alone = fails_made D view ending went.0 (view first.now) is.0.now made went.1.fails_alone;
+              way = inl (inr (is.0.now, (made, made_later is.0 is.1.1, went.1)));
             },
           )

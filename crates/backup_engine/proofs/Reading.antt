@@ -67,7 +67,7 @@ since_began P v w leaves c (inr since) =
 pub reads_frame : (command : CommandLine) (ending : Option Ending) (v w : DiskView) → OnlyReads v w → KeepsOthers command ending v w
 reads_frame command ending v w reads = record {
   content = λ old known. (old, reads.content_is ∙ known, kept command ending old);
-  crash = λ old known c since. inl (since_start v w reads c since);
+  crash = λ old known. reads_leave v w reads _;
 }
 
 -- ---- over a map

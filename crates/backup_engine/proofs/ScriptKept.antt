@@ -38,16 +38,17 @@ use Rattle.ingest_session.proofs.Members.{all_then}
 use Rattle.backup_engine.specs.AnyDisk.{ReadsSince}
 use Rattle.backup_engine.specs.Frame.{KeepsAll, LinesKeepOthers}
 use Rattle.backup_engine.specs.Lines.{RunsByMachine, RunsEachMap, RunsNone}
-use Rattle.backup_engine.specs.Promise.{SinceStart}
+use Rattle.backup_engine.specs.Promise.{LeavesMeanwhile}
 use Rattle.backup_engine.specs.Script as script
 use Rattle.backup_engine.specs.Script.{CountsLines, FailsAlone, HasLast, IsNotReopened, IsRunRefusal, IsScriptEnd, KeepsScript, WroteReplies}
 use Rattle.backup_engine.specs.ScriptRuns.{EndsReopening, ScriptRun}
 use Rattle.backup_engine.specs.TopCall.{ending_in}
+use Rattle.backup_engine.proofs.WholeCall.{leaves_more, leaves_of}
 use Rattle.backup_engine.proofs.Called.{Called}
 use Rattle.backup_engine.proofs.GiveRuns.{written_none}
 use Rattle.backup_engine.proofs.LinesRun.{lines_run}
 use Rattle.backup_engine.proofs.NotDone.{IsUnopened, map_fails}
-use Rattle.backup_engine.proofs.Reading.{since_start}
+use Rattle.backup_engine.proofs.Reading.{reads_leave}
 use Rattle.backup_engine.proofs.UnlikeCopies.{shown_since}
 use Rattle.backup_engine.proofs.Unlent.{open_refusal, reads, shows}
 
@@ -104,7 +105,7 @@ module _ (v w : DiskView) (refusal : Refusal) (only : OnlyReads v w) (counted : 
       wrote = wrote_none refusal;
       frame = record {
         content = λ old told. (old, only.content_is ∙ told, inl refl);
-        crash = λ old told c since. inl (since_start v w only c since);
+        crash = λ old told. reads_leave v w only _;
       };
       named = inl ((refusal, refl), refl);
       disk_faults = counted;
@@ -230,22 +231,8 @@ module _ (D : Type 0) (view : D → DiskView) (C : Type 0) (state : C → CoreSt
     abbrev kept_lines : KnownWith last.content (KeepsOver run.rs stands.store base) × CrashLeaves (KeepsOver run.rs stands.store base) found last
     kept_lines = keep run.rs stands.store base r s stands.on stands.told stands.encodes run.runs
 
-    crashed_since : (c : List ℕ) → v.clock < 2 ^ 64 - 1 → last.images_since v.clock c → v.images c ⊎ KeepsAll run.rs base c
-    crashed_since c below since = elim (kept_lines.1.since v.clock c called.first.only.later.clock_is since) [
-      | inl was ↦ elim (called.first.only.since_are v.clock c (omega arith) was) [
-        | inl before_it ↦ inl (v.only_now c below before_it)
-        | inr there ↦ inl there
-      ]
-      | inr written ↦ inr (kept_all c written)
-    ]
-
-    crashed : (c : List ℕ) → SinceStart v w c → v.images c ⊎ KeepsAll run.rs base c
-    crashed c (inl now) = inr (kept_all c (kept_lines.1.now c (called.last.only.images_are c now)))
-    crashed c (inr since) =
-        elim (called.last.only.since_are v.clock c (omega (arith, called.first.only.later.clock_is, later.clock_is)) since.1) [
-          | inl was ↦ crashed_since c since.0 was
-          | inr now ↦ inr (kept_all c (kept_lines.1.now c now))
-        ]
+    crashed : LeavesMeanwhile (KeepsAll run.rs base) v w
+    crashed = leaves_more (KeepsOver run.rs stands.store base) (KeepsAll run.rs base) v w kept_all (leaves_of C state v w r.core s.core called (KeepsOver run.rs stands.store base) later kept_lines.1)
 
   others : LinesKeepOthers run.rs v w
   others = record {
@@ -376,7 +363,7 @@ module _ (loans loans_now : List ℕ) (v w : DiskView) where
     stops = is.stops;
     caused = ends_so (IsRunRefusal rs lent lent_now source source_now) (IsRunRefusal rs v w source source_now) (λ refusal. not_opened refusal rs source source_now) ending rs source source_now sink sink_now is.caused;
     wrote = is.wrote;
-    frame = record { content = is.frame.content; crash = is.frame.crash };
+    frame = record { content = is.frame.content; crash = λ old told. let leaves = is.frame.crash old told in record { now = leaves.now; since = leaves.since } };
     named = named_or (WasShown lent lent_now) (WasShown v w) shown_unlent (WasOpened lent lent_now) (WasOpened v w) (λ store. shows loans loans_now v w (λ image. Encodes image store)) ending rs is.named;
     disk_faults = is.disk_faults;
     source_faults = is.source_faults;

@@ -100,7 +100,7 @@ module _ (loans loans_now : List ℕ) (v w : DiskView) where
   pub reads : (P : List ℕ → Type 0) → ReadsSince lent lent_now P → ReadsSince v w P
   reads P since = record { parts = since.parts; returned = since.returned; known = since.known; shows = since.shows }
 
-  abbrev holds : Holds lent lent_now → Holds v w
+  abbrev pub holds : Holds lent lent_now → Holds v w
   holds is = record { store = is.store; right = on _ is.right; reserve = is.reserve }
 
   abbrev added : (given : List ℕ) → HasAdded given lent lent_now → HasAdded given v w
@@ -260,7 +260,7 @@ module _ (loans loans_now : List ℕ) (v w : DiskView) where
         record { by_map = kept.by_map; wrote = kept.wrote; added = kept.added; left = kept_left command ending among m kept.left; crash = record { now = kept.crash.now; since = kept.crash.since } }
 
     frame_kept : (command : CommandLine) (ending : Option Ending) → KeepsOthers command ending lent lent_now → KeepsOthers command ending v w
-    frame_kept command ending is = record { content = is.content; crash = is.crash }
+    frame_kept command ending is = record { content = is.content; crash = λ old told. let leaves = is.crash old told in record { now = leaves.now; since = leaves.since } }
 
     pub ingest_kept : (ending : Option Ending) → Keeps (Ingest name) given ending lent lent_now source source_now sink sink_now → Keeps (Ingest name) given ending v w source source_now sink sink_now
     ingest_kept ending is = record {

@@ -93,7 +93,7 @@ module _ (S : List ℕ → Type 0) (rs : List Replied) (m : Stored) (start : Lis
 
 -- ---- lines over a store that could run
 
-module _ (ending : Option Ending) (rs : List Replied) where
+module _ (D : Type 0) (view : D → DiskView) (ending : Option Ending) (rs : List Replied) where
   module _ (v w : DiskView) (runs : RunsIfOpened v) where
     none_here : (S : List ℕ → Type 0) (m : Stored) (image : List ℕ) → v.content ≡ Some image → OpensAs S m image → RunsNone ending rs v w → RunsNoLine (OpensAs S m) ending rs v w
     none_here S m image told opens none = record {
@@ -106,11 +106,11 @@ module _ (ending : Option Ending) (rs : List Replied) where
       };
     }
 
-    pub lines_here : RunsEachMap ending rs v w → RunsEachWhole ending rs v w
+    pub lines_here : RunsEachMap ending rs v w → RunsEachWhole D view ending rs v w
     lines_here each image told among m distinct cut opens =
         let can = runs among m image told opens in
         elim (each image told among m distinct (cut image) can) [
-          | inl machine ↦ inl (image, (can, runs_weaker (IsIn among) rs m image v w machine))
+          | inl machine ↦ inl (record { start = image; was = inl told; stands = can; runs = runs_weaker (IsIn among) rs m image v w machine })
           | inr none ↦ inr (none_here (IsIn among) m image told opens none)
         ]
 
@@ -119,7 +119,10 @@ module _ (ending : Option Ending) (rs : List Replied) where
 
   -- ---- or for which room was made
 
-  module _ (v mid : DiskView) (made : RoomMade v mid) where
+  module _ (v : DiskView) (room : D) (made : RoomMade v (view room)) where
+    abbrev mid : DiskView
+    mid = view room
+
     cut_there : (among : ByteSet) (m : Stored) (start : List ℕ) → ((start bytes : List ℕ) → IsCutBy rs (opened m start v.faults) bytes → IsIn among bytes)
         → (bytes : List ℕ) → IsCutBy rs (opened m start mid.faults) bytes → IsIn among bytes
     cut_there among m start cut bytes is = cut start bytes (subst (λ (n : ℕ). IsCutBy rs (opened m start n) bytes) made.faults_are is)
@@ -137,11 +140,16 @@ module _ (ending : Option Ending) (rs : List Replied) where
           });
         }
 
-    pub lines_made : (w : DiskView) → RunsEachMap ending rs mid w → RunsEachWhole ending rs v w
+    pub lines_made : (w : DiskView) → RunsEachMap ending rs mid w → RunsEachWhole D view ending rs v w
     lines_made w each old told among m distinct cut opens =
         let there = made_stands v mid made old told among m opens in
         elim (each there.0 there.1 among m distinct (cut_there among m there.0 cut) there.2) [
-          | inl machine ↦ inl (there.0, (there.2, runs_earlier (IsIn among) rs m there.0 v mid w made.later.clock_is made.faults_are (room_leaves v mid made old told among m opens) (runs_weaker (IsIn among) rs m there.0 mid w machine)))
+          | inl machine ↦ inl (record {
+            start = there.0;
+            was = inr (room, (made, there.1));
+            stands = there.2;
+            runs = runs_earlier (IsIn among) rs m there.0 v mid w made.later.clock_is made.faults_are (room_leaves v mid made old told among m opens) (runs_weaker (IsIn among) rs m there.0 mid w machine);
+          })
           | inr none ↦ inr (none_made w among m old told opens none)
         ]
 
@@ -152,8 +160,8 @@ module _ (ending : Option Ending) (rs : List Replied) where
 
 -- ---- the store was not opened
 
-module _ (refusal : Refusal) (v w : DiskView) where
-  pub lines_unread : IsNotRead refusal v w → IsNotFull refusal → RunsEachWhole (Some (Refused refusal)) [] v w
+module _ (D : Type 0) (view : D → DiskView) (refusal : Refusal) (v w : DiskView) where
+  pub lines_unread : IsNotRead refusal v w → IsNotFull refusal → RunsEachWhole D view (Some (Refused refusal)) [] v w
   lines_unread is not old told among m distinct cut opens = inr (record {
     none = refl;
     failing = (refusal, (refl, unread_fails v w refusal is not old told (IsIn among) m opens));
@@ -161,7 +169,7 @@ module _ (refusal : Refusal) (v w : DiskView) where
     leaves = reads_leave v w is.reads.only _;
   })
 
-  pub lines_unmade : RoomUnmade refusal v w → RunsEachWhole (Some (Refused refusal)) [] v w
+  pub lines_unmade : RoomUnmade refusal v w → RunsEachWhole D view (Some (Refused refusal)) [] v w
   lines_unmade is old told among m distinct cut opens =
       let files = is.files old told among m opens in
       let content = is.content old told in

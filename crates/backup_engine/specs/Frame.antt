@@ -20,7 +20,7 @@ use Rattle.plain_machine.specs.Runs.{Replied}
 use Rattle.script_runner.specs.Frame.{KeepsOver}
 use Rattle.backup_engine.specs.Line.{CommandLine, Format, Ingest, Restore, Delete}
 use Rattle.backup_engine.specs.Line as table
-use Rattle.backup_engine.specs.Promise.{MayChange, SinceStart}
+use Rattle.backup_engine.specs.Promise.{LeavesMeanwhile, MayChange}
 
 -- The content held a store that is opened. The format cell is as it was, and each container slot that was open. So is the journal
 -- but for the cell after its records, and that, too, where the map may not have changed; where it may have, and no cell was free, a
@@ -67,7 +67,7 @@ KeepsRest table.List ending old new = new ≡ old
 -- And so it is of what a crash leaves at any moment, but for what one might have left before.
 pub record KeepsOthers (command : CommandLine) (ending : Option Ending) (disk disk_now : DiskView) : Type 0 where
   pub content : Known disk.content (λ old. KnownWith disk_now.content (KeepsRest command ending old))
-  pub crash : Known disk.content (λ old. (c : List ℕ) → SinceStart disk disk_now c → disk.images c ⊎ KeepsRest command ending old c)
+  pub crash : Known disk.content (λ old. LeavesMeanwhile (KeepsRest command ending old) disk disk_now)
 
 -- ---- lines of a script
 
@@ -85,4 +85,4 @@ KeepsAll rs old new = (new ≡ old) ⊎ KeepsStore rs old new
 
 pub record LinesKeepOthers (rs : List Replied) (disk disk_now : DiskView) : Type 0 where
   pub content : Known disk.content (λ old. KnownWith disk_now.content (KeepsAll rs old))
-  pub crash : Known disk.content (λ old. (c : List ℕ) → SinceStart disk disk_now c → disk.images c ⊎ KeepsAll rs old c)
+  pub crash : Known disk.content (λ old. LeavesMeanwhile (KeepsAll rs old) disk disk_now)

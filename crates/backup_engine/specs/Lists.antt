@@ -171,7 +171,7 @@ RunsByTheMap D view = (among : ByteSet) (m : Stored) (calls : List Call) (last :
     → BeginsOfMap (IsIn among) (calls ++ last ∷ []) m (view old) → CallRun D view calls old mid
     → KeepsCall D view last (view mid) (view new) → last.line ≡ Some Run
     → (found : Stored) × (LeadsTo calls m found × KnownWith (view mid).content (OpensAs (IsIn among) found)
-    × (RunsFrom (IsIn among) last.rs found (view mid) (view new)
+    × (RunsFrom D view (IsIn among) last.rs found (view mid) (view new)
     ⊎ RunsNoLine (OpensAs (IsIn among) found) last.ending last.rs (view mid) (view new)))
 
 -- A crash since the last began leaves what those before it may lead to, or what the last may have come to: so each that was done before

@@ -5,18 +5,18 @@
 use Rattle.std.specs.Prelude.{◌≡◌, ◌⊎◌, ℕ, List, [], Option, Some, None, Result, Ok, Err}
 use Rattle.base_model.specs.Fault.{Rose}
 use Rattle.base_model.specs.Known.{Known, KnownWith, Appended}
-use Rattle.dd_disk.specs.View.{DiskView}
+use Rattle.dd_disk.specs.View.{DiskView, IsLater}
 use Rattle.dd_io.specs.Flow.{SourceView, SinkView, AppendedPart}
 use Rattle.plain_machine.specs.Runs.{Replied}
 use Rattle.refusals.specs.declared.refusal.Refusal.{Refusal}
-use Rattle.refusals.specs.declared.refusal.Refusal.TheVariants.{DiskWrite, Memory}
+use Rattle.refusals.specs.declared.refusal.Refusal.TheVariants.{DiskWrite, Full, Memory}
 use Rattle.reply_text.specs.declared.ending.Ending.{Ending}
 use Rattle.reply_text.specs.declared.ending.Ending.TheVariants.{Words, Refused}
 use Rattle.reply_text.specs.Table.{status_of}
 use Rattle.reply_text.specs.Text.{fault_line}
 use Rattle.recovery.specs.Formatting.{IsLeftByFormat, IsBlankOrFormatted}
-use Rattle.recovery.specs.Room.{FromRoom, RoomUnmade}
-use Rattle.backup_engine.specs.AnyDisk.{OnAnyDisk, Took}
+use Rattle.recovery.specs.Room.{RoomMade, RoomUnmade}
+use Rattle.backup_engine.specs.AnyDisk.{Holds, OnAnyDisk, Took}
 use Rattle.backup_engine.specs.Frame.{KeepsOthers}
 use Rattle.backup_engine.specs.Line.{CommandLine, Format, Ingest, Restore, Delete, TableLine, Single, Run}
 use Rattle.backup_engine.specs.Line as table
@@ -63,7 +63,7 @@ IsUntouched (Format slots) (Some (Refused refusal)) disk disk_now =
     (disk_now.content ≡ disk.content) × (Known disk.content (λ old. (c : List ℕ) → disk_now.images c → disk.images c))
 IsUntouched command ending disk disk_now = Unit {0}
 
--- ---- all of it, over a store that can run
+-- ---- all of it, from the disk on as it was once there was room
 
 pub record Keeps (command : CommandLine) (given : List ℕ) (ending : Option Ending) (disk disk_now : DiskView)
     (source source_now : SourceView) (sink sink_now : SinkView) : Type 0 where
@@ -100,7 +100,17 @@ pub record DoesNothing (ending : Option Ending) (disk disk_now : DiskView) (sour
 
 -- ---- the store is opened
 
--- No room was made, where too few slots were closed: nothing was done.
+-- It is refused because too few slots are closed only where two were closed as the store was opened (`Full`, of a container more).
+abbrev pub NeedsNoRoom : Option Ending → DiskView → DiskView → Type 0
+NeedsNoRoom ending disk disk_now = (free : ℕ) → ending ≡ Some (Refused (Full free)) → Holds disk disk_now
+
+-- P holds from the disk as it was once there was room: as it was found, where that needed none; or once room was made.
+abbrev pub OnceThereWasRoom : (D : Type 0) → (D → DiskView) → (DiskView → Type 0) → Option Ending → DiskView → DiskView → Type 0
+OnceThereWasRoom D view P ending disk disk_now =
+    (P disk × NeedsNoRoom ending disk disk_now) ⊎ ((mid : D) × (RoomMade disk (view mid) × IsLater (view mid) disk_now × P (view mid)))
+
+-- No room was made, where too few slots were closed: no line was run. Where a write or a sync failed, containers may have been given
+-- back.
 pub record MakesNoRoom (rs : List Replied) (ending : Option Ending) (disk disk_now : DiskView) (source source_now : SourceView)
     (sink sink_now : SinkView) : Type 0 where
   pub refusal : Refusal
@@ -115,18 +125,18 @@ pub record MakesNoRoom (rs : List Replied) (ending : Option Ending) (disk disk_n
 pub record DoesCommand (D : Type 0) (view : D → DiskView) (command : CommandLine) (given : List ℕ) (rs : List Replied)
     (ending : Option Ending) (disk disk_now : DiskView) (source source_now : SourceView) (sink sink_now : SinkView) : Type 0 where
   pub whole : KeepsEachWhole command given ending disk disk_now sink sink_now
-  pub lines : RunsEachWhole ending rs disk disk_now
+  pub lines : RunsEachWhole D view ending rs disk disk_now
   pub took : Took command given ending source source_now
-  pub way : FromRoom D view (λ v. Keeps command given ending v disk_now source source_now sink sink_now
-      × SpeaksAs command given ending rs v disk_now source source_now sink sink_now) disk
+  pub way : OnceThereWasRoom D view (λ v. Keeps command given ending v disk_now source source_now sink sink_now
+      × SpeaksAs command given ending rs v disk_now source source_now sink sink_now) ending disk disk_now
       ⊎ MakesNoRoom rs ending disk disk_now source source_now sink sink_now
 
 -- The lines of the script that the source has.
 pub record RunsScript (D : Type 0) (view : D → DiskView) (rs : List Replied) (ending : Option Ending) (disk disk_now : DiskView)
     (source source_now : SourceView) (sink sink_now : SinkView) : Type 0 where
-  pub lines : RunsEachWhole ending rs disk disk_now
+  pub lines : RunsEachWhole D view ending rs disk disk_now
   pub fails_alone : FailsAloneWhole ending rs disk
-  pub way : FromRoom D view (λ v. KeepsScript rs ending v disk_now source source_now sink sink_now) disk
+  pub way : OnceThereWasRoom D view (λ v. KeepsScript rs ending v disk_now source source_now sink sink_now) ending disk disk_now
       ⊎ MakesNoRoom rs ending disk disk_now source source_now sink sink_now
 
 -- What a line of the table does. A disk is anything that has a view.

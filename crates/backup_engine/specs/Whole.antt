@@ -6,6 +6,7 @@ use Rattle.dd_disk.specs.View.{DiskView}
 use Rattle.dd_io.specs.Flow.{SinkView}
 use Rattle.plain_machine.specs.Machine.{opened}
 use Rattle.plain_machine.specs.Runs.{Replied}
+use Rattle.recovery.specs.Room.{RoomMade}
 use Rattle.refusals.specs.declared.refusal.Refusal.{Refusal}
 use Rattle.reply_text.specs.declared.ending.Ending.{Ending}
 use Rattle.reply_text.specs.declared.ending.Ending.TheVariants.{Refused}
@@ -24,7 +25,8 @@ EndsFailing ending = (refusal : Refusal) × ((ending ≡ Some (Refused refusal))
 
 -- ---- a single command
 
--- Over a content that can be opened as the map m the command answers by the map, and leaves it as it was or as it is after the command, at
+-- Over a content that can be opened as the map m the command answers by the map, or fails for want of memory or as a call of the disk
+-- failed; and it leaves it as it was or as it is after the command, at
 -- the end and at every moment before, but for what a crash might have left before it.
 pub record KeepsWhole (S : List ℕ → Type 0) (command : CommandLine) (given : List ℕ) (ending : Option Ending) (m : Stored)
     (disk disk_now : DiskView) (sink sink_now : SinkView) : Type 0 where
@@ -49,18 +51,27 @@ pub record RunsNoLine (Is : List ℕ → Type 0) (ending : Option Ending) (rs : 
   pub content : KnownWith disk_now.content Is
   pub leaves : LeavesMeanwhile Is disk disk_now
 
--- The lines are a run of the plain machine: from a content of the same files, which was that of the disk, or what it was once containers
--- were given back; of all moments of the call, also those before.
-abbrev pub RunsFrom : (List ℕ → Type 0) → List Replied → Stored → DiskView → DiskView → Type 0
-RunsFrom S rs m disk disk_now = (start : List ℕ) × (IsOf S m start × RunsBy (OpensAs S) rs m start disk disk_now)
+-- this was the content of the disk, or is what it was once room was made
+abbrev pub WasStart : (D : Type 0) → (D → DiskView) → List ℕ → DiskView → Type 0
+WasStart D view start disk =
+    (disk.content ≡ Some start) ⊎ ((mid : D) × (RoomMade disk (view mid) × ((view mid).content ≡ Some start)))
+
+-- The lines are a run of the plain machine, from that content, which is of the same files; so it is of all moments of the call, also of
+-- those before.
+pub record RunsFrom (D : Type 0) (view : D → DiskView) (S : List ℕ → Type 0) (rs : List Replied) (m : Stored) (disk disk_now : DiskView)
+    : Type 0 where
+  pub start : List ℕ
+  pub was : WasStart D view start disk
+  pub stands : IsOf S m start
+  pub runs : RunsBy (OpensAs S) rs m start disk disk_now
 
 -- So it is over a disk that tells its content and can be opened as files, where no two different data segments have one digest: of a set
 -- of those that the disk holds and that are cut on the way.
-abbrev pub RunsEachWhole : Option Ending → List Replied → DiskView → DiskView → Type 0
-RunsEachWhole ending rs disk disk_now =
+abbrev pub RunsEachWhole : (D : Type 0) → (D → DiskView) → Option Ending → List Replied → DiskView → DiskView → Type 0
+RunsEachWhole D view ending rs disk disk_now =
     Known disk.content (λ image. (among : ByteSet) (m : Stored) → HasNoCollisions (IsIn among)
     → ((start bytes : List ℕ) → IsCutBy rs (opened m start disk.faults) bytes → IsIn among bytes) → OpensAs (IsIn among) m image
-    → RunsFrom (IsIn among) rs m disk disk_now ⊎ RunsNoLine (OpensAs (IsIn among) m) ending rs disk disk_now)
+    → RunsFrom D view (IsIn among) rs m disk disk_now ⊎ RunsNoLine (OpensAs (IsIn among) m) ending rs disk disk_now)
 
 -- And a refusal ends it only where there was no memory, or a call of the disk failed.
 abbrev pub FailsAloneWhole : Option Ending → List Replied → DiskView → Type 0

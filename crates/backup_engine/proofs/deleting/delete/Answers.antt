@@ -90,11 +90,11 @@ returns g c =
     subst (λ (reply : List ℕ). DeleteRun _ _ name reply result core core_now sink sink_now) (c.deref.ensures.value ∙ c.in_ok-reply.ensures ∙ ap deleted_line c.as_bytes.ensures.value) c.delete_name-deleted.ensures.ran in
     let are = IsDelete c.args.name.now (ending_in result) sink sink_now in
     let first : MutBor g.row.D.Denot = record { ref_ptr = c.args.disk.ref_ptr; ghost_name = _; now = c.args.disk.now } in
-    let later = opened_later _ view _ _ first _ w core core_now opens is.running closed.disk closed.moment is.opened (delete_later _ _ core core_now name _ result sink sink_now ran) in
+    let later = opened_later _ view _ _ first _ w core core_now opens is.running closed.disk closed.moment (delete_later _ _ core core_now name _ result sink sink_now ran) is.opened in
     let named = first_same c.close-disk.result.ghost_name _ _ _ later.loans_are in
     record {
       does = λ source. by_same (λ d. (rs : List Replied) × DoesCommand _ view (Delete c.args.name.now) [] rs (ending_in result) (view c.args.disk.now) (view d) source source sink sink_now) _ c.close-disk.result.now (search (rules, named))
-          (does_opened _ view _ _ first _ w core core_now opens is.running closed.disk closed.moment (Delete c.args.name.now) [] (ending_in result) source source sink sink_now is.opened
+          (does_opened _ view _ _ first _ w core core_now opens is.running closed.disk closed.moment (delete_later _ _ core core_now name _ result sink sink_now ran) (Delete c.args.name.now) [] (ending_in result) source source sink sink_now is.opened
           (λ before called.
           let said = run_speaks _ _ _ _ before _ _ _ called opens follows are (ending_in result) sink sink_now (delete_actors name (ending_in result) sink sink_now) (delete_lines _ _ core core_now stop_is name result sink sink_now ran) in
           let speaks = speaks_back _ _ (view before.now) w are (ending_in result) said.0 sink sink_now said.1 in (

@@ -74,10 +74,10 @@ returns g c =
     let w = view c.close-disk.result.now in
     let are = IsIngest name ran.given (ending_in result) source source_now in
     let first : MutBor g.row.D.Denot = record { ref_ptr = c.args.disk.ref_ptr; ghost_name = _; now = c.args.disk.now } in
-    let later = opened_later _ view _ _ first _ w c.in-Ok.core c.store_source-stored.new.core c.an_opened_core_follows.ensures is.running closed.disk closed.moment is.opened
-    (ingest_later _ _ name result c.in-Ok.core c.store_source-stored.new.core source source_now sink sink_now ran) in
+    let later = opened_later _ view _ _ first _ w c.in-Ok.core c.store_source-stored.new.core c.an_opened_core_follows.ensures is.running closed.disk closed.moment
+    (ingest_later _ _ name result c.in-Ok.core c.store_source-stored.new.core source source_now sink sink_now ran) is.opened in
     let named = first_same c.close-disk.result.ghost_name _ _ _ later.loans_are in
-    let done = does_opened _ view _ _ first _ w c.in-Ok.core c.store_source-stored.new.core c.an_opened_core_follows.ensures is.running closed.disk closed.moment (Ingest name) ran.given (ending_in result) source source_now sink sink_now is.opened
+    let done = does_opened _ view _ _ first _ w c.in-Ok.core c.store_source-stored.new.core c.an_opened_core_follows.ensures is.running closed.disk closed.moment (ingest_later _ _ name result c.in-Ok.core c.store_source-stored.new.core source source_now sink sink_now ran) (Ingest name) ran.given (ending_in result) source source_now sink sink_now is.opened
     (λ before called.
     let said = run_speaks _ _ _ _ before _ _ _ called c.an_opened_core_follows.ensures c.scripts_follow_the_machine.ensures are (ending_in result) sink sink_now
     (ingest_actors name ran.given (ending_in result) source source_now) ran.lines_are in

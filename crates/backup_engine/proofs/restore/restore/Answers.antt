@@ -74,13 +74,13 @@ returns g c =
     let core_now = c.give_out-given.new.core in
     let are = IsRestore name (ending_in result) sink sink_now in
     let first : MutBor g.row.D.Denot = record { ref_ptr = c.args.disk.ref_ptr; ghost_name = _; now = c.args.disk.now } in
-    let later = opened_later _ view _ _ first _ w core core_now c.an_opened_core_follows.ensures is.running closed.disk closed.moment is.opened
-    (give_later _ _ name result core core_now sink sink_now ran) in
+    let later = opened_later _ view _ _ first _ w core core_now c.an_opened_core_follows.ensures is.running closed.disk closed.moment
+    (give_later _ _ name result core core_now sink sink_now ran) is.opened in
     let named = first_same c.close-disk.result.ghost_name _ _ _ later.loans_are in
     let lines = given_lines _ _ name core (opened_fresh _ _ _ _ is.opened is.running) core_now sink sink_now result ran in
     record {
       does = λ source. by_same (λ d. (rs : List Replied) × DoesCommand _ view (Restore name) [] rs (ending_in result) (view c.args.disk.now) (view d) source source sink sink_now) _ c.close-disk.result.now (search (rules, named))
-          (does_opened _ view _ _ first _ w core core_now c.an_opened_core_follows.ensures is.running closed.disk closed.moment (Restore name) [] (ending_in result) source source sink sink_now is.opened
+          (does_opened _ view _ _ first _ w core core_now c.an_opened_core_follows.ensures is.running closed.disk closed.moment (give_later _ _ name result core core_now sink sink_now ran) (Restore name) [] (ending_in result) source source sink sink_now is.opened
           (λ before called.
           let said = run_speaks _ _ _ _ before _ _ _ called c.an_opened_core_follows.ensures c.scripts_follow_the_machine.ensures are (ending_in result) sink sink_now (restore_actors name (ending_in result) sink sink_now) lines in
           let speaks = speaks_back _ _ (view before.now) w are (ending_in result) said.0 sink sink_now said.1 in

@@ -74,11 +74,11 @@ returns g c =
     let run = c.run_lines-ran.ensures in
     let first : MutBor g.row.D.Denot = record { ref_ptr = c.args.disk.ref_ptr; ghost_name = _; now = c.args.disk.now } in
     let between = later_by _ _ _ _ opens core core_now r.core s.core c.new-runner.ensures.core c.into_core.ensures.core (c.lines_go_on.ensures run.rs r s run.runs).later in
-    let later = opened_later _ view _ _ first _ w core core_now opens is.running closed.disk closed.moment is.opened between in
+    let later = opened_later _ view _ _ first _ w core core_now opens is.running closed.disk closed.moment between is.opened in
     let named = first_same c.close-disk.result.ghost_name _ _ _ later.loans_are in
     record {
       runs = by_same (λ d. (rs : List Replied) × RunsScript _ view rs (ending_in result) (view c.args.disk.now) (view d) source source_now sink sink_now) _ c.close-disk.result.now (search (rules, named))
-          (runs_opened _ view _ _ first _ w core core_now opens is.running closed.disk closed.moment (ending_in result) source source_now sink sink_now is.opened
+          (runs_opened _ view _ _ first _ w core core_now opens is.running closed.disk closed.moment between (ending_in result) source source_now sink sink_now is.opened
           (λ before whole.
           let called = called_by _ _ _ _ core core_now r.core s.core whole c.new-runner.ensures.core c.into_core.ensures.core in
           let kept =

@@ -43,7 +43,7 @@ use Rattle.backup_engine.specs.Promise.{MayChange, WroteReply}
 use Rattle.backup_engine.proofs.Called.{Called}
 use Rattle.backup_engine.proofs.DeleteMap.{is_none}
 use Rattle.backup_engine.proofs.NotDone.{holds}
-use Rattle.backup_engine.proofs.PutCauses.{opened_on}
+use Rattle.backup_engine.proofs.PutNames.{opened_on}
 use Rattle.backup_engine.proofs.ReadSteps.{steps_of}
 use Rattle.backup_engine.proofs.Reading.{reads_frame}
 use Rattle.backup_engine.proofs.Replied.{IsReplied, replied_faults}

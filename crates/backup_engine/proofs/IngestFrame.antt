@@ -1,9 +1,8 @@
 -- What `ingest` never changes, whatever the disk holds: all of the call.
-use Rattle.std.proofs.Common.{◌≡◌, ◌⊎◌, inl, inr, ℕ, ◌≤◌, List, Option, Some, None, Result, Ok, Err, sym, ◌∙◌, subst, arith}
+use Rattle.std.proofs.Common.{◌≡◌, inl, inr, ℕ, ◌≤◌, List, Option, Some, None, Result, Ok, Err, sym, ◌∙◌, subst}
 use Rattle.disk_format.specs.declared.numbers.TheConstants.{RESERVE}
 use Rattle.dd_disk.specs.View.{DiskView, IsLater}
-use Rattle.dd_disk.proofs.Later.{reads_here, reads_leave, leaves_weaker}
-use Rattle.dd_disk.proofs.Shows.{shown_content}
+use Rattle.dd_disk.proofs.Later.{leaves_weaker}
 use Rattle.dd_io.specs.Flow.{SourceView, SinkView}
 use Rattle.refusals.specs.declared.refusal.Refusal.{Refusal}
 use Rattle.refusals.specs.declared.refusal.Refusal.TheVariants.{Memory, TooLong}
@@ -21,11 +20,11 @@ use Rattle.backup_engine.specs.Promise.{LeavesMeanwhile, MayChange}
 use Rattle.backup_engine.specs.Running.{PutRun}
 use Rattle.backup_engine.specs.Storing.{IsSourceFault, Replies, IngestRun}
 use Rattle.backup_engine.specs.TopCall.{ending_in}
-use Rattle.backup_engine.proofs.Called.{Called, settled}
-use Rattle.backup_engine.proofs.KeptBytes.{KeepsSlots, free_held, slots_here}
-use Rattle.backup_engine.proofs.PutCauses.{opened_on, run_later}
+use Rattle.backup_engine.proofs.Called.{Called}
+use Rattle.backup_engine.proofs.PutCauses.{run_later}
 use Rattle.backup_engine.proofs.PutChanges.{EndsBy, ways_of}
 use Rattle.backup_engine.proofs.PutFrame.{Leaves, IsFramed, framed_way, framed_open, last_put, last_refused}
+use Rattle.backup_engine.proofs.PutNames.{opened_framed, opened_right}
 use Rattle.backup_engine.proofs.WholeCall.{leaves_more, leaves_of}
 
 module _ (C : Type 0) (state : C → CoreState) (v w : DiskView) (old new : C) (called : Called C state v w old new) where
@@ -37,27 +36,13 @@ module _ (C : Type 0) (state : C → CoreState) (v w : DiskView) (old new : C) (
 
   module _ (base : List ℕ) (known : v.content ≡ Some base) where
     encodes : Encodes base store
-    encodes = shown_content v (state old).disk (λ image. Encodes image store) base called.opened.right known
+    encodes = opened_right C state v w old new called base known
 
     reserve : RESERVE ≤ free_slots store.held
     reserve = called.opened.reserve
 
-    told : (state old).disk.content ≡ Some base
-    told = called.first.only.content_is ∙ known
-
-    framed : IsFramed store base (state old).disk (state old)
-    framed = record {
-      store = store;
-      on = opened_on C state v w old new called;
-      held = record {
-        free = free_held base store encodes;
-        content = (base, told, slots_here store.slots base);
-        settled = settled C state v w old new called store.slots;
-      };
-      clock = omega arith;
-      images = reads_leave (KeepsSlots store.slots base) (state old).disk (state old).disk
-          (λ c image. subst (KeepsSlots store.slots base) (sym (called.durable base told c image)) (slots_here store.slots base)) (reads_here (state old).disk);
-    }
+    abbrev framed : IsFramed store base (state old).disk (state old)
+    framed = opened_framed C state v w old new called base known
 
     put_left : (name bytes : List ℕ) (ending : Option Ending) → MayChange ending → PutRun C state name bytes (Ok tt) old new → Left name base ending
     put_left name bytes ending may run =

@@ -96,6 +96,10 @@ module _ (first store : Store) (is : store ≡ record first { held = store.held 
       let has = subst (λ (s : Store). HasJournal (with_change name change s) image) is stands in
       record { holds = has.holds; other = has.other; past = has.past }
 
+  pub change_later : (name : List ℕ) (change : Change) (image : List ℕ) → HasJournal (with_change name change first) image → HasJournal (with_change name change store) image
+  change_later name change image has =
+      subst (λ (s : Store). HasJournal (with_change name change s) image) (sym is) (record { holds = has.holds; other = has.other; past = has.past })
+
 -- its first free slot is closed there
 pub first_is_shut : (first : Store) (base : List ℕ) (store : Store) → IsFreeIn first base store → first_free store.held < length store.held → byte_at (slot_at (first_free store.held)) base ≢ CONTAINER_GATE
 first_is_shut first base store free within = first_shut (first_free store.held) 0 store.held base (omega arith) within free.free

@@ -40,6 +40,7 @@ pub mod PutChanges
 pub mod PutEnds
 pub mod PutFrame
 pub mod PutMaps
+pub mod PutNames
 pub mod PutStops
 pub mod ReadSteps
 pub mod Reading

@@ -16,7 +16,7 @@ use Rattle.refusals.specs.declared.refusal.Refusal.TheVariants.{Memory, DiskRead
 use Rattle.reply_text.specs.declared.ending.Ending.{Ending}
 use Rattle.reply_text.specs.declared.ending.Ending.TheVariants.{Source, Sink, Refused}
 use Rattle.reply_text.specs.Text.{stored_line}
-use Rattle.store_model.specs.Image.{Store, IsValidFor, names_of}
+use Rattle.store_model.specs.Image.{Store, names_of}
 use Rattle.disk_format.specs.Cells.{Root}
 use Rattle.disk_format.specs.Cells.Change.{Put}
 use Rattle.store_model.specs.Steps.{StoreChange, CanChangeName, with_change}
@@ -36,6 +36,7 @@ use Rattle.backup_engine.specs.Storing.{IsReadOut, Replies, IsStopped, IsTaken, 
 use Rattle.backup_engine.specs.TopCall.{ending_in}
 use Rattle.backup_engine.proofs.Called.{Called}
 use Rattle.backup_engine.proofs.PutChanges.{IsOn, Puts, EndsBy, IsWayStep, AreUnless, last_is, ways_of, put_changes}
+use Rattle.backup_engine.proofs.PutNames.{names_with, opened_on}
 use Rattle.backup_engine.proofs.UnlikeNodes.{reads_wider, unlike_so}
 use Rattle.backup_engine.proofs.WayCommits.{has_room}
 
@@ -85,15 +86,8 @@ module _ (C : Type 0) (state : C → CoreState) (v w : DiskView) (old new : C) (
   abbrev store : Store
   store = called.opened.store
 
-  -- the core is on the store that was opened
-  pub opened_on : IsOn store (state old)
-  opened_on = record {
-    represents = called.opened.represents;
-    valid = subst (λ (size : ℕ). IsValidFor size store) (sym called.first.only.later.size_is) called.opened.valid;
-    reserve = called.opened.reserve;
-    told = called.opened.told;
-    runs = called.opened.stop_is;
-  }
+  abbrev on : IsOn store (state old)
+  on = opened_on C state v w old new called
 
   abbrev pub holds : IsLater (state old).disk (state new).disk → Holds v w
   holds later = record {
@@ -146,13 +140,13 @@ module _ (C : Type 0) (state : C → CoreState) (v w : DiskView) (old new : C) (
 
       module _ (result : Result Unit Refusal) (run : PutRun C state name given result old new) where
         abbrev puts : Puts name run.steps result store (state new)
-        puts = put_changes C state name given store result old new opened_on run
+        puts = put_changes C state name given store result old new on run
 
         abbrev later : IsLater (state old).disk (state new).disk
         later = run_later C state (events_of run.steps) old new run.ran
 
         abbrev added : HasAdded given v w
-        added = has_added given later (seals_of run.steps) puts.after puts.chain (run.adds.store_has store called.opened.represents (opened_on).valid called.opened.reserve)
+        added = has_added given later (seals_of run.steps) puts.after puts.chain (run.adds.store_has store called.opened.represents (on).valid called.opened.reserve)
 
       stored : (run : PutRun C state name given (Ok tt) old new) → length given ≤ MOST_FILE → HoldsPieces name given (state new) → IsStored name given v w
       stored run few held =
@@ -166,6 +160,7 @@ module _ (C : Type 0) (state : C → CoreState) (v w : DiskView) (old new : C) (
               place = has_place (puts (Ok tt) run).after ends.root ends.can;
             };
             numbers = record { sequence = ends.can.number; generation = ends.can.rise };
+            names = λ base known has. names_with C state v w old new called base known name given run has;
           }
 
       -- the file was put in

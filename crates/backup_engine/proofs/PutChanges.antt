@@ -299,6 +299,7 @@ EndsAt name (Err refusal) after new = AreUnless refusal after new
 pub record Puts (name : List ℕ) (steps : List FileEvent) (result : Result Unit Refusal) (s : Store) (new : CoreState) : Type 0 where
   pub after : Store
   pub chain : ChangesTo (seals_of steps) s after
+  pub seals : AllByRecursion IsSeal (seals_of steps)
   pub ends : EndsAt name result after new
 
 unless : (refusal : Refusal) (s : Store) (c : CoreState) → AreOf s c → AreUnless refusal s c
@@ -380,5 +381,6 @@ put_changes C state name bytes s result old new on run =
     record {
       after = sealed.after;
       chain = subst (λ (changes : List StoreChange). ChangesTo changes s sealed.after) (sym ways.seals_are) sealed.chain;
+      seals = subst (AllByRecursion IsSeal) (sym ways.seals_are) sealed.seals;
       ends = ends_at C state name bytes sealed.after result ways.mid new sealed.on ways.last;
     }

@@ -6,7 +6,9 @@ use Rattle.disk_format.specs.declared.numbers.TheConstants.{RESERVE}
 use Rattle.disk_format.specs.Cells.{Root}
 use Rattle.disk_format.specs.Cells.Change.{Put}
 use Rattle.dd_disk.specs.View.{DiskView, OnlyReads, CrashLeaves, SteppedFrom}
+use Rattle.dd_disk.specs.Moves.{StandsFor}
 use Rattle.dd_disk.proofs.Later.{reads_here, reads_leave, leaves_on, leaves_weaker}
+use Rattle.dd_disk.proofs.Moves.{stands_weaker}
 use Rattle.container_meta.specs.Segments.{Contents}
 use Rattle.actor_parts.specs.declared.step.Answer.{Answer}
 use Rattle.actor_parts.specs.StepValue as asked
@@ -19,6 +21,7 @@ use Rattle.store_model.specs.Image.{Store, Encodes}
 use Rattle.store_model.specs.Slots.{free_slots, first_free}
 use Rattle.store_model.specs.Standing.{HasJournal}
 use Rattle.store_model.specs.Steps.{with_change}
+use Rattle.store_model.specs.Trees.{root_of}
 use Rattle.store_model.proofs.Free.{some_free}
 use Rattle.store_model.proofs.Journaled.{has_kept}
 use Rattle.store_state.specs.Settled.{IsSettled}
@@ -32,7 +35,7 @@ use Rattle.backup_engine.specs.Frame.{KeepsOpen}
 use Rattle.backup_engine.specs.Promise.{MayChange}
 use Rattle.backup_engine.specs.Running.{IsAskedFor, IsNoCommit, IsOk, IsLastPut, seal_by}
 use Rattle.backup_engine.proofs.KeptBytes.{IsFreeIn, KeepsSlots, free_sealed, first_is_shut, slots_settled, slots_sealed, journal_later, still_first, change_first, open_kept, open_next}
-use Rattle.backup_engine.proofs.PutChanges.{IsOn, IsPutLast, IsStepRefused, IsWayStep, way_step, running_step}
+use Rattle.backup_engine.proofs.PutChanges.{IsOn, IsPutLast, IsStepRefused, IsWayStep, last_is, way_step, running_step}
 
 -- ---- one step
 
@@ -93,6 +96,19 @@ module _ (first : Store) (base : List ℕ) (t : Store) (old new : CoreState) (on
   seal_settled filled answer effect =
       subst (λ (n : ℕ). IsSettled n new.disk) tables_slots (effect.disk.left (subst (λ (n : ℕ). IsSettled n old.disk) (sym tables_slots) held.settled))
 
+  -- the journal of an image on the way
+  has_on : (c : List ℕ) → KeepsSlots slots base c → HasJournal first base → HasJournal t c
+  has_on c keeps_there has = journal_later first t held.free.rest_is c (has_kept first base c keeps_there.front has)
+
+  -- where a name was given a root each image has it
+  pub root_given : (name : List ℕ) (root : Root) (answer : Answer) → NamesOne name (Put root) (Ok answer) old new → HasJournal first base
+      → StandsFor (HasJournal (with_change name (Put root) first)) new.disk
+  root_given name root answer effect has =
+      let stands : StandsFor (HasJournal t) old.disk = record { known = (given, known); each = λ c image. has_on c (image_keeps c image) has } in
+      let moved = effect.moves.journal t on.represents.names_are stands in
+      stands_weaker (HasJournal (with_change name (Put root) t)) (HasJournal (with_change name (Put root) first)) new.disk
+      (λ c put. change_first first t held.free.rest_is name (Put root) c put) moved.arrives
+
   -- a record was written, or in part
   module _ (name : List ℕ) (ending : Option Ending) (right : Encodes base first) (reserve : RESERVE ≤ free_slots first.held) where
     abbrev Open : List ℕ → Type 0
@@ -110,10 +126,6 @@ module _ (first : Store) (base : List ℕ) (t : Store) (old new : CoreState) (on
     module _ (may : MayChange ending) (root : Root) where
       abbrev Changes : List ℕ → List ℕ → Type 0
       Changes = ChangesBytes old.tables name (Put root) given
-
-      -- the journal of an image on the way
-      has_on : (c : List ℕ) → KeepsSlots slots base c → HasJournal first base → HasJournal t c
-      has_on c keeps_there has = journal_later first t held.free.rest_is c (has_kept first base c keeps_there.front has)
 
       names_next : (d c : List ℕ) → KeepsSlots slots base d → Changes d c → HasJournal first base
           → StandsStill HasJournal first c ⊎ ((r : Root) × HasJournal (with_change name (Put r) first) c)
@@ -194,6 +206,27 @@ module _ (first : Store) (base : List ℕ) where
     framed_way C state [] old new framed run each = subst (λ (c : C). IsFramed first base start (state c)) (sym run) framed
     framed_way C state (f ∷ fs) old new framed run each =
         framed_way C state fs run.0 new (framed_step f (state old) (state run.0) framed run.1.0 each.0) run.1.1 each.1
+
+    -- ---- the name, whatever containers hold
+
+    module _ (old new : CoreState) (framed : IsFramed first base start old) where
+      abbrev HasPut : List ℕ → Root → Type 0
+      HasPut n root = StandsFor (HasJournal (with_change n (Put root) first)) new.disk
+
+      commit_named : (put n : List ℕ) (root : Root) (answer : Result Answer Refusal) → IsLastPut (asked.Commit n root) answer → IsAskedFor name bytes (asked.Commit n root) put → NamesOne n (Put root) answer old new
+          → HasJournal first base → HasPut name (root_of bytes)
+      commit_named put n root (Err refusal) last asks effect has = absurd last
+      commit_named put n root (Ok answer) last asks effect has =
+          subst (λ (r : Root). HasPut name r) asks.1
+          (subst (λ (x : List ℕ). HasPut x root) asks.0 (root_given first base framed.store old new framed.on framed.held n root answer effect has))
+
+      pub last_named : IsPutLast name bytes old new → HasJournal first base → StandsFor (HasJournal (with_change name (Put (root_of bytes)) first)) new.disk
+      last_named last has =
+          let e = last.f.event in
+          let steps = running_step old new e framed.on.runs last.made in
+          last_is (λ step answer. IsAskedFor name bytes step last.f.bytes → Effect step answer old new → HasPut name (root_of bytes))
+          (λ n root answer is asks effect. commit_named last.f.bytes n root answer is asks effect has)
+          e.step e.answer last.last last.put_step.asked_for steps.made.effect
 
 -- ---- the last step
 

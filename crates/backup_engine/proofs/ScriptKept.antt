@@ -1,5 +1,5 @@
 -- What `run` keeps, from the lines that were run.
-use Rattle.std.proofs.Common.{◌≡◌, ◌⊎◌, inl, inr, ◌<◌, ◌-◌, ◌^◌, ℕ, List, [], ◌∷◌, ◌++◌, IsTrue, Option, Some, None, Result, replicate, refl, sym, ◌∙◌, subst, arith}
+use Rattle.std.proofs.Common.{◌≡◌, ◌⊎◌, inl, inr, ℕ, List, [], ◌∷◌, ◌++◌, IsTrue, Option, Some, None, Result, replicate, refl, sym, ◌∙◌, subst, arith}
 use Rattle.dd_disk.specs.Ending.{Reads, CountsFault, ending_of}
 use Rattle.dd_disk.specs.Shows.{Shows}
 use Rattle.dd_disk.specs.View.{CrashLeaves, DiskView, IsLater, OnlyReads}

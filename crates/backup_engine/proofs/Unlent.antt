@@ -167,7 +167,12 @@ module _ (loans loans_now : List ℕ) (v w : DiskView) where
         inr (added given added_there, inr (unlike_so (ReadsSince lent lent_now) (ReadsSince v w) reads given added_there.after refusal is))
 
     ingest_done : IsStored name given lent lent_now → IsStored name given v w
-    ingest_done is = record { added = added given is.added; all = is.all; numbers = is.numbers }
+    ingest_done is = record {
+      added = added given is.added;
+      all = is.all;
+      numbers = is.numbers;
+      names = λ old told has. let stands = is.names old told has in record { known = stands.known; each = stands.each };
+    }
 
     ingest_caused : (ending : Option Ending) → IsCaused (Ingest name) given lent lent_now source source_now sink sink_now ending → IsCaused (Ingest name) given v w source source_now sink sink_now ending
     ingest_caused None is = ingest_done is

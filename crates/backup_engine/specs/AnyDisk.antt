@@ -9,7 +9,7 @@ use Rattle.disk_format.specs.declared.numbers.TheConstants.{FORMAT_GATE, RESERVE
 use Rattle.disk_format.specs.Layout.{IsSlotCount, size_of}
 use Rattle.namespace.specs.Listing.{listing_of}
 use Rattle.disk_format.specs.Cells.{Root}
-use Rattle.disk_format.specs.Cells.Change.{Delete as Gone}
+use Rattle.disk_format.specs.Cells.Change.{Put, Delete as Gone}
 use Rattle.dd_disk.specs.View.{DiskView, IsDurable}
 use Rattle.dd_disk.specs.Moves.{StandsFor}
 use Rattle.dd_disk.specs.Ending.{NoCall, Done, CountsFault, ending_of}
@@ -145,11 +145,14 @@ IsRefused table.List given disk disk_now source source_now sink sink_now DiskRea
 IsRefused table.List given disk disk_now source source_now sink sink_now DiskWrite = Unit {0}
 IsRefused table.List given disk disk_now source source_now sink sink_now refusal = IsOpenRefusal (Shows disk disk_now) disk.size refusal
 
--- An `ingest` that was done: each piece of the file is held, the name has room, and its record had its numbers.
+-- An `ingest` that was done: each piece of the file is held, the name has room, and its record had its numbers. The disk's journal is
+-- now that with the name, whatever its containers hold, where no record was open after the store's own.
 pub record IsStored (name given : List ℕ) (disk disk_now : DiskView) : Type 0 where
   pub added : HasAdded given disk disk_now
   pub all : HasAll name given (room_in (Ingest name) added.after)
   pub numbers : HasNumbers (room_in (Ingest name) added.after)
+  pub names : Known disk.content (λ old. HasJournal added.holds.store old
+      → StandsFor (HasJournal (with_change name (Put (root_of given)) added.after)) disk_now)
 
 -- A `delete` that was done: the store that the disk held has the name, and its record had its numbers. The disk's journal is now
 -- that without the name, whatever its containers hold, where no record was open after the store's own.

@@ -1,0 +1,2 @@
+pub mod RisingOnce
+pub mod Selected

@@ -114,10 +114,10 @@ none_of_fewer P Q held slot each none key copy needed is = none key copy (each k
 
 -- ---- trees
 
-in_head : (key : List ℕ) (keys : List (List ℕ)) → Contains (key ∷ keys) key
+pub in_head : (key : List ℕ) (keys : List (List ℕ)) → Contains (key ∷ keys) key
 in_head key keys = (0, omega arith, refl)
 
-in_tail : (key other : List ℕ) (keys : List (List ℕ)) → Contains keys other → Contains (key ∷ keys) other
+pub in_tail : (key other : List ℕ) (keys : List (List ℕ)) → Contains keys other → Contains (key ∷ keys) other
 in_tail key other keys has = (suc has.0, omega (arith, has.1), has.2)
 
 -- where the newest copies of the keys that are needed go on, so do trees of such keys

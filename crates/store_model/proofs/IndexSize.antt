@@ -12,14 +12,15 @@ use Rattle.std.proofs.lemmas.List.Folds.{list_any-append}
 use Rattle.disk_format.specs.declared.numbers.TheConstants.{MOST_ENTRIES}
 use Rattle.container_meta.specs.declared.entry.Entry.{Entry}
 use Rattle.container_meta.specs.declared.kind.Kind.{Kind}
+use Rattle.container_meta.specs.declared.place.Place.{Place}
 use Rattle.container_meta.specs.Places.{PlaceMap}
 use Rattle.container_meta.specs.Segments.{Segment, bytes_in, entries_from}
 use Rattle.container_meta.specs.Spelling.{HeaderValue, IsHeader, header_of}
 use Rattle.store_model.specs.Indexing.{entry_key, with_entries, keys_in, entries_in, bytes_in_slots}
-use Rattle.store_model.specs.Slots.{Copy, AreHeaders, IsIndexOf, place_of, copy_in, newer, newest, free_slots, first_free, with_slot}
+use Rattle.store_model.specs.Slots.{Copy, AreHeaders, IsIndexOf, IsPartialIndexOf, place_of, copy_in, newer, newest, free_slots, first_free, with_slot}
 use Rattle.store_model.specs.Image.{Store}
 use Rattle.store_model.specs.Steps.{CanSeal, with_sealed}
-use Rattle.store_model.proofs.Indexing.{tied, entry_of, index_with}
+use Rattle.store_model.proofs.Indexing.{tied, entry_of, index_with, partial_with}
 
 -- ---- a map whose keys are among some
 
@@ -103,12 +104,16 @@ length-keys_in (Some h ∷ cs) =
     length-append (map (entry_key h.kind) h.entries) (keys_in cs) ∙ omega (arith, length-map h.entries (entry_key h.kind), length-keys_in cs)
 
 -- an index has no more keys than there are entries
-pub len_index : (held : List (Option HeaderValue)) (places : PlaceMap) → IsIndexOf held places → finite.len places ≤ entries_in held
-len_index held places index = omega (arith, length-keys_in held, len_among (keys_in held) places (λ q there. newest_among 0 held q (placed (newest 0 held q) (sym (ap is_some (index q)) ∙ there))))
+pub len_index : (held : List (Option HeaderValue)) (places : PlaceMap) → IsPartialIndexOf held places → finite.len places ≤ entries_in held
+len_index held places index = omega (arith, length-keys_in held, len_among (keys_in held) places (λ q there. newest_among 0 held q (placed q (finite.get places q) refl there)))
   where
-    placed : (o : Option Copy) → is_some (option_map (λ c. c.place) o) ≡ true → is_some o ≡ true
-    placed None there = absurd cc
-    placed (Some c) there = refl
+    copied : (o : Option Copy) (place : Place) → option_map (λ c. c.place) o ≡ Some place → is_some o ≡ true
+    copied None place is = absurd cc
+    copied (Some c) place is = refl
+
+    placed : (q : List ℕ) (o : Option Place) → finite.get places q ≡ o → is_some (finite.get places q) ≡ true → is_some (newest 0 held q) ≡ true
+    placed q None is there = absurd (let both = sym (ap is_some is) ∙ there in cc)
+    placed q (Some place) is there = copied (newest 0 held q) place (index q place is)
 
 -- ---- how many entries there may be
 
@@ -150,7 +155,7 @@ len_with kind slot (e ∷ es) places =
 
 -- Where a slot is closed, any number of entries of a container may be put into the index: it has no more keys than all
 -- slots have entries.
-pub len_index_with : (held : List (Option HeaderValue)) (places : PlaceMap) (h : HeaderValue) (slot k : ℕ) → IsIndexOf held places → AreHeaders held → IsHeader h → 1 ≤ free_slots held
+pub len_index_with : (held : List (Option HeaderValue)) (places : PlaceMap) (h : HeaderValue) (slot k : ℕ) → IsPartialIndexOf held places → AreHeaders held → IsHeader h → 1 ≤ free_slots held
     → finite.len (with_entries h.kind slot (take k h.entries) places) ≤ MOST_ENTRIES * length held
 len_index_with held places h slot k index headers right some =
     omega (arith, len_with h.kind slot (take k h.entries) places, length-take k h.entries, entries_within h right, len_index held places index, with_free held headers, some)
@@ -190,3 +195,8 @@ module _ (id : ℕ) (kind : Kind) (segments : List Segment) (store : Store) (can
   pub index_sealed : (places : PlaceMap) → IsIndexOf store.held places → IsHeader new_header
       → IsIndexOf (with_sealed id kind segments store).held (with_entries kind (first_free store.held) (entries_from 0 segments) places)
   index_sealed places index right = index_with new_header store.held places index right can.new_id some
+
+  -- and so it is of one that lacks keys
+  pub partial_sealed : (places : PlaceMap) → IsPartialIndexOf store.held places → IsHeader new_header
+      → IsPartialIndexOf (with_sealed id kind segments store).held (with_entries kind (first_free store.held) (entries_from 0 segments) places)
+  partial_sealed places index right = partial_with new_header store.held places index right can.new_id some

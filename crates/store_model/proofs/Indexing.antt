@@ -16,7 +16,7 @@ use Rattle.container_meta.specs.declared.kind.Kind.{Kind}
 use Rattle.container_meta.specs.Places.{PlaceMap}
 use Rattle.container_meta.specs.Spelling.{HeaderValue, IsHeader, Follow, has_digest}
 use Rattle.store_model.specs.Indexing.{entry_key, with_entries}
-use Rattle.store_model.specs.Slots.{Copy, IsIndexOf, place_of, copy_in, newer, newest, last_id, free_slots, first_free, with_slot}
+use Rattle.store_model.specs.Slots.{Copy, IsIndexOf, IsPartialIndexOf, HasKey, place_of, copy_in, newer, newest, last_id, free_slots, first_free, with_slot}
 use Rattle.store_model.proofs.Copies.{some_same}
 use Rattle.store_model.proofs.CopyIds.{newest_id}
 
@@ -165,3 +165,29 @@ index_with h held places index right above some key = by_entry (entry_of h.kind 
     by_entry (Some found) is =
         put_some h.kind (first_free held) [] h.entries places key found right.entries is
         ∙ ap (option_map (λ (c : Copy). c.place)) (sym (newest_found h key 0 (first_free held) held found (omega arith) is some above))
+
+-- and so has each that a partial index has
+pub partial_with : (h : HeaderValue) (held : List (Option HeaderValue)) (places : PlaceMap) → IsPartialIndexOf held places → IsHeader h → last_id held < h.id → 1 ≤ free_slots held
+    → IsPartialIndexOf (with_slot (first_free held) h held) (with_entries h.kind (first_free held) h.entries places)
+partial_with h held places index right above some key place there = by_entry (entry_of h.kind h.entries key) refl
+  where
+    by_entry : (o : Option Entry) → entry_of h.kind h.entries key ≡ o → option_map (λ c. c.place) (newest 0 (with_slot (first_free held) h held) key) ≡ Some place
+    by_entry None is =
+        ap (option_map (λ (c : Copy). c.place)) (newest_before h key 0 held is some)
+        ∙ index key place (sym (put_none h.kind (first_free held) h.entries places key is) ∙ there)
+    by_entry (Some found) is =
+        ap (option_map (λ (c : Copy). c.place)) (newest_found h key 0 (first_free held) held found (omega arith) is some above)
+        ∙ sym (put_some h.kind (first_free held) [] h.entries places key found right.entries is) ∙ there
+
+-- no key that the index had is gone
+pub still_has : (kind : Kind) (slot : ℕ) (es : List Entry) (places : PlaceMap) (key : List ℕ) → Follow kind [] es → HasKey places key → HasKey (with_entries kind slot es places) key
+still_has kind slot es places key follow has = by_entry (entry_of kind es key) refl
+  where
+    by_entry : (o : Option Entry) → entry_of kind es key ≡ o → HasKey (with_entries kind slot es places) key
+    by_entry None is = (has.0, put_none kind slot es places key is ∙ has.1)
+    by_entry (Some found) is = (place_of slot found, put_some kind slot [] es places key found follow is)
+
+-- and it has those of the entries
+pub has_entry : (kind : Kind) (slot : ℕ) (es : List Entry) (places : PlaceMap) (key : List ℕ) (found : Entry) → Follow kind [] es → entry_of kind es key ≡ Some found
+    → HasKey (with_entries kind slot es places) key
+has_entry kind slot es places key found follow is = (place_of slot found, put_some kind slot [] es places key found follow is)

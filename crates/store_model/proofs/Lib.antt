@@ -1,6 +1,7 @@
 pub mod Cells
 pub mod Copies
 pub mod CopyIds
+pub mod Counted
 pub mod Empty
 pub mod Filled
 pub mod FramedTrees

@@ -3,7 +3,8 @@ use Rattle.std.proofs.Common.{◌≡◌, ℕ, List, Option, Some, None, option_m
 use Rattle.std.specs.FinMap as finite
 use Rattle.container_meta.specs.declared.place.Place.{Place}
 use Rattle.container_meta.specs.Places.{PlaceMap}
-use Rattle.store_model.specs.Slots.{Copy, newest, IsIndexOf}
+use Rattle.container_meta.specs.Spelling.{HeaderValue}
+use Rattle.store_model.specs.Slots.{Copy, newest, IsIndexOf, IsPartialIndexOf}
 use Rattle.store_model.specs.Image.{Store}
 
 none_of : (copy : Option Copy) → option_map (λ (c : Copy). c.place) copy ≡ None → copy ≡ None
@@ -19,6 +20,10 @@ pub lacks : (store : Store) (places : PlaceMap) (key : List ℕ) → IsIndexOf s
 lacks store places key index found = none_of (newest 0 store.held key) (sym (index key) ∙ found)
 
 -- the place of one that it has is that of its newest copy
-pub finds : (store : Store) (places : PlaceMap) (key : List ℕ) (place : Place) → IsIndexOf store.held places → finite.get places key ≡ Some place
+pub finds : (store : Store) (places : PlaceMap) (key : List ℕ) (place : Place) → IsPartialIndexOf store.held places → finite.get places key ≡ Some place
     → (copy : Copy) × (newest 0 store.held key ≡ Some copy) × (copy.place ≡ place)
-finds store places key place index found = some_of (newest 0 store.held key) place (sym (index key) ∙ found)
+finds store places key place index found = some_of (newest 0 store.held key) place (index key place found)
+
+-- an index of all keys is one of some
+pub partial_of : (held : List (Option HeaderValue)) (places : PlaceMap) → IsIndexOf held places → IsPartialIndexOf held places
+partial_of held places index key place found = sym (index key) ∙ found

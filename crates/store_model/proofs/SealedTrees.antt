@@ -2,8 +2,9 @@
 -- already becomes the newest copy of that key: it is the same segment.
 use Rattle.std.proofs.Common.{◌<◌, ◌≡◌, ◌≢◌, ℕ, ◌+◌, ◌≤◌, true, List, [], ◌∷◌, length, Option, Some, None, find, refl, sym, ◌∙◌, ap, subst, arith}
 use Rattle.std.specs.FinMap as finite
-use Rattle.std.specs.List.{AllByRecursion}
+use Rattle.std.specs.List.{AllByRecursion, Contains}
 use Rattle.std.proofs.lemmas.Bool.{eqb-true}
+use Rattle.std.proofs.lemmas.List.Elements.{Contains-append_left, Contains-append_right}
 use Rattle.std.proofs.lemmas.Slice.Eq.{bytes_eq-Decides}
 use Rattle.sha2.specs.Sha256.{sha256}
 use Rattle.base_model.specs.Bytes.{key_of}
@@ -27,10 +28,12 @@ use Rattle.store_model.specs.Slots.{HoldsContainer, StandAt, AreHeaders, Copy, n
 use Rattle.store_model.specs.Image.{Store, Encodes, AreCopies, names_of}
 use Rattle.store_model.specs.Standing.{entry_bytes, IsOfKind, AreNodes, IsFileOf}
 use Rattle.store_model.specs.Steps.{with_sealed, CanSeal, MaySeal, FitsHeld}
+use Rattle.store_model.specs.Reserve.{IsReachable, tree_keys, keys_below}
 use Rattle.store_model.specs.Trees.{bytes_at, file_tree, leaf_key, node_key, HasNewest, HoldsTree, HoldsTrees}
 use Rattle.store_model.proofs.Copies.{some_same, headers_of_right, copy_digest}
 use Rattle.store_model.proofs.Filled.{length-with_slot, free_less, different_with}
 use Rattle.store_model.proofs.FramedTrees.{before_slots, encodes_on, stands_on}
+use Rattle.store_model.proofs.FreedTrees.{in_head, in_tail}
 use Rattle.store_model.proofs.HeldSlots.{SameHeld, others_held, copy_still, found_so, have_levels, HasLevel, levels_so, newest_so, IsNodeEntry, nodes_so, so_nodes, IsAmongThese, among_so, so_among, so_with}
 use Rattle.store_model.proofs.Kept.{holds_with, copies_with}
 use Rattle.store_model.proofs.NewestSealed.{entry_has, entry_copy, newest_with, newest_without, newest_of_entries, newest_of_others}
@@ -73,37 +76,40 @@ data_level level is = eqb-true level 0 is
 
 -- ---- a segment whose key is held
 
--- the newest copy of the segment's key is the segment: of data in this image, of a node in the one that is given
-abbrev pub IsNewestOf : Kind → Store → List ℕ → List ℕ → Segment → Type 0
-IsNewestOf Leaf store given image s = (copy : Copy) → newest 0 store.held (segment_key Leaf s) ≡ Some copy → bytes_at copy.place image ≡ s.bytes
-IsNewestOf Tree store given image s = (copy : Copy) → newest 0 store.held (segment_key Tree s) ≡ Some copy → bytes_at copy.place given ≡ s.bytes
+-- The newest copy of the segment's key, where P holds of it, is the segment: of data in this image, of a node in the one that is given.
+abbrev pub IsNewestOf : (List ℕ → Type 0) → Kind → Store → List ℕ → List ℕ → Segment → Type 0
+IsNewestOf P Leaf store given image s =
+    (copy : Copy) → P (segment_key Leaf s) → newest 0 store.held (segment_key Leaf s) ≡ Some copy → bytes_at copy.place image ≡ s.bytes
+IsNewestOf P Tree store given image s =
+    (copy : Copy) → P (segment_key Tree s) → newest 0 store.held (segment_key Tree s) ≡ Some copy → bytes_at copy.place given ≡ s.bytes
 
-same_bytes : (kind : Kind) (store : Store) (given image : List ℕ) (s : Segment) (copy : Copy) → IsNewestOf kind store given image s
-    → newest 0 store.held (segment_key kind s) ≡ Some copy → bytes_at copy.place given ≡ bytes_at copy.place image → s.bytes ≡ bytes_at copy.place image
-same_bytes Leaf store given image s copy is e alike = sym (is copy e)
-same_bytes Tree store given image s copy is e alike = sym (is copy e) ∙ alike
+same_bytes : (P : List ℕ → Type 0) (kind : Kind) (store : Store) (given image : List ℕ) (s : Segment) (copy : Copy) → IsNewestOf P kind store given image s
+    → P (segment_key kind s) → newest 0 store.held (segment_key kind s) ≡ Some copy → bytes_at copy.place given ≡ bytes_at copy.place image → s.bytes ≡ bytes_at copy.place image
+same_bytes P Leaf store given image s copy is counts e alike = sym (is copy counts e)
+same_bytes P Tree store given image s copy is counts e alike = sym (is copy counts e) ∙ alike
 
-module _ (S : List ℕ → Type 0) (kind : Kind) (store : Store) (files : Files) (given image : List ℕ) where
+module _ (S P : List ℕ → Type 0) (kind : Kind) (store : Store) (files : Files) (given image : List ℕ) where
   -- where there are no collisions, data of a key that is held is the newest copy
-  pub newest_by_fit : HasNoCollisions S → Stands S store files image → (s : Segment) → MaySeal S kind s → FitsHeld kind store given s → IsNewestOf kind store given image s
+  pub newest_by_fit : HasNoCollisions S → Stands S store files image → (s : Segment) → MaySeal S kind s → FitsHeld P kind store given s → IsNewestOf P kind store given image s
   newest_by_fit distinct stands s may fits = by_kind kind may fits
     where
-      by_kind : (k : Kind) → MaySeal S k s → FitsHeld k store given s → IsNewestOf k store given image s
-      by_kind Leaf may fits = λ copy e.
+      by_kind : (k : Kind) → MaySeal S k s → FitsHeld P k store given s → IsNewestOf P k store given image s
+      by_kind Leaf may fits = λ copy counts e.
           sym (distinct s.bytes (bytes_at copy.place image) may.among
           (newest_so (IsAmongThese S) store.held Leaf (sha256 s.bytes) image copy (among_so S 0 store.held image stands.among) e).so
           (sym (copy_digest store.held 0 (sha256 s.bytes) image copy stands.holds.copies e)))
-      by_kind Tree may fits = λ copy e. fits copy e
+      by_kind Tree may fits = λ copy counts e. fits copy counts e
 
-  pub all_by_fit : HasNoCollisions S → Stands S store files image → (segments : List Segment) → AllByRecursion (MaySeal S kind) segments → AllByRecursion (FitsHeld kind store given) segments
-      → AllByRecursion (IsNewestOf kind store given image) segments
+  pub all_by_fit : HasNoCollisions S → Stands S store files image → (segments : List Segment) → AllByRecursion (MaySeal S kind) segments → AllByRecursion (FitsHeld P kind store given) segments
+      → AllByRecursion (IsNewestOf P kind store given image) segments
   all_by_fit distinct stands [] may fits = tt
   all_by_fit distinct stands (s ∷ ss) may fits = (newest_by_fit distinct stands s may.0 fits.0, all_by_fit distinct stands ss may.1 fits.1)
 
 -- nothing is to be shown of a key that is not held
-pub newest_of_none : (kind : Kind) (store : Store) (given image : List ℕ) (s : Segment) → newest 0 store.held (segment_key kind s) ≡ None → IsNewestOf kind store given image s
-newest_of_none Leaf store given image s none = λ copy e. absurd (let both = sym none ∙ e in cc)
-newest_of_none Tree store given image s none = λ copy e. absurd (let both = sym none ∙ e in cc)
+pub newest_of_none : (P : List ℕ → Type 0) (kind : Kind) (store : Store) (given image : List ℕ) (s : Segment) → newest 0 store.held (segment_key kind s) ≡ None
+    → IsNewestOf P kind store given image s
+newest_of_none P Leaf store given image s none = λ copy counts e. absurd (let both = sym none ∙ e in cc)
+newest_of_none P Tree store given image s none = λ copy counts e. absurd (let both = sym none ∙ e in cc)
 
 -- and it has its level: 0 of data, that of its bytes of a node
 same_level : (S : List ℕ → Type 0) (kind : Kind) (held : List (Option HeaderValue)) (image : List ℕ) (s : Segment) (copy : Copy) → AreHeaders held → AreNodes 0 held image
@@ -141,11 +147,11 @@ newest_beside id kind segments store key some others =
     other_entries offset [] others = tt
     other_entries offset (s ∷ ss) others = (others.0, other_entries (offset + length s.bytes) ss others.1)
 
-module _ (S : List ℕ → Type 0) (id : ℕ) (kind : Kind) (segments : List Segment) (store : Store) (files : Files) (given image new : List ℕ)
+module _ (S P : List ℕ → Type 0) (id : ℕ) (kind : Kind) (segments : List Segment) (store : Store) (files : Files) (given image new : List ℕ)
     (before : Stands S store files given) (stands : Stands S store files image)
     (same : SameOutside (slot_at (first_free store.held)) SLOT_BYTES image new)
     (container : HoldsContainer new (first_free store.held) id kind segments) (can : CanSeal id kind segments store)
-    (may : AllByRecursion (MaySeal S kind) segments) (newests : AllByRecursion (IsNewestOf kind store given image) segments) where
+    (may : AllByRecursion (MaySeal S kind) segments) (newests : AllByRecursion (IsNewestOf P kind store given image) segments) where
   abbrev header : HeaderValue
   header = header_of id kind segments
 
@@ -169,20 +175,20 @@ module _ (S : List ℕ → Type 0) (id : ℕ) (kind : Kind) (segments : List Seg
     segment : Segment
     is : IsEntryOf (first_free store.held) new segment e
     sealable : MaySeal S kind segment
-    newest_is : IsNewestOf kind store given image segment
+    newest_is : IsNewestOf P kind store given image segment
 
   all_sealed : AllByRecursion IsSealed header.entries
   all_sealed =
-      entries_of (first_free store.held) new (λ s. MaySeal S kind s × IsNewestOf kind store given image s) IsSealed 0 segments
-      (λ s e is so. record { segment = s; is = is; sealable = so.0; newest_is = so.1 }) stand (both_so (MaySeal S kind) (IsNewestOf kind store given image) segments may newests)
+      entries_of (first_free store.held) new (λ s. MaySeal S kind s × IsNewestOf P kind store given image s) IsSealed 0 segments
+      (λ s e is so. record { segment = s; is = is; sealable = so.0; newest_is = so.1 }) stand (both_so (MaySeal S kind) (IsNewestOf P kind store given image) segments may newests)
 
   all_levels : AllByRecursion (λ e. is_level kind e.level ≡ true) header.entries
   all_levels = have_levels kind kind [] header.entries refl container.header.0.entries
 
-  -- A key that is held in both images has the newest copy that it had.
-  pub newest_alike : (key : List ℕ) (level : ℕ) (bytes : List ℕ) → HasNewest store.held key level bytes given → HasNewest store.held key level bytes image
+  -- A key that counts and is held in both images has the newest copy that it had.
+  pub newest_alike : (key : List ℕ) (level : ℕ) (bytes : List ℕ) → P key → HasNewest store.held key level bytes given → HasNewest store.held key level bytes image
       → HasNewest (with_sealed id kind segments store).held key level bytes new
-  newest_alike key level bytes old has = by_entry (find (entry_has kind key) header.entries) refl
+  newest_alike key level bytes counts old has = by_entry (find (entry_has kind key) header.entries) refl
     where
       by_entry : (found : Option Entry) → find (entry_has kind key) header.entries ≡ found → HasNewest (with_sealed id kind segments store).held key level bytes new
       by_entry None none = record {
@@ -195,12 +201,12 @@ module _ (S : List ℕ → Type 0) (id : ℕ) (kind : Kind) (segments : List Seg
           let there = found_so IsSealed (entry_has kind key) header.entries e all_sealed found in
           let segment : Segment = there.0.segment in
           let key_is : key_of (kind_byte kind) e.digest ≡ key = (bytes_eq-Decides _ _).0 there.1 in
-          let copy_is : newest 0 store.held (segment_key kind segment) ≡ Some has.copy =
-          ap (λ (digest : List ℕ). newest 0 store.held (key_of (kind_byte kind) digest)) (sym there.0.is.digest) ∙ ap (newest 0 store.held) key_is ∙ has.copy_is in
+          let same_key : segment_key kind segment ≡ key = ap (key_of (kind_byte kind)) (sym there.0.is.digest) ∙ key_is in
+          let copy_is : newest 0 store.held (segment_key kind segment) ≡ Some has.copy = ap (newest 0 store.held) same_key ∙ has.copy_is in
           let one_copy : old.copy ≡ has.copy = some_same old.copy has.copy (sym old.copy_is ∙ has.copy_is) in
           let alike : bytes_at has.copy.place given ≡ bytes_at has.copy.place image =
           ap (λ (c : Copy). bytes_at c.place given) (sym one_copy) ∙ old.bytes_are ∙ sym has.bytes_are in
-          let bytes_same = same_bytes kind store given image segment has.copy there.0.newest_is copy_is alike in
+          let bytes_same = same_bytes P kind store given image segment has.copy there.0.newest_is (subst P (sym same_key) counts) copy_is alike in
           let right = subst (λ (l : ℕ). is_level kind l ≡ true) there.0.is.level (found_so (λ x. is_level kind x.level ≡ true) (entry_has kind key) header.entries e all_levels found).0 in
           record {
             copy = entry_copy (first_free store.held) header.id e;
@@ -211,22 +217,31 @@ module _ (S : List ℕ → Type 0) (id : ℕ) (kind : Kind) (segments : List Seg
 
   -- and so has each key of a tree that both hold
   mutual
-    pub tree_alike : (t : TreeOf (List ℕ)) → HoldsTree store.held given t → HoldsTree store.held image t → HoldsTree (with_sealed id kind segments store).held new t
-    tree_alike tree.Empty old has = tt
-    tree_alike (tree.Leaf segment) old has = newest_alike (leaf_key segment) 0 segment old has
-    tree_alike (tree.Node level ts) old has =
-        (newest_alike (node_key (contents_of level ts)) level (spelling (contents_of level ts)) old.0 has.0, trees_alike ts old.1 has.1)
+    pub tree_alike : (t : TreeOf (List ℕ)) → ((key : List ℕ) → Contains (tree_keys t) key → P key) → HoldsTree store.held given t → HoldsTree store.held image t
+        → HoldsTree (with_sealed id kind segments store).held new t
+    tree_alike tree.Empty count old has = tt
+    tree_alike (tree.Leaf segment) count old has = newest_alike (leaf_key segment) 0 segment (count (leaf_key segment) (in_head (leaf_key segment) [])) old has
+    tree_alike (tree.Node level ts) count old has =
+        let top : List ℕ = node_key (contents_of level ts) in (
+          newest_alike top level (spelling (contents_of level ts)) (count top (in_head top (keys_below ts))) old.0 has.0,
+          trees_alike ts (λ key there. count key (in_tail top key (keys_below ts) there)) old.1 has.1,
+        )
 
-    pub trees_alike : (ts : Trees (List ℕ)) → HoldsTrees store.held given ts → HoldsTrees store.held image ts → HoldsTrees (with_sealed id kind segments store).held new ts
-    trees_alike tree.NoTree old has = tt
-    trees_alike (tree.Then t ts) old has = (tree_alike t old.0 has.0, trees_alike ts old.1 has.1)
+    pub trees_alike : (ts : Trees (List ℕ)) → ((key : List ℕ) → Contains (keys_below ts) key → P key) → HoldsTrees store.held given ts → HoldsTrees store.held image ts
+        → HoldsTrees (with_sealed id kind segments store).held new ts
+    trees_alike tree.NoTree count old has = tt
+    trees_alike (tree.Then t ts) count old has = (
+      tree_alike t (λ key there. count key (Contains-append_left (tree_keys t) (keys_below ts) key there)) old.0 has.0,
+      trees_alike ts (λ key there. count key (Contains-append_right (tree_keys t) (keys_below ts) key there)) old.1 has.1,
+    )
 
-  file_alike : (named : Option Named) (file : Option (List ℕ)) → IsFileOf store.held given named file → IsFileOf store.held image named file
-      → IsFileOf (with_sealed id kind segments store).held new named file
-  file_alike None None old is = tt
-  file_alike None (Some bytes) old is = is
-  file_alike (Some named) None old is = is
-  file_alike (Some named) (Some bytes) old is = (is.0, tree_alike (file_tree bytes) old.1 is.1)
+  file_alike : (name : List ℕ) (named : Option Named) (file : Option (List ℕ)) → ((key : List ℕ) → IsReachable files key → P key) → finite.get files name ≡ file
+      → IsFileOf store.held given named file → IsFileOf store.held image named file → IsFileOf (with_sealed id kind segments store).held new named file
+  file_alike name None None count is_file old is = tt
+  file_alike name None (Some bytes) count is_file old is = is
+  file_alike name (Some named) None count is_file old is = is
+  file_alike name (Some named) (Some bytes) count is_file old is =
+      (is.0, tree_alike (file_tree bytes) (λ key there. count key (name, (bytes, (is_file, there)))) old.1 is.1)
 
   encodes : Encodes new (with_sealed id kind segments store)
   encodes =
@@ -256,26 +271,18 @@ module _ (S : List ℕ → Type 0) (id : ℕ) (kind : Kind) (segments : List Seg
       (entries_of (first_free store.held) new (MaySeal S kind) _ 0 segments (λ s e is so. subst (IsAmong S kind) (sym is.bytes) so.among) stand may)
       headers still (among_so S 0 store.held image stands.among))
 
-  -- The store with the container, of the same files.
-  pub sealed : Stands S (with_sealed id kind segments store) files new
-  sealed =
+  -- The store with the container, of the same files: each key that they need counts.
+  pub sealed : ((key : List ℕ) → IsReachable files key → P key) → Stands S (with_sealed id kind segments store) files new
+  sealed count =
       stands_on S store files image new (before_slots (first_free store.held) image new same) (with_sealed id kind segments store).held stands encodes copies are_nodes are_among
-      (λ name. file_alike (finite.get (names_of store) name) (finite.get files name) (before.holds.files_are name) (stands.holds.files_are name))
+      (λ name. file_alike name (finite.get (names_of store) name) (finite.get files name) count refl (before.holds.files_are name) (stands.holds.files_are name))
       (omega (arith, free_less header store.held some, can.slot))
 
 -- What one image holds goes on when a container is sealed in it.
-module _ (S : List ℕ → Type 0) (id : ℕ) (kind : Kind) (segments : List Segment) (store : Store) (files : Files) (image new : List ℕ)
+module _ (S P : List ℕ → Type 0) (id : ℕ) (kind : Kind) (segments : List Segment) (store : Store) (files : Files) (image new : List ℕ)
     (stands : Stands S store files image) (same : SameOutside (slot_at (first_free store.held)) SLOT_BYTES image new)
     (container : HoldsContainer new (first_free store.held) id kind segments) (can : CanSeal id kind segments store)
-    (may : AllByRecursion (MaySeal S kind) segments) (newests : AllByRecursion (IsNewestOf kind store image image) segments) where
-  -- the newest copy of a key
-  pub newest_kept : (key : List ℕ) (level : ℕ) (bytes : List ℕ) → HasNewest store.held key level bytes image → HasNewest (with_sealed id kind segments store).held key level bytes new
-  newest_kept key level bytes has = newest_alike S id kind segments store files image image new stands stands same container can may newests key level bytes has has
-
-  -- a tree
-  pub tree_kept : (t : TreeOf (List ℕ)) → HoldsTree store.held image t → HoldsTree (with_sealed id kind segments store).held new t
-  tree_kept t has = tree_alike S id kind segments store files image image new stands stands same container can may newests t has has
-
-  -- and trees in a row
-  pub trees_kept : (ts : Trees (List ℕ)) → HoldsTrees store.held image ts → HoldsTrees (with_sealed id kind segments store).held new ts
-  trees_kept ts has = trees_alike S id kind segments store files image image new stands stands same container can may newests ts has has
+    (may : AllByRecursion (MaySeal S kind) segments) (newests : AllByRecursion (IsNewestOf P kind store image image) segments) where
+  -- the newest copy of a key that counts
+  pub newest_kept : (key : List ℕ) (level : ℕ) (bytes : List ℕ) → P key → HasNewest store.held key level bytes image → HasNewest (with_sealed id kind segments store).held key level bytes new
+  newest_kept key level bytes counts has = newest_alike S P id kind segments store files image image new stands stands same container can may newests key level bytes counts has has

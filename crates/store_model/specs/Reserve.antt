@@ -1,14 +1,15 @@
 -- Which containers may be given back, and what reserve of slots an image has (docs/MODEL.md, 'The reserve').
-use Rattle.std.specs.Prelude.{◌≡◌, ◌≢◌, ◌⊎◌, ◌<◌, ℕ, List, [], ◌∷◌, ◌++◌, slice_get, Option, Some, None}
+use Rattle.std.specs.Prelude.{◌≡◌, ◌≢◌, ◌⊎◌, ◌<◌, ℕ, List, [], ◌∷◌, ◌++◌, slice_get, Bool, Option, Some, None}
 use Rattle.std.specs.FinMap as finite
-use Rattle.std.specs.List.{Contains}
+use Rattle.std.specs.List.{Contains, list_any}
+use Rattle.std.specs.Str.{bytes_eq}
 use Rattle.container_meta.specs.Spelling.{HeaderValue}
 use Rattle.merkle_file.specs.Tree as tree
 use Rattle.merkle_file.specs.Tree.{Tree, Trees}
 use Rattle.merkle_file.specs.Walk.{contents_of}
 use Rattle.store_model.specs.Files.{Files}
 use Rattle.store_model.specs.Slots.{Copy, newest}
-use Rattle.store_model.specs.Trees.{file_tree, leaf_key, node_key}
+use Rattle.store_model.specs.Trees.{HoldsTree, file_tree, leaf_key, node_key}
 
 -- ---- what files need
 
@@ -22,6 +23,19 @@ abbrev mutual
   pub keys_below : Trees (List ℕ) → List (List ℕ)
   keys_below tree.NoTree = []
   keys_below (tree.Then t ts) = tree_keys t ++ keys_below ts
+
+-- P holds of each key of a tree
+abbrev pub AllKeys : (List ℕ → Type 0) → Tree (List ℕ) → Type 0
+AllKeys P t = (key : List ℕ) → Contains (tree_keys t) key → P key
+
+-- A tree is held, and P holds of its keys.
+pub record HoldsCounted (P : List ℕ → Type 0) (held : List (Option HeaderValue)) (image : List ℕ) (t : Tree (List ℕ)) : Type 0 where
+  pub tree_is_held : HoldsTree held image t
+  pub count : AllKeys P t
+
+-- these keys, as a set
+abbrev pub key_set : List (List ℕ) → List ℕ → Bool
+key_set keys key = list_any (bytes_eq key) keys
 
 -- the tree of some name's file has the key
 abbrev pub IsReachable : Files → List ℕ → Type 0

@@ -80,6 +80,15 @@ newest slot (c ∷ cs) key = newer (copy_in slot c key) (newest (slot + 1) cs ke
 abbrev pub IsIndexOf : List (Option HeaderValue) → PlaceMap → Type 0
 IsIndexOf containers places = (key : List ℕ) → finite.get places key ≡ option_map (λ c. c.place) (newest 0 containers key)
 
+-- the index has a place for the key
+abbrev pub HasKey : PlaceMap → List ℕ → Type 0
+HasKey places key = (place : Place) × (finite.get places key ≡ Some place)
+
+-- each place that the index has is that of its key's newest copy; it may lack keys that no file needs
+abbrev pub IsPartialIndexOf : List (Option HeaderValue) → PlaceMap → Type 0
+IsPartialIndexOf containers places = (key : List ℕ) (place : Place) → finite.get places key ≡ Some place
+    → option_map (λ c. c.place) (newest 0 containers key) ≡ Some place
+
 -- the segment of the bytes of a file
 abbrev pub leaf_segment : List ℕ → Segment
 leaf_segment bytes = record { level = 0; bytes = bytes }

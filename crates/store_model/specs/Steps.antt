@@ -42,9 +42,10 @@ abbrev pub FitsCopy : Kind → Segment → Place → List ℕ → Type 0
 FitsCopy kinds.Leaf s place image = place.length ≡ length s.bytes
 FitsCopy kinds.Tree s place image = bytes_at place image ≡ s.bytes
 
--- the newest copy of the segment's key fits it, where there is one
-abbrev pub FitsHeld : Kind → Store → List ℕ → Segment → Type 0
-FitsHeld kind store image s = (copy : Copy) → newest 0 store.held (segment_key kind s) ≡ Some copy → FitsCopy kind s copy.place image
+-- the newest copy of the segment's key fits it, where there is one; of keys of which P holds, those that count
+abbrev pub FitsHeld : (List ℕ → Type 0) → Kind → Store → List ℕ → Segment → Type 0
+FitsHeld P kind store image s =
+    (copy : Copy) → P (segment_key kind s) → newest 0 store.held (segment_key kind s) ≡ Some copy → FitsCopy kind s copy.place image
 
 -- ---- a cell for a record: a free one, or one that a checkpoint makes
 
@@ -134,7 +135,12 @@ CanChange (ChangeName name change) store = CanChangeName name change store × Is
 abbrev pub StoreStep : Store → Store → Type 0
 StoreStep s t = (change : StoreChange) × CanChange change s × (t ≡ changed change s)
 
--- The newest copies of an image that is one store are those of an image that is another, later one.
-abbrev pub KeepsCopies : Store → List ℕ → Store → List ℕ → Type 0
-KeepsCopies s old t new =
-    (key : List ℕ) (level : ℕ) (bytes : List ℕ) → HasNewest s.held key level bytes old → HasNewest t.held key level bytes new
+-- every key
+abbrev pub AnyKey : List ℕ → Type 0
+AnyKey key = Unit {0}
+
+-- The newest copies of an image that is one store are those of an image that is another, later one: of keys of which P holds, those
+-- that count.
+abbrev pub KeepsCopies : (List ℕ → Type 0) → Store → List ℕ → Store → List ℕ → Type 0
+KeepsCopies P s old t new =
+    (key : List ℕ) (level : ℕ) (bytes : List ℕ) → P key → HasNewest s.held key level bytes old → HasNewest t.held key level bytes new

@@ -23,7 +23,7 @@ use Rattle.refusals.specs.declared.refusal.Refusal.TheVariants.{Memory, DiskRead
 use Rattle.segment_index.specs.Places.{KnownMap, IsPlace}
 use Rattle.store_model.specs.Image.{Store}
 use Rattle.store_model.specs.Indexing.{entry_key}
-use Rattle.store_model.specs.Slots.{Copy, IsIndexOf}
+use Rattle.store_model.specs.Slots.{Copy, HasKey, IsPartialIndexOf, newest}
 use Rattle.store_model.specs.Steps.{FitsCopy, FitsHeld}
 use Rattle.store_state.specs.Comparing.{IsSameRefusal, IsUnlike, IsOneRefusal, FitsHad, AllFit, FitSoFar, IsFirstUnlike, IsAllRefusal}
 use Rattle.store_state.specs.Indexing.{HaveHad}
@@ -132,12 +132,12 @@ of_all damaged size mid_size known mid_known old mid new same_size same_known re
 
 -- ---- what is so of the store of an index
 
-pub held_fit : (kind : Kind) (store : Store) (m : PlaceMap) (image : List ℕ) (offset : ℕ) (ss : List Segment) (hads : List (Option Place)) → IsIndexOf store.held m → HaveHad m kind (entries_from offset ss) hads → AllFit kind ss hads image
-    → AllByRecursion (FitsHeld kind store image) ss
+pub held_fit : (kind : Kind) (store : Store) (m : PlaceMap) (image : List ℕ) (offset : ℕ) (ss : List Segment) (hads : List (Option Place)) → IsPartialIndexOf store.held m → HaveHad m kind (entries_from offset ss) hads → AllFit kind ss hads image
+    → AllByRecursion (FitsHeld (HasKey m) kind store image) ss
 held_fit kind store m image offset [] hads index had fit = tt
 held_fit kind store m image offset (s ∷ ss) [] index had fit = absurd fit
 held_fit kind store m image offset (s ∷ ss) (h ∷ hads) index had fit = (
-  λ copy is. by_kind kind copy.place (subst (λ (o : Option Place). FitsHad kind s.bytes o image) (had.0 ∙ index (segment_key kind s) ∙ ap place_there is) fit.0),
+  λ copy there is. by_kind kind copy.place (subst (λ (o : Option Place). FitsHad kind s.bytes o image) (had.0 ∙ found there ∙ ap place_there is) fit.0),
   held_fit kind store m image (offset + length s.bytes) ss hads index had.1 fit.1,
 )
   where
@@ -145,10 +145,13 @@ held_fit kind store m image offset (s ∷ ss) (h ∷ hads) index had fit = (
     place_there None = None
     place_there (Some c) = Some c.place
 
+    found : HasKey m (segment_key kind s) → finite.get m (segment_key kind s) ≡ place_there (newest 0 store.held (segment_key kind s))
+    found there = there.1 ∙ sym (index (segment_key kind s) there.0 there.1)
+
     by_kind : (k : Kind) (place : Place) → FitsHad k s.bytes (Some place) image → FitsCopy k s place image
     by_kind kinds.Leaf place fits = fits
     by_kind kinds.Tree place fits = fits
 
 pub held_all : (size : ℕ) (known : Option PlaceMap) (old new : DiskView) (kind : Kind) (ss : List Segment) (hads : List (Option Place)) → FitSoFar size known (Shows old new) kind ss hads
-    → Shows old new (λ image. (store : Store) (m : PlaceMap) → known ≡ Some m → IsIndexOf store.held m → AllByRecursion (FitsHeld kind store image) ss)
+    → Shows old new (λ image. (store : Store) (m : PlaceMap) → known ≡ Some m → IsPartialIndexOf store.held m → AllByRecursion (FitsHeld (HasKey m) kind store image) ss)
 held_all size known old new kind ss hads so_far = weaker old new (λ image sized fit store m is index. held_fit kind store m image 0 ss hads index (so_far.had.had m is) fit) so_far.fit

@@ -3,7 +3,7 @@ use Rattle.std.proofs.Common.{ℕ, subst, arith}
 use Rattle.container_meta.specs.Places.{PlaceMap}
 use Rattle.segment_index.specs.Places.{IsPlace, HasPlaces}
 use Rattle.store_model.specs.Image.{Store, IsValidFor}
-use Rattle.store_model.specs.Slots.{Copy, IsIndexOf}
+use Rattle.store_model.specs.Slots.{Copy, IsPartialIndexOf}
 use Rattle.store_model.proofs.Copies.{IsWithin, newest_within}
 use Rattle.store_model.proofs.Lookups.{finds}
 
@@ -19,7 +19,7 @@ place_within size store copy valid within =
     }
 
 -- each key of the index has such a place
-pub index_serves : (size : ℕ) (store : Store) (places : PlaceMap) → IsValidFor size store → IsIndexOf store.held places → HasPlaces size places
+pub index_serves : (size : ℕ) (store : Store) (places : PlaceMap) → IsValidFor size store → IsPartialIndexOf store.held places → HasPlaces size places
 index_serves size store places valid index = λ key place found.
     let at = finds store places key place index found in
     let within = subst (λ (slots : ℕ). IsWithin slots at.0) valid.many (newest_within store.held key at.0 valid.headers at.1) in

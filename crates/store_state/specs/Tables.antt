@@ -6,7 +6,7 @@ use Rattle.container_meta.specs.Spelling.{HeaderValue}
 use Rattle.journal_cells.specs.Journal.{IsTold}
 use Rattle.segment_index.specs.Places.{KnownMap}
 use Rattle.store_model.specs.Image.{Store, IsValidFor}
-use Rattle.store_model.specs.Slots.{IsIndexOf, free_slots, first_free, ids_of, last_id}
+use Rattle.store_model.specs.Slots.{IsPartialIndexOf, free_slots, first_free, ids_of, last_id}
 use Rattle.store_state.specs.declared.slot_table.SlotCount.{SlotCount}
 use Rattle.store_state.specs.declared.slot_table.SlotTable.{SlotTable}
 use Rattle.store_state.specs.declared.tables.Tables.{Tables}
@@ -32,13 +32,13 @@ pub record IsFirstFree (slot : ℕ) (held : List (Option HeaderValue)) : Type 0 
 abbrev pub RepresentsNames : Store → Tables → Type 0
 RepresentsNames store t = IsTold store.other_open store.selector store.records t.journal t.names t.journal.last
 
--- The tables, and the map of the index where it is known, are those of the store: its journal and names, what its slots
--- hold, and of each key that is held the place of the newest copy.
+-- The tables, and the map of the index where it is known, are those of the store: its journal and names, and what its slots hold. Each
+-- place that the index has is that of the newest copy of its key; it may lack keys that no file needs.
 pub record Represents (store : Store) (known : Option PlaceMap) (t : Tables) : Type 0 where
   pub slots_are : t.slots ≡ store.slots
   pub names_are : RepresentsNames store t
   pub slots_hold : RepresentsSlots store.held t.held
-  pub index_is_newest : KnownMap known (IsIndexOf store.held)
+  pub index_is_newest : KnownMap known (IsPartialIndexOf store.held)
 
 -- They are those of some store that a disk of this size may hold, of which two slots or more are free.
 pub record Runs (size : ℕ) (known : Option PlaceMap) (t : Tables) : Type 0 where

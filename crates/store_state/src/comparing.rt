@@ -4,7 +4,7 @@ ghost use Rattle.std.specs.FinMap as finite;
 ghost use Rattle.std.specs.List.{AllByRecursion};
 ghost use Rattle.container_meta.specs.Places.{PlaceMap};
 ghost use Rattle.store_model.specs.Image.{Store};
-ghost use Rattle.store_model.specs.Slots.{IsIndexOf};
+ghost use Rattle.store_model.specs.Slots.{HasKey, IsPartialIndexOf};
 ghost use Rattle.store_model.specs.Steps.{FitsHeld};
 ghost use Rattle.sha2.specs.Sha256.{sha256};
 ghost use Rattle.container_meta.specs.Segments.{segment_at};
@@ -232,10 +232,10 @@ pub fn compare_all<D: Disk, X: Index>(
     ensures refused { IfErr result (IsAllRefusal (X.places index.old (D.view disk.old).content)
         (IsFirstUnlike (D.view disk.old).size (X.places index.old (D.view disk.old).content) (Shows (D.view disk.old) (D.view disk.new))
         filled.now.kind filled.now.segments)) }
-    // So each store of this index holds nothing of these keys that differs.
+    // So each store of this index holds nothing of those of these keys that it has that differs.
     ensures held { OnOk result (Shows (D.view disk.old) (D.view disk.new) (λ image. (store : Store) (m : PlaceMap)
-        → X.places index.old (D.view disk.old).content ≡ Some m → IsIndexOf store.held m
-        → AllByRecursion (FitsHeld filled.now.kind store image) filled.now.segments)) }
+        → X.places index.old (D.view disk.old).content ≡ Some m → IsPartialIndexOf store.held m
+        → AllByRecursion (FitsHeld (HasKey m) filled.now.kind store image) filled.now.segments)) }
     ensures served { X.serves index.new (D.view disk.new).size }
 {
     let mut before = Vec::new(alloc);

@@ -2,7 +2,7 @@
 ghost use Rattle.std.specs.Prelude.{◌≡◌, ◌≤◌, ℕ, List, Option, Some};
 ghost use Rattle.disk_format.specs.declared.numbers.TheConstants.{RESERVE};
 ghost use Rattle.store_model.specs.Image.{Store, IsValidFor};
-ghost use Rattle.store_model.specs.Slots.{free_slots};
+ghost use Rattle.store_model.specs.Slots.{IsIndexOf, free_slots};
 ghost use Rattle.store_state.specs.State.{Represents};
 ghost use Rattle.store_state.specs.Tables as running;
 
@@ -33,6 +33,8 @@ impl OpenStore {
             → RESERVE ≤ free_slots store.held → running.Runs size (Some result.1) result.0 }
         // The last id is that of the store.
         ensures ids { result.0.held.last_id ≡ self.containers.last_id }
+        // The index has each key that the store holds.
+        ensures whole { (store : Store) → Represents store self → IsIndexOf store.held result.1 }
         // Of the index the map is known, whatever the disk tells, and it serves the disk of that store.
         ensures known { (content : Option (List ℕ)) → ⟦<StoreIndex as Index>⟧.places result.1 content ≡ Some result.1 }
         ensures serves { (size : ℕ) (store : Store) → Represents store self → IsValidFor size store

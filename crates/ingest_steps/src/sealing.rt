@@ -118,7 +118,7 @@ fn take_sealed(tables: &mut Tables, slot: u32, id: u64, filled: &OpenContainer, 
 {
     tables
         .held
-        .take_container(slot, id, filled.len() as u32, bytes);
+        .take_container(slot, id, filled.kind(), filled.len() as u32, bytes);
 }
 
 /// Puts the places of a container's segments into the index, and writes it under the next id, which is answered, to a slot

@@ -6,7 +6,7 @@ use Rattle.actor_parts.specs.declared.part.Part.TheVariants.{Idle, Writing, Read
 use Rattle.store_model.specs.Image.{Store}
 use Rattle.store_model.specs.Steps.{KeepsCopies}
 use Rattle.store_model.specs.Collisions.{IsIn}
-use Rattle.store_model.specs.Reserve.{HoldsCounted, key_set, tree_keys}
+use Rattle.store_model.specs.Reserve.{key_set, tree_keys}
 use Rattle.store_model.proofs.Counted.{contained, tree_on, trees_on}
 use Rattle.store_state.specs.Invariant.{HoldsPart}
 

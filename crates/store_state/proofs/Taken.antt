@@ -1,7 +1,8 @@
 -- The table of slots, once a container is in one of them.
 use Rattle.std.proofs.Common.{◌≡◌, ℕ, zero, suc, ◌≤◌, List, [], ◌∷◌, length, map, max, set, Option, Some, None, refl, ap, arith}
 use Rattle.container_meta.specs.Spelling.{HeaderValue}
-use Rattle.store_model.specs.Slots.{ids_of, last_id, with_slot}
+use Rattle.container_meta.specs.declared.kind.Kind.{Kind}
+use Rattle.store_model.specs.Slots.{ids_of, last_id, with_slot, without_slot}
 use Rattle.store_state.specs.declared.slot_table.SlotCount.{SlotCount}
 use Rattle.store_state.specs.Tables.{count_of}
 
@@ -24,5 +25,27 @@ last_with zero h (Some g ∷ cs) = omega arith
 last_with (suc slot) h (None ∷ cs) = last_with slot h cs
 last_with (suc slot) h (Some g ∷ cs) = omega (arith, last_with slot h cs)
 
-pub same_count : (h : HeaderValue) (entries bytes : ℕ) → length h.entries ≡ entries → h.data_length ≡ bytes → (let c : SlotCount = record { entries = entries; bytes = bytes } in c) ≡ count_of (Some h)
-same_count h entries bytes many long = cc
+pub same_count : (h : HeaderValue) (kind : Kind) (entries bytes : ℕ) → h.kind ≡ kind → length h.entries ≡ entries → h.data_length ≡ bytes
+    → (let c : SlotCount = record { kind = kind; entries = entries; bytes = bytes } in c) ≡ count_of (Some h)
+same_count h kind entries bytes same many long = cc
+
+-- ---- a slot that is closed
+
+pub ids_without : (slot : ℕ) (held : List (Option HeaderValue)) → ids_of (without_slot slot held) ≡ set (ids_of held) slot 0
+ids_without slot [] = refl
+ids_without zero (None ∷ cs) = refl
+ids_without zero (Some g ∷ cs) = refl
+ids_without (suc slot) (None ∷ cs) = ap (λ (l : List ℕ). 0 ∷ l) (ids_without slot cs)
+ids_without (suc slot) (Some g ∷ cs) = ap (λ (l : List ℕ). g.id ∷ l) (ids_without slot cs)
+
+pub counts_without : (slot : ℕ) (held : List (Option HeaderValue)) → map count_of (without_slot slot held) ≡ set (map count_of held) slot (count_of None)
+counts_without slot [] = refl
+counts_without zero (c ∷ cs) = refl
+counts_without (suc slot) (c ∷ cs) = ap (λ (l : List SlotCount). count_of c ∷ l) (counts_without slot cs)
+
+pub last_without : (slot : ℕ) (held : List (Option HeaderValue)) → last_id (without_slot slot held) ≤ last_id held
+last_without slot [] = omega arith
+last_without zero (None ∷ cs) = omega arith
+last_without zero (Some g ∷ cs) = omega arith
+last_without (suc slot) (None ∷ cs) = last_without slot cs
+last_without (suc slot) (Some g ∷ cs) = omega (arith, last_without slot cs)

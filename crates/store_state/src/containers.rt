@@ -8,7 +8,7 @@ ghost use Rattle.store_model.specs.Slots.{AreHeaders, IsUnusedId, place_of, free
 ghost use Rattle.store_state.specs.Containers.{RepresentsContainers, ArePart, is_newer};
 ghost use Rattle.store_state.specs.Tables.{count_of};
 
-use crate::slot_table::{SlotCount, zeros_in};
+use crate::slot_table::{SlotCount, closed, zeros_in};
 use container_meta::{Entry, Key, Kind, Meta, Place, key_of};
 use segment_index::StoreIndex;
 use std::alloc::{AllocError, Global};
@@ -43,6 +43,7 @@ fn count_in(meta: &Meta) -> SlotCount
     ensures { result ≡ count_of (Some (view meta.now)) }
 {
     SlotCount {
+        kind: meta.kind,
         entries: meta.entries.len() as u32,
         bytes: meta.data_length,
     }
@@ -67,10 +68,7 @@ impl Containers {
             → RepresentsContainers (held ++ None ∷ []) self.new) }
     {
         self.ids.push(0)?;
-        self.counts.push(SlotCount {
-            entries: 0,
-            bytes: 0,
-        })?;
+        self.counts.push(closed())?;
         Ok(())
     }
 

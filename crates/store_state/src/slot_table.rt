@@ -2,12 +2,16 @@
 ghost use Rattle.std.specs.Prelude.{◌≡◌, ◌<◌, ◌≤◌, ◌==◌, List, Option, None, length, max, count_by, position, IfSome};
 ghost use Rattle.disk_format.specs.declared.numbers.TheConstants.{MOST_SLOTS as MANY};
 ghost use Rattle.container_meta.specs.Spelling.{HeaderValue};
-ghost use Rattle.store_model.specs.Slots.{AreHeaders, free_slots, ids_of, with_slot};
-ghost use Rattle.store_state.specs.Tables.{RepresentsSlots, IsFirstFree};
+ghost use Rattle.store_model.specs.Slots.{AreHeaders, free_slots, ids_of, with_slot, without_slot};
+ghost use Rattle.store_state.specs.Tables.{RepresentsSlots, IsFirstFree, count_of};
+
+use container_meta::Kind;
 
 /// How much the container in a slot holds: nothing, where the slot is closed.
 #[derive(Clone, Copy)]
 pub struct SlotCount {
+    /// The kind of its segments; data, where the slot is closed.
+    pub kind: Kind,
     /// How many entries.
     pub entries: u32,
     /// How many bytes they have together.
@@ -23,6 +27,17 @@ pub struct SlotTable {
     pub counts: Vec<SlotCount>,
     /// The greatest id that a container has or had since the opening, 0 where there is none.
     pub last_id: u64,
+}
+
+// What a closed slot holds.
+pub(crate) fn closed() -> SlotCount
+    ensures { result ≡ count_of None }
+{
+    SlotCount {
+        kind: Kind::Leaf,
+        entries: 0,
+        bytes: 0,
+    }
 }
 
 // How many ids are 0.
@@ -63,16 +78,32 @@ impl SlotTable {
     }
 
     /// Takes a container that was written to a slot. It takes no memory.
-    pub fn take_container(&mut self, slot: u32, id: u64, entries: u32, bytes: u32)
+    pub fn take_container(&mut self, slot: u32, id: u64, kind: Kind, entries: u32, bytes: u32)
         requires slot { slot < length self.old.ids.items }
         requires counts { length self.old.counts.items ≡ length self.old.ids.items }
-        ensures holds { (held : List (Option HeaderValue)) (h : HeaderValue) → h.id ≡ id → length h.entries ≡ entries
-            → h.data_length ≡ bytes
+        ensures holds { (held : List (Option HeaderValue)) (h : HeaderValue) → h.id ≡ id → h.kind ≡ kind
+            → length h.entries ≡ entries → h.data_length ≡ bytes
             → RepresentsSlots held self.old → RepresentsSlots (with_slot slot h held) self.new }
         ensures last { self.new.last_id ≡ max self.old.last_id id }
     {
         self.ids[slot as usize] = id;
-        self.counts[slot as usize] = SlotCount { entries, bytes };
+        self.counts[slot as usize] = SlotCount {
+            kind,
+            entries,
+            bytes,
+        };
         self.last_id = self.last_id.max(id);
+    }
+
+    /// Takes it that a slot was closed. The last id stays given out. It takes no memory.
+    pub fn give_back(&mut self, slot: u32)
+        requires slot { slot < length self.old.ids.items }
+        requires counts { length self.old.counts.items ≡ length self.old.ids.items }
+        ensures holds { (held : List (Option HeaderValue)) → RepresentsSlots held self.old
+            → RepresentsSlots (without_slot slot held) self.new }
+        ensures last { self.new.last_id ≡ self.old.last_id }
+    {
+        self.ids[slot as usize] = 0;
+        self.counts[slot as usize] = closed();
     }
 }

@@ -20,4 +20,4 @@ returns c = λ size known runs.
     let filled = c.args.filled.now in
     has_sealed c.args.tables.now _ c.args.slot c.args.id filled c.requires.slot c.requires.id c.requires.right
     (omega (arith, c.take_container.ensures.last, c.requires.id)) refl refl refl
-    (λ held. c.take_container.ensures.holds held (header_of c.args.id filled.kind filled.segments) refl (length-of_entries 0 filled.segments ∙ sym c.len.ensures) (sym c.requires.bytes)) size known runs
+    (λ held. c.take_container.ensures.holds held (header_of c.args.id filled.kind filled.segments) refl (sym c.kind.ensures) (length-of_entries 0 filled.segments ∙ sym c.len.ensures) (sym c.requires.bytes)) size known runs

@@ -19,7 +19,7 @@ use Rattle.refusals.specs.declared.refusal.Refusal.TheVariants.{Memory, DiskWrit
 use Rattle.segment_index.specs.Changes.{SameBefore}
 use Rattle.store_model.specs.Files.{Files}
 use Rattle.store_model.specs.Image.{Store}
-use Rattle.store_model.specs.Slots.{IsIndexOf}
+use Rattle.store_model.specs.Slots.{HasKey, IsPartialIndexOf}
 use Rattle.store_model.specs.Collisions.{IsIn, Stands}
 use Rattle.store_model.specs.Steps.{FitsHeld}
 use Rattle.store_state.specs.Comparing.{FitSoFar}
@@ -105,7 +105,7 @@ module _ (slots : ℕ) (old mid new : DiskView) (reads : Reads Done old mid) whe
   }
 
 module _ (t : Tables) (known : Option PlaceMap) (id : ℕ) (filled : Contents) (e : Ending) (old mid new : DiskView) (reads : Reads Done old mid)
-    (held : Shows old mid (λ image. (store : Store) (m : PlaceMap) → known ≡ Some m → IsIndexOf store.held m → AllByRecursion (FitsHeld filled.kind store image) filled.segments))
+    (held : Shows old mid (λ image. (store : Store) (m : PlaceMap) → known ≡ Some m → IsPartialIndexOf store.held m → AllByRecursion (FitsHeld (HasKey m) filled.kind store image) filled.segments))
     (later : IsLater mid new) (seals : SealsIndexed t id filled e mid new) where
   arrives_after : (S : List ℕ → Type 0) (store : Store) (files : Files) (x : Ending) → Arrives (sealing_indexed S id filled store files) x mid new → Arrives (sealing_indexed S id filled store files) x old new
   arrives_after S store files Done arrives = arrives
@@ -118,20 +118,20 @@ module _ (t : Tables) (known : Option PlaceMap) (id : ℕ) (filled : Contents) (
   pub seals_after : SealsCompared t known id filled e old new
   seals_after = record {
     frame = first_after known t old mid new reads.only later (seals.frame known);
-    moves = λ among store files map known_is is distinct may stands.
+    moves = λ among store files map known_is is indexed distinct may stands.
         let given = stands.known.0 in
         let content = stands.known.1 in
-        let fit : FitBeside (IsIn among) filled.kind filled.segments store given =
+        let fit : FitBeside (IsIn among) map filled.kind filled.segments store given =
         inl (distinct, shown_content old mid _ given held content store map known_is (is.index_is_newest map known_is)) in
         let way = sealing_indexed (IsIn among) id filled store files in
-        let moved = seals.moves among store known files given is (reads.only.content_is ∙ content) may fit (stands_reads (Stands (IsIn among) store files) old mid stands reads.only) in
+        let moved = seals.moves among store known map files given is (reads.only.content_is ∙ content) may indexed fit (stands_reads (Stands (IsIn among) store files) old mid stands reads.only) in
         record {
           leaves = leaves_on (Stands (IsIn among) store files) way.between way.between old mid new reads.only.later.clock_is
               (reads_leave (Stands (IsIn among) store files) old mid stands.each reads.only) moved.leaves (λ c has. inl has) (λ c has. has);
           arrives = arrives_after (IsIn among) store files e moved.arrives;
         };
     holds = λ among store files map given now known_is is content content_now stands distinct may.
-        seals.holds among store known files given now is (reads.only.content_is ∙ content) content_now stands may
+        seals.holds among store known map files given now is (reads.only.content_is ∙ content) content_now stands may
         (inl (distinct, shown_content old mid _ given held content store map known_is (is.index_is_newest map known_is)));
   }
 
@@ -146,19 +146,19 @@ module _ (t : Tables) (known : Option PlaceMap) (id : ℕ) (filled : Contents) (
       stands_now : StandsFor (Stands S store files) new
       stands_now = stands_reads (Stands S store files) old new stands reads
 
-  holds_read : (store : Store) (given held : List ℕ) (b : Blame) → old.content ≡ Some given → new.content ≡ Some held → KeepsHeld (ending_of b) id filled store given held
-  holds_read store given held NoCall content now = same_keeps store given held (same_content held given (sym now ∙ reads.content_is ∙ content))
-  holds_read store given held ReadCall content now = same_keeps store given held (same_content held given (sym now ∙ reads.content_is ∙ content))
-  holds_read store given held WriteCall content now = tt
+  holds_read : (map : PlaceMap) (store : Store) (given held : List ℕ) (b : Blame) → old.content ≡ Some given → new.content ≡ Some held → KeepsHeld map (ending_of b) id filled store given held
+  holds_read map store given held NoCall content now = same_keeps store given held (same_content held given (sym now ∙ reads.content_is ∙ content))
+  holds_read map store given held ReadCall content now = same_keeps store given held (same_content held given (sym now ∙ reads.content_is ∙ content))
+  holds_read map store given held WriteCall content now = tt
 
   seals_read : (b : Blame) → SealsCompared t known id filled (ending_of b) old new
   seals_read b = record {
     frame = first_reads known t old new reads;
-    moves = λ among store files map known_is is distinct may stands. record {
+    moves = λ among store files map known_is is indexed distinct may stands. record {
       leaves = reads_leave (sealing_indexed (IsIn among) id filled store files).between old new (λ c image. inl (stands.each c image)) reads;
       arrives = arrives_read (IsIn among) store files b stands;
     };
-    holds = λ among store files map given held known_is is content now stands distinct may. holds_read store given held b content now;
+    holds = λ among store files map given held known_is is content now stands distinct may. holds_read map store given held b content now;
   }
 
   -- whatever was refused

@@ -29,8 +29,8 @@ use Rattle.refusals.specs.declared.refusal.Refusal.TheVariants.{WrongPart, Unpin
 use Rattle.store_model.specs.Collisions.{HasNoCollisions, IsIn, IsAmong, Stands}
 use Rattle.store_model.specs.Files.{Files}
 use Rattle.store_model.specs.Image.{Store}
-use Rattle.store_model.specs.Slots.{AreHeaders, Copy, IsIndexOf}
-use Rattle.store_model.specs.Steps.{FitsHeld}
+use Rattle.store_model.specs.Slots.{AreHeaders, Copy, HasKey, IsPartialIndexOf}
+use Rattle.store_model.specs.Steps.{AnyKey, FitsHeld}
 use Rattle.store_model.specs.Trees.{HasNewest, IsNodeOf, bytes_at}
 use Rattle.store_model.proofs.Copies.{some_same, headers_of_right}
 use Rattle.store_model.proofs.HeldSlots.{HasLevel, IsNodeEntry, levels_so, newest_so, nodes_so}
@@ -50,7 +50,7 @@ use Rattle.ingest_steps.proofs.Pinned.{all_pinned, pins_with, pin_right}
 pub node_of : (s : Segment) → IsNodeSegment s → IsNodeOf s.level s.bytes
 node_of s right = record { node = contents_in s.bytes; right = right.bytes.node; level_is = sym right.level; spelled = right.bytes.spelled }
 
-module _ (S : List ℕ → Type 0) (store : Store) (files : Files) (image : List ℕ) (stands : Stands S store files image) (places : PlaceMap) (index : IsIndexOf store.held places) where
+module _ (S : List ℕ → Type 0) (store : Store) (files : Files) (image : List ℕ) (stands : Stands S store files image) (places : PlaceMap) (index : IsPartialIndexOf store.held places) where
   headers : AreHeaders store.held
   headers = headers_of_right image store stands.holds.right
 
@@ -59,14 +59,14 @@ module _ (S : List ℕ → Type 0) (store : Store) (files : Files) (image : List
       → HasNewest store.held (segment_key Leaf s) 0 s.bytes image
   leaf_newest distinct s place among found long =
       let copy = finds store places (segment_key Leaf s) place index found in
-      let fits : FitsHeld Leaf store image s =
-      λ c is. ap (λ (x : Copy). x.place.length) (some_same c copy.0 (sym is ∙ copy.1)) ∙ ap (λ (p : Place). p.length) copy.2 ∙ long in
+      let fits : FitsHeld AnyKey Leaf store image s =
+      λ c counts is. ap (λ (x : Copy). x.place.length) (some_same c copy.0 (sym is ∙ copy.1)) ∙ ap (λ (p : Place). p.length) copy.2 ∙ long in
       let old = newest_so HasLevel store.held Leaf (sha256 s.bytes) image copy.0 (levels_so 0 store.held image headers) copy.1 in
       record {
         copy = copy.0;
         copy_is = copy.1;
         level_is = old.level_is ∙ eqb-true old.entry.level 0 old.so;
-        bytes_are = newest_by_fit S Leaf store files image image distinct stands s (record { of_kind = tt; among = among }) fits copy.0 copy.1;
+        bytes_are = newest_by_fit S AnyKey Leaf store files image image distinct stands s (record { of_kind = tt; among = among }) fits copy.0 tt copy.1;
       }
 
   -- of a node: the bytes that were read are the node's, and so is the level
@@ -86,12 +86,12 @@ module _ (S : List ℕ → Type 0) (store : Store) (files : Files) (image : List
   -- the actor's pins with that of the segment
   pub pins_claimed : HasNoCollisions S → (kind : Kind) (s : Segment) (place : Place) (pins : PinMap) → IsOfKind kind s → IsAmong S kind s.bytes
       → finite.get places (segment_key kind s) ≡ Some place → place.length ≡ length s.bytes → FitsBytes kind s.bytes place image
-      → first_unpinned (record { kind = kind; segment = s }) pins ≡ None → ArePinsOf store.held image pins
-      → ArePinsOf store.held image (finite.insert pins (segment_key kind s) (pin_of (record { kind = kind; segment = s })))
+      → first_unpinned (record { kind = kind; segment = s }) pins ≡ None → ArePinsOf (HasKey places) store.held image pins
+      → ArePinsOf (HasKey places) store.held image (finite.insert pins (segment_key kind s) (pin_of (record { kind = kind; segment = s })))
   pins_claimed distinct Leaf s place pins right among found long fits none are =
-      pins_with store.held image pins (record { kind = Leaf; segment = record { level = 0; bytes = s.bytes } }) are tt (leaf_newest distinct s place among found long) tt
+      pins_with (HasKey places) store.held image pins (record { kind = Leaf; segment = record { level = 0; bytes = s.bytes } }) are tt (leaf_newest distinct s place among found long) (place, found) tt
   pins_claimed distinct Tree s place pins right among found long fits none are =
-      pins_with store.held image pins (record { kind = Tree; segment = s }) are right (node_newest s place right found fits)
+      pins_with (HasKey places) store.held image pins (record { kind = Tree; segment = s }) are right (node_newest s place right found fits) (place, found)
       (all_pinned pins (children_of (record { kind = Tree; segment = s })) none)
 
 -- ---- what a look-up says
@@ -164,9 +164,9 @@ module _ (parts new : List Part) (actor : ℕ) (seg : KindSegment) (key : List �
       let pins : PinMap = may.pins in
       let each = pins_claimed (IsIn among) store files image stands places index distinct seg.kind seg.segment was.place pins step in_set (was.found places known_is) was.length_is
       (shown_content old after (FitsBytes seg.kind seg.segment.bytes was.place) image was.same content) may.pinned in
-      subst (λ (p : List Part). HoldsPart store.held image (part_of p actor)) (sym (parts_claimed pins may.writing))
-      (subst (HoldsPart store.held image) (sym (apart.same parts actor (Writing (finite.insert pins (key_of_seg seg) (pin_of seg))) there))
-      (each (subst (HoldsPart store.held image) may.writing holds)))
+      subst (λ (p : List Part). HoldsPart (HasKey places) store.held image (part_of p actor)) (sym (parts_claimed pins may.writing))
+      (subst (HoldsPart (HasKey places) store.held image) (sym (apart.same parts actor (Writing (finite.insert pins (key_of_seg seg) (pin_of seg))) there))
+      (each (subst (HoldsPart (HasKey places) store.held image) may.writing holds)))
 
 -- ---- refusals
 

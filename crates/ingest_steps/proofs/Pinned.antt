@@ -94,7 +94,7 @@ all_pinned pins (c ∷ cs) none =
 
 -- ---- pins of segments that are held
 
-module _ (held : List (Option HeaderValue)) (image : List ℕ) where
+module _ (P : List ℕ → Type 0) (held : List (Option HeaderValue)) (image : List ℕ) where
   -- segments of one key, each of which is the newest copy, have one pin
   same_pin : (key : List ℕ) (a b : KindSegment) → key_of_seg a ≡ key → key_of_seg b ≡ key → HasNewest held key a.segment.level a.segment.bytes image
       → HasNewest held key b.segment.level b.segment.bytes image → pin_of a ≡ pin_of b
@@ -107,8 +107,8 @@ module _ (held : List (Option HeaderValue)) (image : List ℕ) where
       ∙ ap (λ (l : ℕ). pin_by b.kind (record { level = l; bytes = a.segment.bytes })) level
       ∙ ap (λ (x : List ℕ). pin_by b.kind (record { level = b.segment.level; bytes = x })) bytes
 
-  module _ (pins : PinMap) (seg : KindSegment) (are : ArePinsOf held image pins) (right : IsStepSegment seg)
-      (newest_is : HasNewest held (key_of_seg seg) seg.segment.level seg.segment.bytes image) where
+  module _ (pins : PinMap) (seg : KindSegment) (are : ArePinsOf P held image pins) (right : IsStepSegment seg)
+      (newest_is : HasNewest held (key_of_seg seg) seg.segment.level seg.segment.bytes image) (counts : P (key_of_seg seg)) where
     same_had : (had : Pin) → finite.get pins (key_of_seg seg) ≡ Some had → had ≡ pin_of seg
     same_had had there =
         let is = are (key_of_seg seg) had there in
@@ -119,12 +119,12 @@ module _ (held : List (Option HeaderValue)) (image : List ℕ) where
     pinned_still = all_still pins (key_of_seg seg) (pin_of seg) same_had
 
     -- one more, whose children are there
-    pub pins_with : AllByRecursion (λ c. has_pin pins c.key c.pin ≡ true) (children_of seg) → ArePinsOf held image (finite.insert pins (key_of_seg seg) (pin_of seg))
+    pub pins_with : AllByRecursion (λ c. has_pin pins c.key c.pin ≡ true) (children_of seg) → ArePinsOf P held image (finite.insert pins (key_of_seg seg) (pin_of seg))
     pins_with children key pin found =
         by_tie (eq_by_cmp (slice_cmp nat_cmp) key (key_of_seg seg)) refl (sym (finite.get-insert nat_list_cmp_total pins (key_of_seg seg) (pin_of seg) key) ∙ found)
       where
         by_tie : (b : Bool) → eq_by_cmp (slice_cmp nat_cmp) key (key_of_seg seg) ≡ b → cond b (Some (pin_of seg)) (finite.get pins key) ≡ Some pin
-            → HoldsPin held image (finite.insert pins (key_of_seg seg) (pin_of seg)) key pin
+            → HoldsPin P held image (finite.insert pins (key_of_seg seg) (pin_of seg)) key pin
         by_tie true tie is =
             let key_is : key_of_seg seg ≡ key = sym (key_tied key (key_of_seg seg) tie) in
             record {
@@ -134,7 +134,16 @@ module _ (held : List (Option HeaderValue)) (image : List ℕ) where
               right = right;
               newest = subst (λ (k : List ℕ). HasNewest held k seg.segment.level seg.segment.bytes image) key_is newest_is;
               children = pinned_still (children_of seg) children;
+              counts = subst P key_is counts;
             }
         by_tie false tie is =
             let had = are key pin is in
-            record { segment = had.segment; key_is = had.key_is; pin_is = had.pin_is; right = had.right; newest = had.newest; children = pinned_still (children_of had.segment) had.children }
+            record {
+              segment = had.segment;
+              key_is = had.key_is;
+              pin_is = had.pin_is;
+              right = had.right;
+              newest = had.newest;
+              children = pinned_still (children_of had.segment) had.children;
+              counts = had.counts;
+            }

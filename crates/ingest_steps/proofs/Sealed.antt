@@ -17,9 +17,9 @@ use Rattle.container_meta.specs.Segments.{Segment, Contents, segment_key}
 use Rattle.container_log.specs.Writing.{Seals, IsSealed}
 use Rattle.store_model.specs.Files.{Files}
 use Rattle.store_model.specs.Image.{Store}
-use Rattle.store_model.specs.Slots.{HoldsContainer, newest, last_id, free_slots, first_free}
+use Rattle.store_model.specs.Slots.{HasKey, HoldsContainer, newest, last_id, free_slots, first_free}
 use Rattle.store_model.specs.Collisions.{ByteSet, IsIn, Stands}
-use Rattle.store_model.specs.Steps.{CanSeal, MaySeal, KeepsCopies, with_sealed}
+use Rattle.store_model.specs.Steps.{AnyKey, CanSeal, MaySeal, KeepsCopies, with_sealed}
 use Rattle.store_model.specs.Trees.{HasNewest}
 use Rattle.store_model.proofs.FramedTrees.{unsealed}
 use Rattle.store_model.proofs.Free.{as_many}
@@ -27,6 +27,7 @@ use Rattle.store_model.proofs.Free.{first_free_closed}
 use Rattle.store_model.proofs.SealedTrees.{IsNewestOf, all_by_fit, newest_of_none, newest_kept, newest_sealed, sealed}
 use Rattle.store_model.proofs.Sound.{sound_of_right}
 use Rattle.store_state.specs.declared.tables.Tables.{Tables}
+use Rattle.store_state.specs.Invariant.{IndexesFiles}
 use Rattle.store_state.specs.Tables.{Represents, Runs}
 use Rattle.ingest_steps.specs.Sealing.{IsSlotFor, HasSlot, FitBeside, KeepsHeld, IsSlotOf, SealsContainer, SameButSlotOf, ChangesSlotAlone, sealing}
 use Rattle.ingest_steps.proofs.SlotFrame.{frame_of}
@@ -34,48 +35,48 @@ use Rattle.ingest_steps.proofs.SlotFrame.{frame_of}
 pub same_content : (a b : List ℕ) → Some a ≡ Some b → a ≡ b
 same_content a b is = cc
 
-pub same_keeps : (store : Store) (given held : List ℕ) → held ≡ given → KeepsCopies store given store held
-same_keeps store given held is = λ key level bytes has. subst (HasNewest store.held key level bytes) (sym is) has
+pub same_keeps : (store : Store) (given held : List ℕ) → held ≡ given → KeepsCopies AnyKey store given store held
+same_keeps store given held is = λ key level bytes counts has. subst (HasNewest store.held key level bytes) (sym is) has
 
 -- ---- in terms of the store
 
-all_of_none : (kind : Kind) (store : Store) (image : List ℕ) (segments : List Segment) → AllByRecursion (λ s. newest 0 store.held (segment_key kind s) ≡ None) segments
-    → AllByRecursion (IsNewestOf kind store image image) segments
-all_of_none kind store image [] none = tt
-all_of_none kind store image (s ∷ ss) none = (newest_of_none kind store image image s none.0, all_of_none kind store image ss none.1)
+all_of_none : (P : List ℕ → Type 0) (kind : Kind) (store : Store) (image : List ℕ) (segments : List Segment) → AllByRecursion (λ s. newest 0 store.held (segment_key kind s) ≡ None) segments
+    → AllByRecursion (IsNewestOf P kind store image image) segments
+all_of_none P kind store image [] none = tt
+all_of_none P kind store image (s ∷ ss) none = (newest_of_none P kind store image image s none.0, all_of_none P kind store image ss none.1)
 
-module _ (S : List ℕ → Type 0) (id : ℕ) (filled : Contents) (store : Store) (files : Files) (given : List ℕ)
+module _ (S : List ℕ → Type 0) (index : PlaceMap) (id : ℕ) (filled : Contents) (store : Store) (files : Files) (given : List ℕ)
     (spare : RESERVE < free_slots store.held) (above : last_id store.held < id)
-    (may : AllByRecursion (MaySeal S filled.kind) filled.segments) (fit : FitBeside S filled.kind filled.segments store given) where
+    (may : AllByRecursion (MaySeal S filled.kind) filled.segments) (fit : FitBeside S index filled.kind filled.segments store given) where
   -- the newest copies of the segments' keys are the segments
-  newests : Stands S store files given → AllByRecursion (IsNewestOf filled.kind store given given) filled.segments
+  newests : Stands S store files given → AllByRecursion (IsNewestOf (HasKey index) filled.kind store given given) filled.segments
   newests stands = elim fit [
-    | inl each ↦ all_by_fit S filled.kind store files given given each.0 stands filled.segments may each.1
-    | inr none ↦ all_of_none filled.kind store given filled.segments none
+    | inl each ↦ all_by_fit S (HasKey index) filled.kind store files given given each.0 stands filled.segments may each.1
+    | inr none ↦ all_of_none (HasKey index) filled.kind store given filled.segments none
   ]
 
   can : (c : List ℕ) → HoldsContainer c (first_free store.held) id filled.kind filled.segments → CanSeal id filled.kind filled.segments store
   can c container = record { slot = spare; new_id = above; right = container.header.0 }
 
   -- once it is written
-  once : (c : List ℕ) → Stands S store files given → IsSealed (first_free store.held) id filled.kind filled.segments given c
+  once : IndexesFiles index files → (c : List ℕ) → Stands S store files given → IsSealed (first_free store.held) id filled.kind filled.segments given c
       → Stands S (with_sealed id filled.kind filled.segments store) files c
-  once c stands (same, container) =
-      sealed S id filled.kind filled.segments store files given given c stands stands same container (can c container) may (newests stands)
+  once indexed c stands (same, container) =
+      sealed S (HasKey index) id filled.kind filled.segments store files given given c stands stands same container (can c container) may (newests stands) indexed
 
   -- what was held is held
   pub kept_once : (c : List ℕ) → Stands S store files given → IsSealed (first_free store.held) id filled.kind filled.segments given c
-      → KeepsCopies store given (with_sealed id filled.kind filled.segments store) c
+      → KeepsCopies (HasKey index) store given (with_sealed id filled.kind filled.segments store) c
   kept_once c stands (same, container) =
-      newest_kept S id filled.kind filled.segments store files given c stands same container (can c container) may (newests stands)
+      newest_kept S (HasKey index) id filled.kind filled.segments store files given c stands same container (can c container) may (newests stands)
 
   -- while it is written
-  while : (d c : List ℕ) → Stands S store files given → Stands S store files d → Seals (first_free store.held) id filled.kind filled.segments given d c
+  while : IndexesFiles index files → (d c : List ℕ) → Stands S store files given → Stands S store files d → Seals (first_free store.held) id filled.kind filled.segments given d c
       → Stands S store files c ⊎ Stands S (with_sealed id filled.kind filled.segments store) files c
-  while d c stands was (inl (same, still)) =
+  while indexed d c stands was (inl (same, still)) =
       inl (unsealed S store files d c was same (still (first_free_closed d store was.holds.right (omega (arith, was.holds.reserve)))))
-  while d c stands was (inr (same, inl closed)) = inl (unsealed S store files given c stands same closed)
-  while d c stands was (inr (same, inr container)) = inr (once c stands (same, container))
+  while indexed d c stands was (inr (same, inl closed)) = inl (unsealed S store files given c stands same closed)
+  while indexed d c stands was (inr (same, inr container)) = inr (once indexed c stands (same, container))
 
   -- each of the segments is
   segments_once : (c : List ℕ) → IsSealed (first_free store.held) id filled.kind filled.segments given c
@@ -83,7 +84,7 @@ module _ (S : List ℕ → Type 0) (id : ℕ) (filled : Contents) (store : Store
   segments_once c (same, container) = newest_sealed id filled.kind filled.segments store c (omega (arith, spare)) above container
 
   holds_written : (e : Ending) (old new : DiskView) (held : List ℕ) → old.content ≡ Some given → new.content ≡ Some held → Stands S store files given
-      → Written (IsSealed (first_free store.held) id filled.kind filled.segments) e old new → KeepsHeld e id filled store given held
+      → Written (IsSealed (first_free store.held) id filled.kind filled.segments) e old new → KeepsHeld index e id filled store given held
   holds_written Done old new held known is stands written =
       let c = written.0 given known in
       let whole = subst (IsSealed (first_free store.held) id filled.kind filled.segments given) (same_content c.0 held (sym c.1 ∙ is)) c.2 in
@@ -99,14 +100,14 @@ module _ (S : List ℕ → Type 0) (id : ℕ) (filled : Contents) (store : Store
   abbrev Whole : List ℕ → List ℕ → Type 0
   Whole = IsSealed (first_free store.held) id filled.kind filled.segments
 
-  pub moves_sealed : (e : Ending) (old new : DiskView) → old.content ≡ Some given → Writes Steps Whole e old new → Moves (sealing S id filled store files) e old new
-  moves_sealed e old new known writes =
+  pub moves_sealed : IndexesFiles index files → (e : Ending) (old new : DiskView) → old.content ≡ Some given → Writes Steps Whole e old new → Moves (sealing S id filled store files) e old new
+  moves_sealed indexed e old new known writes =
       let P : List ℕ → Type 0 = Stands S store files in
       let Q : List ℕ → Type 0 = Stands S (with_sealed id filled.kind filled.segments store) files in
       let here : (g : List ℕ) → old.content ≡ Some g → g ≡ given = λ g is. same_content g given (sym is ∙ known) in
       moves_written P (λ c. P c ⊎ Q c) Q (λ g d c. (g ≡ given) × Steps g d c) (λ g c. (g ≡ given) × Whole g c) old new
-      (λ g c stands is. once c (subst P is.0 stands) (subst (λ (x : List ℕ). Whole x c) is.0 is.1)) e (λ c stands. inl stands)
-      (λ g d c stands was is. while d c (subst P is.0 stands) was (subst (λ (x : List ℕ). Steps x d c) is.0 is.1))
+      (λ g c stands is. once indexed c (subst P is.0 stands) (subst (λ (x : List ℕ). Whole x c) is.0 is.1)) e (λ c stands. inl stands)
+      (λ g d c stands was is. while indexed d c (subst P is.0 stands) was (subst (λ (x : List ℕ). Steps x d c) is.0 is.1))
       (writes_weaker Steps (λ g d c. (g ≡ given) × Steps g d c) Whole (λ g c. (g ≡ given) × Whole g c) old new
       (λ g c is whole. (here g is, whole)) e (λ g d c is image step. (here g is, step)) writes)
 
@@ -136,13 +137,13 @@ slot_in t slot has among store known files given keeps stands =
 pub seals_container : (t : Tables) (slot id : ℕ) (filled : Contents) → HasSlot t slot → id ≡ t.held.last_id + 1 → (e : Ending) (old new : DiskView)
     → Writes (Seals slot id filled.kind filled.segments) (IsSealed slot id filled.kind filled.segments) e old new → SealsContainer t id filled e old new
 seals_container t slot id filled has next e old new writes = record {
-  moves = λ among store known files given keeps content may fit stands.
+  moves = λ among store known index files given keeps content may indexed fit stands.
       let holds : Stands (IsIn among) store files given = stands_content (Stands (IsIn among) store files) old stands given content in
       let at = slot_in t slot has among store known files given keeps holds in
-      moves_sealed (IsIn among) id filled store files given at.spare (omega (arith, next, keeps.slots_hold.last_id_is)) may fit e old new content (of_slot at.first) stands;
-  holds = λ among store known files given held keeps content now holds may fit.
+      moves_sealed (IsIn among) index id filled store files given at.spare (omega (arith, next, keeps.slots_hold.last_id_is)) may fit indexed e old new content (of_slot at.first) stands;
+  holds = λ among store known index files given held keeps content now holds may fit.
       let at = slot_in t slot has among store known files given keeps holds in
-      holds_written (IsIn among) id filled store files given at.spare (omega (arith, next, keeps.slots_hold.last_id_is)) may fit e old new held content now holds
+      holds_written (IsIn among) index id filled store files given at.spare (omega (arith, next, keeps.slots_hold.last_id_is)) may fit e old new held content now holds
       (of_slot at.first).written;
 }
   where

@@ -32,7 +32,7 @@ use Rattle.namespace.specs.Names.{NameMap}
 use Rattle.store_model.specs.Files.{Files}
 use Rattle.store_model.specs.Image.{Store, IsValidFor}
 use Rattle.store_model.specs.Indexing.{with_entries}
-use Rattle.store_model.specs.Slots.{Copy, IsIndexOf, free_slots, newest, with_slot}
+use Rattle.store_model.specs.Slots.{Copy, HasKey, IsPartialIndexOf, free_slots, newest, with_slot}
 use Rattle.store_model.specs.Collisions.{IsIn, Stands}
 use Rattle.store_model.specs.Steps.{CanSeal, FitsHeld, with_sealed}
 use Rattle.store_model.specs.Trees.{HasNewest, bytes_at}
@@ -41,7 +41,7 @@ use Rattle.store_model.proofs.FramedTrees.{newest_framed, stands_framed}
 use Rattle.store_model.proofs.Frames.{SameTo}
 use Rattle.store_model.proofs.Free.{as_many}
 use Rattle.store_model.proofs.HeldSlots.{all_held, copy_still}
-use Rattle.store_model.proofs.IndexSize.{index_sealed}
+use Rattle.store_model.proofs.IndexSize.{partial_sealed}
 use Rattle.store_model.proofs.Valid.{free_sealed, valid_sealed}
 use Rattle.store_state.specs.declared.tables.Tables.{Tables}
 use Rattle.store_state.specs.Settled.{KeepsWhatCounts, Left, Steps}
@@ -91,15 +91,15 @@ module _ (t new : Tables) (slot id : ℕ) (filled : Contents) (has : HasSlot t s
   can_seal store known is at = record { slot = at.spare; new_id = omega (arith, next, is.slots_hold.last_id_is); right = right }
 
   indexed : (store : Store) (known : Option PlaceMap) → Represents store known t → IsSlotOf slot store
-      → KnownMap (places_with filled slot known) (IsIndexOf (with_sealed id filled.kind filled.segments store).held)
+      → KnownMap (places_with filled slot known) (IsPartialIndexOf (with_sealed id filled.kind filled.segments store).held)
   indexed store known is at = by_known known is.index_is_newest
     where
-      by_known : (k : Option PlaceMap) → KnownMap k (IsIndexOf store.held) → KnownMap (places_with filled slot k) (IsIndexOf (with_sealed id filled.kind filled.segments store).held)
+      by_known : (k : Option PlaceMap) → KnownMap k (IsPartialIndexOf store.held) → KnownMap (places_with filled slot k) (IsPartialIndexOf (with_sealed id filled.kind filled.segments store).held)
       by_known None newest_is m e = absurd cc
       by_known (Some places) newest_is m e =
-          subst (IsIndexOf (with_sealed id filled.kind filled.segments store).held)
+          subst (IsPartialIndexOf (with_sealed id filled.kind filled.segments store).held)
           (ap (λ (i : ℕ). with_entries filled.kind i (entries_from 0 filled.segments) places) (sym at.first) ∙ some_same (with_entries filled.kind slot (entries_from 0 filled.segments) places) m e)
-          (index_sealed id filled.kind filled.segments store (can_seal store known is at) places (newest_is places refl) right)
+          (partial_sealed id filled.kind filled.segments store (can_seal store known is at) places (newest_is places refl) right)
 
   represents_sealed : (store : Store) (known : Option PlaceMap) → Represents store known t → IsSlotOf slot store
       → Represents (with_sealed id filled.kind filled.segments store) (places_with filled slot known) new
@@ -149,24 +149,24 @@ module _ (store : Store) (slots : ℕ) (slots_are : slots ≡ store.slots) where
   stands_before S files old new stands same = stands_framed S store files old new stands (to_slots old new same) same.size
 
   -- what fits in one image fits in the other
-  fits_before : (S : List ℕ → Type 0) (files : Files) (old new : List ℕ) → Stands S store files old → SameBefore (slot_at slots) old new → (kind : Kind) (ss : List Segment)
-      → AllByRecursion (FitsHeld kind store old) ss → AllByRecursion (FitsHeld kind store new) ss
-  fits_before S files old new stands same kind [] all = tt
-  fits_before S files old new stands same kind (s ∷ ss) all = (one kind all.0, fits_before S files old new stands same kind ss all.1)
+  fits_before : (S : List ℕ → Type 0) (files : Files) (old new : List ℕ) → Stands S store files old → SameBefore (slot_at slots) old new → (P : List ℕ → Type 0) (kind : Kind) (ss : List Segment)
+      → AllByRecursion (FitsHeld P kind store old) ss → AllByRecursion (FitsHeld P kind store new) ss
+  fits_before S files old new stands same P kind [] all = tt
+  fits_before S files old new stands same P kind (s ∷ ss) all = (one kind all.0, fits_before S files old new stands same P kind ss all.1)
     where
       same_copy : (key : List ℕ) (copy : Copy) → newest 0 store.held key ≡ Some copy → bytes_at copy.place new ≡ bytes_at copy.place old
       same_copy key copy e =
           copy_still old new store.held key copy (headers_of_right old store stands.holds.right)
           (all_held old new 0 store.held (λ slot from below p n above within. to_slots old new same p n (omega (arith, below, within, stands.holds.right.many)))) e
 
-      one : (k : Kind) → FitsHeld k store old s → FitsHeld k store new s
-      one Leaf fits = λ copy e. fits copy e
-      one Tree fits = λ copy e. same_copy (segment_key Tree s) copy e ∙ fits copy e
+      one : (k : Kind) → FitsHeld P k store old s → FitsHeld P k store new s
+      one Leaf fits = λ copy counts e. fits copy counts e
+      one Tree fits = λ copy counts e. same_copy (segment_key Tree s) copy e ∙ fits copy counts e
 
-  fit_before : (S : List ℕ → Type 0) (files : Files) (old new : List ℕ) → Stands S store files old → SameBefore (slot_at slots) old new → (kind : Kind) (ss : List Segment)
-      → FitBeside S kind ss store old → FitBeside S kind ss store new
-  fit_before S files old new stands same kind ss fit = elim fit [
-    | inl each ↦ inl (each.0, fits_before S files old new stands same kind ss each.1)
+  fit_before : (S : List ℕ → Type 0) (index : PlaceMap) (files : Files) (old new : List ℕ) → Stands S store files old → SameBefore (slot_at slots) old new → (kind : Kind) (ss : List Segment)
+      → FitBeside S index kind ss store old → FitBeside S index kind ss store new
+  fit_before S index files old new stands same kind ss fit = elim fit [
+    | inl each ↦ inl (each.0, fits_before S files old new stands same (HasKey index) kind ss each.1)
     | inr none ↦ inr none
   ]
 
@@ -201,22 +201,22 @@ module _ (t : Tables) (id : ℕ) (filled : Contents) (b : Blame) (old new : Disk
   arrives_refused S store files WriteCall stands = record { known = stands.known; each = λ c image. inl (stands.each c image) }
 
   holds_refused : (store : Store) (given held : List ℕ) (a : Blame) → ((key : List ℕ) (level : ℕ) (bytes : List ℕ) → HasNewest store.held key level bytes given → HasNewest store.held key level bytes held)
-      → KeepsHeld (ending_of a) id filled store given held
-  holds_refused store given held NoCall each = each
-  holds_refused store given held ReadCall each = each
-  holds_refused store given held WriteCall each = tt
+      → (index : PlaceMap) → KeepsHeld index (ending_of a) id filled store given held
+  holds_refused store given held NoCall each index = λ key level bytes counts has. each key level bytes has
+  holds_refused store given held ReadCall each index = λ key level bytes counts has. each key level bytes has
+  holds_refused store given held WriteCall each index = tt
 
   pub seals_refused : SealsIndexed t id filled (ending_of b) old new
   seals_refused = record {
     frame = λ known. first_changed known t (ending_of b) old new changes;
-    moves = λ among store known files given is content may fit stands. record {
+    moves = λ among store known index files given is content may indexed fit stands. record {
       leaves = leaves_weaker (Stands (IsIn among) store files) (sealing_indexed (IsIn among) id filled store files).between old new (λ c has. inl has)
           (leaves_before store t.slots is.slots_are (IsIn among) files (ending_of b) old new changes stands);
       arrives = arrives_refused (IsIn among) store files b (then_stands store t.slots is.slots_are (IsIn among) files (ending_of b) old new changes stands);
     };
-    holds = λ among store known files given held is content now stands may fit.
+    holds = λ among store known index files given held is content now stands may fit.
         holds_refused store given held b
-        (newest_framed store given held stands.holds.right (to_slots store t.slots is.slots_are given held (both_known (SameBefore (slot_at t.slots)) old.content new.content given held changes.content_is content now)));
+        (newest_framed store given held stands.holds.right (to_slots store t.slots is.slots_are given held (both_known (SameBefore (slot_at t.slots)) old.content new.content given held changes.content_is content now))) index;
   }
 
 -- it was, and then the container was written
@@ -231,12 +231,12 @@ module _ (t : Tables) (id : ℕ) (filled : Contents) (e : Ending) (old mid new :
   arrives_on S store files Unread stands (inr none) = absurd (none.each none.known.0 (new.as_read none.known.0 none.known.1))
   arrives_on S store files Broken stands arrives = arrives
 
-  holds_on : (store : Store) (given then held : List ℕ) (x : Ending) → ((key : List ℕ) (level : ℕ) (bytes : List ℕ) → HasNewest store.held key level bytes given → HasNewest store.held key level bytes then)
-      → KeepsHeld x id filled store then held → KeepsHeld x id filled store given held
-  holds_on store given then held Done each keep = (λ key level bytes has. keep.0 key level bytes (each key level bytes has), keep.1)
-  holds_on store given then held Refused each keep = λ key level bytes has. keep key level bytes (each key level bytes has)
-  holds_on store given then held Unread each keep = λ key level bytes has. keep key level bytes (each key level bytes has)
-  holds_on store given then held Broken each keep = tt
+  holds_on : (index : PlaceMap) (store : Store) (given then held : List ℕ) (x : Ending) → ((key : List ℕ) (level : ℕ) (bytes : List ℕ) → HasNewest store.held key level bytes given → HasNewest store.held key level bytes then)
+      → KeepsHeld index x id filled store then held → KeepsHeld index x id filled store given held
+  holds_on index store given then held Done each keep = (λ key level bytes counts has. keep.0 key level bytes counts (each key level bytes has), keep.1)
+  holds_on index store given then held Refused each keep = λ key level bytes counts has. keep key level bytes counts (each key level bytes has)
+  holds_on index store given then held Unread each keep = λ key level bytes counts has. keep key level bytes counts (each key level bytes has)
+  holds_on index store given then held Broken each keep = tt
 
   same_then : (given then : List ℕ) → old.content ≡ Some given → mid.content ≡ Some then → SameBefore (slot_at t.slots) given then
   same_then given then content is = both_known (SameBefore (slot_at t.slots)) old.content mid.content given then changes.content_is content is
@@ -244,24 +244,24 @@ module _ (t : Tables) (id : ℕ) (filled : Contents) (e : Ending) (old mid new :
   pub seals_on : SealsIndexed t id filled e old new
   seals_on = record {
     frame = λ known. first_on known t slot has old mid new changes later alone;
-    moves = λ among store known files given is content may fit stands.
+    moves = λ among store known index files given is content may indexed fit stands.
         let then = changes.later.tells given content in
         let same = same_then given then.0 content then.1 in
         let holds = stands.each given (old.as_read given content) in
         let first = leaves_before store t.slots is.slots_are (IsIn among) files Done old mid changes stands in
         let stands_then = then_stands store t.slots is.slots_are (IsIn among) files Done old mid changes stands in
-        let moved = seals.moves among store known files then.0 is then.1 may (fit_before store t.slots is.slots_are (IsIn among) files given then.0 holds same filled.kind filled.segments fit) stands_then in
+        let moved = seals.moves among store known index files then.0 is then.1 may indexed (fit_before store t.slots is.slots_are (IsIn among) index files given then.0 holds same filled.kind filled.segments fit) stands_then in
         let way = sealing_indexed (IsIn among) id filled store files in
         record {
           leaves = leaves_on (Stands (IsIn among) store files) way.between way.between old mid new changes.later.clock_is first moved.leaves (λ c has. inl has) (λ c has. has);
           arrives = arrives_on (IsIn among) store files e stands_then moved.arrives;
         };
-    holds = λ among store known files given held is content now stands may fit.
+    holds = λ among store known index files given held is content now stands may fit.
         let then = changes.later.tells given content in
         let same = same_then given then.0 content then.1 in
-        holds_on store given then.0 held e (newest_framed store given then.0 stands.holds.right (to_slots store t.slots is.slots_are given then.0 same))
-        (seals.holds among store known files then.0 held is then.1 now (stands_before store t.slots is.slots_are (IsIn among) files given then.0 stands same) may
-        (fit_before store t.slots is.slots_are (IsIn among) files given then.0 stands same filled.kind filled.segments fit));
+        holds_on index store given then.0 held e (newest_framed store given then.0 stands.holds.right (to_slots store t.slots is.slots_are given then.0 same))
+        (seals.holds among store known index files then.0 held is then.1 now (stands_before store t.slots is.slots_are (IsIn among) files given then.0 stands same) may
+        (fit_before store t.slots is.slots_are (IsIn among) index files given then.0 stands same filled.kind filled.segments fit));
   }
 
 -- ---- one after the other

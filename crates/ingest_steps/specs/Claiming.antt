@@ -18,7 +18,7 @@ use Rattle.refusals.specs.declared.refusal.Refusal.TheVariants.{Memory, WrongPar
 use Rattle.store_model.specs.Collisions.{HasNoCollisions, ByteSet, IsIn, IsAmong, Stands}
 use Rattle.store_model.specs.Files.{Files}
 use Rattle.store_model.specs.Image.{Store}
-use Rattle.store_model.specs.Slots.{IsIndexOf}
+use Rattle.store_model.specs.Slots.{HasKey, IsPartialIndexOf}
 use Rattle.store_state.specs.Comparing.{FitsBytes, IsUnlike, IsOneRefusal}
 use Rattle.store_state.specs.Invariant.{HoldsPart}
 use Rattle.ingest_steps.specs.declared.claiming.Claimed.{Claimed}
@@ -81,6 +81,6 @@ abbrev pub KeepsPart : Option (List ℕ) → Option PlaceMap → List Part → �
 KeepsPart content known parts actor seg new =
     (among : ByteSet) (store : Store) (files : Files) (image : List ℕ) (places : PlaceMap)
     → content ≡ Some image → known ≡ Some places
-    → IsIndexOf store.held places → Stands (IsIn among) store files image → HasNoCollisions (IsIn among)
-    → IsAmong (IsIn among) seg.kind seg.segment.bytes → HoldsPart store.held image (part_of parts actor)
-    → HoldsPart store.held image (part_of new actor)
+    → IsPartialIndexOf store.held places → Stands (IsIn among) store files image → HasNoCollisions (IsIn among)
+    → IsAmong (IsIn among) seg.kind seg.segment.bytes → HoldsPart (HasKey places) store.held image (part_of parts actor)
+    → HoldsPart (HasKey places) store.held image (part_of new actor)

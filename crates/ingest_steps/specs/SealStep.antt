@@ -14,6 +14,7 @@ use Rattle.std.specs.List.{AllByRecursion}
 use Rattle.store_model.specs.Collisions.{HasNoCollisions, ByteSet, IsIn, Stands}
 use Rattle.store_model.specs.Files.{Files}
 use Rattle.store_model.specs.Image.{Store}
+use Rattle.store_model.specs.Slots.{HasKey}
 use Rattle.store_model.specs.Steps.{MaySeal, with_sealed}
 use Rattle.store_state.specs.Invariant.{HoldsPart}
 use Rattle.store_state.specs.Tables.{Represents}
@@ -43,13 +44,13 @@ IsStepRefusal part t size known filled unlike Numbers = MayKeep part filled × I
 IsStepRefusal part t size known filled unlike refusal =
     MayKeep part filled × ((slot : ℕ) × HasSlot t slot) × IsSealRefusal known unlike refusal
 
--- What the actor keeps is right still, and closed, where a content stood for files and the map was that of its store; no data
--- of S differs under one digest.
-abbrev pub KeepsSealed : DiskView → DiskView → Option PlaceMap → Tables → List Part → ℕ → Contents → List Part → ℕ
+-- What the actor keeps is right still, and closed, where a content stood for files and the map was that of its store; no data of S
+-- differs under one digest.
+abbrev pub KeepsSealed : DiskView → DiskView → Option PlaceMap → Option PlaceMap → Tables → List Part → ℕ → Contents → List Part → ℕ
     → Type 0
-KeepsSealed old new known t parts actor filled parts_new id =
-    (among : ByteSet) (store : Store) (files : Files) (map : PlaceMap) (given held : List ℕ)
-    → known ≡ Some map → Represents store known t → old.content ≡ Some given → new.content ≡ Some held
+KeepsSealed old new known known_new t parts actor filled parts_new id =
+    (among : ByteSet) (store : Store) (files : Files) (map more : PlaceMap) (given held : List ℕ)
+    → known ≡ Some map → known_new ≡ Some more → Represents store known t → old.content ≡ Some given → new.content ≡ Some held
     → Stands (IsIn among) store files given → HasNoCollisions (IsIn among)
-    → AllByRecursion (MaySeal (IsIn among) filled.kind) filled.segments → HoldsPart store.held given (part_of parts actor)
-    → HoldsPart (with_sealed id filled.kind filled.segments store).held held (part_of parts_new actor)
+    → AllByRecursion (MaySeal (IsIn among) filled.kind) filled.segments → HoldsPart (HasKey map) store.held given (part_of parts actor)
+    → HoldsPart (HasKey more) (with_sealed id filled.kind filled.segments store).held held (part_of parts_new actor)

@@ -19,10 +19,11 @@ use Rattle.store_model.specs.Collisions.{HasNoCollisions, ByteSet, IsIn, Stands}
 use Rattle.store_model.specs.Files.{Files}
 use Rattle.store_model.specs.Image.{Store}
 use Rattle.store_model.specs.Indexing.{with_entries}
-use Rattle.store_model.specs.Slots.{newest, free_slots, first_free}
-use Rattle.store_model.specs.Steps.{CanSeal, MaySeal, FitsHeld, KeepsCopies, with_sealed}
+use Rattle.store_model.specs.Slots.{HasKey, newest, free_slots, first_free}
+use Rattle.store_model.specs.Steps.{AnyKey, CanSeal, MaySeal, FitsHeld, KeepsCopies, with_sealed}
 use Rattle.store_model.specs.Trees.{HasNewest}
 use Rattle.store_state.specs.Comparing.{FitSoFar}
+use Rattle.store_state.specs.Invariant.{IndexesFiles}
 use Rattle.store_state.specs.Settled.{IsSettled}
 use Rattle.store_state.specs.declared.tables.Tables.{Tables}
 use Rattle.store_state.specs.Tables.{Represents, Runs, OfEach}
@@ -77,35 +78,35 @@ abbrev pub sealing : (List ℕ → Type 0) → ℕ → Contents → Store → Fi
 sealing S id filled store files =
     one_step (Stands S store files) (Stands S (with_sealed id filled.kind filled.segments store) files)
 
--- Segments may stand beside what is held. S has no collisions, and each segment fits the newest copy of its key in an image,
--- if there is one; or there is none of any.
-abbrev pub FitBeside : (List ℕ → Type 0) → Kind → List Segment → Store → List ℕ → Type 0
-FitBeside S kind segments store image =
-    (HasNoCollisions S × AllByRecursion (FitsHeld kind store image) segments)
+-- Segments may stand beside what is held. S has no collisions, and each segment fits the newest copy of its key in an image, if the index
+-- has one; or there is none of any.
+abbrev pub FitBeside : (List ℕ → Type 0) → PlaceMap → Kind → List Segment → Store → List ℕ → Type 0
+FitBeside S index kind segments store image =
+    (HasNoCollisions S × AllByRecursion (FitsHeld (HasKey index) kind store image) segments)
     ⊎ AllByRecursion (λ s. newest 0 store.held (segment_key kind s) ≡ None) segments
 
--- What becomes of what the content held: where the container was written each newest copy goes on, and that of each of the
--- segments is the segment; where it was refused each goes on.
-abbrev pub KeepsHeld : Ending → ℕ → Contents → Store → List ℕ → List ℕ → Type 0
-KeepsHeld Done id filled store given new =
-    KeepsCopies store given (with_sealed id filled.kind filled.segments store) new
+-- What becomes of what the content held: where the container was written the newest copy of each key that the index had goes on, and
+-- that of each of the segments is the segment; where it was refused each goes on.
+abbrev pub KeepsHeld : PlaceMap → Ending → ℕ → Contents → Store → List ℕ → List ℕ → Type 0
+KeepsHeld index Done id filled store given new =
+    KeepsCopies (HasKey index) store given (with_sealed id filled.kind filled.segments store) new
     × AllByRecursion (λ s.
     HasNewest (with_sealed id filled.kind filled.segments store).held (segment_key filled.kind s) s.level s.bytes new) filled.segments
-KeepsHeld Refused id filled store given new = KeepsCopies store given store new
-KeepsHeld Unread id filled store given new = KeepsCopies store given store new
-KeepsHeld Broken id filled store given new = Unit {0}
+KeepsHeld index Refused id filled store given new = KeepsCopies AnyKey store given store new
+KeepsHeld index Unread id filled store given new = KeepsCopies AnyKey store given store new
+KeepsHeld index Broken id filled store given new = Unit {0}
 
 -- A container is sealed: of each store that the tables represent, and of any files.
 pub record SealsContainer (t : Tables) (id : ℕ) (filled : Contents) (ending : Ending) (old new : DiskView) : Type 0 where
-  -- where its segments may be sealed, beside what the content holds
-  pub moves : (among : ByteSet) (store : Store) (known : Option PlaceMap) (files : Files) (given : List ℕ)
+  -- where its segments may be sealed, beside what the content holds, and the index has the keys of all files
+  pub moves : (among : ByteSet) (store : Store) (known : Option PlaceMap) (index : PlaceMap) (files : Files) (given : List ℕ)
       → Represents store known t → old.content ≡ Some given → AllByRecursion (MaySeal (IsIn among) filled.kind) filled.segments
-      → FitBeside (IsIn among) filled.kind filled.segments store given
+      → IndexesFiles index files → FitBeside (IsIn among) index filled.kind filled.segments store given
       → Moves (sealing (IsIn among) id filled store files) ending old new
-  pub holds : (among : ByteSet) (store : Store) (known : Option PlaceMap) (files : Files) (given held : List ℕ)
+  pub holds : (among : ByteSet) (store : Store) (known : Option PlaceMap) (index : PlaceMap) (files : Files) (given held : List ℕ)
       → Represents store known t → old.content ≡ Some given → new.content ≡ Some held → Stands (IsIn among) store files given
       → AllByRecursion (MaySeal (IsIn among) filled.kind) filled.segments
-      → FitBeside (IsIn among) filled.kind filled.segments store given → KeepsHeld ending id filled store given held
+      → FitBeside (IsIn among) index filled.kind filled.segments store given → KeepsHeld index ending id filled store given held
 
 -- the same, where the index is changed first; a refusal may come after that change
 abbrev pub sealing_indexed : (List ℕ → Type 0) → ℕ → Contents → Store → Files → Way
@@ -118,14 +119,14 @@ sealing_indexed S id filled store files = record {
 
 pub record SealsIndexed (t : Tables) (id : ℕ) (filled : Contents) (ending : Ending) (old new : DiskView) : Type 0 where
   pub frame : (known : Option PlaceMap) → ChangesFirstFree known t old new
-  pub moves : (among : ByteSet) (store : Store) (known : Option PlaceMap) (files : Files) (given : List ℕ)
+  pub moves : (among : ByteSet) (store : Store) (known : Option PlaceMap) (index : PlaceMap) (files : Files) (given : List ℕ)
       → Represents store known t → old.content ≡ Some given → AllByRecursion (MaySeal (IsIn among) filled.kind) filled.segments
-      → FitBeside (IsIn among) filled.kind filled.segments store given
+      → IndexesFiles index files → FitBeside (IsIn among) index filled.kind filled.segments store given
       → Moves (sealing_indexed (IsIn among) id filled store files) ending old new
-  pub holds : (among : ByteSet) (store : Store) (known : Option PlaceMap) (files : Files) (given held : List ℕ)
+  pub holds : (among : ByteSet) (store : Store) (known : Option PlaceMap) (index : PlaceMap) (files : Files) (given held : List ℕ)
       → Represents store known t → old.content ≡ Some given → new.content ≡ Some held → Stands (IsIn among) store files given
       → AllByRecursion (MaySeal (IsIn among) filled.kind) filled.segments
-      → FitBeside (IsIn among) filled.kind filled.segments store given → KeepsHeld ending id filled store given held
+      → FitBeside (IsIn among) index filled.kind filled.segments store given → KeepsHeld index ending id filled store given held
 
 -- A container that was compared is sealed: of each store that the tables represent and whose map the index is, where no two
 -- data segments of S of one digest differ. What it leaves as it was it leaves so on any disk.
@@ -133,12 +134,12 @@ pub record SealsCompared (t : Tables) (known : Option PlaceMap) (id : ℕ) (fill
     : Type 0 where
   pub frame : ChangesFirstFree known t old new
   pub moves : (among : ByteSet) (store : Store) (files : Files) (map : PlaceMap) → known ≡ Some map → Represents store known t
-      → HasNoCollisions (IsIn among) → AllByRecursion (MaySeal (IsIn among) filled.kind) filled.segments
+      → IndexesFiles map files → HasNoCollisions (IsIn among) → AllByRecursion (MaySeal (IsIn among) filled.kind) filled.segments
       → Moves (sealing_indexed (IsIn among) id filled store files) ending old new
   pub holds : (among : ByteSet) (store : Store) (files : Files) (map : PlaceMap) (given held : List ℕ) → known ≡ Some map
       → Represents store known t → old.content ≡ Some given → new.content ≡ Some held → Stands (IsIn among) store files given
       → HasNoCollisions (IsIn among) → AllByRecursion (MaySeal (IsIn among) filled.kind) filled.segments
-      → KeepsHeld ending id filled store given held
+      → KeepsHeld map ending id filled store given held
 
 -- Each segment was compared with the copy of its key that is held, on any disk: where the map is known it has these places,
 -- and reads showed that what lies there fits.

@@ -112,8 +112,8 @@ pub fn seal<D: Disk, X: Index>(
     ensures disk { Steps tables.old.slots (ending blames result) (D.view disk.old) (D.view disk.new) }
     ensures moves { SealsCompared tables.old (X.places index.old (D.view disk.old).content) (tables.old.held.last_id + 1) filled.now
         (ending blames result) (D.view disk.old) (D.view disk.new) }
-    ensures kept { IfOk result (KeepsSealed (D.view disk.old) (D.view disk.new) (X.places index.old (D.view disk.old).content) tables.old
-        parts.old actor filled.now parts.new) }
+    ensures kept { IfOk result (KeepsSealed (D.view disk.old) (D.view disk.new) (X.places index.old (D.view disk.old).content)
+        (X.places index.new (D.view disk.new).content) tables.old parts.old actor filled.now parts.new) }
     ensures served { X.serves index.new (D.view disk.new).size }
 {
     may_keep(parts.part(actor), filled)?;

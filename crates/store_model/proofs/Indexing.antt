@@ -1,19 +1,23 @@
 -- An index, once a container is in the first slot that is closed, and each of its entries was put into the index.
-use Rattle.std.proofs.Common.{◌≡◌, ℕ, ◌+◌, ◌<◌, ◌≤◌, Bool, true, false, cond, List, [], ◌∷◌, ◌++◌, Option, Some, None, find, option_map, refl, sym, ◌∙◌, ap, arith}
+use Rattle.std.proofs.Common.{◌≡◌, ℕ, ◌+◌, ◌<◌, ◌≤◌, Bool, true, false, cond, List, [], ◌∷◌, ◌++◌, length, Option, Some, None, find, option_map, refl, sym, ◌∙◌, ap, arith}
 use Rattle.std.specs.Prelude.{nat_lt, ◌||◌, if◌then◌else◌}
 use Rattle.std.specs.Str.{bytes_eq}
 use Rattle.std.specs.Cmp.{eq_by_cmp_equiv}
 use Rattle.std.specs.Cmp.Lexicographic.{slice_cmp, nat_list_cmp_total}
 use Rattle.std.specs.FinMap as finite
+use Rattle.std.specs.List.{AllByRecursion}
 use Rattle.std.specs.Ordering.{nat_cmp, eq_by_cmp}
 use Rattle.std.proofs.Math.Bool.{or-true}
 use Rattle.std.proofs.lemmas.Bool.{ltb-true, ltb-false}
 use Rattle.std.proofs.lemmas.List.Folds.{list_any-append}
 use Rattle.std.proofs.lemmas.Map.Text.{is_eq-slice_cmp}
 use Rattle.std.proofs.lemmas.Slice.Eq.{bytes_eq-Decides}
+use Rattle.sha2.specs.Sha256.{sha256}
+use Rattle.container_meta.specs.declared.place.Place.{Place}
 use Rattle.container_meta.specs.declared.entry.Entry.{Entry}
 use Rattle.container_meta.specs.declared.kind.Kind.{Kind}
 use Rattle.container_meta.specs.Places.{PlaceMap}
+use Rattle.container_meta.specs.Segments.{Segment, entries_from, segment_key}
 use Rattle.container_meta.specs.Spelling.{HeaderValue, IsHeader, Follow, has_digest}
 use Rattle.store_model.specs.Indexing.{entry_key, with_entries}
 use Rattle.store_model.specs.Slots.{Copy, IsIndexOf, IsPartialIndexOf, HasKey, place_of, copy_in, newer, newest, last_id, free_slots, first_free, with_slot}
@@ -180,14 +184,29 @@ partial_with h held places index right above some key place there = by_entry (en
         ∙ sym (put_some h.kind (first_free held) [] h.entries places key found right.entries is) ∙ there
 
 -- no key that the index had is gone
-pub still_has : (kind : Kind) (slot : ℕ) (es : List Entry) (places : PlaceMap) (key : List ℕ) → Follow kind [] es → HasKey places key → HasKey (with_entries kind slot es places) key
-still_has kind slot es places key follow has = by_entry (entry_of kind es key) refl
+has_one : (places : PlaceMap) (one : List ℕ) (at : Place) (key : List ℕ) → HasKey places key → HasKey (finite.insert places one at) key
+has_one places one at key has = by_test (eq_by_cmp (slice_cmp nat_cmp) key one) (finite.get-insert nat_list_cmp_total places one at key)
   where
-    by_entry : (o : Option Entry) → entry_of kind es key ≡ o → HasKey (with_entries kind slot es places) key
-    by_entry None is = (has.0, put_none kind slot es places key is ∙ has.1)
-    by_entry (Some found) is = (place_of slot found, put_some kind slot [] es places key found follow is)
+    by_test : (b : Bool) → finite.get (finite.insert places one at) key ≡ cond b (Some at) (finite.get places key) → HasKey (finite.insert places one at) key
+    by_test true is = (at, is)
+    by_test false is = (has.0, is ∙ has.1)
 
--- and it has those of the entries
-pub has_entry : (kind : Kind) (slot : ℕ) (es : List Entry) (places : PlaceMap) (key : List ℕ) (found : Entry) → Follow kind [] es → entry_of kind es key ≡ Some found
-    → HasKey (with_entries kind slot es places) key
-has_entry kind slot es places key found follow is = (place_of slot found, put_some kind slot [] es places key found follow is)
+has_this : (places : PlaceMap) (one : List ℕ) (at : Place) → HasKey (finite.insert places one at) one
+has_this places one at =
+    (at, finite.get-insert nat_list_cmp_total places one at one ∙ ap (λ (b : Bool). cond b (Some at) (finite.get places one)) (tied one one ∙ (bytes_eq-Decides one one).1 refl))
+
+pub still_has : (kind : Kind) (slot : ℕ) (es : List Entry) (places : PlaceMap) (key : List ℕ) → HasKey places key → HasKey (with_entries kind slot es places) key
+still_has kind slot [] places key has = has
+still_has kind slot (e ∷ es) places key has =
+    still_has kind slot es (finite.insert places (entry_key kind e) (place_of slot e)) key (has_one places (entry_key kind e) (place_of slot e) key has)
+
+-- and it has those of the segments
+pub has_segments : (kind : Kind) (slot offset : ℕ) (ss : List Segment) (places : PlaceMap)
+    → AllByRecursion (λ s. HasKey (with_entries kind slot (entries_from offset ss) places) (segment_key kind s)) ss
+has_segments kind slot offset [] places = tt
+has_segments kind slot offset (s ∷ ss) places =
+    let first : Entry = record { digest = sha256 s.bytes; offset = offset; length = length s.bytes; level = s.level } in
+    let one : PlaceMap = finite.insert places (segment_key kind s) (place_of slot first) in (
+      still_has kind slot (entries_from (offset + length s.bytes) ss) one (segment_key kind s) (has_this places (segment_key kind s) (place_of slot first)),
+      has_segments kind slot (offset + length s.bytes) ss one,
+    )

@@ -16,8 +16,10 @@ use Rattle.store_model.specs.Image.{Store, names_of}
 use Rattle.store_model.specs.Refusals as lookup
 use Rattle.store_model.specs.Standing.{IsStoreOf}
 use Rattle.store_model.specs.Steps.{KeepsCopies}
-use Rattle.store_model.specs.Trees.{HoldsTree, file_tree}
-use Rattle.store_model.proofs.FramedTrees.{tree_on}
+use Rattle.store_model.specs.Collisions.{ByteSet, IsIn}
+use Rattle.store_model.specs.Reserve.{HoldsCounted, key_set, tree_keys}
+use Rattle.store_model.specs.Trees.{file_tree}
+use Rattle.store_model.proofs.Counted.{in_set, trees_on}
 use Rattle.store_model.proofs.SameFiles.{FitsFile, file_of_root, files_fit}
 use Rattle.store_model.proofs.Unfolding.{right_file, leaves_of_file, root_of_tree}
 use Rattle.read_steps.specs.Opening.{HasRoot, IsFileAhead, top_of}
@@ -25,10 +27,10 @@ use Rattle.read_steps.specs.Walking.{HeldAhead, SegmentsAhead}
 
 -- ---- a tree that is to come
 
-pub tree_held : (held : List (Option HeaderValue)) (image : List ℕ) (t : Tree (List ℕ)) → HoldsTree held image t → AllByRecursion (HoldsTree held image) (trees_in t)
-tree_held held image tree.Empty holds = tt
-tree_held held image (tree.Leaf segment) holds = (holds, tt)
-tree_held held image (tree.Node level ts) holds = (holds, tt)
+pub tree_held : (P : List ℕ → Type 0) (held : List (Option HeaderValue)) (image : List ℕ) (t : Tree (List ℕ)) → HoldsCounted P held image t → AllByRecursion (HoldsCounted P held image) (trees_in t)
+tree_held P held image tree.Empty holds = tt
+tree_held P held image (tree.Leaf segment) holds = (holds, tt)
+tree_held P held image (tree.Node level ts) holds = (holds, tt)
 
 append_none : (xs : List (List ℕ)) → xs ++ [] ≡ xs
 append_none [] = refl
@@ -49,12 +51,17 @@ file_ahead store files image name names root ahead has same holds begins =
     let file = file_of_root name root store files image holds found in
     let few : length file.bytes ≤ MOST_FILE = subst FitsFile file.filed (files_fit store files image holds name) in
     let top : top_of root ≡ tree.root_of of_segment (file_tree file.bytes) = ap top_of (file.root_is ∙ root_of_tree file.bytes few) in
-    let held : HeldAhead store.held image ahead (trees_in (file_tree file.bytes)) =
-    record { trees = begins (file_tree file.bytes) (right_file file.bytes few) top; each = tree_held store.held image (file_tree file.bytes) file.held } in
+    let keys : List (List ℕ) = tree_keys (file_tree file.bytes) in
+    let held : HeldAhead (key_set keys) store.held image ahead (trees_in (file_tree file.bytes)) =
+    record {
+      trees = begins (file_tree file.bytes) (right_file file.bytes few) top;
+      each = tree_held (IsIn (key_set keys)) store.held image (file_tree file.bytes) (record { tree_is_held = file.held; count = λ key there. in_set key keys there });
+    } in
     record {
       bytes = file.bytes;
       filed = file.filed;
       root_is = file.root_is;
+      tree_is_held = file.held;
       held_ahead = held;
       segments_ahead = record {
         trees = trees_in (file_tree file.bytes);
@@ -65,13 +72,9 @@ file_ahead store files image name names root ahead has same holds begins =
 
 -- ---- what goes on while others change the store
 
-all_on : (s t : Store) (old new : List ℕ) → KeepsCopies s old t new → (ts : List (Tree (List ℕ))) → AllByRecursion (HoldsTree s.held old) ts → AllByRecursion (HoldsTree t.held new) ts
-all_on s t old new keeps [] each = tt
-all_on s t old new keeps (x ∷ xs) each = (tree_on s.held t.held old new keeps x each.0, all_on s t old new keeps xs each.1)
+module _ (counts : ByteSet) (s t : Store) (old new : List ℕ) (keeps : KeepsCopies (IsIn counts) s old t new) where
+  pub held_on : (ahead : List Top) (ts : List (Tree (List ℕ))) → HeldAhead counts s.held old ahead ts → HeldAhead counts t.held new ahead ts
+  held_on ahead ts held = record { trees = held.trees; each = trees_on (IsIn counts) (IsIn counts) s t old new keeps (λ key there. there) ts held.each }
 
-pub held_on : (s t : Store) (old new : List ℕ) (ahead : List Top) (ts : List (Tree (List ℕ))) → KeepsCopies s old t new → HeldAhead s.held old ahead ts → HeldAhead t.held new ahead ts
-held_on s t old new ahead ts keeps held = record { trees = held.trees; each = all_on s t old new keeps ts held.each }
-
-pub segments_on : (s t : Store) (old new : List ℕ) (ahead : List Top) (segments : List (List ℕ)) → KeepsCopies s old t new → SegmentsAhead s.held old ahead segments → SegmentsAhead t.held new ahead segments
-segments_on s t old new ahead segments keeps held =
-    record { trees = held.trees; held_ahead = held_on s t old new ahead held.trees keeps held.held_ahead; segments_are = held.segments_are }
+  pub segments_on : (ahead : List Top) (segments : List (List ℕ)) → SegmentsAhead counts s.held old ahead segments → SegmentsAhead counts t.held new ahead segments
+  segments_on ahead segments held = record { trees = held.trees; held_ahead = held_on ahead held.trees held.held_ahead; segments_are = held.segments_are }

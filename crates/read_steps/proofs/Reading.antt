@@ -17,6 +17,7 @@ use Rattle.actor_parts.specs.PinMap.{PinMap}
 use Rattle.actor_parts.specs.Kinds.{kind_of}
 use Rattle.actor_parts.specs.Parts.{part_of, with_part}
 use Rattle.actor_parts.proofs.Apart.{apart}
+use Rattle.store_model.specs.Collisions.{ByteSet}
 use Rattle.read_steps.specs.Walking.{WasRead, IsAnswer, IsNextRefusal, IsWalkRefusal, SegmentsAhead, IsHeldAnswer}
 use Rattle.read_steps.specs.Readers.{reading, IsReading, GoesOn, GivesNext, IsNoReader, IsReadRefusal, GivesHeld}
 
@@ -59,15 +60,15 @@ same_ahead : (part : Part) (one other : Root) (a b : List Top) → part ≡ read
 unfolding ahead_of
 same_ahead part one other a b first second = ap ahead_of (sym first ∙ second)
 
-pub held_given : (held : List (Option HeaderValue)) (image : List ℕ) (actor : ℕ) (parts then_parts : List Part) (was rest : List Top) (buf whole : List ℕ) (segments : List (List ℕ)) (result : Result (Option ℕ) Refusal)
-    → GoesOn actor parts then_parts was rest → whole ≡ buf → (SegmentsAhead held image was segments → IsHeldAnswer held image rest segments buf result)
-    → (root : Root) (ahead : List Top) → part_of parts actor ≡ reading root ahead → SegmentsAhead held image ahead segments → GivesHeld held image actor parts then_parts ahead segments whole result
-held_given held image actor parts then_parts was rest buf whole segments result on same given root ahead is segs =
+pub held_given : (counts : ByteSet) (held : List (Option HeaderValue)) (image : List ℕ) (actor : ℕ) (parts then_parts : List Part) (was rest : List Top) (buf whole : List ℕ) (segments : List (List ℕ)) (result : Result (Option ℕ) Refusal)
+    → GoesOn actor parts then_parts was rest → whole ≡ buf → (SegmentsAhead counts held image was segments → IsHeldAnswer counts held image rest segments buf result)
+    → (root : Root) (ahead : List Top) → part_of parts actor ≡ reading root ahead → SegmentsAhead counts held image ahead segments → GivesHeld counts held image actor parts then_parts ahead segments whole result
+held_given counts held image actor parts then_parts was rest buf whole segments result on same given root ahead is segs =
     let so : was ≡ ahead = same_ahead (part_of parts actor) on.root root was ahead on.part_is is in
     record {
       rest = rest;
       goes_on = subst (λ (tops : List Top). GoesOn actor parts then_parts tops rest) so on;
-      given = subst (λ (bytes : List ℕ). IsHeldAnswer held image rest segments bytes result) (sym same) (given (subst (λ (tops : List Top). SegmentsAhead held image tops segments) (sym so) segs));
+      given = subst (λ (bytes : List ℕ). IsHeldAnswer counts held image rest segments bytes result) (sym same) (given (subst (λ (tops : List Top). SegmentsAhead counts held image tops segments) (sym so) segs));
     }
 
 -- ---- the part is another

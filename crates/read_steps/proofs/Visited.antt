@@ -18,16 +18,19 @@ use Rattle.container_meta.specs.Spelling.{HeaderValue}
 use Rattle.merkle_file.specs.declared.top.Top.{Top}
 use Rattle.merkle_file.specs.Tree as tree
 use Rattle.merkle_file.specs.Tree.{Tree, of_segment}
-use Rattle.merkle_file.specs.Walk.{IsTree, start_of, trees_in}
+use Rattle.merkle_file.specs.Walk.{Ahead, IsTree, start_of, trees_in}
 use Rattle.namespace.specs.declared.record.Named.{Named}
 use Rattle.namespace.specs.Listing.{NamedRoot, listing_of, named_root}
 use Rattle.namespace.proofs.Again.{entries_found}
 use Rattle.store_model.specs.Files.{Files}
 use Rattle.store_model.specs.Image.{Store, names_of}
 use Rattle.store_model.specs.Reserve.{IsReachable, tree_keys}
-use Rattle.store_model.specs.Slots.{IsIndexOf}
+use Rattle.store_model.specs.Collisions.{ByteSet, IsIn}
+use Rattle.store_model.specs.Slots.{Copy, IsIndexOf, key_set_of, newest}
+use Rattle.store_model.proofs.Counted.{held_keys, indexed_keys, of_index}
+use Rattle.store_model.proofs.Lookups.{partial_of}
 use Rattle.store_model.specs.Standing.{IsFileOf, IsStoreWith}
-use Rattle.store_model.specs.Trees.{file_tree}
+use Rattle.store_model.specs.Trees.{HoldsTree, file_tree}
 use Rattle.store_model.proofs.Copies.{some_same}
 use Rattle.store_model.proofs.Roots.{root_of_name}
 use Rattle.store_model.proofs.SameFiles.{right_fits}
@@ -113,13 +116,13 @@ roots_more P Q (m ∷ ms) visited n more first second = (
 -- ---- the keys of held trees
 
 -- a walk to the end visits each key of the trees to come, in their order
-pub visited_keys : (held : List (Option HeaderValue)) (known : Option PlaceMap) (old new : DiskView) (image : List ℕ) (ahead visited : List Top) (ts : List (Tree (List ℕ))) → IsIndexed held known old.content image
-    → HeldAhead held image ahead ts → VisitsTo (WasRead known old new) (HasPlace known) ahead visited [] → map top_key visited ≡ flat_map tree_keys ts
-visited_keys held known old new image ahead [] [] indexed trees way = refl
-visited_keys held known old new image ahead [] (u ∷ us) indexed trees way = absurd (let wrong : [] ≡ tree.root_of of_segment u ∷ map (tree.root_of of_segment) us = way ∙ trees.trees.tops in cc)
-visited_keys held known old new image ahead (t ∷ more) ts indexed trees way =
-    let later = visit_held held known old new image indexed ahead way.0 t ts way.1.0 trees in
-    ap (λ (keys : List (List ℕ)). top_key t ∷ keys) (visited_keys held known old new image way.0 more later.0 indexed later.1 way.1.1) ∙ sym later.2
+pub visited_keys : (counts : ByteSet) (held : List (Option HeaderValue)) (known : Option PlaceMap) (old new : DiskView) (image : List ℕ) (ahead visited : List Top) (ts : List (Tree (List ℕ))) → IsIndexed counts held known old.content image
+    → HeldAhead counts held image ahead ts → VisitsTo (WasRead known old new) (HasPlace known) ahead visited [] → map top_key visited ≡ flat_map tree_keys ts
+visited_keys counts held known old new image ahead [] [] indexed trees way = refl
+visited_keys counts held known old new image ahead [] (u ∷ us) indexed trees way = absurd (let wrong : [] ≡ tree.root_of of_segment u ∷ map (tree.root_of of_segment) us = way ∙ trees.trees.tops in cc)
+visited_keys counts held known old new image ahead (t ∷ more) ts indexed trees way =
+    let later = visit_held counts held known old new image indexed ahead way.0 t ts way.1.0 trees in
+    ap (λ (keys : List (List ℕ)). top_key t ∷ keys) (visited_keys counts held known old new image way.0 more later.0 indexed later.1 way.1.1) ∙ sym later.2
 
 keys_of_tree : (t : Tree (List ℕ)) → flat_map tree_keys (trees_in t) ≡ tree_keys t
 keys_of_tree tree.Empty = refl
@@ -147,7 +150,8 @@ start_of_tree (tree.Node level ts) right = start_some (tree.root_of of_segment (
 record IsFileToCome (held : List (Option HeaderValue)) (image : List ℕ) (file : Option (List ℕ)) (root : Root) : Type 0 where
   bytes : List ℕ
   filed : file ≡ Some bytes
-  ahead : HeldAhead held image (start_of (top_of root)) (trees_in (file_tree bytes))
+  tree_is_held : HoldsTree held image (file_tree bytes)
+  ahead : Ahead (start_of (top_of root)) (trees_in (file_tree bytes))
 
 file_by : (held : List (Option HeaderValue)) (image : List ℕ) (named : Named) (file : Option (List ℕ)) → IsRoot named.root → IsFileOf held image (Some named) file → IsFileToCome held image file named.root
 file_by held image named None right is = absurd is
@@ -158,10 +162,8 @@ file_by held image named (Some bytes) right is =
     record {
       bytes = bytes;
       filed = refl;
-      ahead = record {
-        trees = record { tops = ap start_of top ∙ start_of_tree (file_tree bytes) trees; each = trees };
-        each = tree_held held image (file_tree bytes) is.1;
-      };
+      tree_is_held = is.1;
+      ahead = record { tops = ap start_of top ∙ start_of_tree (file_tree bytes) trees; each = trees };
     }
 
 name_by : (held : List (Option HeaderValue)) (image : List ℕ) (named : Option Named) (file : Option (List ℕ)) (bytes : List ℕ) → file ≡ Some bytes → IsFileOf held image named file → (n : Named) × (named ≡ Some n)
@@ -176,8 +178,17 @@ module _ (store : Store) (files : Files) (R : Type 0) (image : List ℕ) (holds 
       (root_of_name (length image) store name named.root (sound_of_right (length image) image store refl holds.right) (named.sequence, found))
       (subst (λ (o : Option Named). IsFileOf store.held image o (finite.get files name)) found (holds.files_are name))
 
-  pub held_start : (name : List ℕ) (named : Named) → finite.get (names_of store) name ≡ Some named → (ts : List (Tree (List ℕ))) × HeldAhead store.held image (start_of (top_of named.root)) ts
-  held_start name named found = let file = file_to_come name named found in (trees_in (file_tree file.bytes), file.ahead)
+  -- where a set has the keys of what is held
+  module _ (counts : ByteSet) (count : (key : List ℕ) (copy : Copy) → newest 0 store.held key ≡ Some copy → IsIn counts key) where
+    held_ahead : (root : Root) (file : Option (List ℕ)) (is : IsFileToCome store.held image file root) → HeldAhead counts store.held image (start_of (top_of root)) (trees_in (file_tree is.bytes))
+    held_ahead root file is = record {
+      trees = is.ahead;
+      each = tree_held (IsIn counts) store.held image (file_tree is.bytes)
+          (record { tree_is_held = is.tree_is_held; count = held_keys (IsIn counts) store.held image count (file_tree is.bytes) is.tree_is_held });
+    }
+
+    pub held_start : (name : List ℕ) (named : Named) → finite.get (names_of store) name ≡ Some named → (ts : List (Tree (List ℕ))) × HeldAhead counts store.held image (start_of (top_of named.root)) ts
+    held_start name named found = let file = file_to_come name named found in (trees_in (file_tree file.bytes), held_ahead named.root (finite.get files name) file)
 
   -- ---- all names
 
@@ -193,8 +204,10 @@ module _ (store : Store) (files : Files) (R : Type 0) (image : List ℕ) (holds 
         → map top_key visited ≡ tree_keys (file_tree (file_to_come name named found).bytes)
     keys_of_file name named visited found way =
         let file = file_to_come name named found in
-        visited_keys store.held (Some index) old new image (start_of (top_of named.root)) visited (trees_in (file_tree file.bytes))
-        (record { told = told; index = index; index_known = refl; index_is_newest = newest }) file.ahead way
+        let counts : ByteSet = key_set_of index in
+        visited_keys counts store.held (Some index) old new image (start_of (top_of named.root)) visited (trees_in (file_tree file.bytes))
+        (record { told = told; index = index; index_known = refl; index_is_newest = partial_of store.held index newest; has = λ k. of_index index k })
+        (held_ahead counts (indexed_keys store.held index newest) named.root (finite.get files name) file) way
         ∙ keys_of_tree (file_tree file.bytes)
 
     needed_in : (name : List ℕ) (named : Named) (first rest : List Top) (key : List ℕ) → finite.get (names_of store) name ≡ Some named → VisitsTo read placed (start_of (top_of named.root)) first []

@@ -24,6 +24,7 @@ use Rattle.merkle_file.specs.Walk.{IsNamed, SpellsNext, below, opened, wanted}
 use Rattle.refusals.specs.declared.refusal.Refusal.{Refusal}
 use Rattle.refusals.specs.declared.refusal.Refusal.TheVariants.{Corrupt}
 use Rattle.segment_index.specs.Places.{IsPlace}
+use Rattle.store_model.specs.Collisions.{ByteSet}
 use Rattle.store_model.specs.Reserve.{tree_keys}
 use Rattle.read_steps.specs.Visiting.{HasPlace, Visits, VisitsTop, VisitsPlaced, IsHeldVisit, IsVisitRefusal, steps_ahead}
 use Rattle.read_steps.specs.Walking.{IsPlaceOf, IsCopyAt, WasRead, IsIndexed, HeldAhead, IsNodeNamed, IsLookupRefusal, IsCopyRefusal, IsNextRefusal, leaf_top, top_key}
@@ -117,41 +118,41 @@ visit_falls P Q before after t visits =
 
 -- ---- held trees
 
-module _ (held : List (Option HeaderValue)) (known : Option PlaceMap) (old new : DiskView) (image : List ℕ) (indexed : IsIndexed held known old.content image) where
-  leaf_passed : (t : Top) (others : List Top) (ts : List (Tree (List ℕ))) → t.level ≡ 0 → HeldAhead held image (t ∷ others) ts
-      → (us : List (Tree (List ℕ))) × HeldAhead held image others us × (flat_map tree_keys ts ≡ top_key t ∷ flat_map tree_keys us)
+module _ (counts : ByteSet) (held : List (Option HeaderValue)) (known : Option PlaceMap) (old new : DiskView) (image : List ℕ) (indexed : IsIndexed counts held known old.content image) where
+  leaf_passed : (t : Top) (others : List Top) (ts : List (Tree (List ℕ))) → t.level ≡ 0 → HeldAhead counts held image (t ∷ others) ts
+      → (us : List (Tree (List ℕ))) × HeldAhead counts held image others us × (flat_map tree_keys ts ≡ top_key t ∷ flat_map tree_keys us)
   leaf_passed t others [] flat ahead = absurd (let wrong : t ∷ others ≡ [] = ahead.trees.tops in cc)
   leaf_passed t others (tree.Empty ∷ us) flat ahead = absurd ahead.trees.each.0
   leaf_passed t others (tree.Leaf segment ∷ us) flat ahead =
-      let first : t ≡ root_of of_segment (tree.Leaf segment) = first_same held known old new image indexed t _ others _ ahead.trees.tops in
-      let rest = rest_same held known old new image indexed t _ others _ ahead.trees.tops in (
+      let first : t ≡ root_of of_segment (tree.Leaf segment) = first_same counts held known old new image indexed t _ others _ ahead.trees.tops in
+      let rest = rest_same counts held known old new image indexed t _ others _ ahead.trees.tops in (
         us,
         record { trees = record { tops = rest; each = ahead.trees.each.1 }; each = ahead.each.1 },
         flat_map-cons tree_keys (tree.Leaf segment) us ∙ ap (λ (key : List ℕ). key ∷ flat_map tree_keys us) (sym (ap top_key first)),
       )
   leaf_passed t others (tree.Node level ts ∷ us) flat ahead =
-      absurd (omega (arith, flat, ap (λ (u : Top). u.level) (first_same held known old new image indexed t _ others _ ahead.trees.tops), ahead.trees.each.0.0.above))
+      absurd (omega (arith, flat, ap (λ (u : Top). u.level) (first_same counts held known old new image indexed t _ others _ ahead.trees.tops), ahead.trees.each.0.0.above))
 
-  top_visited : (t : Top) (others after : List Top) (ts : List (Tree (List ℕ))) → VisitsTop (WasRead known old new) (HasPlace known) t others after → HeldAhead held image (t ∷ others) ts
-      → (us : List (Tree (List ℕ))) × HeldAhead held image after us × (flat_map tree_keys ts ≡ top_key t ∷ flat_map tree_keys us)
+  top_visited : (t : Top) (others after : List Top) (ts : List (Tree (List ℕ))) → VisitsTop (WasRead known old new) (HasPlace known) t others after → HeldAhead counts held image (t ∷ others) ts
+      → (us : List (Tree (List ℕ))) × HeldAhead counts held image after us × (flat_map tree_keys ts ≡ top_key t ∷ flat_map tree_keys us)
   top_visited t others after ts (inl leaf) ahead =
       let passed = leaf_passed t others ts leaf.0 ahead in
-      (passed.0, subst (λ (tops : List Top). HeldAhead held image tops passed.0) (sym leaf.2) passed.1, passed.2)
+      (passed.0, subst (λ (tops : List Top). HeldAhead counts held image tops passed.0) (sym leaf.2) passed.1, passed.2)
   top_visited t others after ts (inr node) ahead =
-      let one = open_held held known old new image indexed t others node.0 ts node.1.0 ahead in
-      (one.0, subst (λ (tops : List Top). HeldAhead held image tops one.0) (sym node.1.1) one.1, one.3)
+      let one = open_held counts held known old new image indexed t others node.0 ts node.1.0 ahead in
+      (one.0, subst (λ (tops : List Top). HeldAhead counts held image tops one.0) (sym node.1.1) one.1, one.3)
 
   -- the trees that are to come after a visit, and their keys
-  pub visit_held : (before after : List Top) (t : Top) (ts : List (Tree (List ℕ))) → Visits (WasRead known old new) (HasPlace known) before t after → HeldAhead held image before ts
-      → (us : List (Tree (List ℕ))) × HeldAhead held image after us × (flat_map tree_keys ts ≡ top_key t ∷ flat_map tree_keys us)
+  pub visit_held : (before after : List Top) (t : Top) (ts : List (Tree (List ℕ))) → Visits (WasRead known old new) (HasPlace known) before t after → HeldAhead counts held image before ts
+      → (us : List (Tree (List ℕ))) × HeldAhead counts held image after us × (flat_map tree_keys ts ≡ top_key t ∷ flat_map tree_keys us)
   visit_held before after t ts visits ahead =
-      top_visited t visits.0 after ts visits.1.1 (subst (λ (tops : List Top). HeldAhead held image tops ts) visits.1.0 ahead)
+      top_visited t visits.0 after ts visits.1.1 (subst (λ (tops : List Top). HeldAhead counts held image tops ts) visits.1.0 ahead)
 
-  pub held_after : (before after : List Top) (place : Place) (ts : List (Tree (List ℕ))) → VisitsPlaced known old new before after place → HeldAhead held image before ts
-      → (us : List (Tree (List ℕ))) × HeldAhead held image after us
+  pub held_after : (before after : List Top) (place : Place) (ts : List (Tree (List ℕ))) → VisitsPlaced known old new before after place → HeldAhead counts held image before ts
+      → (us : List (Tree (List ℕ))) × HeldAhead counts held image after us
   held_after before after place ts visits ahead = let next = visit_held before after visits.0 ts visits.1.0 ahead in (next.0, next.1)
 
   pub held_unread : (breaks : ℕ → Why → List ℕ → Type 0) (before after : List Top) (ts : List (Tree (List ℕ))) (refusal : Refusal) (result : Result (Option Place) Refusal) → IsErrAnd result (λ e. e ≡ refusal)
-      → IsVisitRefusal known breaks old new before refusal → HeldAhead held image before ts → IsHeldVisit held image after result
+      → IsVisitRefusal known breaks old new before refusal → HeldAhead counts held image before ts → IsHeldVisit counts held image after result
   held_unread breaks before after ts refusal (Ok got) passed cause ahead = absurd passed
-  held_unread breaks before after ts refusal (Err e) passed cause ahead = passed ∙ next_failed held known old new image indexed breaks before ts refusal ahead (next_refused known breaks old new before refusal cause)
+  held_unread breaks before after ts refusal (Err e) passed cause ahead = passed ∙ next_failed counts held known old new image indexed breaks before ts refusal ahead (next_refused known breaks old new before refusal cause)

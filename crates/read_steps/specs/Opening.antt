@@ -10,7 +10,8 @@ use Rattle.refusals.specs.declared.refusal.Refusal.TheVariants.{Memory, NoFile, 
 use Rattle.segmenter.specs.Segments.{segments_of}
 use Rattle.store_model.specs.Files.{Files}
 use Rattle.store_model.specs.Image.{Store}
-use Rattle.store_model.specs.Trees.{root_of, file_tree}
+use Rattle.store_model.specs.Reserve.{key_set, tree_keys}
+use Rattle.store_model.specs.Trees.{HoldsTree, root_of, file_tree}
 use Rattle.read_steps.specs.Walking.{HeldAhead, SegmentsAhead}
 
 abbrev pub top_of : Root → Top
@@ -39,5 +40,6 @@ pub record IsFileAhead (store : Store) (files : Files) (image name : List ℕ) (
   pub bytes : List ℕ
   pub filed : finite.get files name ≡ Some bytes
   pub root_is : root ≡ root_of bytes
-  pub held_ahead : HeldAhead store.held image ahead (trees_in (file_tree bytes))
-  pub segments_ahead : SegmentsAhead store.held image ahead (segments_of bytes)
+  pub tree_is_held : HoldsTree store.held image (file_tree bytes)
+  pub held_ahead : HeldAhead (key_set (tree_keys (file_tree bytes))) store.held image ahead (trees_in (file_tree bytes))
+  pub segments_ahead : SegmentsAhead (key_set (tree_keys (file_tree bytes))) store.held image ahead (segments_of bytes)

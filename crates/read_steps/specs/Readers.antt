@@ -14,6 +14,7 @@ use Rattle.actor_parts.specs.declared.part.Part.{Part}
 use Rattle.actor_parts.specs.declared.part.Part.TheVariants.{Idle, Reading}
 use Rattle.actor_parts.specs.Kinds.{kind_of}
 use Rattle.actor_parts.specs.Parts.{part_of, with_part}
+use Rattle.store_model.specs.Collisions.{ByteSet}
 use Rattle.store_model.specs.Files.{Files}
 use Rattle.store_model.specs.Image.{Store}
 use Rattle.read_steps.specs.Opening.{Begins, IsNameRefusal, IsFileAhead}
@@ -87,11 +88,11 @@ IsReadRefusal known breaks old new actor before after (WrongPart kind) = IsNoRea
 IsReadRefusal known breaks old new actor before after refusal = IsStuck known breaks old new actor before after refusal
 
 -- what is answered where segments of held trees are to come
-pub record GivesHeld (held : List (Option HeaderValue)) (image : List ℕ) (actor : ℕ) (before after : List Part) (was : List Top)
-    (segments : List (List ℕ)) (buf : List ℕ) (result : Result (Option ℕ) Refusal) : Type 0 where
+pub record GivesHeld (counts : ByteSet) (held : List (Option HeaderValue)) (image : List ℕ) (actor : ℕ) (before after : List Part)
+    (was : List Top) (segments : List (List ℕ)) (buf : List ℕ) (result : Result (Option ℕ) Refusal) : Type 0 where
   pub rest : List Top
   pub goes_on : GoesOn actor before after was rest
-  pub given : IsHeldAnswer held image rest segments buf result
+  pub given : IsHeldAnswer counts held image rest segments buf result
 
 -- ---- it is given up
 

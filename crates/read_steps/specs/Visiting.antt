@@ -14,6 +14,7 @@ use Rattle.namespace.specs.Listing.{NamedRoot}
 use Rattle.refusals.specs.declared.refusal.Refusal.{Refusal}
 use Rattle.refusals.specs.declared.refusal.Refusal.TheVariants.{DiskRead}
 use Rattle.segment_index.specs.Places.{IsPlace}
+use Rattle.store_model.specs.Collisions.{ByteSet}
 use Rattle.read_steps.specs.Opening.{top_of}
 use Rattle.read_steps.specs.Walking.{HeldAhead, IsLookupRefusal, IsNodeRead, IsPlaceOf, IsTopRefusal, WasRead, top_key}
 
@@ -61,9 +62,9 @@ IsVisitRefusal known breaks old new (t ∷ ts) refusal =
     ⊎ ((1 ≤ t.level) × IsTopRefusal known breaks old new t refusal)
 
 -- held trees are to come once it was visited; or a read failed
-abbrev pub IsHeldVisit : List (Option HeaderValue) → List ℕ → List Top → Result (Option Place) Refusal → Type 0
-IsHeldVisit held image after (Ok got) = (us : List (Tree (List ℕ))) × HeldAhead held image after us
-IsHeldVisit held image after (Err refusal) = refusal ≡ DiskRead
+abbrev pub IsHeldVisit : ByteSet → List (Option HeaderValue) → List ℕ → List Top → Result (Option Place) Refusal → Type 0
+IsHeldVisit counts held image after (Ok got) = (us : List (Tree (List ℕ))) × HeldAhead counts held image after us
+IsHeldVisit counts held image after (Err refusal) = refusal ≡ DiskRead
 
 -- It falls with each visit: a node has as many bytes as its children together, and each of these one or more.
 abbrev pub steps_ahead : List Top → ℕ

@@ -21,8 +21,10 @@ use Rattle.refusals.specs.declared.refusal.Refusal.{Refusal}
 use Rattle.refusals.specs.declared.refusal.Refusal.TheVariants.{DiskRead, Corrupt, Missing, Damaged}
 use Rattle.segment_index.specs.Places.{KnownMap, IsPlace}
 use Rattle.store_model.specs.Refusals.{WereFound}
-use Rattle.store_model.specs.Slots.{IsIndexOf}
-use Rattle.store_model.specs.Trees.{HoldsTree, bytes_at}
+use Rattle.store_model.specs.Collisions.{ByteSet, IsIn}
+use Rattle.store_model.specs.Reserve.{HoldsCounted}
+use Rattle.store_model.specs.Slots.{HasKey, IsPartialIndexOf}
+use Rattle.store_model.specs.Trees.{bytes_at}
 
 -- ---- what is read
 
@@ -167,38 +169,43 @@ pub record IsWalkRefusal (known : Option PlaceMap) (breaks : ℕ → Why → Lis
 
 -- ---- trees that are held
 
--- The disk tells its content, the map of the index is known, and it is that of these slots.
-pub record IsIndexed (held : List (Option HeaderValue)) (known : Option PlaceMap) (content : Option (List ℕ)) (image : List ℕ)
-    : Type 0 where
+-- The disk tells its content, the map of the index is known, and each place in it is that of the newest copy in these slots; it has the
+-- keys of this set.
+pub record IsIndexed (counts : ByteSet) (held : List (Option HeaderValue)) (known : Option PlaceMap) (content : Option (List ℕ))
+    (image : List ℕ) : Type 0 where
   pub told : content ≡ Some image
   pub index : PlaceMap
   pub index_known : known ≡ Some index
-  pub index_is_newest : IsIndexOf held index
+  pub index_is_newest : IsPartialIndexOf held index
+  pub has : (key : List ℕ) → IsIn counts key → HasKey index key
 
--- these trees, in order, are to come, and the image holds them
-pub record HeldAhead (held : List (Option HeaderValue)) (image : List ℕ) (ahead : List Top) (ts : List (Tree (List ℕ))) : Type 0 where
+-- These trees, in order, are to come, and the image holds them. Their keys are in the set.
+pub record HeldAhead (counts : ByteSet) (held : List (Option HeaderValue)) (image : List ℕ) (ahead : List Top) (ts : List (Tree (List ℕ)))
+    : Type 0 where
   pub trees : Ahead ahead ts
-  pub each : AllByRecursion (HoldsTree held image) ts
+  pub each : AllByRecursion (HoldsCounted (IsIn counts) held image) ts
 
 -- held trees are to come, and these are their segments
-pub record SegmentsAhead (held : List (Option HeaderValue)) (image : List ℕ) (ahead : List Top) (segments : List (List ℕ)) : Type 0 where
+pub record SegmentsAhead (counts : ByteSet) (held : List (Option HeaderValue)) (image : List ℕ) (ahead : List Top)
+    (segments : List (List ℕ)) : Type 0 where
   pub trees : List (Tree (List ℕ))
-  pub held_ahead : HeldAhead held image ahead trees
+  pub held_ahead : HeldAhead counts held image ahead trees
   pub segments_are : segments ≡ segments_in trees
 
 -- the first of the segments to come is in the buffer, and the others are still to come
-pub record GivesFirst (held : List (Option HeaderValue)) (image : List ℕ) (after : List Top) (segments : List (List ℕ)) (first : List ℕ)
-    : Type 0 where
+pub record GivesFirst (counts : ByteSet) (held : List (Option HeaderValue)) (image : List ℕ) (after : List Top) (segments : List (List ℕ))
+    (first : List ℕ) : Type 0 where
   pub others : List (List ℕ)
   pub segments_are : segments ≡ first ∷ others
-  pub ahead : SegmentsAhead held image after others
+  pub ahead : SegmentsAhead counts held image after others
 
 -- What is answered where these segments of held trees are to come: the first of them, or the end, or that a read failed.
-abbrev pub IsHeldAnswer : List (Option HeaderValue) → List ℕ → List Top → List (List ℕ) → List ℕ → Result (Option ℕ) Refusal → Type 0
-IsHeldAnswer held image after segments buf (Ok None) = segments ≡ []
-IsHeldAnswer held image after segments buf (Ok (Some count)) = GivesFirst held image after segments (take count buf)
-IsHeldAnswer held image after segments buf (Err DiskRead) = SegmentsAhead held image after segments
-IsHeldAnswer held image after segments buf (Err refusal) = ⊥
+abbrev pub IsHeldAnswer : ByteSet → List (Option HeaderValue) → List ℕ → List Top → List (List ℕ) → List ℕ → Result (Option ℕ) Refusal
+    → Type 0
+IsHeldAnswer counts held image after segments buf (Ok None) = segments ≡ []
+IsHeldAnswer counts held image after segments buf (Ok (Some count)) = GivesFirst counts held image after segments (take count buf)
+IsHeldAnswer counts held image after segments buf (Err DiskRead) = SegmentsAhead counts held image after segments
+IsHeldAnswer counts held image after segments buf (Err refusal) = ⊥
 
 -- ---- all reads of a walk
 

@@ -6,6 +6,7 @@ ghost use Rattle.disk_format.specs.Cells.{Root as FileRoot};
 ghost use Rattle.container_meta.specs.Spelling.{HeaderValue};
 ghost use Rattle.merkle_file.specs.declared.top.Top.{Top};
 ghost use Rattle.actor_parts.specs.Parts.{part_of};
+ghost use Rattle.store_model.specs.Collisions.{ByteSet};
 ghost use Rattle.store_model.specs.Files.{Files};
 ghost use Rattle.store_model.specs.Image.{Store, names_of};
 ghost use Rattle.store_model.specs.Standing.{IsStoreOf};
@@ -68,11 +69,13 @@ pub fn read_next<D: Disk, X: Index>(
     // On any disk, whatever it gives.
     ensures next { IfOk result (GivesNext (X.places index.old (D.view disk.old).content) (D.view disk.old) (D.view disk.new)
         actor parts.old parts.new buf.new) }
-    // Where the disk tells its content, and trees that it holds are to come.
-    ensures held { (root : FileRoot) (ahead : List Top) (held : List (Option HeaderValue)) (image : List ℕ) (segments : List (List ℕ))
+    // Where the disk tells its content, and trees that it holds are to come, whose keys the index has.
+    ensures held { (root : FileRoot) (ahead : List Top) (counts : ByteSet) (held : List (Option HeaderValue)) (image : List ℕ)
+        (segments : List (List ℕ))
         → part_of parts.old actor ≡ reading root ahead
-        → IsIndexed held (X.places index.old (D.view disk.old).content) (D.view disk.old).content image
-        → SegmentsAhead held image ahead segments → GivesHeld held image actor parts.old parts.new ahead segments buf.new result }
+        → IsIndexed counts held (X.places index.old (D.view disk.old).content) (D.view disk.old).content image
+        → SegmentsAhead counts held image ahead segments
+        → GivesHeld counts held image actor parts.old parts.new ahead segments buf.new result }
     ensures refused { IfErr result (IsReadRefusal (X.places index.old (D.view disk.old).content) (X.breaks index.old)
         (D.view disk.old) (D.view disk.new) actor parts.old parts.new) }
     ensures map { X.places index.new (D.view disk.new).content ≡ X.places index.old (D.view disk.old).content }

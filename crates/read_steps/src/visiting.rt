@@ -6,6 +6,7 @@ ghost use Rattle.disk_format.specs.declared.why.Why.{Why as Reason};
 ghost use Rattle.container_meta.specs.declared.place.Place.{Place as PlaceValue};
 ghost use Rattle.container_meta.specs.Spelling.{HeaderValue};
 ghost use Rattle.merkle_file.specs.Tree.{Tree};
+ghost use Rattle.store_model.specs.Collisions.{ByteSet};
 ghost use Rattle.store_state.specs.Refused.{blames};
 ghost use Rattle.read_steps.specs.Visiting.{IsHeldVisit, IsVisitRefusal, VisitsPlaced, steps_ahead};
 ghost use Rattle.read_steps.specs.Walking.{HeldAhead, IsIndexed};
@@ -39,10 +40,10 @@ pub fn visit<D: Disk, X: Index>(
     ensures kept { OnErr result (cursor.new ≡ cursor.old) }
     ensures refused { IfErr result (IsVisitRefusal (X.places index.old (D.view disk.old).content) (X.breaks index.old)
         (D.view disk.old) (D.view disk.new) cursor.old) }
-    // Where the disk tells its content, and trees that it holds are to come.
-    ensures held { (held : List (Option HeaderValue)) (image : List ℕ) (ts : List (Tree (List ℕ)))
-        → IsIndexed held (X.places index.old (D.view disk.old).content) (D.view disk.old).content image
-        → HeldAhead held image cursor.old ts → IsHeldVisit held image cursor.new result }
+    // Where the disk tells its content, and trees that it holds are to come, whose keys the index has.
+    ensures held { (counts : ByteSet) (held : List (Option HeaderValue)) (image : List ℕ) (ts : List (Tree (List ℕ)))
+        → IsIndexed counts held (X.places index.old (D.view disk.old).content) (D.view disk.old).content image
+        → HeldAhead counts held image cursor.old ts → IsHeldVisit counts held image cursor.new result }
     ensures size { length buf.new ≡ length buf.old }
     ensures map { X.places index.new (D.view disk.new).content ≡ X.places index.old (D.view disk.old).content }
     ensures form { (at : ℕ) (why : Reason) (bytes : List ℕ) → X.breaks index.new at why bytes → X.breaks index.old at why bytes }

@@ -11,6 +11,7 @@ ghost use Rattle.refusals.specs.declared.refusal.Refusal.TheVariants.{Damaged};
 ghost use Rattle.container_meta.specs.Format.{kind_byte};
 ghost use Rattle.container_meta.specs.Spelling.{HeaderValue};
 ghost use Rattle.segment_index.specs.Places.{IsPlace};
+ghost use Rattle.store_model.specs.Collisions.{ByteSet};
 ghost use Rattle.store_state.specs.Refused.{blames};
 ghost use Rattle.read_steps.specs.Walking.{IsPlaceOf, IsCopyAt, WasRead, IsLookupRefusal, IsCopyRefusal, IsNextRefusal, IsWalkRefusal};
 ghost use Rattle.read_steps.specs.Walking.{IsNodeNamed, IsLeafRead, Walked, leaf_top, level_ahead};
@@ -191,10 +192,10 @@ pub fn next_segment<D: Disk, X: Index>(
     // On any disk, whatever it gives.
     ensures bytes { IfOk result (IsAnswer (WasRead (X.places index.old (D.view disk.old).content) (D.view disk.old) (D.view disk.new))
         cursor.old cursor.new buf.new) }
-    // Where the disk tells its content, and trees that it holds are to come.
-    ensures held { (held : List (Option HeaderValue)) (image : List ℕ) (segments : List (List ℕ))
-        → IsIndexed held (X.places index.old (D.view disk.old).content) (D.view disk.old).content image
-        → SegmentsAhead held image cursor.old segments → IsHeldAnswer held image cursor.new segments buf.new result }
+    // Where the disk tells its content, and trees that it holds are to come, whose keys the index has.
+    ensures held { (counts : ByteSet) (held : List (Option HeaderValue)) (image : List ℕ) (segments : List (List ℕ))
+        → IsIndexed counts held (X.places index.old (D.view disk.old).content) (D.view disk.old).content image
+        → SegmentsAhead counts held image cursor.old segments → IsHeldAnswer counts held image cursor.new segments buf.new result }
     ensures refused { IfErr result (IsWalkRefusal (X.places index.old (D.view disk.old).content) (X.breaks index.old)
         (D.view disk.old) (D.view disk.new) cursor.old cursor.new) }
     ensures map { X.places index.new (D.view disk.new).content ≡ X.places index.old (D.view disk.old).content }

@@ -19,6 +19,7 @@ use Rattle.namespace.specs.declared.listing.ListedName.{ListedName}
 use Rattle.namespace.specs.Listing.{NamedRoot, listed_value}
 use Rattle.refusals.specs.declared.refusal.Refusal.{Refusal}
 use Rattle.refusals.specs.declared.refusal.Refusal.TheVariants.{DiskRead}
+use Rattle.store_model.specs.Collisions.{ByteSet}
 use Rattle.store_model.proofs.Copies.{some_same}
 use Rattle.store_state.specs.Refused.{fails}
 use Rattle.read_steps.specs.Opening.{top_of}
@@ -89,16 +90,17 @@ marking_none index v ahead used = record {
   marks = record { visited = []; way = refl; adds = adds_none index used };
   index_is = refl;
   reads = reads_none v;
-  held = λ held image indexed is. is;
+  held = λ counts held image indexed is. is;
 }
 
-indexed_on : (first i : PlaceMap) (old mid : DiskView) (held : List (Option HeaderValue)) (image : List ℕ) → i ≡ first → OnlyReads old mid → IsIndexed held (Some first) old.content image
-    → IsIndexed held (Some i) mid.content image
-indexed_on first i old mid held image is reads indexed = record {
+indexed_on : (first i : PlaceMap) (old mid : DiskView) (counts : ByteSet) (held : List (Option HeaderValue)) (image : List ℕ) → i ≡ first → OnlyReads old mid → IsIndexed counts held (Some first) old.content image
+    → IsIndexed counts held (Some i) mid.content image
+indexed_on first i old mid counts held image is reads indexed = record {
   told = reads.content_is ∙ indexed.told;
   index = indexed.index;
   index_known = ap Some is ∙ indexed.index_known;
   index_is_newest = indexed.index_is_newest;
+  has = indexed.has;
 }
 
 module _ (first i : PlaceMap) (old mid new : DiskView) (is : i ≡ first) (before : OnlyReads old mid) (after : OnlyReads mid new) where
@@ -196,7 +198,7 @@ slot_within slot count size right is = omega (arith, right, is)
 -- one visit more
 pub marking_more : (first i j : PlaceMap) (old mid new : DiskView) (start ahead then : List Top) (used marked : List Bool) (place : Place)
     → IsMarking first i old mid start ahead used marked → old.size ≡ size_of (length marked) → VisitsPlaced (Some i) mid new ahead then place → Some j ≡ Some i → Reads Done mid new
-    → ((held : List (Option HeaderValue)) (image : List ℕ) (ts : List (Tree (List ℕ))) → IsIndexed held (Some i) mid.content image → HeldAhead held image ahead ts → IsHeld held image then)
+    → ((counts : ByteSet) (held : List (Option HeaderValue)) (image : List ℕ) (ts : List (Tree (List ℕ))) → IsIndexed counts held (Some i) mid.content image → HeldAhead counts held image ahead ts → IsHeld counts held image then)
     → IsMarking first j old new start then used (slice_set marked place.slot true)
 marking_more first i j old mid new start ahead then used marked place marking size visits same reads held_then =
     let within = slot_within place.slot (length marked) mid.size visits.1.2.slot_is (marking.reads.only.later.size_is ∙ size) in
@@ -204,9 +206,9 @@ marking_more first i j old mid new start ahead then used marked place marking si
       marks = one_more first i old mid new marking.index_is marking.reads.only reads.only start ahead then used marked place marking.marks visits within;
       index_is = some_same j i same ∙ marking.index_is;
       reads = reads_on Done old mid new marking.reads reads;
-      held = λ held image indexed is.
-          let before = marking.held held image indexed is in
-          held_then held image before.0 (indexed_on first i old mid held image marking.index_is marking.reads.only indexed) before.1;
+      held = λ counts held image indexed is.
+          let before = marking.held counts held image indexed is in
+          held_then counts held image before.0 (indexed_on first i old mid counts held image marking.index_is marking.reads.only indexed) before.1;
     }
 
 -- nothing is left
@@ -236,10 +238,10 @@ listed_at [] k d within = refl
 listed_at (f ∷ fs) zero d within = refl
 listed_at (f ∷ fs) (suc k) d within = listed_at fs k d (omega (arith, within))
 
-held_at : (held : List (Option HeaderValue)) (image : List ℕ) (roots : List NamedRoot) (k : ℕ) (d : NamedRoot) → k < length roots → AllHeld held image roots → IsHeld held image (start_of (top_of (get_or roots k d).root))
-held_at held image [] k d within all = absurd (omega (arith, within))
-held_at held image (n ∷ ns) zero d within all = all.0
-held_at held image (n ∷ ns) (suc k) d within all = held_at held image ns k d (omega (arith, within)) all.1
+held_at : (counts : ByteSet) (held : List (Option HeaderValue)) (image : List ℕ) (roots : List NamedRoot) (k : ℕ) (d : NamedRoot) → k < length roots → AllHeld counts held image roots → IsHeld counts held image (start_of (top_of (get_or roots k d).root))
+held_at counts held image [] k d within all = absurd (omega (arith, within))
+held_at counts held image (n ∷ ns) zero d within all = all.0
+held_at counts held image (n ∷ ns) (suc k) d within all = held_at counts held image ns k d (omega (arith, within)) all.1
 
 module _ (files : List ListedName) (k : ℕ) (file : ListedName) (within : k < length files) (is : file ≡ get_or files k file) where
   abbrev roots_in : List NamedRoot
@@ -259,9 +261,9 @@ module _ (files : List ListedName) (k : ℕ) (file : ListedName) (within : k < l
       sym (take-append-drop k roots_in) ∙ ap (λ (rest : List NamedRoot). take k roots_in ++ rest) (drop_more roots_in k (listed_value file) within_roots)
       ∙ ap (λ (n : NamedRoot). take k roots_in ++ n ∷ drop (k + 1) roots_in) file_at
 
-  pub file_held : (held : List (Option HeaderValue)) (image : List ℕ) → AllHeld held image roots_in → IsHeld held image (start_of (top_of file.root))
-  file_held held image all =
-      subst (λ (n : NamedRoot). IsHeld held image (start_of (top_of n.root))) file_at (held_at held image roots_in k (listed_value file) within_roots all)
+  pub file_held : (counts : ByteSet) (held : List (Option HeaderValue)) (image : List ℕ) → AllHeld counts held image roots_in → IsHeld counts held image (start_of (top_of file.root))
+  file_held counts held image all =
+      subst (λ (n : NamedRoot). IsHeld counts held image (start_of (top_of n.root))) file_at (held_at counts held image roots_in k (listed_value file) within_roots all)
 
 -- a read that failed says nothing of the disk
 pub unread_fails : (refusal : Refusal) → refusal ≡ DiskRead → IsTrue (fails refusal)
@@ -269,7 +271,7 @@ unread_fails refusal is = subst (λ (r : Refusal). IsTrue (fails r)) (sym is) re
 
 -- a tree whose walk failed is one of all
 pub tree_failed : (first i : PlaceMap) (old mid : DiskView) (files : List ListedName) (k : ℕ) (file : ListedName) (refusal : Refusal) → k < length files → file ≡ get_or files k file → i ≡ first → OnlyReads old mid
-    → WhereHeld i mid.content (λ held image. IsHeld held image (start_of (top_of file.root))) (λ held image. IsTrue (fails refusal))
-    → WhereHeld first old.content (λ held image. AllHeld held image (map listed_value files)) (λ held image. IsTrue (fails refusal))
-tree_failed first i old mid files k file refusal within is same reads failed held image indexed all =
-    failed held image (indexed_on first i old mid held image same reads indexed) (file_held files k file within is held image all)
+    → WhereHeld i mid.content (λ counts held image. IsHeld counts held image (start_of (top_of file.root))) (λ counts held image. IsTrue (fails refusal))
+    → WhereHeld first old.content (λ counts held image. AllHeld counts held image (map listed_value files)) (λ counts held image. IsTrue (fails refusal))
+tree_failed first i old mid files k file refusal within is same reads failed counts held image indexed all =
+    failed counts held image (indexed_on first i old mid counts held image same reads indexed) (file_held files k file within is counts held image all)

@@ -25,7 +25,9 @@ use Rattle.store_model.specs.Files.{Files, Stored}
 use Rattle.store_model.specs.Freeing.{FreesSome, FreesTo, IsPartlyFreed, SameButGates, with_all_freed}
 use Rattle.store_model.specs.Image.{Store, Encodes, names_of}
 use Rattle.store_model.specs.Reserve.{HasReserve, IsReachable}
-use Rattle.store_model.specs.Slots.{IsIndexOf, free_slots}
+use Rattle.store_model.specs.Slots.{Copy, IsIndexOf, free_slots, key_set_of, newest}
+use Rattle.store_model.proofs.Counted.{indexed_keys, of_index}
+use Rattle.store_model.proofs.Lookups.{partial_of}
 use Rattle.store_model.specs.Standing.{CanBeOpened, IsStoreWith}
 use Rattle.store_model.proofs.FreedFiles.{freed_stands, partly_opens}
 use Rattle.store_model.proofs.Once.{store_once}
@@ -48,12 +50,13 @@ use Rattle.recovery.proofs.Steps.{opens_passed}
 -- ---- files
 
 -- the trees of all names are held
-all_held : (store : Store) (files : Files) (R : Type 0) (image : List ℕ) (holds : IsStoreWith store files image R) (es : List (List ℕ × Named)) → All (λ e. finite.get (names_of store) e.0 ≡ Some e.1) es
-    → AllHeld store.held image (map named_root es)
-all_held store files R image holds [] all = tt
-all_held store files R image holds (e ∷ es) all = (
-  held_start store files R image holds e.0 e.1 (All-head (λ x. finite.get (names_of store) x.0 ≡ Some x.1) e es all),
-  all_held store files R image holds es (All-tail (λ x. finite.get (names_of store) x.0 ≡ Some x.1) e es all),
+all_held : (counts : ByteSet) (store : Store) (files : Files) (R : Type 0) (image : List ℕ) (holds : IsStoreWith store files image R)
+    → ((key : List ℕ) (copy : Copy) → newest 0 store.held key ≡ Some copy → IsIn counts key) → (es : List (List ℕ × Named)) → All (λ e. finite.get (names_of store) e.0 ≡ Some e.1) es
+    → AllHeld counts store.held image (map named_root es)
+all_held counts store files R image holds count [] all = tt
+all_held counts store files R image holds count (e ∷ es) all = (
+  held_start store files R image holds counts count e.0 e.1 (All-head (λ x. finite.get (names_of store) x.0 ≡ Some x.1) e es all),
+  all_held counts store files R image holds count es (All-tail (λ x. finite.get (names_of store) x.0 ≡ Some x.1) e es all),
 )
 
 module _ (store : Store) (among : ByteSet) (stored : Stored) (given : List ℕ) (right : Encodes given store) (opens : OpensAs (IsIn among) stored given) where
@@ -63,8 +66,8 @@ module _ (store : Store) (among : ByteSet) (stored : Stored) (given : List ℕ) 
   can_open : IsStoreWith store stored.files given reserve
   can_open = subst (λ (s : Store). CanBeOpened s stored.files given) (store_once given opens.store store opens.holds.right right) opens.holds
 
-  names_held : AllHeld store.held given (listing_of (names_of store))
-  names_held = all_held store stored.files reserve given can_open (finite.entries (names_of store)) (entries_found (names_of store))
+  names_held : (index : PlaceMap) → IsIndexOf store.held index → AllHeld (key_set_of index) store.held given (listing_of (names_of store))
+  names_held index all = all_held (key_set_of index) store stored.files reserve given can_open (indexed_keys store.held index all) (finite.entries (names_of store)) (entries_found (names_of store))
 
   opens_none : (c : List ℕ) → IsPartlyFreed store [] given c → OpensAs (IsIn among) stored c
   opens_none c part = partly_opens (IsIn among) (IsReachable stored.files) stored store [] given c (λ key is. is) (λ key is. is) opens right tt part
@@ -203,9 +206,15 @@ module _ (old mid new : DiskView) (reads : Reads Done old mid) (o : OpenStore) (
     images = λ given known. makes.images given (reads.only.content_is ∙ known) (content_encodes given known);
     crash = λ given known. leaves_since found.store o.containers.index old mid new reads.only makes.freed later makes.crash given known (content_encodes given known);
     files = λ given known among stored opens. (
-      makes.failed found.store.held given
-          (record { told = reads.only.content_is ∙ known; index = o.containers.index; index_known = refl; index_is_newest = found.represents.containers.index })
-          (names_held found.store among stored given (content_encodes given known) opens),
+      makes.failed (key_set_of o.containers.index) found.store.held given
+          (record {
+            told = reads.only.content_is ∙ known;
+            index = o.containers.index;
+            index_known = refl;
+            index_is_newest = partial_of found.store.held o.containers.index found.represents.containers.index;
+            has = λ key. of_index o.containers.index key;
+          })
+          (names_held found.store among stored given (content_encodes given known) opens o.containers.index found.represents.containers.index),
       λ c part. opens_after refusal among stored given makes.freed c known opens makes.walked part,
     );
   }

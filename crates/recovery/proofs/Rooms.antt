@@ -16,7 +16,7 @@ use Rattle.refusals.specs.declared.refusal.Refusal.TheVariants.{DiskWrite}
 use Rattle.store_model.specs.Freeing.{IsPartlyFreed}
 use Rattle.store_model.specs.Image.{Store, IsValidFor, names_of}
 use Rattle.store_model.specs.Slots.{Copy, IsIndexOf, free_slots, ids_of}
-use Rattle.store_model.proofs.Lookups.{finds}
+use Rattle.store_model.proofs.Lookups.{finds, partial_of}
 use Rattle.store_model.proofs.Free.{as_many}
 use Rattle.store_state.specs.declared.open_store.OpenStore.{OpenStore}
 use Rattle.store_state.specs.Refused.{blames, fails}
@@ -59,7 +59,7 @@ are_marks store index visited used newest marked = record {
       cc;
   needed = λ slot is none.
       let key = marked.only slot is in
-      let copy = finds store index key.0 key.1.0 newest key.1.1.1 in
+      let copy = finds store index key.0 key.1.0 (partial_of store.held index newest) key.1.1.1 in
       none key.0 copy.0 key.1.1.0 copy.1 (ap (λ (p : Place). p.slot) copy.2 ∙ key.1.1.2);
 }
 
@@ -127,7 +127,7 @@ module _ (store : Store) (index : PlaceMap) (old mid new : DiskView) (reads : On
 
 -- the walk was not done
 pub walk_failed : (store : Store) (index : PlaceMap) (old new : DiskView) (refusal : Refusal) → IsDurable old → Reads (ending_of (blames refusal)) old new → IsMarkRefusal index old new (listing_of (names_of store)) refusal
-    → WhereHeld index old.content (λ held image. AllHeld held image (listing_of (names_of store))) (λ held image. IsTrue (fails refusal)) → MakesNoRoom store index refusal old new
+    → WhereHeld index old.content (λ counts held image. AllHeld counts held image (listing_of (names_of store))) (λ counts held image. IsTrue (fails refusal)) → MakesNoRoom store index refusal old new
 walk_failed store index old new refusal durable reads cause failed = record {
   later = reads.only.later;
   faults_are = reads.faults_are;

@@ -147,8 +147,8 @@ pub record MakesNoRoom (store : Store) (index : PlaceMap) (refusal : Refusal) (o
   pub images : ImagesFreed store freed old new
   pub crash : LeavesFreed store freed old new
   -- where the trees of all names are held
-  pub failed : WhereHeld index old.content (λ held image. AllHeld held image (listing_of (names_of store)))
-      (λ held image. IsTrue (fails refusal))
+  pub failed : WhereHeld index old.content (λ counts held image. AllHeld counts held image (listing_of (names_of store)))
+      (λ counts held image. IsTrue (fails refusal))
 
 -- a store that was read, in memory
 pub record IsRead (size : ℕ) (o : OpenStore) : Type 0 where

@@ -11,6 +11,7 @@ use Rattle.merkle_file.specs.declared.top.Top.{Top}
 use Rattle.merkle_file.specs.Tree.{Tree}
 use Rattle.merkle_file.specs.Walk.{start_of}
 use Rattle.namespace.specs.Listing.{NamedRoot}
+use Rattle.store_model.specs.Collisions.{ByteSet}
 use Rattle.read_steps.specs.Opening.{top_of}
 use Rattle.read_steps.specs.Visiting.{HasPlace, IsVisitRefusal, IsVisited, VisitsRoots, VisitsTo}
 use Rattle.read_steps.specs.Walking.{HeldAhead, IsIndexed, WasRead}
@@ -74,24 +75,26 @@ IsMarkRefusal index old new roots refusal = (refusal ≡ Memory) ⊎ IsStuckAmon
 -- ---- trees that are held
 
 -- held trees are to come
-abbrev pub IsHeld : List (Option HeaderValue) → List ℕ → List Top → Type 0
-IsHeld held image ahead = (ts : List (Tree (List ℕ))) × HeldAhead held image ahead ts
+abbrev pub IsHeld : ByteSet → List (Option HeaderValue) → List ℕ → List Top → Type 0
+IsHeld counts held image ahead = (ts : List (Tree (List ℕ))) × HeldAhead counts held image ahead ts
 
-abbrev pub AllHeld : List (Option HeaderValue) → List ℕ → List NamedRoot → Type 0
-AllHeld held image roots = AllByRecursion (λ n. IsHeld held image (start_of (top_of n.root))) roots
+abbrev pub AllHeld : ByteSet → List (Option HeaderValue) → List ℕ → List NamedRoot → Type 0
+AllHeld counts held image roots = AllByRecursion (λ n. IsHeld counts held image (start_of (top_of n.root))) roots
 
--- where the trees to come are held, so P holds
-abbrev pub WhereHeld : PlaceMap → Option (List ℕ) → (List (Option HeaderValue) → List ℕ → Type 0)
-    → (List (Option HeaderValue) → List ℕ → Type 0) → Type 0
-WhereHeld index content Held P = (held : List (Option HeaderValue)) (image : List ℕ) → IsIndexed held (Some index) content image
-    → Held held image → P held image
+-- where the trees to come are held, and the index has their keys, so P holds
+abbrev pub WhereHeld : PlaceMap → Option (List ℕ) → (ByteSet → List (Option HeaderValue) → List ℕ → Type 0)
+    → (ByteSet → List (Option HeaderValue) → List ℕ → Type 0) → Type 0
+WhereHeld index content Held P =
+    (counts : ByteSet) (held : List (Option HeaderValue)) (image : List ℕ) → IsIndexed counts held (Some index) content image
+    → Held counts held image → P counts held image
 
 -- a part of a tree was walked
 pub record IsMarking (first index : PlaceMap) (old new : DiskView) (before after : List Top) (used marked : List Bool) : Type 0 where
   pub marks : MarksTo first old new before after used marked
   pub index_is : index ≡ first
   pub reads : Reads Done old new
-  pub held : WhereHeld first old.content (λ held image. IsHeld held image before) (λ held image. IsHeld held image after)
+  pub held : WhereHeld first old.content (λ counts held image. IsHeld counts held image before)
+      (λ counts held image. IsHeld counts held image after)
 
 -- some of the trees were
 pub record IsMarkingAll (first index : PlaceMap) (old new : DiskView) (roots : List NamedRoot) (used marked : List Bool) : Type 0 where

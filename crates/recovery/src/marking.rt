@@ -34,7 +34,7 @@ fn mark_rest<D: Disk>(
     ensures refused { IfErr result (IsStuckOn index.old (D.view disk.old) (D.view disk.new) cursor.old) }
     // Where the disk tells its content, and trees that it holds are to come.
     ensures failed { IfErr result (λ refusal. WhereHeld index.old (D.view disk.old).content
-        (λ held image. IsHeld held image cursor.old) (λ _ _. refusal ≡ Unread)) }
+        (λ counts held image. IsHeld counts held image cursor.old) (λ _ _ _. refusal ≡ Unread)) }
     ensures index { index.new ≡ index.old }
     ensures reads { Reads (ending blames result) (D.view disk.old) (D.view disk.new) }
 {
@@ -59,7 +59,7 @@ fn mark_tree<D: Disk>(
     ensures marks { OnOk result (MarksTo index.old (D.view disk.old) (D.view disk.new) (start_of (top_of root.now)) [] used.old used.new) }
     ensures refused { IfErr result (IsTreeRefusal index.old (D.view disk.old) (D.view disk.new) (start_of (top_of root.now))) }
     ensures failed { IfErr result (λ refusal. WhereHeld index.old (D.view disk.old).content
-        (λ held image. IsHeld held image (start_of (top_of root.now))) (λ _ _. IsTrue (fails refusal))) }
+        (λ counts held image. IsHeld counts held image (start_of (top_of root.now))) (λ _ _ _. IsTrue (fails refusal))) }
     ensures index { index.new ≡ index.old }
     ensures reads { Reads (ending blames result) (D.view disk.old) (D.view disk.new) }
 {
@@ -89,7 +89,7 @@ pub(crate) fn mark_all<D: Disk>(
     ensures marks { OnOk result (MarksAll index.old (D.view disk.old) (D.view disk.new) (map listed_value files.now) used.old used.new) }
     ensures refused { IfErr result (IsMarkRefusal index.old (D.view disk.old) (D.view disk.new) (map listed_value files.now)) }
     ensures failed { IfErr result (λ refusal. WhereHeld index.old (D.view disk.old).content
-        (λ held image. AllHeld held image (map listed_value files.now)) (λ _ _. IsTrue (fails refusal))) }
+        (λ counts held image. AllHeld counts held image (map listed_value files.now)) (λ _ _ _. IsTrue (fails refusal))) }
     ensures index { index.new ≡ index.old }
     ensures reads { Reads (ending blames result) (D.view disk.old) (D.view disk.new) }
 {

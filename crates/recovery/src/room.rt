@@ -36,7 +36,7 @@ fn mark_needed<D: Disk>(
     ensures size { IfOk result (λ used. length used.items ≡ slots) }
     ensures refused { IfErr result (IsMarkRefusal index.old (D.view disk.old) (D.view disk.new) (listing_of names.now)) }
     ensures failed { IfErr result (λ refusal. WhereHeld index.old (D.view disk.old).content
-        (λ held image. AllHeld held image (listing_of names.now)) (λ _ _. IsTrue (fails refusal))) }
+        (λ counts held image. AllHeld counts held image (listing_of names.now)) (λ _ _ _. IsTrue (fails refusal))) }
     ensures reads { Reads (ending blames result) (D.view disk.old) (D.view disk.new) }
 {
     let files = names.files(alloc)?;

@@ -1,15 +1,29 @@
 -- Trees that are held, and whose keys count.
-use Rattle.std.proofs.Common.{◌≡◌, ◌<◌, ℕ, zero, suc, Bool, true, false, List, [], ◌∷◌, length, arith, refl, sym, subst}
-use Rattle.std.specs.Prelude.{◌||◌, slice_index_or}
+use Rattle.std.proofs.Common.{◌≡◌, ◌⊎◌, inl, inr, ◌<◌, ℕ, zero, suc, Bool, true, false, List, [], ◌∷◌, length, Option, Some, None, arith, refl, sym, ap, subst}
+use Rattle.std.specs.Prelude.{◌||◌, is_some, slice_index_or}
+use Rattle.std.specs.FinMap as finite
 use Rattle.std.specs.List.{AllByRecursion, Contains}
 use Rattle.std.specs.Str.{bytes_eq}
+use Rattle.std.proofs.lemmas.List.Elements.{Contains-append_cases}
 use Rattle.std.proofs.lemmas.Slice.Eq.{bytes_eq-Decides}
-use Rattle.merkle_file.specs.Tree.{Tree}
+use Rattle.container_meta.specs.declared.place.Place.{Place}
+use Rattle.container_meta.specs.Places.{PlaceMap}
+use Rattle.container_meta.specs.Spelling.{HeaderValue}
+use Rattle.merkle_file.specs.Tree as tree
+use Rattle.merkle_file.specs.Tree.{Tree, Trees}
+use Rattle.merkle_file.specs.Walk.{contents_of}
 use Rattle.store_model.specs.Collisions.{IsIn}
 use Rattle.store_model.specs.Image.{Store}
-use Rattle.store_model.specs.Reserve.{AllKeys, HoldsCounted, key_set, tree_keys}
+use Rattle.store_model.specs.Reserve.{AllKeys, HoldsCounted, key_set, keys_below, tree_keys}
+use Rattle.store_model.specs.Slots.{Copy, HasKey, IsIndexOf, key_set_of, newest}
 use Rattle.store_model.specs.Steps.{KeepsCopies}
+use Rattle.store_model.specs.Trees.{HoldsTree, HoldsTrees, leaf_key, node_key}
 use Rattle.store_model.proofs.FreedTrees.{in_head, in_tail, needed_tree}
+use Rattle.store_model.proofs.Lookups.{indexed_by}
+
+either_part : {A B C : Type 0} → (A → C) → (B → C) → A ⊎ B → C
+either_part f g (inl a) = f a
+either_part f g (inr b) = g b
 
 -- ---- sets of keys
 
@@ -37,6 +51,44 @@ in_set key (k ∷ ks) there = by_place there.0 there.1 there.2 (λ rest. in_set 
     by_place : (i : ℕ) → i < length (k ∷ ks) → slice_index_or (k ∷ ks) i key ≡ key → (Contains ks key → IsIn (key_set ks) key) → IsIn (key_set (k ∷ ks)) key
     by_place zero below is rest = here ((bytes_eq-Decides key k).1 (sym is))
     by_place (suc i) below is rest = later (bytes_eq key k) (rest (i, omega (arith, below), is))
+
+-- that of an index has the keys that the index has
+pub of_index : (index : PlaceMap) (key : List ℕ) → IsIn (key_set_of index) key → HasKey index key
+of_index index key there = by_place (finite.get index key) refl there
+  where
+    by_place : (o : Option Place) → finite.get index key ≡ o → is_some o ≡ true → HasKey index key
+    by_place None is there = absurd cc
+    by_place (Some place) is there = (place, is)
+
+pub in_index : (index : PlaceMap) (key : List ℕ) → HasKey index key → IsIn (key_set_of index) key
+in_index index key has = ap is_some has.1
+
+-- where it has all, each that is held
+pub indexed_keys : (held : List (Option HeaderValue)) (index : PlaceMap) → IsIndexOf held index → (key : List ℕ) (copy : Copy) → newest 0 held key ≡ Some copy → IsIn (key_set_of index) key
+indexed_keys held index all key copy is = in_index index key (indexed_by held index all key copy is)
+
+-- ---- what is held
+
+module _ (P : List ℕ → Type 0) (held : List (Option HeaderValue)) (image : List ℕ) (each : (key : List ℕ) (copy : Copy) → newest 0 held key ≡ Some copy → P key) where
+  at_head : (top key : List ℕ) (keys : List (List ℕ)) → P top → (Contains keys key → P key) → Contains (top ∷ keys) key → P key
+  at_head top key keys first later there = by_place there.0 there.1 there.2
+    where
+      by_place : (i : ℕ) → i < length (top ∷ keys) → slice_index_or (top ∷ keys) i key ≡ key → P key
+      by_place zero below is = subst P is first
+      by_place (suc i) below is = later (i, omega (arith, below), is)
+
+  -- where P holds of each key that has a copy, it does of those of a tree that is held
+  mutual
+    pub held_keys : (t : Tree (List ℕ)) → HoldsTree held image t → AllKeys P t
+    held_keys tree.Empty holds key there = absurd (omega (arith, there.1))
+    held_keys (tree.Leaf segment) holds key there = at_head (leaf_key segment) key [] (each (leaf_key segment) holds.copy holds.copy_is) (λ none. absurd (omega (arith, none.1))) there
+    held_keys (tree.Node level ts) holds key there =
+        at_head (node_key (contents_of level ts)) key (keys_below ts) (each (node_key (contents_of level ts)) holds.0.copy holds.0.copy_is) (held_below ts holds.1 key) there
+
+    held_below : (ts : Trees (List ℕ)) → HoldsTrees held image ts → (key : List ℕ) → Contains (keys_below ts) key → P key
+    held_below tree.NoTree holds key there = absurd (omega (arith, there.1))
+    held_below (tree.Then t ts) holds key there =
+        either_part (held_keys t holds.0 key) (held_below ts holds.1 key) (Contains-append_cases (tree_keys t) (keys_below ts) key there)
 
 -- ---- trees go on
 

@@ -1,10 +1,10 @@
 -- What an index of a store answers.
-use Rattle.std.proofs.Common.{◌≡◌, ℕ, List, Option, Some, None, option_map, refl, sym, ◌∙◌}
+use Rattle.std.proofs.Common.{◌≡◌, ℕ, List, Option, Some, None, option_map, refl, sym, ◌∙◌, ap}
 use Rattle.std.specs.FinMap as finite
 use Rattle.container_meta.specs.declared.place.Place.{Place}
 use Rattle.container_meta.specs.Places.{PlaceMap}
 use Rattle.container_meta.specs.Spelling.{HeaderValue}
-use Rattle.store_model.specs.Slots.{Copy, newest, IsIndexOf, IsPartialIndexOf}
+use Rattle.store_model.specs.Slots.{Copy, HasKey, newest, IsIndexOf, IsPartialIndexOf}
 use Rattle.store_model.specs.Image.{Store}
 
 none_of : (copy : Option Copy) → option_map (λ (c : Copy). c.place) copy ≡ None → copy ≡ None
@@ -23,6 +23,10 @@ lacks store places key index found = none_of (newest 0 store.held key) (sym (ind
 pub finds : (store : Store) (places : PlaceMap) (key : List ℕ) (place : Place) → IsPartialIndexOf store.held places → finite.get places key ≡ Some place
     → (copy : Copy) × (newest 0 store.held key ≡ Some copy) × (copy.place ≡ place)
 finds store places key place index found = some_of (newest 0 store.held key) place (index key place found)
+
+-- an index of all keys has each that is held
+pub indexed_by : (held : List (Option HeaderValue)) (places : PlaceMap) → IsIndexOf held places → (key : List ℕ) (copy : Copy) → newest 0 held key ≡ Some copy → HasKey places key
+indexed_by held places index key copy is = (copy.place, index key ∙ ap (option_map (λ (c : Copy). c.place)) is)
 
 -- an index of all keys is one of some
 pub partial_of : (held : List (Option HeaderValue)) (places : PlaceMap) → IsIndexOf held places → IsPartialIndexOf held places

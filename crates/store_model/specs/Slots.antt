@@ -1,5 +1,5 @@
 -- What the container slots of a disk image hold (docs/MODEL.md, 'Containers').
-use Rattle.std.specs.Prelude.{◌≡◌, ◌≢◌, ℕ, zero, suc, ◌+◌, List, [], ◌∷◌, length, max, nat_lt, if◌then◌else◌, Option, Some, None, find, option_map}
+use Rattle.std.specs.Prelude.{◌≡◌, ◌≢◌, ℕ, zero, suc, ◌+◌, List, [], ◌∷◌, length, max, nat_lt, if◌then◌else◌, Bool, is_some, Option, Some, None, find, option_map}
 use Rattle.std.specs.Str.{bytes_eq}
 use Rattle.std.specs.FinMap as finite
 use Rattle.base_model.specs.Bytes.{range, byte_at, key_of}
@@ -83,6 +83,10 @@ IsIndexOf containers places = (key : List ℕ) → finite.get places key ≡ opt
 -- the index has a place for the key
 abbrev pub HasKey : PlaceMap → List ℕ → Type 0
 HasKey places key = (place : Place) × (finite.get places key ≡ Some place)
+
+-- the keys of an index, as a set
+abbrev pub key_set_of : PlaceMap → List ℕ → Bool
+key_set_of places key = is_some (finite.get places key)
 
 -- each place that the index has is that of its key's newest copy; it may lack keys that no file needs
 abbrev pub IsPartialIndexOf : List (Option HeaderValue) → PlaceMap → Type 0

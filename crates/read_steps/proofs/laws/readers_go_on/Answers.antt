@@ -6,4 +6,4 @@ pub returns-clause-whole : goal.returns-clause-whole
 returns-clause-whole c = reads_are_whole
 
 pub returns-clause-stays : goal.returns-clause-stays
-returns-clause-stays c = segments_on
+returns-clause-stays c = λ counts s t old new ahead segments keeps. segments_on counts s t old new keeps ahead segments

@@ -15,13 +15,13 @@ returns-in-Reading-clause-next g c =
     c.next_segment-answer.ensures.bytes
 
 pub returns-in-Reading-clause-held : goal.returns-in-Reading-clause-held
-returns-in-Reading-clause-held g c = λ root ahead held image segments is indexed segs.
-    held_given held image c.args.actor c.args.parts.now c.set.new.self c.in-Reading.reader.cursor c.next_segment-answer.new.cursor
+returns-in-Reading-clause-held g c = λ root ahead counts held image segments is indexed segs.
+    held_given counts held image c.args.actor c.args.parts.now c.set.new.self c.in-Reading.reader.cursor c.next_segment-answer.new.cursor
     c.next_segment-answer.new.buf _ segments c.next_segment-answer.result
     (goes_on c.args.actor c.args.parts.now c.take.new.self c.set.new.self c.in-Reading.reader.root c.in-Reading.reader.cursor c.next_segment-answer.new.cursor c.take.result c.take.ensures.taken c.in-Reading.is
     c.take.ensures.left c.set.ensures.parts)
     (refilled_whole c.args.buf.now c.next_segment-answer.new.buf (c.next_segment-answer.auto.buf ∙ ap length c.bytes_mut.ensures.value))
-    (λ sooner. c.next_segment-answer.ensures.held held image segments indexed sooner) root ahead is segs
+    (λ sooner. c.next_segment-answer.ensures.held counts held image segments indexed sooner) root ahead is segs
 
 pub returns-in-Reading-clause-refused : goal.returns-in-Reading-clause-refused
 returns-in-Reading-clause-refused g c =

@@ -18,13 +18,13 @@ returns-in_err-open_node-in-Node-clause-refused g c =
     (node_not_opened known breaks old new c.args.cursor.now c.in-Node.digest c.in-Node.level c.in-Node.length (sym c.in-Node.ensures.wanted) e c.in_err-open_node-in-Node.ensures.cause)
 
 pub returns-in_err-open_node-in-Node-clause-held : goal.returns-in_err-open_node-in-Node-clause-held
-returns-in_err-open_node-in-Node-clause-held g c = λ held image ts indexed ahead.
+returns-in_err-open_node-in-Node-clause-held g c = λ counts held image ts indexed ahead.
     let old = g.D.Disk.view c.args.disk.now in
     let new = g.D.Disk.view c.open_node.new.disk in
     let known = g.X.Index.places c.args.index.now old.content in
     let breaks = g.X.Index.breaks c.args.index.now in
     let e = c.in_err-open_node-in-Node.field-0.0 in
-    held_unread held known old new image indexed breaks c.args.cursor.now c.open_node.new.cursor ts e c.from_residual.result c.from_residual.ensures.1
+    held_unread counts held known old new image indexed breaks c.args.cursor.now c.open_node.new.cursor ts e c.from_residual.result c.from_residual.ensures.1
     (node_not_opened known breaks old new c.args.cursor.now c.in-Node.digest c.in-Node.level c.in-Node.length (sym c.in-Node.ensures.wanted) e c.in_err-open_node-in-Node.ensures.cause) ahead
 
 pub returns-in_ok-open_node-in-Node-clause-falls : goal.returns-in_ok-open_node-in-Node-clause-falls
@@ -34,9 +34,9 @@ returns-in_ok-open_node-in-Node-clause-falls g c = λ place is.
     visit_falls (WasRead (g.X.Index.places c.args.index.now old.content) old (g.D.Disk.view c.open_node.new.disk)) (HasPlace (g.X.Index.places c.args.index.now old.content)) c.args.cursor.now c.open_node.new.cursor visits.0 visits.1.0
 
 pub returns-in_ok-open_node-in-Node-clause-held : goal.returns-in_ok-open_node-in-Node-clause-held
-returns-in_ok-open_node-in-Node-clause-held g c = λ held image ts indexed ahead.
+returns-in_ok-open_node-in-Node-clause-held g c = λ counts held image ts indexed ahead.
     let old = g.D.Disk.view c.args.disk.now in
-    held_after held (g.X.Index.places c.args.index.now old.content) old (g.D.Disk.view c.open_node.new.disk) image indexed c.args.cursor.now c.open_node.new.cursor c.in_ok-open_node-in-Node.field-0 ts
+    held_after counts held (g.X.Index.places c.args.index.now old.content) old (g.D.Disk.view c.open_node.new.disk) image indexed c.args.cursor.now c.open_node.new.cursor c.in_ok-open_node-in-Node.field-0 ts
     c.in_ok-open_node-in-Node.ensures.visits ahead
 
 -- ---- a segment
@@ -53,13 +53,13 @@ returns-in_err-place-in-Leaf-clause-refused g c =
     (subst (λ (key : List ℕ). IsLookupRefusal known breaks old new key e) c.key_of.ensures c.in_err-place-in-Leaf.ensures.refused))
 
 pub returns-in_err-place-in-Leaf-clause-held : goal.returns-in_err-place-in-Leaf-clause-held
-returns-in_err-place-in-Leaf-clause-held g c = λ held image ts indexed ahead.
+returns-in_err-place-in-Leaf-clause-held g c = λ counts held image ts indexed ahead.
     let old = g.D.Disk.view c.args.disk.now in
     let new = g.D.Disk.view c.find_place.new.disk in
     let known = g.X.Index.places c.args.index.now old.content in
     let breaks = g.X.Index.breaks c.args.index.now in
     let e = c.in_err-place-in-Leaf.field-0.0 in
-    held_unread held known old new image indexed breaks c.args.cursor.now c.args.cursor.now ts e c.from_residual-in_err-place-in-Leaf.result c.from_residual-in_err-place-in-Leaf.ensures.1
+    held_unread counts held known old new image indexed breaks c.args.cursor.now c.args.cursor.now ts e c.from_residual-in_err-place-in-Leaf.result c.from_residual-in_err-place-in-Leaf.ensures.1
     (leaf_not_found known breaks old new c.args.cursor.now c.in-Leaf.digest c.in-Leaf.level c.in-Leaf.length (sym c.in-Leaf.ensures.wanted) e
     (subst (λ (key : List ℕ). IsLookupRefusal known breaks old new key e) c.key_of.ensures c.in_err-place-in-Leaf.ensures.refused)) ahead
 
@@ -82,11 +82,11 @@ returns-in_ok-place-in-Leaf-clause-falls g c = λ place is.
     visit_falls (WasRead known old new) (HasPlace known) c.args.cursor.now c.pass.new.self visits.0 visits.1.0
 
 pub returns-in_ok-place-in-Leaf-clause-held : goal.returns-in_ok-place-in-Leaf-clause-held
-returns-in_ok-place-in-Leaf-clause-held g c = λ held image ts indexed ahead.
+returns-in_ok-place-in-Leaf-clause-held g c = λ counts held image ts indexed ahead.
     let old = g.D.Disk.view c.args.disk.now in
     let known = g.X.Index.places c.args.index.now old.content in
     let new = g.D.Disk.view c.find_place.new.disk in
     let place = c.in_ok-place-in-Leaf.place in
-    held_after held known old new image indexed c.args.cursor.now c.pass.new.self place ts
+    held_after counts held known old new image indexed c.args.cursor.now c.pass.new.self place ts
     (leaf_visited known old new c.args.cursor.now c.pass.new.self c.in-Leaf.digest c.in-Leaf.level c.in-Leaf.length place (sym c.in-Leaf.ensures.wanted) c.pass.ensures.rest
     (subst (λ (key : List ℕ). IsPlaceOf known key place) c.key_of.ensures c.in_ok-place-in-Leaf.ensures.found) c.in_ok-place-in-Leaf.ensures.place) ahead

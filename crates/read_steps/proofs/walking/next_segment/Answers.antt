@@ -21,7 +21,7 @@ returns-in_err-open_nodes-clause-end g c =
     (passed_on result (IsWalkRefusal known breaks old new c.args.cursor.now c.open_nodes.new.cursor) e passed c.in_err-open_nodes.ensures.refused)
 
 pub returns-in_err-open_nodes-clause-held : goal.returns-in_err-open_nodes-clause-held
-returns-in_err-open_nodes-clause-held g c = λ held image segments indexed ahead.
+returns-in_err-open_nodes-clause-held g c = λ counts held image segments indexed ahead.
     let old = g.D.Disk.view c.args.disk.now in
     let new = g.D.Disk.view c.open_nodes.new.disk in
     let known = g.X.Index.places c.args.index.now old.content in
@@ -29,7 +29,7 @@ returns-in_err-open_nodes-clause-held g c = λ held image segments indexed ahead
     let result = c.from_residual.result in
     let passed = c.from_residual.ensures.1 in
     let e = c.in_err-open_nodes.field-0.0 in
-    answer_held held known old new image indexed breaks c.args.cursor.now c.open_nodes.new.cursor segments c.open_nodes.new.buf result
+    answer_held counts held known old new image indexed breaks c.args.cursor.now c.open_nodes.new.cursor segments c.open_nodes.new.buf result
     (no_answer result (IsAnswer (WasRead known old new) c.args.cursor.now c.open_nodes.new.cursor c.open_nodes.new.buf) e passed)
     (passed_on result (IsWalkRefusal known breaks old new c.args.cursor.now c.open_nodes.new.cursor) e passed c.in_err-open_nodes.ensures.refused) ahead
 
@@ -68,7 +68,7 @@ returns-in_err-count-in-Leaf-clause-end g c =
     c.in_err-count-in-Leaf.ensures.refused))
 
 pub returns-in_err-count-in-Leaf-clause-held : goal.returns-in_err-count-in-Leaf-clause-held
-returns-in_err-count-in-Leaf-clause-held g c = λ held image segments indexed ahead.
+returns-in_err-count-in-Leaf-clause-held g c = λ counts held image segments indexed ahead.
     let old = g.D.Disk.view c.args.disk.now in
     let mid = g.D.Disk.view c.open_nodes.new.disk in
     let new = g.D.Disk.view c.read_leaf.new.disk in
@@ -78,7 +78,7 @@ returns-in_err-count-in-Leaf-clause-held g c = λ held image segments indexed ah
     let passed = c.from_residual-in_err-count-in-Leaf.ensures.1 in
     let e = c.in_err-count-in-Leaf.field-0.0 in
     let opened = c.in_ok-open_nodes.ensures in
-    answer_held held known old new image indexed breaks c.args.cursor.now c.open_nodes.new.cursor segments c.read_leaf.new.buf result
+    answer_held counts held known old new image indexed breaks c.args.cursor.now c.open_nodes.new.cursor segments c.read_leaf.new.buf result
     (no_answer result (IsAnswer (WasRead known old new) c.args.cursor.now c.open_nodes.new.cursor c.read_leaf.new.buf) e passed)
     (passed_on result (IsWalkRefusal known breaks old new c.args.cursor.now c.open_nodes.new.cursor) e passed
     (leaf_refused known (g.X.Index.places c.open_nodes.new.index mid.content) breaks (g.X.Index.breaks c.open_nodes.new.index) old mid new c.args.cursor.now c.open_nodes.new.cursor
@@ -109,12 +109,12 @@ returns-in_ok-count-in-Leaf-clause-end g c =
     opened.walked c.in_ok-count-in-Leaf.ensures.bytes) tt
 
 pub returns-in_ok-count-in-Leaf-clause-held : goal.returns-in_ok-count-in-Leaf-clause-held
-returns-in_ok-count-in-Leaf-clause-held g c = λ held image segments indexed ahead.
+returns-in_ok-count-in-Leaf-clause-held g c = λ counts held image segments indexed ahead.
     let old = g.D.Disk.view c.args.disk.now in
     let mid = g.D.Disk.view c.open_nodes.new.disk in
     let new = g.D.Disk.view c.read_leaf.new.disk in
     let opened = c.in_ok-open_nodes.ensures in
-    answer_held held (g.X.Index.places c.args.index.now old.content) old new image indexed (g.X.Index.breaks c.args.index.now) c.args.cursor.now c.pass.new.self segments c.read_leaf.new.buf
+    answer_held counts held (g.X.Index.places c.args.index.now old.content) old new image indexed (g.X.Index.breaks c.args.index.now) c.args.cursor.now c.pass.new.self segments c.read_leaf.new.buf
     (Ok (Some c.in_ok-count-in-Leaf.count))
     (leaf_gives (g.X.Index.places c.args.index.now old.content) (g.X.Index.places c.open_nodes.new.index mid.content) old mid new c.args.cursor.now c.open_nodes.new.cursor c.pass.new.self
     c.in-Leaf.digest c.in-Leaf.level c.in-Leaf.length c.in_ok-count-in-Leaf.count _ (sym c.in-Leaf.ensures.wanted) c.pass.ensures.rest opened.map opened.reads.only c.in_ok-count-in-Leaf.ensures.reads.only
@@ -134,8 +134,8 @@ returns-in-End-clause-end g c =
     (walk_ends (WasRead (g.X.Index.places c.args.index.now (g.D.Disk.view c.args.disk.now).content) (g.D.Disk.view c.args.disk.now) (g.D.Disk.view c.open_nodes.new.disk)) c.args.cursor.now c.open_nodes.new.cursor c.in_ok-open_nodes.ensures.walked c.in-End.ensures.next, c.in-End.ensures.next) tt
 
 pub returns-in-End-clause-held : goal.returns-in-End-clause-held
-returns-in-End-clause-held g c = λ held image segments indexed ahead.
+returns-in-End-clause-held g c = λ counts held image segments indexed ahead.
     let old = g.D.Disk.view c.args.disk.now in
     let new = g.D.Disk.view c.open_nodes.new.disk in
-    answer_held held (g.X.Index.places c.args.index.now old.content) old new image indexed (g.X.Index.breaks c.args.index.now) c.args.cursor.now c.open_nodes.new.cursor segments c.open_nodes.new.buf (Ok None)
+    answer_held counts held (g.X.Index.places c.args.index.now old.content) old new image indexed (g.X.Index.breaks c.args.index.now) c.args.cursor.now c.open_nodes.new.cursor segments c.open_nodes.new.buf (Ok None)
     (walk_ends (WasRead (g.X.Index.places c.args.index.now (g.D.Disk.view c.args.disk.now).content) (g.D.Disk.view c.args.disk.now) (g.D.Disk.view c.open_nodes.new.disk)) c.args.cursor.now c.open_nodes.new.cursor c.in_ok-open_nodes.ensures.walked c.in-End.ensures.next, c.in-End.ensures.next) tt ahead

@@ -23,7 +23,7 @@ loop-place-preserved g c =
     marking_more c.args.index.now c.loop-place.index c.visit.new.index (view c.args.disk.now) (view c.loop-place.disk) (view c.visit.new.disk) c.args.cursor.now c.loop-place.cursor c.visit.new.cursor
     c.args.used.now c.loop-place.used place so_far (c.requires.slots ∙ ap size_of (sym c.loop-place.auto.used))
     (subst (λ (got : Option Place). IfSome got (VisitsPlaced (Some c.loop-place.index) (view c.loop-place.disk) (view c.visit.new.disk) c.loop-place.cursor c.visit.new.cursor)) c.in-Some.is c.in_ok-place.ensures.visits)
-    c.visit.ensures.map c.in_ok-place.ensures.reads (λ held image ts indexed is. c.in_ok-place.ensures.held held image ts indexed is)
+    c.visit.ensures.map c.in_ok-place.ensures.reads (λ counts held image ts indexed is. c.in_ok-place.ensures.held counts held image ts indexed is)
 
 pub returns-clause-marks : goal.returns-clause-marks
 returns-clause-marks g c =

@@ -5,6 +5,7 @@ use Rattle.disk_format.specs.declared.numbers.TheConstants.{MOST_SLOTS}
 use Rattle.namespace.specs.Listing.{NamedRoot, listing_of}
 use Rattle.recovery.specs.Marking.{AllHeld, IsMarkRefusal}
 use Rattle.store_state.proofs.Few.{few_ids}
+use Rattle.store_model.proofs.Lookups.{partial_of}
 use Rattle.store_state.proofs.Serving.{index_serves}
 use Rattle.recovery.proofs.Rooms.{by_given, by_stopped, makes_room, marks_of, size_ids, slots_ids, stops_room, walk_failed}
 use Rattle.recovery.proofs.room.make_room.Goals as goal
@@ -12,7 +13,7 @@ use Rattle.recovery.proofs.room.make_room.Goals as goal
 pub mark_needed-requires-clause-serves : goal.mark_needed-requires-clause-serves
 mark_needed-requires-clause-serves g c =
     let read = c.requires.read in
-    index_serves (g.D.Disk.view c.args.disk.now).size read.store c.args.opened.containers.index read.valid read.represents.containers.index
+    index_serves (g.D.Disk.view c.args.disk.now).size read.store c.args.opened.containers.index read.valid (partial_of read.store.held c.args.opened.containers.index read.represents.containers.index)
 
 pub mark_needed-requires-clause-slots : goal.mark_needed-requires-clause-slots
 mark_needed-requires-clause-slots g c = size_ids (g.D.Disk.view c.args.disk.now).size c.args.opened c.requires.read.store c.requires.read.represents c.requires.read.valid
@@ -27,7 +28,7 @@ returns-in_err-used-clause-unmade g c =
     passed_on c.from_residual.result _ error c.from_residual.ensures.1 (λ store represents valid free.
     walk_failed store index old mid error c.requires.durable c.in_err-used.ensures.reads
     (subst (λ (ns : List NamedRoot). IsMarkRefusal index old mid ns error) (ap listing_of represents.journal.names_are) c.in_err-used.ensures.refused)
-    (λ held image indexed all. c.in_err-used.ensures.failed held image indexed (subst (AllHeld held image) (sym (ap listing_of represents.journal.names_are)) all)))
+    (λ counts held image indexed all. c.in_err-used.ensures.failed counts held image indexed (subst (AllHeld counts held image) (sym (ap listing_of represents.journal.names_are)) all)))
 
 pub give_back-requires-clause-ids : goal.give_back-requires-clause-ids
 give_back-requires-clause-ids g c =

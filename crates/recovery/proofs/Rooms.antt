@@ -122,7 +122,7 @@ module _ (store : Store) (index : PlaceMap) (old mid new : DiskView) (reads : On
           content = λ given known right. stopped.are_cut.content given (reads.content_is ∙ known) right;
           images = λ given known right. stopped.are_cut.images given (reads.content_is ∙ known) right;
           crash = leaves_since stopped.freed later stopped.are_cut.crash;
-          failed = λ held image indexed all. subst (λ (r : Refusal). IsTrue (fails r)) (sym is) refl;
+          failed = λ counts held image indexed all. subst (λ (r : Refusal). IsTrue (fails r)) (sym is) refl;
         }
 
 -- the walk was not done

@@ -34,7 +34,7 @@ use Rattle.store_core.specs.Core.{ReadRow}
 use Rattle.store_core.specs.Runs.{ReadsAlone, IsReadNext, GivesByTree, given_to}
 use Rattle.store_core.specs.State.{CoreState, Event}
 use Rattle.store_core.proofs.CheckedReads.{reads_are_checked}
-use Rattle.store_core.proofs.GivingFiles.{same_reader}
+use Rattle.store_core.proofs.OwnParts.{same_reader}
 use Rattle.backup_engine.specs.Line.{Restore}
 use Rattle.backup_engine.specs.AnyDisk.{GivesBack, IsCaused, WroteOnAny, WroteSegments, OnAnyDisk, disk_ending}
 use Rattle.backup_engine.specs.Running.{IsRead, EndsGiving, WroteGiven, IsGivenOut}

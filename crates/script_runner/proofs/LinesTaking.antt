@@ -30,7 +30,7 @@ use Rattle.store_core.specs.Sound.{FindsFile}
 use Rattle.store_core.specs.State.{CoreState, Event}
 use Rattle.store_core.proofs.CoreRuns.{running_step}
 use Rattle.store_core.proofs.Damage.{finds_files}
-use Rattle.store_core.proofs.GivingFiles.{same_reader}
+use Rattle.store_core.proofs.OwnParts.{same_reader}
 use Rattle.plain_machine.specs.Machine.{Machine, Part, Idle, Reading, Running, kind_of, part_in}
 use Rattle.plain_machine.specs.Refused.{takes, IsAtRightPart}
 use Rattle.plain_machine.specs.Runs.{StepRunning}

@@ -26,7 +26,7 @@ use Rattle.script_lines.specs.ReplyValue.{ReplyValue}
 use Rattle.store_core.specs.Core.{CoreStep, EndRow, IsCount, ReadRow}
 use Rattle.store_core.specs.State.{CoreState, Event, IsUp}
 use Rattle.store_core.proofs.CoreRuns.{running_step}
-use Rattle.store_core.proofs.GivingFiles.{same_reader}
+use Rattle.store_core.proofs.OwnParts.{same_reader}
 use Rattle.store_core.proofs.Making.{up_of}
 use Rattle.plain_machine.specs.Refused.{takes}
 use Rattle.script_runner.specs.Acts.{Acts, Admits, DoesStep, RunnerState, counted}

@@ -22,7 +22,8 @@ use Rattle.store_core.specs.declared.stop.Stop.{Stop}
 use Rattle.store_core.specs.Core.{ReadRow, Row, Steps, StepsOr}
 use Rattle.store_core.specs.Runs.{CoreRun, ReadsAlone, IsReadNext, GivesAsNamed, GivesByTree, ReadsAreChecked, EndsAreWhole, given_by, given_to, opens, ends}
 use Rattle.store_core.specs.State.{CoreState, Event}
-use Rattle.store_core.proofs.GivingFiles.{other_part, length_on, same_reader}
+use Rattle.store_core.proofs.GivingFiles.{other_part, length_on}
+use Rattle.store_core.proofs.OwnParts.{same_reader}
 use Rattle.store_core.proofs.Stepping.{ChangesOne, row_one}
 
 -- the actor takes a file of this root, of which it was given these segments, the first of them first

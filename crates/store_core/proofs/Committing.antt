@@ -11,7 +11,8 @@ use Rattle.actor_parts.specs.declared.step.Answer.{Answer}
 use Rattle.actor_parts.specs.declared.step.Answer.TheVariants as answers
 use Rattle.actor_parts.specs.StepValue as asked
 use Rattle.store_model.specs.Image.{Store, Encodes, IsValidFor}
-use Rattle.store_model.specs.Steps.{ChangeName, KeepsCopies, with_change}
+use Rattle.store_model.specs.Slots.{HasKey}
+use Rattle.store_model.specs.Steps.{AnyKey, ChangeName, KeepsCopies, with_change}
 use Rattle.store_model.proofs.Journaled.{newest_on}
 use Rattle.store_model.proofs.Valid.{valid_change}
 use Rattle.store_state.specs.declared.tables.Tables.{Tables}
@@ -21,8 +22,9 @@ use Rattle.ingest_steps.specs.Recording.{KeepsButRecord}
 use Rattle.ingest_steps.proofs.RecordFrames.{record_alone}
 use Rattle.ingest_steps.specs.Writers.{IsCommitted}
 use Rattle.read_steps.specs.Readers as readers
-use Rattle.store_core.specs.Core.{Makes, Made, NamesOne, GivesHeld}
+use Rattle.store_core.specs.Core.{HasWhole, Makes, Made, NamesOne, GivesHeld}
 use Rattle.store_core.specs.State.{CoreState}
+use Rattle.store_core.proofs.Sealing.{one_map}
 
 module _ (old new : CoreState) (name : List ℕ) (change : Change) (sequence : ℕ) (named : IsChanged old.tables name change new.tables sequence) (later : IsLater old.disk new.disk) (index : new.known ≡ old.known) where
   pub makes_change : Makes (ChangeName name change) old new
@@ -31,18 +33,21 @@ module _ (old new : CoreState) (name : List ℕ) (change : Change) (sequence : �
     represents = record { store_has = λ store represents valid reserve. subst (λ (known : Option PlaceMap). Represents (with_change name change store) known new.tables) (sym index) (named.represents store old.known valid.follow represents) };
     valid = record { store_has = λ store represents valid reserve. subst (λ (size : ℕ). IsValidFor size (with_change name change store)) (sym later.size_is) (valid_change old.disk.size name change store valid (named.can store represents.names_are) named.right) };
     tells = λ places is. (places, index ∙ is);
+    keeps_keys = λ before is after after_is key has. subst (λ (m : PlaceMap). HasKey m key) (one_map before after (sym is ∙ sym index ∙ after_is)) has;
+    adds_keys = λ before is after after_is. tt;
+    whole = record { store_has = λ store represents valid reserve whole. subst (HasWhole (with_change name change store)) (sym index) whole };
     runs = λ runs. subst (λ (size : ℕ). Runs size new.known new.tables) (sym later.size_is) (subst (λ (known : Option PlaceMap). Runs old.disk.size known new.tables) (sym index) (named.runs old.disk.size old.known runs));
   }
 
   -- what is held goes on
   pub change_copies : KeepsButRecord old.tables.journal old.disk new.disk → (store : Store) → Represents store old.known old.tables
-      → Known old.disk.content (λ before. Encodes before store → KnownWith new.disk.content (KeepsCopies store before (with_change name change store)))
+      → Known old.disk.content (λ before. Encodes before store → KnownWith new.disk.content (KeepsCopies AnyKey store before (with_change name change store)))
   change_copies keeps store represents before told right =
       let kept = keeps before told in
       let low : old.tables.journal.half ≤ 1 = omega (arith, represents.names_are.half, right.journal.selector_is.0.half) in (
         kept.0,
         kept.1,
-        newest_on before kept.0 store right (record_alone old.tables.journal before kept.0 low kept.2),
+        λ key level bytes counts has. newest_on before kept.0 store right (record_alone old.tables.journal before kept.0 low kept.2) key level bytes has,
       )
 
 -- of the disk and of the tables, by either

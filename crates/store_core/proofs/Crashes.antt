@@ -63,7 +63,7 @@ module _ (among : ByteSet) (s : Store) (stored : Stored) (old new : CoreState) (
   by_seal filled answer effect right given =
       leaves_weaker (λ c. Stands S s stored.files c ⊎ Stands S (with_sealed (next_id old) filled.kind filled.segments s) stored.files c) (Either S (asked.Seal filled) answer bytes stored) old.disk new.disk
       (λ c stands. elim stands [ inl is ↦ inl (s, (is, last_here)) | inr is ↦ inl (with_sealed (next_id old) filled.kind filled.segments s, (is, last_here)) ])
-      (effect.moves.moves among s stored.files at.index at.index_known at.represents distinct (may_seal_all S filled.kind filled.segments right.1 given) at.stands).leaves
+      (effect.moves.moves among s stored.files at.index at.index_known at.represents (at.invariant at.stands.known.0 at.stands.known.1).files_are_indexed distinct (may_seal_all S filled.kind filled.segments right.1 given) at.stands).leaves
 
   -- of a commit that came to its first write
   put_leaves : (name : List ℕ) (root : Root) (answer : Result Answer Refusal) → NamesOne name (Put root) answer old new → IsRootOf root bytes old

@@ -90,7 +90,7 @@ module _ (among : ByteSet) (s : Store) (stored : Stored) (old new : CoreState) (
     had : (refusal : Refusal) (u : Unlike refusal) → HasCopy (newest 0 s.held (key_of (kind_byte kind) (sha256 offered))) u.place
     had refusal u =
         copy_placed (newest 0 s.held (key_of (kind_byte kind) (sha256 offered))) u.place
-        (sym (at.represents.index_is_newest at.index at.index_known (key_of (kind_byte kind) (sha256 offered))) ∙ u.there at.index at.index_known)
+        (at.represents.index_is_newest at.index at.index_known (key_of (kind_byte kind) (sha256 offered)) u.place (u.there at.index at.index_known))
 
     -- its bytes have the digest
     digest_is : (refusal : Refusal) (u : Unlike refusal) → sha256 (bytes_at u.place image) ≡ sha256 offered
@@ -232,16 +232,16 @@ module _ (among : ByteSet) (s : Store) (stored : Stored) (old new : CoreState) (
 
     -- a read on the way of what is held
     stuck : (refusal : Refusal) → IsNotGiven refusal buf actor old new → IsStuck old.known old.breaks old.disk new.disk actor old.parts new.parts refusal
-        → (rest : List Top) × ((segments : List (List ℕ)) × IsHeldAnswer s.held image rest segments buf (Err refusal))
+        → (counts : ByteSet) × ((rest : List Top) × ((segments : List (List ℕ)) × IsHeldAnswer counts s.held image rest segments buf (Err refusal)))
     stuck refusal row cause =
-        stuck_held among s stored.files image at.index actor buf old new here at.index_known (at.represents.index_is_newest at.index at.index_known) at.represents.names_are.names_are stands_here distinct
+        stuck_held among s stored.files image at.index actor buf old new here at.index_known (at.represents.index_is_newest at.index at.index_known) (at.invariant image here).files_are_indexed at.represents.names_are.names_are stands_here distinct
         (at.invariant image here).pins_are_closed refusal row cause
 
     read_harmless : (refusal : Refusal) → ReadRow actor (Err refusal) buf old new → IsHarmless ⊥ refusal
-    read_harmless (refusals.Clash key d) row = absurd (stuck (refusals.Clash key d) row row.cause).1.1
-    read_harmless (refusals.Corrupt slot offset count want got) row = absurd (stuck (refusals.Corrupt slot offset count want got) row row.cause).1.1
-    read_harmless (refusals.Missing key) row = absurd (stuck (refusals.Missing key) row row.cause).1.1
-    read_harmless (refusals.Damaged at_byte why) row = absurd (stuck (refusals.Damaged at_byte why) row row.cause).1.1
+    read_harmless (refusals.Clash key d) row = absurd (stuck (refusals.Clash key d) row row.cause).1.1.1
+    read_harmless (refusals.Corrupt slot offset count want got) row = absurd (stuck (refusals.Corrupt slot offset count want got) row row.cause).1.1.1
+    read_harmless (refusals.Missing key) row = absurd (stuck (refusals.Missing key) row row.cause).1.1.1
+    read_harmless (refusals.Damaged at_byte why) row = absurd (stuck (refusals.Damaged at_byte why) row row.cause).1.1.1
     read_harmless refusal row = tt
 
     step_harmless : (step : StepValue) (refusal : Refusal) → IsGivenRight (IsIn among) step (Err refusal) bytes old → Row step actor (Err refusal) buf old new → IsHarmless (MayClash step) refusal

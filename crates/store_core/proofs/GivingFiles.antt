@@ -4,8 +4,8 @@ use Rattle.std.specs.FinMap as finite
 use Rattle.std.proofs.lemmas.Bool.{eqb-true, eqb-false}
 use Rattle.disk_format.specs.Cells.{Root}
 use Rattle.merkle_file.specs.declared.top.Top.{Top}
+use Rattle.container_meta.specs.Places.{PlaceMap}
 use Rattle.actor_parts.specs.declared.part.Part.{Part}
-use Rattle.actor_parts.specs.declared.part.Part.TheVariants.{Reading}
 use Rattle.actor_parts.specs.declared.step.Answer.{Answer}
 use Rattle.actor_parts.specs.declared.step.Answer.TheVariants as answers
 use Rattle.actor_parts.specs.Parts.{part_of, with_part}
@@ -18,7 +18,11 @@ use Rattle.segmenter.specs.Segments.{segments_of}
 use Rattle.store_model.specs.Collisions.{HasNoCollisions, ByteSet, IsIn}
 use Rattle.store_model.specs.Files.{Stored}
 use Rattle.store_model.specs.Image.{Store}
+use Rattle.store_model.specs.Reserve.{key_set, tree_keys}
+use Rattle.store_model.specs.Slots.{HasKey}
 use Rattle.store_model.specs.Steps.{StoreChange, KeepsCopies}
+use Rattle.store_model.specs.Trees.{file_tree}
+use Rattle.store_model.proofs.Counted.{contained}
 use Rattle.read_steps.specs.Readers.{reading}
 use Rattle.read_steps.specs.Walking.{IsIndexed, SegmentsAhead}
 use Rattle.read_steps.proofs.Openings.{segments_on}
@@ -27,19 +31,8 @@ use Rattle.store_core.specs.Core.{ReadRow, Row, Steps, StepsOr}
 use Rattle.store_core.specs.Runs.{FileEvent, FileStep, FileRun, IsAt, ReadsAlone, IsReadNext, GivesOne, GivesInOrder, GivesTheFile, changes_by, events_of, stored_by, opens}
 use Rattle.store_core.specs.State.{CoreState, Event}
 use Rattle.store_core.proofs.KeepingFiles.{Next, file_step, run_running}
+use Rattle.store_core.proofs.OwnParts.{same_reader}
 use Rattle.store_core.proofs.Stepping.{ChangesOne, row_one}
-
--- a part that takes a file says of which root, and what is to come
-abbrev root_in : Root → Part → Root
-root_in other (Reading reader) = reader.root
-root_in other part = other
-
-abbrev rest_in : Part → List Top
-rest_in (Reading reader) = reader.cursor
-rest_in part = []
-
-pub same_reader : (a b : Root) (x y : List Top) → reading a x ≡ reading b y → (a ≡ b) × (x ≡ y)
-same_reader a b x y same = (ap (root_in a) same, ap rest_in same)
 
 -- the actor takes a file of which these segments, which the store holds, are to come
 pub record IsReader (actor : ℕ) (store : Store) (segments : List (List ℕ)) (c : CoreState) : Type 0 where
@@ -47,7 +40,10 @@ pub record IsReader (actor : ℕ) (store : Store) (segments : List (List ℕ)) (
   pub ahead : List Top
   pub below : actor < length c.parts
   pub part_is : part_of c.parts actor ≡ reading root ahead
-  pub ahead_is : (image : List ℕ) → c.disk.content ≡ Some image → SegmentsAhead store.held image ahead segments
+  -- the index has the keys of the file
+  pub counts : ByteSet
+  pub has : (index : PlaceMap) → c.known ≡ Some index → (key : List ℕ) → IsIn counts key → HasKey index key
+  pub ahead_is : (image : List ℕ) → c.disk.content ≡ Some image → SegmentsAhead counts store.held image ahead segments
 
 -- another actor's step leaves its part
 pub other_part : (actor own : ℕ) (old new : List Part) → ChangesOne own old new → actor ≢ own → part_of new actor ≡ part_of old actor
@@ -75,22 +71,28 @@ module _ (among : ByteSet) (s : Store) (changes : List StoreChange) (stored late
   abbrev Still : List (List ℕ) → Type 0
   Still rest = IsReader actor next.store rest new
 
+  has_here : (key : List ℕ) → IsIn reader.counts key → HasKey at.index key
+  has_here = reader.has at.index at.index_known
+
   -- what is to come of its part, by the old store, is so by the new one
-  goes : (own : ℕ) (root : Root) (ahead : List Top) (rest : List (List ℕ)) → ChangesOne own old.parts new.parts → part_of new.parts actor ≡ reading root ahead → SegmentsAhead s.held image ahead rest → Still rest
+  goes : (own : ℕ) (root : Root) (ahead : List Top) (rest : List (List ℕ)) → ChangesOne own old.parts new.parts → part_of new.parts actor ≡ reading root ahead → SegmentsAhead reader.counts s.held image ahead rest → Still rest
   goes own root ahead rest one is held = record {
     root = root;
     ahead = ahead;
     below = subst (λ (n : ℕ). actor < n) (sym (length_on own old.parts new.parts one)) reader.below;
     part_is = is;
-    ahead_is = λ after told. segments_on s next.store image after ahead rest (next.copies image after here told) held;
+    counts = reader.counts;
+    has = λ then is_known key there. next.keys at.index then at.index_known is_known key (has_here key there);
+    ahead_is = λ after told.
+        segments_on reader.counts s next.store image after (λ key level text there newest. next.copies at.index image after at.index_known here told key level text (has_here key there) newest) ahead rest held;
   }
 
   -- a step of another
   pub other_still : (own : ℕ) → ChangesOne own old.parts new.parts → actor ≢ own → Still segments
   other_still own one differs = goes own reader.root reader.ahead segments one (other_part actor own old.parts new.parts one differs ∙ reader.part_is) (reader.ahead_is image here)
 
-  indexed : IsIndexed s.held old.known old.disk.content image
-  indexed = record { told = here; index = at.index; index_known = at.index_known; index_is_newest = at.represents.index_is_newest at.index at.index_known }
+  indexed : IsIndexed reader.counts s.held old.known old.disk.content image
+  indexed = record { told = here; index = at.index; index_known = at.index_known; index_is_newest = at.represents.index_is_newest at.index at.index_known; has = has_here }
 
   set_part : (root : Root) (ahead : List Top) → new.parts ≡ with_part old.parts actor (reading root ahead) → part_of new.parts actor ≡ reading root ahead
   set_part root ahead is = ap (λ (parts : List Part). part_of parts actor) is ∙ apart.same old.parts actor (reading root ahead) reader.below
@@ -98,7 +100,7 @@ module _ (among : ByteSet) (s : Store) (changes : List StoreChange) (stored late
   -- its own
   own_still : (answer : Result Answer Refusal) (buf : List ℕ) → ReadRow actor answer buf old new → GivesOne true answer buf segments Still
   own_still (Ok (answers.Bytes count)) buf row =
-      let held = row.held reader.root reader.ahead s.held image segments reader.part_is indexed (reader.ahead_is image here) in (
+      let held = row.held reader.root reader.ahead reader.counts s.held image segments reader.part_is indexed (reader.ahead_is image here) in (
         held.given.others,
         (
           held.given.segments_are,
@@ -106,17 +108,17 @@ module _ (among : ByteSet) (s : Store) (changes : List StoreChange) (stored late
         ),
       )
   own_still (Ok answers.End) buf row =
-      let held = row.held reader.root reader.ahead s.held image segments reader.part_is indexed (reader.ahead_is image here) in
+      let held = row.held reader.root reader.ahead reader.counts s.held image segments reader.part_is indexed (reader.ahead_is image here) in
       let next_part = row.next.goes_on in (
         held.given,
         goes actor next_part.root row.next.rest segments (record { part = _; parts_are = next_part.parts_are }) (set_part next_part.root row.next.rest next_part.parts_are)
             (record { trees = []; held_ahead = record { trees = record { tops = row.next.given.1; each = tt }; each = tt }; segments_are = held.given }),
       )
   own_still (Err refusals.DiskRead) buf row =
-      let held = row.held reader.root reader.ahead s.held image segments reader.part_is indexed (reader.ahead_is image here) in
+      let held = row.held reader.root reader.ahead reader.counts s.held image segments reader.part_is indexed (reader.ahead_is image here) in
       goes actor held.goes_on.root held.rest segments (record { part = _; parts_are = held.goes_on.parts_are }) (set_part held.goes_on.root held.rest held.goes_on.parts_are) held.given
   own_still (Err refusal) buf row =
-      absurd (row.held reader.root reader.ahead s.held image segments reader.part_is indexed (reader.ahead_is image here)).given
+      absurd (row.held reader.root reader.ahead reader.counts s.held image segments reader.part_is indexed (reader.ahead_is image here)).given
   own_still answer buf row = absurd row
 
   own_step : (step : StepValue) (answer : Result Answer Refusal) (buf : List ℕ) → IsReadNext step → Row step actor answer buf old new → GivesOne true answer buf segments Still
@@ -152,7 +154,12 @@ module _ (C : Type 0) (state : C → CoreState) (among : ByteSet) (distinct : Ha
 -- ---- it is opened
 
 module _ (among : ByteSet) (s t : Store) (stored : Stored) (old new : CoreState) (actor : ℕ) (name bytes : List ℕ) (count : ℕ) (buf : List ℕ) (at : IsAt (IsIn among) s stored old) (filed : finite.get stored.files name ≡ Some bytes)
-    (below : actor < length old.parts) (copies : (before after : List ℕ) → old.disk.content ≡ Some before → new.disk.content ≡ Some after → KeepsCopies s before t after) where
+    (below : actor < length old.parts) (keys : (first then : PlaceMap) → old.known ≡ Some first → new.known ≡ Some then → (key : List ℕ) → HasKey first key → HasKey then key)
+    (copies : (first : PlaceMap) (before after : List ℕ) → old.known ≡ Some first → old.disk.content ≡ Some before → new.disk.content ≡ Some after → KeepsCopies (HasKey first) s before t after) where
+  -- the index has the keys of the file
+  has_file : (key : List ℕ) → IsIn (key_set (tree_keys (file_tree bytes))) key → HasKey at.index key
+  has_file key there = (at.invariant at.stands.known.0 at.stands.known.1).files_are_indexed key (name, (bytes, (filed, contained key (tree_keys (file_tree bytes)) there)))
+
   opened_reader : Steps (opens actor name count buf) old new → IsReader actor t (segments_of bytes) new
   opened_reader steps =
       let image : List ℕ = at.stands.known.0 in
@@ -165,8 +172,11 @@ module _ (among : ByteSet) (s t : Store) (stored : Stored) (old new : CoreState)
         ahead = opened.ahead;
         below = subst (λ (n : ℕ). actor < n) (sym (length_on actor old.parts new.parts one)) below;
         part_is = ap (λ (parts : List Part). part_of parts actor) opened.parts_are ∙ apart.same old.parts actor (reading opened.root opened.ahead) below;
-        ahead_is = λ after told. segments_on s t image after opened.ahead (segments_of bytes) (copies image after here told)
-            (subst (λ (b : List ℕ). SegmentsAhead s.held image opened.ahead (segments_of b)) same opened.file.segments_ahead);
+        counts = key_set (tree_keys (file_tree bytes));
+        has = λ then is_known key there. keys at.index then at.index_known is_known key (has_file key there);
+        ahead_is = λ after told. segments_on (key_set (tree_keys (file_tree bytes))) s t image after
+            (λ key level text there newest. copies at.index image after at.index_known here told key level text (has_file key there) newest) opened.ahead (segments_of bytes)
+            (subst (λ (b : List ℕ). SegmentsAhead (key_set (tree_keys (file_tree b))) s.held image opened.ahead (segments_of b)) same opened.file.segments_ahead);
       }
 
   -- the opening answered the length of the file
@@ -196,5 +206,5 @@ module _ (C : Type 0) (state : C → CoreState) where
       let going = run_running C state among steps mid new run stays in
       let next = file_step among distinct opening s stored (state old) (state mid) made at going in
       let runs = run_running C state among (opening ∷ []) old mid (mid, (made, refl)) going in
-      let opened = open_step among s next.store stored (state old) (state mid) actor name bytes count buf at filed below next.copies runs step in
+      let opened = open_step among s next.store stored (state old) (state mid) actor name bytes count buf at filed below next.keys next.copies runs step in
       (opened.0, gives_on C state among distinct actor steps next.store stored (segments_of bytes) mid new next.is_at opened.1 run alone stays)

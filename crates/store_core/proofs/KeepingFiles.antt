@@ -26,17 +26,18 @@ use Rattle.store_model.specs.Files.{Stored, with_stored, without_stored}
 use Rattle.store_model.specs.Files as files
 use Rattle.store_model.specs.Image.{Store, IsValidFor, last_sequence}
 use Rattle.disk_format.specs.declared.numbers.TheConstants.{RESERVE}
-use Rattle.store_model.specs.Slots.{IsIndexOf, free_slots}
-use Rattle.store_model.specs.Steps.{StoreChange, SealContainer, ChangeName, MaySeal, KeepsCopies, changed, with_sealed, with_change}
+use Rattle.store_model.specs.Slots.{HasKey, IsPartialIndexOf, free_slots}
+use Rattle.store_model.proofs.Reached.{reached_less, reached_put}
+use Rattle.store_model.specs.Steps.{AnyKey, StoreChange, SealContainer, ChangeName, MaySeal, KeepsCopies, changed, with_sealed, with_change}
 use Rattle.store_state.specs.declared.tables.Tables.{Tables}
-use Rattle.store_state.specs.Invariant.{HoldsPart}
+use Rattle.store_state.specs.Invariant.{CoreInvariant, HoldsPart, IndexesFiles}
 use Rattle.store_state.specs.Refused.{blames}
 use Rattle.store_state.specs.Tables.{Represents}
 use Rattle.store_model.proofs.NameChanges.{last_changed}
 use Rattle.store_state.proofs.Parts.{part_kept, parts_kept}
 use Rattle.ingest_steps.specs.Sealing.{KeepsHeld, sealing_indexed}
 use Rattle.store_core.specs.declared.stop.Stop.{Stop}
-use Rattle.store_core.specs.Core.{Row, Effect, Rests, SealsOne, Makes, KeepsTables, KeepsUnlessBroken, StopsAfter, StepsOr, next_id}
+use Rattle.store_core.specs.Core.{HasWhole, Row, Effect, Rests, SealsOne, Makes, KeepsTables, KeepsUnlessBroken, StopsAfter, StepsOr, next_id}
 use Rattle.store_core.specs.Runs.{FileEvent, FileStep, FileRun, IsAt, ChangesTo, changes_by, changes_of, events_of, KeepsFiles, IsGivenRight, stored_with, stored_by}
 use Rattle.store_core.specs.State.{CoreState}
 use Rattle.store_core.proofs.CoreRuns.{runs_before, core_run}
@@ -48,7 +49,10 @@ pub record Next (S : List ℕ → Type 0) (s : Store) (changes : List StoreChang
   pub store : Store
   pub chain : ChangesTo changes s store
   pub is_at : IsAt S store stored new
-  pub copies : (before after : List ℕ) → old.disk.content ≡ Some before → new.disk.content ≡ Some after → KeepsCopies s before store after
+  -- what the index had it has, and its newest copies go on
+  pub keys : (first then : PlaceMap) → old.known ≡ Some first → new.known ≡ Some then → (key : List ℕ) → HasKey first key → HasKey then key
+  pub copies : (first : PlaceMap) (before after : List ℕ) → old.known ≡ Some first → old.disk.content ≡ Some before → new.disk.content ≡ Some after → KeepsCopies (HasKey first) s before store after
+  pub whole : HasWhole s old.known → HasWhole store new.known
 
 one_some : {A : Type 0} (x y : A) → Some x ≡ Some y → x ≡ y
 one_some x y same = cc
@@ -58,8 +62,9 @@ one_some x y same = cc
 module _ (S : List ℕ → Type 0) (store : Store) (stored : Stored) (new : CoreState) where
   -- from what the tables are, what each image is, and what the actors are at
   pub arrive : Represents store new.known new.tables → (places : PlaceMap) → new.known ≡ Some places → IsValidFor new.disk.size store → StandsFor (Stands S store stored.files) new.disk
-      → new.tables.journal.last ≡ stored.last → ((image : List ℕ) → new.disk.content ≡ Some image → AllByRecursion (HoldsPart store.held image) new.parts) → IsAt S store stored new
-  arrive represents places known valid stands last parts = record {
+      → new.tables.journal.last ≡ stored.last → IndexesFiles places stored.files
+      → ((image : List ℕ) → new.disk.content ≡ Some image → AllByRecursion (HoldsPart (HasKey places) store.held image) new.parts) → IsAt S store stored new
+  arrive represents places known valid stands last files_indexed parts = record {
     represents = represents;
     index = places;
     index_known = known;
@@ -67,7 +72,8 @@ module _ (S : List ℕ → Type 0) (store : Store) (stored : Stored) (new : Core
     stands = stands;
     last_is = last;
     invariant = λ image told. record {
-      index_is_newest = represents.index_is_newest;
+      index_is_newest = represents.index_is_newest places known;
+      files_are_indexed = files_indexed;
       pins_are_closed = parts image told;
       reserve_holds = (stands.each image (new.disk.as_read image told)).holds.reserve;
     };
@@ -80,18 +86,32 @@ module _ (among : ByteSet) (s : Store) (stored : Stored) (old new : CoreState) (
   abbrev told : old.disk.content ≡ Some content
   told = at.stands.known.1
 
-  abbrev hold : AllByRecursion (HoldsPart s.held content) old.parts
-  hold = (at.invariant content told).pins_are_closed
+  abbrev invariant : CoreInvariant at.index s stored.files old.parts content
+  invariant = at.invariant content told
+
+  abbrev hold : AllByRecursion (HoldsPart (HasKey at.index) s.held content) old.parts
+  hold = invariant.pins_are_closed
 
   abbrev reserve : RESERVE ≤ free_slots s.held
   reserve = (at.invariant content told).reserve_holds
 
   -- all are held, where the actor of the step is
-  pub all_hold : (t : Store) (after : List ℕ) → KeepsCopies s content t after → HoldsPart t.held after (part_of new.parts actor) → AllByRecursion (HoldsPart t.held after) new.parts
-  all_hold t after keeps own =
-      subst (AllByRecursion (HoldsPart t.held after)) (sym one.parts_are)
-      (all_own (HoldsPart t.held after) old.parts actor one.part (parts_kept s t content after keeps old.parts hold)
-      (subst (λ (parts : List Part). HoldsPart t.held after (part_of parts actor)) one.parts_are own))
+  pub all_hold : (then : PlaceMap) (t : Store) (after : List ℕ) → ((key : List ℕ) → HasKey at.index key → HasKey then key) → KeepsCopies (HasKey at.index) s content t after
+      → HoldsPart (HasKey then) t.held after (part_of new.parts actor) → AllByRecursion (HoldsPart (HasKey then) t.held after) new.parts
+  all_hold then t after keys keeps own =
+      let P : List ℕ → Type 0 = HasKey then in
+      subst (AllByRecursion (HoldsPart P t.held after)) (sym one.parts_are)
+      (all_own (HoldsPart P t.held after) old.parts actor one.part (parts_kept (HasKey at.index) P s t content after keeps keys old.parts hold)
+      (subst (λ (parts : List Part). HoldsPart P t.held after (part_of parts actor)) one.parts_are own))
+
+  same_index : (first : PlaceMap) → old.known ≡ Some first → at.index ≡ first
+  same_index first is = one_some at.index first (sym at.index_known ∙ is)
+
+  kept_keys : KeepsTables old new → (first then : PlaceMap) → old.known ≡ Some first → new.known ≡ Some then → (key : List ℕ) → HasKey first key → HasKey then key
+  kept_keys kept first then is after key has = subst (λ (m : PlaceMap). HasKey m key) (one_some first then (sym is ∙ sym kept.index_is ∙ after)) has
+
+  kept_whole : KeepsTables old new → HasWhole s old.known → HasWhole s new.known
+  kept_whole kept whole = subst (HasWhole s) (sym kept.index_is) whole
 
   same_tables : KeepsTables old new → Represents s new.known new.tables
   same_tables kept =
@@ -102,44 +122,57 @@ module _ (among : ByteSet) (s : Store) (stored : Stored) (old new : CoreState) (
   same_last kept = ap (λ (tables : Tables). tables.journal.last) kept.tables_are ∙ at.last_is
 
   -- a step that only reads
-  pub rests : KeepsTables old new → OnlyReads old.disk new.disk → HoldsPart s.held content (part_of new.parts actor) → Next (IsIn among) s [] stored old new
+  pub rests : KeepsTables old new → OnlyReads old.disk new.disk → HoldsPart (HasKey at.index) s.held content (part_of new.parts actor) → Next (IsIn among) s [] stored old new
   rests kept reads own = record {
     store = s;
     chain = refl;
     is_at = arrive (IsIn among) s stored new (same_tables kept) at.index (kept.index_is ∙ at.index_known)
-        (subst (λ (size : ℕ). IsValidFor size s) (sym reads.later.size_is) at.valid) (stands_reads (Stands (IsIn among) s stored.files) old.disk new.disk at.stands reads) (same_last kept)
+        (subst (λ (size : ℕ). IsValidFor size s) (sym reads.later.size_is) at.valid) (stands_reads (Stands (IsIn among) s stored.files) old.disk new.disk at.stands reads) (same_last kept) invariant.files_are_indexed
         (λ image is. let same : content ≡ image = one_some content image (sym told ∙ sym reads.content_is ∙ is) in
-        subst (λ (bytes : List ℕ). AllByRecursion (HoldsPart s.held bytes) new.parts) same (all_hold s content (λ key level bytes has. has) own));
-    copies = λ before after is_before is_after. let same : before ≡ after = one_some before after (sym is_before ∙ sym reads.content_is ∙ is_after) in
-        subst (λ (bytes : List ℕ). KeepsCopies s before s bytes) same (λ key level bytes has. has);
+        subst (λ (bytes : List ℕ). AllByRecursion (HoldsPart (HasKey at.index) s.held bytes) new.parts) same (all_hold at.index s content (λ key has. has) (λ key level bytes counts has. has) own));
+    keys = kept_keys kept;
+    copies = λ first before after is is_before is_after. let same : before ≡ after = one_some before after (sym is_before ∙ sym reads.content_is ∙ is_after) in
+        subst (λ (bytes : List ℕ). KeepsCopies (HasKey first) s before s bytes) same (λ key level bytes counts has. has);
+    whole = kept_whole kept;
   }
 
   -- a step after which each image is the same store
   pub still : KeepsTables old new → IsLater old.disk new.disk → StandsFor (Stands (IsIn among) s stored.files) new.disk
-      → ((after : List ℕ) → new.disk.content ≡ Some after → KeepsCopies s content s after × HoldsPart s.held after (part_of new.parts actor)) → Next (IsIn among) s [] stored old new
+      → ((after : List ℕ) → new.disk.content ≡ Some after → KeepsCopies (HasKey at.index) s content s after × HoldsPart (HasKey at.index) s.held after (part_of new.parts actor))
+      → Next (IsIn among) s [] stored old new
   still kept goes stands keeps = record {
     store = s;
     chain = refl;
-    is_at = arrive (IsIn among) s stored new (same_tables kept) at.index (kept.index_is ∙ at.index_known) (subst (λ (size : ℕ). IsValidFor size s) (sym goes.size_is) at.valid) stands (same_last kept)
-        (λ image is. let kept_here = keeps image is in all_hold s image kept_here.0 kept_here.1);
-    copies = λ before after is_before is_after. let same : content ≡ before = one_some content before (sym told ∙ is_before) in
-        subst (λ (bytes : List ℕ). KeepsCopies s bytes s after) same (keeps after is_after).0;
+    is_at = arrive (IsIn among) s stored new (same_tables kept) at.index (kept.index_is ∙ at.index_known) (subst (λ (size : ℕ). IsValidFor size s) (sym goes.size_is) at.valid) stands (same_last kept) invariant.files_are_indexed
+        (λ image is. let kept_here = keeps image is in all_hold at.index s image (λ key has. has) kept_here.0 kept_here.1);
+    keys = kept_keys kept;
+    copies = λ first before after is is_before is_after. let same : content ≡ before = one_some content before (sym told ∙ is_before) in
+        subst (λ (m : PlaceMap). KeepsCopies (HasKey m) s before s after) (same_index first is)
+        (subst (λ (bytes : List ℕ). KeepsCopies (HasKey at.index) s bytes s after) same (keeps after is_after).0);
+    whole = kept_whole kept;
   }
 
   -- a step that makes a change
   pub makes : (change : StoreChange) (later : Stored) → last_sequence (changed change s) ≡ later.last → Makes change old new → IsLater old.disk new.disk → StandsFor (Stands (IsIn among) (changed change s) later.files) new.disk
-      → ((after : List ℕ) → new.disk.content ≡ Some after → KeepsCopies s content (changed change s) after × HoldsPart (changed change s).held after (part_of new.parts actor))
+      → ((then : PlaceMap) → new.known ≡ Some then → IndexesFiles then stored.files → IndexesFiles then later.files)
+      → ((then : PlaceMap) (after : List ℕ) → new.known ≡ Some then → new.disk.content ≡ Some after
+      → KeepsCopies (HasKey at.index) s content (changed change s) after × HoldsPart (HasKey then) (changed change s).held after (part_of new.parts actor))
       → Next (IsIn among) s (change ∷ []) later old new
-  makes change later last made goes stands keeps =
+  makes change later last made goes stands files_on keeps =
       let known = made.tells at.index at.index_known in
+      let keys : (key : List ℕ) → HasKey at.index key → HasKey known.0 key = made.keeps_keys at.index at.index_known known.0 known.1 in
       let represents = made.represents.store_has s at.represents at.valid reserve in
       record {
         store = changed change s;
         chain = (made.can.store_has s at.represents at.valid reserve, refl);
         is_at = arrive (IsIn among) (changed change s) later new represents known.0 known.1 (made.valid.store_has s at.represents at.valid reserve) stands (represents.names_are.last_is ∙ last)
-            (λ image is. let kept = keeps image is in all_hold (changed change s) image kept.0 kept.1);
-        copies = λ before after is_before is_after. let same : content ≡ before = one_some content before (sym told ∙ is_before) in
-            subst (λ (bytes : List ℕ). KeepsCopies s bytes (changed change s) after) same (keeps after is_after).0;
+            (files_on known.0 known.1 (λ key need. keys key (invariant.files_are_indexed key need)))
+            (λ image is. let kept = keeps known.0 image known.1 is in all_hold known.0 (changed change s) image keys kept.0 kept.1);
+        keys = λ first then is after key has. made.keeps_keys first is then after key has;
+        copies = λ first before after is is_before is_after. let same : content ≡ before = one_some content before (sym told ∙ is_before) in
+            subst (λ (m : PlaceMap). KeepsCopies (HasKey m) s before (changed change s) after) (same_index first is)
+            (subst (λ (bytes : List ℕ). KeepsCopies (HasKey at.index) s bytes (changed change s) after) same (keeps known.0 after known.1 is_after).0);
+        whole = λ whole. made.whole.store_has s at.represents at.valid reserve whole;
       }
 
 -- ---- refusals that are no failed writes
@@ -176,17 +209,20 @@ module _ (among : ByteSet) (s : Store) (stored : Stored) (old new : CoreState) (
   abbrev stands_here : Stands (IsIn among) s stored.files image
   stands_here = at.stands.each image (old.disk.as_read image here)
 
-  abbrev holds : AllByRecursion (HoldsPart s.held image) old.parts
-  holds = (at.invariant image here).pins_are_closed
+  abbrev invariant_here : CoreInvariant at.index s stored.files old.parts image
+  invariant_here = at.invariant image here
+
+  abbrev holds : AllByRecursion (HoldsPart (HasKey at.index) s.held image) old.parts
+  holds = invariant_here.pins_are_closed
 
   abbrev Own : Type 0
-  Own = HoldsPart s.held image (part_of new.parts actor)
+  Own = HoldsPart (HasKey at.index) s.held image (part_of new.parts actor)
 
   -- the last number of the store
   abbrev last_here : last_sequence s ≡ stored.last
   last_here = sym at.represents.names_are.last_is ∙ at.last_is
 
-  abbrev newest_index : IsIndexOf s.held at.index
+  abbrev newest_index : IsPartialIndexOf s.held at.index
   newest_index = at.represents.index_is_newest at.index at.index_known
 
   abbrev Goes : StepValue → Result Answer Refusal → Type 0
@@ -198,44 +234,44 @@ module _ (among : ByteSet) (s : Store) (stored : Stored) (old new : CoreState) (
 
   begin_next : (answer : Result Answer Refusal) → Goes asked.Begin answer
   begin_next answer row effect stops right given =
-      rests_by asked.Begin answer row effect (own_begin among s stored.files image at.index actor buf old new here at.index_known newest_index at.represents.names_are.names_are stands_here distinct holds answer row)
+      rests_by asked.Begin answer row effect (own_begin among s stored.files image at.index actor buf old new here at.index_known newest_index invariant_here.files_are_indexed at.represents.names_are.names_are stands_here distinct holds answer row)
 
   claim_next : (seg : KindSegment) (answer : Result Answer Refusal) → Goes (asked.Claim seg) answer
   claim_next seg answer row effect stops right given =
       rests_by (asked.Claim seg) answer row effect
-      (own_claim among s stored.files image at.index actor buf old new here at.index_known newest_index at.represents.names_are.names_are stands_here distinct holds seg answer given row)
+      (own_claim among s stored.files image at.index actor buf old new here at.index_known newest_index invariant_here.files_are_indexed at.represents.names_are.names_are stands_here distinct holds seg answer given row)
 
   abort_next : (answer : Result Answer Refusal) → Goes asked.Abort answer
   abort_next answer row effect stops right given =
-      rests_by asked.Abort answer row effect (own_abort among s stored.files image at.index actor buf old new here at.index_known newest_index at.represents.names_are.names_are stands_here distinct holds answer row)
+      rests_by asked.Abort answer row effect (own_abort among s stored.files image at.index actor buf old new here at.index_known newest_index invariant_here.files_are_indexed at.represents.names_are.names_are stands_here distinct holds answer row)
 
   open_next : (name : List ℕ) (answer : Result Answer Refusal) → Goes (asked.OpenRead name) answer
   open_next name answer row effect stops right given =
       rests_by (asked.OpenRead name) answer row effect
-      (own_open among s stored.files image at.index actor buf old new here at.index_known newest_index at.represents.names_are.names_are stands_here distinct holds name answer row)
+      (own_open among s stored.files image at.index actor buf old new here at.index_known newest_index invariant_here.files_are_indexed at.represents.names_are.names_are stands_here distinct holds name answer row)
 
   read_next : (answer : Result Answer Refusal) → Goes asked.ReadNext answer
   read_next answer row effect stops right given =
-      rests_by asked.ReadNext answer row effect (own_read among s stored.files image at.index actor buf old new here at.index_known newest_index at.represents.names_are.names_are stands_here distinct holds answer row)
+      rests_by asked.ReadNext answer row effect (own_read among s stored.files image at.index actor buf old new here at.index_known newest_index invariant_here.files_are_indexed at.represents.names_are.names_are stands_here distinct holds answer row)
 
   drop_next : (answer : Result Answer Refusal) → Goes asked.EndRead answer
   drop_next answer row effect stops right given =
-      rests_by asked.EndRead answer row effect (own_drop among s stored.files image at.index actor buf old new here at.index_known newest_index at.represents.names_are.names_are stands_here distinct holds answer row)
+      rests_by asked.EndRead answer row effect (own_drop among s stored.files image at.index actor buf old new here at.index_known newest_index invariant_here.files_are_indexed at.represents.names_are.names_are stands_here distinct holds answer row)
 
   stat_next : (answer : Result Answer Refusal) → Goes asked.Stat answer
   stat_next answer row effect stops right given =
-      rests_by asked.Stat answer row effect (own_stat among s stored.files image at.index actor buf old new here at.index_known newest_index at.represents.names_are.names_are stands_here distinct holds answer row)
+      rests_by asked.Stat answer row effect (own_stat among s stored.files image at.index actor buf old new here at.index_known newest_index invariant_here.files_are_indexed at.represents.names_are.names_are stands_here distinct holds answer row)
 
   own_still : new.parts ≡ old.parts → Own
-  own_still = own_refused among s stored.files image at.index actor buf old new here at.index_known newest_index at.represents.names_are.names_are stands_here distinct holds
+  own_still = own_refused among s stored.files image at.index actor buf old new here at.index_known newest_index invariant_here.files_are_indexed at.represents.names_are.names_are stands_here distinct holds
 
   -- a container
   seal_moves : (filled : Contents) (answer : Result Answer Refusal) → SealsOne filled answer old new → IsStep (asked.Seal filled) → IsGivenRight (IsIn among) (asked.Seal filled) answer bytes old
       → Moved (sealing_indexed (IsIn among) (next_id old) filled s stored.files) (ending blames answer) old.disk new.disk
-  seal_moves filled answer effect right given = effect.moves.moves among s stored.files at.index at.index_known at.represents distinct (may_seal_all (IsIn among) filled.kind filled.segments right.1 given) at.stands
+  seal_moves filled answer effect right given = effect.moves.moves among s stored.files at.index at.index_known at.represents invariant_here.files_are_indexed distinct (may_seal_all (IsIn among) filled.kind filled.segments right.1 given) at.stands
 
   pub seal_holds : (filled : Contents) (answer : Result Answer Refusal) (after : List ℕ) → new.disk.content ≡ Some after → SealsOne filled answer old new → IsStep (asked.Seal filled) → IsGivenRight (IsIn among) (asked.Seal filled) answer bytes old
-      → KeepsHeld (ending blames answer) (next_id old) filled s image after
+      → KeepsHeld at.index (ending blames answer) (next_id old) filled s image after
   seal_holds filled answer after is effect right given = effect.moves.holds among s stored.files at.index image after at.index_known at.represents here is stands_here distinct (may_seal_all (IsIn among) filled.kind filled.segments right.1 given)
 
   -- a refusal that is no failed write
@@ -254,7 +290,7 @@ module _ (among : ByteSet) (s : Store) (stored : Stored) (old new : CoreState) (
   seal_kept filled (refusals.Damaged at_byte why) stops kept = absurd (let both = sym stays ∙ stops in cc)
   seal_kept filled refusal stops kept = kept
 
-  seal_copies : (filled : Contents) (refusal : Refusal) (after : List ℕ) → StopsAfter (asked.Seal filled) (Err refusal) old.acknowledged new.stop → KeepsHeld (ending_of (blames refusal)) (next_id old) filled s image after → KeepsCopies s image s after
+  seal_copies : (filled : Contents) (refusal : Refusal) (after : List ℕ) → StopsAfter (asked.Seal filled) (Err refusal) old.acknowledged new.stop → KeepsHeld at.index (ending_of (blames refusal)) (next_id old) filled s image after → KeepsCopies AnyKey s image s after
   seal_copies filled refusals.DiskWrite after stops keeps = absurd (let both = sym stays ∙ stops in cc)
   seal_copies filled refusals.DiskRead after stops keeps = keeps
   seal_copies filled refusal after stops keeps = keeps
@@ -264,18 +300,19 @@ module _ (among : ByteSet) (s : Store) (stored : Stored) (old new : CoreState) (
       let may = may_seal_all (IsIn among) filled.kind filled.segments right.1 given in
       let next : Next (IsIn among) s (SealContainer (next_id old) filled.kind filled.segments ∷ []) stored old new =
       makes among s stored old new actor at (row_one actor buf old new (asked.Seal filled) (Ok (answers.Sealed id)) row) (SealContainer (next_id old) filled.kind filled.segments) stored last_here effect.made effect.disk.later
-      (seal_moves filled (Ok (answers.Sealed id)) effect right given).arrives
-      (λ after is. (
+      (seal_moves filled (Ok (answers.Sealed id)) effect right given).arrives (λ then then_is files. files)
+      (λ then after then_is is. (
         (seal_holds filled (Ok (answers.Sealed id)) after is effect right given).0,
-        subst (λ (n : ℕ). HoldsPart (with_sealed n filled.kind filled.segments s).held after (part_of new.parts actor)) row.id_is
-            (row.kept among s stored.files at.index image after at.index_known at.represents here is stands_here distinct may (all_part (HoldsPart s.held image) old.parts actor tt holds)),
+        subst (λ (n : ℕ). HoldsPart (HasKey then) (with_sealed n filled.kind filled.segments s).held after (part_of new.parts actor)) row.id_is
+            (row.kept among s stored.files at.index then image after at.index_known then_is at.represents here is stands_here distinct may (all_part (HoldsPart (HasKey at.index) s.held image) old.parts actor tt holds)),
       )) in
       subst (λ (n : ℕ). Next (IsIn among) s (SealContainer n filled.kind filled.segments ∷ []) stored old new) (sym row.id_is) next
   seal_next filled (Err refusal) row effect stops right given =
       still among s stored old new actor at (row_one actor buf old new (asked.Seal filled) (Err refusal) row) (seal_kept filled refusal stops effect.kept) effect.disk.later
       (seal_stands filled refusal stops (seal_moves filled (Err refusal) effect right given).arrives)
       (λ after is. let copies = seal_copies filled refusal after stops (seal_holds filled (Err refusal) after is effect right given) in
-      (copies, part_kept s s image after copies (part_of new.parts actor) (own_still row.1)))
+      let mine : KeepsCopies (HasKey at.index) s image s after = λ key level bytes counts has. copies key level bytes tt has in
+      (mine, part_kept (HasKey at.index) (HasKey at.index) s s image after mine (λ key has. has) (part_of new.parts actor) (own_still row.1)))
   seal_next filled answer row effect stops right given = absurd row
 
   -- a name
@@ -286,9 +323,10 @@ module _ (among : ByteSet) (s : Store) (stored : Stored) (old new : CoreState) (
       let copies = effect.copies s at.represents image here stands_here.holds.right in
       makes among s stored old new actor at (row_one actor buf old new (asked.Commit name root) (Ok (answers.Committed sequence)) row) (ChangeName name (Put root)) (with_stored stored name bytes) (last_changed name (Put root) s at.valid.follow ∙ ap suc last_here) effect.made effect.disk.later
       (subst (λ (r : Root). StandsFor (Stands (IsIn among) (with_change name (Put r) s) (with_stored stored name bytes).files) new.disk) (sym given.root_is) moved.arrives)
-      (λ after is. (
-        subst (KeepsCopies s image (with_change name (Put root) s)) (one_some copies.0 after (sym copies.1 ∙ is)) copies.2,
-        subst (λ (parts : List Part). HoldsPart s.held after (part_of parts actor)) (sym row.2) (own_set (HoldsPart s.held after) old.parts actor Idle tt tt),
+      (λ then then_is all. reached_put (HasKey then) stored.files all name bytes (λ key there. effect.made.keeps_keys at.index at.index_known then then_is key (given.indexed at.index at.index_known key there)))
+      (λ then after then_is is. (
+        (λ key level text counts has. subst (KeepsCopies AnyKey s image (with_change name (Put root) s)) (one_some copies.0 after (sym copies.1 ∙ is)) copies.2 key level text tt has),
+        subst (λ (parts : List Part). HoldsPart (HasKey then) s.held after (part_of parts actor)) (sym row.2) (own_set (HoldsPart (HasKey then) s.held after) old.parts actor Idle tt tt),
       ))
   commit_next name root (Err refusal) row effect stops right given =
       rests among s stored old new actor at (row_one actor buf old new (asked.Commit name root) (Err refusal) row) effect.kept
@@ -301,10 +339,11 @@ module _ (among : ByteSet) (s : Store) (stored : Stored) (old new : CoreState) (
       let moved = effect.moves.moves among s stored.files (files.Delete name) at.represents.names_are refl refl (record { known = at.stands.known; each = λ c is. (at.stands.each c is, tt) }) in
       let copies = effect.copies s at.represents image here stands_here.holds.right in
       makes among s stored old new actor at (row_one actor buf old new (asked.Delete name) (Ok (answers.Deleted sequence)) row) (ChangeName name Delete) (without_stored stored name) (last_changed name Delete s at.valid.follow ∙ ap suc last_here) effect.made effect.disk.later
-      moved.arrives
-      (λ after is.
-      let kept = subst (KeepsCopies s image (with_change name Delete s)) (one_some copies.0 after (sym copies.1 ∙ is)) copies.2 in
-      (kept, part_kept s (with_change name Delete s) image after kept (part_of new.parts actor) (own_still row.2)))
+      moved.arrives (λ then then_is all. reached_less (HasKey then) stored.files all name)
+      (λ then after then_is is.
+      let any = subst (KeepsCopies AnyKey s image (with_change name Delete s)) (one_some copies.0 after (sym copies.1 ∙ is)) copies.2 in
+      let kept : KeepsCopies (HasKey at.index) s image (with_change name Delete s) after = λ key level text counts has. any key level text tt has in
+      (kept, part_kept (HasKey at.index) (HasKey then) s (with_change name Delete s) image after kept (effect.made.keeps_keys at.index at.index_known then then_is) (part_of new.parts actor) (own_still row.2)))
   delete_next name (Err refusal) row effect stops right given =
       rests among s stored old new actor at (row_one actor buf old new (asked.Delete name) (Err refusal) row) effect.kept
       (only_reads old new stays (asked.Delete name) refusal stops effect.disk.ends) (own_still row.1)
@@ -312,7 +351,7 @@ module _ (among : ByteSet) (s : Store) (stored : Stored) (old new : CoreState) (
 
   list_next : (answer : Result Answer Refusal) → Goes asked.ListNames answer
   list_next answer row effect stops right given =
-      rests_by asked.ListNames answer row effect (own_list among s stored.files image at.index actor buf old new here at.index_known newest_index at.represents.names_are.names_are stands_here distinct holds answer row)
+      rests_by asked.ListNames answer row effect (own_list among s stored.files image at.index actor buf old new here at.index_known newest_index invariant_here.files_are_indexed at.represents.names_are.names_are stands_here distinct holds answer row)
 
   pub step_next : (step : StepValue) (answer : Result Answer Refusal) → Goes step answer
   step_next asked.Begin answer = begin_next answer
@@ -352,6 +391,7 @@ module _ (C : Type 0) (state : C → CoreState) where
     store = s;
     chain = refl;
     is_at = subst (λ (c : C). IsAt (IsIn among) s stored (state c)) (sym run) at;
+    whole = subst (λ (c : C). HasWhole s (state old).known → HasWhole s (state c).known) (sym run) (λ whole. whole);
   }
   keeps_files among (f ∷ fs) s stored old new distinct at run stays =
       let next = file_step among distinct f s stored (state old) (state run.0) run.1.0 at (run_running C state among fs run.0 new run.1.1 stays) in
@@ -360,4 +400,5 @@ module _ (C : Type 0) (state : C → CoreState) where
         store = reached.store;
         chain = chain_on (changes_by f.event.step f.event.answer) (changes_of fs) s next.store reached.store next.chain reached.chain;
         is_at = reached.is_at;
+        whole = λ whole. reached.whole (next.whole whole);
       }

@@ -1,5 +1,5 @@
 -- The segments that the steps of a run kept are held at its end.
-use Rattle.std.proofs.Common.{◌≡◌, inl, inr, ℕ, List, [], ◌∷◌, ◌++◌, map, Some, None, option_map, Result, Ok, Err, refl, sym, ◌∙◌, ap, subst}
+use Rattle.std.proofs.Common.{◌≡◌, inl, inr, ℕ, List, [], ◌∷◌, ◌++◌, map, Some, None, Result, Ok, Err, refl, sym, ◌∙◌, ap, subst}
 use Rattle.std.proofs.lemmas.Bool.{eqb-true}
 use Rattle.std.proofs.lemmas.List.{append-nil, append_assoc}
 use Rattle.std.specs.List.{AllByRecursion}
@@ -11,6 +11,7 @@ use Rattle.dd_disk.proofs.Shows.{shown_content}
 use Rattle.container_meta.specs.declared.kind.Kind.{Kind}
 use Rattle.container_meta.specs.declared.kind.Kind.TheVariants.{Leaf, Tree}
 use Rattle.container_meta.specs.declared.place.Place.{Place}
+use Rattle.container_meta.specs.Places.{PlaceMap}
 use Rattle.container_meta.specs.Segments.{Segment, KindSegment, Contents, segment_key}
 use Rattle.segment_index.specs.Changes.{SameBefore}
 use Rattle.actor_parts.specs.declared.step.Answer.{Answer}
@@ -23,7 +24,7 @@ use Rattle.refusals.specs.declared.refusal.Refusal.TheVariants as refusals
 use Rattle.store_model.specs.Collisions.{HasNoCollisions, ByteSet, IsIn, IsAmong, Stands}
 use Rattle.store_model.specs.Files.{Files, Stored}
 use Rattle.store_model.specs.Image.{Store}
-use Rattle.store_model.specs.Slots.{Copy, newest}
+use Rattle.store_model.specs.Slots.{Copy, HasKey, newest}
 use Rattle.store_model.specs.Steps.{StoreChange, SealContainer, ChangeName, with_sealed, with_change}
 use Rattle.store_model.specs.Trees.{HasNewest, bytes_at}
 use Rattle.store_model.proofs.Copies.{copy_digest, headers_of_right}
@@ -42,6 +43,7 @@ use Rattle.store_core.specs.Runs.{FileEvent, FileStep, FileRun, IsAt, IsGivenRig
 use Rattle.store_core.specs.State.{CoreState}
 use Rattle.store_core.proofs.CoreRuns.{running_step}
 use Rattle.store_core.proofs.KeepingFiles.{Next, file_step, run_running, only_reads, seal_holds}
+use Rattle.store_core.proofs.Sealing.{one_map}
 
 -- ---- lists
 
@@ -57,11 +59,22 @@ all_weaker : {A : Type 0} (P Q : A → Type 0) (xs : List A) → ((x : A) → P 
 all_weaker P Q [] each all = tt
 all_weaker P Q (x ∷ xs) each all = (each x all.0, all_weaker P Q xs each all.1)
 
+all_two : {A : Type 0} (P Q : A → Type 0) (xs : List A) → AllByRecursion P xs → AllByRecursion Q xs → AllByRecursion (λ x. P x × Q x) xs
+all_two P Q [] first second = tt
+all_two P Q (x ∷ xs) first second = ((first.0, second.0), all_two P Q xs first.1 second.1)
+
+one_copy : (a b : Copy) → Some a ≡ Some b → a ≡ b
+one_copy a b is = cc
+
 -- ---- a segment, beside what an image holds
 
 -- the newest copy of its key is the segment
-abbrev HoldsSegment : Store → List ℕ → KindSegment → Type 0
-HoldsSegment store image seg = HasNewest store.held (segment_key seg.kind seg.segment) (pin_of seg).level seg.segment.bytes image
+abbrev IsNewestIn : Store → List ℕ → KindSegment → Type 0
+IsNewestIn store image seg = HasNewest store.held (segment_key seg.kind seg.segment) (pin_of seg).level seg.segment.bytes image
+
+-- and the index has the key
+abbrev HoldsSegment : PlaceMap → Store → List ℕ → KindSegment → Type 0
+HoldsSegment index store image seg = HasKey index (segment_key seg.kind seg.segment) × IsNewestIn store image seg
 
 module _ (S : List ℕ → Type 0) (store : Store) (files : Files) (image : List ℕ) (stands : Stands S store files image) where
   -- data has level 0
@@ -84,12 +97,12 @@ module _ (S : List ℕ → Type 0) (store : Store) (files : Files) (image : List
 
   -- a copy that fits a segment is the segment
   fits_held : HasNoCollisions S → (kind : Kind) (x : Segment) (copy : Copy) → IsOfKind kind x → IsAmong S kind x.bytes → newest 0 store.held (segment_key kind x) ≡ Some copy → FitsBytes kind x.bytes copy.place image
-      → HoldsSegment store image (record { kind = kind; segment = x })
+      → IsNewestIn store image (record { kind = kind; segment = x })
   fits_held distinct Leaf x copy right mine is fits = record { copy = copy; copy_is = is; level_is = data_level x copy is; bytes_are = data_bytes distinct x copy mine is }
   fits_held distinct Tree x copy right mine is fits = record { copy = copy; copy_is = is; level_is = node_level x copy right is fits; bytes_are = fits }
 
   -- one that has the level of a container's segment has that of the pin
-  sealed_held : (kind : Kind) (x : Segment) → HasNewest store.held (segment_key kind x) x.level x.bytes image → HoldsSegment store image (record { kind = kind; segment = x })
+  sealed_held : (kind : Kind) (x : Segment) → HasNewest store.held (segment_key kind x) x.level x.bytes image → IsNewestIn store image (record { kind = kind; segment = x })
   sealed_held Leaf x has = record { copy = has.copy; copy_is = has.copy_is; level_is = data_level x has.copy has.copy_is; bytes_are = has.bytes_are }
   sealed_held Tree x has = has
 
@@ -152,7 +165,7 @@ same_slots (ChangeName name change ∷ rest) s t chain = same_slots rest (with_c
 record Keeps (S : List ℕ → Type 0) (s : Store) (stored : Stored) (segs : List KindSegment) (c : CoreState) : Type 0 where
   pub is_at : IsAt S s stored c
   pub settled : IsSettled c.tables.slots c.disk
-  pub held : (image : List ℕ) → c.disk.content ≡ Some image → AllByRecursion (HoldsSegment s image) segs
+  pub held : (index : PlaceMap) → c.known ≡ Some index → (image : List ℕ) → c.disk.content ≡ Some image → AllByRecursion (HoldsSegment index s image) segs
 
 module _ (among : ByteSet) (s : Store) (stored later : Stored) (old new : CoreState) (actor : ℕ) (buf bytes : List ℕ) (distinct : HasNoCollisions (IsIn among)) (at : IsAt (IsIn among) s stored old) (stays : new.stop ≡ None) where
   abbrev image : List ℕ
@@ -166,35 +179,40 @@ module _ (among : ByteSet) (s : Store) (stored later : Stored) (old new : CoreSt
 
   -- what a step kept, by the store that it leads to
   abbrev Kept : StepValue → Result Answer Refusal → Type 0
-  Kept step answer = (next : Next (IsIn among) s (changes_by step answer) later old new) → (after : List ℕ) → new.disk.content ≡ Some after → Effect step answer old new
-      → IsStep step → IsGivenRight (IsIn among) step answer bytes old → AllByRecursion (HoldsSegment next.store after) (kept_by step answer)
+  Kept step answer = (next : Next (IsIn among) s (changes_by step answer) later old new) → (then : PlaceMap) → new.known ≡ Some then → (after : List ℕ) → new.disk.content ≡ Some after → Effect step answer old new
+      → IsStep step → IsGivenRight (IsIn among) step answer bytes old → AllByRecursion (HoldsSegment then next.store after) (kept_by step answer)
 
   claim_kept : (seg : KindSegment) (answer : Result Answer Refusal) → ClaimRow seg actor answer old new → Kept (asked.Claim seg) answer
-  claim_kept seg (Ok answers.Held) row next after is effect right given =
+  claim_kept seg (Ok answers.Held) row next then then_is after is effect right given =
       let was = row.claimed.looked_up in
-      let found = finds s at.index (segment_key seg.kind seg.segment) was.place (at.represents.index_is_newest at.index at.index_known) (was.found at.index at.index_known) in
+      let key : List ℕ = segment_key seg.kind seg.segment in
+      let has_key : HasKey at.index key = (was.place, was.found at.index at.index_known) in
+      let found = finds s at.index key was.place (at.represents.index_is_newest at.index at.index_known) (was.found at.index at.index_known) in
       let fits = shown_content old.disk new.disk (FitsBytes seg.kind seg.segment.bytes was.place) image was.same here in
       let has = fits_held (IsIn among) s stored.files image stands_here distinct seg.kind seg.segment found.0 right given found.1
       (subst (λ (place : Place). FitsBytes seg.kind seg.segment.bytes place image) (sym found.2) fits) in
-      (next.copies image after here is (segment_key seg.kind seg.segment) (pin_of seg).level seg.segment.bytes has, tt)
-  claim_kept seg (Ok answers.Absent) row next after is effect right given = tt
-  claim_kept seg (Err refusal) row next after is effect right given = tt
-  claim_kept seg answer row next after is effect right given = absurd row
+      ((next.keys at.index then at.index_known then_is key has_key, next.copies at.index image after at.index_known here is key (pin_of seg).level seg.segment.bytes has_key has), tt)
+  claim_kept seg (Ok answers.Absent) row next then then_is after is effect right given = tt
+  claim_kept seg (Err refusal) row next then then_is after is effect right given = tt
+  claim_kept seg answer row next then then_is after is effect right given = absurd row
 
   seal_kept : (filled : Contents) (answer : Result Answer Refusal) → SealRow filled actor answer old new → Kept (asked.Seal filled) answer
-  seal_kept filled (Ok (answers.Sealed id)) row next after is effect right given =
+  seal_kept filled (Ok (answers.Sealed id)) row next then then_is after is effect right given =
       let holds = (seal_holds among s stored old new actor buf bytes distinct at stays filled (Ok (answers.Sealed id)) after is effect right given).1 in
       let store : next.store ≡ with_sealed (next_id old) filled.kind filled.segments s = next.chain.1 ∙ ap (λ (n : ℕ). with_sealed n filled.kind filled.segments s) row.id_is in
       let there = subst (λ (t : Store). AllByRecursion (λ x. HasNewest t.held (segment_key filled.kind x) x.level x.bytes after) filled.segments) (sym store) holds in
-      all_map (λ x. HasNewest next.store.held (segment_key filled.kind x) x.level x.bytes after) (HoldsSegment next.store after) (λ x. record { kind = filled.kind; segment = x }) filled.segments
-      (sealed_held (IsIn among) next.store later.files after (next.is_at.stands.each after (new.disk.as_read after is)) filled.kind) there
-  seal_kept filled (Err refusal) row next after is effect right given = tt
-  seal_kept filled answer row next after is effect right given = absurd row
+      let keys = effect.made.adds_keys at.index at.index_known then then_is in
+      all_map (λ x. HasKey then (segment_key filled.kind x) × HasNewest next.store.held (segment_key filled.kind x) x.level x.bytes after) (HoldsSegment then next.store after) (λ x. record { kind = filled.kind; segment = x })
+      filled.segments
+      (λ x both. (both.0, sealed_held (IsIn among) next.store later.files after (next.is_at.stands.each after (new.disk.as_read after is)) filled.kind x both.1))
+      (all_two (λ x. HasKey then (segment_key filled.kind x)) (λ x. HasNewest next.store.held (segment_key filled.kind x) x.level x.bytes after) filled.segments keys there)
+  seal_kept filled (Err refusal) row next then then_is after is effect right given = tt
+  seal_kept filled answer row next then then_is after is effect right given = absurd row
 
   step_kept : (step : StepValue) (answer : Result Answer Refusal) → Row step actor answer buf old new → Kept step answer
   step_kept (asked.Claim seg) answer row = claim_kept seg answer row
   step_kept (asked.Seal filled) answer row = seal_kept filled answer row
-  step_kept step answer row = λ next after is effect right given. tt
+  step_kept step answer row = λ next then then_is after is effect right given. tt
 
 module _ (among : ByteSet) (distinct : HasNoCollisions (IsIn among)) where
   -- a step more
@@ -209,10 +227,14 @@ module _ (among : ByteSet) (distinct : HasNoCollisions (IsIn among)) where
         record {
           is_at = next.is_at;
           settled = subst (λ (n : ℕ). IsSettled n new.disk) slots (effect_settled old new stays at.stands.known.0 at.stands.known.1 keeps.settled f.event.step f.event.answer steps.stops steps.made.effect);
-          held = λ after is. all_on (HoldsSegment next.store after) segs (kept_by f.event.step f.event.answer)
-              (all_weaker (HoldsSegment s at.stands.known.0) (HoldsSegment next.store after) segs
-              (λ seg has. next.copies at.stands.known.0 after at.stands.known.1 is (segment_key seg.kind seg.segment) (pin_of seg).level seg.segment.bytes has) (keeps.held at.stands.known.0 at.stands.known.1))
-              (step_kept among s stored (stored_by f stored) old new f.event.actor f.event.buf f.bytes distinct at stays f.event.step f.event.answer steps.made.row next after is steps.made.effect step.asked step.given);
+          held = λ then then_is after is. all_on (HoldsSegment then next.store after) segs (kept_by f.event.step f.event.answer)
+              (all_weaker (HoldsSegment at.index s at.stands.known.0) (HoldsSegment then next.store after) segs
+              (λ seg has. (
+                next.keys at.index then at.index_known then_is (segment_key seg.kind seg.segment) has.0,
+                next.copies at.index at.stands.known.0 after at.index_known at.stands.known.1 is (segment_key seg.kind seg.segment) (pin_of seg).level seg.segment.bytes has.0 has.1,
+              ))
+              (keeps.held at.index at.index_known at.stands.known.0 at.stands.known.1))
+              (step_kept among s stored (stored_by f stored) old new f.event.actor f.event.buf f.bytes distinct at stays f.event.step f.event.answer steps.made.row next then then_is after is steps.made.effect step.asked step.given);
         },
       )
 
@@ -220,33 +242,38 @@ module _ (among : ByteSet) (distinct : HasNoCollisions (IsIn among)) where
 
 module _ (S : List ℕ → Type 0) (s : Store) (stored : Stored) (c : CoreState) (at : IsAt S s stored c) (settled : IsSettled c.tables.slots c.disk) where
   -- each store that the tables represent has the newest copy at the same place
-  newest_other : (t : Store) (key : List ℕ) (level : ℕ) (bytes left : List ℕ) → Represents t c.known c.tables → HasNewest s.held key level bytes left → HasNewest t.held key level bytes left
-  newest_other t key level bytes left represents has =
-      let place = at.represents.index_is_newest at.index at.index_known key ∙ ap (option_map (λ (x : Copy). x.place)) has.copy_is in
-      let found = finds t at.index key has.copy.place (represents.index_is_newest at.index at.index_known) place in
+  newest_other : (t : Store) (key : List ℕ) (level : ℕ) (bytes left : List ℕ) → Represents t c.known c.tables → HasKey at.index key → HasNewest s.held key level bytes left → HasNewest t.held key level bytes left
+  newest_other t key level bytes left represents has_key has =
+      let here = finds s at.index key has_key.0 (at.represents.index_is_newest at.index at.index_known) has_key.1 in
+      let same : has.copy ≡ here.0 = one_copy has.copy here.0 (sym has.copy_is ∙ here.1) in
+      let found = finds t at.index key has_key.0 (represents.index_is_newest at.index at.index_known) has_key.1 in
+      let place : found.0.place ≡ has.copy.place = found.2 ∙ sym here.2 ∙ sym (ap (λ (x : Copy). x.place) same) in
       record {
         copy = found.0;
         copy_is = found.1;
-        level_is = ap (λ (p : Place). p.level) found.2 ∙ has.level_is;
-        bytes_are = ap (λ (p : Place). bytes_at p left) found.2 ∙ has.bytes_are;
+        level_is = ap (λ (p : Place). p.level) place ∙ has.level_is;
+        bytes_are = ap (λ (p : Place). bytes_at p left) place ∙ has.bytes_are;
       }
 
   -- what the content holds each image holds
-  held_in : (seg : KindSegment) → HoldsSegment s at.stands.known.0 seg → IsHeldIn seg c
-  held_in seg has t represents =
+  held_in : (seg : KindSegment) → HoldsSegment at.index s at.stands.known.0 seg → IsHeldIn seg c
+  held_in seg has =
       let image : List ℕ = at.stands.known.0 in
       let here = at.stands.known.1 in
       let right = (at.stands.each image (c.disk.as_read image here)).holds.right in
       let key : List ℕ = segment_key seg.kind seg.segment in
       record {
-        known = at.stands.known;
-        each = λ left leaves.
-            let same = subst (λ (n : ℕ). SameBefore (slot_at n) image left) at.represents.slots_are (settled image here left leaves) in
-            newest_other t key (pin_of seg).level seg.segment.bytes left represents (newest_framed s image left right same.before key (pin_of seg).level seg.segment.bytes has);
+        indexed = λ index is. subst (λ (m : PlaceMap). HasKey m key) (one_map at.index index (sym at.index_known ∙ is)) has.0;
+        newest = λ t represents. record {
+          known = at.stands.known;
+          each = λ left leaves.
+              let same = subst (λ (n : ℕ). SameBefore (slot_at n) image left) at.represents.slots_are (settled image here left leaves) in
+              newest_other t key (pin_of seg).level seg.segment.bytes left represents has.0 (newest_framed s image left right same.before key (pin_of seg).level seg.segment.bytes has.1);
+        };
       }
 
-  all_held : (segs : List KindSegment) → AllByRecursion (HoldsSegment s at.stands.known.0) segs → AllByRecursion (λ seg. IsHeldIn seg c) segs
-  all_held segs all = all_weaker (HoldsSegment s at.stands.known.0) (λ seg. IsHeldIn seg c) segs held_in all
+  all_held : (segs : List KindSegment) → AllByRecursion (HoldsSegment at.index s at.stands.known.0) segs → AllByRecursion (λ seg. IsHeldIn seg c) segs
+  all_held segs all = all_weaker (HoldsSegment at.index s at.stands.known.0) (λ seg. IsHeldIn seg c) segs held_in all
 
 -- ---- a run
 
@@ -258,7 +285,7 @@ record KeepsAll (S : List ℕ → Type 0) (stored : Stored) (segs : List KindSeg
 held_after : (S : List ℕ → Type 0) (stored : Stored) (segs : List KindSegment) (c : CoreState) → KeepsAll S stored segs c → AllByRecursion (λ seg. IsHeldIn seg c) segs
 held_after S stored segs c kept =
     let at = kept.keeps.is_at in
-    all_held S kept.store stored c at kept.keeps.settled segs (kept.keeps.held at.stands.known.0 at.stands.known.1)
+    all_held S kept.store stored c at kept.keeps.settled segs (kept.keeps.held at.index at.index_known at.stands.known.0 at.stands.known.1)
 
 module _ (C : Type 0) (state : C → CoreState) (among : ByteSet) (distinct : HasNoCollisions (IsIn among)) where
   keeps_on : (steps : List FileEvent) (s : Store) (stored : Stored) (segs : List KindSegment) (old new : C) → Keeps (IsIn among) s stored segs (state old) → FileRun C state (IsIn among) steps old new → (state new).stop ≡ None
@@ -279,15 +306,15 @@ module _ (C : Type 0) (state : C → CoreState) where
   pub keeps_segments : KeepsSegments C state
   keeps_segments among steps s stored old new distinct at settled run stays =
       held_after (IsIn among) (stored_after steps stored) (kept_of steps) (state new)
-      (keeps_on C state among distinct steps s stored [] old new (record { is_at = at; settled = settled; held = λ image is. tt }) run stays)
+      (keeps_on C state among distinct steps s stored [] old new (record { is_at = at; settled = settled; held = λ index known image is. tt }) run stays)
 
   pub stays_settled : StaysSettled C state
   stays_settled among steps s stored old new distinct at settled run stays =
-      (keeps_on C state among distinct steps s stored [] old new (record { is_at = at; settled = settled; held = λ image is. tt }) run stays).keeps.settled
+      (keeps_on C state among distinct steps s stored [] old new (record { is_at = at; settled = settled; held = λ index known image is. tt }) run stays).keeps.settled
 
   pub stays_held : StaysHeld C state
   stays_held among steps s stored seg old new distinct at settled run stays held =
-      let here : (image : List ℕ) → (state old).disk.content ≡ Some image → AllByRecursion (HoldsSegment s image) (seg ∷ []) =
-      λ image is. ((held s at.represents).each image ((state old).disk.as_read image is), tt) in
+      let here : (index : PlaceMap) → (state old).known ≡ Some index → (image : List ℕ) → (state old).disk.content ≡ Some image → AllByRecursion (HoldsSegment index s image) (seg ∷ []) =
+      λ index known image is. ((held.indexed index known, (held.newest s at.represents).each image ((state old).disk.as_read image is)), tt) in
       (held_after (IsIn among) (stored_after steps stored) (seg ∷ kept_of steps) (state new)
       (keeps_on C state among distinct steps s stored (seg ∷ []) old new (record { is_at = at; settled = settled; held = here }) run stays)).0

@@ -20,22 +20,25 @@ use Rattle.refusals.specs.declared.refusal.Refusal.TheVariants.{Memory}
 use Rattle.store_model.specs.Collisions.{IsIn, Stands, IsOf}
 use Rattle.store_model.specs.Files.{Stored}
 use Rattle.store_model.specs.Image.{Store, Encodes, IsValidFor}
-use Rattle.store_model.specs.Slots.{last_id}
+use Rattle.store_model.specs.Slots.{HasKey, last_id}
+use Rattle.store_model.proofs.Lookups.{indexed_by}
+use Rattle.store_model.proofs.Reached.{reached_held}
 use Rattle.store_model.proofs.Once.{store_once}
 use Rattle.store_state.specs.declared.open_store.OpenStore.{OpenStore}
 use Rattle.store_state.specs.declared.tables.Tables.{Tables}
-use Rattle.store_state.specs.Invariant.{HoldsPart}
+use Rattle.store_state.specs.Invariant.{HoldsPart, IndexesFiles}
 use Rattle.store_state.specs.Settled.{IsSettled}
 use Rattle.store_state.specs.State as opened
 use Rattle.store_state.specs.Tables.{Represents, Runs}
 use Rattle.store_core.specs.declared.stop.Stop.{Stop}
+use Rattle.store_core.specs.Core.{HasWhole}
 use Rattle.store_core.specs.Opening.{IsNew, IsKept, BeginsAt, IsNewAt, IsNotRead, IsReadFrom, OpensCore, OpensNone}
 use Rattle.store_core.specs.State.{CoreState, IsUp, UnlessStopped, IsRunning}
 
 pub new_core : (shown : (List ℕ → Type 0) → Type 0) (size : ℕ) (o : OpenStore) (c : CoreState) → IsOpened shown size o → c.disk.size ≡ size
     → ((store : Store) → opened.Represents store o → Represents store c.known c.tables) → ((store : Store) → opened.Represents store o → IsValidFor size store → c.served)
-    → c.tables.held.last_id ≡ o.containers.last_id → ((places : PlaceMap) × (c.known ≡ Some places)) → c.parts ≡ replicate ACTORS Idle → c.stop ≡ None → c.acknowledged ≡ 0 → IsNew shown size c
-new_core shown size o c is same represents serves last told parts stop count = record {
+    → ((store : Store) → opened.Represents store o → HasWhole store c.known) → c.tables.held.last_id ≡ o.containers.last_id → ((places : PlaceMap) × (c.known ≡ Some places)) → c.parts ≡ replicate ACTORS Idle → c.stop ≡ None → c.acknowledged ≡ 0 → IsNew shown size c
+new_core shown size o c is same represents serves whole last told parts stop count = record {
   store = is.found.store;
   right = is.found.right;
   represents = represents is.found.store is.found.represents;
@@ -47,6 +50,7 @@ new_core shown size o c is same represents serves last told parts stop count = r
   counted = count;
   served = serves is.found.store is.found.represents is.found.valid;
   told = told;
+  whole = whole is.found.store is.found.represents;
 }
 
 pub new_runs : (shown : (List ℕ → Type 0) → Type 0) (size : ℕ) (c : CoreState) → c.disk.size ≡ size → IsNew shown size c → IsRunning c
@@ -62,15 +66,16 @@ module _ (D : Type 0) (view : D → DiskView) (old new : D) where
   read_core : (found : OpenStore) (tables : Tables) (known : Option PlaceMap) (served : Type 0) (breaks : ℕ → Why → List ℕ → Type 0) (parts : List Part)
       → ((store : Store) → opened.Represents store found → Represents store known tables)
       → ((store : Store) → opened.Represents store found → IsValidFor (view new).size store → served)
+      → ((store : Store) → opened.Represents store found → HasWhole store known)
       → tables.held.last_id ≡ found.containers.last_id → ((places : PlaceMap) × (known ≡ Some places)) → parts ≡ replicate ACTORS Idle
       → (mid : D) → ReadsStore (Ok found) (view mid) (view new)
       → IsReadFrom (view mid) (record { disk = view new; tables = tables; known = known; served = served; breaks = breaks; parts = parts; stop = None; acknowledged = 0 })
-  read_core found tables known served breaks parts represents serves last told are mid reads =
+  read_core found tables known served breaks parts represents serves whole last told are mid reads =
       let same : (view new).size ≡ (view mid).size = reads.reads.only.later.size_is in
       record {
         opened = new_core (Shows (view mid) (view new)) (view mid).size found
             (record { disk = view new; tables = tables; known = known; served = served; breaks = breaks; parts = parts; stop = None; acknowledged = 0 })
-            reads.opened same represents (λ store is valid. serves store is (subst (λ (n : ℕ). IsValidFor n store) (sym same) valid)) last told are refl refl;
+            reads.opened same represents (λ store is valid. serves store is (subst (λ (n : ℕ). IsValidFor n store) (sym same) valid)) whole last told are refl refl;
         durable = reads.durable;
         reads = reads.reads;
       }
@@ -79,13 +84,14 @@ module _ (D : Type 0) (view : D → DiskView) (old new : D) where
       → Opening D view (Ok found) old new
       → ((store : Store) → opened.Represents store found → Represents store known tables)
       → ((store : Store) → opened.Represents store found → IsValidFor (view new).size store → served)
+      → ((store : Store) → opened.Represents store found → HasWhole store known)
       → tables.held.last_id ≡ found.containers.last_id → ((places : PlaceMap) × (known ≡ Some places)) → parts ≡ replicate ACTORS Idle
       → OpensCore D view (view old) (record { disk = view new; tables = tables; known = known; served = served; breaks = breaks; parts = parts; stop = None; acknowledged = 0 })
-  core_read found tables known served breaks parts (inl is) represents serves last told are =
-      inl (read_core found tables known served breaks parts represents serves last told are old is.0)
-  core_read found tables known served breaks parts (inr (inl is)) represents serves last told are =
-      inr (is.0, (is.1.0, read_core found tables known served breaks parts represents serves last told are is.0 is.1.1))
-  core_read found tables known served breaks parts (inr (inr is)) represents serves last told are = absurd is
+  core_read found tables known served breaks parts (inl is) represents serves whole last told are =
+      inl (read_core found tables known served breaks parts represents serves whole last told are old is.0)
+  core_read found tables known served breaks parts (inr (inl is)) represents serves whole last told are =
+      inr (is.0, (is.1.0, read_core found tables known served breaks parts represents serves whole last told are is.0 is.1.1))
+  core_read found tables known served breaks parts (inr (inr is)) represents serves whole last told are = absurd is
 
   refused_reading : (refusal : Refusal) (before : DiskView) → ReadsStore (Err refusal) before (view new) → IsNotRead refusal before (view new)
   refused_reading refusal before reads = record { cause = reads.refused; given_up = reads.only; reads = reads.reads }
@@ -150,9 +156,9 @@ pub durable_settled : (slots : ℕ) (v : DiskView) → IsDurable v → IsSettled
 durable_settled slots v durable bytes is c image = subst (SameBefore (slot_at slots) bytes) (sym (durable bytes is c image)) (record { size = refl; before = λ p n within. refl })
 
 -- an idle actor needs nothing of the disk
-idle_parts : (store : Store) (image : List ℕ) (n : ℕ) → AllByRecursion (HoldsPart store.held image) (replicate n Idle)
-idle_parts store image zero = tt
-idle_parts store image (suc n) = (tt, idle_parts store image n)
+idle_parts : (P : List ℕ → Type 0) (store : Store) (image : List ℕ) (n : ℕ) → AllByRecursion (HoldsPart P store.held image) (replicate n Idle)
+idle_parts P store image zero = tt
+idle_parts P store image (suc n) = (tt, idle_parts P store image n)
 
 -- Over a content that is of these files it is at them, by the store that the content is.
 pub begins_at : (S : List ℕ → Type 0) (stored : Stored) (image : List ℕ) (v : DiskView) (c : CoreState) → IsNew (Shows v c.disk) v.size c → IsDurable c.disk → Reads Done v c.disk
@@ -162,6 +168,9 @@ begins_at S stored image v c new durable reads told is =
     let same : new.store ≡ is.0 = store_once image new.store is.0 (shown_content v c.disk (λ bytes. Encodes bytes new.store) image new.right told) stands.holds.right in
     let represents : Represents is.0 c.known c.tables = subst (λ (store : Store). Represents store c.known c.tables) same new.represents in
     let here : c.disk.content ≡ Some image = reads.only.content_is ∙ told in
+    let whole : HasWhole is.0 c.known = subst (λ (store : Store). HasWhole store c.known) same new.whole in
+    let files_indexed : IndexesFiles new.told.0 stored.files =
+    reached_held (HasKey new.told.0) is.0 stored.files image stands.holds.files_are (indexed_by is.0.held new.told.0 (whole new.told.0 new.told.1)) in
     record {
       store = is.0;
       is_at = record {
@@ -175,11 +184,13 @@ begins_at S stored image v c new durable reads told is =
         };
         last_is = represents.names_are.last_is ∙ is.1.1;
         invariant = λ bytes told_here. record {
-          index_is_newest = represents.index_is_newest;
-          pins_are_closed = subst (AllByRecursion (HoldsPart is.0.held bytes)) (sym new.parts_are) (idle_parts is.0 bytes ACTORS);
+          index_is_newest = represents.index_is_newest new.told.0 new.told.1;
+          files_are_indexed = files_indexed;
+          pins_are_closed = subst (AllByRecursion (HoldsPart (HasKey new.told.0) is.0.held bytes)) (sym new.parts_are) (idle_parts (HasKey new.told.0) is.0 bytes ACTORS);
           reserve_holds = stands.holds.reserve;
         };
       };
+      whole = whole;
       last_id_is = new.last_id_is ∙ ap (λ (store : Store). last_id store.held) same;
       settled = durable_settled c.tables.slots c.disk durable;
     }

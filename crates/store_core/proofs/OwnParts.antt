@@ -1,5 +1,5 @@
 -- What the actor of a step is at afterwards is held.
-use Rattle.std.proofs.Common.{◌≡◌, ℕ, zero, suc, List, [], ◌∷◌, Some, None, Result, Ok, Err, refl, sym, ◌∙◌, subst}
+use Rattle.std.proofs.Common.{◌≡◌, ℕ, zero, suc, List, [], ◌∷◌, Some, None, Result, Ok, Err, refl, sym, ◌∙◌, ap, subst}
 use Rattle.std.specs.FinMap as finite
 use Rattle.std.specs.Ordering.{nat_cmp}
 use Rattle.std.specs.Cmp.Lexicographic.{slice_cmp}
@@ -8,9 +8,10 @@ use Rattle.disk_format.specs.Cells.{Root}
 use Rattle.container_meta.specs.Places.{PlaceMap}
 use Rattle.container_meta.specs.Segments.{KindSegment}
 use Rattle.merkle_file.specs.declared.top.Top.{Top}
+use Rattle.merkle_file.specs.Tree.{Tree}
 use Rattle.merkle_file.specs.Walk.{segments_in}
 use Rattle.actor_parts.specs.declared.part.Part.{Part}
-use Rattle.actor_parts.specs.declared.part.Part.TheVariants.{Idle, Writing}
+use Rattle.actor_parts.specs.declared.part.Part.TheVariants.{Idle, Reading, Writing}
 use Rattle.actor_parts.specs.declared.step.Answer.{Answer}
 use Rattle.actor_parts.specs.declared.step.Answer.TheVariants as answers
 use Rattle.actor_parts.specs.Parts.{part_of, with_part}
@@ -21,10 +22,25 @@ use Rattle.read_steps.specs.Walking.{IsIndexed, SegmentsAhead, IsHeldAnswer}
 use Rattle.store_model.specs.Collisions.{HasNoCollisions, ByteSet, IsIn, IsAmong, Stands}
 use Rattle.store_model.specs.Files.{Files}
 use Rattle.store_model.specs.Image.{Store, names_of}
-use Rattle.store_model.specs.Slots.{IsIndexOf}
-use Rattle.store_state.specs.Invariant.{HoldsPart, HoldsRest}
+use Rattle.store_model.specs.Reserve.{key_set, tree_keys}
+use Rattle.store_model.specs.Slots.{HasKey, IsPartialIndexOf}
+use Rattle.store_model.specs.Trees.{file_tree}
+use Rattle.store_model.proofs.Counted.{contained}
+use Rattle.store_state.specs.Invariant.{HoldsPart, HoldsRest, IndexesFiles}
 use Rattle.store_core.specs.Core.{BeginRow, ClaimRow, AbortRow, OpenRow, ReadRow, EndRow, StatRow, ListRow, IsGiven, IsNotGiven}
 use Rattle.store_core.specs.State.{CoreState}
+
+-- a part that takes a file says of which root, and what is to come
+abbrev root_in : Root → Part → Root
+root_in other (Reading reader) = reader.root
+root_in other part = other
+
+abbrev rest_in : Part → List Top
+rest_in (Reading reader) = reader.cursor
+rest_in part = []
+
+pub same_reader : (a b : Root) (x y : List Top) → readers.reading a x ≡ readers.reading b y → (a ≡ b) × (x ≡ y)
+same_reader a b x y same = (ap (root_in a) same, ap rest_in same)
 
 -- ---- a list of parts
 
@@ -50,10 +66,10 @@ module _ (P : Part → Type 0) where
 -- ---- a step that changes nothing of the store
 
 module _ (among : ByteSet) (store : Store) (files : Files) (image : List ℕ) (places : PlaceMap) (actor : ℕ) (buf : List ℕ) (old new : CoreState)
-    (told : old.disk.content ≡ Some image) (known : old.known ≡ Some places) (index : IsIndexOf store.held places) (names : old.tables.names ≡ names_of store)
-    (stands : Stands (IsIn among) store files image) (distinct : HasNoCollisions (IsIn among)) (hold : AllByRecursion (HoldsPart store.held image) old.parts) where
+    (told : old.disk.content ≡ Some image) (known : old.known ≡ Some places) (index : IsPartialIndexOf store.held places) (files_indexed : IndexesFiles places files) (names : old.tables.names ≡ names_of store)
+    (stands : Stands (IsIn among) store files image) (distinct : HasNoCollisions (IsIn among)) (hold : AllByRecursion (HoldsPart (HasKey places) store.held image) old.parts) where
   abbrev Holds : Part → Type 0
-  Holds part = HoldsPart store.held image part
+  Holds part = HoldsPart (HasKey places) store.held image part
 
   abbrev Own : Type 0
   Own = Holds (part_of new.parts actor)
@@ -89,52 +105,89 @@ module _ (among : ByteSet) (store : Store) (files : Files) (image : List ℕ) (p
   pub own_open : (name : List ℕ) (answer : Result Answer Refusal) → OpenRow name actor answer old new → Own
   own_open name (Ok (answers.Opened count)) row =
       let file = row.file store files image names stands.holds in
-      own_one (readers.reading file.root file.ahead) file.parts_are (record { trees = _; ahead = file.file.held_ahead.trees; are_held = file.file.held_ahead.each })
+      own_one (readers.reading file.root file.ahead) file.parts_are (record {
+        whole = file_tree file.file.bytes;
+        level_is = ap (λ (r : Root). r.level) file.file.root_is;
+        digest_is = ap (λ (r : Root). r.digest) file.file.root_is;
+        is_held = record { tree_is_held = file.file.tree_is_held; count = λ key there. files_indexed key (name, (file.file.bytes, (file.file.filed, there))) };
+        trees = _;
+        ahead = file.file.held_ahead.trees;
+        are_held = file.file.held_ahead.each;
+      })
   own_open name (Err refusal) row = own_same row.1
   own_open name answer row = absurd row
 
   -- what is to come of the file that it takes
-  indexed : IsIndexed store.held old.known old.disk.content image
-  indexed = record { told = told; index = places; index_known = known; index_is_newest = index }
+  abbrev keys_of : Tree (List ℕ) → ByteSet
+  keys_of t = key_set (tree_keys t)
 
-  ahead_is : (root : Root) (ahead : List Top) → part_of old.parts actor ≡ readers.reading root ahead → HoldsRest store.held image (record { root = root; cursor = ahead })
+  abbrev Rest : Root → List Top → Type 0
+  Rest root ahead = HoldsRest (HasKey places) store.held image (record { root = root; cursor = ahead })
+
+  ahead_is : (root : Root) (ahead : List Top) → part_of old.parts actor ≡ readers.reading root ahead → Rest root ahead
   ahead_is root ahead is = subst Holds is own_old
 
-  some_ahead : (root : Root) (ahead : List Top) (rest : HoldsRest store.held image (record { root = root; cursor = ahead })) → SegmentsAhead store.held image ahead (segments_in rest.trees)
+  indexed : (root : Root) (ahead : List Top) (rest : Rest root ahead) → IsIndexed (keys_of rest.whole) store.held old.known old.disk.content image
+  indexed root ahead rest = record {
+    told = told;
+    index = places;
+    index_known = known;
+    index_is_newest = index;
+    has = λ key there. rest.is_held.count key (contained key (tree_keys rest.whole) there);
+  }
+
+  some_ahead : (root : Root) (ahead : List Top) (rest : Rest root ahead) → SegmentsAhead (keys_of rest.whole) store.held image ahead (segments_in rest.trees)
   some_ahead root ahead rest = record { trees = rest.trees; held_ahead = record { trees = rest.ahead; each = rest.are_held }; segments_are = refl }
 
-  reads_on : (root : Root) (ahead : List Top) (segments : List (List ℕ)) → SegmentsAhead store.held image ahead segments → Holds (readers.reading root ahead)
-  reads_on root ahead segments is = record { trees = is.trees; ahead = is.held_ahead.trees; are_held = is.held_ahead.each }
+  -- another rest of the same file
+  rest_on : (root other : Root) (was ahead : List Top) (rest : Rest root was) (segments : List (List ℕ)) → root ≡ other → SegmentsAhead (keys_of rest.whole) store.held image ahead segments → Holds (readers.reading other ahead)
+  rest_on root other was ahead rest segments same is = record {
+    whole = rest.whole;
+    level_is = ap (λ (r : Root). r.level) (sym same) ∙ rest.level_is;
+    digest_is = ap (λ (r : Root). r.digest) (sym same) ∙ rest.digest_is;
+    is_held = rest.is_held;
+    trees = is.trees;
+    ahead = is.held_ahead.trees;
+    are_held = is.held_ahead.each;
+  }
+
+  same_root : (a b : Root) (x y : List Top) → part_of old.parts actor ≡ readers.reading a x → part_of old.parts actor ≡ readers.reading b y → a ≡ b
+  same_root a b x y first second = (same_reader a b x y (sym first ∙ second)).0
 
   own_given : (count : ℕ) → IsGiven (Some count) buf actor old new → Own
   own_given count row =
       let before = row.next.goes_on in
       let rest = ahead_is before.root row.next.was before.part_is in
-      let held = row.held before.root row.next.was store.held image (segments_in rest.trees) before.part_is indexed (some_ahead before.root row.next.was rest) in
-      own_one (readers.reading held.goes_on.root held.rest) held.goes_on.parts_are (reads_on held.goes_on.root held.rest held.given.others held.given.ahead)
+      let held = row.held before.root row.next.was (keys_of rest.whole) store.held image (segments_in rest.trees) before.part_is (indexed before.root row.next.was rest) (some_ahead before.root row.next.was rest) in
+      own_one (readers.reading held.goes_on.root held.rest) held.goes_on.parts_are
+      (rest_on before.root held.goes_on.root row.next.was held.rest rest held.given.others (same_root before.root held.goes_on.root row.next.was row.next.was before.part_is held.goes_on.part_is) held.given.ahead)
 
   own_end : IsGiven None buf actor old new → Own
   own_end row =
-      own_one (readers.reading row.next.goes_on.root row.next.rest) row.next.goes_on.parts_are
-      (record { trees = []; ahead = record { tops = row.next.given.1; each = tt }; are_held = tt })
+      let before = row.next.goes_on in
+      let rest = ahead_is before.root row.next.was before.part_is in
+      own_one (readers.reading before.root row.next.rest) before.parts_are
+      (rest_on before.root before.root row.next.was row.next.rest rest [] refl
+      (record { trees = []; held_ahead = record { trees = record { tops = row.next.given.1; each = tt }; each = tt }; segments_are = refl }))
 
   -- why a read is refused on its way, where what is to come is held
   pub stuck_held : (refusal : Refusal) → IsNotGiven refusal buf actor old new → readers.IsStuck old.known old.breaks old.disk new.disk actor old.parts new.parts refusal
-      → (rest : List Top) × ((segments : List (List ℕ)) × IsHeldAnswer store.held image rest segments buf (Err refusal))
+      → (counts : ByteSet) × ((rest : List Top) × ((segments : List (List ℕ)) × IsHeldAnswer counts store.held image rest segments buf (Err refusal)))
   stuck_held refusal row cause =
       let before = cause.goes_on in
       let rest = ahead_is before.root cause.was before.part_is in
-      let held = row.held before.root cause.was store.held image (segments_in rest.trees) before.part_is indexed (some_ahead before.root cause.was rest) in
-      (held.rest, (segments_in rest.trees, held.given))
+      let held = row.held before.root cause.was (keys_of rest.whole) store.held image (segments_in rest.trees) before.part_is (indexed before.root cause.was rest) (some_ahead before.root cause.was rest) in
+      (keys_of rest.whole, (held.rest, (segments_in rest.trees, held.given)))
 
   own_stuck : (refusal : Refusal) → IsNotGiven refusal buf actor old new → Own
   own_stuck (refusals.WrongPart kind) row = own_same row.cause.same
   own_stuck refusals.DiskRead row =
       let before = row.cause.goes_on in
       let rest = ahead_is before.root row.cause.was before.part_is in
-      let held = row.held before.root row.cause.was store.held image (segments_in rest.trees) before.part_is indexed (some_ahead before.root row.cause.was rest) in
-      own_one (readers.reading held.goes_on.root held.rest) held.goes_on.parts_are (reads_on held.goes_on.root held.rest (segments_in rest.trees) held.given)
-  own_stuck refusal row = absurd (stuck_held refusal row row.cause).1.1
+      let held = row.held before.root row.cause.was (keys_of rest.whole) store.held image (segments_in rest.trees) before.part_is (indexed before.root row.cause.was rest) (some_ahead before.root row.cause.was rest) in
+      own_one (readers.reading held.goes_on.root held.rest) held.goes_on.parts_are
+      (rest_on before.root held.goes_on.root row.cause.was held.rest rest (segments_in rest.trees) (same_root before.root held.goes_on.root row.cause.was row.cause.was before.part_is held.goes_on.part_is) held.given)
+  own_stuck refusal row = absurd (stuck_held refusal row row.cause).1.1.1
 
   pub own_read : (answer : Result Answer Refusal) → ReadRow actor answer buf old new → Own
   own_read (Ok (answers.Bytes count)) row = own_given count row

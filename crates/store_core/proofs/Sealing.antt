@@ -1,7 +1,8 @@
 -- What a seal makes of a core.
 use Rattle.std.proofs.Common.{◌≡◌, ℕ, List, Option, Some, None, Ok, Err, refl, sym, ◌∙◌, ap, subst}
+use Rattle.std.specs.List.{AllByRecursion}
 use Rattle.container_meta.specs.Places.{PlaceMap}
-use Rattle.container_meta.specs.Segments.{Contents}
+use Rattle.container_meta.specs.Segments.{Contents, entries_from, segment_key}
 use Rattle.dd_disk.specs.View.{IsLater}
 use Rattle.dd_disk.specs.Ending.{Done, ending_of}
 use Rattle.actor_parts.specs.declared.step.Answer.TheVariants as answers
@@ -9,15 +10,22 @@ use Rattle.actor_parts.specs.StepValue as asked
 use Rattle.refusals.specs.declared.refusal.Refusal.{Refusal}
 use Rattle.refusals.specs.declared.refusal.Refusal.TheVariants as refusals
 use Rattle.store_model.specs.Image.{IsValidFor}
+use Rattle.store_model.specs.Indexing.{with_entries}
+use Rattle.store_model.specs.Slots.{HasKey, IsIndexOf, first_free}
 use Rattle.store_model.specs.Steps.{SealContainer, CanSeal, with_sealed}
+use Rattle.store_model.proofs.Indexing.{has_segments, still_has}
+use Rattle.store_model.proofs.IndexSize.{index_sealed}
 use Rattle.store_model.proofs.Valid.{valid_sealed}
 use Rattle.store_state.specs.Refused.{blames}
 use Rattle.store_state.specs.Settled as settled
 use Rattle.store_state.specs.Tables.{Represents, Runs}
-use Rattle.ingest_steps.specs.Sealing.{HasSealed, HasPlacesOf, SealsCompared, KeepsMap, places_with}
+use Rattle.ingest_steps.specs.Sealing.{HasSlot, HasSealed, HasPlacesOf, SealsCompared, KeepsMap, places_with}
 use Rattle.ingest_steps.specs.SealStep.{IsSealedFor, KeepsSealed}
 use Rattle.store_core.specs.Core.{Makes, Made, KeepsUnlessBroken, IsUnsealed, next_id}
 use Rattle.store_core.specs.State.{CoreState}
+
+pub one_map : (a b : PlaceMap) → Some a ≡ Some b → a ≡ b
+one_map a b is = cc
 
 -- an index that knows its map whatever the disk tells has the places of the container
 pub index_has : (filled : Contents) (slot : ℕ) (before after : Option (List ℕ) → Option PlaceMap) (old new : Option (List ℕ)) (m : PlaceMap) (k : Option PlaceMap) → HasPlacesOf filled slot before after old new
@@ -25,7 +33,7 @@ pub index_has : (filled : Contents) (slot : ℕ) (before after : Option (List �
 index_has filled slot before after (Some given) new m k has told untold is none = sym is ∙ has.told given refl m told
 index_has filled slot before after None new m k has told untold is none = sym none ∙ has.untold refl m untold
 
-module _ (old new : CoreState) (filled : Contents) (slot id : ℕ) (sealed : HasSealed old.tables old.disk.size old.known slot filled new.tables id) (later : IsLater old.disk new.disk) (m : PlaceMap) (known : old.known ≡ Some m)
+module _ (old new : CoreState) (filled : Contents) (slot id : ℕ) (has : HasSlot old.tables slot) (sealed : HasSealed old.tables old.disk.size old.known slot filled new.tables id) (later : IsLater old.disk new.disk) (m : PlaceMap) (known : old.known ≡ Some m)
     (index : new.known ≡ places_with filled slot (Some m)) where
   map_is : new.known ≡ places_with filled slot old.known
   map_is = index ∙ ap (places_with filled slot) (sym known)
@@ -45,6 +53,21 @@ module _ (old new : CoreState) (filled : Contents) (slot id : ℕ) (sealed : Has
           (valid_sealed (next_id old) filled.kind filled.segments store (subst (λ (n : ℕ). CanSeal n filled.kind filled.segments store) id_is (sealed.can.store_has store represents valid reserve)) old.disk.size valid);
     };
     tells = λ places is. (_, index);
+    keeps_keys = λ before is after after_is key had.
+        let here : m ≡ before = one_map m before (sym known ∙ is) in
+        let there : with_entries filled.kind slot (entries_from 0 filled.segments) m ≡ after = one_map _ after (sym index ∙ after_is) in
+        subst (λ (x : PlaceMap). HasKey x key) there (still_has filled.kind slot (entries_from 0 filled.segments) m key (subst (λ (x : PlaceMap). HasKey x key) (sym here) had));
+    adds_keys = λ before is after after_is.
+        subst (λ (x : PlaceMap). AllByRecursion (λ s. HasKey x (segment_key filled.kind s)) filled.segments) (one_map _ after (sym index ∙ after_is)) (has_segments filled.kind slot 0 filled.segments m);
+    whole = record {
+      store_has = λ store represents valid reserve whole after after_is.
+          let can = subst (λ (n : ℕ). CanSeal n filled.kind filled.segments store) id_is (sealed.can.store_has store represents valid reserve) in
+          let first : slot ≡ first_free store.held = ((has.slot_is old.disk.size old.known).store_has store represents valid reserve).first in
+          let there : with_entries filled.kind (first_free store.held) (entries_from 0 filled.segments) m ≡ after =
+          ap (λ (s : ℕ). with_entries filled.kind s (entries_from 0 filled.segments) m) (sym first) ∙ one_map _ after (sym index ∙ after_is) in
+          subst (IsIndexOf (with_sealed (next_id old) filled.kind filled.segments store).held) there
+          (index_sealed (next_id old) filled.kind filled.segments store can m (whole m known) can.right);
+    };
     runs = λ runs. subst (λ (size : ℕ). Runs size new.known new.tables) (sym later.size_is) (subst (λ (k : Option PlaceMap). Runs old.disk.size k new.tables) (sym map_is) sealed.runs);
   }
 
@@ -56,10 +79,10 @@ kept_map refusal old new tables map = record { tables_are = tables; index_is = m
 pub made_seal : (filled : Contents) (actor id slot : ℕ) (bytes : List ℕ) (old new : CoreState) (before after : Option (List ℕ) → Option PlaceMap) (m : PlaceMap) → old.known ≡ Some m
     → (sealed : IsSealedFor old.tables old.disk old.known old.parts actor filled new.tables new.disk before after new.parts id) → new.known ≡ places_with filled sealed.slot (Some m)
     → settled.Steps old.tables.slots Done old.disk new.disk → SealsCompared old.tables old.known (next_id old) filled Done old.disk new.disk
-    → KeepsSealed old.disk new.disk old.known old.tables old.parts actor filled new.parts id → (old.served → new.served) → Made (asked.Seal filled) actor (Ok (answers.Sealed id)) bytes old new
+    → KeepsSealed old.disk new.disk old.known new.known old.tables old.parts actor filled new.parts id → (old.served → new.served) → Made (asked.Seal filled) actor (Ok (answers.Sealed id)) bytes old new
 made_seal filled actor id slot bytes old new before after m known sealed index steps moves kept served = record {
   row = record { may = sealed.may; compared = sealed.compared; id_is = sealed.sealed.number; last_is = sealed.sealed.last_is; parts_are = sealed.parts_are; kept = kept };
-  effect = record { disk = steps; moves = moves; made = makes_seal old new filled sealed.slot id sealed.sealed steps.later m known index; kept = tt };
+  effect = record { disk = steps; moves = moves; made = makes_seal old new filled sealed.slot id sealed.has sealed.sealed steps.later m known index; kept = tt };
   served = served;
 }
 

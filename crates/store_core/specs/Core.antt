@@ -1,6 +1,7 @@
 -- What each step makes of the core of a store, what it answers, and why it is refused (docs/MODEL.md, 'The core').
 use Rattle.std.specs.Prelude.{◌≡◌, ℕ, suc, ◌+◌, List, Option, Some, None, Result, Ok, Err, IfErr, OnOk, OnErr}
 use Rattle.std.specs.FinMap as finite
+use Rattle.std.specs.List.{AllByRecursion}
 use Rattle.base_model.specs.Known.{Known, KnownWith}
 use Rattle.disk_format.specs.Cells.{Change, Root}
 use Rattle.disk_format.specs.Cells.Change.{Delete, Put}
@@ -11,7 +12,7 @@ use Rattle.dd_disk.specs.Shows.{Shows}
 use Rattle.disk_format.specs.declared.why.Why.{Why}
 use Rattle.container_meta.specs.Places.{PlaceMap}
 use Rattle.container_meta.specs.Spelling.{HeaderValue}
-use Rattle.container_meta.specs.Segments.{KindSegment, Contents}
+use Rattle.container_meta.specs.Segments.{KindSegment, Contents, segment_key}
 use Rattle.merkle_file.specs.declared.top.Top.{Top}
 use Rattle.actor_parts.specs.declared.part.Part.{Part}
 use Rattle.actor_parts.specs.declared.part.Part.TheVariants.{Idle, Writing}
@@ -30,7 +31,9 @@ use Rattle.store_model.specs.Files.{Files}
 use Rattle.store_model.specs.Image.{Store, Encodes, IsValidFor, names_of}
 use Rattle.store_model.specs.Standing.{IsStoreOf}
 use Rattle.namespace.specs.Listing.{listing_of}
-use Rattle.store_model.specs.Steps.{StoreChange, SealContainer, ChangeName, CanChange, KeepsCopies, changed}
+use Rattle.store_model.specs.Collisions.{ByteSet}
+use Rattle.store_model.specs.Slots.{HasKey, IsIndexOf}
+use Rattle.store_model.specs.Steps.{AnyKey, StoreChange, SealContainer, ChangeName, CanChange, KeepsCopies, changed}
 use Rattle.store_state.specs.Refused.{blames}
 use Rattle.store_state.specs.Settled as settled
 use Rattle.store_state.specs.Tables.{Represents, Runs, OfEach}
@@ -92,7 +95,7 @@ pub record IsSealed (filled : Contents) (id actor : ℕ) (old new : CoreState) :
   -- it is the greatest that was given out
   pub last_is : new.tables.held.last_id ≡ id
   pub parts_are : Gets (Writing (with_pins filled.kind filled.segments may.pins)) actor old new
-  pub kept : KeepsSealed old.disk new.disk old.known old.tables old.parts actor filled new.parts id
+  pub kept : KeepsSealed old.disk new.disk old.known new.known old.tables old.parts actor filled new.parts id
 
 abbrev pub IsUnsealed : Contents → ℕ → Refusal → CoreState → CoreState → Type 0
 IsUnsealed filled actor refusal old new =
@@ -110,9 +113,10 @@ pub record IsOpened (name : List ℕ) (count actor : ℕ) (old new : CoreState) 
 -- what is answered where segments of held trees are to come
 abbrev pub GivesHeld : Result (Option ℕ) Refusal → List ℕ → ℕ → CoreState → CoreState → Type 0
 GivesHeld answer buf actor old new =
-    (root : Root) (ahead : List Top) (held : List (Option HeaderValue)) (image : List ℕ) (segments : List (List ℕ))
-    → part_of old.parts actor ≡ readers.reading root ahead → IsIndexed held old.known old.disk.content image
-    → SegmentsAhead held image ahead segments → readers.GivesHeld held image actor old.parts new.parts ahead segments buf answer
+    (root : Root) (ahead : List Top) (counts : ByteSet) (held : List (Option HeaderValue)) (image : List ℕ) (segments : List (List ℕ))
+    → part_of old.parts actor ≡ readers.reading root ahead → IsIndexed counts held old.known old.disk.content image
+    → SegmentsAhead counts held image ahead segments
+    → readers.GivesHeld counts held image actor old.parts new.parts ahead segments buf answer
 
 -- The next segment of the file, or its end: on any disk as reads showed, and of a tree that is held.
 pub record IsGiven (answer : Option ℕ) (buf : List ℕ) (actor : ℕ) (old new : CoreState) : Type 0 where
@@ -224,12 +228,26 @@ KeepsUnlessBroken refusals.DiskWrite old new = new.tables ≡ old.tables
 KeepsUnlessBroken (refusals.Damaged at why) old new = new.tables ≡ old.tables
 KeepsUnlessBroken refusal old new = KeepsTables old new
 
+-- the index, where its map is known, gives each key that the store holds its newest copy, and no other key one
+abbrev pub HasWhole : Store → Option PlaceMap → Type 0
+HasWhole store known = KnownMap known (IsIndexOf store.held)
+
+-- the index has the keys of what a change adds
+abbrev pub HasAdded : StoreChange → PlaceMap → Type 0
+HasAdded (SealContainer id kind segments) index = AllByRecursion (λ s. HasKey index (segment_key kind s)) segments
+HasAdded (ChangeName name change) index = Unit {0}
+
 -- A change is made: for each store that the tables stood for, tables and index are those of the changed one.
 pub record Makes (change : StoreChange) (old new : CoreState) : Type 0 where
   pub can : OfEach old.disk.size old.known old.tables (CanChange change)
   pub represents : OfEach old.disk.size old.known old.tables (λ store. Represents (changed change store) new.known new.tables)
   pub valid : OfEach old.disk.size old.known old.tables (λ store. IsValidFor new.disk.size (changed change store))
   pub tells : KnownMap old.known (λ _. (places : PlaceMap) × (new.known ≡ Some places))
+  -- no key leaves the index
+  pub keeps_keys : KnownMap old.known (λ before. KnownMap new.known (λ after. (key : List ℕ) → HasKey before key → HasKey after key))
+  pub adds_keys : KnownMap old.known (λ _. KnownMap new.known (HasAdded change))
+  -- where it had all that was held, it has all that is
+  pub whole : OfEach old.disk.size old.known old.tables (λ store. HasWhole store old.known → HasWhole (changed change store) new.known)
   pub runs : Runs old.disk.size old.known old.tables → Runs new.disk.size new.known new.tables
 
 -- nothing changes
@@ -254,7 +272,7 @@ pub record NamesOne (name : List ℕ) (change : Change) (answer : Result Answer 
   pub made : OnOk answer (Makes (ChangeName name change) old new)
   pub copies : OnOk answer ((store : Store) → Represents store old.known old.tables
       → Known old.disk.content (λ before. Encodes before store
-      → KnownWith new.disk.content (KeepsCopies store before (changed (ChangeName name change) store))))
+      → KnownWith new.disk.content (KeepsCopies AnyKey store before (changed (ChangeName name change) store))))
   pub kept : OnErr answer (KeepsTables old new)
 
 abbrev pub Effect : StepValue → Result Answer Refusal → CoreState → CoreState → Type 0

@@ -12,6 +12,8 @@ use Rattle.refusals.specs.declared.refusal.Refusal.{Refusal}
 use Rattle.store_model.specs.Collisions.{HasNoCollisions, ByteSet, IsIn}
 use Rattle.store_model.specs.Files.{Stored}
 use Rattle.store_model.specs.Image.{Store}
+use Rattle.segment_index.specs.Places.{KnownMap}
+use Rattle.store_model.specs.Slots.{HasKey}
 use Rattle.store_model.specs.Trees.{HasNewest}
 use Rattle.store_state.specs.Settled.{IsSettled}
 use Rattle.store_state.specs.Tables.{Represents}
@@ -29,11 +31,11 @@ abbrev pub kept_of : List FileEvent → List KindSegment
 kept_of [] = []
 kept_of (f ∷ fs) = kept_by f.event.step f.event.answer ++ kept_of fs
 
--- each image holds a segment: the newest copy of its key has its level and its bytes
-abbrev pub IsHeldIn : KindSegment → CoreState → Type 0
-IsHeldIn seg c =
-    (store : Store) → Represents store c.known c.tables
-    → StandsFor (λ image. HasNewest store.held (segment_key seg.kind seg.segment) (pin_of seg).level seg.segment.bytes image) c.disk
+-- Each image holds a segment: the index has its key, and the newest copy has its level and its bytes.
+pub record IsHeldIn (seg : KindSegment) (c : CoreState) : Type 0 where
+  pub indexed : KnownMap c.known (λ index. HasKey index (segment_key seg.kind seg.segment))
+  pub newest : (store : Store) → Represents store c.known c.tables
+      → StandsFor (λ image. HasNewest store.held (segment_key seg.kind seg.segment) (pin_of seg).level seg.segment.bytes image) c.disk
 
 -- What each image held is held at the end of a run,
 abbrev pub StaysHeld : (C : Type 0) → (C → CoreState) → Type 0

@@ -1,5 +1,5 @@
 -- Steps of a core one after the other, by any actors (docs/MODEL.md, 'The core').
-use Rattle.std.specs.Prelude.{Bool, true, false, ◌≡◌, ◌⊎◌, ◌-◌, ◌^◌, ◌<◌, ℕ, List, [], ◌∷◌, ◌++◌, ◌==◌, length, sum_by, take, None, Some, Result, Ok, Err}
+use Rattle.std.specs.Prelude.{Bool, true, false, ◌≡◌, ◌⊎◌, ◌-◌, ◌^◌, ◌<◌, ℕ, List, [], ◌∷◌, ◌++◌, ◌==◌, length, sum_by, take, Option, None, Some, Result, Ok, Err}
 use Rattle.std.specs.FinMap as finite
 use Rattle.std.specs.List.{AllByRecursion}
 use Rattle.base_model.specs.Known.{Known}
@@ -21,6 +21,9 @@ use Rattle.segmenter.specs.Segments.{segments_of}
 use Rattle.store_model.specs.Collisions.{HasNoCollisions, ByteSet, IsIn, IsAmong, Stands, IsOf}
 use Rattle.store_model.specs.Files.{Stored, with_stored, without_stored}
 use Rattle.store_model.specs.Image.{Store, IsValidFor}
+use Rattle.store_model.specs.Reserve.{AllKeys}
+use Rattle.store_model.specs.Slots.{HasKey}
+use Rattle.segment_index.specs.Places.{KnownMap}
 use Rattle.store_model.specs.Steps.{StoreChange, SealContainer, ChangeName, CanChange, changed}
 use Rattle.store_model.specs.Trees.{root_of, file_tree, HoldsTree}
 use Rattle.store_state.specs.Invariant.{CoreInvariant}
@@ -29,7 +32,7 @@ use Rattle.read_steps.specs.Readers.{reading}
 use Rattle.namespace.specs.Names.{NameMap}
 use Rattle.read_steps.specs.Opening.{top_of, HasRoot}
 use Rattle.read_steps.specs.Walking.{GivesAll}
-use Rattle.store_core.specs.Core.{CoreStep}
+use Rattle.store_core.specs.Core.{CoreStep, HasWhole}
 use Rattle.store_core.specs.State.{CoreState, Event, IsRunning}
 
 -- The first step makes of the core one of which the others make the last one. A core is anything that has a state.
@@ -63,9 +66,10 @@ abbrev pub stored_after : List FileEvent → Stored → Stored
 stored_after [] stored = stored
 stored_after (f ∷ fs) stored = stored_after fs (stored_by f stored)
 
--- a root is that of a file, whose tree each image holds
+-- a root is that of a file, whose tree each image holds, and whose keys the index has
 pub record IsRootOf (root : Root) (bytes : List ℕ) (old : CoreState) : Type 0 where
   pub root_is : root ≡ root_of bytes
+  pub indexed : KnownMap old.known (λ index. AllKeys (HasKey index) (file_tree bytes))
   pub tree : (store : Store) → Represents store old.known old.tables
       → StandsFor (λ c. HoldsTree store.held c (file_tree bytes)) old.disk
 
@@ -100,7 +104,7 @@ pub record IsAt (S : List ℕ → Type 0) (store : Store) (stored : Stored) (c :
   pub valid : IsValidFor c.disk.size store
   pub stands : StandsFor (Stands S store stored.files) c.disk
   pub last_is : c.tables.journal.last ≡ stored.last
-  pub invariant : Known c.disk.content (CoreInvariant c.known store c.parts)
+  pub invariant : Known c.disk.content (CoreInvariant index store stored.files c.parts)
 
 -- one change after the other, each where it can be made
 abbrev pub ChangesTo : List StoreChange → Store → Store → Type 0
@@ -119,18 +123,21 @@ abbrev pub changes_of : List FileEvent → List StoreChange
 changes_of [] = []
 changes_of (f ∷ fs) = changes_by f.event.step f.event.answer ++ changes_of fs
 
--- it has come to these files, from a store by the changes that the steps' answers tell
-pub record Reaches (S : List ℕ → Type 0) (s : Store) (stored : Stored) (steps : List FileEvent) (c : CoreState) : Type 0 where
+-- It has come to these files, from a store by the changes that the steps' answers tell. Where the map of the index had each key that the
+-- store held, it has each that this one holds.
+pub record Reaches (S : List ℕ → Type 0) (s : Store) (known : Option PlaceMap) (stored : Stored) (steps : List FileEvent) (c : CoreState)
+    : Type 0 where
   pub store : Store
   pub chain : ChangesTo (changes_of steps) s store
   pub is_at : IsAt S store stored c
+  pub whole : HasWhole s known → HasWhole store c.known
 
 -- A core that isn't stopped at the end of a run has made exactly the commits, the deletes and the seals that it acknowledged, and its
 -- invariant holds.
 abbrev pub KeepsFiles : (C : Type 0) → (C → CoreState) → Type 0
 KeepsFiles C state = (among : ByteSet) (steps : List FileEvent) (s : Store) (stored : Stored) (old new : C)
     → HasNoCollisions (IsIn among) → IsAt (IsIn among) s stored (state old) → FileRun C state (IsIn among) steps old new
-    → (state new).stop ≡ None → Reaches (IsIn among) s (stored_after steps stored) steps (state new)
+    → (state new).stop ≡ None → Reaches (IsIn among) s (state old).known (stored_after steps stored) steps (state new)
 
 -- ---- crashes
 

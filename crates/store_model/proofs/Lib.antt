@@ -24,6 +24,7 @@ pub mod NewestSealed
 pub mod Once
 pub mod OneNode
 pub mod Puts
+pub mod Reached
 pub mod Records
 pub mod Roots
 pub mod SameFiles

@@ -20,6 +20,6 @@ returns g c =
     record {
       opened = core_read _ view c.args.disk.now c.open.new.disk c.in_ok-found.found _ _ _ _ _ c.in_ok-found.ensures started.represents
           (λ store represents valid. started.serves (view c.open.new.disk).size store represents valid)
-          started.ids (_, started.known (view c.open.new.disk).content) started.parts;
+          started.whole started.ids (_, started.known (view c.open.new.disk).content) started.parts;
       refused = tt;
     }

@@ -29,7 +29,7 @@ use Rattle.script_lines.specs.ReplyValue.{ReplyValue}
 use Rattle.store_model.specs.Files.{Stored}
 use Rattle.store_model.specs.Image.{Store, IsValidFor, names_of}
 use Rattle.store_model.specs.Indexing.{entries_in, bytes_in_slots}
-use Rattle.store_model.specs.Slots.{free_slots}
+use Rattle.store_model.specs.Slots.{HasKey, free_slots}
 use Rattle.store_state.specs.declared.tables.Tables.{Tables}
 use Rattle.store_state.specs.Invariant.{HoldsPart}
 use Rattle.store_state.specs.Refused.{blames}
@@ -37,7 +37,7 @@ use Rattle.store_state.specs.Settled.{IsSettled}
 use Rattle.store_state.specs.Tables.{Represents}
 use Rattle.recovery.specs.Opening as recovery
 use Rattle.store_core.specs.declared.stop.Stop.{Stop}
-use Rattle.store_core.specs.Core.{Steps}
+use Rattle.store_core.specs.Core.{HasWhole, Steps}
 use Rattle.store_core.specs.Keeping.{IsHeldIn}
 use Rattle.store_core.specs.Opening.{BeginsAt, IsGivenUp, IsKept}
 use Rattle.store_core.specs.Runs.{IsAt}
@@ -78,8 +78,9 @@ module _ (old new : CoreState) (reads : OnlyReads old.disk new.disk) (tables_are
     invariant = λ image told.
         let was = at.invariant image (sym reads.content_is ∙ told) in
         record {
-          index_is_newest = (as_now store at.represents).index_is_newest;
-          pins_are_closed = subst (AllByRecursion (HoldsPart store.held image)) (sym parts_are) was.pins_are_closed;
+          index_is_newest = was.index_is_newest;
+          files_are_indexed = was.files_are_indexed;
+          pins_are_closed = subst (AllByRecursion (HoldsPart (HasKey at.index) store.held image)) (sym parts_are) was.pins_are_closed;
           reserve_holds = was.reserve_holds;
         };
   }
@@ -88,18 +89,26 @@ module _ (old new : CoreState) (reads : OnlyReads old.disk new.disk) (tables_are
   still_begins S stored parts_are begins = record {
     store = begins.store;
     is_at = still_at S begins.store stored parts_are begins.is_at;
+    whole = subst (HasWhole begins.store) (sym index_is) begins.whole;
     last_id_is = ap (λ (tables : Tables). tables.held.last_id) tables_are ∙ begins.last_id_is;
     settled = subst (λ (tables : Tables). IsSettled tables.slots new.disk) (sym tables_are)
         (λ bytes told image there. begins.settled bytes (sym reads.content_is ∙ told) image (reads.images_are image there));
   }
 
   still_held : (seg : KindSegment) → IsHeldIn seg old → IsHeldIn seg new
-  still_held seg held store is =
-      let was = held store (as_before store is) in
-      record { known = (was.known.0, reads.content_is ∙ was.known.1); each = λ image there. was.each image (reads.images_are image there) }
+  still_held seg held = record {
+    indexed = λ index is. held.indexed index (sym index_is ∙ is);
+    newest = λ store is.
+        let was = held.newest store (as_before store is) in
+        record { known = (was.known.0, reads.content_is ∙ was.known.1); each = λ image there. was.each image (reads.images_are image there) };
+  }
 
   still_takes : (rest : List (List ℕ)) (ahead : List Top) → Takes rest ahead old → Takes rest ahead new
-  still_takes rest ahead takes = record { segments = λ store image is told. takes.segments store image (as_before store is) (sym reads.content_is ∙ told) }
+  still_takes rest ahead takes = record {
+    counts = takes.counts;
+    indexed = λ index is. takes.indexed index (sym index_is ∙ is);
+    segments = λ store image is told. takes.segments store image (as_before store is) (sym reads.content_is ∙ told);
+  }
 
 -- ---- what a crash leaves, and what is found
 

@@ -20,6 +20,9 @@ use Rattle.ingest_session.specs.State.{SessionState}
 use Rattle.read_steps.specs.Readers as readers
 use Rattle.read_steps.specs.Readers.{IsReading, reading}
 use Rattle.read_steps.specs.Walking.{IsNextRefusal, SegmentsAhead}
+use Rattle.store_model.specs.Reserve.{key_set, tree_keys}
+use Rattle.store_model.specs.Trees.{file_tree}
+use Rattle.store_model.proofs.Counted.{contained}
 use Rattle.script_lines.specs.Grammar as lines
 use Rattle.script_lines.specs.ReplyValue as replies
 use Rattle.script_lines.specs.ReplyValue.{ReplyValue}
@@ -144,7 +147,8 @@ module _ (C : Type 0) (state : C → CoreState) (among : ByteSet) (distinct : Ha
         let other : finds.0 ≡ bytes = let both = sym finds.1.0 ∙ file.file.filed in cc in
         stepped (lines.Read a name) (replies.Reading b count) a is onward steps.made.effect.disk.faults_are sessions core_idle.0 (Reading _) (reading file.root file.ahead)
         (λ below. ap (λ (parts : List core_part.Part). part_of parts a) file.parts_are ∙ apart.same old.parts a (reading file.root file.ahead) (omega (arith, below, running.up.many)))
-        (onward.takes _ file.ahead (takes_at S running.begins.store m.stored old at m.content follows.content_is _ file.ahead file.file.segments_ahead))
+        (onward.takes _ file.ahead (takes_at S running.begins.store m.stored old at m.content follows.content_is (key_set (tree_keys (file_tree bytes)))
+        (λ key there. (at.invariant m.content follows.content_is).files_are_indexed key (name, (bytes, (file.file.filed, contained key (tree_keys (file_tree bytes)) there)))) _ file.ahead file.file.segments_ahead))
         (same, (idle, (bytes, (file.file.filed, finds.1.1 ∙ ap length other, refl))))
 
     opening : (refusal : Refusal) → RefusesStep a (asked.OpenRead name) refusal (state r.core) (state s.core) → (buf : List ℕ) × Steps (record { actor = a; step = asked.OpenRead name; answer = Err refusal; buf = buf }) (state r.core) (state s.core)
@@ -197,18 +201,21 @@ module _ (C : Type 0) (state : C → CoreState) (among : ByteSet) (distinct : Ha
 
     -- what is answered, by what is held
     held_by : (result : Result (Option ℕ) Refusal) (buf : List ℕ) → GivesHeld result buf a (state r.core) (state s.core)
-        → readers.GivesHeld (run is).begins.store.held m.content a (state r.core).parts (state s.core).parts core_reads.reader.cursor rest buf result
+        → readers.GivesHeld core_reads.takes.counts (run is).begins.store.held m.content a (state r.core).parts (state s.core).parts core_reads.reader.cursor rest buf result
     held_by result buf gives =
         let running = run is in
         let at = running.begins.is_at in
         let cursor = core_reads.reader.cursor in
-        gives core_reads.reader.root cursor running.begins.store.held m.content rest core_reads.part_is (indexed_at S running.begins.store m.stored old at m.content follows.content_is)
+        gives core_reads.reader.root cursor core_reads.takes.counts running.begins.store.held m.content rest core_reads.part_is
+        (indexed_at S running.begins.store m.stored old at m.content follows.content_is core_reads.takes.counts (core_reads.takes.indexed at.index at.index_known))
         (ahead_at S running.begins.store m.stored old at m.content follows.content_is rest cursor core_reads.takes)
 
     -- what is to come of it
-    taken_here : (ahead : List Top) (rest_now : List (List ℕ)) → Onward (IsIn among) m.stored a (state r.core) (state s.core) → SegmentsAhead (run is).begins.store.held m.content ahead rest_now → Takes rest_now ahead (state s.core)
+    taken_here : (ahead : List Top) (rest_now : List (List ℕ)) → Onward (IsIn among) m.stored a (state r.core) (state s.core) → SegmentsAhead core_reads.takes.counts (run is).begins.store.held m.content ahead rest_now → Takes rest_now ahead (state s.core)
     taken_here ahead rest_now onward is_ahead =
-        onward.takes rest_now ahead (takes_at S (run is).begins.store m.stored old (run is).begins.is_at m.content follows.content_is rest_now ahead is_ahead)
+        let at = (run is).begins.is_at in
+        onward.takes rest_now ahead
+        (takes_at S (run is).begins.store m.stored old at m.content follows.content_is core_reads.takes.counts (core_reads.takes.indexed at.index at.index_known) rest_now ahead is_ahead)
 
     -- it goes on with what it had
     reads_on : (line : lines.LineValue) (reply : ReplyValue) (faults : ℕ) → Onward (IsIn among) m.stored a (state r.core) (state s.core) → (state s.core).disk.faults ≡ faults → (core : core_part.Part)
@@ -267,7 +274,7 @@ module _ (C : Type 0) (state : C → CoreState) (among : ByteSet) (distinct : Ha
         let stuck_is : part_of new.parts a ≡ stuck = ap (λ (parts : List core_part.Part). part_of parts a) cause.goes_on.parts_are ∙ apart.same old.parts a stuck below_parts in
         let first = stuck_some old.known old.breaks old.disk new.disk cause.rest refusals.DiskRead cause.refused.cause in
         let same : held.rest ≡ first.0 ∷ first.1.0 = (same_reader held.goes_on.root cause.goes_on.root held.rest cause.rest (sym core_is ∙ stuck_is)).1 ∙ first.1.1 in
-        let some = some_segment running.begins.store.held m.content first.0 first.1.0 rest (subst (λ (tops : List Top). SegmentsAhead running.begins.store.held m.content tops rest) same held.given) in
+        let some = some_segment core_reads.takes.counts running.begins.store.held m.content first.0 first.1.0 rest (subst (λ (tops : List Top). SegmentsAhead core_reads.takes.counts running.begins.store.held m.content tops rest) same held.given) in
         reads_on (lines.Next a) (replies.Refused refusals.DiskRead) new.disk.faults onward refl core core_is (taken_here held.rest rest onward held.given) (
           right_part S m r.sessions old follows running (lines.Next a) admits,
           (reads_first (part_in m a) rest reads some, (subst (λ (faults : ℕ). Rose faults new.disk.faults) follows.faults_are steps.made.effect.disk.faults_are, refl)),

@@ -98,6 +98,7 @@ module _ (C : Type 0) (state : C → CoreState) (among : ByteSet) (apart : HasNo
     begins = record {
       store = next.store;
       is_at = next.is_at;
+      whole = next.whole running.begins.whole;
       last_id_is = last_on store next.store (state old) (state new) stays running.begins.last_id_is f.event.actor f.event.buf f.event.step f.event.answer steps.made.row steps.made.effect steps.stops next.chain;
       settled = stays_settled C state among (f ∷ []) store m.stored old new apart running.begins.is_at running.begins.settled run stays;
     }
@@ -120,7 +121,7 @@ module _ (C : Type 0) (state : C → CoreState) (among : ByteSet) (apart : HasNo
         (keeps_segments C state among (f ∷ []) store m.stored old new apart running.begins.is_at running.begins.settled run stays)
 
     takes : (rest : List (List ℕ)) (ahead : List Top) → Takes rest ahead (state old) → Takes rest ahead (state new)
-    takes = takes_on S store next.store m.stored (stored_by f m.stored) (state old) (state new) running.begins.is_at next.is_at next.copies
+    takes = takes_on S store changes_are m.stored (stored_by f m.stored) (state old) (state new) running.begins.is_at next
 
     other : (actor : ℕ) → actor ≢ f.event.actor → part_of (state new).parts actor ≡ part_of (state old).parts actor
     other actor differs =

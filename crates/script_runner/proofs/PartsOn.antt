@@ -1,6 +1,5 @@
 -- What an actor is at stays as the machine says where a core keeps what is held.
-use Rattle.std.proofs.Common.{◌≡◌, ℕ, Bool, true, false, List, Option, Some, None, option_map, ◌∙◌, ap}
-use Rattle.container_meta.specs.declared.place.Place.{Place}
+use Rattle.std.proofs.Common.{ℕ, Bool, true, false, List, Option, Some, None}
 use Rattle.container_meta.specs.Segments.{KindSegment}
 use Rattle.merkle_file.specs.declared.top.Top.{Top}
 use Rattle.actor_parts.specs.declared.part.Part.TheVariants as core_parts
@@ -11,39 +10,31 @@ use Rattle.ingest_session.specs.State.{SessionState}
 use Rattle.read_steps.proofs.Openings.{segments_on}
 use Rattle.store_model.specs.Files.{Stored}
 use Rattle.store_model.specs.Image.{Store}
-use Rattle.store_model.specs.Slots.{Copy}
-use Rattle.store_model.specs.Steps.{KeepsCopies}
-use Rattle.store_model.specs.Trees.{HasNewest, bytes_at}
-use Rattle.store_model.proofs.Lookups.{finds}
-use Rattle.store_state.specs.Tables.{Represents}
+use Rattle.store_model.specs.Slots.{HasKey}
+use Rattle.store_model.specs.Steps.{StoreChange}
+use Rattle.store_model.proofs.SameIndex.{same_copies}
 use Rattle.store_core.specs.Keeping.{IsHeldIn}
 use Rattle.store_core.specs.Runs.{IsAt}
 use Rattle.store_core.specs.State.{CoreState}
+use Rattle.store_core.proofs.KeepingFiles.{Next}
 use Rattle.plain_machine.specs.Machine.{Part, Idle, Writing, Finished, Reading}
 use Rattle.script_runner.specs.Follows.{FollowsPart, Gives, Takes}
 
--- each store that the tables represent has the newest copy at the same place
-newest_other : (S : List ℕ → Type 0) (s t : Store) (stored : Stored) (c : CoreState) (image key : List ℕ) (level : ℕ) (bytes : List ℕ) → IsAt S s stored c → Represents t c.known c.tables
-    → HasNewest s.held key level bytes image → HasNewest t.held key level bytes image
-newest_other S s t stored c image key level bytes at represents has =
-    let place = at.represents.index_is_newest at.index at.index_known key ∙ ap (option_map (λ (x : Copy). x.place)) has.copy_is in
-    let found = finds t at.index key has.copy.place (represents.index_is_newest at.index at.index_known) place in
-    record {
-      copy = found.0;
-      copy_is = found.1;
-      level_is = ap (λ (p : Place). p.level) found.2 ∙ has.level_is;
-      bytes_are = ap (λ (p : Place). bytes_at p image) found.2 ∙ has.bytes_are;
-    }
-
 -- a file that is taken, where the newest copies stay
-pub takes_on : (S : List ℕ → Type 0) (s t : Store) (stored later : Stored) (old new : CoreState) → IsAt S s stored old → IsAt S t later new
-    → ((before after : List ℕ) → old.disk.content ≡ Some before → new.disk.content ≡ Some after → KeepsCopies s before t after)
+pub takes_on : (S : List ℕ → Type 0) (s : Store) (changes : List StoreChange) (stored later : Stored) (old new : CoreState) → IsAt S s stored old → Next S s changes later old new
     → (rest : List (List ℕ)) (ahead : List Top) → Takes rest ahead old → Takes rest ahead new
-takes_on S s t stored later old new at then copies rest ahead takes = record {
+takes_on S s changes stored later old new at next rest ahead takes = record {
+  counts = takes.counts;
+  indexed = λ index is key there. next.keys at.index index at.index_known is key (takes.indexed at.index at.index_known key there);
   segments = λ store image represents told.
       let before = at.stands.known in
-      segments_on s store before.0 image ahead rest
-      (λ key level bytes has. newest_other S t store later new image key level bytes then represents (copies before.0 image before.1 told key level bytes has)) (takes.segments s before.0 at.represents before.1);
+      let then = next.is_at in
+      segments_on takes.counts s store before.0 image
+      (λ key level bytes there has.
+      let has_key : HasKey at.index key = takes.indexed at.index at.index_known key there in
+      same_copies next.store store then.index image (then.represents.index_is_newest then.index then.index_known) (represents.index_is_newest then.index then.index_known) key level bytes
+      (next.keys at.index then.index at.index_known then.index_known key has_key) (next.copies at.index before.0 image at.index_known before.1 told key level bytes has_key has))
+      ahead rest (takes.segments s before.0 at.represents before.1);
 }
 
 module _ (old new : CoreState) (held : (seg : KindSegment) → IsHeldIn seg old → IsHeldIn seg new) where

@@ -11,6 +11,7 @@ use Rattle.store_model.specs.Standing.{IsStoreOf}
 use Rattle.store_model.specs.Trees.{HasNewest}
 use Rattle.store_model.proofs.Lookups.{lacks}
 use Rattle.ingest_steps.specs.Claiming.{key_of_seg}
+use Rattle.store_core.specs.Core.{HasWhole}
 use Rattle.store_core.specs.Keeping.{IsHeldIn}
 use Rattle.store_core.specs.Runs.{IsAt}
 use Rattle.store_core.specs.State.{CoreState}
@@ -34,10 +35,10 @@ module _ (S : List ℕ → Type 0) (store : Store) (stored : Stored) (c : CoreSt
   pub newest_here : (seg : KindSegment) → IsHeldIn seg c → HasLevel seg → HasNewest store.held (segment_key seg.kind seg.segment) seg.segment.level seg.segment.bytes image
   newest_here seg held level =
       subst (λ (l : ℕ). HasNewest store.held (segment_key seg.kind seg.segment) l seg.segment.bytes image) level
-      ((held store at.represents).each image (c.disk.as_read image content_is))
+      ((held.newest store at.represents).each image (c.disk.as_read image content_is))
 
   pub held_here : (seg : KindSegment) → IsHeldIn seg c → HasLevel seg → Holds image seg
   held_here seg held level = (store, (right_here, newest_here seg held level))
 
-  pub lacked_here : (seg : KindSegment) → ((m : PlaceMap) → c.known ≡ Some m → finite.get m (key_of_seg seg) ≡ None) → Lacks image seg
-  lacked_here seg none = (store, (right_here, lacks store at.index (key_of_seg seg) (at.represents.index_is_newest at.index at.index_known) (none at.index at.index_known)))
+  pub lacked_here : HasWhole store c.known → (seg : KindSegment) → ((m : PlaceMap) → c.known ≡ Some m → finite.get m (key_of_seg seg) ≡ None) → Lacks image seg
+  lacked_here whole seg none = (store, (right_here, lacks store at.index (key_of_seg seg) (whole at.index at.index_known) (none at.index at.index_known)))

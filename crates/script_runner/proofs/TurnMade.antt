@@ -225,7 +225,7 @@ module _ (S : List ℕ → Type 0) (m : Machine) (sessions : Sessions) (actor : 
           let image : List ℕ = leads.content.0 in
           let same : image ≡ m.content = same_some image m.content (sym leads.content.1 ∙ made.made.effect.disk.only.content_is ∙ at.content_is) in
           let begins = at.running.begins in
-          let lacks : Lacks m.content seg = lacked_here S begins.store m.stored old begins.is_at m.content at.content_is seg claimed.looked_up in
+          let lacks : Lacks m.content seg = lacked_here S begins.store m.stored old begins.is_at m.content at.content_is begins.whole seg claimed.looked_up in
           turned answers.Absent t told_is history (asked.Claim seg) buf leads step made.stops refl made.made.effect.disk.faults_are made.counted_is Claim due
           (seg, (offered, lacks, same))
           pins

@@ -3,6 +3,7 @@ use Rattle.std.proofs.Common.{◌≡◌, ◌∙◌, ◌<◌, ◌≤◌, ℕ, tru
 use Rattle.std.proofs.lemmas.List.{take_all}
 use Rattle.std.specs.List.{AllByRecursion}
 use Rattle.disk_format.specs.declared.numbers.TheConstants.{MOST_FILE}
+use Rattle.container_meta.specs.Places.{PlaceMap}
 use Rattle.merkle_file.specs.Form.{ByCount, room_of}
 use Rattle.merkle_file.specs.Tree.{leaves, nodes_of, of_segment, tree_of}
 use Rattle.merkle_file.proofs.TreeLaws.{leaves_are_segments}
@@ -12,7 +13,10 @@ use Rattle.actor_parts.specs.declared.actor.TheConstants.{ACTORS}
 use Rattle.actor_parts.specs.declared.step.Answer.{Answer}
 use Rattle.store_model.specs.Image.{Store}
 use Rattle.store_model.specs.Pieces.{Piece, Data, Node, IsPieceOf, nodes_of_file, piece_segment}
-use Rattle.store_model.specs.Trees.{root_of, file_tree, HoldsTree}
+use Rattle.store_model.specs.Reserve.{AllKeys}
+use Rattle.store_model.specs.Slots.{HasKey}
+use Rattle.store_model.specs.Trees.{root_of, file_tree, leaf_key, node_key, HoldsTree}
+use Rattle.store_model.proofs.TreeKeys.{keys_of_tree}
 use Rattle.store_model.proofs.HeldTrees.{HasLeaf, HasNode, tree_held}
 use Rattle.store_state.specs.Tables.{Represents}
 use Rattle.store_core.specs.Keeping.{IsHeldIn}
@@ -52,14 +56,23 @@ module _ (file : List ℕ) (few : length file ≤ MOST_FILE) (c : CoreState) (he
   tree_here store represents image left =
       tree_held store.held image (file_tree file)
       (subst (AllByRecursion (HasLeaf store.held image)) (sym leaves_are)
-      (all_of (HasLeaf store.held image) (segments_of file) (λ segment is. (held (Data segment) is store represents).each image left)))
+      (all_of (HasLeaf store.held image) (segments_of file) (λ segment is. ((held (Data segment) is).newest store represents).each image left)))
       (subst (AllByRecursion (HasNode store.held image)) (sym nodes_are)
-      (all_of (HasNode store.held image) (nodes_of_file file) (λ n is. (held (Node n) is store represents).each image left)))
+      (all_of (HasNode store.held image) (nodes_of_file file) (λ n is. ((held (Node n) is).newest store represents).each image left)))
+
+  keys_here : (index : PlaceMap) → c.known ≡ Some index → AllKeys (HasKey index) (file_tree file)
+  keys_here index is =
+      keys_of_tree (HasKey index) (file_tree file)
+      (subst (AllByRecursion (λ s. HasKey index (leaf_key s))) (sym leaves_are)
+      (all_of (λ s. HasKey index (leaf_key s)) (segments_of file) (λ segment piece. (held (Data segment) piece).indexed index is)))
+      (subst (AllByRecursion (λ n. HasKey index (node_key n))) (sym nodes_are)
+      (all_of (λ n. HasKey index (node_key n)) (nodes_of_file file) (λ n piece. (held (Node n) piece).indexed index is)))
 
   -- its root is right, where the disk tells its content
   pub right_root : (image : List ℕ) → c.disk.content ≡ Some image → IsRootOf (root_of file) file c
   right_root image told = record {
     root_is = refl;
+    indexed = keys_here;
     tree = λ store represents. record { known = (image, told); each = λ left is. tree_here store represents left is };
   }
 

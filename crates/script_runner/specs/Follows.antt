@@ -20,7 +20,9 @@ use Rattle.script_lines.specs.Grammar.{LineValue}
 use Rattle.script_lines.specs.ReplyValue.{ReplyValue}
 use Rattle.store_model.specs.Collisions.{HasNoCollisions, ByteSet, IsIn, IsOf}
 use Rattle.store_model.specs.Files.{Stored}
+use Rattle.segment_index.specs.Places.{KnownMap}
 use Rattle.store_model.specs.Image.{Store}
+use Rattle.store_model.specs.Slots.{HasKey}
 use Rattle.store_model.specs.Standing.{IsSegmentOf}
 use Rattle.store_state.specs.Tables.{Represents}
 use Rattle.store_core.specs.declared.stop.Stop.{Stop}
@@ -51,10 +53,12 @@ pub record Gives (given : List ℕ) (ended : Bool) (answers_are : List Answer) (
   pub kept : (kind : Kind) (x : Segment) → IsKept history kind x → IsHeldIn (record { kind = kind; segment = x }) c
   pub pinned : (kind : Kind) (x : Segment) → IsKept history kind x → HasPinOf history pins (segment_key kind x)
 
--- A file is taken: these are the segments of what is to come, by the copies that the store has.
+-- A file is taken: these are the segments of what is to come, by the copies that the store has, and the index has their keys.
 pub record Takes (rest : List (List ℕ)) (ahead : List Top) (c : CoreState) : Type 0 where
+  pub counts : ByteSet
+  pub indexed : KnownMap c.known (λ index. (key : List ℕ) → IsIn counts key → HasKey index key)
   pub segments : (store : Store) (image : List ℕ) → Represents store c.known c.tables → c.disk.content ≡ Some image
-      → SegmentsAhead store.held image ahead rest
+      → SegmentsAhead counts store.held image ahead rest
 
 abbrev pub FollowsPart : Part → Option SessionState → core_part.Part → CoreState → Type 0
 FollowsPart Idle None core_parts.Idle c = Unit {0}

@@ -32,10 +32,10 @@ use Rattle.store_model.proofs.FramedTrees.{newest_framed}
 use Rattle.store_model.proofs.HeldSlots.{HasLevel, IsAmongThese, IsNodeEntry, among_so, levels_so, newest_so, nodes_so}
 use Rattle.store_model.proofs.Lookups.{finds}
 use Rattle.store_model.proofs.OneNode.{one_level}
+use Rattle.store_model.proofs.SameIndex.{same_copies}
 use Rattle.store_state.specs.Comparing.{FitsBytes}
 use Rattle.store_state.specs.Refused.{blames}
 use Rattle.store_state.specs.Settled.{IsSettled, KeepsWhatCounts, Left}
-use Rattle.store_state.specs.Tables.{Represents}
 use Rattle.ingest_steps.proofs.HeldPins.{node_of}
 use Rattle.store_core.specs.Core.{Row, ClaimRow, SealRow, Effect, StopsAfter, next_id}
 use Rattle.store_core.specs.Keeping.{kept_by, kept_of, IsHeldIn, KeepsSegments, StaysHeld, StaysSettled}
@@ -62,9 +62,6 @@ all_weaker P Q (x ∷ xs) each all = (each x all.0, all_weaker P Q xs each all.1
 all_two : {A : Type 0} (P Q : A → Type 0) (xs : List A) → AllByRecursion P xs → AllByRecursion Q xs → AllByRecursion (λ x. P x × Q x) xs
 all_two P Q [] first second = tt
 all_two P Q (x ∷ xs) first second = ((first.0, second.0), all_two P Q xs first.1 second.1)
-
-one_copy : (a b : Copy) → Some a ≡ Some b → a ≡ b
-one_copy a b is = cc
 
 -- ---- a segment, beside what an image holds
 
@@ -241,20 +238,6 @@ module _ (among : ByteSet) (distinct : HasNoCollisions (IsIn among)) where
 -- ---- at the end
 
 module _ (S : List ℕ → Type 0) (s : Store) (stored : Stored) (c : CoreState) (at : IsAt S s stored c) (settled : IsSettled c.tables.slots c.disk) where
-  -- each store that the tables represent has the newest copy at the same place
-  newest_other : (t : Store) (key : List ℕ) (level : ℕ) (bytes left : List ℕ) → Represents t c.known c.tables → HasKey at.index key → HasNewest s.held key level bytes left → HasNewest t.held key level bytes left
-  newest_other t key level bytes left represents has_key has =
-      let here = finds s at.index key has_key.0 (at.represents.index_is_newest at.index at.index_known) has_key.1 in
-      let same : has.copy ≡ here.0 = one_copy has.copy here.0 (sym has.copy_is ∙ here.1) in
-      let found = finds t at.index key has_key.0 (represents.index_is_newest at.index at.index_known) has_key.1 in
-      let place : found.0.place ≡ has.copy.place = found.2 ∙ sym here.2 ∙ sym (ap (λ (x : Copy). x.place) same) in
-      record {
-        copy = found.0;
-        copy_is = found.1;
-        level_is = ap (λ (p : Place). p.level) place ∙ has.level_is;
-        bytes_are = ap (λ (p : Place). bytes_at p left) place ∙ has.bytes_are;
-      }
-
   -- what the content holds each image holds
   held_in : (seg : KindSegment) → HoldsSegment at.index s at.stands.known.0 seg → IsHeldIn seg c
   held_in seg has =
@@ -268,7 +251,8 @@ module _ (S : List ℕ → Type 0) (s : Store) (stored : Stored) (c : CoreState)
           known = at.stands.known;
           each = λ left leaves.
               let same = subst (λ (n : ℕ). SameBefore (slot_at n) image left) at.represents.slots_are (settled image here left leaves) in
-              newest_other t key (pin_of seg).level seg.segment.bytes left represents has.0 (newest_framed s image left right same.before key (pin_of seg).level seg.segment.bytes has.1);
+              same_copies s t at.index left (at.represents.index_is_newest at.index at.index_known) (represents.index_is_newest at.index at.index_known) key (pin_of seg).level seg.segment.bytes has.0
+              (newest_framed s image left right same.before key (pin_of seg).level seg.segment.bytes has.1);
         };
       }
 

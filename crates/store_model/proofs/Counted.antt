@@ -1,5 +1,5 @@
 -- Trees that are held, and whose keys count.
-use Rattle.std.proofs.Common.{◌≡◌, ◌⊎◌, inl, inr, ◌<◌, ℕ, zero, suc, Bool, true, false, List, [], ◌∷◌, length, Option, Some, None, arith, refl, sym, ap, subst}
+use Rattle.std.proofs.Common.{◌≡◌, ◌<◌, ℕ, zero, suc, Bool, true, false, List, [], ◌∷◌, length, Option, Some, None, arith, refl, sym, ap, subst}
 use Rattle.std.specs.Prelude.{◌||◌, is_some, slice_index_or}
 use Rattle.std.specs.FinMap as finite
 use Rattle.std.specs.List.{AllByRecursion, Contains}
@@ -20,10 +20,7 @@ use Rattle.store_model.specs.Steps.{KeepsCopies}
 use Rattle.store_model.specs.Trees.{HoldsTree, HoldsTrees, leaf_key, node_key}
 use Rattle.store_model.proofs.FreedTrees.{in_head, in_tail, needed_tree}
 use Rattle.store_model.proofs.Lookups.{indexed_by}
-
-either_part : {A B C : Type 0} → (A → C) → (B → C) → A ⊎ B → C
-either_part f g (inl a) = f a
-either_part f g (inr b) = g b
+use Rattle.store_model.proofs.TreeKeys.{at_head, either_part, none_there}
 
 -- ---- sets of keys
 
@@ -70,23 +67,16 @@ indexed_keys held index all key copy is = in_index index key (indexed_by held in
 -- ---- what is held
 
 module _ (P : List ℕ → Type 0) (held : List (Option HeaderValue)) (image : List ℕ) (each : (key : List ℕ) (copy : Copy) → newest 0 held key ≡ Some copy → P key) where
-  at_head : (top key : List ℕ) (keys : List (List ℕ)) → P top → (Contains keys key → P key) → Contains (top ∷ keys) key → P key
-  at_head top key keys first later there = by_place there.0 there.1 there.2
-    where
-      by_place : (i : ℕ) → i < length (top ∷ keys) → slice_index_or (top ∷ keys) i key ≡ key → P key
-      by_place zero below is = subst P is first
-      by_place (suc i) below is = later (i, omega (arith, below), is)
-
   -- where P holds of each key that has a copy, it does of those of a tree that is held
   mutual
     pub held_keys : (t : Tree (List ℕ)) → HoldsTree held image t → AllKeys P t
-    held_keys tree.Empty holds key there = absurd (omega (arith, there.1))
-    held_keys (tree.Leaf segment) holds key there = at_head (leaf_key segment) key [] (each (leaf_key segment) holds.copy holds.copy_is) (λ none. absurd (omega (arith, none.1))) there
+    held_keys tree.Empty holds key there = none_there P key there
+    held_keys (tree.Leaf segment) holds key there = at_head P (leaf_key segment) key [] (each (leaf_key segment) holds.copy holds.copy_is) (none_there P key) there
     held_keys (tree.Node level ts) holds key there =
-        at_head (node_key (contents_of level ts)) key (keys_below ts) (each (node_key (contents_of level ts)) holds.0.copy holds.0.copy_is) (held_below ts holds.1 key) there
+        at_head P (node_key (contents_of level ts)) key (keys_below ts) (each (node_key (contents_of level ts)) holds.0.copy holds.0.copy_is) (held_below ts holds.1 key) there
 
     held_below : (ts : Trees (List ℕ)) → HoldsTrees held image ts → (key : List ℕ) → Contains (keys_below ts) key → P key
-    held_below tree.NoTree holds key there = absurd (omega (arith, there.1))
+    held_below tree.NoTree holds key there = none_there P key there
     held_below (tree.Then t ts) holds key there =
         either_part (held_keys t holds.0 key) (held_below ts holds.1 key) (Contains-append_cases (tree_keys t) (keys_below ts) key there)
 

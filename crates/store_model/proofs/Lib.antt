@@ -28,8 +28,10 @@ pub mod Reached
 pub mod Records
 pub mod Roots
 pub mod SameFiles
+pub mod SameIndex
 pub mod SealedTrees
 pub mod Sound
 pub mod Spellings
+pub mod TreeKeys
 pub mod Unfolding
 pub mod Valid

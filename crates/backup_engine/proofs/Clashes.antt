@@ -23,13 +23,14 @@ use Rattle.store_model.specs.Collisions.{HasNoCollisions, ByteSet, IsIn, Stands}
 use Rattle.store_model.specs.Files.{Stored}
 use Rattle.store_model.specs.Image.{Store}
 use Rattle.store_model.specs.Pieces.{Piece, Data, Node, IsPieceOf, HasPieceOf, piece_segment}
-use Rattle.store_model.specs.Slots.{Copy, newest}
+use Rattle.store_model.specs.Slots.{HasKey, Copy, newest}
 use Rattle.store_model.specs.Standing.{IsStoreOf}
 use Rattle.store_model.specs.Steps.{KeepsCopies}
 use Rattle.store_model.specs.Trees.{bytes_at, node_key}
 use Rattle.store_model.proofs.Copies.{copy_digest}
 use Rattle.store_model.proofs.Roots.{length_of_copy}
 use Rattle.store_state.specs.Comparing.{FirstDifference, IsUnlike}
+use Rattle.container_meta.specs.Places.{PlaceMap}
 use Rattle.store_core.specs.Core.{Row}
 use Rattle.store_core.specs.Runs.{FileEvent, FileStep, IsAt, stored_by, stored_with}
 use Rattle.store_core.specs.Sound.{MayClash, IsHarmless}
@@ -102,10 +103,11 @@ no_leaf : (kind : Kind) → kind ≡ Leaf → kind ≡ Tree → ⊥
 no_leaf kind leaf tree = let both = sym leaf ∙ tree in cc
 
 -- a node of the file whose key the store has, with other bytes
-record IsTwinOf (given : List ℕ) (store : Store) (image key : List ℕ) (why : Difference) : Type 0 where
+record IsTwinOf (given : List ℕ) (index : PlaceMap) (store : Store) (image key : List ℕ) (why : Difference) : Type 0 where
   pub node : node.Contents
   pub piece : IsPieceOf given (Node node)
   pub key_is : key ≡ node_key node
+  pub indexed : HasKey index (node_key node)
   pub copy : Copy
   pub copy_is : newest 0 store.held (node_key node) ≡ Some copy
   pub digest : sha256 (bytes_at copy.place image) ≡ node_digest node
@@ -128,22 +130,23 @@ module _ (among : ByteSet) (s : Store) (m : Stored) (old new : CoreState) (disti
     had : (difference : Difference) (u : Unlike Tree (spelling n) difference) → HasCopy (newest 0 s.held (node_key n)) u.place
     had difference u =
         copy_placed (newest 0 s.held (node_key n)) u.place
-        (sym (at.represents.index_is_newest at.index at.index_known (node_key n)) ∙ u.there at.index at.index_known)
+        (at.represents.index_is_newest at.index at.index_known (node_key n) u.place (u.there at.index at.index_known))
 
-    twin_by : (difference : Difference) (u : Unlike Tree (spelling n) difference) → key ≡ node_key n → DifferBy difference (spelling n) (bytes_at (had difference u).copy.place image) → IsTwinOf given s image key difference
+    twin_by : (difference : Difference) (u : Unlike Tree (spelling n) difference) → key ≡ node_key n → DifferBy difference (spelling n) (bytes_at (had difference u).copy.place image) → IsTwinOf given at.index s image key difference
     twin_by difference u is differ =
         let c = had difference u in
         record {
           node = n;
           piece = piece;
           key_is = is;
+          indexed = (u.place, u.there at.index at.index_known);
           copy = c.copy;
           copy_is = c.found_is;
           digest = copy_digest s.held 1 (node_digest n) image c.copy stands_here.holds.copies c.found_is;
           differ = differ;
         }
 
-    twin : (difference : Difference) → Unlike Tree (spelling n) difference → IsTwinOf given s image key difference
+    twin : (difference : Difference) → Unlike Tree (spelling n) difference → IsTwinOf given at.index s image key difference
     twin (Length mine other) u =
         let c = had (Length mine other) u in
         let long = length_of_copy s image (node_key n) c.copy stands_here.holds.right c.found_is in
@@ -153,16 +156,16 @@ module _ (among : ByteSet) (s : Store) (m : Stored) (old new : CoreState) (disti
         let first = (shown_content old.disk new.disk _ image u.refused.2.1 here).1 in
         twin_by (Byte place mine other) u u.refused.2.0 (subst (λ (p : Place). FirstDifference (spelling n) (bytes_at p image) place mine other) (sym c.place_is) first)
 
-  twin_of : (p : Piece) → IsPieceOf given p → (piece_segment p).kind ≡ Tree → Unlike (piece_segment p).kind (piece_segment p).segment.bytes why → IsTwinOf given s image key why
+  twin_of : (p : Piece) → IsPieceOf given p → (piece_segment p).kind ≡ Tree → Unlike (piece_segment p).kind (piece_segment p).segment.bytes why → IsTwinOf given at.index s image key why
   twin_of (Data bytes) is tree u = absurd (no_leaf Leaf refl tree)
   twin_of (Node n) is tree u = twin n is why u
 
-  twin_had : (seg : KindSegment) → HasPieceOf given seg → seg.kind ≡ Tree → Unlike seg.kind seg.segment.bytes why → IsTwinOf given s image key why
+  twin_had : (seg : KindSegment) → HasPieceOf given seg → seg.kind ≡ Tree → Unlike seg.kind seg.segment.bytes why → IsTwinOf given at.index s image key why
   twin_had seg (p, is, same) tree u =
       twin_of p is (subst (λ (x : KindSegment). x.kind ≡ Tree) same tree) (subst (λ (x : KindSegment). Unlike x.kind x.segment.bytes why) same u)
 
   -- only a claim or a seal clashes
-  step_twin : (step : StepValue) (actor : ℕ) (buf put : List ℕ) → IsAskedFor name given step put → Row step actor (Err (Clash key why)) buf old new → MayClash step → IsTwinOf given s image key why
+  step_twin : (step : StepValue) (actor : ℕ) (buf put : List ℕ) → IsAskedFor name given step put → Row step actor (Err (Clash key why)) buf old new → MayClash step → IsTwinOf given at.index s image key why
   step_twin (asked.Claim seg) actor buf put is row clash = twin_had seg is clash.0 row.0.1
   step_twin (asked.Seal filled) actor buf put is row clash =
       let first = row.0.2 in
@@ -171,9 +174,9 @@ module _ (among : ByteSet) (s : Store) (m : Stored) (old new : CoreState) (disti
   step_twin step actor buf put is row clash = absurd clash
 
   -- a later store has it, too
-  twin_left : (next : Store) (after : List ℕ) → KeepsCopies s image next after → IsTwinOf given s image key why → HoldsTwin given next after key why
+  twin_left : (next : Store) (after : List ℕ) → KeepsCopies (HasKey at.index) s image next after → IsTwinOf given at.index s image key why → HoldsTwin given next after key why
   twin_left next after copies t =
-      let has = copies (node_key t.node) t.copy.place.level (bytes_at t.copy.place image) (record { copy = t.copy; copy_is = t.copy_is; level_is = refl; bytes_are = refl }) in
+      let has = copies (node_key t.node) t.copy.place.level (bytes_at t.copy.place image) t.indexed (record { copy = t.copy; copy_is = t.copy_is; level_is = refl; bytes_are = refl }) in
       record {
         node = t.node;
         piece = t.piece;
@@ -210,7 +213,7 @@ module _ (among : ByteSet) (distinct : HasNoCollisions (IsIn among)) (name given
           told,
           (
             subst (λ (x : Stored). IsStoreOf next.store x.files after) (same_files (Clash key why) is) holds,
-            twin_left among s m old new distinct at name given key why next.store after (next.copies at.stands.known.0 after at.stands.known.1 told) twin,
+            twin_left among s m old new distinct at name given key why next.store after (next.copies at.index at.stands.known.0 after at.index_known at.stands.known.1 told) twin,
           ),
         ),
       )

@@ -202,7 +202,7 @@ module _ (C : Type 0) (state : C → CoreState) (v w : DiskView) (old new : C) (
           given_back (Some (endings.Refused refusal)) wrote,
           (
             was.opened.told.0,
-            was.opened.represents.index_is_newest was.opened.told.0 was.opened.told.1,
+            was.opened.whole was.opened.told.0 was.opened.told.1,
             next_refused row.cause.goes_on.root row.cause.rest refusal row.cause.goes_on.parts_are row.cause.refused.cause,
           ),
         ))

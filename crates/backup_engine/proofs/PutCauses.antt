@@ -125,7 +125,7 @@ module _ (C : Type 0) (state : C → CoreState) (v w : DiskView) (old new : C) (
     cause_of Memory added are later refuses = tt
     cause_of DiskRead added are later refuses = tt
     cause_of DiskWrite added are later refuses = tt
-    cause_of refusal added are later refuses = inr (added, in_call later refusal added.after (refuses.store_has added.after are.represents are.valid are.reserve))
+    cause_of refusal added are later refuses = inr (added, in_call later refusal added.after (refuses.store_has added.after are.represents are.valid are.reserve are.whole))
 
     -- a name that can be put has room
     has_place : (after : Store) (root : Root) → CanChangeName name (Put root) after → HasNoRoomForName (room_in (Ingest name) after) → ⊥
@@ -146,7 +146,7 @@ module _ (C : Type 0) (state : C → CoreState) (v w : DiskView) (old new : C) (
         later = run_later C state (events_of run.steps) old new run.ran
 
         abbrev added : HasAdded given v w
-        added = has_added given later (seals_of run.steps) puts.after puts.chain (run.adds.store_has store called.opened.represents (on).valid called.opened.reserve)
+        added = has_added given later (seals_of run.steps) puts.after puts.chain (run.adds.store_has store called.opened.represents (on).valid called.opened.reserve called.opened.whole)
 
       stored : (run : PutRun C state name given (Ok tt) old new) → length given ≤ MOST_FILE → HoldsPieces name given (state new) → IsStored name given v w
       stored run few held =

@@ -21,7 +21,7 @@ use Rattle.store_model.specs.Steps.{StoreChange, SealContainer, ChangeName, CanC
 use Rattle.store_state.specs.declared.tables.Tables.{Tables}
 use Rattle.store_state.specs.Tables.{Represents}
 use Rattle.store_core.specs.declared.stop.Stop.{Stop}
-use Rattle.store_core.specs.Core.{CoreStep, Steps, StepsOr, StopsAfter, Row, Effect, Rests, SealsOne, NamesOne, Makes, KeepsTables}
+use Rattle.store_core.specs.Core.{CoreStep, Steps, StepsOr, StopsAfter, Row, Effect, Rests, SealsOne, NamesOne, HasWhole, Makes, KeepsTables}
 use Rattle.store_core.specs.Runs.{ChangesTo, CoreRun, FileEvent, events_of}
 use Rattle.store_core.specs.State.{CoreState, Event}
 use Rattle.backup_engine.specs.Running.{PutRun, EndsPut, IsPutStep, IsAskedFor, IsNoCommit, IsOk, IsDoneBefore, IsLastPut, seal_by, seals_of}
@@ -157,6 +157,7 @@ pub record IsOn (s : Store) (c : CoreState) : Type 0 where
   pub valid : IsValidFor c.disk.size s
   pub reserve : RESERVE ≤ free_slots s.held
   pub told : (places : PlaceMap) × (c.known ≡ Some places)
+  pub whole : HasWhole s c.known
   pub runs : c.stop ≡ None
 
 abbrev pub IsSeal : StoreChange → Type 0
@@ -204,6 +205,7 @@ module _ (s : Store) (old new : CoreState) (on : IsOn s old) (runs : new.stop �
       valid = subst (λ (size : ℕ). IsValidFor size s) (sym effect.disk.only.later.size_is) on.valid;
       reserve = on.reserve;
       told = (on.told.0, effect.tables.index_is ∙ on.told.1);
+      whole = subst (HasWhole s) (sym effect.tables.index_is) on.whole;
       runs = runs;
     };
   }
@@ -220,6 +222,7 @@ module _ (s : Store) (old new : CoreState) (on : IsOn s old) (runs : new.stop �
           valid = made.valid.store_has s on.represents on.valid on.reserve;
           reserve = omega (arith, can.slot, free_with (header_of id filled.kind filled.segments) s.held (omega (arith, can.slot)));
           told = made.tells on.told.0 on.told.1;
+          whole = made.whole.store_has s on.represents on.valid on.reserve on.whole;
           runs = runs;
         };
       }
@@ -279,6 +282,7 @@ pub record AreOf (s : Store) (c : CoreState) : Type 0 where
   pub represents : Represents s c.known c.tables
   pub valid : IsValidFor c.disk.size s
   pub reserve : RESERVE ≤ free_slots s.held
+  pub whole : HasWhole s c.known
 
 -- and so they are at the end, but after a write that failed
 abbrev pub AreUnless : Refusal → Store → CoreState → Type 0
@@ -307,7 +311,7 @@ unless DiskWrite s c are = tt
 unless refusal s c are = are
 
 are_of : (s : Store) (c : CoreState) → IsOn s c → AreOf s c
-are_of s c on = record { represents = on.represents; valid = on.valid; reserve = on.reserve }
+are_of s c on = record { represents = on.represents; valid = on.valid; reserve = on.reserve; whole = on.whole }
 
 module _ (s : Store) (old new : CoreState) (on : IsOn s old) where
   kept : (refusal : Refusal) → KeepsTables old new → IsLater old.disk new.disk → AreUnless refusal s new
@@ -315,6 +319,7 @@ module _ (s : Store) (old new : CoreState) (on : IsOn s old) where
     represents = same_tables s old new tables on.represents;
     valid = subst (λ (size : ℕ). IsValidFor size s) (sym later.size_is) on.valid;
     reserve = on.reserve;
+    whole = subst (HasWhole s) (sym tables.index_is) on.whole;
   })
 
   unsealed : (filled : Contents) (actor : ℕ) (buf : List ℕ) (refusal : Refusal) → Row (asked.Seal filled) actor (Err refusal) buf old new → SealsOne filled (Err refusal) old new → AreUnless refusal s new
@@ -341,7 +346,7 @@ module _ (s : Store) (old new : CoreState) (on : IsOn s old) where
       record {
         root = root;
         can = (made.can.store_has s on.represents on.valid on.reserve).0;
-        are = record { represents = made.represents.store_has s on.represents on.valid on.reserve; valid = made.valid.store_has s on.represents on.valid on.reserve; reserve = on.reserve };
+        are = record { represents = made.represents.store_has s on.represents on.valid on.reserve; valid = made.valid.store_has s on.represents on.valid on.reserve; reserve = on.reserve; whole = made.whole.store_has s on.represents on.valid on.reserve on.whole };
         durable = effect.durable;
       }
 

@@ -22,6 +22,7 @@ use Rattle.store_model.specs.Steps.{with_change}
 use Rattle.store_model.proofs.Once.{store_once}
 use Rattle.store_model.specs.Trees.{root_of}
 use Rattle.store_state.specs.Tables.{Represents}
+use Rattle.store_core.specs.Core.{HasWhole}
 use Rattle.store_core.specs.Runs.{FileRun, IsAt, IsOnTheWay, Reaches, stored_after}
 use Rattle.store_core.specs.State.{CoreState}
 use Rattle.store_core.proofs.Crashes.{last_at, leaves, ends_with_all}
@@ -55,12 +56,12 @@ by_write refusal = inr (λ is. subst IsWrite (sym is) tt)
 
 -- what the store of a map refuses the map refuses, but for a clash
 refuses_by : (name given : List ℕ) (m : Stored) (content : Option (List ℕ)) (disk : DiskView) (t : Store) (c : CoreState) (refusal : Refusal) → Represents t c.known c.tables → room_in (Ingest name) t ≡ room_of (Ingest name) m t
-    → IsValidFor c.disk.size t → RESERVE ≤ free_slots t.held → IsRight given m content refusal → IsPutRefusal name given disk c refusal → RefusesBut name given (room_of (Ingest name) m t) refusal
-refuses_by name given m content disk t c Memory represents same valid reserve right is = tt
-refuses_by name given m content disk t c DiskRead represents same valid reserve right is = tt
-refuses_by name given m content disk t c DiskWrite represents same valid reserve right is = tt
-refuses_by name given m content disk t c (Clash key at) represents same valid reserve right is = tt
-refuses_by name given m content disk t c refusal represents same valid reserve right is = elim (is.store_has t represents valid reserve) [
+    → IsValidFor c.disk.size t → RESERVE ≤ free_slots t.held → HasWhole t c.known → IsRight given m content refusal → IsPutRefusal name given disk c refusal → RefusesBut name given (room_of (Ingest name) m t) refusal
+refuses_by name given m content disk t c Memory represents same valid reserve whole right is = tt
+refuses_by name given m content disk t c DiskRead represents same valid reserve whole right is = tt
+refuses_by name given m content disk t c DiskWrite represents same valid reserve whole right is = tt
+refuses_by name given m content disk t c (Clash key at) represents same valid reserve whole right is = tt
+refuses_by name given m content disk t c refusal represents same valid reserve whole right is = elim (is.store_has t represents valid reserve whole) [
   | inl refuses ↦ subst (λ (room : Room). RefusesIngest name given room refusal) same refuses
   | inr unlike ↦ not_unlike name given m content t (ReadsSince disk c.disk) (room_of (Ingest name) m t) refusal right unlike
 ]
@@ -133,7 +134,7 @@ module _ (C : Type 0) (state : C → CoreState) (v w : DiskView) (old new : C) (
   }
 
   -- where the core runs on
-  reached : (state new).stop ≡ None → Reaches S start.store (stored_after ran.steps m) ran.steps (state new)
+  reached : (state new).stop ≡ None → Reaches S start.store (state old).known (stored_after ran.steps m) ran.steps (state new)
   reached runs = keeps_files C state among ran.steps start.store m old new distinct start.is_at run runs
 
   -- and so the steps added to the store that the content was
@@ -144,7 +145,7 @@ module _ (C : Type 0) (state : C → CoreState) (v w : DiskView) (old new : C) (
       let left : List ℕ = end.is_at.stands.known.0 in
       let here = end.is_at.stands.known.1 in
       let holds = (stands_content (collisions.Stands S end.store (stored_after ran.steps m).files) (state new).disk end.is_at.stands left here).holds in
-      let once : AddsOnce given (seals_of ran.steps) first = ran.adds.store_has first start.is_at.represents start.is_at.valid start.stands.holds.reserve in
+      let once : AddsOnce given (seals_of ran.steps) first = ran.adds.store_has first start.is_at.represents start.is_at.valid start.stands.holds.reserve start.whole in
       subst (λ (s : Store). AddsTo given (put_in name given put) s w.content) (store_once image first store start.stands.holds.right right)
       (adds_to name given ran.steps put first end.store w.content ran.each ran.ends end.chain once (left, was.last.only.content_is ∙ here, holds.right))
 
@@ -162,22 +163,25 @@ module _ (C : Type 0) (state : C → CoreState) (v w : DiskView) (old new : C) (
         refused_on C state among name given distinct ran.steps refusal first.store m old new other was.opened.stop_is first.is_at
         (run C state v w old new was name given (Err refusal) ran among m image told distinct all is) ran.each ran.ends
 
-    at_end : ¬ (refusal ≡ DiskWrite) → (t : Store) × IsAt (IsIn among) t m (state new)
+    at_end : ¬ (refusal ≡ DiskWrite) → (t : Store) × (IsAt (IsIn among) t m (state new) × HasWhole t (state new).known)
     at_end other =
         let end = reached C state v w old new was name given (Err refusal) ran among m image told distinct all is (runs_on other).runs in
-        (end.store, subst (λ (stored : Stored). IsAt (IsIn among) end.store stored (state new)) (maps_after (IsIn among) name given m ran.steps (Err refusal) ran.each ran.ends) end.is_at)
+        (
+          end.store,
+          (subst (λ (stored : Stored). IsAt (IsIn among) end.store stored (state new)) (maps_after (IsIn among) name given m ran.steps (Err refusal) ran.each ran.ends) end.is_at, end.whole first.whole),
+        )
 
     -- what is so of that store
-    store_left : (P : Store → Type 0) → ¬ (refusal ≡ DiskWrite) → ((t : Store) (left : List ℕ) → IsAt (IsIn among) t m (state new) → room_in (Ingest name) t ≡ room_of (Ingest name) m t → RESERVE ≤ free_slots t.held → P t)
+    store_left : (P : Store → Type 0) → ¬ (refusal ≡ DiskWrite) → ((t : Store) (left : List ℕ) → IsAt (IsIn among) t m (state new) → HasWhole t (state new).known → room_in (Ingest name) t ≡ room_of (Ingest name) m t → RESERVE ≤ free_slots t.held → P t)
         → IsLeftWith m w.content P
     store_left P other each =
         let end = at_end other in
-        let at : IsAt (IsIn among) end.0 m (state new) = end.1 in
+        let at : IsAt (IsIn among) end.0 m (state new) = end.1.0 in
         let left : List ℕ = at.stands.known.0 in
         let here = at.stands.known.1 in
         let holds : IsStoreOf end.0 m.files left = (stands_content (collisions.Stands (IsIn among) end.0 m.files) (state new).disk at.stands left here).holds in
         let room = same_room end.0 m left holds (last_at (IsIn among) end.0 m (state new) at) name in
-        (end.0, (left, was.last.only.content_is ∙ here, holds), each end.0 left at room (at.invariant left here).reserve_holds)
+        (end.0, (left, was.last.only.content_is ∙ here, holds), each end.0 left at end.1.1 room (at.invariant left here).reserve_holds)
 
     right : ¬ (refusal ≡ DiskWrite) → IsRight given m w.content refusal
     right other = subst (λ (content : Option (List ℕ)). IsRight given m content refusal) (sym was.last.only.content_is) (runs_on other).right
@@ -187,7 +191,7 @@ module _ (C : Type 0) (state : C → CoreState) (v w : DiskView) (old new : C) (
       | inl write ↦ subst (λ (r : Refusal). EndsBy (Ingest name) given m w.content (Some (Refused r))) (sym write) tt
       | inr other ↦ ends_by name given m w.content refusal (right other)
           (store_left (λ store. RefusesBut name given (room_of (Ingest name) m store) refusal) other
-          (λ t left at room reserve. refuses_by name given m w.content (state old).disk t (state new) refusal at.represents room at.valid reserve (right other) why))
+          (λ t left at whole room reserve. refuses_by name given m w.content (state old).disk t (state new) refusal at.represents room at.valid reserve whole (right other) why))
     ]
 
     not_done : (sink : SinkView) → IsPutRefusal name given (state old).disk (state new) refusal → KeepsMap (IsIn among) (Ingest name) given (Some (Refused refusal)) m v w sink sink
@@ -212,7 +216,7 @@ module _ (C : Type 0) (state : C → CoreState) (v w : DiskView) (old new : C) (
         adds C state v w old new was name given (Err Memory) ran among m image told distinct all is (runs_on C state v w old new was name given Memory ran among m image told distinct all is memory_only).runs
 
     long_left : MOST_FILE < length given → IsLeftWith m w.content (λ store. MOST_FILE < length given)
-    long_left long = store_left C state v w old new was name given Memory ran among m image told distinct all is (λ store. MOST_FILE < length given) memory_only (λ t left at room reserve. long)
+    long_left long = store_left C state v w old new was name given Memory ran among m image told distinct all is (λ store. MOST_FILE < length given) memory_only (λ t left at whole room reserve. long)
 
     stopped_keeps : (ending : Ending) → IsSourceFault source source_now ending → (ending ≡ Refused TooLong → MOST_FILE < length given) → KeepsMap (IsIn among) (Ingest name) given (Some ending) m v w sink sink
     stopped_keeps Source cause long =

@@ -28,6 +28,7 @@ module _ (C : Type 0) (state : C → CoreState) (v w : DiskView) (old new : C) (
     valid = subst (λ (size : ℕ). IsValidFor size store) (sym called.first.only.later.size_is) called.opened.valid;
     reserve = called.opened.reserve;
     told = called.opened.told;
+    whole = called.opened.whole;
     runs = called.opened.stop_is;
   }
 

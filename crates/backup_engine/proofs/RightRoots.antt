@@ -5,6 +5,7 @@ use Rattle.std.proofs.lemmas.List.{take_all}
 use Rattle.std.specs.List.{AllByRecursion}
 use Rattle.disk_format.specs.Cells.{Root}
 use Rattle.disk_format.specs.declared.numbers.TheConstants.{MOST_FILE}
+use Rattle.container_meta.specs.Places.{PlaceMap}
 use Rattle.container_meta.specs.Segments.{KindSegment}
 use Rattle.merkle_file.specs.Form.{ByCount, room_of}
 use Rattle.merkle_file.specs.Node.{Contents}
@@ -14,7 +15,10 @@ use Rattle.segmenter.specs.Segments.{segments_of}
 use Rattle.segmenter.proofs.LengthLemmas.{are_few}
 use Rattle.store_model.specs.Image.{Store}
 use Rattle.store_model.specs.Pieces.{Piece, Data, Node, IsPieceOf, nodes_of_file, piece_segment}
-use Rattle.store_model.specs.Trees.{root_of, file_tree, HoldsTree}
+use Rattle.store_model.specs.Reserve.{AllKeys}
+use Rattle.store_model.specs.Slots.{HasKey}
+use Rattle.store_model.specs.Trees.{root_of, file_tree, leaf_key, node_key, HoldsTree}
+use Rattle.store_model.proofs.TreeKeys.{keys_of_tree}
 use Rattle.store_model.proofs.HeldTrees.{HasLeaf, HasNode, tree_held}
 use Rattle.store_state.specs.Tables.{Represents}
 use Rattle.store_core.specs.Keeping.{IsHeldIn}
@@ -57,16 +61,24 @@ module _ (given : List ℕ) (few : length given ≤ MOST_FILE) where
 
     module _ (t : Store) (represents : Represents t c.known c.tables) (image : List ℕ) (left : c.disk.images image) where
       leaf_held : (index : ℕ) (segment : List ℕ) → slice_get (segments_of given) index ≡ Some segment → HasLeaf t.held image segment
-      leaf_held index segment is = (piece_held (Data segment) (index, is) t represents).each image left
+      leaf_held index segment is = ((piece_held (Data segment) (index, is)).newest t represents).each image left
 
       node_held : (index : ℕ) (n : Contents) → slice_get (nodes_of_file given) index ≡ Some n → HasNode t.held image n
-      node_held index n is = (piece_held (Node n) (index, is) t represents).each image left
+      node_held index n is = ((piece_held (Node n) (index, is)).newest t represents).each image left
 
       file_held : HoldsTree t.held image (file_tree given)
       file_held =
           tree_held t.held image (file_tree given) (subst (AllByRecursion (HasLeaf t.held image)) (sym leaves_are) (all_of (HasLeaf t.held image) (segments_of given) leaf_held))
           (subst (AllByRecursion (HasNode t.held image)) (sym nodes_are) (all_of (HasNode t.held image) (nodes_of_file given) node_held))
 
+    keys_held : (index : PlaceMap) → c.known ≡ Some index → AllKeys (HasKey index) (file_tree given)
+    keys_held index known =
+        keys_of_tree (HasKey index) (file_tree given)
+        (subst (AllByRecursion (λ s. HasKey index (leaf_key s))) (sym leaves_are)
+        (all_of (λ s. HasKey index (leaf_key s)) (segments_of given) (λ number segment is. (piece_held (Data segment) (number, is)).indexed index known)))
+        (subst (AllByRecursion (λ n. HasKey index (node_key n))) (sym nodes_are)
+        (all_of (λ n. HasKey index (node_key n)) (nodes_of_file given) (λ number n is. (piece_held (Node n) (number, is)).indexed index known)))
+
     -- So its root is right, where the disk tells its content.
     pub right_root : (root : Root) → (bytes : List ℕ) × (c.disk.content ≡ Some bytes) → root ≡ root_of given → IsRootOf root given c
-    right_root root told is = record { root_is = is; tree = λ t represents. record { known = told; each = λ image left. file_held t represents image left } }
+    right_root root told is = record { root_is = is; indexed = keys_held; tree = λ t represents. record { known = told; each = λ image left. file_held t represents image left } }

@@ -12,14 +12,16 @@ use Rattle.container_meta.specs.Places.{PlaceMap}
 use Rattle.container_meta.specs.Segments.{Segment, entries_from, segment_key}
 use Rattle.container_meta.specs.Spelling.{HeaderValue, header_of}
 use Rattle.store_model.specs.Image.{Store}
-use Rattle.store_model.specs.Slots.{Copy, IsIndexOf, first_free, ids_of, last_id, newest}
+use Rattle.store_model.specs.Slots.{Copy, HasKey, IsPartialIndexOf, first_free, ids_of, last_id, newest}
 use Rattle.store_model.specs.Steps.{CanSeal, SealContainer, with_sealed}
-use Rattle.store_model.proofs.NewestSealed.{entry_copy, newest_of_entries, newest_of_others}
+use Rattle.store_model.proofs.NewestSealed.{entry_copy, newest_of_entries}
 use Rattle.store_model.proofs.Valid.{last_sealed}
 use Rattle.store_state.specs.Tables.{OfEach, Represents}
 use Rattle.store_core.specs.Core.{Makes, next_id}
 use Rattle.store_core.specs.State.{CoreState, IsUp}
+use Rattle.store_core.proofs.Sealing.{to_entries}
 use Rattle.backup_engine.specs.Putting.{length_in}
+use Rattle.backup_engine.proofs.WayLists.{all_both}
 
 -- ---- from entries to segments
 
@@ -27,10 +29,6 @@ use Rattle.backup_engine.specs.Putting.{length_in}
 by_entries : (P : List ℕ → ℕ → Type 0) (offset : ℕ) (ss : List Segment) → AllByRecursion (λ (e : Entry). P e.digest e.length) (entries_from offset ss) → AllByRecursion (λ (s : Segment). P (sha256 s.bytes) (length s.bytes)) ss
 by_entries P offset [] all = tt
 by_entries P offset (s ∷ ss) all = (all.0, by_entries P (offset + length s.bytes) ss all.1)
-
-to_entries : (P : List ℕ → Type 0) (offset : ℕ) (ss : List Segment) → AllByRecursion (λ (s : Segment). P (sha256 s.bytes)) ss → AllByRecursion (λ (e : Entry). P e.digest) (entries_from offset ss)
-to_entries P offset [] all = tt
-to_entries P offset (s ∷ ss) all = (all.0, to_entries P (offset + length s.bytes) ss all.1)
 
 entries_so : (P Q : Entry → Type 0) (es : List Entry) → ((e : Entry) → P e → Q e) → AllByRecursion P es → AllByRecursion Q es
 entries_so P Q [] each all = tt
@@ -73,27 +71,28 @@ module _ (old new : CoreState) (kind : Kind) (segments : List Segment) (made : M
   pub now_told : (now : PlaceMap) × (new.known ≡ Some now)
   now_told = made.tells places known
 
-  index_after : IsIndexOf after.held now_told.0
+  index_after : IsPartialIndexOf after.held now_told.0
   index_after = represents.index_is_newest now_told.0 now_told.1
 
-  index_before : IsIndexOf store.held places
-  index_before = up.runs.represents.index_is_newest places known
+  -- the index has the key of each entry
+  has_entries : AllByRecursion (λ e. HasKey now_told.0 (key_of (kind_byte kind) e.digest)) (entries_from 0 segments)
+  has_entries = to_entries (λ digest. HasKey now_told.0 (key_of (kind_byte kind) digest)) 0 segments (made.adds_keys places known now_told.0 now_told.1)
 
   -- each of its segments has a place that is as long
   pub sealed_long : AllByRecursion (λ s. length_in now_told.0 (segment_key kind s) ≡ Some (length s.bytes)) segments
   sealed_long =
       by_entries (λ digest long. length_in now_told.0 (key_of (kind_byte kind) digest) ≡ Some long) 0 segments
-      (entries_so (λ e. newest 0 after.held (key_of (kind_byte kind) e.digest) ≡ Some (entry_copy (first_free store.held) (next_id old) e)) (λ e. length_in now_told.0 (key_of (kind_byte kind) e.digest) ≡ Some e.length)
-      (entries_from 0 segments)
-      (λ e found. ap (option_map (λ (p : Place). p.length)) (index_after (key_of (kind_byte kind) e.digest) ∙ ap (option_map (λ (c : Copy). c.place)) found))
-      (newest_of_entries header store.held can.right (omega (arith, can.slot)) can.new_id))
+      (entries_so (λ e. HasKey now_told.0 (key_of (kind_byte kind) e.digest) × (newest 0 after.held (key_of (kind_byte kind) e.digest) ≡ Some (entry_copy (first_free store.held) (next_id old) e)))
+      (λ e. length_in now_told.0 (key_of (kind_byte kind) e.digest) ≡ Some e.length) (entries_from 0 segments)
+      (λ e found.
+      let key : List ℕ = key_of (kind_byte kind) e.digest in
+      ap (option_map (λ (p : Place). p.length)) (found.0.1 ∙ sym (index_after key found.0.0 found.0.1) ∙ ap (option_map (λ (c : Copy). c.place)) found.1))
+      (all_both (λ e. HasKey now_told.0 (key_of (kind_byte kind) e.digest)) (λ e. newest 0 after.held (key_of (kind_byte kind) e.digest) ≡ Some (entry_copy (first_free store.held) (next_id old) e))
+      (entries_from 0 segments) has_entries (newest_of_entries header store.held can.right (omega (arith, can.slot)) can.new_id)))
 
   -- another key has what it had
   pub sealed_others : (key : List ℕ) → AllByRecursion (λ s. segment_key kind s ≢ key) segments → finite.get now_told.0 key ≡ finite.get places key
-  sealed_others key others =
-      index_after key
-      ∙ ap (option_map (λ (c : Copy). c.place)) (newest_of_others header store.held key (omega (arith, can.slot)) (to_entries (λ digest. key_of (kind_byte kind) digest ≢ key) 0 segments others))
-      ∙ sym (index_before key)
+  sealed_others key others = made.keeps_others places known now_told.0 now_told.1 key others
 
   -- the id that was given out is the last of each store
   pub sealed_ids : new.tables.held.last_id ≡ next_id old → OfEach new.disk.size new.known new.tables (λ t. new.tables.held.last_id ≡ last_id t.held)

@@ -14,7 +14,7 @@ use Rattle.refusals.specs.declared.refusal.Refusal.{Refusal}
 use Rattle.refusals.specs.declared.refusal.Refusal.TheVariants as refusals
 use Rattle.store_model.specs.Image.{Store}
 use Rattle.store_model.specs.Pieces.{Piece, Data, Node, HasPieceOf, IsPieceOf, piece_segment}
-use Rattle.store_model.specs.Slots.{Copy, newest, IsIndexOf}
+use Rattle.store_model.specs.Slots.{Copy, newest, IsPartialIndexOf}
 use Rattle.store_model.proofs.Lookups.{finds}
 use Rattle.store_state.specs.Comparing.{IsNodeRefusal, IsUnlike}
 use Rattle.store_state.specs.Tables.{Represents}
@@ -61,7 +61,7 @@ module _ (name file : List ℕ) (first : DiskView) (old new : CoreState) (later 
   IsOther refusal = IsUnlike old.disk.size old.known (Shows old.disk new.disk) seg.kind (sha256 seg.segment.bytes) seg.segment.bytes refusal
 
   module _ (store : Store) (represents : Represents store new.known new.tables) where
-    abbrev index : IsIndexOf store.held places
+    abbrev index : IsPartialIndexOf store.held places
     index = represents.index_is_newest places told
 
     -- the copy of its key has another length
@@ -95,14 +95,14 @@ module _ (name file : List ℕ) (first : DiskView) (old new : CoreState) (later 
   unlike_refused refusals.DiskWrite unlike = tt
   unlike_refused refusals.Memory unlike = tt
   unlike_refused (refusals.Clash key (Length offered held)) unlike = record {
-    store_has = λ store represents valid reserve. let is = clash_by_length store represents key offered held unlike in inl (is.0, is.1, unlike.refused.3);
+    store_has = λ store represents valid reserve whole. let is = clash_by_length store represents key offered held unlike in inl (is.0, is.1, unlike.refused.3);
   }
   unlike_refused (refusals.Clash key (Byte at mine other)) unlike = record {
-    store_has = λ store represents valid reserve.
+    store_has = λ store represents valid reserve whole.
         inr (unlike_node store represents (refusals.Clash key (Byte at mine other)) unlike unlike.refused.0 unlike.refused.1 unlike.refused.2);
   }
   unlike_refused (refusals.Corrupt slot offset count want got) unlike = record {
-    store_has = λ store represents valid reserve.
+    store_has = λ store represents valid reserve whole.
         inr (unlike_node store represents (refusals.Corrupt slot offset count want got) unlike unlike.refused.0 unlike.refused.1 unlike.refused.2);
   }
   unlike_refused refusal unlike = absurd unlike.refused.2

@@ -6,7 +6,9 @@ use Rattle.disk_format.specs.declared.numbers.TheConstants.{MOST_FILE, MOST_NAME
 use Rattle.disk_format.specs.Cells.Change.{Put}
 use Rattle.container_meta.specs.declared.kind.Kind.{Kind}
 use Rattle.container_meta.specs.declared.place.Place.{Place}
+use Rattle.container_meta.specs.Places.{PlaceMap}
 use Rattle.container_meta.specs.Segments.{KindSegment, Segment}
+use Rattle.container_meta.specs.Spelling.{HeaderValue}
 use Rattle.actor_parts.specs.declared.step.Answer.{Answer}
 use Rattle.actor_parts.specs.Kinds.{kind_of}
 use Rattle.actor_parts.specs.Parts.{part_of}
@@ -21,7 +23,7 @@ use Rattle.refusals.specs.declared.refusal.Refusal.TheVariants as refusals
 use Rattle.store_model.specs.Image.{Store, names_of}
 use Rattle.store_model.specs.Pieces.{Piece, IsPieceOf, piece_bytes, piece_key, piece_segment}
 use Rattle.store_model.specs.Refusals.{root_key}
-use Rattle.store_model.specs.Slots.{Copy, IsIndexOf, newest}
+use Rattle.store_model.specs.Slots.{Copy, IsPartialIndexOf, newest}
 use Rattle.store_model.specs.Steps.{ChangeName}
 use Rattle.store_model.specs.Trees.{root_of}
 use Rattle.store_state.specs.Tables.{Represents}
@@ -60,6 +62,15 @@ mapped : (copy : Option Copy) → option_map (λ (c : Copy). c.place.length) cop
 mapped None = refl
 mapped (Some c) = refl
 
+-- a length that the map has is that of the newest copy
+newest_long : (places : PlaceMap) (held : List (Option HeaderValue)) → IsPartialIndexOf held places → (key : List ℕ) (long : ℕ) → length_in places key ≡ Some long
+    → option_map (λ (p : Place). p.length) (option_map (λ (c : Copy). c.place) (newest 0 held key)) ≡ Some long
+newest_long places held index key long is = by_place (finite.get places key) refl is
+  where
+    by_place : (o : Option Place) → finite.get places key ≡ o → option_map (λ (p : Place). p.length) o ≡ Some long → option_map (λ (p : Place). p.length) (option_map (λ (c : Copy). c.place) (newest 0 held key)) ≡ Some long
+    by_place None found is = absurd cc
+    by_place (Some place) found is = ap (option_map (λ (p : Place). p.length)) (index key place found) ∙ is
+
 module _ (C : Type 0) (state : C → CoreState) (files : List ℕ → Type 0) (opens : Kind → List Segment) (start old new : C) (w : Way C state files opens start old) (buf name file : List ℕ) (is : files file) (few : length file ≤ MOST_FILE)
     (whole : (p : Piece) → IsPieceOf file p → IsOneOf (piece_segment p) (kept_of w.steps)) where
   abbrev commit : Result Answer Refusal → FileEvent
@@ -79,20 +90,21 @@ module _ (C : Type 0) (state : C → CoreState) (files : List ℕ → Type 0) (o
       ∙ one_of (λ (x : KindSegment). length_in w.places (key_of_seg x) ≡ Some (length x.segment.bytes)) (kept_of w.steps) (piece_segment p) w.kept.long (whole p piece)
       ∙ ap (λ (n : ℕ). Some n) (long_as_piece p)
 
-  -- by a store whose index this map is
-  has_pieces : (store : Store) → IsIndexOf store.held w.places → HasPieces file (room_in (Ingest name) store)
+  -- by a store for which this map is right
+  has_pieces : (store : Store) → IsPartialIndexOf store.held w.places → HasPieces file (room_in (Ingest name) store)
   has_pieces store index key count piece =
       ap (λ (k : List ℕ). option_map (λ (c : Copy). c.place.length) (newest 0 store.held k)) piece.2
-      ∙ mapped (newest 0 store.held (piece_key piece.0)) ∙ ap (option_map (λ (p : Place). p.length)) (sym (index (piece_key piece.0)))
-      ∙ piece_long piece.0 piece.1 ∙ ap (λ (n : ℕ). Some n) (sym piece.3)
+      ∙ mapped (newest 0 store.held (piece_key piece.0)) ∙ newest_long w.places store.held index (piece_key piece.0) (length (piece_bytes piece.0)) (piece_long piece.0 piece.1)
+      ∙ ap (λ (n : ℕ). Some n) (sym piece.3)
 
   -- a name that is put leaves the index
-  index_put : Makes (ChangeName name (Put (root_of file))) (state old) (state new) → (store : Store) → Represents store (state new).known (state new).tables → IsIndexOf store.held w.places
-  index_put made store represents key =
+  index_put : Makes (ChangeName name (Put (root_of file))) (state old) (state new) → (store : Store) → Represents store (state new).known (state new).tables → IsPartialIndexOf store.held w.places
+  index_put made store represents key place found =
       let runs = w.up.runs in
       let told = made.tells w.places w.known in
       let put = made.represents.store_has runs.store runs.represents runs.valid runs.reserve_holds in
-      runs.represents.index_is_newest w.places w.known key ∙ sym (put.index_is_newest told.0 told.1 key) ∙ represents.index_is_newest told.0 told.1 key
+      let has = made.keeps_keys w.places w.known told.0 told.1 key (place, found) in
+      represents.index_is_newest told.0 told.1 key has.0 has.1 ∙ sym (put.index_is_newest told.0 told.1 key has.0 has.1) ∙ runs.represents.index_is_newest w.places w.known key place found
 
   pub way_commits : (answer : Answer) → CoreStep (state old) (by_first (asked.Commit name (root_of file)) (Ok answer) buf) (state new)
       → PutRun C state name file (Ok tt) start new × HoldsPieces name file (state new)
@@ -146,7 +158,7 @@ module _ (C : Type 0) (state : C → CoreState) (files : List ℕ → Type 0) (o
   commit_cause refusals.DiskRead same cause = tt
   commit_cause refusals.DiskWrite same cause = tt
   commit_cause refusals.Numbers same cause = record {
-    store_has = λ store represents valid reserve.
+    store_has = λ store represents valid reserve whole.
         let may = cause.0.may_name in
         inl (inr (
           record { few = few; pieces = pieces same store represents; named = may.named; place = has_place same store represents may.room },
@@ -154,14 +166,14 @@ module _ (C : Type 0) (state : C → CoreState) (files : List ℕ → Type 0) (o
         ));
   }
   commit_cause refusals.BadName same cause = record {
-    store_has = λ store represents valid reserve. inl (few, pieces same store represents, cause.1);
+    store_has = λ store represents valid reserve whole. inl (few, pieces same store represents, cause.1);
   }
   commit_cause refusals.TooMany same cause = record {
-    store_has = λ store represents valid reserve. inl (few, pieces same store represents, cause.1.0, no_place same store represents cause.1.1);
+    store_has = λ store represents valid reserve whole. inl (few, pieces same store represents, cause.1.0, no_place same store represents cause.1.1);
   }
   commit_cause (refusals.WrongPart kind) same cause = absurd (no_other kinds.Writing (part_of (state old).parts 0) (refusals.WrongPart kind) (ap kind_of w.writing) cause)
   commit_cause (refusals.Unpinned key) same cause = record {
-    store_has = λ store represents valid reserve.
+    store_has = λ store represents valid reserve whole.
         inl (root_twins key (subst (λ (p : PinMap). IsNotStored p (root_of file) key) (same_pins cause.0 w.pins (sym cause.1 ∙ w.writing)) cause.3));
   }
   commit_cause refusal same cause = absurd cause.1

@@ -22,12 +22,11 @@ use Rattle.store_model.specs.Slots.{Copy, IsIndexOf}
 use Rattle.store_model.proofs.Lookups.{lacks}
 use Rattle.store_model.proofs.Sound.{last_within}
 use Rattle.store_state.specs.Comparing.{IsFirstUnlike}
-use Rattle.store_state.specs.Tables.{Represents}
 use Rattle.ingest_steps.specs.Claiming.{DiffersFrom, IsClaimRefusal}
 use Rattle.ingest_steps.specs.Pinning.{first_unpinned_of}
 use Rattle.ingest_steps.specs.SealStep.{IsStepRefusal}
 use Rattle.ingest_steps.proofs.PinList.{all_at}
-use Rattle.store_core.specs.Core.{CoreStep, IsDamage, KeepsTables, KeepsUnlessBroken}
+use Rattle.store_core.specs.Core.{CoreStep, HasWhole, IsDamage, KeepsTables, KeepsUnlessBroken}
 use Rattle.store_core.specs.Keeping.{kept_of}
 use Rattle.store_core.specs.State.{CoreState}
 use Rattle.backup_engine.specs.AnyDisk.{room_in}
@@ -70,7 +69,7 @@ module _ (C : Type 0) (state : C → CoreState) (files : List ℕ → Type 0) (o
     claim_cause refusals.DiskRead same kept cause = tt
     claim_cause refusals.DiskWrite same kept cause = tt
     claim_cause (refusals.WrongPart kind) same kept cause = absurd (no_other kinds.Writing (part_of (state old).parts 0) (refusals.WrongPart kind) (ap kind_of w.writing) cause)
-    claim_cause (refusals.Unpinned key) same kept cause = record { store_has = λ store represents valid reserve. inl (child_unpinned key cause.0 cause.1 cause.2) }
+    claim_cause (refusals.Unpinned key) same kept cause = record { store_has = λ store represents valid reserve whole. inl (child_unpinned key cause.0 cause.1 cause.2) }
     claim_cause (refusals.Damaged at why) same kept cause = absurd (let other = sym w.known ∙ cause.1.0 in cc)
     claim_cause refusal same kept cause =
         unlike_refused name file (state start).disk (state old) (state new) (way_later C state files opens start old w) same w.places w.known (kept.index_is ∙ w.known) seg (piece file is) refusal cause.1
@@ -98,8 +97,8 @@ module _ (C : Type 0) (state : C → CoreState) (files : List ℕ → Type 0) (o
     none_unlike refusal unlike =
         absurd (let both = sym (all_at (λ s. finite.get w.places (segment_key filled.kind s) ≡ None) filled.segments unlike.number unlike.within fresh) ∙ unlike.unlike.there w.places w.known in cc)
 
-    lacks_one : (store : Store) → Represents store (state old).known (state old).tables → LacksPiece file (room_in (Ingest name) store)
-    lacks_one store represents = lacks_first name file filled.kind filled.segments store w.places right.0 (pieces file is) fresh (represents.index_is_newest w.places w.known)
+    lacks_one : (store : Store) → HasWhole store (state old).known → LacksPiece file (room_in (Ingest name) store)
+    lacks_one store whole = lacks_first name file filled.kind filled.segments store w.places right.0 (pieces file is) fresh (whole w.places w.known)
 
     module _ (size_is : (state new).disk.size ≡ (state old).disk.size) where
       seal_cause : (refusal : Refusal) → KeepsUnlessBroken refusal (state old) (state new)
@@ -110,20 +109,20 @@ module _ (C : Type 0) (state : C → CoreState) (files : List ℕ → Type 0) (o
       seal_cause refusals.DiskRead kept cause = tt
       seal_cause refusals.DiskWrite kept cause = tt
       seal_cause (refusals.WrongPart kind) kept cause = absurd (no_other kinds.Writing (part_of (state old).parts 0) (refusals.WrongPart kind) (ap kind_of w.writing) cause)
-      seal_cause (refusals.Unpinned key) kept cause = record { store_has = λ store represents valid reserve. inl (one_unpinned key cause.0 cause.1 cause.2) }
+      seal_cause (refusals.Unpinned key) kept cause = record { store_has = λ store represents valid reserve whole. inl (one_unpinned key cause.0 cause.1 cause.2) }
       seal_cause (refusals.Damaged at why) kept cause = absurd (let other = sym w.known ∙ cause.2 in cc)
       seal_cause (refusals.Full free) kept cause = record {
-        store_has = λ store represents valid reserve.
+        store_has = λ store represents valid reserve whole.
             let before = kept_represents (state old) (state new) kept store represents in
             let so = cause.1.store_has store before (subst (λ (n : ℕ). IsValidFor n store) size_is valid) reserve in
-            inl (lacks_one store before, so.0, so.1);
+            inl (lacks_one store (subst (HasWhole store) kept.index_is whole), so.0, so.1);
       }
       seal_cause refusals.Numbers kept cause = record {
-        store_has = λ store represents valid reserve.
+        store_has = λ store represents valid reserve whole.
             let before = kept_represents (state old) (state new) kept store represents in
             let sized = subst (λ (n : ℕ). IsValidFor n store) size_is valid in
             let so = cause.1.0.store_has store before sized reserve in
-            inl (inl (lacks_one store before, so, omega (arith, last_within store.held valid.headers, w.ids.store_has store before sized reserve, cause.1.1)));
+            inl (inl (lacks_one store (subst (HasWhole store) kept.index_is whole), so, omega (arith, last_within store.held valid.headers, w.ids.store_has store before sized reserve, cause.1.1)));
       }
       seal_cause refusal kept cause = absurd (none_unlike refusal cause.2)
 

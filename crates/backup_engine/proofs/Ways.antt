@@ -19,7 +19,7 @@ use Rattle.store_model.specs.Image.{Store, IsValidFor}
 use Rattle.store_model.specs.Slots.{free_slots, last_id}
 use Rattle.store_model.specs.Steps.{StoreChange}
 use Rattle.store_state.specs.Tables.{Represents, OfEach}
-use Rattle.store_core.specs.Core.{CoreStep}
+use Rattle.store_core.specs.Core.{HasWhole, OfWhole, CoreStep}
 use Rattle.store_core.specs.Keeping.{kept_by, kept_of}
 use Rattle.store_core.specs.Runs.{ChangesTo, CoreRun, FileEvent, events_of}
 use Rattle.store_core.specs.State.{CoreState, Event, IsUp, IsRunning}
@@ -47,10 +47,11 @@ pub record AddsBy (file : List ℕ) (changes : List StoreChange) (s : Store) (c 
   pub represents : Represents after c.known c.tables
   pub valid : IsValidFor c.disk.size after
   pub reserve : RESERVE ≤ free_slots after.held
+  pub whole : HasWhole after c.known
 
--- so it is from each store that the tables represented
+-- so it is from each store that the tables represented, each of whose keys the index had
 abbrev pub AddsFromEach : List ℕ → List StoreChange → CoreState → CoreState → Type 0
-AddsFromEach file changes old new = OfEach old.disk.size old.known old.tables (λ s. AddsBy file changes s new)
+AddsFromEach file changes old new = OfWhole old.disk.size old.known old.tables (λ s. AddsBy file changes s new)
 
 -- what is so of the core where these segments are kept
 pub record Stays (all : List KindSegment) (opens : Kind → List Segment) (c : CoreState) : Type 0 where
@@ -67,13 +68,14 @@ pub record Stays (all : List KindSegment) (opens : Kind → List Segment) (c : C
 -- where nothing changes nothing is added
 pub rests : (file : List ℕ) (old new : CoreState) → Rested old new → AddsFromEach file [] old new
 rests file old new rested = record {
-  store_has = λ s represents valid reserve. record {
+  store_has = λ s represents valid reserve whole. record {
     after = s;
     chain = refl;
     once = tt;
     represents = represents_still old new rested.kept s represents;
     valid = subst (λ (n : ℕ). IsValidFor n s) (sym rested.size_is) valid;
     reserve = reserve;
+    whole = subst (HasWhole s) (sym rested.kept.index_is) whole;
   };
 }
 
@@ -81,7 +83,7 @@ seals_more : (file : List ℕ) (steps : List FileEvent) (f : FileEvent) (s : Sto
     → SealsSo file (steps ++ f ∷ []) s new
 seals_more file steps f s old new before adds =
     let more : List StoreChange = seal_by f.event.step f.event.answer in
-    let next = adds.store_has before.after before.represents before.valid before.reserve in
+    let next = adds.store_has before.after before.represents before.valid before.reserve before.whole in
     record {
       after = next.after;
       chain = subst (λ (l : List StoreChange). ChangesTo l s next.after) (sym (seals_on steps f)) (chain_on (seals_of steps) more s before.after next.after before.chain next.chain);
@@ -89,6 +91,7 @@ seals_more file steps f s old new before adds =
       represents = next.represents;
       valid = next.valid;
       reserve = next.reserve;
+      whole = next.whole;
     }
 
 module _ (C : Type 0) (state : C → CoreState) (files : List ℕ → Type 0) where
@@ -107,8 +110,8 @@ module _ (C : Type 0) (state : C → CoreState) (files : List ℕ → Type 0) wh
         each = λ name file is. (put_step name file asked.Begin (Ok answer) buf [] tt tt, tt);
         done = ((tt, tt), tt);
         seals = λ file is. record {
-          store_has = λ s represents valid reserve.
-              seals_more file [] f s (state old) (state new) (record { after = s; chain = refl; once = tt; represents = represents; valid = valid; reserve = reserve }) (rests file (state old) (state new) rested);
+          store_has = λ s represents valid reserve whole.
+              seals_more file [] f s (state old) (state new) (record { after = s; chain = refl; once = tt; represents = represents; valid = valid; reserve = reserve; whole = whole }) (rests file (state old) (state new) rested);
         };
         up = up_of (state new) runs running;
         runs = runs;
@@ -142,8 +145,8 @@ module _ (C : Type 0) (state : C → CoreState) (files : List ℕ → Type 0) wh
           each = λ name file is. all_on (IsPutStep name file) w.steps (f ∷ []) (w.each name file is) (on.put name file is, tt);
           done = all_on (λ (g : FileEvent). IsDoneBefore g.event) w.steps (f ∷ []) w.done (on.done, tt);
           seals = λ file is. record {
-            store_has = λ s represents valid reserve.
-                seals_more file w.steps f s (state old) (state new) ((w.seals file is).store_has s represents valid reserve) (on.adds file is);
+            store_has = λ s represents valid reserve whole.
+                seals_more file w.steps f s (state old) (state new) ((w.seals file is).store_has s represents valid reserve whole) (on.adds file is);
           };
           up = stays.up;
           runs = stays.runs;
@@ -182,8 +185,8 @@ module _ (C : Type 0) (state : C → CoreState) (files : List ℕ → Type 0) wh
 
     -- ---- the end
 
-    adds_all : (file : List ℕ) → files file → OfEach (state start).disk.size (state start).known (state start).tables (λ s. AddsOnce file (seals_of w.steps) s)
-    adds_all file is = record { store_has = λ s represents valid reserve. ((w.seals file is).store_has s represents valid reserve).once }
+    adds_all : (file : List ℕ) → files file → OfWhole (state start).disk.size (state start).known (state start).tables (λ s. AddsOnce file (seals_of w.steps) s)
+    adds_all file is = record { store_has = λ s represents valid reserve whole. ((w.seals file is).store_has s represents valid reserve whole).once }
 
     pub way_stops : (name file : List ℕ) → files file → PutRun C state name file (Err Memory) start old
     way_stops name file is = record {
@@ -204,7 +207,7 @@ module _ (C : Type 0) (state : C → CoreState) (files : List ℕ → Type 0) wh
       each = all_on (IsPutStep name file) w.steps (f ∷ []) (w.each name file is) (put, tt);
       ends = ends_on w.steps (f ∷ []) result w.done ends;
       whole = whole_on file [] w.steps (f ∷ []) w.done (whole, tt);
-      adds = subst (λ (l : List StoreChange). OfEach (state start).disk.size (state start).known (state start).tables (λ s. AddsOnce file l s)) (sym (seals_then w.steps f none)) (adds_all file is);
+      adds = subst (λ (l : List StoreChange). OfWhole (state start).disk.size (state start).known (state start).tables (λ s. AddsOnce file l s)) (sym (seals_then w.steps f none)) (adds_all file is);
     }
 
     -- ---- the disk

@@ -1,6 +1,7 @@
 -- What a commit or a delete makes of a core.
 use Rattle.std.proofs.Common.{◌≡◌, ◌≤◌, ℕ, List, Option, Some, Ok, sym, ◌∙◌, subst, ap, arith}
 use Rattle.base_model.specs.Known.{Known, KnownWith}
+use Rattle.std.specs.FinMap as finite
 use Rattle.disk_format.specs.Cells.{Change, Root}
 use Rattle.disk_format.specs.Cells.Change.{Delete, Put}
 use Rattle.container_meta.specs.Places.{PlaceMap}
@@ -35,6 +36,7 @@ module _ (old new : CoreState) (name : List ℕ) (change : Change) (sequence : �
     tells = λ places is. (places, index ∙ is);
     keeps_keys = λ before is after after_is key has. subst (λ (m : PlaceMap). HasKey m key) (one_map before after (sym is ∙ sym index ∙ after_is)) has;
     adds_keys = λ before is after after_is. tt;
+    keeps_others = λ before is after after_is key none. ap (λ (m : PlaceMap). finite.get m key) (one_map after before (sym after_is ∙ index ∙ is));
     whole = record { store_has = λ store represents valid reserve whole. subst (HasWhole (with_change name change store)) (sym index) whole };
     runs = λ runs. subst (λ (size : ℕ). Runs size new.known new.tables) (sym later.size_is) (subst (λ (known : Option PlaceMap). Runs old.disk.size known new.tables) (sym index) (named.runs old.disk.size old.known runs));
   }

@@ -1,8 +1,12 @@
 -- What a seal makes of a core.
-use Rattle.std.proofs.Common.{◌≡◌, ℕ, List, Option, Some, None, Ok, Err, refl, sym, ◌∙◌, ap, subst}
+use Rattle.std.proofs.Common.{◌≡◌, ◌≢◌, ◌+◌, ℕ, [], ◌∷◌, length, List, Option, Some, None, Ok, Err, refl, sym, ◌∙◌, ap, subst}
 use Rattle.std.specs.List.{AllByRecursion}
 use Rattle.container_meta.specs.Places.{PlaceMap}
-use Rattle.container_meta.specs.Segments.{Contents, entries_from, segment_key}
+use Rattle.sha2.specs.Sha256.{sha256}
+use Rattle.base_model.specs.Bytes.{key_of}
+use Rattle.container_meta.specs.declared.entry.Entry.{Entry}
+use Rattle.container_meta.specs.Format.{kind_byte}
+use Rattle.container_meta.specs.Segments.{Contents, Segment, entries_from, segment_key}
 use Rattle.dd_disk.specs.View.{IsLater}
 use Rattle.dd_disk.specs.Ending.{Done, ending_of}
 use Rattle.actor_parts.specs.declared.step.Answer.TheVariants as answers
@@ -13,7 +17,9 @@ use Rattle.store_model.specs.Image.{IsValidFor}
 use Rattle.store_model.specs.Indexing.{with_entries}
 use Rattle.store_model.specs.Slots.{HasKey, IsIndexOf, first_free}
 use Rattle.store_model.specs.Steps.{SealContainer, CanSeal, with_sealed}
-use Rattle.store_model.proofs.Indexing.{has_segments, still_has}
+use Rattle.std.specs.FinMap as finite
+use Rattle.store_model.proofs.Indexing.{has_segments, put_none, still_has}
+use Rattle.store_model.proofs.NewestSealed.{none_found}
 use Rattle.store_model.proofs.IndexSize.{index_sealed}
 use Rattle.store_model.proofs.Valid.{valid_sealed}
 use Rattle.store_state.specs.Refused.{blames}
@@ -26,6 +32,11 @@ use Rattle.store_core.specs.State.{CoreState}
 
 pub one_map : (a b : PlaceMap) → Some a ≡ Some b → a ≡ b
 one_map a b is = cc
+
+-- what is so of the digests of segments is so of their entries
+pub to_entries : (P : List ℕ → Type 0) (offset : ℕ) (ss : List Segment) → AllByRecursion (λ (s : Segment). P (sha256 s.bytes)) ss → AllByRecursion (λ (e : Entry). P e.digest) (entries_from offset ss)
+to_entries P offset [] all = tt
+to_entries P offset (s ∷ ss) all = (all.0, to_entries P (offset + length s.bytes) ss all.1)
 
 -- an index that knows its map whatever the disk tells has the places of the container
 pub index_has : (filled : Contents) (slot : ℕ) (before after : Option (List ℕ) → Option PlaceMap) (old new : Option (List ℕ)) (m : PlaceMap) (k : Option PlaceMap) → HasPlacesOf filled slot before after old new
@@ -59,6 +70,12 @@ module _ (old new : CoreState) (filled : Contents) (slot id : ℕ) (has : HasSlo
         subst (λ (x : PlaceMap). HasKey x key) there (still_has filled.kind slot (entries_from 0 filled.segments) m key (subst (λ (x : PlaceMap). HasKey x key) (sym here) had));
     adds_keys = λ before is after after_is.
         subst (λ (x : PlaceMap). AllByRecursion (λ s. HasKey x (segment_key filled.kind s)) filled.segments) (one_map _ after (sym index ∙ after_is)) (has_segments filled.kind slot 0 filled.segments m);
+    keeps_others = λ before is after after_is key none.
+        let here : m ≡ before = one_map m before (sym known ∙ is) in
+        let there : with_entries filled.kind slot (entries_from 0 filled.segments) m ≡ after = one_map _ after (sym index ∙ after_is) in
+        ap (λ (x : PlaceMap). finite.get x key) (sym there)
+        ∙ put_none filled.kind slot (entries_from 0 filled.segments) m key (none_found filled.kind key (entries_from 0 filled.segments) (to_entries (λ digest. key_of (kind_byte filled.kind) digest ≢ key) 0 filled.segments none))
+        ∙ ap (λ (x : PlaceMap). finite.get x key) here;
     whole = record {
       store_has = λ store represents valid reserve whole after after_is.
           let can = subst (λ (n : ℕ). CanSeal n filled.kind filled.segments store) id_is (sealed.can.store_has store represents valid reserve) in

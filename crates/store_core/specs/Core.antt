@@ -1,5 +1,5 @@
 -- What each step makes of the core of a store, what it answers, and why it is refused (docs/MODEL.md, 'The core').
-use Rattle.std.specs.Prelude.{◌≡◌, ℕ, suc, ◌+◌, List, Option, Some, None, Result, Ok, Err, IfErr, OnOk, OnErr}
+use Rattle.std.specs.Prelude.{◌≡◌, ◌≢◌, ℕ, suc, ◌+◌, List, Option, Some, None, Result, Ok, Err, IfErr, OnOk, OnErr}
 use Rattle.std.specs.FinMap as finite
 use Rattle.std.specs.List.{AllByRecursion}
 use Rattle.base_model.specs.Known.{Known, KnownWith}
@@ -36,6 +36,7 @@ use Rattle.store_model.specs.Slots.{HasKey, IsIndexOf}
 use Rattle.store_model.specs.Steps.{AnyKey, StoreChange, SealContainer, ChangeName, CanChange, KeepsCopies, changed}
 use Rattle.store_state.specs.Refused.{blames}
 use Rattle.store_state.specs.Settled as settled
+use Rattle.store_state.specs.declared.tables.Tables.{Tables}
 use Rattle.store_state.specs.Tables.{Represents, Runs, OfEach}
 use Rattle.ingest_steps.specs.Naming.{ChangesName, ChangesJournalAlone, IsDeleteRefusal, MayDelete}
 use Rattle.ingest_steps.specs.declared.claiming.Claimed.{Claimed}
@@ -232,10 +233,19 @@ KeepsUnlessBroken refusal old new = KeepsTables old new
 abbrev pub HasWhole : Store → Option PlaceMap → Type 0
 HasWhole store known = KnownMap known (IsIndexOf store.held)
 
+-- P holds of each store that they represent, where the index has each key that it holds
+abbrev pub OfWhole : ℕ → Option PlaceMap → Tables → (Store → Type 0) → Type 0
+OfWhole size known t P = OfEach size known t (λ store. HasWhole store known → P store)
+
 -- the index has the keys of what a change adds
 abbrev pub HasAdded : StoreChange → PlaceMap → Type 0
 HasAdded (SealContainer id kind segments) index = AllByRecursion (λ s. HasKey index (segment_key kind s)) segments
 HasAdded (ChangeName name change) index = Unit {0}
+
+-- a change adds no copy of this key
+abbrev pub AddsNone : StoreChange → List ℕ → Type 0
+AddsNone (SealContainer id kind segments) key = AllByRecursion (λ s. segment_key kind s ≢ key) segments
+AddsNone (ChangeName name change) key = Unit {0}
 
 -- A change is made: for each store that the tables stood for, tables and index are those of the changed one.
 pub record Makes (change : StoreChange) (old new : CoreState) : Type 0 where
@@ -246,8 +256,11 @@ pub record Makes (change : StoreChange) (old new : CoreState) : Type 0 where
   -- no key leaves the index
   pub keeps_keys : KnownMap old.known (λ before. KnownMap new.known (λ after. (key : List ℕ) → HasKey before key → HasKey after key))
   pub adds_keys : KnownMap old.known (λ _. KnownMap new.known (HasAdded change))
+  -- and no key that the change doesn't add has another place
+  pub keeps_others : KnownMap old.known (λ before. KnownMap new.known (λ after. (key : List ℕ) → AddsNone change key
+      → finite.get after key ≡ finite.get before key))
   -- where it had all that was held, it has all that is
-  pub whole : OfEach old.disk.size old.known old.tables (λ store. HasWhole store old.known → HasWhole (changed change store) new.known)
+  pub whole : OfWhole old.disk.size old.known old.tables (λ store. HasWhole (changed change store) new.known)
   pub runs : Runs old.disk.size old.known old.tables → Runs new.disk.size new.known new.tables
 
 -- nothing changes

@@ -106,7 +106,7 @@ pub entries_found : (h : HeaderValue) → IsHeader h → AllByRecursion (λ e. f
 entries_found h right = each_found h.kind [] h.entries right.entries
 
 -- no entry has the key
-none_found : (kind : Kind) (key : List ℕ) (entries : List Entry) → AllByRecursion (λ e. key_of (kind_byte kind) e.digest ≢ key) entries → find (entry_has kind key) entries ≡ None
+pub none_found : (kind : Kind) (key : List ℕ) (entries : List Entry) → AllByRecursion (λ e. key_of (kind_byte kind) e.digest ≢ key) entries → find (entry_has kind key) entries ≡ None
 none_found kind key [] others = refl
 none_found kind key (x ∷ xs) others =
     ap (λ (b : Bool). cond b (Some x) (find (entry_has kind key) xs)) (by_test (entry_has kind key x) refl) ∙ none_found kind key xs others.1

@@ -165,8 +165,7 @@ module _ (C : Type 0) (state : C → CoreState) (v w : DiskView) (old new : C) (
 
     at_end : ¬ (refusal ≡ DiskWrite) → (t : Store) × (IsAt (IsIn among) t m (state new) × HasWhole t (state new).known)
     at_end other =
-        let end = reached C state v w old new was name given (Err refusal) ran among m image told distinct all is (runs_on other).runs in
-        (
+        let end = reached C state v w old new was name given (Err refusal) ran among m image told distinct all is (runs_on other).runs in (
           end.store,
           (subst (λ (stored : Stored). IsAt (IsIn among) end.store stored (state new)) (maps_after (IsIn among) name given m ran.steps (Err refusal) ran.each ran.ends) end.is_at, end.whole first.whole),
         )

@@ -12,7 +12,6 @@ use Rattle.store_state.specs.Invariant.{HoldsPart}
 
 -- Where the newest copies of the keys of which P holds go on, and Q holds of these.
 module _ (P Q : List ℕ → Type 0) (s t : Store) (old new : List ℕ) (keeps : KeepsCopies P s old t new) (count : (key : List ℕ) → P key → Q key) where
-
   -- what an actor is at
   pub part_kept : (part : Part) → HoldsPart P s.held old part → HoldsPart Q t.held new part
   part_kept Idle holds = tt

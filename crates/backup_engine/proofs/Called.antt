@@ -10,7 +10,7 @@ use Rattle.store_model.specs.Image.{Store}
 use Rattle.store_model.specs.Collisions.{Stands, IsOf}
 use Rattle.store_state.specs.Settled.{IsSettled}
 use Rattle.store_core.specs.Opening.{IsNew}
-use Rattle.store_core.specs.Core.{HasWhole}
+use Rattle.store_core.specs.Core.{IndexesAll}
 use Rattle.store_core.specs.Runs.{IsAt}
 use Rattle.store_core.specs.State.{CoreState, IsRunning}
 use Rattle.store_core.proofs.Opened.{begins_at}
@@ -32,7 +32,7 @@ pub record Starts (S : List ℕ → Type 0) (m : Stored) (image : List ℕ) (c :
   pub is_at : IsAt S store m c
   pub stands : Stands S store m.files image
   pub told : c.disk.content ≡ Some image
-  pub whole : HasWhole store c.known
+  pub whole : IndexesAll store c.known
 
 module _ (C : Type 0) (state : C → CoreState) (v w : DiskView) (old new : C) (was : Called C state v w old new) where
   -- of a disk that tells its content each image is it

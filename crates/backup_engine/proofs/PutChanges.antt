@@ -21,7 +21,7 @@ use Rattle.store_model.specs.Steps.{StoreChange, SealContainer, ChangeName, CanC
 use Rattle.store_state.specs.declared.tables.Tables.{Tables}
 use Rattle.store_state.specs.Tables.{Represents}
 use Rattle.store_core.specs.declared.stop.Stop.{Stop}
-use Rattle.store_core.specs.Core.{CoreStep, Steps, StepsOr, StopsAfter, Row, Effect, Rests, SealsOne, NamesOne, HasWhole, Makes, KeepsTables}
+use Rattle.store_core.specs.Core.{CoreStep, Steps, StepsOr, StopsAfter, Row, Effect, Rests, SealsOne, NamesOne, IndexesAll, Makes, KeepsTables}
 use Rattle.store_core.specs.Runs.{ChangesTo, CoreRun, FileEvent, events_of}
 use Rattle.store_core.specs.State.{CoreState, Event}
 use Rattle.backup_engine.specs.Running.{PutRun, EndsPut, IsPutStep, IsAskedFor, IsNoCommit, IsOk, IsDoneBefore, IsLastPut, seal_by, seals_of}
@@ -157,7 +157,7 @@ pub record IsOn (s : Store) (c : CoreState) : Type 0 where
   pub valid : IsValidFor c.disk.size s
   pub reserve : RESERVE ≤ free_slots s.held
   pub told : (places : PlaceMap) × (c.known ≡ Some places)
-  pub whole : HasWhole s c.known
+  pub whole : IndexesAll s c.known
   pub runs : c.stop ≡ None
 
 abbrev pub IsSeal : StoreChange → Type 0
@@ -205,7 +205,7 @@ module _ (s : Store) (old new : CoreState) (on : IsOn s old) (runs : new.stop �
       valid = subst (λ (size : ℕ). IsValidFor size s) (sym effect.disk.only.later.size_is) on.valid;
       reserve = on.reserve;
       told = (on.told.0, effect.tables.index_is ∙ on.told.1);
-      whole = subst (HasWhole s) (sym effect.tables.index_is) on.whole;
+      whole = subst (IndexesAll s) (sym effect.tables.index_is) on.whole;
       runs = runs;
     };
   }
@@ -282,7 +282,7 @@ pub record AreOf (s : Store) (c : CoreState) : Type 0 where
   pub represents : Represents s c.known c.tables
   pub valid : IsValidFor c.disk.size s
   pub reserve : RESERVE ≤ free_slots s.held
-  pub whole : HasWhole s c.known
+  pub whole : IndexesAll s c.known
 
 -- and so they are at the end, but after a write that failed
 abbrev pub AreUnless : Refusal → Store → CoreState → Type 0
@@ -319,7 +319,7 @@ module _ (s : Store) (old new : CoreState) (on : IsOn s old) where
     represents = same_tables s old new tables on.represents;
     valid = subst (λ (size : ℕ). IsValidFor size s) (sym later.size_is) on.valid;
     reserve = on.reserve;
-    whole = subst (HasWhole s) (sym tables.index_is) on.whole;
+    whole = subst (IndexesAll s) (sym tables.index_is) on.whole;
   })
 
   unsealed : (filled : Contents) (actor : ℕ) (buf : List ℕ) (refusal : Refusal) → Row (asked.Seal filled) actor (Err refusal) buf old new → SealsOne filled (Err refusal) old new → AreUnless refusal s new

@@ -22,7 +22,7 @@ use Rattle.store_model.specs.Steps.{with_change}
 use Rattle.store_model.proofs.Once.{store_once}
 use Rattle.store_model.specs.Trees.{root_of}
 use Rattle.store_state.specs.Tables.{Represents}
-use Rattle.store_core.specs.Core.{HasWhole}
+use Rattle.store_core.specs.Core.{IndexesAll}
 use Rattle.store_core.specs.Runs.{FileRun, IsAt, IsOnTheWay, Reaches, stored_after}
 use Rattle.store_core.specs.State.{CoreState}
 use Rattle.store_core.proofs.Crashes.{last_at, leaves, ends_with_all}
@@ -56,7 +56,7 @@ by_write refusal = inr (λ is. subst IsWrite (sym is) tt)
 
 -- what the store of a map refuses the map refuses, but for a clash
 refuses_by : (name given : List ℕ) (m : Stored) (content : Option (List ℕ)) (disk : DiskView) (t : Store) (c : CoreState) (refusal : Refusal) → Represents t c.known c.tables → room_in (Ingest name) t ≡ room_of (Ingest name) m t
-    → IsValidFor c.disk.size t → RESERVE ≤ free_slots t.held → HasWhole t c.known → IsRight given m content refusal → IsPutRefusal name given disk c refusal → RefusesBut name given (room_of (Ingest name) m t) refusal
+    → IsValidFor c.disk.size t → RESERVE ≤ free_slots t.held → IndexesAll t c.known → IsRight given m content refusal → IsPutRefusal name given disk c refusal → RefusesBut name given (room_of (Ingest name) m t) refusal
 refuses_by name given m content disk t c Memory represents same valid reserve whole right is = tt
 refuses_by name given m content disk t c DiskRead represents same valid reserve whole right is = tt
 refuses_by name given m content disk t c DiskWrite represents same valid reserve whole right is = tt
@@ -163,7 +163,7 @@ module _ (C : Type 0) (state : C → CoreState) (v w : DiskView) (old new : C) (
         refused_on C state among name given distinct ran.steps refusal first.store m old new other was.opened.stop_is first.is_at
         (run C state v w old new was name given (Err refusal) ran among m image told distinct all is) ran.each ran.ends
 
-    at_end : ¬ (refusal ≡ DiskWrite) → (t : Store) × (IsAt (IsIn among) t m (state new) × HasWhole t (state new).known)
+    at_end : ¬ (refusal ≡ DiskWrite) → (t : Store) × (IsAt (IsIn among) t m (state new) × IndexesAll t (state new).known)
     at_end other =
         let end = reached C state v w old new was name given (Err refusal) ran among m image told distinct all is (runs_on other).runs in (
           end.store,
@@ -171,7 +171,7 @@ module _ (C : Type 0) (state : C → CoreState) (v w : DiskView) (old new : C) (
         )
 
     -- what is so of that store
-    store_left : (P : Store → Type 0) → ¬ (refusal ≡ DiskWrite) → ((t : Store) (left : List ℕ) → IsAt (IsIn among) t m (state new) → HasWhole t (state new).known → room_in (Ingest name) t ≡ room_of (Ingest name) m t → RESERVE ≤ free_slots t.held → P t)
+    store_left : (P : Store → Type 0) → ¬ (refusal ≡ DiskWrite) → ((t : Store) (left : List ℕ) → IsAt (IsIn among) t m (state new) → IndexesAll t (state new).known → room_in (Ingest name) t ≡ room_of (Ingest name) m t → RESERVE ≤ free_slots t.held → P t)
         → IsLeftWith m w.content P
     store_left P other each =
         let end = at_end other in

@@ -26,7 +26,7 @@ use Rattle.ingest_steps.specs.Claiming.{DiffersFrom, IsClaimRefusal}
 use Rattle.ingest_steps.specs.Pinning.{first_unpinned_of}
 use Rattle.ingest_steps.specs.SealStep.{IsStepRefusal}
 use Rattle.ingest_steps.proofs.PinList.{all_at}
-use Rattle.store_core.specs.Core.{CoreStep, HasWhole, IsDamage, KeepsTables, KeepsUnlessBroken}
+use Rattle.store_core.specs.Core.{CoreStep, IndexesAll, IsDamage, KeepsTables, KeepsUnlessBroken}
 use Rattle.store_core.specs.Keeping.{kept_of}
 use Rattle.store_core.specs.State.{CoreState}
 use Rattle.backup_engine.specs.AnyDisk.{room_in}
@@ -97,7 +97,7 @@ module _ (C : Type 0) (state : C → CoreState) (files : List ℕ → Type 0) (o
     none_unlike refusal unlike =
         absurd (let both = sym (all_at (λ s. finite.get w.places (segment_key filled.kind s) ≡ None) filled.segments unlike.number unlike.within fresh) ∙ unlike.unlike.there w.places w.known in cc)
 
-    lacks_one : (store : Store) → HasWhole store (state old).known → LacksPiece file (room_in (Ingest name) store)
+    lacks_one : (store : Store) → IndexesAll store (state old).known → LacksPiece file (room_in (Ingest name) store)
     lacks_one store whole = lacks_first name file filled.kind filled.segments store w.places right.0 (pieces file is) fresh (whole w.places w.known)
 
     module _ (size_is : (state new).disk.size ≡ (state old).disk.size) where
@@ -115,14 +115,14 @@ module _ (C : Type 0) (state : C → CoreState) (files : List ℕ → Type 0) (o
         store_has = λ store represents valid reserve whole.
             let before = kept_represents (state old) (state new) kept store represents in
             let so = cause.1.store_has store before (subst (λ (n : ℕ). IsValidFor n store) size_is valid) reserve in
-            inl (lacks_one store (subst (HasWhole store) kept.index_is whole), so.0, so.1);
+            inl (lacks_one store (subst (IndexesAll store) kept.index_is whole), so.0, so.1);
       }
       seal_cause refusals.Numbers kept cause = record {
         store_has = λ store represents valid reserve whole.
             let before = kept_represents (state old) (state new) kept store represents in
             let sized = subst (λ (n : ℕ). IsValidFor n store) size_is valid in
             let so = cause.1.0.store_has store before sized reserve in
-            inl (inl (lacks_one store (subst (HasWhole store) kept.index_is whole), so, omega (arith, last_within store.held valid.headers, w.ids.store_has store before sized reserve, cause.1.1)));
+            inl (inl (lacks_one store (subst (IndexesAll store) kept.index_is whole), so, omega (arith, last_within store.held valid.headers, w.ids.store_has store before sized reserve, cause.1.1)));
       }
       seal_cause refusal kept cause = absurd (none_unlike refusal cause.2)
 

@@ -19,7 +19,7 @@ use Rattle.store_model.specs.Image.{Store, IsValidFor}
 use Rattle.store_model.specs.Slots.{free_slots, last_id}
 use Rattle.store_model.specs.Steps.{StoreChange}
 use Rattle.store_state.specs.Tables.{Represents, OfEach}
-use Rattle.store_core.specs.Core.{HasWhole, OfWhole, CoreStep}
+use Rattle.store_core.specs.Core.{IndexesAll, OfEachIndexed, CoreStep}
 use Rattle.store_core.specs.Keeping.{kept_by, kept_of}
 use Rattle.store_core.specs.Runs.{ChangesTo, CoreRun, FileEvent, events_of}
 use Rattle.store_core.specs.State.{CoreState, Event, IsUp, IsRunning}
@@ -47,11 +47,11 @@ pub record AddsBy (file : List ℕ) (changes : List StoreChange) (s : Store) (c 
   pub represents : Represents after c.known c.tables
   pub valid : IsValidFor c.disk.size after
   pub reserve : RESERVE ≤ free_slots after.held
-  pub whole : HasWhole after c.known
+  pub whole : IndexesAll after c.known
 
 -- so it is from each store that the tables represented, each of whose keys the index had
 abbrev pub AddsFromEach : List ℕ → List StoreChange → CoreState → CoreState → Type 0
-AddsFromEach file changes old new = OfWhole old.disk.size old.known old.tables (λ s. AddsBy file changes s new)
+AddsFromEach file changes old new = OfEachIndexed old.disk.size old.known old.tables (λ s. AddsBy file changes s new)
 
 -- what is so of the core where these segments are kept
 pub record Stays (all : List KindSegment) (opens : Kind → List Segment) (c : CoreState) : Type 0 where
@@ -75,7 +75,7 @@ rests file old new rested = record {
     represents = represents_still old new rested.kept s represents;
     valid = subst (λ (n : ℕ). IsValidFor n s) (sym rested.size_is) valid;
     reserve = reserve;
-    whole = subst (HasWhole s) (sym rested.kept.index_is) whole;
+    whole = subst (IndexesAll s) (sym rested.kept.index_is) whole;
   };
 }
 
@@ -185,7 +185,7 @@ module _ (C : Type 0) (state : C → CoreState) (files : List ℕ → Type 0) wh
 
     -- ---- the end
 
-    adds_all : (file : List ℕ) → files file → OfWhole (state start).disk.size (state start).known (state start).tables (λ s. AddsOnce file (seals_of w.steps) s)
+    adds_all : (file : List ℕ) → files file → OfEachIndexed (state start).disk.size (state start).known (state start).tables (λ s. AddsOnce file (seals_of w.steps) s)
     adds_all file is = record { store_has = λ s represents valid reserve whole. ((w.seals file is).store_has s represents valid reserve whole).once }
 
     pub way_stops : (name file : List ℕ) → files file → PutRun C state name file (Err Memory) start old
@@ -207,7 +207,7 @@ module _ (C : Type 0) (state : C → CoreState) (files : List ℕ → Type 0) wh
       each = all_on (IsPutStep name file) w.steps (f ∷ []) (w.each name file is) (put, tt);
       ends = ends_on w.steps (f ∷ []) result w.done ends;
       whole = whole_on file [] w.steps (f ∷ []) w.done (whole, tt);
-      adds = subst (λ (l : List StoreChange). OfWhole (state start).disk.size (state start).known (state start).tables (λ s. AddsOnce file l s)) (sym (seals_then w.steps f none)) (adds_all file is);
+      adds = subst (λ (l : List StoreChange). OfEachIndexed (state start).disk.size (state start).known (state start).tables (λ s. AddsOnce file l s)) (sym (seals_then w.steps f none)) (adds_all file is);
     }
 
     -- ---- the disk

@@ -14,7 +14,7 @@ use Rattle.store_model.specs.Image.{Store, IsValidFor}
 use Rattle.store_model.specs.Slots.{free_slots, last_id}
 use Rattle.store_state.specs.Tables.{Represents, OfEach}
 use Rattle.ingest_steps.specs.Claiming.{key_of_seg}
-use Rattle.store_core.specs.Core.{HasWhole, OfWhole}
+use Rattle.store_core.specs.Core.{IndexesAll, OfEachIndexed}
 use Rattle.store_core.specs.Keeping.{kept_of}
 use Rattle.store_core.specs.Runs.{ChangesTo, CoreRun, FileEvent, events_of}
 use Rattle.store_core.specs.State.{CoreState, IsUp}
@@ -52,7 +52,7 @@ pub record SealsSo (file : List ℕ) (steps : List FileEvent) (s : Store) (c : C
   pub represents : Represents after c.known c.tables
   pub valid : IsValidFor c.disk.size after
   pub reserve : RESERVE ≤ free_slots after.held
-  pub whole : HasWhole after c.known
+  pub whole : IndexesAll after c.known
 
 -- The steps by which a file is stored, so far. It is one of these files, since not all of its bytes may be known. Each step was
 -- done; the first actor keeps what they kept, and the index has nothing of what is still to be sealed.
@@ -61,7 +61,7 @@ pub record Way (C : Type 0) (state : C → CoreState) (files : List ℕ → Type
   pub ran : CoreRun C state (events_of steps) old new
   pub each : (name file : List ℕ) → files file → AllByRecursion (IsPutStep name file) steps
   pub done : AllByRecursion (λ f. IsDoneBefore f.event) steps
-  pub seals : (file : List ℕ) → files file → OfWhole (state old).disk.size (state old).known (state old).tables (λ s. SealsSo file steps s (state new))
+  pub seals : (file : List ℕ) → files file → OfEachIndexed (state old).disk.size (state old).known (state old).tables (λ s. SealsSo file steps s (state new))
   pub up : IsUp (state new)
   pub runs : (state new).stop ≡ None
   pub pins : PinMap

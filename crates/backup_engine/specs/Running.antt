@@ -23,7 +23,7 @@ use Rattle.store_model.specs.Slots.{last_id}
 use Rattle.store_model.specs.Steps.{StoreChange, SealContainer}
 use Rattle.store_model.specs.Trees.{root_of}
 use Rattle.store_state.specs.Tables.{OfEach}
-use Rattle.store_core.specs.Core.{OfWhole, CoreStep}
+use Rattle.store_core.specs.Core.{OfEachIndexed, CoreStep}
 use Rattle.store_core.specs.Keeping.{kept_by}
 use Rattle.store_core.specs.Runs.{CoreRun, FileEvent, events_of, opens, given_to}
 use Rattle.store_core.specs.State.{CoreState, Event, IsUp}
@@ -116,7 +116,7 @@ pub record PutRun (C : Type 0) (state : C → CoreState) (name bytes : List ℕ)
   pub ends : EndsPut steps result
   pub whole : AreWhole bytes [] steps
   -- what was sealed is of the file, and was not held
-  pub adds : OfWhole (state old).disk.size (state old).known (state old).tables (λ store. AddsOnce bytes (seals_of steps) store)
+  pub adds : OfEachIndexed (state old).disk.size (state old).known (state old).tables (λ store. AddsOnce bytes (seals_of steps) store)
 
 -- why the file wasn't stored, by each store that the tables represent at the end, each of whose keys the index has, and by what reads
 -- returned since a moment
@@ -125,7 +125,7 @@ IsPutRefusal name bytes disk c Memory = Unit {0}
 IsPutRefusal name bytes disk c DiskRead = Unit {0}
 IsPutRefusal name bytes disk c DiskWrite = Unit {0}
 IsPutRefusal name bytes disk c refusal =
-    OfWhole c.disk.size c.known c.tables (λ store. RefusesIngest name bytes (room_in (Ingest name) store) refusal
+    OfEachIndexed c.disk.size c.known c.tables (λ store. RefusesIngest name bytes (room_in (Ingest name) store) refusal
     ⊎ IsUnlikeNode bytes store (ReadsSince disk c.disk) refusal)
 
 -- each piece of a file is held, by each store that the tables represent

@@ -37,7 +37,7 @@ use Rattle.store_state.specs.Settled.{IsSettled}
 use Rattle.store_state.specs.Tables.{Represents}
 use Rattle.recovery.specs.Opening as recovery
 use Rattle.store_core.specs.declared.stop.Stop.{Stop}
-use Rattle.store_core.specs.Core.{HasWhole, Steps}
+use Rattle.store_core.specs.Core.{IndexesAll, Steps}
 use Rattle.store_core.specs.Keeping.{IsHeldIn}
 use Rattle.store_core.specs.Opening.{BeginsAt, IsGivenUp, IsKept}
 use Rattle.store_core.specs.Runs.{IsAt}
@@ -89,7 +89,7 @@ module _ (old new : CoreState) (reads : OnlyReads old.disk new.disk) (tables_are
   still_begins S stored parts_are begins = record {
     store = begins.store;
     is_at = still_at S begins.store stored parts_are begins.is_at;
-    whole = subst (HasWhole begins.store) (sym index_is) begins.whole;
+    whole = subst (IndexesAll begins.store) (sym index_is) begins.whole;
     last_id_is = ap (λ (tables : Tables). tables.held.last_id) tables_are ∙ begins.last_id_is;
     settled = subst (λ (tables : Tables). IsSettled tables.slots new.disk) (sym tables_are)
         (λ bytes told image there. begins.settled bytes (sym reads.content_is ∙ told) image (reads.images_are image there));

@@ -11,7 +11,7 @@ use Rattle.store_model.specs.Standing.{IsStoreOf}
 use Rattle.store_model.specs.Trees.{HasNewest}
 use Rattle.store_model.proofs.Lookups.{lacks}
 use Rattle.ingest_steps.specs.Claiming.{key_of_seg}
-use Rattle.store_core.specs.Core.{HasWhole}
+use Rattle.store_core.specs.Core.{IndexesAll}
 use Rattle.store_core.specs.Keeping.{IsHeldIn}
 use Rattle.store_core.specs.Runs.{IsAt}
 use Rattle.store_core.specs.State.{CoreState}
@@ -40,5 +40,5 @@ module _ (S : List ℕ → Type 0) (store : Store) (stored : Stored) (c : CoreSt
   pub held_here : (seg : KindSegment) → IsHeldIn seg c → HasLevel seg → Holds image seg
   held_here seg held level = (store, (right_here, newest_here seg held level))
 
-  pub lacked_here : HasWhole store c.known → (seg : KindSegment) → ((m : PlaceMap) → c.known ≡ Some m → finite.get m (key_of_seg seg) ≡ None) → Lacks image seg
+  pub lacked_here : IndexesAll store c.known → (seg : KindSegment) → ((m : PlaceMap) → c.known ≡ Some m → finite.get m (key_of_seg seg) ≡ None) → Lacks image seg
   lacked_here whole seg none = (store, (right_here, lacks store at.index (key_of_seg seg) (whole at.index at.index_known) (none at.index at.index_known)))

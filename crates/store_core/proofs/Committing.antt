@@ -23,7 +23,7 @@ use Rattle.ingest_steps.specs.Recording.{KeepsButRecord}
 use Rattle.ingest_steps.proofs.RecordFrames.{record_alone}
 use Rattle.ingest_steps.specs.Writers.{IsCommitted}
 use Rattle.read_steps.specs.Readers as readers
-use Rattle.store_core.specs.Core.{HasWhole, Makes, Made, NamesOne, GivesHeld}
+use Rattle.store_core.specs.Core.{IndexesAll, Makes, Made, NamesOne, GivesHeld}
 use Rattle.store_core.specs.State.{CoreState}
 use Rattle.store_core.proofs.Sealing.{one_map}
 
@@ -37,7 +37,7 @@ module _ (old new : CoreState) (name : List ℕ) (change : Change) (sequence : �
     keeps_keys = λ before is after after_is key has. subst (λ (m : PlaceMap). HasKey m key) (one_map before after (sym is ∙ sym index ∙ after_is)) has;
     adds_keys = λ before is after after_is. tt;
     keeps_others = λ before is after after_is key none. ap (λ (m : PlaceMap). finite.get m key) (one_map after before (sym after_is ∙ index ∙ is));
-    whole = record { store_has = λ store represents valid reserve whole. subst (HasWhole (with_change name change store)) (sym index) whole };
+    whole = record { store_has = λ store represents valid reserve whole. subst (IndexesAll (with_change name change store)) (sym index) whole };
     runs = λ runs. subst (λ (size : ℕ). Runs size new.known new.tables) (sym later.size_is) (subst (λ (known : Option PlaceMap). Runs old.disk.size known new.tables) (sym index) (named.runs old.disk.size old.known runs));
   }
 

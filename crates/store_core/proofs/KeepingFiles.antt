@@ -37,7 +37,7 @@ use Rattle.store_model.proofs.NameChanges.{last_changed}
 use Rattle.store_state.proofs.Parts.{part_kept, parts_kept}
 use Rattle.ingest_steps.specs.Sealing.{KeepsHeld, sealing_indexed}
 use Rattle.store_core.specs.declared.stop.Stop.{Stop}
-use Rattle.store_core.specs.Core.{HasWhole, Row, Effect, Rests, SealsOne, Makes, KeepsTables, KeepsUnlessBroken, StopsAfter, StepsOr, next_id}
+use Rattle.store_core.specs.Core.{IndexesAll, Row, Effect, Rests, SealsOne, Makes, KeepsTables, KeepsUnlessBroken, StopsAfter, StepsOr, next_id}
 use Rattle.store_core.specs.Runs.{FileEvent, FileStep, FileRun, IsAt, ChangesTo, changes_by, changes_of, events_of, KeepsFiles, IsGivenRight, stored_with, stored_by}
 use Rattle.store_core.specs.State.{CoreState}
 use Rattle.store_core.proofs.CoreRuns.{runs_before, core_run}
@@ -52,7 +52,7 @@ pub record Next (S : List ℕ → Type 0) (s : Store) (changes : List StoreChang
   -- what the index had it has, and its newest copies go on
   pub keys : (first then : PlaceMap) → old.known ≡ Some first → new.known ≡ Some then → (key : List ℕ) → HasKey first key → HasKey then key
   pub copies : (first : PlaceMap) (before after : List ℕ) → old.known ≡ Some first → old.disk.content ≡ Some before → new.disk.content ≡ Some after → KeepsCopies (HasKey first) s before store after
-  pub whole : HasWhole s old.known → HasWhole store new.known
+  pub whole : IndexesAll s old.known → IndexesAll store new.known
 
 one_some : {A : Type 0} (x y : A) → Some x ≡ Some y → x ≡ y
 one_some x y same = cc
@@ -110,8 +110,8 @@ module _ (among : ByteSet) (s : Store) (stored : Stored) (old new : CoreState) (
   kept_keys : KeepsTables old new → (first then : PlaceMap) → old.known ≡ Some first → new.known ≡ Some then → (key : List ℕ) → HasKey first key → HasKey then key
   kept_keys kept first then is after key has = subst (λ (m : PlaceMap). HasKey m key) (one_some first then (sym is ∙ sym kept.index_is ∙ after)) has
 
-  kept_whole : KeepsTables old new → HasWhole s old.known → HasWhole s new.known
-  kept_whole kept whole = subst (HasWhole s) (sym kept.index_is) whole
+  kept_whole : KeepsTables old new → IndexesAll s old.known → IndexesAll s new.known
+  kept_whole kept whole = subst (IndexesAll s) (sym kept.index_is) whole
 
   same_tables : KeepsTables old new → Represents s new.known new.tables
   same_tables kept =
@@ -391,7 +391,7 @@ module _ (C : Type 0) (state : C → CoreState) where
     store = s;
     chain = refl;
     is_at = subst (λ (c : C). IsAt (IsIn among) s stored (state c)) (sym run) at;
-    whole = subst (λ (c : C). HasWhole s (state old).known → HasWhole s (state c).known) (sym run) (λ whole. whole);
+    whole = subst (λ (c : C). IndexesAll s (state old).known → IndexesAll s (state c).known) (sym run) (λ whole. whole);
   }
   keeps_files among (f ∷ fs) s stored old new distinct at run stays =
       let next = file_step among distinct f s stored (state old) (state run.0) run.1.0 at (run_running C state among fs run.0 new run.1.1 stays) in

@@ -31,13 +31,13 @@ use Rattle.store_state.specs.Settled.{IsSettled}
 use Rattle.store_state.specs.State as opened
 use Rattle.store_state.specs.Tables.{Represents, Runs}
 use Rattle.store_core.specs.declared.stop.Stop.{Stop}
-use Rattle.store_core.specs.Core.{HasWhole}
+use Rattle.store_core.specs.Core.{IndexesAll}
 use Rattle.store_core.specs.Opening.{IsNew, IsKept, BeginsAt, IsNewAt, IsNotRead, IsReadFrom, OpensCore, OpensNone}
 use Rattle.store_core.specs.State.{CoreState, IsUp, UnlessStopped, IsRunning}
 
 pub new_core : (shown : (List ℕ → Type 0) → Type 0) (size : ℕ) (o : OpenStore) (c : CoreState) → IsOpened shown size o → c.disk.size ≡ size
     → ((store : Store) → opened.Represents store o → Represents store c.known c.tables) → ((store : Store) → opened.Represents store o → IsValidFor size store → c.served)
-    → ((store : Store) → opened.Represents store o → HasWhole store c.known) → c.tables.held.last_id ≡ o.containers.last_id → ((places : PlaceMap) × (c.known ≡ Some places)) → c.parts ≡ replicate ACTORS Idle → c.stop ≡ None → c.acknowledged ≡ 0 → IsNew shown size c
+    → ((store : Store) → opened.Represents store o → IndexesAll store c.known) → c.tables.held.last_id ≡ o.containers.last_id → ((places : PlaceMap) × (c.known ≡ Some places)) → c.parts ≡ replicate ACTORS Idle → c.stop ≡ None → c.acknowledged ≡ 0 → IsNew shown size c
 new_core shown size o c is same represents serves whole last told parts stop count = record {
   store = is.found.store;
   right = is.found.right;
@@ -66,7 +66,7 @@ module _ (D : Type 0) (view : D → DiskView) (old new : D) where
   read_core : (found : OpenStore) (tables : Tables) (known : Option PlaceMap) (served : Type 0) (breaks : ℕ → Why → List ℕ → Type 0) (parts : List Part)
       → ((store : Store) → opened.Represents store found → Represents store known tables)
       → ((store : Store) → opened.Represents store found → IsValidFor (view new).size store → served)
-      → ((store : Store) → opened.Represents store found → HasWhole store known)
+      → ((store : Store) → opened.Represents store found → IndexesAll store known)
       → tables.held.last_id ≡ found.containers.last_id → ((places : PlaceMap) × (known ≡ Some places)) → parts ≡ replicate ACTORS Idle
       → (mid : D) → ReadsStore (Ok found) (view mid) (view new)
       → IsReadFrom (view mid) (record { disk = view new; tables = tables; known = known; served = served; breaks = breaks; parts = parts; stop = None; acknowledged = 0 })
@@ -84,7 +84,7 @@ module _ (D : Type 0) (view : D → DiskView) (old new : D) where
       → Opening D view (Ok found) old new
       → ((store : Store) → opened.Represents store found → Represents store known tables)
       → ((store : Store) → opened.Represents store found → IsValidFor (view new).size store → served)
-      → ((store : Store) → opened.Represents store found → HasWhole store known)
+      → ((store : Store) → opened.Represents store found → IndexesAll store known)
       → tables.held.last_id ≡ found.containers.last_id → ((places : PlaceMap) × (known ≡ Some places)) → parts ≡ replicate ACTORS Idle
       → OpensCore D view (view old) (record { disk = view new; tables = tables; known = known; served = served; breaks = breaks; parts = parts; stop = None; acknowledged = 0 })
   core_read found tables known served breaks parts (inl is) represents serves whole last told are =
@@ -168,7 +168,7 @@ begins_at S stored image v c new durable reads told is =
     let same : new.store ≡ is.0 = store_once image new.store is.0 (shown_content v c.disk (λ bytes. Encodes bytes new.store) image new.right told) stands.holds.right in
     let represents : Represents is.0 c.known c.tables = subst (λ (store : Store). Represents store c.known c.tables) same new.represents in
     let here : c.disk.content ≡ Some image = reads.only.content_is ∙ told in
-    let whole : HasWhole is.0 c.known = subst (λ (store : Store). HasWhole store c.known) same new.whole in
+    let whole : IndexesAll is.0 c.known = subst (λ (store : Store). IndexesAll store c.known) same new.whole in
     let files_indexed : IndexesFiles new.told.0 stored.files =
     reached_held (HasKey new.told.0) is.0 stored.files image stands.holds.files_are (indexed_by is.0.held new.told.0 (whole new.told.0 new.told.1)) in
     record {

@@ -1,5 +1,5 @@
 -- What the actor of a step is at afterwards is held.
-use Rattle.std.proofs.Common.{◌≡◌, ℕ, zero, suc, List, [], ◌∷◌, Some, None, Result, Ok, Err, refl, sym, ◌∙◌, ap, subst}
+use Rattle.std.proofs.Common.{◌≡◌, ◌≤◌, ℕ, zero, suc, List, [], ◌∷◌, length, Some, None, Result, Ok, Err, refl, sym, ◌∙◌, ap, subst}
 use Rattle.std.specs.FinMap as finite
 use Rattle.std.specs.Ordering.{nat_cmp}
 use Rattle.std.specs.Cmp.Lexicographic.{slice_cmp}
@@ -22,6 +22,10 @@ use Rattle.read_steps.specs.Walking.{IsIndexed, SegmentsAhead, IsHeldAnswer}
 use Rattle.store_model.specs.Collisions.{HasNoCollisions, ByteSet, IsIn, IsAmong, Stands}
 use Rattle.store_model.specs.Files.{Files}
 use Rattle.store_model.specs.Image.{Store, names_of}
+use Rattle.disk_format.specs.declared.numbers.TheConstants.{MOST_FILE}
+use Rattle.store_model.proofs.SameFiles.{FitsFile, files_fit}
+use Rattle.store_model.proofs.Unfolding.{root_of_tree}
+use Rattle.read_steps.specs.Opening.{top_of}
 use Rattle.store_model.specs.Reserve.{key_set, tree_keys}
 use Rattle.store_model.specs.Slots.{HasKey, IsPartialIndexOf}
 use Rattle.store_model.specs.Trees.{file_tree}
@@ -105,10 +109,11 @@ module _ (among : ByteSet) (store : Store) (files : Files) (image : List ℕ) (p
   pub own_open : (name : List ℕ) (answer : Result Answer Refusal) → OpenRow name actor answer old new → Own
   own_open name (Ok (answers.Opened count)) row =
       let file = row.file store files image names stands.holds in
+      let few : length file.file.bytes ≤ MOST_FILE = subst FitsFile file.file.filed (files_fit store files image stands.holds name) in
       own_one (readers.reading file.root file.ahead) file.parts_are (record {
         whole = file_tree file.file.bytes;
-        level_is = ap (λ (r : Root). r.level) file.file.root_is;
-        digest_is = ap (λ (r : Root). r.digest) file.file.root_is;
+        right = file.file.held_ahead.trees.each;
+        top_is = ap top_of (file.file.root_is ∙ root_of_tree file.file.bytes few);
         is_held = record { tree_is_held = file.file.tree_is_held; count = λ key there. files_indexed key (name, (file.file.bytes, (file.file.filed, there))) };
         trees = _;
         ahead = file.file.held_ahead.trees;
@@ -143,8 +148,8 @@ module _ (among : ByteSet) (store : Store) (files : Files) (image : List ℕ) (p
   rest_on : (root other : Root) (was ahead : List Top) (rest : Rest root was) (segments : List (List ℕ)) → root ≡ other → SegmentsAhead (keys_of rest.whole) store.held image ahead segments → Holds (readers.reading other ahead)
   rest_on root other was ahead rest segments same is = record {
     whole = rest.whole;
-    level_is = ap (λ (r : Root). r.level) (sym same) ∙ rest.level_is;
-    digest_is = ap (λ (r : Root). r.digest) (sym same) ∙ rest.digest_is;
+    right = rest.right;
+    top_is = ap top_of (sym same) ∙ rest.top_is;
     is_held = rest.is_held;
     trees = is.trees;
     ahead = is.held_ahead.trees;

@@ -230,17 +230,17 @@ KeepsUnlessBroken (refusals.Damaged at why) old new = new.tables ≡ old.tables
 KeepsUnlessBroken refusal old new = KeepsTables old new
 
 -- the index, where its map is known, gives each key that the store holds its newest copy, and no other key one
-abbrev pub HasWhole : Store → Option PlaceMap → Type 0
-HasWhole store known = KnownMap known (IsIndexOf store.held)
+abbrev pub IndexesAll : Store → Option PlaceMap → Type 0
+IndexesAll store known = KnownMap known (IsIndexOf store.held)
 
 -- P holds of each store that they represent, where the index has each key that it holds
-abbrev pub OfWhole : ℕ → Option PlaceMap → Tables → (Store → Type 0) → Type 0
-OfWhole size known t P = OfEach size known t (λ store. HasWhole store known → P store)
+abbrev pub OfEachIndexed : ℕ → Option PlaceMap → Tables → (Store → Type 0) → Type 0
+OfEachIndexed size known t P = OfEach size known t (λ store. IndexesAll store known → P store)
 
 -- the index has the keys of what a change adds
-abbrev pub HasAdded : StoreChange → PlaceMap → Type 0
-HasAdded (SealContainer id kind segments) index = AllByRecursion (λ s. HasKey index (segment_key kind s)) segments
-HasAdded (ChangeName name change) index = Unit {0}
+abbrev pub IndexesAdded : StoreChange → PlaceMap → Type 0
+IndexesAdded (SealContainer id kind segments) index = AllByRecursion (λ s. HasKey index (segment_key kind s)) segments
+IndexesAdded (ChangeName name change) index = Unit {0}
 
 -- a change adds no copy of this key
 abbrev pub AddsNone : StoreChange → List ℕ → Type 0
@@ -255,12 +255,12 @@ pub record Makes (change : StoreChange) (old new : CoreState) : Type 0 where
   pub tells : KnownMap old.known (λ _. (places : PlaceMap) × (new.known ≡ Some places))
   -- no key leaves the index
   pub keeps_keys : KnownMap old.known (λ before. KnownMap new.known (λ after. (key : List ℕ) → HasKey before key → HasKey after key))
-  pub adds_keys : KnownMap old.known (λ _. KnownMap new.known (HasAdded change))
+  pub adds_keys : KnownMap old.known (λ _. KnownMap new.known (IndexesAdded change))
   -- and no key that the change doesn't add has another place
   pub keeps_others : KnownMap old.known (λ before. KnownMap new.known (λ after. (key : List ℕ) → AddsNone change key
       → finite.get after key ≡ finite.get before key))
   -- where it had all that was held, it has all that is
-  pub whole : OfWhole old.disk.size old.known old.tables (λ store. HasWhole (changed change store) new.known)
+  pub whole : OfEachIndexed old.disk.size old.known old.tables (λ store. IndexesAll (changed change store) new.known)
   pub runs : Runs old.disk.size old.known old.tables → Runs new.disk.size new.known new.tables
 
 -- nothing changes

@@ -17,7 +17,7 @@ use Rattle.store_state.specs.Settled.{IsSettled}
 use Rattle.store_state.specs.Tables.{Represents}
 use Rattle.recovery.specs.Opening.{IsOpenRefusal, Opens}
 use Rattle.recovery.specs.Room.{FromRoom, IsNotFull, RoomMade, RoomUnmade}
-use Rattle.store_core.specs.Core.{HasWhole}
+use Rattle.store_core.specs.Core.{IndexesAll}
 use Rattle.store_core.specs.Runs.{IsAt}
 use Rattle.store_core.specs.State.{CoreState}
 
@@ -36,7 +36,7 @@ pub record IsNew (shown : (List ℕ → Type 0) → Type 0) (size : ℕ) (c : Co
   pub served : c.served
   -- the map of its index is known, whatever the disk tells, and has each key that the store holds
   pub told : (places : PlaceMap) × (c.known ≡ Some places)
-  pub whole : HasWhole store c.known
+  pub whole : IndexesAll store c.known
 
 -- why an image that holds a store is not opened: memory or the disk failed, or too few of its slots are free
 abbrev pub IsGivenUp : Refusal → List ℕ → Type 0
@@ -81,7 +81,7 @@ pub record IsKept (old new : CoreState) : Type 0 where
 pub record BeginsAt (S : List ℕ → Type 0) (stored : Stored) (c : CoreState) : Type 0 where
   pub store : Store
   pub is_at : IsAt S store stored c
-  pub whole : HasWhole store c.known
+  pub whole : IndexesAll store c.known
   pub last_id_is : c.tables.held.last_id ≡ last_id store.held
   pub settled : IsSettled c.tables.slots c.disk
 

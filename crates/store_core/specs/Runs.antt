@@ -32,7 +32,7 @@ use Rattle.read_steps.specs.Readers.{reading}
 use Rattle.namespace.specs.Names.{NameMap}
 use Rattle.read_steps.specs.Opening.{top_of, HasRoot}
 use Rattle.read_steps.specs.Walking.{GivesAll}
-use Rattle.store_core.specs.Core.{CoreStep, HasWhole}
+use Rattle.store_core.specs.Core.{CoreStep, IndexesAll}
 use Rattle.store_core.specs.State.{CoreState, Event, IsRunning}
 
 -- The first step makes of the core one of which the others make the last one. A core is anything that has a state.
@@ -130,7 +130,7 @@ pub record Reaches (S : List ℕ → Type 0) (s : Store) (known : Option PlaceMa
   pub store : Store
   pub chain : ChangesTo (changes_of steps) s store
   pub is_at : IsAt S store stored c
-  pub whole : HasWhole s known → HasWhole store c.known
+  pub whole : IndexesAll s known → IndexesAll store c.known
 
 -- A core that isn't stopped at the end of a run has made exactly the commits, the deletes and the seals that it acknowledged, and its
 -- invariant holds.

@@ -11,7 +11,7 @@ ghost use Rattle.refusals.specs.declared.refusal.Refusal.TheVariants.{Memory};
 ghost use Rattle.store_model.specs.Image.{Store, IsValidFor};
 ghost use Rattle.store_state.specs.State.{Represents};
 ghost use Rattle.store_state.specs.Tables as running;
-ghost use Rattle.store_core.specs.Core.{HasWhole};
+ghost use Rattle.store_core.specs.Core.{IndexesAll};
 ghost use Rattle.store_core.specs.Opening.{IsNew, IsGivenUp, IsKept, OpensCore, OpensNone};
 ghost use Rattle.store_core.specs.State.{IsRunning};
 
@@ -29,7 +29,7 @@ use summary_vector::Summary;
 // The tables and the index of a store that was opened, and the parts of actors that are all idle.
 fn start(alloc: Global, found: OpenStore) -> Result<(Tables, StoreIndex, Parts), Refusal>
     ensures represents { IfOk result (λ r. (store : Store) → Represents store found → running.Represents store (Some r.1) r.0) }
-    ensures whole { IfOk result (λ r. (store : Store) → Represents store found → HasWhole store (Some r.1)) }
+    ensures whole { IfOk result (λ r. (store : Store) → Represents store found → IndexesAll store (Some r.1)) }
     ensures ids { IfOk result (λ r. r.0.held.last_id ≡ found.containers.last_id) }
     ensures known { IfOk result (λ r. (content : Option (List ℕ)) → ⟦<StoreIndex as Index>⟧.places r.1 content ≡ Some r.1) }
     ensures serves { IfOk result (λ r. (size : ℕ) (store : Store) → Represents store found → IsValidFor size store

@@ -88,7 +88,7 @@ HasKey places key = (place : Place) × (finite.get places key ≡ Some place)
 abbrev pub key_set_of : PlaceMap → List ℕ → Bool
 key_set_of places key = is_some (finite.get places key)
 
--- each place that the index has is that of its key's newest copy; it may lack keys that no file needs
+-- each place that the index has is that of its key's newest copy; it may lack keys
 abbrev pub IsPartialIndexOf : List (Option HeaderValue) → PlaceMap → Type 0
 IsPartialIndexOf containers places = (key : List ℕ) (place : Place) → finite.get places key ≡ Some place
     → option_map (λ c. c.place) (newest 0 containers key) ≡ Some place

@@ -30,8 +30,8 @@ module _ (P Q : List ℕ → Type 0) (s t : Store) (old new : List ℕ) (keeps :
       let R : List ℕ → Type 0 = IsIn (key_set (tree_keys holds.whole)) in
       record {
         whole = holds.whole;
-        level_is = holds.level_is;
-        digest_is = holds.digest_is;
+        right = holds.right;
+        top_is = holds.top_is;
         is_held = tree_on P Q s t old new keeps count holds.whole holds.is_held;
         trees = holds.trees;
         ahead = holds.ahead;

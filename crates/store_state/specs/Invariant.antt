@@ -7,7 +7,7 @@ use Rattle.container_meta.specs.Places.{PlaceMap}
 use Rattle.container_meta.specs.Segments.{KindSegment, segment_key}
 use Rattle.container_meta.specs.Spelling.{HeaderValue}
 use Rattle.merkle_file.specs.Tree.{Tree, of_segment, root_of}
-use Rattle.merkle_file.specs.Walk.{Ahead}
+use Rattle.merkle_file.specs.Walk.{Ahead, IsTree, trees_in}
 use Rattle.actor_parts.specs.declared.part.Part.{Part}
 use Rattle.actor_parts.specs.declared.part.Part.TheVariants.{Idle, Writing, Reading}
 use Rattle.actor_parts.specs.declared.part.Reader.{Reader}
@@ -38,8 +38,8 @@ ArePinsOf P held image pins = (key : List ℕ) (pin : Pin) → finite.get pins k
 -- A file that is given back is held whole, as it was when it was opened, and what is to come is of it.
 pub record HoldsRest (P : List ℕ → Type 0) (held : List (Option HeaderValue)) (image : List ℕ) (reader : Reader) : Type 0 where
   pub whole : Tree (List ℕ)
-  pub level_is : reader.root.level ≡ (root_of of_segment whole).level
-  pub digest_is : reader.root.digest ≡ (root_of of_segment whole).digest
+  pub right : AllByRecursion IsTree (trees_in whole)
+  pub top_is : record { length = reader.root.length; level = reader.root.level; digest = reader.root.digest } ≡ root_of of_segment whole
   pub is_held : HoldsCounted P held image whole
   pub trees : List (Tree (List ℕ))
   pub ahead : Ahead reader.cursor trees

@@ -34,7 +34,7 @@ abbrev pub RepresentsNames : Store → Tables → Type 0
 RepresentsNames store t = IsTold store.other_open store.selector store.records t.journal t.names t.journal.last
 
 -- The tables, and the map of the index where it is known, are those of the store: its journal and names, and what its slots hold. Each
--- place that the index has is that of the newest copy of its key; it may lack keys that no file needs.
+-- place that the index has is that of the newest copy of its key. Which keys it must have, the invariant says (`CoreInvariant`).
 pub record Represents (store : Store) (known : Option PlaceMap) (t : Tables) : Type 0 where
   pub slots_are : t.slots ≡ store.slots
   pub names_are : RepresentsNames store t

@@ -232,7 +232,7 @@ pub fn compare_all<D: Disk, X: Index>(
     ensures refused { IfErr result (IsAllRefusal (X.places index.old (D.view disk.old).content)
         (IsFirstUnlike (D.view disk.old).size (X.places index.old (D.view disk.old).content) (Shows (D.view disk.old) (D.view disk.new))
         filled.now.kind filled.now.segments)) }
-    // So each store of this index holds nothing of those of these keys that it has that differs.
+    // So of those of these keys that the index has, each store for which it is right holds nothing that differs.
     ensures held { OnOk result (Shows (D.view disk.old) (D.view disk.new) (λ image. (store : Store) (m : PlaceMap)
         → X.places index.old (D.view disk.old).content ≡ Some m → IsPartialIndexOf store.held m
         → AllByRecursion (FitsHeld (HasKey m) filled.now.kind store image) filled.now.segments)) }

@@ -1,0 +1,103 @@
+-- What is live once the children of a container's nodes are marked.
+use Rattle.std.proofs.Common.{◌≡◌, inl, inr, ℕ, List, [], ◌∷◌, ◌++◌, length, refl, sym, subst, arith}
+use Rattle.std.specs.Prelude.{Option, Some}
+use Rattle.std.specs.List.{All, AllByRecursion, Contains, flat_map}
+use Rattle.std.proofs.lemmas.List.{take_all}
+use Rattle.std.proofs.lemmas.List.Elements.{All-from_recursion, recursion_from_All, All-nil, All-cons, All-contains, Contains-append_cases, Contains-append_right}
+use Rattle.container_meta.specs.declared.entry.Entry.{Entry}
+use Rattle.container_meta.specs.declared.place.Place.{Place}
+use Rattle.container_meta.specs.Places.{PlaceMap}
+use Rattle.merkle_file.specs.Node.{Contents}
+use Rattle.gc_enumerate.specs.declared.layer.KeyPlace.{KeyPlace}
+use Rattle.gc_enumerate.specs.Copies.{IsPlaceOf}
+use Rattle.gc_enumerate.specs.Live.{IsLiveAt, LiveKeys, SharesMark}
+use Rattle.gc_enumerate.specs.Marking.{AddsMarks, AddsSome, ChildrenAreLive, HasLiveChildren, IsAmong, IsLive, MarksChildren, MarksSome}
+use Rattle.gc_enumerate.specs.Scanning.{FindsChildren, HaveNodes, Scan, child_keys, keys_of}
+use Rattle.gc_enumerate.proofs.MarkLaws.{own_mark}
+use Rattle.gc_enumerate.proofs.Marks.{marks_none}
+use Rattle.gc_enumerate.proofs.Scans.{finds_none}
+
+-- each key that was marked is live
+module _ (known : Option PlaceMap) (old new : LiveKeys) where
+  all_live : (found : List KeyPlace) → AllByRecursion (λ f. IsPlaceOf known f.key f.place) found → ((f : KeyPlace) → IsAmong f.key f.place found → IsLiveAt new f.key f.place)
+      → AllByRecursion (IsLive known new) (keys_of found)
+  all_live [] placed live = tt
+  all_live (f ∷ fs) placed live = ((f.place, (placed.0, live f (inl (own_mark f.key f.place)))), all_live fs placed.1 (λ g among. live g (inr among)))
+
+first_part : {X : Type 0} (P : X → Type 0) (xs ys : List X) → AllByRecursion P (xs ++ ys) → AllByRecursion P xs
+first_part P [] ys all = tt
+first_part P (x ∷ xs) ys all = (all.0, first_part P xs ys all.1)
+
+last_part : {X : Type 0} (P : X → Type 0) (xs ys : List X) → AllByRecursion P (xs ++ ys) → AllByRecursion P ys
+last_part P [] ys all = all
+last_part P (x ∷ xs) ys all = last_part P xs ys all.1
+
+module _ (s : Scan) (showed : Place → List ℕ → Type 0) (new : LiveKeys) (m : PlaceMap) (is_known : s.known ≡ Some m) where
+  each_has : (es : List Entry) (nodes : List Contents) → HaveNodes s showed es nodes → AllByRecursion (IsLive s.known new) (flat_map child_keys nodes)
+      → All (HasLiveChildren s showed new) es
+  each_has [] nodes have live = All-nil _
+  each_has (e ∷ es) nodes (inl over) live = All-cons (HasLiveChildren s showed new) e es (λ to_scan. absurd (over.0 m is_known to_scan)) (each_has es nodes over.1 live)
+  each_has (e ∷ es) nodes (inr has) live =
+      let split : AllByRecursion (IsLive s.known new) (child_keys has.0 ++ flat_map child_keys has.1.0) =
+      subst (λ (ns : List Contents). AllByRecursion (IsLive s.known new) (flat_map child_keys ns)) has.1.1.0 live in
+      All-cons (HasLiveChildren s showed new) e es
+      (λ to_scan. (has.0, (has.1.1.2, All-from_recursion (IsLive s.known new) (child_keys has.0) (first_part (IsLive s.known new) (child_keys has.0) (flat_map child_keys has.1.0) split))))
+      (each_has es has.1.0 has.1.1.3 (last_part (IsLive s.known new) (child_keys has.0) (flat_map child_keys has.1.0) split))
+
+pub children_live : (s : Scan) (showed : Place → List ℕ → Type 0) (entries : List Entry) (found : List KeyPlace) (new : LiveKeys) → FindsChildren s showed entries found → AddsMarks found s.live new
+    → ChildrenAreLive s showed entries new
+children_live s showed entries found new finds marks m is_known =
+    each_has s showed new m is_known entries finds.nodes finds.nodes_are
+    (subst (AllByRecursion (IsLive s.known new)) finds.keys_are
+    (all_live s.known s.live new found (recursion_from_All (λ (f : KeyPlace). IsPlaceOf s.known f.key f.place) found finds.placed) (λ f among. (marks f.key f.place).1 (inr among))))
+
+-- nothing was marked, or some of what was found
+pub some_none : (s : Scan) (showed : Place → List ℕ → Type 0) (entries : List Entry) → MarksSome s showed entries s.live
+some_none s showed entries = record { count = 0; found = []; finds = finds_none s showed; marks = ([], ([], (refl, marks_none s.live))) }
+
+pub some_found : (s : Scan) (showed : Place → List ℕ → Type 0) (entries : List Entry) (found : List KeyPlace) (new : LiveKeys) → FindsChildren s showed entries found → AddsSome found s.live new
+    → MarksSome s showed entries new
+some_found s showed entries found new finds marks = record {
+  count = length entries;
+  found = found;
+  finds = subst (λ (es : List Entry). FindsChildren s showed es found) (sym (take_all (length entries) entries (omega arith))) finds;
+  marks = marks;
+}
+
+-- ---- just the children
+
+only_one : (a b : List ℕ) → Contains (a ∷ []) b → a ≡ b
+only_one a b there = All-contains (λ x. a ≡ x) (a ∷ []) b (All-cons (λ x. a ≡ x) a [] refl (All-nil _)) there
+
+module _ (key : List ℕ) (place : Place) where
+  among_keys : (found : List KeyPlace) → IsAmong key place found → Contains (keys_of found) key
+  unfolding SharesMark
+  among_keys [] among = absurd among
+  among_keys (f ∷ fs) (inl here) = (0, omega arith, sym here)
+  among_keys (f ∷ fs) (inr later) = Contains-append_right (f.key ∷ []) (keys_of fs) key (among_keys fs later)
+
+  keys_among : (found : List KeyPlace) → Contains (keys_of found) key → IsAmong key place found
+  unfolding SharesMark
+  keys_among [] there = absurd (omega (arith, there.1))
+  keys_among (f ∷ fs) there = elim (Contains-append_cases (f.key ∷ []) (keys_of fs) key there) [
+    | inl here ↦ inl (sym (only_one f.key key here))
+    | inr later ↦ inr (keys_among fs later)
+  ]
+
+pub marks_children : (s : Scan) (showed : Place → List ℕ → Type 0) (entries : List Entry) (found : List KeyPlace) (new : LiveKeys) → FindsChildren s showed entries found → AddsMarks found s.live new
+    → MarksChildren s showed entries new
+marks_children s showed entries found new finds marks = record {
+  found = found;
+  finds = finds;
+  marks = marks;
+  exact = λ m is_known apart key place has. (
+    λ live. elim ((marks key place).0 live) [
+      | inl was ↦ inl was
+      | inr among ↦ inr (subst (λ (keys : List (List ℕ)). Contains keys key) finds.keys_are (among_keys key place found among))
+    ],
+    λ is. elim is [
+      | inl was ↦ (marks key place).1 (inl was)
+      | inr child ↦ (marks key place).1 (inr (keys_among key place found (subst (λ (keys : List (List ℕ)). Contains keys key) (sym finds.keys_are) child)))
+    ],
+  );
+}

@@ -1,0 +1,5 @@
+pub mod Copies
+pub mod Faults
+pub mod Live
+pub mod Marking
+pub mod Scanning

@@ -1,5 +1,5 @@
 //! Which segments an actor has shown to be held.
-ghost use Rattle.std.specs.Prelude.{◌≡◌, None, IfSome, IsTrue, OnOk, OnErr};
+ghost use Rattle.std.specs.Prelude.{◌≡◌, None, IfOk, IfSome, IsTrue, OnOk, OnErr};
 ghost use Rattle.std.specs.FinMap as finite;
 ghost use Rattle.actor_parts.specs.PinMap.{IsPin, has_pin};
 
@@ -81,5 +81,12 @@ impl Pins {
         ensures { self.new ≡ finite.remove self.old key.now }
     {
         self.pins.remove(key);
+    }
+
+    /// The keys of all segments, in the order of their bytes. It fails for want of memory alone.
+    pub fn keys(&self, alloc: Global) -> Result<Vec<Key>, AllocError>
+        ensures { IfOk result (λ keys. keys.items ≡ finite.keys self.now) }
+    {
+        self.pins.keys(alloc)
     }
 }

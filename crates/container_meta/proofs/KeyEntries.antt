@@ -46,7 +46,7 @@ module _ {X : Type 0} where
   sorted_entries [] h = tt
   sorted_entries (e ∷ es) h = both _ _ (below_first e.0 es (sorted_head order e.0 (keys_of es) h)) (sorted_entries es (sorted_tail order e.0 (keys_of es) h))
 
-  entries_seen : (es : List (List ℕ × X)) → IsStrictlySortedBy order (keys_of es) → finite.entries (seen es) ≡ es
+  pub entries_seen : (es : List (List ℕ × X)) → IsStrictlySortedBy order (keys_of es) → finite.entries (seen es) ≡ es
   entries_seen es h =
       let sorted = sorted_entries es h in
       ap finite.entries (finite.same_map nat_list_cmp_total exact_bytes (seen es) (finite.from_sorted es) (λ q. finite.get-from_entries nat_list_cmp_total es q ∙ sym (finite.get-from_sorted order es q sorted)))

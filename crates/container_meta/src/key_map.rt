@@ -1,5 +1,5 @@
 //! Maps from keys, in memory.
-ghost use Rattle.std.specs.Prelude.{◌≡◌, None, OnOk, OnErr};
+ghost use Rattle.std.specs.Prelude.{◌≡◌, None, OnOk, OnErr, IfOk};
 ghost use Rattle.std.specs.FinMap as finite;
 
 use crate::place::Key;
@@ -59,5 +59,16 @@ impl<V: Copy> KeyMap<V> {
         ensures { self.new ≡ finite.remove self.old key.now }
     {
         self.entries.remove(key);
+    }
+
+    /// The keys that are there, in the order of their bytes. It fails for want of memory alone.
+    pub fn keys(&self, alloc: Global) -> Result<Vec<Key>, AllocError>
+        ensures { IfOk result (λ keys. keys.items ≡ finite.keys self.now) }
+    {
+        let mut keys = Vec::with_capacity(alloc, self.entries.len())?;
+        for (key, _) in &self.entries {
+            keys.push(*key)?;
+        }
+        Ok(keys)
     }
 }

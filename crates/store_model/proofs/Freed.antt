@@ -1,7 +1,11 @@
 -- Slots once one of them is closed, and the image whose gate was cleared.
-use Rattle.std.proofs.Common.{◌≡◌, ◌≢◌, inl, inr, ℕ, zero, suc, ◌+◌, ◌≤◌, List, [], ◌∷◌, ◌++◌, length, slice_set, Option, Some, None, refl, sym, ◌∙◌, ap, subst, arith}
+use Rattle.std.proofs.Common.{◌≡◌, ◌≢◌, ◌⊎◌, inl, inr, ℕ, zero, suc, ◌+◌, ◌<◌, ◌≤◌, List, [], ◌∷◌, ◌++◌, length, get_or, slice_set, Option, Some, None, refl, sym, ◌∙◌, ap, subst, arith}
 use Rattle.std.specs.List.{slice_get}
+use Rattle.std.proofs.lemmas.List.{ext_get_or}
+use Rattle.base_model.specs.Bytes.{range, byte_at}
 use Rattle.base_model.specs.Frames.{SameOutside}
+use Rattle.base_model.proofs.Frames.{byte_before, byte_after}
+use Rattle.base_model.proofs.Ranges.{byte-range}
 use Rattle.disk_format.specs.declared.numbers.TheConstants.{FIRST_SLOT, SLOT_BYTES}
 use Rattle.disk_format.specs.Layout.{slot_at}
 use Rattle.container_meta.specs.Spelling.{HeaderValue}
@@ -144,6 +148,38 @@ encodes_unfreed slot h s old new right there same has =
     let outside = gate_in_slot slot old new same in
     encodes_on s old new (before_slots slot old new outside) same.size s.held right refl
     (holds_again slot old new outside 0 slot (Some h) s.held (omega arith) there has right.slots_are) right.different
+
+-- what a slot holds
+pub slot_from : (from index : ℕ) (held : List (Option HeaderValue)) (c : Option HeaderValue) (image : List ℕ) → HoldSlots from held image → slice_get held index ≡ Some c → HoldsSlot image (from + index) c
+slot_from from index [] c image holds there = absurd cc
+slot_from from zero (d ∷ held) c image holds there =
+    subst (λ (s : ℕ). HoldsSlot image s c) (omega arith) (subst (λ (x : Option HeaderValue). HoldsSlot image from x) (some_same d c there) holds.0)
+slot_from from (suc index) (d ∷ held) c image holds there =
+    subst (λ (s : ℕ). HoldsSlot image s c) (omega arith) (slot_from (from + 1) index held c image holds.1 there)
+
+pub slot_held : (slot : ℕ) (held : List (Option HeaderValue)) (c : Option HeaderValue) (image : List ℕ) → HoldSlots 0 held image → slice_get held slot ≡ Some c → HoldsSlot image slot c
+slot_held slot held c image holds there = subst (λ (s : ℕ). HoldsSlot image s c) (omega arith) (slot_from 0 slot held c image holds there)
+
+-- the first byte of a part
+first_is : (at count : ℕ) (old new : List ℕ) → 1 ≤ count → range at count new ≡ range at count old → byte_at at new ≡ byte_at at old
+first_is at count old new some same =
+    let place : at + 0 ≡ at = omega arith in
+    ap (λ (k : ℕ). byte_at k new) (sym place) ∙ sym (byte-range 0 at count new (omega (arith, some))) ∙ ap (byte_at 0) same
+    ∙ byte-range 0 at count old (omega (arith, some)) ∙ ap (λ (k : ℕ). byte_at k old) place
+
+-- where a slot has its header still, the image is as it was
+pub unfreed_same : (slot : ℕ) (h : HeaderValue) (old new : List ℕ) → SameOutside (slot_at slot) 1 old new → HoldsSlot old slot (Some h) → HoldsSlot new slot (Some h) → new ≡ old
+unfreed_same slot h old new same before after =
+    ext_get_or 0 new old same.size (λ i below. by_place i (place_of i))
+  where
+    place_of : (i : ℕ) → (i < slot_at slot) ⊎ ((slot_at slot + 1 ≤ i) ⊎ (i ≡ slot_at slot))
+    place_of i = grind (arith)
+
+    by_place : (i : ℕ) → (i < slot_at slot) ⊎ ((slot_at slot + 1 ≤ i) ⊎ (i ≡ slot_at slot)) → get_or new i 0 ≡ get_or old i 0
+    by_place i (inl below) = byte_before i (slot_at slot) 1 old new below same
+    by_place i (inr (inl above)) = byte_after i (slot_at slot) 1 old new above same
+    by_place i (inr (inr here)) =
+        subst (λ (k : ℕ). byte_at k new ≡ byte_at k old) (sym here) (first_is (slot_at slot) 49664 old new (omega arith) (after.1 ∙ sym before.1))
 
 -- ---- gates of some slots
 

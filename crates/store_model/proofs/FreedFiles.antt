@@ -9,18 +9,20 @@ use Rattle.disk_format.specs.Layout.{slot_at}
 use Rattle.container_meta.specs.declared.entry.Entry.{Entry}
 use Rattle.container_meta.specs.declared.kind.Kind.{Kind}
 use Rattle.container_meta.specs.Spelling.{HeaderValue}
-use Rattle.store_model.specs.Collisions.{AreAmong, IsOf, OpensAs}
+use Rattle.base_model.specs.Frames.{SameOutside}
+use Rattle.store_model.specs.Collisions.{AreAmong, IsOf, OpensAs, Stands}
 use Rattle.store_model.specs.Files.{Files, Stored}
 use Rattle.store_model.specs.Freeing.{with_freed, with_all_freed, FreesTo, FreesSome, HasNoGate, SameButGates, IsPartlyFreed}
 use Rattle.store_model.specs.Image.{Store, Encodes, AreCopies, names_of, last_sequence}
 use Rattle.store_model.specs.Reserve.{IsReachable, HoldsNone, IsSpare, IsGivable, HasReserve}
-use Rattle.store_model.specs.Slots.{AreHeaders, newest, free_slots, first_free, without_slot}
+use Rattle.store_model.specs.Slots.{AreHeaders, HoldsSlot, newest, free_slots, first_free, without_slot}
+use Rattle.store_model.specs.Steps.{KeepsCopies}
 use Rattle.store_model.specs.Standing.{AreFilesOf, IsStoreWith, CanBeOpened, StandsFor}
 use Rattle.store_model.specs.Trees.{HasNewest}
 use Rattle.store_model.proofs.Copies.{headers_of_right}
 use Rattle.store_model.proofs.Frames.{SameSlot, closed_kept}
 use Rattle.store_model.proofs.Free.{first_closed, some_free}
-use Rattle.store_model.proofs.Freed.{closed_there, other_there, there_before, same_before}
+use Rattle.store_model.proofs.Freed.{closed_there, encodes_freed, free_freed, same_gate, slot_held, unfreed_same, other_there, there_before, same_before}
 use Rattle.store_model.proofs.FreedTrees.{newest_freed, none_after, none_of_fewer, needed_file}
 use Rattle.store_model.proofs.HeldSlots.{SameHeld, AreSo, so_still, copy_still, IsNodeEntry, nodes_so, so_nodes, IsAmongThese, among_so, so_among}
 use Rattle.store_model.proofs.Once.{store_once}
@@ -228,7 +230,7 @@ still_held freed s old new same =
 
 -- The containers that are given back are needed by no file; the bytes of all others are as they were.
 module _ (S P : List ℕ → Type 0) (files : Files) (s : Store) (freed given now : List ℕ) (needed : (key : List ℕ) → IsReachable files key → P key)
-    (frees : FreesSome P freed s) (same : SameButGates freed given now) (after : Encodes now (record s { held = (with_all_freed freed s).held })) where
+    (stays : (key : List ℕ) → P key → newest 0 (with_all_freed freed s).held key ≡ newest 0 s.held key) (same : SameButGates freed given now) (after : Encodes now (record s { held = (with_all_freed freed s).held })) where
   abbrev more : List (Option HeaderValue)
   more = (with_all_freed freed s).held
 
@@ -243,7 +245,7 @@ module _ (S P : List ℕ → Type 0) (files : Files) (s : Store) (freed given no
 
   newest_on : (key : List ℕ) (level : ℕ) (bytes : List ℕ) → P key → HasNewest s.held key level bytes given → HasNewest more key level bytes now
   newest_on key level bytes need has =
-      let is : newest 0 more key ≡ Some has.copy = newest_after P freed s key frees need ∙ has.copy_is in
+      let is : newest 0 more key ≡ Some has.copy = stays key need ∙ has.copy_is in
       record {
         copy = has.copy;
         copy_is = is;
@@ -271,6 +273,36 @@ module _ (S P : List ℕ → Type 0) (files : Files) (s : Store) (freed given no
 
   among_on : AreAmong S 0 s.held given → AreAmong S 0 more now
   among_on among = so_among S 0 more now (so_on (IsAmongThese S) (among_so S 0 s.held given among))
+
+-- ---- one slot more is closed, whatever reserve there is
+
+module _ (S P : List ℕ → Type 0) (files : Files) (s : Store) (slot : ℕ) (h : HeaderValue) (given now : List ℕ) (there : slice_get s.held slot ≡ Some (Some h))
+    (same : SameOutside (slot_at slot) 1 given now) (stands : Stands S s files given) where
+  -- with its header still, it is the same image
+  pub unfreed_stands : HoldsSlot now slot (Some h) → Stands S s files now
+  unfreed_stands has =
+      subst (Stands S s files) (sym (unfreed_same slot h given now same (slot_held slot s.held (Some h) given stands.holds.right.slots_are there) has)) stands
+
+  module _ (needed : (key : List ℕ) → IsReachable files key → P key) (none : HoldsNone P s.held slot) (closed : HoldsSlot now slot None) where
+    stays_one : (key : List ℕ) → P key → newest 0 (with_all_freed (slot ∷ []) s).held key ≡ newest 0 s.held key
+    stays_one = newest_freed P slot s.held none
+
+    one_encoded : Encodes now (with_freed slot s)
+    one_encoded = encodes_freed slot h s given now stands.holds.right there same closed
+
+    -- closed, it is the store without its container
+    pub one_freed_stands : Stands S (with_freed slot s) files now
+    one_freed_stands = record {
+      holds =
+          holds_on S P files s (slot ∷ []) given now needed stays_one (same_gate slot given now same) one_encoded (2 ≤ free_slots s.held) (2 ≤ free_slots (without_slot slot s.held)) stands.holds
+          (omega (arith, stands.holds.reserve, free_freed slot h s.held there));
+      among = among_on S P files s (slot ∷ []) given now needed stays_one (same_gate slot given now same) one_encoded stands.among;
+    }
+
+    -- each newest copy that is needed goes on
+    pub one_freed_keeps : KeepsCopies P s given (with_freed slot s) now
+    one_freed_keeps key level bytes need has =
+        newest_on S P files s (slot ∷ []) given now needed stays_one (same_gate slot given now same) one_encoded key level bytes need has
 
 -- an image is opened as the store that it holds
 record OpensStore (S : List ℕ → Type 0) (stored : Stored) (s : Store) (image : List ℕ) : Type 0 where
@@ -303,9 +335,9 @@ module _ (S P : List ℕ → Type 0) (stored : Stored) (s : Store) (freed given 
   opens_on = record {
     store = record s { held = (with_all_freed freed s).held };
     holds =
-        holds_on S P stored.files s freed given now needed frees same encoded (HasReserve (IsReachable stored.files) s.held)
+        holds_on S P stored.files s freed given now needed (λ key. newest_after P freed s key frees) same encoded (HasReserve (IsReachable stored.files) s.held)
         (HasReserve (IsReachable stored.files) (with_all_freed freed s).held) opened.holds (reserve_by P (IsReachable stored.files) (with_all_freed freed s).held needed reserve_left);
-    among = among_on S P stored.files s freed given now needed frees same encoded opened.among;
+    among = among_on S P stored.files s freed given now needed (λ key. newest_after P freed s key frees) same encoded opened.among;
     last_is = opened.last_is;
   }
 
@@ -315,9 +347,9 @@ module _ (S P : List ℕ → Type 0) (stored : Stored) (s : Store) (freed given 
     (
       record {
         holds =
-            holds_on S P stored.files s freed given now needed frees same encoded (HasReserve (IsReachable stored.files) s.held)
+            holds_on S P stored.files s freed given now needed (λ key. newest_after P freed s key frees) same encoded (HasReserve (IsReachable stored.files) s.held)
             (2 ≤ free_slots (with_all_freed freed s).held) opened.holds enough;
-        among = among_on S P stored.files s freed given now needed frees same encoded opened.among;
+        among = among_on S P stored.files s freed given now needed (λ key. newest_after P freed s key frees) same encoded opened.among;
       },
       opened.last_is,
     ),

@@ -88,8 +88,10 @@ fn put<D: Disk, X: Index>(
     }
 }
 
-// Takes a key away.
-fn remove<D: Disk, X: Index>(disk: &mut D, index: &mut X, key: &Key) -> Result<(), Refusal>
+/// Takes a key away, if it is there. It takes no memory.
+///
+/// Refusals: `DiskWrite`; `Damaged`, where the index's own bytes break its form. After each the map may have changed.
+pub fn remove_key<D: Disk, X: Index>(disk: &mut D, index: &mut X, key: &Key) -> Result<(), Refusal>
     requires serves { X.serves index.old (D.view disk.old).size }
     ensures ok { OnOk result (KnownMap (X.places index.old (D.view disk.old).content)
         (λ m. X.places index.new (D.view disk.new).content ≡ Some (finite.remove m key.now))) }
@@ -133,7 +135,7 @@ fn give_back<D: Disk, X: Index>(
 {
     match had {
         Some(place) => put(disk, index, key, *place),
-        None => remove(disk, index, key),
+        None => remove_key(disk, index, key),
     }
 }
 

@@ -11,7 +11,7 @@ mod tables;
 
 pub use comparing::{compare_all, compare_one, read_copy, read_same};
 pub use containers::Containers;
-pub use indexing::{find, put_entries};
+pub use indexing::{find, put_entries, remove_key};
 pub use laws::an_index_has_room;
 pub use open_store::OpenStore;
 pub use slot_table::{SlotCount, SlotTable};

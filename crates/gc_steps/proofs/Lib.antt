@@ -1,0 +1,12 @@
+pub mod Faulted
+pub mod GivenBack
+pub mod Marked
+pub mod MarkedAll
+pub mod Needed
+pub mod Recorded
+pub mod Released
+pub mod Removed
+pub mod Scanned
+pub mod Scans
+pub mod Swept
+pub mod Taken

@@ -1,0 +1,67 @@
+-- Once a collection has marked, each key of a tree whose root is live is live.
+use Rattle.std.proofs.Common.{◌≡◌, ◌⊎◌, inl, inr, ℕ, suc, ◌+◌, Bool, true, false, List, [], map, Option, refl, sym, ◌∙◌, ap, subst, arith}
+use Rattle.std.specs.Prelude.{if◌then◌else◌, ◌==◌}
+use Rattle.std.specs.List.{All, Contains}
+use Rattle.std.proofs.lemmas.Bool.{eqb-true}
+use Rattle.std.proofs.lemmas.List.Elements.{Contains-append_cases}
+use Rattle.base_model.specs.Bytes.{key_of}
+use Rattle.container_meta.specs.declared.kind.Kind.TheVariants as kinds
+use Rattle.container_meta.specs.Format.{kind_byte}
+use Rattle.container_meta.specs.Places.{PlaceMap}
+use Rattle.container_meta.specs.Spelling.{HeaderValue}
+use Rattle.gc_enumerate.specs.Live.{LiveKeys}
+use Rattle.gc_enumerate.specs.Scanning.{child_kind, child_key, child_keys}
+use Rattle.merkle_file.specs.Node.{Contents}
+use Rattle.merkle_file.specs.Tree as tree
+use Rattle.merkle_file.specs.Tree.{Tree, Trees, child_of, children_of, level_of, of_segment}
+use Rattle.merkle_file.specs.Walk.{IsTree, AreBelow, contents_of}
+use Rattle.store_model.specs.Reserve.{AllKeys, tree_keys, keys_below}
+use Rattle.store_model.specs.Slots.{Copy}
+use Rattle.store_model.specs.Trees.{HoldsTree, HoldsTrees, leaf_key, node_key}
+use Rattle.gc_steps.specs.LiveTrees.{IsLive, IsRootOf, HoldsNode}
+use Rattle.gc_steps.proofs.Marked.{contains_first, contains_none}
+
+-- a node names a tree below it by the key of that tree's root
+child_root : (level : ℕ) (t : Tree (List ℕ)) → level_of t + 1 ≡ level → IsTree t → IsRootOf (child_key level (child_of of_segment t)) t
+child_root level tree.Empty below right = absurd right
+child_root level (tree.Leaf segment) below right = ap (λ (l : ℕ). key_of (kind_byte (child_kind l)) (child_of of_segment (tree.Leaf segment)).digest) (sym below)
+child_root level (tree.Node l ts) below right =
+    by_test (level == 1) refl
+  where
+    by_test : (b : Bool) → level == 1 ≡ b → child_key level (child_of of_segment (tree.Node l ts)) ≡ node_key (contents_of l ts)
+    by_test false is = ap (λ (b : Bool). key_of (kind_byte (if b then kinds.Leaf else kinds.Tree)) (child_of of_segment (tree.Node l ts)).digest) is
+    by_test true is = absurd (omega (arith, eqb-true level 1 is, below, right.0.above))
+
+module _ (held : List (Option HeaderValue)) (image : List ℕ) (index : PlaceMap) (live : LiveKeys)
+    (closed : (n : Contents) (copy : Copy) → HoldsNode held image n copy → IsLive index live (node_key n) → All (IsLive index live) (child_keys n)) where
+  mutual
+    pub live_tree : (t : Tree (List ℕ)) (root : List ℕ) → IsTree t → HoldsTree held image t → IsRootOf root t → IsLive index live root → AllKeys (IsLive index live) t
+    live_tree tree.Empty root right holds is marked key has = absurd right
+    live_tree (tree.Leaf segment) root right holds is marked key has = leaf_only (contains_first (leaf_key segment) key [] has)
+      where
+        leaf_only : (key ≡ leaf_key segment) ⊎ Contains [] key → IsLive index live key
+        leaf_only (inl same) = subst (IsLive index live) (is ∙ sym same) marked
+        leaf_only (inr none) = absurd (contains_none key none)
+    live_tree (tree.Node level ts) root right holds is marked key has =
+        let n : Contents = contents_of level ts in
+        let top : IsLive index live (node_key n) = subst (IsLive index live) is marked in
+        let below : All (IsLive index live) (map (child_key level) (children_of of_segment ts)) =
+        closed n holds.0.copy (record { right = right.0; copy_is = holds.0.copy_is; bytes_are = holds.0.bytes_are }) top in
+        first_or (contains_first (node_key n) key (keys_below ts) has) top (live_trees level ts right.1 holds.1 below)
+      where
+        first_or : (key ≡ node_key (contents_of level ts)) ⊎ Contains (keys_below ts) key → IsLive index live (node_key (contents_of level ts))
+            → ((k : List ℕ) → Contains (keys_below ts) k → IsLive index live k) → IsLive index live key
+        first_or (inl same) top rest = subst (IsLive index live) (sym same) top
+        first_or (inr there) top rest = rest key there
+
+    pub live_trees : (level : ℕ) (ts : Trees (List ℕ)) → AreBelow level ts → HoldsTrees held image ts → All (IsLive index live) (map (child_key level) (children_of of_segment ts))
+        → (key : List ℕ) → Contains (keys_below ts) key → IsLive index live key
+    live_trees level tree.NoTree below holds all key has = absurd (contains_none key has)
+    live_trees level (tree.Then t ts) below holds all key has =
+        either (Contains-append_cases (tree_keys t) (keys_below ts) key has)
+        (live_tree t (child_key level (child_of of_segment t)) below.1 holds.0 (child_root level t below.0 below.1) (all 0 (child_key level (child_of of_segment t)) (omega arith)))
+        (live_trees level ts below.2 holds.1 (λ k d within. all (suc k) d (omega (arith, within))))
+      where
+        either : Contains (tree_keys t) key ⊎ Contains (keys_below ts) key → AllKeys (IsLive index live) t → ((k : List ℕ) → Contains (keys_below ts) k → IsLive index live k) → IsLive index live key
+        either (inl there) first rest = first key there
+        either (inr there) first rest = rest key there

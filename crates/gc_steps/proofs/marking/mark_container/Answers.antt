@@ -1,0 +1,61 @@
+use Rattle.std.proofs.Common.{inr, Option, Err, ap, subst, arith}
+use Rattle.container_meta.specs.Places.{PlaceMap}
+use Rattle.container_meta.specs.Spelling.{view}
+use Rattle.gc_steps.specs.declared.collection.Collection.{Collection}
+use Rattle.gc_steps.specs.declared.collection.Stage.{Stage}
+use Rattle.gc_steps.specs.Marking.{ScansEntries, IsEntriesFault}
+use Rattle.gc_steps.proofs.Released.{columns, few_slots, slot_fits}
+use Rattle.gc_steps.proofs.Scans.{keeps_marks}
+use Rattle.gc_steps.proofs.marking.mark_container.Goals as goal
+
+pub read_header-requires : goal.read_header-requires
+read_header-requires g c = slot_fits (g.D.Disk.view c.args.disk.now).size c.requires.runs.0 c.args.tables.now c.args.slot c.requires.runs.1 c.requires.within
+
+pub overflow_add-slot : goal.overflow_add-slot
+overflow_add-slot g c = omega (arith, few_slots (g.D.Disk.view c.args.disk.now).size c.requires.runs.0 c.args.tables.now c.requires.runs.1, c.requires.within)
+
+pub mark_from-collection-requires-clause-ids : goal.mark_from-collection-requires-clause-ids
+mark_from-collection-requires-clause-ids g c = few_slots (g.D.Disk.view c.args.disk.now).size c.requires.runs.0 c.args.tables.now c.requires.runs.1
+
+pub mark_from-collection-requires-clause-counts : goal.mark_from-collection-requires-clause-counts
+mark_from-collection-requires-clause-counts g c = columns (g.D.Disk.view c.args.disk.now).size c.requires.runs.0 c.args.tables.now c.requires.runs.1
+
+pub returns-in-Ok-clause-ok : goal.returns-in-Ok-clause-ok
+returns-in-Ok-clause-ok g c =
+    let disk = g.D.Disk.view in
+    let mid = disk c.read_header.new.disk in
+    let new = disk c.scan_lent.new.disk in
+    let header = view c.in_ok-meta.meta in
+    let now = c.args.collection.now in
+    record {
+      mid = c.read_header.new.disk;
+      reads = record { header = header; right = c.in_ok-meta.ensures.right; shown = c.in_ok-meta.ensures.shown };
+      scanned =
+          subst (λ (k : Option PlaceMap). ScansEntries k mid new c.args.slot c.args.level header now.live c.scan_lent.new.live) (ap (g.X.Index.places c.args.index.now) c.in_ok-meta.ensures.reads.only.content_is)
+          c.in-Ok.ensures.marks;
+      collection_is = ap (λ (s : Stage). (let after : Collection = record now { live = c.scan_lent.new.live; stage = s } in after)) c.mark_from-collection.ensures;
+    }
+
+pub returns-clause-kept : goal.returns-clause-kept
+returns-clause-kept g c =
+    let disk = g.D.Disk.view in
+    let places = g.X.Index.places c.args.index.now in
+    keeps_marks g.row.D.Denot disk (places (disk c.args.disk.now).content) (places (disk c.read_header.new.disk).content) c.args.disk.now c.read_header.new.disk c.scan_lent.new.disk c.args.level c.args.slot c.args.collection.now c.scan_lent.new.live
+    c.in-Err.fault c.refusal_of.result (record { header = view c.in_ok-meta.meta; right = c.in_ok-meta.ensures.right; shown = c.in_ok-meta.ensures.shown }) (ap places c.in_ok-meta.ensures.reads.only.content_is)
+    c.refusal_of.ensures c.in-Err.ensures.kept (λ is. c.in-Err.ensures.some (ap Err is))
+
+pub returns-clause-refused : goal.returns-clause-refused
+returns-clause-refused g c =
+    let disk = g.D.Disk.view in
+    let mid = disk c.read_header.new.disk in
+    let new = disk c.scan_lent.new.disk in
+    let header = view c.in_ok-meta.meta in
+    inr (record {
+      mid = c.read_header.new.disk;
+      reads = record { header = header; right = c.in_ok-meta.ensures.right; shown = c.in_ok-meta.ensures.shown };
+      fault = c.in-Err.fault;
+      refusal_is = c.refusal_of.ensures;
+      cause =
+          subst (λ (k : Option PlaceMap). IsEntriesFault k mid new c.args.slot c.args.level header c.args.collection.now.live c.in-Err.fault) (ap (g.X.Index.places c.args.index.now) c.in_ok-meta.ensures.reads.only.content_is)
+          c.in-Err.ensures.refused;
+    })

@@ -1,0 +1,8 @@
+use Rattle.gc_steps.proofs.Released.{columns, has_freed}
+use Rattle.gc_steps.proofs.releasing.take_closed.Goals as goal
+
+pub give_back-requires-clause-counts : goal.give_back-requires-clause-counts
+give_back-requires-clause-counts c = columns c.requires.runs.0 c.requires.runs.1 c.args.tables.now c.requires.runs.2
+
+pub returns : goal.returns
+returns c = has_freed c.args.tables.now c.args.slot c.give_back.new.self c.requires.there c.give_back.ensures.holds c.give_back.ensures.last

@@ -1,0 +1,90 @@
+-- Which entries of a container are live, and the copies that the index has (docs/MODEL.md, 'Collection').
+use Rattle.std.specs.Prelude.{◌≡◌, ◌⊎◌, ℕ, ◌+◌, ◌==◌, ◌&&◌, if◌then◌else◌, Bool, true, false, List, [], ◌∷◌, Option, None, Some}
+use Rattle.std.specs.FinMap as finite
+use Rattle.std.specs.List.{AllByRecursion}
+use Rattle.container_log.specs.Faults.{IsDamage}
+use Rattle.container_log.specs.Parts.{header_bytes, ReadAs}
+use Rattle.container_meta.specs.declared.entry.Entry.{Entry}
+use Rattle.container_meta.specs.declared.kind.Kind.{Kind}
+use Rattle.container_meta.specs.declared.place.Place.{Place}
+use Rattle.container_meta.specs.Places.{PlaceMap}
+use Rattle.dd_disk.specs.View.{DiskView}
+use Rattle.disk_format.specs.Layout.{slot_at}
+use Rattle.gc_enumerate.specs.Live.{LiveKeys, IsLiveAt}
+use Rattle.refusals.specs.declared.refusal.Refusal.{Refusal}
+use Rattle.refusals.specs.declared.refusal.Refusal.TheVariants.{Memory, DiskRead, DiskWrite, Damaged}
+use Rattle.store_model.specs.Indexing.{entry_key}
+use Rattle.store_model.specs.Slots.{place_of}
+
+-- ---- copies
+
+-- two places are one
+abbrev pub is_place : Place → Place → Bool
+is_place a b = (a.slot == b.slot) && (a.offset == b.offset) && (a.length == b.length) && (a.level == b.level)
+
+abbrev pub is_place_found : Option Place → Place → Bool
+is_place_found None place = false
+is_place_found (Some found) place = is_place found place
+
+-- the index has the entry's segment as the copy of its key
+abbrev pub is_copy : PlaceMap → Kind → ℕ → Entry → Bool
+is_copy index kind slot e = is_place_found (finite.get index (entry_key kind e)) (place_of slot e)
+
+-- and it is live
+abbrev pub IsLiveCopy : PlaceMap → LiveKeys → Kind → ℕ → Entry → Type 0
+IsLiveCopy index live kind slot e = (is_copy index kind slot e ≡ true) × IsLiveAt live (entry_key kind e) (place_of slot e)
+
+-- the keys of those entries that are copies, in order
+abbrev pub copy_keys : PlaceMap → Kind → ℕ → List Entry → List (List ℕ)
+copy_keys index kind slot [] = []
+copy_keys index kind slot (e ∷ es) = if is_copy index kind slot e then entry_key kind e ∷ copy_keys index kind slot es else copy_keys index kind slot es
+
+-- some entry is a live copy
+abbrev pub HasLiveCopy : PlaceMap → LiveKeys → Kind → ℕ → List Entry → Type 0
+HasLiveCopy index live kind slot [] = ⊥
+HasLiveCopy index live kind slot (e ∷ es) = IsLiveCopy index live kind slot e ⊎ HasLiveCopy index live kind slot es
+
+-- an entry isn't; none of them is
+abbrev pub IsDead : PlaceMap → LiveKeys → Kind → ℕ → Entry → Type 0
+IsDead index live kind slot e = IsLiveCopy index live kind slot e → ⊥
+
+abbrev pub AreDead : PlaceMap → LiveKeys → Kind → ℕ → List Entry → Type 0
+AreDead index live kind slot entries = AllByRecursion (IsDead index live kind slot) entries
+
+-- the sum of the lengths of those entries that are live copies
+abbrev pub SumsLive : PlaceMap → LiveKeys → Kind → ℕ → List Entry → ℕ → Type 0
+SumsLive index live kind slot [] sum = sum ≡ 0
+SumsLive index live kind slot (e ∷ es) sum =
+    (IsLiveCopy index live kind slot e × ((rest : ℕ) × (sum ≡ e.length + rest) × SumsLive index live kind slot es rest))
+    ⊎ (IsDead index live kind slot e × SumsLive index live kind slot es sum)
+
+-- the map without these keys
+abbrev pub without_keys : List (List ℕ) → PlaceMap → PlaceMap
+without_keys [] index = index
+without_keys (k ∷ ks) index = without_keys ks (finite.remove index k)
+
+-- ---- why they are not told
+
+-- why a header is not given: no memory; a read that failed; or what was found in its place is none, by its first fault
+abbrev pub IsHeaderRefusal : DiskView → DiskView → ℕ → Refusal → Type 0
+IsHeaderRefusal old new slot Memory = Unit {0}
+IsHeaderRefusal old new slot DiskRead = Unit {0}
+IsHeaderRefusal old new slot (Damaged at why) = (at ≡ slot_at slot) × IsDamage (ReadAs old new (header_bytes slot)) why
+IsHeaderRefusal old new slot refusal = ⊥
+
+-- why the index does not tell which entries are copies: a read that failed, or damage, where its map isn't known
+abbrev pub IsLookUpRefusal : Option PlaceMap → Refusal → Type 0
+IsLookUpRefusal known DiskRead = Unit {0}
+IsLookUpRefusal known (Damaged at why) = known ≡ None
+IsLookUpRefusal known refusal = ⊥
+
+-- the same, or no memory
+abbrev pub IsScanRefusal : Option PlaceMap → Refusal → Type 0
+IsScanRefusal known Memory = Unit {0}
+IsScanRefusal known refusal = IsLookUpRefusal known refusal
+
+-- why keys are not taken out of it: a write, a sync or a read of it that failed, or damage, where its map isn't known
+abbrev pub IsRemoveRefusal : Option PlaceMap → Refusal → Type 0
+IsRemoveRefusal known DiskWrite = Unit {0}
+IsRemoveRefusal known (Damaged at why) = known ≡ None
+IsRemoveRefusal known refusal = ⊥

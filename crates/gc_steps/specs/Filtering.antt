@@ -1,0 +1,42 @@
+-- What it makes of a collection that a container is recorded, and that the sources are chosen (docs/MODEL.md, 'Collection').
+use Rattle.std.specs.Prelude.{◌≡◌, ℕ, ◌+◌, [], ◌∷◌, ◌++◌, get_or, slice_get, Option, None, Some}
+use Rattle.container_meta.specs.declared.kind.Kind.TheVariants.{Leaf}
+use Rattle.container_meta.specs.Places.{PlaceMap}
+use Rattle.container_meta.specs.Spelling.{HeaderValue, IsHeader}
+use Rattle.dd_disk.specs.Shows.{Shows}
+use Rattle.dd_disk.specs.View.{DiskView}
+use Rattle.gc_select.specs.declared.liveness.ContainerLiveness.{ContainerLiveness}
+use Rattle.gc_select.specs.Selecting.{selected, sources_of}
+use Rattle.segment_index.specs.Places.{KnownMap}
+use Rattle.store_model.specs.Slots.{HoldsSlot}
+use Rattle.store_state.specs.declared.slot_table.SlotCount.{SlotCount}
+use Rattle.store_state.specs.declared.slot_table.SlotTable.{SlotTable}
+use Rattle.gc_steps.specs.declared.collection.Collection.{Collection}
+use Rattle.gc_steps.specs.Entries.{SumsLive}
+use Rattle.gc_steps.specs.Stages.{filter_from, sweep_from}
+
+-- what is recorded of the container of a slot, of which so many bytes are live: its id, its kind and all its bytes are those of the table
+abbrev pub recorded_by : ℕ → Option SlotCount → ℕ → ContainerLiveness
+recorded_by id None live = record { id = id; kind = Leaf; live = live; all = 0 }
+recorded_by id (Some c) live = record { id = id; kind = c.kind; live = live; all = c.bytes }
+
+abbrev pub recorded : SlotTable → ℕ → ℕ → ContainerLiveness
+recorded t slot live = recorded_by (get_or t.ids.items slot 0) (slice_get t.counts.items slot) live
+
+-- The container of a slot is recorded, with the bytes of those entries that are live and the copies that the index has, as reads showed its
+-- header. What it is else is said by the table.
+pub record Records (t : SlotTable) (known : Option PlaceMap) (old new : DiskView) (slot : ℕ) (before after : Collection) : Type 0 where
+  pub header : HeaderValue
+  pub right : IsHeader header
+  pub shown : Shows old new (λ image. HoldsSlot image slot (Some header))
+  pub live : ℕ
+  pub live_is : KnownMap known (λ index. SumsLive index before.live header.kind slot header.entries live)
+  pub collection_is : after ≡ record before {
+    liveness = before.liveness ++ recorded t slot live ∷ [];
+    stage = filter_from before.snapshot t (slot + 1);
+  }
+
+-- The sources are chosen.
+pub record Chooses (before after : Collection) : Type 0 where
+  pub sources_are : after.sources.items ≡ sources_of (selected before.snapshot before.percent before.liveness)
+  pub collection_is : after ≡ record before { sources = after.sources; stage = sweep_from after.sources.items 0 }

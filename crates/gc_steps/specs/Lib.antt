@@ -1,0 +1,12 @@
+pub mod Copying
+pub mod Entries
+pub mod Filtering
+pub mod Laws
+pub mod LiveTrees
+pub mod Marking
+pub mod MarksAreClosed
+pub mod Releasing
+pub mod Roots
+pub mod Scanning
+pub mod Stages
+pub mod SweepIsSafe

@@ -1,0 +1,222 @@
+//! Which entries of a container are live, and the copies that the index has.
+ghost use Rattle.std.specs.Prelude.{◌≡◌, ◌↔◌, ◌+◌, ◌<◌, ◌≤◌, ◌^◌, [], ◌∷◌, ◌++◌, ℕ, List, None, Some, Ok, Err, true, false, length, IsTrue, IfOk, IfErr, OnOk};
+ghost use Rattle.container_log.specs.Parts.{header_bytes, ReadAs};
+ghost use Rattle.container_meta.specs.Spelling.{HeaderValue, IsHeader, bytes_of, view};
+ghost use Rattle.dd_disk.specs.Ending.{ending, Reads, UnlessFailed};
+ghost use Rattle.dd_disk.specs.Shows.{Shows};
+ghost use Rattle.disk_format.specs.Layout.{size_of, slot_at};
+ghost use Rattle.disk_format.specs.declared.numbers.TheConstants.{SLOT_BYTES};
+ghost use Rattle.segment_index.specs.Changes.{Changes};
+ghost use Rattle.segment_index.specs.Places.{KnownMap};
+ghost use Rattle.store_model.specs.Slots.{HoldsSlot, place_of};
+ghost use Rattle.store_state.specs.Indexing.{Stays};
+ghost use Rattle.store_state.specs.Refused.{blames, fails};
+ghost use Rattle.gc_steps.specs.Entries.{is_place, is_copy as is_copy_in, copy_keys, without_keys, IsLiveCopy, HasLiveCopy, IsDead, AreDead, SumsLive};
+ghost use Rattle.gc_steps.specs.Entries.{IsHeaderRefusal, IsLookUpRefusal, IsScanRefusal, IsRemoveRefusal};
+
+use container_log::{LogFault, read_meta};
+use container_meta::{Entry, Key, Kind, Meta, Place, key_of};
+use dd_disk::Disk;
+use gc_enumerate::Live;
+use refusals::Refusal;
+use segment_index::Index;
+use std::alloc::Global;
+use store_state::{find, remove_key};
+
+/// The header and entries of the container in a slot.
+pub(crate) fn read_header<D: Disk>(alloc: Global, disk: &mut D, slot: u32) -> Result<Meta, Refusal>
+    requires { slot_at slot + SLOT_BYTES ≤ (D.view disk.old).size }
+    ensures right { IfOk result (λ m. IsHeader (view m)) }
+    ensures shown { IfOk result (λ m. Shows (D.view disk.old) (D.view disk.new) (λ image. HoldsSlot image slot (Some (view m)))) }
+    // The header that the slot holds is answered, unless memory or the disk fails.
+    ensures only { Shows (D.view disk.old) (D.view disk.new) (λ image. (h : HeaderValue) → HoldsSlot image slot (Some h)
+        → UnlessFailed fails (λ m. view m ≡ h) result) }
+    ensures refused { IfErr result (IsHeaderRefusal (D.view disk.old) (D.view disk.new) slot) }
+    ensures reads { Reads (ending blames result) (D.view disk.old) (D.view disk.new) }
+{
+    match read_meta(alloc, disk, slot) {
+        Ok(meta) => Ok(meta),
+        Err(LogFault::Memory) => Err(Refusal::Memory),
+        Err(LogFault::DiskRead) => Err(Refusal::DiskRead),
+        Err(LogFault::Damaged { at, why }) => Err(Refusal::Damaged { at, why }),
+        // Nothing is written, and no segment is read.
+        Err(LogFault::DiskWrite) => unreachable!(),
+        Err(LogFault::Corrupt { .. }) => unreachable!(),
+    }
+}
+
+// Whether two places are one.
+fn same_place(a: &Place, b: &Place) -> bool
+    ensures { result ≡ is_place a.now b.now }
+{
+    a.slot == b.slot && a.offset == b.offset && a.length == b.length && a.level == b.level
+}
+
+// Where an entry's segment lies.
+fn place_in(slot: u32, entry: &Entry) -> Place
+    ensures { result ≡ place_of slot entry.now }
+{
+    Place {
+        slot,
+        offset: entry.offset,
+        length: entry.length,
+        level: entry.level,
+    }
+}
+
+// Whether the index has an entry's segment as the copy of its key.
+fn is_copy<D: Disk, X: Index>(
+    disk: &mut D,
+    index: &mut X,
+    slot: u32,
+    kind: Kind,
+    entry: &Entry,
+) -> Result<bool, Refusal>
+    requires { X.serves index.old (D.view disk.old).size }
+    ensures copy { IfOk result (λ yes. KnownMap (X.places index.old (D.view disk.old).content)
+        (λ m. yes ≡ is_copy_in m kind slot entry.now)) }
+    ensures map { X.places index.new (D.view disk.new).content ≡ X.places index.old (D.view disk.old).content }
+    ensures refused { IfErr result (IsLookUpRefusal (X.places index.old (D.view disk.old).content)) }
+    ensures reads { Reads (ending blames result) (D.view disk.old) (D.view disk.new) }
+    ensures served { X.serves index.new (D.view disk.new).size }
+{
+    match find(disk, index, &key_of(kind, &entry.digest))? {
+        Some(found) => Ok(same_place(&found, &place_in(slot, entry))),
+        None => Ok(false),
+    }
+}
+
+// Whether it is live, too.
+fn is_live_copy<D: Disk, X: Index>(
+    disk: &mut D,
+    index: &mut X,
+    live: &Live,
+    slot: u32,
+    kind: Kind,
+    entry: &Entry,
+) -> Result<bool, Refusal>
+    requires { X.serves index.old (D.view disk.old).size }
+    ensures live { IfOk result (λ yes. KnownMap (X.places index.old (D.view disk.old).content)
+        (λ m. IsTrue yes ↔ IsLiveCopy m live.now kind slot entry.now)) }
+    ensures map { X.places index.new (D.view disk.new).content ≡ X.places index.old (D.view disk.old).content }
+    ensures refused { IfErr result (IsLookUpRefusal (X.places index.old (D.view disk.old).content)) }
+    ensures reads { Reads (ending blames result) (D.view disk.old) (D.view disk.new) }
+    ensures served { X.serves index.new (D.view disk.new).size }
+{
+    let copy = is_copy(disk, index, slot, kind, entry)?;
+    Ok(copy && live.is_live(&key_of(kind, &entry.digest), &place_in(slot, entry)))
+}
+
+/// How many bytes of a container are those of entries that are live, and the copies that the index has.
+pub(crate) fn live_bytes<D: Disk, X: Index>(
+    disk: &mut D,
+    index: &mut X,
+    live: &Live,
+    slot: u32,
+    kind: Kind,
+    entries: &[Entry],
+) -> Result<u32, Refusal>
+    requires serves { X.serves index.old (D.view disk.old).size }
+    requires bytes { bytes_of entries.now < 2 ^ 32 }
+    ensures sum { IfOk result (λ sum. KnownMap (X.places index.old (D.view disk.old).content)
+        (λ m. SumsLive m live.now kind slot entries.now sum)) }
+    ensures most { IfOk result (λ sum. sum ≤ bytes_of entries.now) }
+    ensures map { X.places index.new (D.view disk.new).content ≡ X.places index.old (D.view disk.old).content }
+    ensures refused { IfErr result (IsLookUpRefusal (X.places index.old (D.view disk.old).content)) }
+    ensures reads { Reads (ending blames result) (D.view disk.old) (D.view disk.new) }
+    ensures served { X.serves index.new (D.view disk.new).size }
+{
+    let Some((entry, rest)) = entries.split_first() else {
+        return Ok(0);
+    };
+    let counts = is_live_copy(disk, index, live, slot, kind, entry)?;
+    let sum = live_bytes(disk, index, live, slot, kind, rest)?;
+    if counts {
+        Ok(entry.length + sum)
+    } else {
+        Ok(sum)
+    }
+}
+
+// Adds the key of an entry that is the copy that the index has, unless it is live. Whether it isn't.
+fn add_if_dead<D: Disk, X: Index>(
+    disk: &mut D,
+    index: &mut X,
+    live: &Live,
+    slot: u32,
+    kind: Kind,
+    entry: &Entry,
+    keys: &mut Vec<Key>,
+) -> Result<bool, Refusal>
+    requires { X.serves index.old (D.view disk.old).size }
+    ensures dead { result ≡ Ok true → KnownMap (X.places index.old (D.view disk.old).content)
+        (λ m. IsDead m live.now kind slot entry.now × (keys.new.items ≡ keys.old.items ++ copy_keys m kind slot (entry.now ∷ []))) }
+    ensures live { result ≡ Ok false → KnownMap (X.places index.old (D.view disk.old).content)
+        (λ m. IsLiveCopy m live.now kind slot entry.now) }
+    ensures map { X.places index.new (D.view disk.new).content ≡ X.places index.old (D.view disk.old).content }
+    ensures refused { IfErr result (IsScanRefusal (X.places index.old (D.view disk.old).content)) }
+    ensures reads { Reads (ending blames result) (D.view disk.old) (D.view disk.new) }
+    ensures served { X.serves index.new (D.view disk.new).size }
+{
+    if !is_copy(disk, index, slot, kind, entry)? {
+        return Ok(true);
+    }
+    let key = key_of(kind, &entry.digest);
+    if live.is_live(&key, &place_in(slot, entry)) {
+        return Ok(false);
+    }
+    keys.push(key)?;
+    Ok(true)
+}
+
+/// Adds the keys of those entries that are the copies that the index has, unless one of them is live. Whether none is.
+pub(crate) fn add_dead<D: Disk, X: Index>(
+    disk: &mut D,
+    index: &mut X,
+    live: &Live,
+    slot: u32,
+    kind: Kind,
+    entries: &[Entry],
+    keys: &mut Vec<Key>,
+) -> Result<bool, Refusal>
+    requires { X.serves index.old (D.view disk.old).size }
+    ensures dead { result ≡ Ok true → KnownMap (X.places index.old (D.view disk.old).content)
+        (λ m. AreDead m live.now kind slot entries.now × (keys.new.items ≡ keys.old.items ++ copy_keys m kind slot entries.now)) }
+    ensures live { result ≡ Ok false → KnownMap (X.places index.old (D.view disk.old).content)
+        (λ m. HasLiveCopy m live.now kind slot entries.now) }
+    ensures map { X.places index.new (D.view disk.new).content ≡ X.places index.old (D.view disk.old).content }
+    ensures refused { IfErr result (IsScanRefusal (X.places index.old (D.view disk.old).content)) }
+    ensures reads { Reads (ending blames result) (D.view disk.old) (D.view disk.new) }
+    ensures served { X.serves index.new (D.view disk.new).size }
+{
+    let Some((entry, rest)) = entries.split_first() else {
+        return Ok(true);
+    };
+    if !add_if_dead(disk, index, live, slot, kind, entry, keys)? {
+        return Ok(false);
+    }
+    add_dead(disk, index, live, slot, kind, rest, keys)
+}
+
+/// Takes keys out of the index, the first of them first. It takes no memory. After `DiskWrite`, and after `Damaged`, some may
+/// be out.
+pub(crate) fn remove_keys<D: Disk, X: Index>(
+    disk: &mut D,
+    index: &mut X,
+    keys: &[Key],
+) -> Result<(), Refusal>
+    requires serves { X.serves index.old (D.view disk.old).size }
+    ensures ok { OnOk result (KnownMap (X.places index.old (D.view disk.old).content)
+        (λ m. X.places index.new (D.view disk.new).content ≡ Some (without_keys keys.now m))) }
+    ensures unknown { OnOk result (Stays (X.places index.old (D.view disk.old).content) (X.places index.new (D.view disk.new).content)) }
+    ensures refused { IfErr result (IsRemoveRefusal (X.places index.old (D.view disk.old).content)) }
+    ensures changes { (slots : ℕ) → (D.view disk.old).size ≡ size_of slots
+        → Changes (slot_at slots) (ending blames result) (D.view disk.old) (D.view disk.new) }
+    ensures served { X.serves index.new (D.view disk.new).size }
+{
+    let Some((key, rest)) = keys.split_first() else {
+        return Ok(());
+    };
+    remove_key(disk, index, key)?;
+    remove_keys(disk, index, rest)
+}

@@ -1,0 +1,89 @@
+//! How much of a container is live is recorded, and the sources are chosen.
+ghost use Rattle.std.specs.Prelude.{◌≡◌, ◌<◌, length, OnOk, OnErr, IfErr};
+ghost use Rattle.dd_disk.specs.Ending.{ending, Reads};
+ghost use Rattle.refusals.specs.declared.refusal.Refusal.TheVariants.{Memory};
+ghost use Rattle.store_state.specs.Refused.{blames};
+ghost use Rattle.store_state.specs.Tables.{Runs};
+ghost use Rattle.gc_steps.specs.Filtering.{Records, Chooses, recorded as recorded_of};
+ghost use Rattle.gc_steps.specs.Copying.{IsSourceRefusal};
+
+use crate::collection::Collection;
+use crate::entries::{live_bytes, read_header};
+use crate::slots::{filter_from, sweep_from};
+use dd_disk::Disk;
+use gc_select::{ContainerLiveness, select};
+use refusals::Refusal;
+use segment_index::Index;
+use std::alloc::Global;
+use store_state::{SlotTable, Tables};
+
+// What is recorded of the container of a slot.
+fn recorded(held: &SlotTable, slot: u32, live: u32) -> ContainerLiveness
+    requires ids { slot < length held.now.ids.items }
+    requires counts { slot < length held.now.counts.items }
+    ensures { result ≡ recorded_of held.now slot live }
+{
+    let count = held.counts[slot as usize];
+    ContainerLiveness {
+        id: held.ids[slot as usize],
+        kind: count.kind,
+        live,
+        all: count.bytes,
+    }
+}
+
+/// Records the container of a slot: how many of its bytes are live, and how many it has.
+///
+/// Refusals: `Memory`; `DiskRead`; `Damaged` for a header that breaks the format, or for the index's own bytes. They leave the
+/// collection as it was.
+pub fn record_container<D: Disk, X: Index>(
+    alloc: Global,
+    disk: &mut D,
+    tables: &Tables,
+    index: &mut X,
+    collection: &mut Collection,
+    slot: u32,
+) -> Result<(), Refusal>
+    requires serves { X.serves index.old (D.view disk.old).size }
+    requires runs { (known : _) × Runs (D.view disk.old).size known tables.now }
+    requires within { slot < length tables.now.held.ids.items }
+    ensures ok { OnOk result (Records tables.now.held (X.places index.old (D.view disk.old).content) (D.view disk.old) (D.view disk.new)
+        slot collection.old collection.new) }
+    ensures unchanged { OnErr result (collection.new ≡ collection.old) }
+    ensures refused { IfErr result (IsSourceRefusal (X.places index.old (D.view disk.old).content) (D.view disk.old) (D.view disk.new) slot) }
+    ensures map { X.places index.new (D.view disk.new).content ≡ X.places index.old (D.view disk.old).content }
+    ensures reads { Reads (ending blames result) (D.view disk.old) (D.view disk.new) }
+    ensures served { X.serves index.new (D.view disk.new).size }
+{
+    let meta = read_header(alloc, disk, slot)?;
+    let live = live_bytes(
+        disk,
+        index,
+        &collection.live,
+        slot,
+        meta.kind,
+        &meta.entries,
+    )?;
+    collection
+        .liveness
+        .push(recorded(&tables.held, slot, live))?;
+    collection.stage = filter_from(&tables.held, collection.snapshot, slot + 1);
+    Ok(())
+}
+
+/// Chooses the sources. The one refusal is `Memory`, which leaves the collection as it was.
+pub fn choose_sources(alloc: Global, collection: &mut Collection) -> Result<(), Refusal>
+    ensures ok { OnOk result (Chooses collection.old collection.new) }
+    ensures unchanged { OnErr result (collection.new ≡ collection.old) }
+    ensures refused { IfErr result (λ refusal. refusal ≡ Memory) }
+{
+    let sources = select(
+        alloc,
+        &collection.liveness,
+        collection.snapshot,
+        collection.percent,
+    )?;
+    collection.stage = sweep_from(&sources, 0);
+    collection.sources = sources;
+    Ok(())
+}

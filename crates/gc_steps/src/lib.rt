@@ -1,0 +1,20 @@
+//! A collection: what nothing needs is found, and containers that hold nothing else are given back. It begins with `start`; each
+//! other call does the next step of one kind (docs/MODEL.md, 'Collection').
+#![tactic(auto)]
+
+mod collection;
+mod copies;
+mod copying;
+mod entries;
+mod filtering;
+mod marking;
+mod releasing;
+mod slots;
+mod starting;
+
+pub use collection::{Collection, Stage};
+pub use copying::take_source;
+pub use filtering::{choose_sources, record_container};
+pub use marking::mark_container;
+pub use releasing::release_source;
+pub use starting::start;

@@ -1,5 +1,5 @@
 -- What a sweep leaves: keys that are live stay in the index, and a source that was emptied has no entry.
-use Rattle.std.proofs.Common.{◌≡◌, ◌≢◌, ℕ, zero, suc, ◌+◌, Bool, true, false, List, [], ◌∷◌, get_or, Option, Some, None, find, refl, sym, ◌∙◌, ap, subst, arith}
+use Rattle.std.proofs.Common.{◌≡◌, ◌≢◌, ℕ, zero, suc, ◌+◌, ◌<◌, Bool, true, false, List, [], ◌∷◌, get_or, Option, Some, None, find, refl, sym, ◌∙◌, ap, subst, arith}
 use Rattle.std.specs.Prelude.{◌&&◌, ◌==◌, if◌then◌else◌}
 use Rattle.std.specs.Cmp.Lexicographic.{slice_cmp, nat_list_cmp_total}
 use Rattle.std.specs.FinMap as finite
@@ -198,15 +198,20 @@ module _ (live : LiveKeys) (store : Store) (index : PlaceMap) (slot : ℕ) (h : 
 
 -- and the sweep stays safe, now that the source is ready
 pub swept : (store : Store) (index : PlaceMap) (parts : List Part) (image : List ℕ) (c : Collection) (source slot : ℕ) (h : HeaderValue) → slice_get store.held slot ≡ Some (Some h)
-    → IsPartialIndexOf store.held index → AreDead index c.live h.kind slot h.entries → SweepIsSafe index store parts image c
-    → SweepIsSafe (without_keys (copy_keys index h.kind slot h.entries) index) store parts image (record c { stage = Release source slot })
-swept store index parts image c source slot h there partial dead safe =
+    → h.id < c.snapshot → IsPartialIndexOf store.held index → AreDead index c.live h.kind slot h.entries → SweepIsSafe index store parts image c
+    → SweepIsSafe (without_keys (copy_keys index h.kind slot h.entries) index) store parts image (record c { stage = Release (source + 1) slot })
+swept store index parts image c source slot h there came_before partial dead safe =
     let stays = live_after c.live store index slot h there partial dead in
     let was = live_before c.live store index slot h there partial dead in
     record {
       roots_are_live = λ key root. stays key (safe.roots_are_live key root);
-      live_is_indexed = λ key place marked. stays key (safe.live_is_indexed key place marked);
       live_is_closed = λ n copy holds is. all_after c.live store index slot h there partial dead (child_keys n) (safe.live_is_closed n copy holds (was (node_key n) is));
-      ready_is_empty = emptied c.live store index slot h there partial dead;
+      releases_ready = record {
+        counted = omega arith;
+        header = h;
+        there = there;
+        came_before = came_before;
+        is_empty = emptied c.live store index slot h there partial dead;
+      };
       new_are_live = λ other g other_there new. entries_after c.live store index slot h there partial dead g.kind g.entries (safe.new_are_live other g other_there new);
     }

@@ -12,13 +12,18 @@ use Rattle.disk_format.specs.Layout.{size_of, slot_at}
 use Rattle.gc_enumerate.specs.Live.{LiveKeys}
 use Rattle.segment_index.specs.Changes.{SameBefore, Changes}
 use Rattle.segment_index.specs.Places.{KnownMap}
+use Rattle.store_model.specs.Slots.{IsPartialIndexOf}
+use Rattle.store_model.proofs.Copies.{some_same}
 use Rattle.store_state.specs.Indexing.{Stays}
+use Rattle.store_state.specs.Tables.{Runs}
+use Rattle.store_state.specs.declared.tables.Tables.{Tables}
 use Rattle.store_state.specs.declared.slot_table.SlotTable.{SlotTable}
 use Rattle.store_state.proofs.Changed.{changes_on, size_on}
 use Rattle.gc_steps.specs.declared.collection.Collection.{Collection}
 use Rattle.gc_steps.specs.declared.collection.Stage.TheVariants.{Release}
 use Rattle.gc_steps.specs.Copying.{LooksThrough, HasFound, Takes}
 use Rattle.gc_steps.specs.Entries.{AreDead, copy_keys, without_keys}
+use Rattle.gc_steps.proofs.Swept.{had_before}
 
 -- ---- what was found
 
@@ -74,3 +79,32 @@ takes_emptied t known mid_known after_known old mid new source slot c found keys
         collection_is = refl;
       });
     }
+
+-- ---- tables run on
+
+-- with an index that has fewer keys
+pub runs_emptied : (size new_size : ℕ) (known after_known : Option PlaceMap) (t : Tables) (keys : List (List ℕ)) → new_size ≡ size → KnownMap known (λ m. after_known ≡ Some (without_keys keys m))
+    → Stays known after_known → Runs size known t → Runs new_size after_known t
+runs_emptied size new_size known after_known t keys same removed stays runs = subst (λ (n : ℕ). Runs n after_known t) (sym same) (record {
+  store = runs.store;
+  represents = record {
+    slots_are = runs.represents.slots_are;
+    names_are = runs.represents.names_are;
+    slots_hold = runs.represents.slots_hold;
+    index_is_newest = by_known known runs.represents.index_is_newest removed stays;
+  };
+  valid = runs.valid;
+  reserve_holds = runs.reserve_holds;
+})
+  where
+    by_known : (k : Option PlaceMap) → KnownMap k (IsPartialIndexOf runs.store.held) → KnownMap k (λ m. after_known ≡ Some (without_keys keys m)) → Stays k after_known
+        → KnownMap after_known (IsPartialIndexOf runs.store.held)
+    by_known None partial removed stays m is = absurd (let wrong : None ≡ Some m = sym (stays refl) ∙ is in cc)
+    by_known (Some before) partial removed stays m is =
+        subst (IsPartialIndexOf runs.store.held) (some_same (without_keys keys before) m (sym (removed before refl) ∙ is))
+        (λ key place has. partial before refl key place (had_before keys before key place has))
+
+-- with the same map
+pub runs_same : (size new_size : ℕ) (known after_known : Option PlaceMap) (t : Tables) → new_size ≡ size → after_known ≡ known → Runs size known t → Runs new_size after_known t
+runs_same size new_size known after_known t same_size same runs =
+    subst (λ (n : ℕ). Runs n after_known t) (sym same_size) (subst (λ (k : Option PlaceMap). Runs size k t) (sym same) runs)

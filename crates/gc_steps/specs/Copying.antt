@@ -1,4 +1,4 @@
--- What it makes of a collection and of the index that a source is taken (docs/MODEL.md, 'Collection').
+-- What taking a source does to a collection and to the index (docs/MODEL.md, 'Collection').
 use Rattle.std.specs.Prelude.{◌≡◌, ◌⊎◌, ℕ, ◌+◌, ◌<◌, List, length, get_or, Option, None, Some}
 use Rattle.container_log.specs.Faults.{IsDamage}
 use Rattle.container_log.specs.Parts.{header_bytes, ReadAs}
@@ -72,7 +72,8 @@ abbrev pub IsTakeRefusal : SlotTable → Option PlaceMap → DiskView → DiskVi
 IsTakeRefusal t known old new id DiskWrite = Unit {0}
 IsTakeRefusal t known old new id refusal = (slot : ℕ) × (get_or t.ids.items slot 0 ≡ id) × IsSourceRefusal known old new slot refusal
 
--- the map of the index stays, but where a write failed; one that isn't known stays so
-abbrev pub KeepsMap : Option PlaceMap → Option PlaceMap → Refusal → Type 0
-KeepsMap known after_known DiskWrite = Unit {0}
-KeepsMap known after_known refusal = KnownMap known (λ index. after_known ≡ Some index)
+-- The map of the index stays; but after a write that failed, and after damage where it isn't known, keys may be out.
+abbrev pub MapStays : Option PlaceMap → Option PlaceMap → Refusal → Type 0
+MapStays known after_known DiskWrite = Unit {0}
+MapStays known after_known (Damaged at why) = KnownMap known (λ index. after_known ≡ Some index)
+MapStays known after_known refusal = after_known ≡ known

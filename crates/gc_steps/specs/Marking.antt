@@ -1,4 +1,4 @@
--- What it makes of the live keys that a container is scanned (docs/MODEL.md, 'Collection').
+-- What scanning a container does to the live keys (docs/MODEL.md, 'Collection').
 use Rattle.std.specs.Prelude.{◌≡◌, ◌⊎◌, ℕ, ◌+◌, Option, None, Some}
 use Rattle.container_meta.specs.Places.{PlaceMap}
 use Rattle.container_meta.specs.Spelling.{HeaderValue, IsHeader}
@@ -35,42 +35,37 @@ abbrev pub IsEntriesFault : Option PlaceMap → DiskView → DiskView → ℕ �
 IsEntriesFault known old new slot level h live fault =
     IsScanFault (scan_for known live slot level h) (ShowsAt old new) (λ at why. known ≡ None) h.entries fault
 
--- The header of a slot was read between two moments of a disk.
-pub record ReadsHeader (old mid : DiskView) (slot : ℕ) : Type 0 where
+-- A container was scanned, as reads showed its header and its nodes of the level; the next one comes.
+pub record Scans (t : SlotTable) (known : Option PlaceMap) (old new : DiskView) (level slot : ℕ) (before after : Collection) : Type 0 where
   pub header : HeaderValue
   pub right : IsHeader header
-  pub shown : Shows old mid (λ image. HoldsSlot image slot (Some header))
-
--- A container was scanned: its header was read, and then its nodes of the level; the next one comes.
-pub record Scans (D : Type 0) (view : D → DiskView) (t : SlotTable) (known : Option PlaceMap) (old new : D) (level slot : ℕ) (before after : Collection)
-    : Type 0 where
-  pub mid : D
-  pub reads : ReadsHeader (view old) (view mid) slot
-  pub scanned : ScansEntries known (view mid) (view new) slot level reads.header before.live after.live
+  pub shown : Shows old new (λ image. HoldsSlot image slot (Some header))
+  pub scanned : ScansEntries known old new slot level header before.live after.live
   pub collection_is : after ≡ record before { live = after.live; stage = mark_from before.snapshot t level (slot + 1) }
 
--- It was not, by an entry of it.
-pub record StopsScan (D : Type 0) (view : D → DiskView) (known : Option PlaceMap) (old new : D) (level slot : ℕ) (live : LiveKeys) (refusal : Refusal)
-    : Type 0 where
-  pub mid : D
-  pub reads : ReadsHeader (view old) (view mid) slot
+-- It was not, by an entry of it, as reads showed its header.
+pub record StopsScan (known : Option PlaceMap) (old new : DiskView) (level slot : ℕ) (live : LiveKeys) (refusal : Refusal) : Type 0 where
+  pub header : HeaderValue
+  pub right : IsHeader header
+  pub shown : Shows old new (λ image. HoldsSlot image slot (Some header))
   pub fault : ScanFault
   pub refusal_is : refusal ≡ step_refusal fault
-  pub cause : IsEntriesFault known (view mid) (view new) slot level reads.header live fault
+  pub cause : IsEntriesFault known old new slot level header live fault
 
 -- why not: its header was not given, or an entry stopped the scan
-abbrev pub IsMarkRefusal : (D : Type 0) → (D → DiskView) → Option PlaceMap → D → D → ℕ → ℕ → LiveKeys → Refusal → Type 0
-IsMarkRefusal D view known old new level slot live refusal =
-    IsHeaderRefusal (view old) (view new) slot refusal ⊎ StopsScan D view known old new level slot live refusal
+abbrev pub IsMarkRefusal : Option PlaceMap → DiskView → DiskView → ℕ → ℕ → LiveKeys → Refusal → Type 0
+IsMarkRefusal known old new level slot live refusal =
+    IsHeaderRefusal old new slot refusal ⊎ StopsScan known old new level slot live refusal
 
 -- Where memory ran out some of the children may be live.
-pub record MarksOnly (D : Type 0) (view : D → DiskView) (known : Option PlaceMap) (old new : D) (level slot : ℕ) (before after : Collection) : Type 0 where
-  pub mid : D
-  pub reads : ReadsHeader (view old) (view mid) slot
-  pub scanned : ScansSome known (view mid) (view new) slot level reads.header before.live after.live
+pub record MarksOnly (known : Option PlaceMap) (old new : DiskView) (level slot : ℕ) (before after : Collection) : Type 0 where
+  pub header : HeaderValue
+  pub right : IsHeader header
+  pub shown : Shows old new (λ image. HoldsSlot image slot (Some header))
+  pub scanned : ScansSome known old new slot level header before.live after.live
   pub collection_is : after ≡ record before { live = after.live }
 
 -- What is refused leaves the collection as it was, but that memory ran out.
-abbrev pub KeepsMarks : (D : Type 0) → (D → DiskView) → Option PlaceMap → D → D → ℕ → ℕ → Collection → Collection → Refusal → Type 0
-KeepsMarks D view known old new level slot before after Memory = (after ≡ before) ⊎ MarksOnly D view known old new level slot before after
-KeepsMarks D view known old new level slot before after refusal = after ≡ before
+abbrev pub KeepsMarks : Option PlaceMap → DiskView → DiskView → ℕ → ℕ → Collection → Collection → Refusal → Type 0
+KeepsMarks known old new level slot before after Memory = (after ≡ before) ⊎ MarksOnly known old new level slot before after
+KeepsMarks known old new level slot before after refusal = after ≡ before

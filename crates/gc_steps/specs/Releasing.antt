@@ -1,4 +1,4 @@
--- What it makes of the tables and of the disk that a container is given back (docs/MODEL.md, 'Collection').
+-- What giving a container back does to the tables and to the disk (docs/MODEL.md, 'Collection').
 use Rattle.std.specs.Prelude.{◌≡◌, ℕ, List, Option, Some}
 use Rattle.base_model.specs.Known.{Known, KnownWith}
 use Rattle.container_log.specs.Writing.{SameButGate}
@@ -47,7 +47,7 @@ pub record GivesBack (t : Tables) (slot : ℕ) (ending : Ending) (old new : Disk
       → IndexesFiles index files → HasNoEntryIn index slot → old.content ≡ Some given → new.content ≡ Some held
       → Stands (IsIn among) store files given → KeepsFreed ending index slot store given held
 
--- Nothing changes but the gate of the slot, whatever the disk holds.
+-- Nothing changes but the gate of the slot, whatever a disk that tells its content holds.
 pub record ChangesGateAlone (slot : ℕ) (ending : Ending) (old new : DiskView) : Type 0 where
   -- At any moment a crash leaves an image from before, or one but for the gate.
   pub leaves : Known old.content (λ _. CrashLeaves (SteppedFrom (SameButGate slot) old) old new)

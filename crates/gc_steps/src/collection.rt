@@ -14,8 +14,8 @@ pub enum Stage {
     Select,
     /// It takes the source of this number.
     Copy { source: usize },
-    /// It gives back the source in a slot; after it comes the source of this number.
-    Release { source: usize, slot: u32 },
+    /// It gives back the source in a slot; the next source has this number.
+    Release { next: usize, slot: u32 },
     /// It ends.
     End,
 }

@@ -2,6 +2,7 @@
 ghost use Rattle.std.specs.Prelude.{◌≡◌};
 ghost use Rattle.gc_steps.specs.Scanning.{scan_fault, step_refusal};
 
+use crate::entries::same_place;
 use container_meta::{Key, Place};
 use dd_disk::Disk;
 use gc_enumerate::{Copies, ScanFault};
@@ -104,12 +105,7 @@ impl<D: Disk, X: Index> Copies for LentCopies<'_, D, X> {
 
     fn is_copy(&mut self, key: &Key, place: &Place) -> Result<bool, ScanFault> {
         match find(self.disk, self.index, key) {
-            Ok(Some(found)) => Ok(
-                found.slot == place.slot
-                    && found.offset == place.offset
-                    && found.length == place.length
-                    && found.level == place.level,
-            ),
+            Ok(Some(found)) => Ok(same_place(&found, place)),
             Ok(None) => Ok(false),
             Err(refusal) => Err(fault_of(refusal)),
         }

@@ -6,7 +6,7 @@ ghost use Rattle.disk_format.specs.declared.numbers.TheConstants.{MOST_SLOTS as 
 ghost use Rattle.segment_index.specs.Changes.{Changes};
 ghost use Rattle.store_state.specs.Refused.{blames};
 ghost use Rattle.store_state.specs.Tables.{Runs};
-ghost use Rattle.gc_steps.specs.Copying.{LooksThrough, Takes, IsSourceRefusal, IsTakeRefusal, KeepsMap};
+ghost use Rattle.gc_steps.specs.Copying.{LooksThrough, Takes, IsSourceRefusal, IsTakeRefusal, MapStays};
 
 use crate::collection::{Collection, Stage};
 use crate::entries::{add_dead, read_header, remove_keys};
@@ -63,7 +63,8 @@ fn dead_keys<D: Disk, X: Index>(
 /// copies leave the index, and it is ready.
 ///
 /// Refusals: `Memory`; `DiskRead`; `Damaged` for a header that breaks the format, or for the index's own bytes; `DiskWrite`. They
-/// leave the collection as it was, and the index but where a write failed.
+/// leave the collection as it was, and the index too; but after `DiskWrite`, and after `Damaged` where the index's map isn't known,
+/// some of the copies may be out.
 pub fn take_source<D: Disk, X: Index>(
     alloc: Global,
     disk: &mut D,
@@ -81,7 +82,13 @@ pub fn take_source<D: Disk, X: Index>(
     ensures unchanged { OnErr result (collection.new ≡ collection.old) }
     ensures refused { IfErr result (IsTakeRefusal tables.now.held (X.places index.old (D.view disk.old).content) (D.view disk.old)
         (D.view disk.new) (get_or collection.old.sources.items source 0)) }
-    ensures kept { IfErr result (KeepsMap (X.places index.old (D.view disk.old).content) (X.places index.new (D.view disk.new).content)) }
+    ensures kept { IfErr result (MapStays (X.places index.old (D.view disk.old).content) (X.places index.new (D.view disk.new).content)) }
+    // Tables that run with the index's map run on; so they do after a refusal that leaves the map as it was.
+    ensures runs { OnOk result (Runs (D.view disk.old).size (X.places index.old (D.view disk.old).content) tables.now
+        → Runs (D.view disk.new).size (X.places index.new (D.view disk.new).content) tables.now) }
+    ensures runs_still { OnErr result (X.places index.new (D.view disk.new).content ≡ X.places index.old (D.view disk.old).content
+        → Runs (D.view disk.old).size (X.places index.old (D.view disk.old).content) tables.now
+        → Runs (D.view disk.new).size (X.places index.new (D.view disk.new).content) tables.now) }
     ensures changes { (slots : ℕ) → (D.view disk.old).size ≡ size_of slots
         → Changes (slot_at slots) (ending blames result) (D.view disk.old) (D.view disk.new) }
     ensures served { X.serves index.new (D.view disk.new).size }
@@ -91,7 +98,7 @@ pub fn take_source<D: Disk, X: Index>(
         Some(keys) => {
             remove_keys(disk, index, &keys)?;
             collection.stage = Stage::Release {
-                source: source + 1,
+                next: source + 1,
                 slot,
             };
             Ok(())

@@ -45,8 +45,8 @@ pub(crate) fn read_header<D: Disk>(alloc: Global, disk: &mut D, slot: u32) -> Re
     }
 }
 
-// Whether two places are one.
-fn same_place(a: &Place, b: &Place) -> bool
+/// Whether two places are one.
+pub(crate) fn same_place(a: &Place, b: &Place) -> bool
     ensures { result ≡ is_place a.now b.now }
 {
     a.slot == b.slot && a.offset == b.offset && a.length == b.length && a.level == b.level

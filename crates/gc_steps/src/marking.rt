@@ -55,10 +55,12 @@ fn scan_lent<D: Disk, X: Index>(
     scan_container(alloc, &mut copies, live, slot, meta, level, buf)
 }
 
-/// Scans the container of a slot for its nodes of a level. `buf` has room for a segment, and may hold anything then.
+/// Scans the container in a slot for its nodes of a level, from 1 to 6 (docs/MODEL.md, 'Collection'); the stage is then what comes
+/// after it. `slot` counts from 0. `buf` has room for a segment, and may hold anything then.
 ///
-/// Refusals: those of `scan_container`, and `Memory`, `DiskRead` and `Damaged` for the header. They leave the collection as it was,
-/// but that after `Memory` some of the children may be live.
+/// Refusals: `Memory`; `DiskRead`; `Damaged` for a header or a node that breaks the format, or for the index's own bytes; `Corrupt`
+/// for a node whose bytes have another digest; `Missing` for a child that the index lacks. They leave the collection as it was, but
+/// that after `Memory` some of the children may be live.
 pub fn mark_container<D: Disk, X: Index>(
     alloc: Global,
     disk: &mut D,
@@ -74,11 +76,11 @@ pub fn mark_container<D: Disk, X: Index>(
     requires within { slot < length tables.now.held.ids.items }
     requires level { 1 ≤ level }
     requires room { MOST_SEGMENT ≤ length buf.old }
-    ensures ok { OnOk result (Scans D D.view tables.now.held (X.places index.old (D.view disk.old).content) disk.old disk.new level slot
+    ensures ok { OnOk result (Scans tables.now.held (X.places index.old (D.view disk.old).content) (D.view disk.old) (D.view disk.new)
+        level slot collection.old collection.new) }
+    ensures kept { IfErr result (KeepsMarks (X.places index.old (D.view disk.old).content) (D.view disk.old) (D.view disk.new) level slot
         collection.old collection.new) }
-    ensures kept { IfErr result (KeepsMarks D D.view (X.places index.old (D.view disk.old).content) disk.old disk.new level slot
-        collection.old collection.new) }
-    ensures refused { IfErr result (IsMarkRefusal D D.view (X.places index.old (D.view disk.old).content) disk.old disk.new level slot
+    ensures refused { IfErr result (IsMarkRefusal (X.places index.old (D.view disk.old).content) (D.view disk.old) (D.view disk.new) level slot
         collection.old.live) }
     ensures map { X.places index.new (D.view disk.new).content ≡ X.places index.old (D.view disk.old).content }
     ensures reads { Reads (ending blames result) (D.view disk.old) (D.view disk.new) }

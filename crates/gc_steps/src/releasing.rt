@@ -62,22 +62,22 @@ fn give_back<D: Disk>(disk: &mut D, tables: &mut Tables, slot: u32) -> Result<()
     Ok(())
 }
 
-/// Gives back the source in a slot, in which the index has no entry; after it comes the source of a number. The one refusal is
-/// `DiskWrite`, which leaves tables and collection as they were.
+/// Gives back the source in a slot, in which the index has no entry; `next` is the number of the source that comes after it. The
+/// one refusal is `DiskWrite`, which leaves tables and collection as they were.
 pub fn release_source<D: Disk>(
     disk: &mut D,
     tables: &mut Tables,
     collection: &mut Collection,
-    source: usize,
+    next: usize,
     slot: u32,
 ) -> Result<(), Refusal>
     requires runs { (known : _) × Runs (D.view disk.old).size known tables.old }
     requires within { slot < length tables.old.held.ids.items }
     requires there { get_or tables.old.held.ids.items slot 0 ≢ 0 }
-    requires freed { collection.old.freed < source }
+    requires freed { collection.old.freed < next }
     ensures tables { OnOk result (HasFreed tables.old slot tables.new) }
     ensures collection { OnOk result (collection.new ≡ record collection.old {
-      stage = sweep_stage collection.old.sources.items source;
+      stage = sweep_stage collection.old.sources.items next;
       freed = collection.old.freed + 1;
     }) }
     ensures tables_kept { OnErr result (tables.new ≡ tables.old) }
@@ -90,6 +90,6 @@ pub fn release_source<D: Disk>(
 {
     give_back(disk, tables, slot)?;
     collection.freed += 1;
-    collection.stage = sweep_from(&collection.sources, source);
+    collection.stage = sweep_from(&collection.sources, next);
     Ok(())
 }

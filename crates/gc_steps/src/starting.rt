@@ -12,7 +12,7 @@ ghost use Rattle.gc_steps.specs.Stages.{mark_level as level_stage};
 
 use crate::collection::Collection;
 use crate::slots::mark_level;
-use actor_parts::{ACTORS, Actor, Part, Parts};
+use actor_parts::{ACTORS, Actor, Part, Parts, Percent};
 use container_meta::{Key, Kind, Place, key_of};
 use disk_format::MOST_LEVEL;
 use gc_enumerate::Live;
@@ -135,7 +135,7 @@ pub fn start(
     alloc: Global,
     tables: &Tables,
     parts: &Parts,
-    percent: u8,
+    percent: Percent,
 ) -> Result<Collection, Refusal>
     requires ids { length tables.now.held.ids.items ≤ MANY }
     requires counts { length tables.now.held.counts.items ≡ length tables.now.held.ids.items }
@@ -151,7 +151,7 @@ pub fn start(
     let live = first_live(alloc, &tables.names, parts)?;
     Ok(Collection {
         snapshot,
-        percent,
+        percent: percent.number() as u8,
         live,
         liveness: Liveness::new(alloc),
         sources: Vec::new(alloc),

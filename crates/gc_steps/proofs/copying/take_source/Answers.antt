@@ -3,11 +3,12 @@ use Rattle.std.proofs.lemmas.Grind.{get_or_default_zero}
 use Rattle.dd_disk.specs.Ending.{Done, ending_of}
 use Rattle.dd_disk.proofs.Moves.{passed}
 use Rattle.disk_format.specs.Layout.{slot_at}
+use Rattle.gc_enumerate.proofs.Marks.{on_err}
 use Rattle.segment_index.specs.Changes.{Changes}
 use Rattle.store_state.specs.Refused.{blames}
 use Rattle.store_state.proofs.Changed.{size_on}
 use Rattle.gc_steps.proofs.Released.{few_slots, slot_fits}
-use Rattle.gc_steps.proofs.Taken.{changes_after, takes_emptied}
+use Rattle.gc_steps.proofs.Taken.{changes_after, runs_emptied, runs_same, takes_emptied}
 use Rattle.gc_steps.proofs.copying.take_source.Goals as goal
 
 pub slot_of-slot-requires-clause-few : goal.slot_of-slot-requires-clause-few
@@ -42,3 +43,30 @@ returns-in_ok-remove_keys-in-Some-clause-ok g c =
     (option_map (λ (k : Vec (List ℕ) Global). k.items) c.in_ok-keys.field-0) keys c.slot_of-slot.ensures.within (c.slot_of-slot.ensures.id ∙ c.index.ensures ∙ get_or_default_zero c.args.collection.now.sources.items c.args.source c.index.result.now c.requires.within) c.in_ok-keys.ensures.ok
     (ap (option_map (λ (k : Vec (List ℕ) Global). k.items)) c.in-Some.is ∙ ap Some (sym c.deref.ensures.value)) reads.later.clock_is
     (c.in_ok-remove_keys-in-Some.ensures.changes runs.store.slots (size_on old mid runs.store.slots reads.later runs.valid.size_is)).later c.in_ok-keys.ensures.map c.in_ok-remove_keys-in-Some.ensures.ok c.in_ok-remove_keys-in-Some.ensures.unknown
+
+pub returns-in_ok-remove_keys-in-Some-clause-runs : goal.returns-in_ok-remove_keys-in-Some-clause-runs
+returns-in_ok-remove_keys-in-Some-clause-runs g c = λ before.
+    let view = g.D.Disk.view in
+    let places = g.X.Index.places in
+    let old = view c.args.disk.now in
+    let mid = view c.dead_keys.new.disk in
+    let new = view c.remove_keys.new.disk in
+    let reads = c.in_ok-keys.ensures.reads.only in
+    let runs = c.requires.runs.1 in
+    let changed = c.in_ok-remove_keys-in-Some.ensures.changes runs.store.slots (size_on old mid runs.store.slots reads.later runs.valid.size_is) in
+    runs_emptied old.size new.size (places c.args.index.now old.content) (places c.remove_keys.new.index new.content) c.args.tables.now c.deref.result.now (changed.later.size_is ∙ reads.later.size_is)
+    (λ m known. c.in_ok-remove_keys-in-Some.ensures.ok m (c.in_ok-keys.ensures.map ∙ known)) (λ none. c.in_ok-remove_keys-in-Some.ensures.unknown (c.in_ok-keys.ensures.map ∙ none)) before
+
+pub returns-in_err-remove_keys-in-Some-clause-runs_still : goal.returns-in_err-remove_keys-in-Some-clause-runs_still
+returns-in_err-remove_keys-in-Some-clause-runs_still g c =
+    let view = g.D.Disk.view in
+    let places = g.X.Index.places in
+    let old = view c.args.disk.now in
+    let mid = view c.dead_keys.new.disk in
+    let new = view c.remove_keys.new.disk in
+    let reads = c.in_ok-keys.ensures.reads.only in
+    let runs = c.requires.runs.1 in
+    let changed = c.in_err-remove_keys-in-Some.ensures.changes runs.store.slots (size_on old mid runs.store.slots reads.later runs.valid.size_is) in
+    on_err c.from_residual-in_err-remove_keys-in-Some.result
+    (λ same before.
+    runs_same old.size new.size (places c.args.index.now old.content) (places c.remove_keys.new.index new.content) c.args.tables.now (changed.later.size_is ∙ reads.later.size_is) same before)

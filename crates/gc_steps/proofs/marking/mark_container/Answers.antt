@@ -1,11 +1,10 @@
-use Rattle.std.proofs.Common.{inr, Option, Err, ap, subst, arith}
-use Rattle.container_meta.specs.Places.{PlaceMap}
+use Rattle.std.proofs.Common.{inr, Err, ap, arith}
 use Rattle.container_meta.specs.Spelling.{view}
+use Rattle.dd_disk.proofs.Shows.{until}
 use Rattle.gc_steps.specs.declared.collection.Collection.{Collection}
 use Rattle.gc_steps.specs.declared.collection.Stage.{Stage}
-use Rattle.gc_steps.specs.Marking.{ScansEntries, IsEntriesFault}
 use Rattle.gc_steps.proofs.Released.{columns, few_slots, slot_fits}
-use Rattle.gc_steps.proofs.Scans.{keeps_marks}
+use Rattle.gc_steps.proofs.Scans.{entries_since, some_since, fault_since, keeps_marks}
 use Rattle.gc_steps.proofs.marking.mark_container.Goals as goal
 
 pub read_header-requires : goal.read_header-requires
@@ -23,16 +22,18 @@ mark_from-collection-requires-clause-counts g c = columns (g.D.Disk.view c.args.
 pub returns-in-Ok-clause-ok : goal.returns-in-Ok-clause-ok
 returns-in-Ok-clause-ok g c =
     let disk = g.D.Disk.view in
+    let places = g.X.Index.places c.args.index.now in
+    let old = disk c.args.disk.now in
     let mid = disk c.read_header.new.disk in
     let new = disk c.scan_lent.new.disk in
     let header = view c.in_ok-meta.meta in
     let now = c.args.collection.now in
+    let reads = c.in_ok-meta.ensures.reads.only in
     record {
-      mid = c.read_header.new.disk;
-      reads = record { header = header; right = c.in_ok-meta.ensures.right; shown = c.in_ok-meta.ensures.shown };
-      scanned =
-          subst (λ (k : Option PlaceMap). ScansEntries k mid new c.args.slot c.args.level header now.live c.scan_lent.new.live) (ap (g.X.Index.places c.args.index.now) c.in_ok-meta.ensures.reads.only.content_is)
-          c.in-Ok.ensures.marks;
+      header = header;
+      right = c.in_ok-meta.ensures.right;
+      shown = until old mid new c.in_ok-meta.ensures.shown reads.later.clock_is c.in-Ok.ensures.only.later;
+      scanned = entries_since (places old.content) (places mid.content) old mid new reads (ap places reads.content_is) c.args.slot c.args.level header now.live c.scan_lent.new.live c.in-Ok.ensures.marks;
       collection_is = ap (λ (s : Stage). (let after : Collection = record now { live = c.scan_lent.new.live; stage = s } in after)) c.mark_from-collection.ensures;
     }
 
@@ -40,22 +41,30 @@ pub returns-clause-kept : goal.returns-clause-kept
 returns-clause-kept g c =
     let disk = g.D.Disk.view in
     let places = g.X.Index.places c.args.index.now in
-    keeps_marks g.row.D.Denot disk (places (disk c.args.disk.now).content) (places (disk c.read_header.new.disk).content) c.args.disk.now c.read_header.new.disk c.scan_lent.new.disk c.args.level c.args.slot c.args.collection.now c.scan_lent.new.live
-    c.in-Err.fault c.refusal_of.result (record { header = view c.in_ok-meta.meta; right = c.in_ok-meta.ensures.right; shown = c.in_ok-meta.ensures.shown }) (ap places c.in_ok-meta.ensures.reads.only.content_is)
-    c.refusal_of.ensures c.in-Err.ensures.kept (λ is. c.in-Err.ensures.some (ap Err is))
+    let old = disk c.args.disk.now in
+    let mid = disk c.read_header.new.disk in
+    let new = disk c.scan_lent.new.disk in
+    let header = view c.in_ok-meta.meta in
+    let reads = c.in_ok-meta.ensures.reads.only in
+    keeps_marks (places old.content) old new c.args.level c.args.slot c.args.collection.now c.scan_lent.new.live c.in-Err.fault c.refusal_of.result header c.in_ok-meta.ensures.right
+    (until old mid new c.in_ok-meta.ensures.shown reads.later.clock_is c.in-Err.ensures.only.later) c.refusal_of.ensures c.in-Err.ensures.kept
+    (λ is. some_since (places old.content) (places mid.content) old mid new reads (ap places reads.content_is) c.args.slot c.args.level header c.args.collection.now.live c.scan_lent.new.live
+    (c.in-Err.ensures.some (ap Err is)))
 
 pub returns-clause-refused : goal.returns-clause-refused
 returns-clause-refused g c =
     let disk = g.D.Disk.view in
+    let places = g.X.Index.places c.args.index.now in
+    let old = disk c.args.disk.now in
     let mid = disk c.read_header.new.disk in
     let new = disk c.scan_lent.new.disk in
     let header = view c.in_ok-meta.meta in
+    let reads = c.in_ok-meta.ensures.reads.only in
     inr (record {
-      mid = c.read_header.new.disk;
-      reads = record { header = header; right = c.in_ok-meta.ensures.right; shown = c.in_ok-meta.ensures.shown };
+      header = header;
+      right = c.in_ok-meta.ensures.right;
+      shown = until old mid new c.in_ok-meta.ensures.shown reads.later.clock_is c.in-Err.ensures.only.later;
       fault = c.in-Err.fault;
       refusal_is = c.refusal_of.ensures;
-      cause =
-          subst (λ (k : Option PlaceMap). IsEntriesFault k mid new c.args.slot c.args.level header c.args.collection.now.live c.in-Err.fault) (ap (g.X.Index.places c.args.index.now) c.in_ok-meta.ensures.reads.only.content_is)
-          c.in-Err.ensures.refused;
+      cause = fault_since (places old.content) (places mid.content) old mid new reads (ap places reads.content_is) c.args.slot c.args.level header c.args.collection.now.live c.in-Err.fault c.in-Err.ensures.refused;
     })

@@ -8,5 +8,7 @@ pub mod Released
 pub mod Removed
 pub mod Scanned
 pub mod Scans
+pub mod Sealed
 pub mod Swept
 pub mod Taken
+pub mod UnderWay

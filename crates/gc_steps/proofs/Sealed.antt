@@ -1,5 +1,5 @@
 -- A container that is sealed while a collection is under way leaves it so.
-use Rattle.std.proofs.Common.{◌≡◌, ◌≢◌, ℕ, zero, suc, ◌+◌, ◌<◌, ◌≤◌, max, Bool, true, false, cond, List, [], ◌∷◌, length, get_or, take, set, map, Option, Some, None, refl, sym, ◌∙◌, ap, subst, arith}
+use Rattle.std.proofs.Common.{◌≡◌, ◌≢◌, ℕ, zero, suc, ◌<◌, ◌≤◌, max, Bool, true, false, cond, List, [], ◌∷◌, length, get_or, take, set, Option, Some, None, refl, sym, ◌∙◌, ap, subst, arith}
 use Rattle.std.specs.Prelude.{Contains, nat_eq, nat_lt, ◌&&◌, not, ◌==◌, slice_get}
 use Rattle.std.specs.List.{IsDistinct}
 use Rattle.std.proofs.lemmas.Bool.{ltb-true}
@@ -14,7 +14,7 @@ use Rattle.gc_steps.specs.declared.collection.Collection.{Collection}
 use Rattle.gc_steps.specs.declared.collection.Stage.{Stage}
 use Rattle.gc_steps.specs.declared.collection.Stage.TheVariants.{Mark, Filter, Select, Copy, Release, End}
 use Rattle.gc_steps.specs.Stages.{is_old, is_old_slot, is_tree, is_tree_slot}
-use Rattle.gc_steps.specs.UnderWay.{AreSourcesLeft, HasStage, IsRecordedTo, IsSlot, IsUnderWay, old_ids}
+use Rattle.gc_steps.specs.UnderWay.{AreSourcesLeft, HasStage, IsSlot, IsUnderWay, old_ids}
 use Rattle.gc_steps.proofs.UnderWay.{contains_set, old_not_zero}
 
 -- an id from the snapshot on is that of no container that was there

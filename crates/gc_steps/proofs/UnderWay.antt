@@ -1,21 +1,20 @@
 -- A collection stays under way from step to step.
-use Rattle.std.proofs.Common.{◌≡◌, ◌≢◌, ◌⊎◌, inl, inr, ℕ, zero, suc, ◌+◌, ◌-◌, ◌<◌, ◌≤◌, min, Bool, true, false, cond, List, [], ◌∷◌, ◌++◌, length, get_or, take, set, map, Option, Some, None, refl, sym, ◌∙◌, ap, subst, arith}
-use Rattle.std.specs.Prelude.{filter, Contains, nat_eq, nat_lt, if◌then◌else◌, slice_get}
-use Rattle.std.specs.List.{AllByRecursion, All, IsDistinct}
+use Rattle.std.proofs.Common.{◌≡◌, ◌≢◌, ℕ, zero, suc, ◌+◌, ◌-◌, ◌<◌, ◌≤◌, Bool, true, false, cond, List, [], ◌∷◌, ◌++◌, length, get_or, take, set, Option, Some, None, refl, sym, ◌∙◌, ap, subst, arith}
+use Rattle.std.specs.Prelude.{Contains, nat_eq, nat_lt, if◌then◌else◌, slice_get}
+use Rattle.std.specs.List.{AllByRecursion, IsDistinct}
 use Rattle.std.proofs.lemmas.Bool.{ltb-true}
 use Rattle.std.proofs.lemmas.Bool.Decides.{Decides-eqb}
 use Rattle.std.proofs.lemmas.List.{append-nil, get_or-set_other, length-set, map_push, take_all, take_more}
 use Rattle.std.proofs.lemmas.List.Elements.{All-contains, All-contains_itself, All-filter, filter-append, filter_passes}
 use Rattle.std.proofs.lemmas.Grind.{get_or_default_zero}
-use Rattle.std.proofs.lemmas.Map.Keys.{IsDistinct-cons}
 use Rattle.std.proofs.lemmas.Map.Made.{AllPairs-from_IsDistinct}
 use Rattle.container_meta.specs.Places.{PlaceMap}
 use Rattle.container_meta.specs.Spelling.{HeaderValue}
 use Rattle.disk_format.specs.declared.numbers.TheConstants.{MOST_LEVEL}
 use Rattle.gc_enumerate.specs.Live.{LiveKeys}
 use Rattle.gc_select.specs.declared.liveness.ContainerLiveness.{ContainerLiveness}
-use Rattle.gc_select.specs.Selecting.{ids_of, is_selected}
-use Rattle.store_model.specs.Slots.{DifferentIds, IsUnusedId, without_slot, ids_of as ids_held}
+use Rattle.gc_select.specs.Selecting.{ids_of}
+use Rattle.store_model.specs.Slots.{DifferentIds, IsUnusedId, ids_of as ids_held}
 use Rattle.store_state.specs.Tables.{Represents, Runs}
 use Rattle.store_state.specs.declared.slot_table.SlotCount.{SlotCount}
 use Rattle.store_state.specs.declared.slot_table.SlotTable.{SlotTable}
@@ -27,7 +26,7 @@ use Rattle.gc_steps.specs.declared.collection.Stage.TheVariants.{Mark, Filter, S
 use Rattle.gc_steps.specs.Filtering.{Chooses, recorded, recorded_by}
 use Rattle.gc_steps.specs.Releasing.{HasFreed}
 use Rattle.gc_steps.specs.Stages.{first_from, first_slot, filter_at, filter_from, is_old, is_old_slot, is_tree_slot, mark_at, mark_from, mark_level, mark_on, sweep_from}
-use Rattle.gc_steps.specs.UnderWay.{AreSourcesLeft, HasStage, IsRecordedTo, IsSlot, IsUnderWay, old_ids}
+use Rattle.gc_steps.specs.UnderWay.{AreSourcesLeft, HasStage, IsRecordedTo, IsUnderWay, old_ids}
 
 pub at_stage : (t : SlotTable) (c : Collection) (stage : Stage) → IsUnderWay t c → c.stage ≡ stage → HasStage t c stage
 at_stage t c stage under is = subst (HasStage t c) is under.stage_is

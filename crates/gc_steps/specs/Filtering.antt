@@ -38,8 +38,8 @@ pub record Records (t : SlotTable) (known : Option PlaceMap) (old new : DiskView
     stage = filter_from before.snapshot t (slot + 1);
   }
 
--- The sources are chosen: those containers that are selected, each as often as it was recorded, and so once where it was recorded once; data
--- before trees, and by rising id. They are those of no other list.
+-- The sources are chosen: just the containers that are selected, each as often as it was recorded, so each once where each was recorded once;
+-- data before trees, and by rising id. There is one such list.
 pub record Chooses (before after : Collection) : Type 0 where
   pub which : (id : ℕ) → Contains after.sources.items id ↔ IsSelectedId before.snapshot before.percent before.liveness id
   pub each : IsPermutation (ids_of (selected before.snapshot before.percent before.liveness)) after.sources.items

@@ -80,7 +80,7 @@ pub fn take_source<D: Disk, X: Index>(
     requires stage { collection.old.stage ≡ CopyStage source }
     ensures ok { OnOk result (Takes tables.now.held (X.places index.old (D.view disk.old).content) (X.places index.new (D.view disk.new).content)
         (D.view disk.old) (D.view disk.new) source collection.old collection.new) }
-    ensures under_way { OnOk result (IsUnderWay tables.now.held collection.new) }
+    ensures under_way { IsUnderWay tables.now.held collection.new }
     ensures unchanged { OnErr result (collection.new ≡ collection.old) }
     ensures refused { IfErr result (IsTakeRefusal tables.now.held (X.places index.old (D.view disk.old).content) (D.view disk.old)
         (D.view disk.new) (get_or collection.old.sources.items source 0)) }

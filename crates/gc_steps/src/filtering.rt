@@ -53,7 +53,7 @@ pub fn record_container<D: Disk, X: Index>(
     requires stage { collection.old.stage ≡ Filter slot }
     ensures ok { OnOk result (Records tables.now.held (X.places index.old (D.view disk.old).content) (D.view disk.old) (D.view disk.new)
         slot collection.old collection.new) }
-    ensures under_way { OnOk result (IsUnderWay tables.now.held collection.new) }
+    ensures under_way { IsUnderWay tables.now.held collection.new }
     ensures unchanged { OnErr result (collection.new ≡ collection.old) }
     ensures refused { IfErr result (IsSourceRefusal (X.places index.old (D.view disk.old).content) (D.view disk.old) (D.view disk.new) slot) }
     ensures map { X.places index.new (D.view disk.new).content ≡ X.places index.old (D.view disk.old).content }
@@ -80,7 +80,7 @@ pub fn record_container<D: Disk, X: Index>(
 pub fn choose_sources(alloc: Global, collection: &mut Collection) -> Result<(), Refusal>
     requires stage { collection.old.stage ≡ Select }
     ensures ok { OnOk result (Chooses collection.old collection.new) }
-    ensures under_way { OnOk result ((t : SlotTable) → IsUnderWay t collection.old → IsUnderWay t collection.new) }
+    ensures under_way { (t : SlotTable) → IsUnderWay t collection.old → IsUnderWay t collection.new }
     ensures unchanged { OnErr result (collection.new ≡ collection.old) }
     ensures refused { IfErr result (λ refusal. refusal ≡ Memory) }
 {

@@ -78,7 +78,7 @@ pub fn mark_container<D: Disk, X: Index>(
     requires room { MOST_SEGMENT ≤ length buf.old }
     ensures ok { OnOk result (Scans D D.view tables.now.held (X.places index.old (D.view disk.old).content) disk.old disk.new level slot
         collection.old collection.new) }
-    ensures under_way { OnOk result (IsUnderWay tables.now.held collection.new) }
+    ensures under_way { IsUnderWay tables.now.held collection.new }
     ensures kept { IfErr result (KeepsMarks D D.view (X.places index.old (D.view disk.old).content) disk.old disk.new level slot
         collection.old collection.new) }
     ensures refused { IfErr result (IsMarkRefusal D D.view (X.places index.old (D.view disk.old).content) disk.old disk.new level slot

@@ -81,7 +81,7 @@ pub fn release_source<D: Disk>(
       stage = sweep_stage collection.old.sources.items source;
       freed = collection.old.freed + 1;
     }) }
-    ensures under_way { OnOk result (IsUnderWay tables.new.held collection.new) }
+    ensures under_way { IsUnderWay tables.new.held collection.new }
     ensures tables_kept { OnErr result (tables.new ≡ tables.old) }
     ensures kept { OnErr result (collection.new ≡ collection.old) }
     ensures refused { IfErr result (λ refusal. refusal ≡ DiskWrite) }

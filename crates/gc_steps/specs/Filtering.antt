@@ -1,12 +1,14 @@
 -- What it makes of a collection that a container is recorded, and that the sources are chosen (docs/MODEL.md, 'Collection').
-use Rattle.std.specs.Prelude.{◌≡◌, ℕ, ◌+◌, [], ◌∷◌, ◌++◌, get_or, slice_get, Option, None, Some}
+use Rattle.std.specs.Prelude.{◌≡◌, ◌↔◌, ℕ, ◌+◌, [], ◌∷◌, ◌++◌, get_or, slice_get, Option, None, Some, Contains, nat_eq}
+use Rattle.std.specs.List.{IsDistinct}
+use Rattle.std.specs.List.Sorted.{IsPermutation}
 use Rattle.container_meta.specs.declared.kind.Kind.TheVariants.{Leaf}
 use Rattle.container_meta.specs.Places.{PlaceMap}
 use Rattle.container_meta.specs.Spelling.{HeaderValue, IsHeader}
 use Rattle.dd_disk.specs.Shows.{Shows}
 use Rattle.dd_disk.specs.View.{DiskView}
 use Rattle.gc_select.specs.declared.liveness.ContainerLiveness.{ContainerLiveness}
-use Rattle.gc_select.specs.Selecting.{selected, sources_of}
+use Rattle.gc_select.specs.Selecting.{AreSources, IsSelectedId, ids_of, selected, sources_of}
 use Rattle.segment_index.specs.Places.{KnownMap}
 use Rattle.store_model.specs.Slots.{HoldsSlot}
 use Rattle.store_state.specs.declared.slot_table.SlotCount.{SlotCount}
@@ -36,7 +38,12 @@ pub record Records (t : SlotTable) (known : Option PlaceMap) (old new : DiskView
     stage = filter_from before.snapshot t (slot + 1);
   }
 
--- The sources are chosen.
+-- The sources are chosen: just the containers that are selected, each as often as it was recorded, so each once where each was recorded once;
+-- data before trees, and by rising id. There is one such list.
 pub record Chooses (before after : Collection) : Type 0 where
+  pub which : (id : ℕ) → Contains after.sources.items id ↔ IsSelectedId before.snapshot before.percent before.liveness id
+  pub each : IsPermutation (ids_of (selected before.snapshot before.percent before.liveness)) after.sources.items
+  pub apart : IsDistinct nat_eq (ids_of before.liveness) → IsDistinct nat_eq after.sources.items
+  pub in_order : AreSources (selected before.snapshot before.percent before.liveness) after.sources.items
   pub sources_are : after.sources.items ≡ sources_of (selected before.snapshot before.percent before.liveness)
   pub collection_is : after ≡ record before { sources = after.sources; stage = sweep_from after.sources.items 0 }

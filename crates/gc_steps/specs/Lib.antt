@@ -10,3 +10,4 @@ pub mod Roots
 pub mod Scanning
 pub mod Stages
 pub mod SweepIsSafe
+pub mod UnderWay

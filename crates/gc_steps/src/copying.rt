@@ -7,6 +7,8 @@ ghost use Rattle.segment_index.specs.Changes.{Changes};
 ghost use Rattle.store_state.specs.Refused.{blames};
 ghost use Rattle.store_state.specs.Tables.{Runs};
 ghost use Rattle.gc_steps.specs.Copying.{LooksThrough, Takes, IsSourceRefusal, IsTakeRefusal, MapStays};
+ghost use Rattle.gc_steps.specs.UnderWay.{IsUnderWay};
+ghost use Rattle.gc_steps.specs.declared.collection.Stage.TheVariants.{Copy as CopyStage};
 
 use crate::collection::{Collection, Stage};
 use crate::entries::{add_dead, read_header, remove_keys};
@@ -75,10 +77,11 @@ pub fn take_source<D: Disk, X: Index>(
 ) -> Result<(), Refusal>
     requires serves { X.serves index.old (D.view disk.old).size }
     requires runs { (known : _) × Runs (D.view disk.old).size known tables.now }
-    requires within { source < length collection.old.sources.items }
-    requires there { Contains tables.now.held.ids.items (get_or collection.old.sources.items source 0) }
+    requires under_way { IsUnderWay tables.now.held collection.old }
+    requires stage { collection.old.stage ≡ CopyStage source }
     ensures ok { OnOk result (Takes tables.now.held (X.places index.old (D.view disk.old).content) (X.places index.new (D.view disk.new).content)
         (D.view disk.old) (D.view disk.new) source collection.old collection.new) }
+    ensures under_way { IsUnderWay tables.now.held collection.new }
     ensures unchanged { OnErr result (collection.new ≡ collection.old) }
     ensures refused { IfErr result (IsTakeRefusal tables.now.held (X.places index.old (D.view disk.old).content) (D.view disk.old)
         (D.view disk.new) (get_or collection.old.sources.items source 0)) }

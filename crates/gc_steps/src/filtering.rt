@@ -4,8 +4,11 @@ ghost use Rattle.dd_disk.specs.Ending.{ending, Reads};
 ghost use Rattle.refusals.specs.declared.refusal.Refusal.TheVariants.{Memory};
 ghost use Rattle.store_state.specs.Refused.{blames};
 ghost use Rattle.store_state.specs.Tables.{Runs};
+ghost use Rattle.store_state.specs.declared.slot_table.SlotTable.{SlotTable};
 ghost use Rattle.gc_steps.specs.Filtering.{Records, Chooses, recorded as recorded_of};
 ghost use Rattle.gc_steps.specs.Copying.{IsSourceRefusal};
+ghost use Rattle.gc_steps.specs.UnderWay.{IsUnderWay};
+ghost use Rattle.gc_steps.specs.declared.collection.Stage.TheVariants.{Filter, Select};
 
 use crate::collection::Collection;
 use crate::entries::{live_bytes, read_header};
@@ -46,9 +49,11 @@ pub fn record_container<D: Disk, X: Index>(
 ) -> Result<(), Refusal>
     requires serves { X.serves index.old (D.view disk.old).size }
     requires runs { (known : _) × Runs (D.view disk.old).size known tables.now }
-    requires within { slot < length tables.now.held.ids.items }
+    requires under_way { IsUnderWay tables.now.held collection.old }
+    requires stage { collection.old.stage ≡ Filter slot }
     ensures ok { OnOk result (Records tables.now.held (X.places index.old (D.view disk.old).content) (D.view disk.old) (D.view disk.new)
         slot collection.old collection.new) }
+    ensures under_way { IsUnderWay tables.now.held collection.new }
     ensures unchanged { OnErr result (collection.new ≡ collection.old) }
     ensures refused { IfErr result (IsSourceRefusal (X.places index.old (D.view disk.old).content) (D.view disk.old) (D.view disk.new) slot) }
     ensures map { X.places index.new (D.view disk.new).content ≡ X.places index.old (D.view disk.old).content }
@@ -73,7 +78,9 @@ pub fn record_container<D: Disk, X: Index>(
 
 /// Chooses the sources. The one refusal is `Memory`, which leaves the collection as it was.
 pub fn choose_sources(alloc: Global, collection: &mut Collection) -> Result<(), Refusal>
+    requires stage { collection.old.stage ≡ Select }
     ensures ok { OnOk result (Chooses collection.old collection.new) }
+    ensures under_way { (t : SlotTable) → IsUnderWay t collection.old → IsUnderWay t collection.new }
     ensures unchanged { OnErr result (collection.new ≡ collection.old) }
     ensures refused { IfErr result (λ refusal. refusal ≡ Memory) }
 {

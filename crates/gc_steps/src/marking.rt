@@ -12,6 +12,8 @@ ghost use Rattle.refusals.specs.declared.refusal.Refusal.TheVariants.{Memory};
 ghost use Rattle.store_state.specs.Refused.{blames};
 ghost use Rattle.store_state.specs.Tables.{Runs};
 ghost use Rattle.gc_steps.specs.Marking.{ScansEntries, ScansSome, IsEntriesFault, Scans, KeepsMarks, IsMarkRefusal};
+ghost use Rattle.gc_steps.specs.UnderWay.{IsUnderWay};
+ghost use Rattle.gc_steps.specs.declared.collection.Stage.TheVariants.{Mark};
 
 use crate::collection::Collection;
 use crate::copies::{LentCopies, refusal_of};
@@ -73,13 +75,14 @@ pub fn mark_container<D: Disk, X: Index>(
 ) -> Result<(), Refusal>
     requires serves { X.serves index.old (D.view disk.old).size }
     requires runs { (known : _) × Runs (D.view disk.old).size known tables.now }
-    requires within { slot < length tables.now.held.ids.items }
-    requires level { 1 ≤ level }
+    requires under_way { IsUnderWay tables.now.held collection.old }
+    requires stage { collection.old.stage ≡ Mark level slot }
     requires room { MOST_SEGMENT ≤ length buf.old }
     ensures ok { OnOk result (Scans tables.now.held (X.places index.old (D.view disk.old).content) (D.view disk.old) (D.view disk.new)
         level slot collection.old collection.new) }
     ensures kept { IfErr result (KeepsMarks (X.places index.old (D.view disk.old).content) (D.view disk.old) (D.view disk.new) level slot
         collection.old collection.new) }
+    ensures under_way { IsUnderWay tables.now.held collection.new }
     ensures refused { IfErr result (IsMarkRefusal (X.places index.old (D.view disk.old).content) (D.view disk.old) (D.view disk.new) level slot
         collection.old.live) }
     ensures map { X.places index.new (D.view disk.new).content ≡ X.places index.old (D.view disk.old).content }

@@ -12,6 +12,8 @@ ghost use Rattle.store_state.specs.Refused.{blames};
 ghost use Rattle.store_state.specs.Tables.{Runs};
 ghost use Rattle.gc_steps.specs.Releasing.{HasFreed, GivesBack, ChangesGateAlone};
 ghost use Rattle.gc_steps.specs.Stages.{sweep_from as sweep_stage};
+ghost use Rattle.gc_steps.specs.UnderWay.{IsUnderWay};
+ghost use Rattle.gc_steps.specs.declared.collection.Stage.TheVariants.{Release};
 
 use crate::collection::Collection;
 use crate::slots::sweep_from;
@@ -72,14 +74,14 @@ pub fn release_source<D: Disk>(
     slot: u32,
 ) -> Result<(), Refusal>
     requires runs { (known : _) × Runs (D.view disk.old).size known tables.old }
-    requires within { slot < length tables.old.held.ids.items }
-    requires there { get_or tables.old.held.ids.items slot 0 ≢ 0 }
-    requires freed { collection.old.freed < next }
+    requires under_way { IsUnderWay tables.old.held collection.old }
+    requires stage { collection.old.stage ≡ Release next slot }
     ensures tables { OnOk result (HasFreed tables.old slot tables.new) }
     ensures collection { OnOk result (collection.new ≡ record collection.old {
       stage = sweep_stage collection.old.sources.items next;
       freed = collection.old.freed + 1;
     }) }
+    ensures under_way { IsUnderWay tables.new.held collection.new }
     ensures tables_kept { OnErr result (tables.new ≡ tables.old) }
     ensures kept { OnErr result (collection.new ≡ collection.old) }
     ensures refused { IfErr result (λ refusal. refusal ≡ DiskWrite) }

@@ -1,7 +1,7 @@
 //! A collection begins.
 ghost use Rattle.std.specs.Prelude.{◌≡◌, ◌↔◌, ◌+◌, ◌-◌, ◌^◌, ◌<◌, ◌≤◌, ℕ, List, [], min, length, Contains, map, IfOk, IfErr, OnOk};
 ghost use Rattle.std.specs.FinMap as finite;
-ghost use Rattle.disk_format.specs.declared.numbers.TheConstants.{MOST_LEVEL, MOST_SLOTS as MANY};
+ghost use Rattle.disk_format.specs.declared.numbers.TheConstants.{MOST_LEVEL};
 ghost use Rattle.container_meta.specs.declared.place.Place.{Place as PlaceValue};
 ghost use Rattle.gc_enumerate.specs.Live.{IsLiveAt};
 ghost use Rattle.namespace.specs.Listing.{listed_value};
@@ -9,6 +9,8 @@ ghost use Rattle.store_model.specs.Refusals.{root_key as key_of_root};
 ghost use Rattle.refusals.specs.declared.refusal.Refusal.TheVariants.{Memory};
 ghost use Rattle.gc_steps.specs.Roots.{HasRootKey, IsListedKey, IsNameKey, IsPartKey, IsActorKey, IsNumberKey, IsRoot, Marks};
 ghost use Rattle.gc_steps.specs.Stages.{mark_level as level_stage};
+ghost use Rattle.gc_steps.specs.UnderWay.{IsUnderWay};
+ghost use Rattle.store_state.specs.Tables.{Runs};
 
 use crate::collection::Collection;
 use crate::slots::mark_level;
@@ -137,14 +139,14 @@ pub fn start(
     parts: &Parts,
     percent: Percent,
 ) -> Result<Collection, Refusal>
-    requires ids { length tables.now.held.ids.items ≤ MANY }
-    requires counts { length tables.now.held.counts.items ≡ length tables.now.held.ids.items }
+    requires runs { (size : _) × (known : _) × Runs size known tables.now }
     ensures snapshot { IfOk result (λ c. c.snapshot ≡ min (tables.now.held.last_id + 1) (2 ^ 64 - 1)) }
     ensures percent { IfOk result (λ c. c.percent ≡ percent) }
     // These keys are live, and no others.
     ensures live { IfOk result (λ c. (key : List ℕ) (place : PlaceValue) → IsLiveAt c.live key place ↔ IsRoot tables.now.names parts.now key) }
     ensures nothing_yet { IfOk result (λ c. (c.liveness ≡ []) × (c.sources.items ≡ []) × (c.freed ≡ 0)) }
     ensures stage { IfOk result (λ c. c.stage ≡ level_stage c.snapshot tables.now.held MOST_LEVEL) }
+    ensures under_way { IfOk result (λ c. IsUnderWay tables.now.held c) }
     ensures refused { IfErr result (λ refusal. refusal ≡ Memory) }
 {
     let snapshot = tables.held.last_id.saturating_add(1);

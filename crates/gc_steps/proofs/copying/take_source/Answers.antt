@@ -9,6 +9,8 @@ use Rattle.store_state.specs.Refused.{blames}
 use Rattle.store_state.proofs.Changed.{size_on}
 use Rattle.gc_steps.proofs.Released.{few_slots, slot_fits}
 use Rattle.gc_steps.proofs.Taken.{changes_after, runs_emptied, runs_same, takes_emptied}
+use Rattle.gc_steps.specs.declared.collection.Stage.TheVariants.{Copy}
+use Rattle.gc_steps.proofs.UnderWay.{at_stage}
 use Rattle.gc_steps.proofs.copying.take_source.Goals as goal
 
 pub slot_of-slot-requires-clause-few : goal.slot_of-slot-requires-clause-few
@@ -40,7 +42,7 @@ returns-in_ok-remove_keys-in-Some-clause-ok g c =
     let runs = c.requires.runs.1 in
     let keys = c.deref.result.now in
     takes_emptied c.args.tables.now.held (places c.args.index.now old.content) (places c.dead_keys.new.index mid.content) (places c.remove_keys.new.index new.content) old mid new c.args.source c.slot_of-slot.result c.args.collection.now
-    (option_map (λ (k : Vec (List ℕ) Global). k.items) c.in_ok-keys.field-0) keys c.slot_of-slot.ensures.within (c.slot_of-slot.ensures.id ∙ c.index.ensures ∙ get_or_default_zero c.args.collection.now.sources.items c.args.source c.index.result.now c.requires.within) c.in_ok-keys.ensures.ok
+    (option_map (λ (k : Vec (List ℕ) Global). k.items) c.in_ok-keys.field-0) keys c.slot_of-slot.ensures.within (c.slot_of-slot.ensures.id ∙ c.index.ensures ∙ get_or_default_zero c.args.collection.now.sources.items c.args.source c.index.result.now (at_stage c.args.tables.now.held c.args.collection.now (Copy c.args.source) c.requires.under_way c.requires.stage).0) c.in_ok-keys.ensures.ok
     (ap (option_map (λ (k : Vec (List ℕ) Global). k.items)) c.in-Some.is ∙ ap Some (sym c.deref.ensures.value)) reads.later.clock_is
     (c.in_ok-remove_keys-in-Some.ensures.changes runs.store.slots (size_on old mid runs.store.slots reads.later runs.valid.size_is)).later c.in_ok-keys.ensures.map c.in_ok-remove_keys-in-Some.ensures.ok c.in_ok-remove_keys-in-Some.ensures.unknown
 

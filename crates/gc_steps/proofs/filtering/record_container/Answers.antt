@@ -5,16 +5,18 @@ use Rattle.dd_disk.proofs.Shows.{until}
 use Rattle.gc_steps.specs.Entries.{SumsLive}
 use Rattle.gc_steps.proofs.Recorded.{recorded_as}
 use Rattle.gc_steps.proofs.Released.{columns, few_slots, slot_fits}
+use Rattle.gc_steps.specs.declared.collection.Stage.TheVariants.{Filter}
+use Rattle.gc_steps.proofs.UnderWay.{at_stage, recorded_on}
 use Rattle.gc_steps.proofs.filtering.record_container.Goals as goal
 
 pub read_header-requires : goal.read_header-requires
-read_header-requires g c = slot_fits (g.D.Disk.view c.args.disk.now).size c.requires.runs.0 c.args.tables.now c.args.slot c.requires.runs.1 c.requires.within
+read_header-requires g c = slot_fits (g.D.Disk.view c.args.disk.now).size c.requires.runs.0 c.args.tables.now c.args.slot c.requires.runs.1 (at_stage c.args.tables.now.held c.args.collection.now (Filter c.args.slot) c.requires.under_way c.requires.stage).0.0
 
 pub recorded-requires-clause-counts : goal.recorded-requires-clause-counts
-recorded-requires-clause-counts g c = omega (arith, columns (g.D.Disk.view c.args.disk.now).size c.requires.runs.0 c.args.tables.now c.requires.runs.1, c.requires.within)
+recorded-requires-clause-counts g c = omega (arith, columns (g.D.Disk.view c.args.disk.now).size c.requires.runs.0 c.args.tables.now c.requires.runs.1, (at_stage c.args.tables.now.held c.args.collection.now (Filter c.args.slot) c.requires.under_way c.requires.stage).0.0)
 
 pub overflow_add-slot : goal.overflow_add-slot
-overflow_add-slot g c = omega (arith, few_slots (g.D.Disk.view c.args.disk.now).size c.requires.runs.0 c.args.tables.now c.requires.runs.1, c.requires.within)
+overflow_add-slot g c = omega (arith, few_slots (g.D.Disk.view c.args.disk.now).size c.requires.runs.0 c.args.tables.now c.requires.runs.1, (at_stage c.args.tables.now.held c.args.collection.now (Filter c.args.slot) c.requires.under_way c.requires.stage).0.0)
 
 pub filter_from-collection-requires : goal.filter_from-collection-requires
 filter_from-collection-requires g c = few_slots (g.D.Disk.view c.args.disk.now).size c.requires.runs.0 c.args.tables.now c.requires.runs.1
@@ -37,3 +39,8 @@ returns-clause-ok g c =
           (c.in_ok-live.ensures.sum m (ap (g.X.Index.places c.args.index.now) first.only.content_is ∙ known));
       collection_is = recorded_as c.args.collection.now c.args.tables.now.held c.args.slot c.in_ok-live.live c.recorded.result c.push.new.self c.filter_from-collection.result c.recorded.ensures c.in_ok-push.ensures.ok c.filter_from-collection.ensures;
     }
+
+pub returns-clause-under_way : goal.returns-clause-under_way
+returns-clause-under_way g c =
+    let ok = returns-clause-ok g c in
+    recorded_on c.args.tables.now.held c.args.collection.now c.requires.under_way _ c.args.slot ok.live c.requires.stage ok.collection_is

@@ -5,13 +5,15 @@ use Rattle.gc_steps.specs.declared.collection.Collection.{Collection}
 use Rattle.gc_steps.specs.declared.collection.Stage.{Stage}
 use Rattle.gc_steps.proofs.Released.{columns, few_slots, slot_fits}
 use Rattle.gc_steps.proofs.Scans.{entries_since, some_since, fault_since, keeps_marks}
+use Rattle.gc_steps.specs.declared.collection.Stage.TheVariants.{Mark}
+use Rattle.gc_steps.proofs.UnderWay.{at_stage, marked}
 use Rattle.gc_steps.proofs.marking.mark_container.Goals as goal
 
 pub read_header-requires : goal.read_header-requires
-read_header-requires g c = slot_fits (g.D.Disk.view c.args.disk.now).size c.requires.runs.0 c.args.tables.now c.args.slot c.requires.runs.1 c.requires.within
+read_header-requires g c = slot_fits (g.D.Disk.view c.args.disk.now).size c.requires.runs.0 c.args.tables.now c.args.slot c.requires.runs.1 (at_stage c.args.tables.now.held c.args.collection.now (Mark c.args.level c.args.slot) c.requires.under_way c.requires.stage).2.0
 
 pub overflow_add-slot : goal.overflow_add-slot
-overflow_add-slot g c = omega (arith, few_slots (g.D.Disk.view c.args.disk.now).size c.requires.runs.0 c.args.tables.now c.requires.runs.1, c.requires.within)
+overflow_add-slot g c = omega (arith, few_slots (g.D.Disk.view c.args.disk.now).size c.requires.runs.0 c.args.tables.now c.requires.runs.1, (at_stage c.args.tables.now.held c.args.collection.now (Mark c.args.level c.args.slot) c.requires.under_way c.requires.stage).2.0)
 
 pub mark_from-collection-requires-clause-ids : goal.mark_from-collection-requires-clause-ids
 mark_from-collection-requires-clause-ids g c = few_slots (g.D.Disk.view c.args.disk.now).size c.requires.runs.0 c.args.tables.now c.requires.runs.1
@@ -36,6 +38,9 @@ returns-in-Ok-clause-ok g c =
       scanned = entries_since (places old.content) (places mid.content) old mid new reads (ap places reads.content_is) c.args.slot c.args.level header now.live c.scan_lent.new.live c.in-Ok.ensures.marks;
       collection_is = ap (λ (s : Stage). (let after : Collection = record now { live = c.scan_lent.new.live; stage = s } in after)) c.mark_from-collection.ensures;
     }
+
+pub returns-in-Ok-clause-under_way : goal.returns-in-Ok-clause-under_way
+returns-in-Ok-clause-under_way g c = marked c.args.tables.now.held c.args.collection.now c.requires.under_way _ c.args.level c.args.slot c.requires.stage (returns-in-Ok-clause-ok g c).collection_is
 
 pub returns-clause-kept : goal.returns-clause-kept
 returns-clause-kept g c =

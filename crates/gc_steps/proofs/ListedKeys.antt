@@ -1,0 +1,85 @@
+-- The key of the root of a name, and the name that it is of.
+use Rattle.std.proofs.Common.{◌≡◌, ℕ, Bool, true, false, cond, ◌&&◌, List, [], ◌∷◌, map, Some, None, inl, inr, refl, sym, ◌∙◌, ap}
+use Rattle.std.specs.Prelude.{T}
+use Rattle.std.specs.Ordering.{nat_cmp, eq_by_cmp, is_lt, is_eq}
+use Rattle.std.specs.Cmp.Lexicographic.{slice_cmp}
+use Rattle.std.specs.FinMap as finite
+use Rattle.std.specs.FinMap.Entries.{below_all}
+use Rattle.std.proofs.Common.{Ordering, Less, Equal, Greater}
+use Rattle.std.proofs.lemmas.Slice.Eq.{bytes_eq-Decides}
+use Rattle.namespace.specs.declared.record.Named.{Named}
+use Rattle.namespace.specs.Listing.{named_root}
+use Rattle.namespace.specs.Names.{NameMap}
+use Rattle.store_model.proofs.Indexing.{tied}
+use Rattle.gc_steps.specs.Roots.{HasRootKey, IsListedKey, IsNameKey}
+
+-- a name with a root of that key
+pub record HasName (names : NameMap) (key : List ℕ) : Type 0 where
+  pub name : List ℕ
+  pub named : Named
+  pub found : finite.get names name ≡ Some named
+  pub has : HasRootKey named.root key
+
+-- ---- sorted entries
+
+head_of : (a b : Bool) → T (a && b) → T a
+head_of true b p = tt
+head_of false b p = p
+
+tail_of : (a b : Bool) → T (a && b) → T b
+tail_of true b p = p
+tail_of false b p = absurd p
+
+not_equal : (o : Ordering) → T (is_lt o) → is_eq o ≡ false
+not_equal Less less = refl
+not_equal Equal less = absurd less
+not_equal Greater less = absurd less
+
+-- a key below all others is none of them
+none_below : (key : List ℕ) (es : List (List ℕ × Named)) → T (below_all (slice_cmp nat_cmp) key es) → finite.find (slice_cmp nat_cmp) key es ≡ None
+none_below key [] below = refl
+none_below key (e ∷ es) below =
+    ap (λ (b : Bool). cond b (Some e.1) (finite.find (slice_cmp nat_cmp) key es)) (not_equal (slice_cmp nat_cmp key e.0) (head_of _ (below_all (slice_cmp nat_cmp) key es) below))
+    ∙ none_below key es (tail_of (is_lt (slice_cmp nat_cmp key e.0)) _ below)
+
+-- the first is found by its name
+first_found : (e : List ℕ × Named) (es : List (List ℕ × Named)) → finite.find (slice_cmp nat_cmp) e.0 (e ∷ es) ≡ Some e.1
+first_found e es = ap (λ (b : Bool). cond b (Some e.1) (finite.find (slice_cmp nat_cmp) e.0 es)) (tied e.0 e.0 ∙ (bytes_eq-Decides e.0 e.0).1 refl)
+
+-- and one of the rest too, since the first has another name
+rest_found : (e : List ℕ × Named) (es : List (List ℕ × Named)) (name : List ℕ) (named : Named) → T (below_all (slice_cmp nat_cmp) e.0 es) → finite.find (slice_cmp nat_cmp) name es ≡ Some named
+    → finite.find (slice_cmp nat_cmp) name (e ∷ es) ≡ Some named
+rest_found e es name named below found = by_test (eq_by_cmp (slice_cmp nat_cmp) name e.0) refl
+  where
+    by_test : (b : Bool) → eq_by_cmp (slice_cmp nat_cmp) name e.0 ≡ b → cond b (Some e.1) (finite.find (slice_cmp nat_cmp) name es) ≡ Some named
+    by_test false is = found
+    by_test true is =
+        let same : e.0 ≡ name = (bytes_eq-Decides e.0 name).0 (sym (tied name e.0) ∙ is) in
+        let none : finite.find (slice_cmp nat_cmp) name es ≡ None = ap (λ (k : List ℕ). finite.find (slice_cmp nat_cmp) k es) (sym same) ∙ none_below e.0 es below in
+        absurd (let wrong : Some named ≡ None = sym found ∙ none in cc)
+
+-- one of these entries has a root of that key
+record IsFound (es : List (List ℕ × Named)) (key : List ℕ) : Type 0 where
+  name : List ℕ
+  named : Named
+  found : finite.find (slice_cmp nat_cmp) name es ≡ Some named
+  has : HasRootKey named.root key
+
+listed_by : (es : List (List ℕ × Named)) (key : List ℕ) → T (finite.is_sorted (slice_cmp nat_cmp) es) → IsListedKey (map named_root es) key → IsFound es key
+listed_by [] key sorted is = absurd is
+listed_by (e ∷ es) key sorted (inl has) = record { name = e.0; named = e.1; found = first_found e es; has = has }
+listed_by (e ∷ es) key sorted (inr later) =
+    let rest = listed_by es key (tail_of (below_all (slice_cmp nat_cmp) e.0 es) _ sorted) later in
+    record {
+      name = rest.name;
+      named = rest.named;
+      found = rest_found e es rest.name rest.named (head_of _ (finite.is_sorted (slice_cmp nat_cmp) es) sorted) rest.found;
+      has = rest.has;
+    }
+
+-- ---- names
+
+pub name_of_key : (names : NameMap) (key : List ℕ) → IsNameKey names key → HasName names key
+name_of_key names key is =
+    let one = listed_by (finite.entries names) key (finite.entries_sorted names) is in
+    record { name = one.name; named = one.named; found = finite.get-entries names one.name ∙ one.found; has = one.has }

@@ -1,0 +1,128 @@
+-- A container that is sealed while a collection is under way leaves it so.
+use Rattle.std.proofs.Common.{◌≡◌, ◌≢◌, ℕ, zero, suc, ◌<◌, ◌≤◌, max, Bool, true, false, cond, List, [], ◌∷◌, length, get_or, take, set, Option, Some, None, refl, sym, ◌∙◌, ap, subst, arith}
+use Rattle.std.specs.Prelude.{Contains, nat_eq, nat_lt, ◌&&◌, not, ◌==◌, slice_get}
+use Rattle.std.specs.List.{IsDistinct}
+use Rattle.std.proofs.lemmas.Bool.{ltb-true}
+use Rattle.std.proofs.lemmas.List.{get_or-set_other, length-set, take_all}
+use Rattle.container_meta.specs.Spelling.{HeaderValue}
+use Rattle.store_model.specs.Slots.{with_slot, ids_of as ids_held}
+use Rattle.store_state.specs.Tables.{IsFirstFree, RepresentsSlots, count_of}
+use Rattle.store_state.specs.declared.slot_table.SlotCount.{SlotCount}
+use Rattle.store_state.specs.declared.slot_table.SlotTable.{SlotTable}
+use Rattle.store_state.proofs.Taken.{counts_with, ids_with}
+use Rattle.gc_steps.specs.declared.collection.Collection.{Collection}
+use Rattle.gc_steps.specs.declared.collection.Stage.{Stage}
+use Rattle.gc_steps.specs.declared.collection.Stage.TheVariants.{Mark, Filter, Select, Copy, Release, End}
+use Rattle.gc_steps.specs.Stages.{is_old, is_old_slot, is_tree, is_tree_slot}
+use Rattle.gc_steps.specs.UnderWay.{AreSourcesLeft, HasStage, IsSlot, IsUnderWay, old_ids}
+use Rattle.gc_steps.proofs.UnderWay.{contains_set, old_not_zero}
+
+-- an id from the snapshot on is that of no container that was there
+not_old : (snapshot id : ℕ) → snapshot ≤ id → is_old snapshot id ≡ false
+not_old snapshot id above = by_test (is_old snapshot id) refl
+  where
+    below : is_old snapshot id ≡ true → nat_lt id snapshot ≡ true
+    below old = second (not (id == 0)) (nat_lt id snapshot) old
+      where
+        second : (a b : Bool) → (a && b) ≡ true → b ≡ true
+        second true b both = both
+        second false b both = absurd cc
+
+    by_test : (b : Bool) → is_old snapshot id ≡ b → b ≡ false
+    by_test true old = absurd (omega (arith, above, ltb-true id snapshot (below old)))
+    by_test false new = refl
+
+slice_get-set : {X : Type 0} (xs : List X) (i j : ℕ) (x : X) → j ≢ i → slice_get (set xs i x) j ≡ slice_get xs j
+slice_get-set [] i j x other = refl
+slice_get-set (y ∷ ys) zero zero x other = absurd (other refl)
+slice_get-set (y ∷ ys) zero (suc j) x other = refl
+slice_get-set (y ∷ ys) (suc i) zero x other = refl
+slice_get-set (y ∷ ys) (suc i) (suc j) x other = slice_get-set ys i j x (λ same. other (ap suc same))
+
+-- of the containers that were there, the same are in the first slots
+old_same : (snapshot : ℕ) (ids : List ℕ) (slot id n : ℕ) → get_or ids slot 0 ≡ 0 → is_old snapshot id ≡ false → old_ids snapshot (take n (set ids slot id)) ≡ old_ids snapshot (take n ids)
+old_same snapshot [] slot id n closed new = refl
+old_same snapshot (x ∷ xs) zero id zero closed new = refl
+old_same snapshot (x ∷ xs) (suc slot) id zero closed new = refl
+old_same snapshot (x ∷ xs) zero id (suc n) closed new =
+    ap (λ b. cond b (id ∷ old_ids snapshot (take n xs)) (old_ids snapshot (take n xs))) new
+    ∙ sym (ap (λ y. cond (is_old snapshot y) (x ∷ old_ids snapshot (take n xs)) (old_ids snapshot (take n xs))) closed)
+old_same snapshot (x ∷ xs) (suc slot) id (suc n) closed new = ap (λ (rest : List ℕ). cond (is_old snapshot x) (x ∷ rest) rest) (old_same snapshot xs slot id n closed new)
+
+module _ (t now : SlotTable) (c : Collection) (slot id : ℕ) (count : SlotCount) (closed : get_or t.ids.items slot 0 ≡ 0) (above : c.snapshot ≤ id) (ids_are : now.ids.items ≡ set t.ids.items slot id)
+    (counts_are : now.counts.items ≡ set t.counts.items slot count) where
+  many : length now.ids.items ≡ length t.ids.items
+  many = ap length ids_are ∙ length-set t.ids.items slot id
+
+  same_old : (n : ℕ) → old_ids c.snapshot (take n now.ids.items) ≡ old_ids c.snapshot (take n t.ids.items)
+  same_old n = ap (λ (ids : List ℕ). old_ids c.snapshot (take n ids)) ids_are ∙ old_same c.snapshot t.ids.items slot id n closed (not_old c.snapshot id above)
+
+  all_same : old_ids c.snapshot now.ids.items ≡ old_ids c.snapshot t.ids.items
+  all_same =
+      ap (old_ids c.snapshot) (sym (take_all (length now.ids.items) now.ids.items (omega arith))) ∙ same_old (length now.ids.items)
+      ∙ ap (old_ids c.snapshot) (take_all (length now.ids.items) t.ids.items (omega (arith, many)))
+
+  -- a slot that has such a container is another one
+  other_slot : (other : ℕ) → is_old_slot c.snapshot t other ≡ true → other ≢ slot
+  other_slot other old = λ same. old_not_zero c.snapshot (get_or t.ids.items other 0) old (ap (λ (n : ℕ). get_or t.ids.items n 0) same ∙ closed)
+
+  id_same : (other : ℕ) → is_old_slot c.snapshot t other ≡ true → get_or now.ids.items other 0 ≡ get_or t.ids.items other 0
+  id_same other old = ap (λ (ids : List ℕ). get_or ids other 0) ids_are ∙ get_or-set_other t.ids.items slot other id 0 (other_slot other old)
+
+  slot_same : (other : ℕ) → IsSlot t (is_old_slot c.snapshot t) other → IsSlot now (is_old_slot c.snapshot now) other
+  slot_same other (within, old) = (omega (arith, many, within), ap (is_old c.snapshot) (id_same other old) ∙ old)
+
+  old_first : (a b : Bool) → (a && b) ≡ true → a ≡ true
+  old_first true b both = refl
+  old_first false b both = both
+
+  tree_same : (other : ℕ) → IsSlot t (is_tree_slot c.snapshot t) other → IsSlot now (is_tree_slot c.snapshot now) other
+  tree_same other (within, tree) =
+      let old = old_first (is_old_slot c.snapshot t other) (is_tree (slice_get t.counts.items other)) tree in
+      let count_same : slice_get now.counts.items other ≡ slice_get t.counts.items other =
+      ap (λ (counts : List SlotCount). slice_get counts other) counts_are ∙ slice_get-set t.counts.items slot other count (other_slot other old) in (
+        omega (arith, many, within),
+        ap (λ (n : ℕ). is_old c.snapshot n && is_tree (slice_get now.counts.items other)) (id_same other old)
+            ∙ ap (λ (found : Option SlotCount). is_old_slot c.snapshot t other && is_tree found) count_same ∙ tree,
+      )
+
+  left_same : (source : ℕ) → AreSourcesLeft t c.snapshot c.sources.items source → AreSourcesLeft now c.snapshot c.sources.items source
+  left_same source left = record {
+    once = left.once;
+    old = left.old;
+    there = λ i from within.
+        let differs : get_or t.ids.items slot 0 ≢ get_or c.sources.items i 0 = λ same. old_not_zero c.snapshot (get_or c.sources.items i 0) (left.old i from within) (sym same ∙ closed) in
+        subst (λ (ids : List ℕ). Contains ids (get_or c.sources.items i 0)) (sym ids_are) (contains_set t.ids.items slot id (get_or c.sources.items i 0) (left.there i from within) differs);
+  }
+
+  stage_same : (stage : Stage) → HasStage t c stage → HasStage now c stage
+  stage_same (Mark level other) was = (was.0, was.1, tree_same other was.2, was.3, was.4)
+  stage_same (Filter other) was = (slot_same other was.0, was.1 ∙ sym (same_old other), was.2)
+  stage_same Select was =
+      (was.0 ∙ ap (old_ids c.snapshot) (take_all (length t.ids.items) t.ids.items (omega arith)) ∙ sym all_same ∙ ap (old_ids c.snapshot) (sym (take_all (length now.ids.items) now.ids.items (omega arith))), was.1)
+  stage_same (Copy source) was = (was.0, left_same source was.1, was.2)
+  stage_same (Release source other) was = (was.0, left_same source was.1, was.2, slot_same other was.3, id_same other was.3.1 ∙ was.4)
+  stage_same End was = was
+
+  sealed_on : t.last_id ≤ now.last_id → IsUnderWay t c → IsUnderWay now c
+  sealed_on later under = record {
+    began = omega (arith, under.began, later);
+    ids_differ = subst (IsDistinct nat_eq) (sym all_same) under.ids_differ;
+    stage_is = stage_same c.stage under.stage_is;
+  }
+
+-- a closed slot has no id
+closed_slot : (held : List (Option HeaderValue)) (slot : ℕ) → slice_get held slot ≡ Some None → get_or (ids_held held) slot 0 ≡ 0
+closed_slot [] slot is = refl
+closed_slot (None ∷ cs) zero is = refl
+closed_slot (Some h ∷ cs) zero is = absurd cc
+closed_slot (None ∷ cs) (suc slot) is = closed_slot cs slot is
+closed_slot (Some h ∷ cs) (suc slot) is = closed_slot cs slot is
+
+-- A container that is sealed into the first free slot under the next id, or a later one.
+pub sealed : (held : List (Option HeaderValue)) (t now : SlotTable) (c : Collection) (slot : ℕ) (h : HeaderValue) → IsFirstFree slot held → RepresentsSlots held t → RepresentsSlots (with_slot slot h held) now
+    → now.last_id ≡ max t.last_id h.id → t.last_id < h.id → IsUnderWay t c → IsUnderWay now c
+sealed held t now c slot h free was is last next under =
+    sealed_on t now c slot h.id (count_of (Some h)) (ap (λ (ids : List ℕ). get_or ids slot 0) was.ids_are ∙ closed_slot held slot free.closed) (omega (arith, under.began, next))
+    (is.ids_are ∙ ids_with slot h held ∙ ap (λ (ids : List ℕ). set ids slot h.id) (sym was.ids_are))
+    (is.counts_are ∙ counts_with slot h held ∙ ap (λ (counts : List SlotCount). set counts slot (count_of (Some h))) (sym was.counts_are)) (omega (arith, last)) under

@@ -1,0 +1,14 @@
+use Rattle.std.proofs.Common.{refl, arith}
+use Rattle.gc_steps.proofs.Released.{columns, few_slots}
+use Rattle.gc_steps.proofs.UnderWay.{started}
+use Rattle.gc_steps.proofs.starting.start.Goals as goal
+
+pub mark_level-requires-clause-ids : goal.mark_level-requires-clause-ids
+mark_level-requires-clause-ids c = few_slots c.requires.runs.0 c.requires.runs.1 c.args.tables.now c.requires.runs.2
+
+pub mark_level-requires-clause-counts : goal.mark_level-requires-clause-counts
+mark_level-requires-clause-counts c = columns c.requires.runs.0 c.requires.runs.1 c.args.tables.now c.requires.runs.2
+
+pub returns-clause-under_way : goal.returns-clause-under_way
+returns-clause-under_way c =
+    started c.requires.runs.0 c.requires.runs.1 c.args.tables.now _ c.requires.runs.2 (omega (arith, c.saturating_add-snapshot.ensures)) c.new.ensures refl c.mark_level.ensures

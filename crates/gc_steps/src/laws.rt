@@ -1,0 +1,21 @@
+//! Laws of a collection that is under way (docs/MODEL.md, 'Collection').
+ghost use Rattle.std.specs.Prelude.{◌≡◌, ◌<◌, ℕ, List, Option, max};
+ghost use Rattle.container_meta.specs.Spelling.{HeaderValue};
+ghost use Rattle.gc_enumerate.specs.Live.{LiveKeys};
+ghost use Rattle.store_model.specs.Slots.{with_slot};
+ghost use Rattle.store_state.specs.Tables.{IsFirstFree, RepresentsSlots};
+ghost use Rattle.store_state.specs.declared.slot_table.SlotTable.{SlotTable};
+ghost use Rattle.gc_steps.specs.declared.collection.Collection.{Collection as CollectionValue};
+ghost use Rattle.gc_steps.specs.UnderWay.{IsUnderWay};
+
+/// That a container leaves it under way which is sealed into the first free slot under an id that is greater than all before.
+pub fn sealing_keeps_it_under_way()
+    ensures { (held : List (Option HeaderValue)) (old new : SlotTable) (c : CollectionValue) (slot : ℕ) (h : HeaderValue)
+        → IsFirstFree slot held → RepresentsSlots held old → RepresentsSlots (with_slot slot h held) new
+        → new.last_id ≡ max old.last_id h.id → old.last_id < h.id → IsUnderWay old c → IsUnderWay new c }
+{}
+
+/// That it stays so whichever keys become live.
+pub fn marking_keeps_it_under_way()
+    ensures { (t : SlotTable) (c : CollectionValue) (live : LiveKeys) → IsUnderWay t c → IsUnderWay t (record c { live = live }) }
+{}

@@ -1,4 +1,4 @@
--- What it makes of a collection that a container is recorded, and that the sources are chosen (docs/MODEL.md, 'Collection').
+-- What recording a container, and choosing the sources, do to a collection (docs/MODEL.md, 'Collection').
 use Rattle.std.specs.Prelude.{◌≡◌, ◌↔◌, ℕ, ◌+◌, [], ◌∷◌, ◌++◌, get_or, slice_get, Option, None, Some, Contains, nat_eq}
 use Rattle.std.specs.List.{IsDistinct}
 use Rattle.std.specs.List.Sorted.{IsPermutation}

@@ -70,7 +70,7 @@ only_one : (a b : List ℕ) → Contains (a ∷ []) b → a ≡ b
 only_one a b there = All-contains (λ x. a ≡ x) (a ∷ []) b (All-cons (λ x. a ≡ x) a [] refl (All-nil _)) there
 
 module _ (key : List ℕ) (place : Place) where
-  among_keys : (found : List KeyPlace) → IsAmong key place found → Contains (keys_of found) key
+  pub among_keys : (found : List KeyPlace) → IsAmong key place found → Contains (keys_of found) key
   unfolding SharesMark
   among_keys [] among = absurd among
   among_keys (f ∷ fs) (inl here) = (0, omega arith, sym here)

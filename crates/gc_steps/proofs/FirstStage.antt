@@ -47,12 +47,12 @@ none_new index live snapshot held above slot h there new = absurd (omega (arith,
 
 -- ---- the first slot that passes a test comes no later than any other that does
 
-record IsFirst (test : ℕ → Bool) (from count at : ℕ) : Type 0 where
-  slot : ℕ
-  first : first_from test from count ≡ Some slot
-  no_later : slot ≤ at
+pub record IsFirst (test : ℕ → Bool) (from count at : ℕ) : Type 0 where
+  pub slot : ℕ
+  pub first : first_from test from count ≡ Some slot
+  pub no_later : slot ≤ at
 
-first_there : (test : ℕ → Bool) (from count at : ℕ) → from ≤ at → at < from + count → test at ≡ true → IsFirst test from count at
+pub first_there : (test : ℕ → Bool) (from count at : ℕ) → from ≤ at → at < from + count → test at ≡ true → IsFirst test from count at
 unfolding first_from
 first_there test from zero at least below passes = absurd (omega (arith, least, below))
 first_there test from (suc count) at least below passes = by_test (test from) refl (λ next. first_there test (from + 1) count at next (omega (arith, below)) passes)
@@ -73,11 +73,11 @@ first_there test from (suc count) at least below passes = by_test (test from) re
 -- ---- the newest copy of a node lies in a tree container
 
 -- what the columns of slots say of one with a tree container of this id
-record HasTree (held : List (Option HeaderValue)) (slot id : ℕ) : Type 0 where
-  within : slot < length held
-  id_is : get_or (ids_of held) slot 0 ≡ id
-  some : 1 ≤ id
-  tree_is : is_tree (slice_get (map count_of held) slot) ≡ true
+pub record HasTree (held : List (Option HeaderValue)) (slot id : ℕ) : Type 0 where
+  pub within : slot < length held
+  pub id_is : get_or (ids_of held) slot 0 ≡ id
+  pub some : 1 ≤ id
+  pub tree_is : is_tree (slice_get (map count_of held) slot) ≡ true
 
 units : (entries : List Entry) → AllByRecursion (λ e. Unit {0}) entries
 units [] = tt
@@ -99,7 +99,7 @@ first_true : (a b : Bool) → a && b ≡ true → a ≡ true
 first_true true b e = refl
 first_true false b e = absurd cc
 
-node_there : (held : List (Option HeaderValue)) (image : List ℕ) (n : Contents) (copy : Copy) → HoldSlots 0 held image → newest 0 held (node_key n) ≡ Some copy → HasTree held copy.place.slot copy.id
+pub node_there : (held : List (Option HeaderValue)) (image : List ℕ) (n : Contents) (copy : Copy) → HoldSlots 0 held image → newest 0 held (node_key n) ≡ Some copy → HasTree held copy.place.slot copy.id
 node_there held image n copy holds is =
     let l = lies 0 held (node_key n) copy is in
     let slot : l.index ≡ copy.place.slot = omega (arith, ap (λ (x : Copy). x.place.slot) l.copy_is) in
@@ -128,8 +128,8 @@ not_none id some = by_test (id == 0) refl
     by_test false is = refl
     by_test true is = absurd (omega (arith, eqb-true id 0 is, some))
 
-module _ (held : List (Option HeaderValue)) (image : List ℕ) (t : SlotTable) (snapshot : ℕ) (holds : HoldSlots 0 held image) (slots : RepresentsSlots held t) (above : last_id held < snapshot) where
-  tree_there : (slot id : ℕ) → id < snapshot → HasTree held slot id → is_tree_slot snapshot t slot ≡ true
+module _ (held : List (Option HeaderValue)) (image : List ℕ) (t : SlotTable) (snapshot : ℕ) (holds : HoldSlots 0 held image) (slots : RepresentsSlots held t) where
+  pub tree_there : (slot id : ℕ) → id < snapshot → HasTree held slot id → is_tree_slot snapshot t slot ≡ true
   tree_there slot id old is =
       both (is_old_slot snapshot t slot) (is_tree (slice_get t.counts.items slot))
       (ap (λ (n : ℕ). not (n == 0) && nat_lt n snapshot) (ap (λ (ids : List ℕ). get_or ids slot 0) slots.ids_are ∙ is.id_is)
@@ -146,9 +146,9 @@ module _ (held : List (Option HeaderValue)) (image : List ℕ) (t : SlotTable) (
   not_scanned level slot first low later (inr here) = omega (arith, later, here.1)
 
   -- no node that is held was passed
-  pub none_passed : (c : Collection) → c.snapshot ≡ snapshot → c.stage ≡ mark_level snapshot t MOST_LEVEL → (n : Contents) (copy : Copy) → HoldsNode held image n copy → IsPassed c n.level copy → ⊥
-  none_passed c snapshot_is stage_is n copy node (inr new) = omega (arith, newest_id 0 held (node_key n) copy node.copy_is, above, snapshot_is, new)
-  none_passed c snapshot_is stage_is n copy node (inl scanned) =
+  pub none_passed : last_id held < snapshot → (c : Collection) → c.snapshot ≡ snapshot → c.stage ≡ mark_level snapshot t MOST_LEVEL → (n : Contents) (copy : Copy) → HoldsNode held image n copy → IsPassed c n.level copy → ⊥
+  none_passed above c snapshot_is stage_is n copy node (inr new) = omega (arith, newest_id 0 held (node_key n) copy node.copy_is, above, snapshot_is, new)
+  none_passed above c snapshot_is stage_is n copy node (inl scanned) =
       let old : copy.id < snapshot = omega (arith, newest_id 0 held (node_key n) copy node.copy_is, above) in
       let first = first_no_later copy.place.slot copy.id old (node_there held image n copy holds node.copy_is) in
       let is : c.stage ≡ Mark MOST_LEVEL first.slot = stage_is ∙ ap (mark_at snapshot t MOST_LEVEL) first.first in

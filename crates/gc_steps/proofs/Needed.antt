@@ -22,7 +22,7 @@ use Rattle.gc_steps.specs.LiveTrees.{IsLive, IsRootOf, HoldsNode}
 use Rattle.gc_steps.proofs.Marked.{contains_first, contains_none}
 
 -- a node names a tree below it by the key of that tree's root
-child_root : (level : ℕ) (t : Tree (List ℕ)) → level_of t + 1 ≡ level → IsTree t → IsRootOf (child_key level (child_of of_segment t)) t
+pub child_root : (level : ℕ) (t : Tree (List ℕ)) → level_of t + 1 ≡ level → IsTree t → IsRootOf (child_key level (child_of of_segment t)) t
 child_root level tree.Empty below right = absurd right
 child_root level (tree.Leaf segment) below right = ap (λ (l : ℕ). key_of (kind_byte (child_kind l)) (child_of of_segment (tree.Leaf segment)).digest) (sym below)
 child_root level (tree.Node l ts) below right =

@@ -1,0 +1,72 @@
+-- A scan meets no child that the index lacks.
+use Rattle.std.proofs.Common.{◌≡◌, inl, inr, ℕ, List, [], ◌∷◌, ◌++◌, Some, None, true, refl, sym, ◌∙◌, subst, arith}
+use Rattle.std.specs.List.{All, Contains}
+use Rattle.std.proofs.lemmas.List.Elements.{All-contains, All-from_recursion, Contains-append_right}
+use Rattle.actor_parts.specs.declared.part.Part.{Part}
+use Rattle.container_meta.specs.declared.entry.Entry.{Entry}
+use Rattle.container_meta.specs.Format.{is_level}
+use Rattle.container_meta.specs.Places.{PlaceMap}
+use Rattle.container_meta.specs.Spelling.{HeaderValue, IsHeader}
+use Rattle.dd_disk.specs.View.{DiskView}
+use Rattle.gc_enumerate.specs.Scanning.{LacksChild, child_keys, keys_of}
+use Rattle.gc_enumerate.specs.declared.fault.ScanFault.{ScanFault}
+use Rattle.gc_enumerate.specs.declared.fault.ScanFault.TheVariants as faults
+use Rattle.merkle_file.specs.Node.{Contents}
+use Rattle.refusals.specs.declared.refusal.Refusal.TheVariants.{Missing}
+use Rattle.store_model.specs.Files.{Files}
+use Rattle.store_model.specs.Image.{Store}
+use Rattle.store_model.specs.Slots.{IsPartialIndexOf}
+use Rattle.store_model.specs.Standing.{IsStoreOf}
+use Rattle.store_model.specs.Trees.{node_key}
+use Rattle.store_model.proofs.HeldSlots.{have_levels}
+use Rattle.store_state.specs.Tables.{Represents}
+use Rattle.store_state.specs.declared.tables.Tables.{Tables}
+use Rattle.gc_steps.specs.declared.collection.Collection.{Collection}
+use Rattle.gc_steps.specs.Marking.{IsMarkRefusal, IsEntriesFault}
+use Rattle.gc_steps.specs.MarksAreClosed.{MarksAreClosed}
+use Rattle.gc_steps.specs.Scanning.{step_refusal}
+use Rattle.gc_steps.proofs.ChildTrees.{IsWholeBelow, children_whole}
+use Rattle.gc_steps.proofs.FoundNodes.{scanned_node}
+use Rattle.gc_steps.proofs.RootTrees.{whole_indexed}
+
+-- a list has what stands between two parts of it
+between : {X : Type 0} (xs : List X) (x : X) (ys : List X) → Contains (xs ++ x ∷ ys) x
+between xs x ys = Contains-append_right xs (x ∷ ys) x (0, omega arith, refl)
+
+module _ (index : PlaceMap) (store : Store) (files : Files) (parts : List Part) (image : List ℕ) (holds : IsStoreOf store files image) (partial : IsPartialIndexOf store.held index)
+    (old new : DiskView) (content : old.content ≡ Some image) (level slot : ℕ) (before : Collection) (closed : MarksAreClosed index store parts image before) where
+  -- the index has each child of a node whose tree is held whole
+  none_lacked : (n : Contents) (key : List ℕ) → All (IsWholeBelow index store.held image n.level) (child_keys n) → LacksChild (Some index) n key → ⊥
+  none_lacked n key all lacks =
+      let child : Contains (child_keys n) key = subst (λ (keys : List (List ℕ)). Contains keys key) (sym lacks.keys_are) (between (keys_of lacks.before) key lacks.after) in
+      let below = All-contains (IsWholeBelow index store.held image n.level) (child_keys n) key all child in
+      let has = whole_indexed index store.held image key below.is_whole in
+      absurd (let wrong : None ≡ Some has.0 = sym (lacks.missing index refl) ∙ has.1 in cc)
+
+  not_stuck : (h : HeaderValue) (key : List ℕ) → IsHeader h → IsEntriesFault (Some index) old new slot level h before.live (faults.Missing key) → ⊥
+  not_stuck h key right stuck =
+      let rules = All-from_recursion (λ (e : Entry). is_level h.kind e.level ≡ true) h.entries (have_levels h.kind h.kind [] h.entries refl right.entries) in
+      let within : Contains h.entries stuck.at = subst (λ (es : List Entry). Contains es stuck.at) (sym stuck.entries_are) (between stuck.before stuck.at stuck.after) in
+      let rule = All-contains (λ (e : Entry). is_level h.kind e.level ≡ true) h.entries stuck.at rules within in
+      let n : Contents = stuck.cause.0 in
+      let was = scanned_node index store files image holds partial old new content level slot h before.live stuck.at n rule stuck.cause.1.0 stuck.cause.1.1 in
+      none_lacked n key (children_whole index store.held image n was.copy was.node (closed.live_is_whole (node_key n) was.is_live)) stuck.cause.1.2
+
+  not_stopped : (key : List ℕ) (h : HeaderValue) (fault : ScanFault) → Missing key ≡ step_refusal fault → IsHeader h → IsEntriesFault (Some index) old new slot level h before.live fault → ⊥
+  not_stopped key h faults.Memory is right cause = absurd cc
+  not_stopped key h faults.DiskRead is right cause = absurd cc
+  not_stopped key h (faults.Damaged at why) is right cause = absurd cc
+  not_stopped key h (faults.Corrupt at offset count want got) is right cause = absurd cc
+  not_stopped key h (faults.Missing k) is right cause = not_stuck h k right cause
+
+  -- no scan is refused by a child that the index lacks
+  none_missing : (key : List ℕ) → IsMarkRefusal (Some index) old new level slot before.live (Missing key) → ⊥
+  none_missing key (inl header) = absurd header
+  none_missing key (inr stops) = not_stopped key stops.header stops.fault stops.refusal_is stops.right stops.cause
+
+-- No scan is refused by `Missing`, by what `mark_container` says, on a disk whose content stands for the files by the store.
+pub never_missing : (index : PlaceMap) (store : Store) (files : Files) (parts : List Part) (image : List ℕ) (t : Tables) (old new : DiskView) (level slot : ℕ) (before : Collection) (key : List ℕ)
+    → IsStoreOf store files image → Represents store (Some index) t → old.content ≡ Some image → MarksAreClosed index store parts image before
+    → IsMarkRefusal (Some index) old new level slot before.live (Missing key) → ⊥
+never_missing index store files parts image t old new level slot before key holds represents content closed =
+    none_missing index store files parts image holds (represents.index_is_newest index refl) old new content level slot before closed key

@@ -4,6 +4,7 @@ pub mod GivenBack
 pub mod ListedKeys
 pub mod Marked
 pub mod MarkedAll
+pub mod Nearer
 pub mod Needed
 pub mod PinnedTrees
 pub mod Recorded

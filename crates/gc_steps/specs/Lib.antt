@@ -10,5 +10,6 @@ pub mod Roots
 pub mod Scanning
 pub mod Stages
 pub mod Stepping
+pub mod StepsToCome
 pub mod SweepIsSafe
 pub mod UnderWay

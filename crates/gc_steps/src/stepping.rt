@@ -6,6 +6,7 @@ ghost use Rattle.disk_format.specs.declared.numbers.TheConstants.{MOST_SEGMENT};
 ghost use Rattle.store_state.specs.Refused.{blames};
 ghost use Rattle.store_state.specs.Tables.{Runs};
 ghost use Rattle.gc_steps.specs.Stepping.{moment, answer_at, TablesAfter, StepsTo, IsStepRefusal, Keeps, Touches, RunsOn};
+ghost use Rattle.gc_steps.specs.StepsToCome.{steps_to_come, Nears};
 ghost use Rattle.gc_steps.specs.UnderWay.{IsUnderWay};
 ghost use Rattle.gc_steps.specs.declared.collection.Stage.TheVariants.{Release as ReleaseStage};
 
@@ -51,6 +52,9 @@ pub fn step<D: Disk, X: Index>(
     ensures disk { Touches collection.old.stage tables.old (ending blames result) (D.view disk.old) (D.view disk.new) }
     ensures later { IsLater (D.view disk.old) (D.view disk.new) }
     ensures faults { CountsFault (ending blames result) (D.view disk.old).faults (D.view disk.new).faults }
+    // Where no more sources than these are chosen, each step leaves fewer to come.
+    ensures nearer { IfOk result (λ done. (chosen : ℕ) → length collection.new.sources.items ≤ chosen → Nears done
+        (steps_to_come chosen tables.old.held collection.old) (steps_to_come chosen tables.new.held collection.new)) }
     // The index isn't asked where a container is given back.
     ensures index { (next slot : ℕ) → collection.old.stage ≡ ReleaseStage next slot → index.new ≡ index.old }
     ensures runs { OnOk result (RunsOn collection.old.stage

@@ -7,6 +7,7 @@ use Rattle.store_state.specs.Refused.{blames}
 use Rattle.gc_steps.specs.declared.collection.Stage.{Stage}
 use Rattle.gc_steps.specs.Stepping.{Touches}
 use Rattle.dd_disk.specs.Ending.{ending}
+use Rattle.gc_steps.proofs.Nearer.{fewer_to_choose, fewer_to_mark, fewer_to_record, fewer_to_release, fewer_to_take}
 use Rattle.gc_steps.proofs.stepping.step.Goals as goal
 
 pub returns-in_err-take_source-in-Copy-clause-disk : goal.returns-in_err-take_source-in-Copy-clause-disk
@@ -35,3 +36,31 @@ returns-in_ok-take_source-in-Copy-clause-later g c =
 pub returns-in_ok-take_source-in-Copy-clause-faults : goal.returns-in_ok-take_source-in-Copy-clause-faults
 returns-in_ok-take_source-in-Copy-clause-faults g c =
     (c.in_ok-take_source-in-Copy.ensures.changes c.requires.runs.1.store.slots c.requires.runs.1.valid.size_is).faults_are
+
+-- ---- fewer steps come
+
+pub returns-in_ok-mark_container-in-Mark-clause-nearer : goal.returns-in_ok-mark_container-in-Mark-clause-nearer
+returns-in_ok-mark_container-in-Mark-clause-nearer g c = λ chosen most.
+    let view = g.D.Disk.view in
+    fewer_to_mark chosen c.args.tables.now.held c.args.collection.now c.mark_container.new.collection c.requires.under_way c.in-Mark.level c.in-Mark.slot (g.X.Index.places c.args.index.now (view c.args.disk.now).content)
+    (view c.args.disk.now) (view c.mark_container.new.disk) c.in-Mark.is c.in_ok-mark_container-in-Mark.ensures.ok
+
+pub returns-in_ok-record_container-in-Filter-clause-nearer : goal.returns-in_ok-record_container-in-Filter-clause-nearer
+returns-in_ok-record_container-in-Filter-clause-nearer g c = λ chosen most.
+    let view = g.D.Disk.view in
+    fewer_to_record chosen c.args.tables.now.held c.args.collection.now c.record_container.new.collection c.requires.under_way c.in-Filter.slot (g.X.Index.places c.args.index.now (view c.args.disk.now).content)
+    (view c.args.disk.now) (view c.record_container.new.disk) c.in-Filter.is c.in_ok-record_container-in-Filter.ensures.ok
+
+pub returns-in_ok-choose_sources-in-Select-clause-nearer : goal.returns-in_ok-choose_sources-in-Select-clause-nearer
+returns-in_ok-choose_sources-in-Select-clause-nearer g c = λ chosen most.
+    fewer_to_choose chosen c.args.tables.now.held c.args.collection.now c.choose_sources.new.collection c.requires.under_way most c.in-Select.is c.in_ok-choose_sources-in-Select.ensures.ok
+
+pub returns-in_ok-take_source-in-Copy-clause-nearer : goal.returns-in_ok-take_source-in-Copy-clause-nearer
+returns-in_ok-take_source-in-Copy-clause-nearer g c = λ chosen most.
+    let view = g.D.Disk.view in
+    fewer_to_take chosen c.args.tables.now.held c.args.tables.now.held c.args.collection.now c.take_source.new.collection c.requires.under_way c.in-Copy.source (g.X.Index.places c.args.index.now (view c.args.disk.now).content)
+    (g.X.Index.places c.take_source.new.index (view c.take_source.new.disk).content) (view c.args.disk.now) (view c.take_source.new.disk) c.in-Copy.is c.in_ok-take_source-in-Copy.ensures.ok
+
+pub returns-in_ok-release_source-in-Release-clause-nearer : goal.returns-in_ok-release_source-in-Release-clause-nearer
+returns-in_ok-release_source-in-Release-clause-nearer g c = λ chosen most.
+    fewer_to_release chosen c.args.tables.now.held c.release_source.new.tables.held c.args.collection.now c.release_source.new.collection c.requires.under_way c.in-Release.next c.in-Release.slot c.in-Release.is c.in_ok-release_source-in-Release.ensures.collection

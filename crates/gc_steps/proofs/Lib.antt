@@ -6,6 +6,7 @@ pub mod Marked
 pub mod MarkedAll
 pub mod Nearer
 pub mod Needed
+pub mod NoNearer
 pub mod PinnedTrees
 pub mod Recorded
 pub mod Released

@@ -3,6 +3,7 @@ pub mod FirstStage
 pub mod GivenBack
 pub mod ListedKeys
 pub mod Marked
+pub mod MapKept
 pub mod MarkedAll
 pub mod Nearer
 pub mod Needed

@@ -1,5 +1,6 @@
 -- What the next step of a collection does, by its stage (docs/MODEL.md, 'Collection').
 use Rattle.std.specs.Prelude.{◌≡◌, ℕ, ◌+◌, get_or, Option}
+use Rattle.base_model.specs.Known.{Known}
 use Rattle.container_meta.specs.Places.{PlaceMap}
 use Rattle.dd_disk.specs.Ending.{Ending, Reads}
 use Rattle.dd_disk.specs.Moves.{Acts}
@@ -58,7 +59,8 @@ abbrev pub TablesAfter : Stage → Tables → Tables → Type 0
 TablesAfter (Release next slot) old new = HasFreed old slot new
 TablesAfter stage old new = new ≡ old
 
--- what it does to the collection and to the map of the index; at the end nothing
+-- what it does to the collection and to the map of the index, which stays where a container is given back if the disk tells its content; at the
+-- end nothing
 abbrev pub StepsTo : Stage → Moment → Moment → Type 0
 StepsTo (Mark level slot) old new =
     Scans old.tables.held old.known old.disk new.disk level slot old.collection new.collection × (new.known ≡ old.known)
@@ -67,7 +69,7 @@ StepsTo Select old new = Chooses old.collection new.collection × (new.known ≡
 StepsTo (Copy source) old new = Takes old.tables.held old.known new.known old.disk new.disk source old.collection new.collection
 StepsTo (Release next slot) old new =
     (new.collection ≡ record old.collection { stage = sweep_from old.collection.sources.items next; freed = old.collection.freed + 1 })
-    × IsDurable new.disk
+    × IsDurable new.disk × Known old.disk.content (λ _. new.known ≡ old.known)
 StepsTo End old new = (new.collection ≡ old.collection) × (new.known ≡ old.known)
 
 -- why it is refused; at the end it is not

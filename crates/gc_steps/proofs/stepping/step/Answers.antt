@@ -1,4 +1,4 @@
-use Rattle.std.proofs.Common.{sym, subst}
+use Rattle.std.proofs.Common.{refl, sym, subst}
 use Rattle.dd_disk.specs.Ending.{CountsFault}
 use Rattle.dd_disk.proofs.Moves.{passed}
 use Rattle.disk_format.specs.Layout.{slot_at}
@@ -7,6 +7,10 @@ use Rattle.store_state.specs.Refused.{blames}
 use Rattle.gc_steps.specs.declared.collection.Stage.{Stage}
 use Rattle.gc_steps.specs.Stepping.{Touches}
 use Rattle.dd_disk.specs.Ending.{ending}
+use Rattle.gc_steps.specs.Stepping.{StepsTo, moment}
+use Rattle.gc_steps.specs.declared.collection.Stage.TheVariants.{Release}
+use Rattle.gc_steps.proofs.MapKept.{map_kept}
+use Rattle.gc_steps.proofs.UnderWay.{at_stage}
 use Rattle.gc_steps.proofs.Nearer.{fewer_to_choose, fewer_to_mark, fewer_to_record, fewer_to_release, fewer_to_take}
 use Rattle.gc_steps.proofs.stepping.step.Goals as goal
 
@@ -64,3 +68,20 @@ returns-in_ok-take_source-in-Copy-clause-nearer g c = λ chosen most.
 pub returns-in_ok-release_source-in-Release-clause-nearer : goal.returns-in_ok-release_source-in-Release-clause-nearer
 returns-in_ok-release_source-in-Release-clause-nearer g c = λ chosen most.
     fewer_to_release chosen c.args.tables.now.held c.release_source.new.tables.held c.args.collection.now c.release_source.new.collection c.requires.under_way c.in-Release.next c.in-Release.slot c.in-Release.is c.in_ok-release_source-in-Release.ensures.collection
+
+-- ---- the map of the index, where a container is given back
+
+pub returns-in_ok-release_source-in-Release-clause-ok : goal.returns-in_ok-release_source-in-Release-clause-ok
+returns-in_ok-release_source-in-Release-clause-ok g c =
+    let old = g.D.Disk.view c.args.disk.now in
+    let new = g.D.Disk.view c.release_source.new.disk in
+    let index = c.args.index.now in
+    let places = g.X.Index.places index in
+    let did = c.in_ok-release_source-in-Release.ensures in
+    let was = at_stage c.args.tables.now.held c.args.collection.now (Release c.in-Release.next c.in-Release.slot) c.requires.under_way c.in-Release.is in
+    subst (λ (s : Stage). StepsTo s (moment c.args.tables.now (places old.content) old c.args.collection.now) (moment c.release_source.new.tables (places new.content) new c.release_source.new.collection)) (sym c.in-Release.is) (
+      did.collection,
+      did.durable,
+      λ given content. map_kept places (g.X.Index.owned_from index) (g.met.X.Index.places_stay index) (g.X.Index.serves index) (g.met.X.Index.owns_no_slot index) c.requires.runs.0 c.args.tables.now c.in-Release.slot
+          old new c.requires.runs.1 was.3.0 c.requires.serves given content (did.frame.content refl given content),
+    )

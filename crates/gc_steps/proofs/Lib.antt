@@ -4,10 +4,13 @@ pub mod FirstStage
 pub mod FoundNodes
 pub mod GivenBack
 pub mod ListedKeys
+pub mod MapKept
 pub mod Marked
 pub mod MarkedAll
+pub mod Nearer
 pub mod Needed
 pub mod NextStage
+pub mod NoNearer
 pub mod NoneMissing
 pub mod PinnedTrees
 pub mod Recorded

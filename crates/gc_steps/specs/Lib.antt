@@ -9,5 +9,7 @@ pub mod Releasing
 pub mod Roots
 pub mod Scanning
 pub mod Stages
+pub mod Stepping
+pub mod StepsToCome
 pub mod SweepIsSafe
 pub mod UnderWay

@@ -6,6 +6,7 @@ ghost use Rattle.store_model.specs.Slots.{with_slot};
 ghost use Rattle.store_state.specs.Tables.{IsFirstFree, RepresentsSlots};
 ghost use Rattle.store_state.specs.declared.slot_table.SlotTable.{SlotTable};
 ghost use Rattle.gc_steps.specs.declared.collection.Collection.{Collection as CollectionValue};
+ghost use Rattle.gc_steps.specs.StepsToCome.{steps_to_come};
 ghost use Rattle.gc_steps.specs.UnderWay.{IsUnderWay};
 
 /// That a container leaves it under way which is sealed into the first free slot under an id that is greater than all before.
@@ -13,6 +14,13 @@ pub fn sealing_keeps_it_under_way()
     ensures { (held : List (Option HeaderValue)) (old new : SlotTable) (c : CollectionValue) (slot : ℕ) (h : HeaderValue)
         → IsFirstFree slot held → RepresentsSlots held old → RepresentsSlots (with_slot slot h held) new
         → new.last_id ≡ max old.last_id h.id → old.last_id < h.id → IsUnderWay old c → IsUnderWay new c }
+{}
+
+/// That as many steps come after such a sealing as before.
+pub fn sealing_brings_no_steps()
+    ensures { (held : List (Option HeaderValue)) (old new : SlotTable) (c : CollectionValue) (slot : ℕ) (h : HeaderValue) (chosen : ℕ)
+        → IsFirstFree slot held → RepresentsSlots held old → RepresentsSlots (with_slot slot h held) new → old.last_id < h.id
+        → IsUnderWay old c → steps_to_come chosen new c ≡ steps_to_come chosen old c }
 {}
 
 /// That it stays so whichever keys become live.

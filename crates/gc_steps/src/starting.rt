@@ -1,5 +1,5 @@
 //! A collection begins.
-ghost use Rattle.std.specs.Prelude.{◌≡◌, ◌↔◌, ◌+◌, ◌-◌, ◌^◌, ◌<◌, ◌≤◌, ℕ, List, [], min, length, Contains, map, IfOk, IfErr, OnOk};
+ghost use Rattle.std.specs.Prelude.{◌≡◌, ◌↔◌, ◌+◌, ◌-◌, ◌*◌, ◌^◌, ◌<◌, ◌≤◌, ℕ, List, [], min, length, Contains, map, IfOk, IfErr, OnOk};
 ghost use Rattle.std.specs.FinMap as finite;
 ghost use Rattle.disk_format.specs.declared.numbers.TheConstants.{MOST_LEVEL};
 ghost use Rattle.container_meta.specs.declared.place.Place.{Place as PlaceValue};
@@ -9,6 +9,7 @@ ghost use Rattle.store_model.specs.Refusals.{root_key as key_of_root};
 ghost use Rattle.refusals.specs.declared.refusal.Refusal.TheVariants.{Memory};
 ghost use Rattle.gc_steps.specs.Roots.{HasRootKey, IsListedKey, IsNameKey, IsPartKey, IsActorKey, IsNumberKey, IsRoot, Marks};
 ghost use Rattle.gc_steps.specs.Stages.{mark_level as level_stage};
+ghost use Rattle.gc_steps.specs.StepsToCome.{old_from, steps_to_come, trees_from};
 ghost use Rattle.gc_steps.specs.UnderWay.{IsUnderWay};
 ghost use Rattle.store_state.specs.Tables.{Runs};
 
@@ -147,6 +148,9 @@ pub fn start(
     ensures nothing_yet { IfOk result (λ c. (c.liveness ≡ []) × (c.sources.items ≡ []) × (c.freed ≡ 0)) }
     ensures stage { IfOk result (λ c. c.stage ≡ level_stage c.snapshot tables.now.held MOST_LEVEL) }
     ensures under_way { IfOk result (λ c. IsUnderWay tables.now.held c) }
+    // So many steps come at most: for each level the tree containers, a record of each container, the choice, and two for each source.
+    ensures steps { IfOk result (λ c. (chosen : ℕ) → steps_to_come chosen tables.now.held c
+        ≤ 6 * trees_from c.snapshot tables.now.held 0 + old_from c.snapshot tables.now.held 0 + 1 + 2 * chosen) }
     ensures refused { IfErr result (λ refusal. refusal ≡ Memory) }
 {
     let snapshot = tables.held.last_id.saturating_add(1);

@@ -1,5 +1,7 @@
 use Rattle.std.proofs.Common.{refl, arith}
 use Rattle.gc_steps.proofs.Released.{columns, few_slots}
+use Rattle.gc_steps.specs.declared.collection.Collection.{Collection}
+use Rattle.gc_steps.proofs.Nearer.{begun}
 use Rattle.gc_steps.proofs.UnderWay.{started}
 use Rattle.gc_steps.proofs.starting.start.Goals as goal
 
@@ -12,3 +14,16 @@ mark_level-requires-clause-counts c = columns c.requires.runs.0 c.requires.runs.
 pub returns-clause-under_way : goal.returns-clause-under_way
 returns-clause-under_way c =
     started c.requires.runs.0 c.requires.runs.1 c.args.tables.now _ c.requires.runs.2 (omega (arith, c.saturating_add-snapshot.ensures)) c.new.ensures refl c.mark_level.ensures
+
+pub returns-clause-steps : goal.returns-clause-steps
+returns-clause-steps c = λ chosen.
+    let new : Collection = record {
+      snapshot = c.saturating_add-snapshot.result;
+      percent = c.number.result;
+      live = c.in_ok-live.live;
+      liveness = c.new.result;
+      sources = c.new-2.result;
+      stage = c.mark_level.result;
+      freed = 0;
+    } in
+    begun chosen c.args.tables.now.held new c.mark_level.ensures

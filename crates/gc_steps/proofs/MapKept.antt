@@ -1,0 +1,23 @@
+-- The map of the index stays where the gate of a slot is written.
+use Rattle.std.proofs.Common.{◌≡◌, ℕ, ◌<◌, ◌≤◌, List, length, Option, Some, sym, ◌∙◌, ap, subst, arith}
+use Rattle.base_model.specs.Known.{KnownWith}
+use Rattle.container_log.specs.Writing.{SameButGate}
+use Rattle.container_meta.specs.Places.{PlaceMap}
+use Rattle.dd_disk.specs.View.{DiskView}
+use Rattle.disk_format.specs.Layout.{size_of, slot_at}
+use Rattle.segment_index.specs.Changes.{SameFrom}
+use Rattle.store_state.specs.Tables.{Runs}
+use Rattle.store_state.specs.declared.tables.Tables.{Tables}
+use Rattle.gc_steps.proofs.Released.{slots_there}
+
+pub map_kept : (places : Option (List ℕ) → Option PlaceMap) (owned_from : ℕ → ℕ)
+    → ((a b : List ℕ) → SameFrom (owned_from (length a)) a b → places (Some b) ≡ places (Some a))
+    → (serves : ℕ → Type 0) → ((slots : ℕ) → serves (size_of slots) → slot_at slots ≤ owned_from (size_of slots))
+    → (known : Option PlaceMap) (t : Tables) (slot : ℕ) (old new : DiskView) → Runs old.size known t → slot < length t.held.ids.items → serves old.size
+    → (given : List ℕ) → old.content ≡ Some given → KnownWith new.content (SameButGate slot given) → places new.content ≡ places old.content
+map_kept places owned_from stay serves owns known t slot old new runs within served given content after =
+    let slots = runs.store.slots in
+    let long : length given ≡ size_of slots = old.sized given content ∙ runs.valid.size_is in
+    let owned : slot_at slots ≤ owned_from (length given) = subst (λ n. slot_at slots ≤ owned_from n) (sym long) (owns slots (subst serves runs.valid.size_is served)) in
+    let many : length t.held.ids.items ≡ slots = slots_there old.size known t runs in
+    ap places after.1 ∙ stay given after.0 (record { size = after.2.size; after = λ p n above. after.2.after p n (omega (arith, above, owned, within, many)) }) ∙ ap places (sym content)

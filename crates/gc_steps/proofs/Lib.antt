@@ -1,4 +1,6 @@
+pub mod Carried
 pub mod Faulted
+pub mod FewerRoots
 pub mod FirstStage
 pub mod GivenBack
 pub mod ListedKeys

@@ -39,9 +39,14 @@ pub record Carries (index later : PlaceMap) (live marked : LiveKeys) (s t : Stor
   pub slots : (slot : ℕ) (h : HeaderValue) → slice_get t.held slot ≡ Some (Some h)
       → (slice_get s.held slot ≡ Some (Some h)) ⊎ All (λ e. IsLive later marked (entry_key h.kind e)) h.entries
 
-module _ (index later : PlaceMap) (live marked : LiveKeys) (s t : Store) (old new : List ℕ) (parts : List Part) (carries : Carries index later live marked s t old new parts) where
+-- A step leaves both invariants of a collection.
+abbrev pub KeepsBoth : PlaceMap → PlaceMap → Store → Store → List Part → List Part → List ℕ → List ℕ → Collection → Collection → Type 0
+KeepsBoth index later s t before after old new c d =
+    (MarksAreClosed index s before old c → MarksAreClosed later t after new d) × (SweepIsSafe index s before old c → SweepIsSafe later t after new d)
+
+module _ (index later : PlaceMap) (c : Collection) (marked : LiveKeys) (s t : Store) (old new : List ℕ) (parts : List Part) (carries : Carries index later c.live marked s t old new parts) where
   -- a node that was live, and whose newest copy is the same, was held before
-  node_before : (n : Contents) (copy : Copy) → HoldsNode t.held new n copy → IsLive index live (node_key n) → newest 0 t.held (node_key n) ≡ newest 0 s.held (node_key n)
+  node_before : (n : Contents) (copy : Copy) → HoldsNode t.held new n copy → IsLive index c.live (node_key n) → newest 0 t.held (node_key n) ≡ newest 0 s.held (node_key n)
       → HoldsNode s.held old n copy
   node_before n copy holds (place, (found, is)) same =
       let here : newest 0 s.held (node_key n) ≡ Some copy = sym same ∙ holds.copy_is in
@@ -54,11 +59,11 @@ module _ (index later : PlaceMap) (live marked : LiveKeys) (s t : Store) (old ne
         bytes_are = sym on.bytes_are ∙ ap (λ (x : Copy). bytes_at x.place new) one ∙ holds.bytes_are;
       }
 
-  all_on : (keys : List (List ℕ)) → All (IsLive index live) keys → All (IsLive later marked) keys
+  all_on : (keys : List (List ℕ)) → All (IsLive index c.live) keys → All (IsLive later marked) keys
   all_on keys all k d within = carries.live_still (get_or keys k d) (all k d within)
 
-  new_on : (snapshot : ℕ) → NewAreLive index live snapshot s.held → NewAreLive later marked snapshot t.held
-  new_on snapshot before slot h there new_id = by_slot (carries.slots slot h there)
+  new_on : NewAreLive index c.live c.snapshot s.held → NewAreLive later marked c.snapshot t.held
+  new_on before slot h there new_id = by_slot (carries.slots slot h there)
     where
       by_slot : (slice_get s.held slot ≡ Some (Some h)) ⊎ All (λ e. IsLive later marked (entry_key h.kind e)) h.entries → All (λ e. IsLive later marked (entry_key h.kind e)) h.entries
       by_slot (inl was) = λ k d within. carries.live_still (entry_key h.kind (get_or h.entries k d)) (before slot h was new_id k d within)
@@ -72,43 +77,44 @@ module _ (index later : PlaceMap) (live marked : LiveKeys) (s t : Store) (old ne
     is_held = tree_on (HasKey index) (HasKey later) s t old new carries.keeps carries.has_still is.whole is.is_held;
   }
 
-  pub marks_carried : (before : List Part) (c : Collection) → c.live ≡ live → MarksAreClosed index s before old c → MarksAreClosed later t parts new (record c { live = marked })
-  marks_carried before c live_is marks = record {
+  marks_carried : (before : List Part) → MarksAreClosed index s before old c → MarksAreClosed later t parts new (record c { live = marked })
+  marks_carried before marks = record {
     roots_are_live = carries.roots;
     live_is_whole = λ key is. by_whole key (carries.each key is);
     passed_is_closed = λ n copy holds is passed. by_node n copy holds passed (carries.each (node_key n) is);
-    new_are_live = new_on c.snapshot (subst (λ (l : LiveKeys). NewAreLive index l c.snapshot s.held) live_is marks.new_are_live);
+    new_are_live = new_on marks.new_are_live;
   }
     where
-      was : (key : List ℕ) → IsLive index live key → IsLive index c.live key
-      was key is = subst (λ (l : LiveKeys). IsLive index l key) (sym live_is) is
-
-      by_whole : (key : List ℕ) → (IsLive index live key × (newest 0 t.held key ≡ newest 0 s.held key)) ⊎ IsGrown later marked t.held new key → IsWhole later t.held new key
-      by_whole key (inl is) = whole_on key (marks.live_is_whole key (was key is.0))
+      by_whole : (key : List ℕ) → (IsLive index c.live key × (newest 0 t.held key ≡ newest 0 s.held key)) ⊎ IsGrown later marked t.held new key → IsWhole later t.held new key
+      by_whole key (inl is) = whole_on key (marks.live_is_whole key is.0)
       by_whole key (inr grown) = grown.whole
 
       by_node : (n : Contents) (copy : Copy) → HoldsNode t.held new n copy → IsPassed c n.level copy
-          → (IsLive index live (node_key n) × (newest 0 t.held (node_key n) ≡ newest 0 s.held (node_key n))) ⊎ IsGrown later marked t.held new (node_key n)
+          → (IsLive index c.live (node_key n) × (newest 0 t.held (node_key n) ≡ newest 0 s.held (node_key n))) ⊎ IsGrown later marked t.held new (node_key n)
           → All (IsLive later marked) (child_keys n)
-      by_node n copy holds passed (inl is) =
-          all_on (child_keys n)
-          (subst (λ (l : LiveKeys). All (IsLive index l) (child_keys n)) live_is (marks.passed_is_closed n copy (node_before n copy holds is.0 is.1) (was (node_key n) is.0) passed))
+      by_node n copy holds passed (inl is) = all_on (child_keys n) (marks.passed_is_closed n copy (node_before n copy holds is.0 is.1) is.0 passed)
       by_node n copy holds passed (inr grown) = grown.children n copy holds refl
 
-  pub sweep_carried : (before : List Part) (c : Collection) → c.live ≡ live → ReleasesReady later t.held c.snapshot c.stage → SweepIsSafe index s before old c
+  sweep_carried : (before : List Part) → (ReleasesReady index s.held c.snapshot c.stage → ReleasesReady later t.held c.snapshot c.stage) → SweepIsSafe index s before old c
       → SweepIsSafe later t parts new (record c { live = marked })
-  sweep_carried before c live_is ready safe = record {
+  sweep_carried before ready safe = record {
     roots_are_live = carries.roots;
     live_is_closed = λ n copy holds is. by_node n copy holds (carries.each (node_key n) is);
-    releases_ready = ready;
-    new_are_live = new_on c.snapshot (subst (λ (l : LiveKeys). NewAreLive index l c.snapshot s.held) live_is safe.new_are_live);
+    releases_ready = ready safe.releases_ready;
+    new_are_live = new_on safe.new_are_live;
   }
     where
       by_node : (n : Contents) (copy : Copy) → HoldsNode t.held new n copy
-          → (IsLive index live (node_key n) × (newest 0 t.held (node_key n) ≡ newest 0 s.held (node_key n))) ⊎ IsGrown later marked t.held new (node_key n)
+          → (IsLive index c.live (node_key n) × (newest 0 t.held (node_key n) ≡ newest 0 s.held (node_key n))) ⊎ IsGrown later marked t.held new (node_key n)
           → All (IsLive later marked) (child_keys n)
-      by_node n copy holds (inl is) =
-          all_on (child_keys n)
-          (subst (λ (l : LiveKeys). All (IsLive index l) (child_keys n)) live_is
-          (safe.live_is_closed n copy (node_before n copy holds is.0 is.1) (subst (λ (l : LiveKeys). IsLive index l (node_key n)) (sym live_is) is.0)))
+      by_node n copy holds (inl is) = all_on (child_keys n) (safe.live_is_closed n copy (node_before n copy holds is.0 is.1) is.0)
       by_node n copy holds (inr grown) = grown.children n copy holds refl
+
+-- Where the roots were live before it, and a source that was ready is so still, such a step leaves both.
+pub carried : (index later : PlaceMap) (c : Collection) (marked : LiveKeys) (s t : Store) (old new : List ℕ) (before after : List Part)
+    → (((key : List ℕ) → IsRoot (names_of s) before key → IsLive index c.live key) → Carries index later c.live marked s t old new after)
+    → (ReleasesReady index s.held c.snapshot c.stage → ReleasesReady later t.held c.snapshot c.stage) → KeepsBoth index later s t before after old new c (record c { live = marked })
+carried index later c marked s t old new before after carries ready = (
+  λ marks. marks_carried index later c marked s t old new after (carries marks.roots_are_live) before marks,
+  λ safe. sweep_carried index later c marked s t old new after (carries safe.roots_are_live) before ready safe,
+)

@@ -7,11 +7,13 @@ pub mod ListedKeys
 pub mod Marked
 pub mod MarkedAll
 pub mod Needed
+pub mod OtherSteps
 pub mod PinnedTrees
 pub mod Recorded
 pub mod Released
 pub mod Removed
 pub mod RootTrees
+pub mod RootsAfter
 pub mod Scanned
 pub mod Scans
 pub mod Sealed

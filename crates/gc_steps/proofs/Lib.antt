@@ -2,6 +2,7 @@ pub mod Carried
 pub mod Faulted
 pub mod FewerRoots
 pub mod FirstStage
+pub mod GainedPins
 pub mod GivenBack
 pub mod ListedKeys
 pub mod Marked

@@ -1,4 +1,5 @@
 pub mod Carried
+pub mod ClaimedPin
 pub mod Faulted
 pub mod FewerRoots
 pub mod FirstStage
@@ -18,6 +19,7 @@ pub mod RootsAfter
 pub mod Scanned
 pub mod Scans
 pub mod Sealed
+pub mod SealedPins
 pub mod Started
 pub mod Swept
 pub mod Taken

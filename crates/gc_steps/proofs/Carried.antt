@@ -1,12 +1,11 @@
 -- What a step of another actor leaves of a collection, where what it makes live is held whole, and its children are live.
-use Rattle.std.proofs.Common.{◌≡◌, ◌⊎◌, inl, inr, ℕ, List, Option, Some, refl, sym, ◌∙◌, ap, subst}
+use Rattle.std.proofs.Common.{◌≡◌, ◌⊎◌, inl, inr, ℕ, List, Option, Some, refl, sym, ◌∙◌, ap}
 use Rattle.std.specs.Prelude.{slice_get, get_or}
 use Rattle.std.specs.List.{All}
 use Rattle.actor_parts.specs.declared.part.Part.{Part}
-use Rattle.container_meta.specs.declared.place.Place.{Place}
 use Rattle.container_meta.specs.Places.{PlaceMap}
 use Rattle.container_meta.specs.Spelling.{HeaderValue}
-use Rattle.gc_enumerate.specs.Live.{LiveKeys, IsLiveAt}
+use Rattle.gc_enumerate.specs.Live.{LiveKeys}
 use Rattle.gc_enumerate.specs.Scanning.{child_keys}
 use Rattle.merkle_file.specs.Node.{Contents}
 use Rattle.store_model.specs.Image.{Store, names_of}

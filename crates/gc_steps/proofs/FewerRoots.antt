@@ -1,5 +1,5 @@
 -- Where no root comes after a step, and no container came or went, a collection goes on.
-use Rattle.std.proofs.Common.{◌≡◌, inl, ℕ, List, Option, Some, sym, ◌∙◌, ap, subst}
+use Rattle.std.proofs.Common.{◌≡◌, inl, ℕ, List, Option, sym, ◌∙◌, ap, subst}
 use Rattle.std.specs.Prelude.{slice_get}
 use Rattle.actor_parts.specs.declared.part.Part.{Part}
 use Rattle.container_meta.specs.Places.{PlaceMap}

@@ -1,5 +1,5 @@
 -- An actor's pins grow, and the live keys by the same keys: both invariants of a collection stay.
-use Rattle.std.proofs.Common.{◌≡◌, ◌⊎◌, ◌↔◌, ◌<◌, ◌+◌, ◌-◌, inl, inr, ℕ, zero, suc, Bool, true, List, [], ◌∷◌, length, map, Option, Some, refl, sym, ◌∙◌, ap, subst, arith}
+use Rattle.std.proofs.Common.{◌≡◌, ◌⊎◌, ◌↔◌, ◌<◌, inl, inr, ℕ, zero, suc, true, List, [], ◌∷◌, length, map, Some, sym, ◌∙◌, ap, subst, arith}
 use Rattle.std.specs.Prelude.{slice_get, get_or}
 use Rattle.std.specs.FinMap as finite
 use Rattle.std.specs.List.{All, AllByRecursion}
@@ -7,7 +7,6 @@ use Rattle.sha2.specs.Sha256.{sha256}
 use Rattle.actor_parts.specs.declared.actor.TheConstants.{ACTORS}
 use Rattle.actor_parts.specs.declared.part.Part.{Part}
 use Rattle.actor_parts.specs.declared.part.Part.TheVariants.{Writing}
-use Rattle.actor_parts.specs.declared.pins.Pin.{Pin}
 use Rattle.actor_parts.specs.Parts.{part_of, with_part}
 use Rattle.actor_parts.specs.PinMap.{PinMap, has_pin}
 use Rattle.actor_parts.specs.Segments.{IsOfKind, child_pin, children_by}
@@ -36,7 +35,7 @@ use Rattle.store_model.proofs.Copies.{some_same}
 use Rattle.store_model.proofs.HeldSlots.{same_kind}
 use Rattle.store_state.specs.Invariant.{ArePinsOf, CoreInvariant, HoldsPart}
 use Rattle.gc_steps.specs.declared.collection.Collection.{Collection}
-use Rattle.gc_steps.specs.LiveTrees.{IsLive, HoldsNode}
+use Rattle.gc_steps.specs.LiveTrees.{IsLive}
 use Rattle.gc_steps.specs.Roots.{IsPartKey, IsRoot, Marks}
 use Rattle.gc_steps.specs.SweepIsSafe.{ReleasesReady}
 use Rattle.gc_steps.proofs.Carried.{Carries, IsGrown, KeepsBoth, carried}

@@ -24,3 +24,4 @@ pub mod Started
 pub mod Swept
 pub mod Taken
 pub mod UnderWay
+pub mod Unseen

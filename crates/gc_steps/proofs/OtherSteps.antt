@@ -1,5 +1,5 @@
 -- Steps of other actors that bring no root, and no container, leave both invariants of a collection.
-use Rattle.std.proofs.Common.{◌≡◌, ◌⊎◌, ℕ, suc, ◌<◌, Bool, true, List, Some, refl, subst}
+use Rattle.std.proofs.Common.{◌≡◌, ◌⊎◌, ℕ, suc, ◌<◌, true, List, Some, refl, subst}
 use Rattle.std.specs.FinMap as finite
 use Rattle.actor_parts.specs.declared.actor.TheConstants.{ACTORS}
 use Rattle.actor_parts.specs.declared.part.Part.{Part}
@@ -16,13 +16,14 @@ use Rattle.store_model.specs.Image.{Store, last_sequence, names_of}
 use Rattle.store_model.specs.Journal.{Follow}
 use Rattle.store_model.specs.Refusals.{root_key}
 use Rattle.store_model.specs.Slots.{HasKey}
-use Rattle.store_model.specs.Steps.{KeepsCopies, with_change}
+use Rattle.store_model.specs.Steps.{KeepsCopies, with_cell, with_change}
+use Rattle.store_model.proofs.Cells.{names_with_cell}
 use Rattle.store_model.proofs.NameChanges.{names_after_change}
 use Rattle.gc_steps.specs.declared.collection.Collection.{Collection}
 use Rattle.gc_steps.specs.Roots.{IsRoot}
 use Rattle.gc_steps.proofs.Carried.{KeepsBoth}
 use Rattle.gc_steps.proofs.FewerRoots.{fewer_roots}
-use Rattle.gc_steps.proofs.RootsAfter.{committed_root, deleted_root, idle_root, opened_root, reading_root}
+use Rattle.gc_steps.proofs.RootsAfter.{begun_root, committed_root, deleted_root, idle_root, opened_root, reading_root}
 
 -- ---- the part of an actor alone changes
 
@@ -37,6 +38,10 @@ module _ (index : PlaceMap) (store : Store) (image : List ℕ) (parts : List Par
   pub ended : Keeps Idle
   ended = none_more Idle (idle_root (names_of store) parts actor)
 
+  -- It begins to store a file.
+  pub began : Keeps (Writing finite.empty)
+  began = none_more (Writing finite.empty) (λ key is. begun_root (names_of store) parts actor key is)
+
   -- It reads on.
   pub read_on : (old new : Reader) → actor < ACTORS → part_of parts actor ≡ Reading old → new.root ≡ old.root → Keeps (Reading new)
   read_on old new below was same = none_more (Reading new) (reading_root (names_of store) parts actor old new below was same)
@@ -44,6 +49,18 @@ module _ (index : PlaceMap) (store : Store) (image : List ℕ) (parts : List Par
   -- It begins to read the file of a name.
   pub opened : (reader : Reader) (name : List ℕ) (named : Named) → finite.get (names_of store) name ≡ Some named → named.root ≡ reader.root → Keeps (Reading reader)
   opened reader name named found same = none_more (Reading reader) (opened_root (names_of store) parts actor reader name named found same)
+
+-- ---- names and parts stay
+
+module _ (index : PlaceMap) (store : Store) (old new : List ℕ) (parts : List Part) (c : Collection) where
+  -- The image alone changes: so it is after a seal that is refused.
+  pub kept : KeepsCopies (HasKey index) store old store new → KeepsBoth index index store store parts parts old new c c
+  kept keeps = fewer_roots index store store old new parts parts c refl keeps (λ key root. root)
+
+  -- A cell is made for a record.
+  pub cell_made : Follow 0 finite.empty store.records → KeepsCopies (HasKey index) store old (with_cell store) new → KeepsBoth index index store (with_cell store) parts parts old new c c
+  cell_made follow keeps =
+      fewer_roots index store (with_cell store) old new parts parts c refl keeps (λ key root. subst (λ (names : NameMap). IsRoot names parts key) (names_with_cell store follow) root)
 
 -- ---- a name changes
 

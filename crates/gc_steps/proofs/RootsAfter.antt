@@ -1,5 +1,5 @@
 -- The roots after steps of other actors: none comes but those that the step gives.
-use Rattle.std.proofs.Common.{◌≡◌, ◌⊎◌, inl, inr, ℕ, zero, suc, ◌<◌, Bool, true, false, cond, List, [], ◌∷◌, map, Option, Some, None, refl, sym, ◌∙◌, ap, subst}
+use Rattle.std.proofs.Common.{◌≡◌, ◌⊎◌, inl, inr, ℕ, zero, suc, ◌<◌, Bool, true, false, cond, List, [], ◌∷◌, map, Some, None, refl, sym, ◌∙◌, ap, subst}
 use Rattle.std.specs.Prelude.{if◌then◌else◌}
 use Rattle.std.specs.Ordering.{nat_cmp, eq_by_cmp}
 use Rattle.std.specs.Cmp.Lexicographic.{slice_cmp, nat_list_cmp_total}
@@ -16,7 +16,7 @@ use Rattle.disk_format.specs.Cells.Change.{Put, Delete}
 use Rattle.namespace.specs.declared.record.Named.{Named}
 use Rattle.namespace.specs.Listing.{named_root}
 use Rattle.namespace.specs.Names.{NameMap, names_changed}
-use Rattle.gc_steps.specs.Roots.{HasRootKey, IsActorKey, IsListedKey, IsNameKey, IsPartKey, IsRoot}
+use Rattle.gc_steps.specs.Roots.{HasRootKey, IsListedKey, IsNameKey, IsPartKey, IsRoot}
 use Rattle.store_model.specs.Refusals.{root_key}
 use Rattle.gc_steps.proofs.ListedKeys.{name_of_key}
 use Rattle.gc_steps.proofs.PinnedTrees.{pin_found}
@@ -48,6 +48,14 @@ idle_root names parts actor key is = by_case (part_root names parts actor Idle k
     by_case : IsRoot names parts key ⊎ IsPartKey Idle key → IsRoot names parts key
     by_case (inl was) = was
     by_case (inr none) = absurd none
+
+-- It stores a file, and has pinned nothing yet: no root comes.
+pub begun_root : (names : NameMap) (parts : List Part) (actor : ℕ) (key : List ℕ) → IsRoot names (with_part parts actor (Writing finite.empty)) key → IsRoot names parts key
+begun_root names parts actor key is = by_case (part_root names parts actor (Writing finite.empty) key is)
+  where
+    by_case : IsRoot names parts key ⊎ IsPartKey (Writing finite.empty) key → IsRoot names parts key
+    by_case (inl was) = was
+    by_case (inr none) = absurd (let wrong : None ≡ Some none.0 = sym (finite.get-empty {X = Pin} (slice_cmp nat_cmp) key) ∙ none.1 in cc)
 
 -- It reads on in the same file: no root comes.
 pub reading_root : (names : NameMap) (parts : List Part) (actor : ℕ) (old new : Reader) → actor < ACTORS → part_of parts actor ≡ Reading old → new.root ≡ old.root

@@ -1,5 +1,5 @@
 -- A seal leaves both invariants of a collection, where the keys of what is sealed become live.
-use Rattle.std.proofs.Common.{◌≡◌, ◌≢◌, ◌⊎◌, ◌↔◌, ◌<◌, ◌≤◌, ◌+◌, inl, inr, ℕ, zero, suc, Bool, true, false, cond, List, [], ◌∷◌, length, map, get_or, Option, Some, None, find, refl, sym, ◌∙◌, ap, subst, arith}
+use Rattle.std.proofs.Common.{◌≡◌, ◌≢◌, ◌⊎◌, ◌↔◌, ◌<◌, ◌+◌, inl, inr, ℕ, zero, suc, Bool, true, false, cond, List, [], ◌∷◌, length, map, get_or, Option, Some, None, refl, sym, ◌∙◌, ap, subst, arith}
 use Rattle.std.specs.Prelude.{slice_get}
 use Rattle.std.specs.FinMap as finite
 use Rattle.std.specs.List.{All, Contains}
@@ -21,7 +21,7 @@ use Rattle.gc_enumerate.specs.Live.{LiveKeys}
 use Rattle.store_model.specs.Files.{Files}
 use Rattle.store_model.specs.Image.{Store}
 use Rattle.store_model.specs.Indexing.{entry_key, with_entries}
-use Rattle.store_model.specs.Slots.{HasKey, first_free, free_slots, newest, place_of, with_slot}
+use Rattle.store_model.specs.Slots.{HasKey, first_free, place_of, with_slot}
 use Rattle.store_model.specs.Standing.{IsStoreOf}
 use Rattle.store_model.specs.Steps.{CanSeal, KeepsCopies, with_sealed}
 use Rattle.store_model.proofs.Copies.{some_same}
@@ -33,9 +33,9 @@ use Rattle.gc_steps.specs.declared.collection.Collection.{Collection}
 use Rattle.gc_steps.specs.declared.collection.Stage.{Stage}
 use Rattle.gc_steps.specs.declared.collection.Stage.TheVariants.{Mark, Filter, Select, Copy, Release, End}
 use Rattle.gc_steps.specs.Roots.{IsPartKey, Marks}
-use Rattle.gc_steps.specs.SweepIsSafe.{HasNoEntryIn, IsReadySource, ReleasesReady}
+use Rattle.gc_steps.specs.SweepIsSafe.{IsReadySource, ReleasesReady}
 use Rattle.gc_steps.proofs.Carried.{KeepsBoth}
-use Rattle.gc_steps.proofs.GainedPins.{Gains, Grows, gained}
+use Rattle.gc_steps.proofs.GainedPins.{Grows, gained}
 use Rattle.gc_steps.proofs.Marked.{contains_first, contains_none}
 
 -- the key of a segment that is sealed

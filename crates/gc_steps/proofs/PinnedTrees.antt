@@ -53,7 +53,7 @@ same_contents a b cs ds first second = cc
 same_children : (c d : Child) (cs ds : List Child) → c ≡ d → cs ≡ ds → c ∷ cs ≡ d ∷ ds
 same_children c d cs ds first second = cc
 
-pin_found : (pin : Pin) (found : Option Pin) → is_pin pin found ≡ true → found ≡ Some pin
+pub pin_found : (pin : Pin) (found : Option Pin) → is_pin pin found ≡ true → found ≡ Some pin
 pin_found pin None is = absurd cc
 pin_found pin (Some other) is =
     let both = both_true (other.level == pin.level) (other.length == pin.length) is in

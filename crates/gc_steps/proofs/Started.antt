@@ -28,7 +28,7 @@ use Rattle.gc_steps.proofs.FirstStage.{none_new, none_passed}
 use Rattle.gc_steps.proofs.PinnedTrees.{pinned_whole}
 use Rattle.gc_steps.proofs.RootTrees.{whole_indexed, whole_name, whole_reader}
 
-part_holds : (P : Part → Type 0) (parts : List Part) (actor : ℕ) → P Idle → AllByRecursion P parts → P (part_of parts actor)
+pub part_holds : (P : Part → Type 0) (parts : List Part) (actor : ℕ) → P Idle → AllByRecursion P parts → P (part_of parts actor)
 unfolding part_of
 part_holds P [] actor idle all = idle
 part_holds P (p ∷ ps) zero idle all = all.0

@@ -1,0 +1,83 @@
+-- Steps of other actors that bring no root, and no container, leave both invariants of a collection.
+use Rattle.std.proofs.Common.{◌≡◌, ◌⊎◌, ℕ, suc, ◌<◌, true, List, Some, refl, subst}
+use Rattle.std.specs.FinMap as finite
+use Rattle.actor_parts.specs.declared.actor.TheConstants.{ACTORS}
+use Rattle.actor_parts.specs.declared.part.Part.{Part}
+use Rattle.actor_parts.specs.declared.part.Part.TheVariants.{Idle, Writing, Reading}
+use Rattle.actor_parts.specs.declared.part.Reader.{Reader}
+use Rattle.actor_parts.specs.Parts.{part_of, with_part}
+use Rattle.actor_parts.specs.PinMap.{PinMap, has_pin}
+use Rattle.container_meta.specs.Places.{PlaceMap}
+use Rattle.disk_format.specs.Cells.{Root}
+use Rattle.disk_format.specs.Cells.Change.{Put, Delete}
+use Rattle.namespace.specs.declared.record.Named.{Named}
+use Rattle.namespace.specs.Names.{NameMap}
+use Rattle.store_model.specs.Image.{Store, last_sequence, names_of}
+use Rattle.store_model.specs.Journal.{Follow}
+use Rattle.store_model.specs.Refusals.{root_key}
+use Rattle.store_model.specs.Slots.{HasKey}
+use Rattle.store_model.specs.Steps.{KeepsCopies, with_cell, with_change}
+use Rattle.store_model.proofs.Cells.{names_with_cell}
+use Rattle.store_model.proofs.NameChanges.{names_after_change}
+use Rattle.gc_steps.specs.declared.collection.Collection.{Collection}
+use Rattle.gc_steps.specs.Roots.{IsRoot}
+use Rattle.gc_steps.proofs.Carried.{KeepsBoth}
+use Rattle.gc_steps.proofs.FewerRoots.{fewer_roots}
+use Rattle.gc_steps.proofs.RootsAfter.{begun_root, committed_root, deleted_root, idle_root, opened_root, reading_root}
+
+-- ---- the part of an actor alone changes
+
+module _ (index : PlaceMap) (store : Store) (image : List ℕ) (parts : List Part) (c : Collection) (actor : ℕ) where
+  abbrev Keeps : Part → Type 0
+  Keeps part = KeepsBoth index index store store parts (with_part parts actor part) image image c c
+
+  none_more : (part : Part) → ((key : List ℕ) → IsRoot (names_of store) (with_part parts actor part) key → IsRoot (names_of store) parts key) → Keeps part
+  none_more part fewer = fewer_roots index store store image image parts (with_part parts actor part) c refl (λ key level bytes has is. is) fewer
+
+  -- It gives up what it was at: an abort, or the end of a read.
+  pub ended : Keeps Idle
+  ended = none_more Idle (idle_root (names_of store) parts actor)
+
+  -- It begins to store a file.
+  pub began : Keeps (Writing finite.empty)
+  began = none_more (Writing finite.empty) (λ key is. begun_root (names_of store) parts actor key is)
+
+  -- It reads on.
+  pub read_on : (old new : Reader) → actor < ACTORS → part_of parts actor ≡ Reading old → new.root ≡ old.root → Keeps (Reading new)
+  read_on old new below was same = none_more (Reading new) (reading_root (names_of store) parts actor old new below was same)
+
+  -- It begins to read the file of a name.
+  pub opened : (reader : Reader) (name : List ℕ) (named : Named) → finite.get (names_of store) name ≡ Some named → named.root ≡ reader.root → Keeps (Reading reader)
+  opened reader name named found same = none_more (Reading reader) (opened_root (names_of store) parts actor reader name named found same)
+
+-- ---- names and parts stay
+
+module _ (index : PlaceMap) (store : Store) (old new : List ℕ) (parts : List Part) (c : Collection) where
+  -- The image alone changes: so it is after a seal that is refused.
+  pub kept : KeepsCopies (HasKey index) store old store new → KeepsBoth index index store store parts parts old new c c
+  kept keeps = fewer_roots index store store old new parts parts c refl keeps (λ key root. root)
+
+  -- A cell is made for a record.
+  pub cell_made : Follow 0 finite.empty store.records → KeepsCopies (HasKey index) store old (with_cell store) new → KeepsBoth index index store (with_cell store) parts parts old new c c
+  cell_made follow keeps =
+      fewer_roots index store (with_cell store) old new parts parts c refl keeps (λ key root. subst (λ (names : NameMap). IsRoot names parts key) (names_with_cell store follow) root)
+
+-- ---- a name changes
+
+module _ (index : PlaceMap) (store : Store) (old new : List ℕ) (parts : List Part) (c : Collection) (name : List ℕ) (follow : Follow 0 finite.empty store.records) where
+  -- It is deleted.
+  pub deleted : KeepsCopies (HasKey index) store old (with_change name Delete store) new → KeepsBoth index index store (with_change name Delete store) parts parts old new c c
+  deleted keeps =
+      fewer_roots index store (with_change name Delete store) old new parts parts c refl keeps
+      (λ key root. deleted_root (suc (last_sequence store)) name (names_of store) parts key (subst (λ (names : NameMap). IsRoot names parts key) (names_after_change name Delete store follow) root))
+
+  -- It is given the root of the file that an actor stored.
+  pub committed : (root : Root) (actor : ℕ) (pins : PinMap) → actor < ACTORS → part_of parts actor ≡ Writing pins
+      → (root.length ≡ 0) ⊎ (has_pin pins (root_key root) (record { level = root.level; length = root.length }) ≡ true)
+      → KeepsCopies (HasKey index) store old (with_change name (Put root) store) new
+      → KeepsBoth index index store (with_change name (Put root) store) parts (with_part parts actor Idle) old new c c
+  committed root actor pins below writing stored keeps =
+      fewer_roots index store (with_change name (Put root) store) old new parts (with_part parts actor Idle) c refl keeps
+      (λ key is.
+      committed_root (suc (last_sequence store)) name root (names_of store) parts actor pins below writing stored key
+      (subst (λ (names : NameMap). IsRoot names (with_part parts actor Idle) key) (names_after_change name (Put root) store follow) is))

@@ -1,0 +1,197 @@
+-- A seal leaves both invariants of a collection, where the keys of what is sealed become live.
+use Rattle.std.proofs.Common.{◌≡◌, ◌≢◌, ◌⊎◌, ◌↔◌, ◌<◌, ◌+◌, inl, inr, ℕ, zero, suc, Bool, true, false, cond, List, [], ◌∷◌, length, map, get_or, Option, Some, None, refl, sym, ◌∙◌, ap, subst, arith}
+use Rattle.std.specs.Prelude.{slice_get}
+use Rattle.std.specs.FinMap as finite
+use Rattle.std.specs.List.{All, Contains}
+use Rattle.std.specs.Str.{bytes_eq}
+use Rattle.std.proofs.lemmas.Slice.Eq.{bytes_eq-Decides}
+use Rattle.sha2.specs.Sha256.{sha256}
+use Rattle.actor_parts.specs.declared.actor.TheConstants.{ACTORS}
+use Rattle.actor_parts.specs.declared.part.Part.{Part}
+use Rattle.actor_parts.specs.declared.part.Part.TheVariants.{Writing}
+use Rattle.actor_parts.specs.Parts.{part_of, with_part}
+use Rattle.actor_parts.specs.PinMap.{PinMap}
+use Rattle.container_meta.specs.declared.entry.Entry.{Entry}
+use Rattle.container_meta.specs.declared.kind.Kind.{Kind}
+use Rattle.container_meta.specs.declared.place.Place.{Place}
+use Rattle.container_meta.specs.Places.{PlaceMap}
+use Rattle.container_meta.specs.Segments.{Contents, Segment, entries_from, keys_of, segment_key}
+use Rattle.container_meta.specs.Spelling.{HeaderValue, header_of}
+use Rattle.gc_enumerate.specs.Live.{LiveKeys}
+use Rattle.store_model.specs.Files.{Files}
+use Rattle.store_model.specs.Image.{Store}
+use Rattle.store_model.specs.Indexing.{entry_key, with_entries}
+use Rattle.store_model.specs.Slots.{HasKey, first_free, place_of, with_slot}
+use Rattle.store_model.specs.Standing.{IsStoreOf}
+use Rattle.store_model.specs.Steps.{CanSeal, KeepsCopies, with_sealed}
+use Rattle.store_model.proofs.Copies.{some_same}
+use Rattle.store_model.proofs.FreedTrees.{in_head, in_tail}
+use Rattle.store_model.proofs.Indexing.{entry_of, put_none, put_some}
+use Rattle.store_model.proofs.NewestSealed.{newest_without}
+use Rattle.store_state.specs.Invariant.{CoreInvariant}
+use Rattle.gc_steps.specs.declared.collection.Collection.{Collection}
+use Rattle.gc_steps.specs.declared.collection.Stage.{Stage}
+use Rattle.gc_steps.specs.declared.collection.Stage.TheVariants.{Mark, Filter, Select, Copy, Release, End}
+use Rattle.gc_steps.specs.Roots.{IsPartKey, Marks}
+use Rattle.gc_steps.specs.SweepIsSafe.{IsReadySource, ReleasesReady}
+use Rattle.gc_steps.proofs.Carried.{KeepsBoth}
+use Rattle.gc_steps.proofs.GainedPins.{Grows, gained}
+use Rattle.gc_steps.proofs.Marked.{contains_first, contains_none}
+
+-- the key of a segment that is sealed
+abbrev pub IsSealedKey : Contents → List ℕ → Type 0
+IsSealedKey filled key = Contains (keys_of filled) key
+
+-- ---- its entry
+
+-- a key that an entry has is that of a segment
+key_found : (kind : Kind) (at : ℕ) (ss : List Segment) (key : List ℕ) (e : Entry) → entry_of kind (entries_from at ss) key ≡ Some e → Contains (map (segment_key kind) ss) key
+key_found kind at [] key e found = absurd cc
+key_found kind at (s ∷ ss) key e found = by_test (bytes_eq (segment_key kind s) key) refl found (λ rest. key_found kind (at + length s.bytes) ss key e rest)
+  where
+    here : Entry
+    here = record { digest = sha256 s.bytes; offset = at; length = length s.bytes; level = s.level }
+
+    by_test : (b : Bool) → bytes_eq (segment_key kind s) key ≡ b → cond b (Some here) (entry_of kind (entries_from (at + length s.bytes) ss) key) ≡ Some e
+        → (entry_of kind (entries_from (at + length s.bytes) ss) key ≡ Some e → Contains (map (segment_key kind) ss) key) → Contains (segment_key kind s ∷ map (segment_key kind) ss) key
+    by_test true same first rest =
+        subst (λ (k : List ℕ). Contains (segment_key kind s ∷ map (segment_key kind) ss) k) ((bytes_eq-Decides (segment_key kind s) key).0 same) (in_head (segment_key kind s) (map (segment_key kind) ss))
+    by_test false differ later rest = in_tail (segment_key kind s) key (map (segment_key kind) ss) (rest later)
+
+-- and one that none has is that of none
+key_lacking : (kind : Kind) (at : ℕ) (ss : List Segment) (key : List ℕ) → entry_of kind (entries_from at ss) key ≡ None → Contains (map (segment_key kind) ss) key → ⊥
+key_lacking kind at [] key none has = contains_none key has
+key_lacking kind at (s ∷ ss) key none has =
+    by_test (bytes_eq (segment_key kind s) key) refl none (contains_first (segment_key kind s) key (map (segment_key kind) ss) has) (λ rest later. key_lacking kind (at + length s.bytes) ss key rest later)
+  where
+    here : Entry
+    here = record { digest = sha256 s.bytes; offset = at; length = length s.bytes; level = s.level }
+
+    by_test : (b : Bool) → bytes_eq (segment_key kind s) key ≡ b → cond b (Some here) (entry_of kind (entries_from (at + length s.bytes) ss) key) ≡ None
+        → (key ≡ segment_key kind s) ⊎ Contains (map (segment_key kind) ss) key
+        → (entry_of kind (entries_from (at + length s.bytes) ss) key ≡ None → Contains (map (segment_key kind) ss) key → ⊥) → ⊥
+    by_test true same wrong is others = absurd cc
+    by_test false differ rest (inr later) others = others rest later
+    by_test false differ rest (inl same) others = absurd (let wrong : false ≡ true = sym differ ∙ (bytes_eq-Decides (segment_key kind s) key).1 (sym same) in cc)
+
+-- each entry has such a key
+entries_sealed : (kind : Kind) (at : ℕ) (ss : List Segment) → All (λ e. Contains (map (segment_key kind) ss) (entry_key kind e)) (entries_from at ss)
+entries_sealed kind at [] k d within = absurd (omega (arith, within))
+entries_sealed kind at (s ∷ ss) zero d within = in_head (segment_key kind s) (map (segment_key kind) ss)
+entries_sealed kind at (s ∷ ss) (suc k) d within =
+    in_tail (segment_key kind s) (entry_key kind (get_or (entries_from (at + length s.bytes) ss) k d)) (map (segment_key kind) ss)
+    (entries_sealed kind (at + length s.bytes) ss k d (omega (arith, within)))
+
+-- ---- the slots
+
+with_there : (at : ℕ) (h : HeaderValue) (held : List (Option HeaderValue)) (slot : ℕ) (g : HeaderValue) → slice_get (with_slot at h held) slot ≡ Some (Some g) → (slice_get held slot ≡ Some (Some g)) ⊎ (h ≡ g)
+with_there at h [] slot g is = absurd cc
+with_there zero h (c ∷ cs) zero g is = inr (some_same h g (some_same (Some h) (Some g) is))
+with_there zero h (c ∷ cs) (suc slot) g is = inl is
+with_there (suc at) h (c ∷ cs) zero g is = inl is
+with_there (suc at) h (c ∷ cs) (suc slot) g is = with_there at h cs slot g is
+
+-- a container is in another slot than the first free one
+not_first : (held : List (Option HeaderValue)) (slot : ℕ) (g : HeaderValue) → slice_get held slot ≡ Some (Some g) → first_free held ≢ slot
+not_first [] slot g is = absurd cc
+not_first (None ∷ cs) zero g is = absurd (let wrong : None ≡ Some g = some_same None (Some g) is in cc)
+not_first (None ∷ cs) (suc slot) g is = λ same. omega (arith, same)
+not_first (Some h ∷ cs) zero g is = λ same. omega (arith, same)
+not_first (Some h ∷ cs) (suc slot) g is = λ same. not_first cs slot g is (omega (arith, same))
+
+-- and stays there
+stays_there : (h : HeaderValue) (held : List (Option HeaderValue)) (slot : ℕ) (g : HeaderValue) → slice_get held slot ≡ Some (Some g) → slice_get (with_slot (first_free held) h held) slot ≡ Some (Some g)
+stays_there h [] slot g is = absurd cc
+stays_there h (None ∷ cs) zero g is = absurd (let wrong : None ≡ Some g = some_same None (Some g) is in cc)
+stays_there h (None ∷ cs) (suc slot) g is = is
+stays_there h (Some x ∷ cs) zero g is = is
+stays_there h (Some x ∷ cs) (suc slot) g is = stays_there h cs slot g is
+
+-- ---- the index
+
+module _ (index : PlaceMap) (store : Store) (id : ℕ) (filled : Contents) (can : CanSeal id filled.kind filled.segments store) where
+  abbrev entries : List Entry
+  entries = entries_from 0 filled.segments
+
+  abbrev later : PlaceMap
+  later = with_entries filled.kind (first_free store.held) entries index
+
+  abbrev sealed_store : Store
+  sealed_store = with_sealed id filled.kind filled.segments store
+
+  put_there : (key : List ℕ) (e : Entry) → entry_of filled.kind entries key ≡ Some e → finite.get later key ≡ Some (place_of (first_free store.held) e)
+  put_there key e found = put_some filled.kind (first_free store.held) [] entries index key e can.right.entries found
+
+  put_elsewhere : (key : List ℕ) → entry_of filled.kind entries key ≡ None → finite.get later key ≡ finite.get index key
+  put_elsewhere key none = put_none filled.kind (first_free store.held) entries index key none
+
+  decided : (key : List ℕ) → IsSealedKey filled key ⊎ (IsSealedKey filled key → ⊥)
+  decided key = by_found (entry_of filled.kind entries key) refl
+    where
+      by_found : (found : Option Entry) → entry_of filled.kind entries key ≡ found → IsSealedKey filled key ⊎ (IsSealedKey filled key → ⊥)
+      by_found None none = inr (key_lacking filled.kind 0 filled.segments key none)
+      by_found (Some e) found = inl (key_found filled.kind 0 filled.segments key e found)
+
+  has_still : (key : List ℕ) → HasKey index key → HasKey later key
+  has_still key has = by_found (entry_of filled.kind entries key) refl
+    where
+      by_found : (found : Option Entry) → entry_of filled.kind entries key ≡ found → HasKey later key
+      by_found None none = (has.0, put_elsewhere key none ∙ has.1)
+      by_found (Some e) found = (place_of (first_free store.held) e, put_there key e found)
+
+  -- a key that is none of those that are sealed has no entry
+  no_entry : (key : List ℕ) → (IsSealedKey filled key → ⊥) → entry_of filled.kind entries key ≡ None
+  no_entry key others = by_found (entry_of filled.kind entries key) refl
+    where
+      by_found : (found : Option Entry) → entry_of filled.kind entries key ≡ found → entry_of filled.kind entries key ≡ None
+      by_found None none = none
+      by_found (Some e) found = absurd (others (key_found filled.kind 0 filled.segments key e found))
+
+  grows : (old new : List ℕ) → KeepsCopies (HasKey index) store old sealed_store new → Grows (IsSealedKey filled) index later store sealed_store old new
+  grows old new keeps = record {
+    names_stay = refl;
+    keeps = keeps;
+    has_still = has_still;
+    had = λ key others has. (has.0, sym (put_elsewhere key (no_entry key others)) ∙ has.1);
+    same = λ key others. newest_without 0 (header_of id filled.kind filled.segments) store.held key (omega (arith, can.slot)) (no_entry key others);
+    slots = λ slot h is. by_slot slot h (with_there (first_free store.held) (header_of id filled.kind filled.segments) store.held slot h is);
+  }
+    where
+      by_slot : (slot : ℕ) (h : HeaderValue) → (slice_get store.held slot ≡ Some (Some h)) ⊎ (header_of id filled.kind filled.segments ≡ h)
+          → (slice_get store.held slot ≡ Some (Some h)) ⊎ All (λ e. IsSealedKey filled (entry_key h.kind e)) h.entries
+      by_slot slot h (inl was) = inl was
+      by_slot slot h (inr same) = inr (subst (λ (g : HeaderValue). All (λ e. IsSealedKey filled (entry_key g.kind e)) g.entries) same (entries_sealed filled.kind 0 filled.segments))
+
+  -- a source that was ready is so still
+  ready_still : (snapshot next slot : ℕ) → IsReadySource index store.held snapshot next slot → IsReadySource later sealed_store.held snapshot next slot
+  ready_still snapshot next slot ready = record {
+    counted = ready.counted;
+    header = ready.header;
+    there = stays_there (header_of id filled.kind filled.segments) store.held slot ready.header ready.there;
+    came_before = ready.came_before;
+    is_empty = λ key place has. by_found key place has (entry_of filled.kind entries key) refl;
+  }
+    where
+      by_found : (key : List ℕ) (place : Place) → finite.get later key ≡ Some place → (found : Option Entry) → entry_of filled.kind entries key ≡ found → place.slot ≢ slot
+      by_found key place has None none = ready.is_empty key place (sym (put_elsewhere key none) ∙ has)
+      by_found key place has (Some e) found =
+          λ same. not_first store.held slot ready.header ready.there
+          (ap (λ (p : Place). p.slot) (some_same (place_of (first_free store.held) e) place (sym (put_there key e found) ∙ has)) ∙ same)
+
+  releases_still : (snapshot : ℕ) (stage : Stage) → ReleasesReady index store.held snapshot stage → ReleasesReady later sealed_store.held snapshot stage
+  releases_still snapshot (Mark level slot) ready = tt
+  releases_still snapshot (Filter slot) ready = tt
+  releases_still snapshot Select ready = tt
+  releases_still snapshot (Copy source) ready = tt
+  releases_still snapshot (Release next slot) ready = ready_still snapshot next slot ready
+  releases_still snapshot End ready = tt
+
+  -- The container is in the first free slot, and the index has its places; its keys are pinned, and marked.
+  pub sealed_on : (old new : List ℕ) (files : Files) (parts : List Part) (c : Collection) (marked : LiveKeys) (actor : ℕ) (pins more : PinMap)
+      → actor < ACTORS → actor < length parts → part_of parts actor ≡ Writing pins → Marks (IsSealedKey filled) c.live marked
+      → ((key : List ℕ) → IsPartKey (Writing more) key ↔ (IsPartKey (Writing pins) key ⊎ IsSealedKey filled key)) → KeepsCopies (HasKey index) store old sealed_store new
+      → CoreInvariant later sealed_store files (with_part parts actor (Writing more)) new → IsStoreOf sealed_store files new
+      → KeepsBoth index later store sealed_store parts (with_part parts actor (Writing more)) old new c (record c { live = marked })
+  sealed_on old new files parts c marked actor pins more below there writing marks pinned keeps core holds =
+      gained (IsSealedKey filled) index later store sealed_store old new files parts c marked actor pins more below there writing
+      (record { marks = marks; pinned = pinned; decided = decided }) (grows old new keeps) core holds (releases_still c.snapshot c.stage)

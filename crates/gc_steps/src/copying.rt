@@ -47,7 +47,8 @@ fn dead_keys<D: Disk, X: Index>(
     requires place { slot_at slot + SLOT_BYTES ≤ (D.view disk.old).size }
     ensures ok { IfOk result (λ found. LooksThrough (X.places index.old (D.view disk.old).content) live.now slot (D.view disk.old)
         (D.view disk.new) (option_map (λ keys. keys.items) found)) }
-    ensures refused { IfErr result (IsSourceRefusal (X.places index.old (D.view disk.old).content) (D.view disk.old) (D.view disk.new) slot) }
+    ensures refused { IfErr result (IsSourceRefusal (X.places index.old (D.view disk.old).content) (D.view disk.old) (D.view disk.new)
+        slot) }
     ensures map { X.places index.new (D.view disk.new).content ≡ X.places index.old (D.view disk.old).content }
     ensures reads { Reads (ending blames result) (D.view disk.old) (D.view disk.new) }
     ensures served { X.serves index.new (D.view disk.new).size }
@@ -67,7 +68,7 @@ fn dead_keys<D: Disk, X: Index>(
 /// Refusals: `Memory`; `DiskRead`; `Damaged` for a header that breaks the format, or for the index's own bytes; `DiskWrite`. They
 /// leave the collection as it was, and the index too; but after `DiskWrite`, and after `Damaged` where the index's map isn't known,
 /// some of the copies may be out.
-pub fn take_source<D: Disk, X: Index>(
+pub(crate) fn take_source<D: Disk, X: Index>(
     alloc: Global,
     disk: &mut D,
     tables: &Tables,
@@ -79,8 +80,8 @@ pub fn take_source<D: Disk, X: Index>(
     requires runs { (known : _) × Runs (D.view disk.old).size known tables.now }
     requires under_way { IsUnderWay tables.now.held collection.old }
     requires stage { collection.old.stage ≡ CopyStage source }
-    ensures ok { OnOk result (Takes tables.now.held (X.places index.old (D.view disk.old).content) (X.places index.new (D.view disk.new).content)
-        (D.view disk.old) (D.view disk.new) source collection.old collection.new) }
+    ensures ok { OnOk result (Takes tables.now.held (X.places index.old (D.view disk.old).content)
+        (X.places index.new (D.view disk.new).content) (D.view disk.old) (D.view disk.new) source collection.old collection.new) }
     ensures under_way { IsUnderWay tables.now.held collection.new }
     ensures unchanged { OnErr result (collection.new ≡ collection.old) }
     ensures refused { IfErr result (IsTakeRefusal tables.now.held (X.places index.old (D.view disk.old).content) (D.view disk.old)

@@ -39,7 +39,7 @@ fn recorded(held: &SlotTable, slot: u32, live: u32) -> ContainerLiveness
 ///
 /// Refusals: `Memory`; `DiskRead`; `Damaged` for a header that breaks the format, or for the index's own bytes. They leave the
 /// collection as it was.
-pub fn record_container<D: Disk, X: Index>(
+pub(crate) fn record_container<D: Disk, X: Index>(
     alloc: Global,
     disk: &mut D,
     tables: &Tables,
@@ -55,7 +55,8 @@ pub fn record_container<D: Disk, X: Index>(
         slot collection.old collection.new) }
     ensures under_way { IsUnderWay tables.now.held collection.new }
     ensures unchanged { OnErr result (collection.new ≡ collection.old) }
-    ensures refused { IfErr result (IsSourceRefusal (X.places index.old (D.view disk.old).content) (D.view disk.old) (D.view disk.new) slot) }
+    ensures refused { IfErr result (IsSourceRefusal (X.places index.old (D.view disk.old).content) (D.view disk.old) (D.view disk.new)
+        slot) }
     ensures map { X.places index.new (D.view disk.new).content ≡ X.places index.old (D.view disk.old).content }
     ensures reads { Reads (ending blames result) (D.view disk.old) (D.view disk.new) }
     ensures served { X.serves index.new (D.view disk.new).size }
@@ -77,7 +78,7 @@ pub fn record_container<D: Disk, X: Index>(
 }
 
 /// Chooses the sources. The one refusal is `Memory`, which leaves the collection as it was.
-pub fn choose_sources(alloc: Global, collection: &mut Collection) -> Result<(), Refusal>
+pub(crate) fn choose_sources(alloc: Global, collection: &mut Collection) -> Result<(), Refusal>
     requires stage { collection.old.stage ≡ Select }
     ensures ok { OnOk result (Chooses collection.old collection.new) }
     ensures under_way { (t : SlotTable) → IsUnderWay t collection.old → IsUnderWay t collection.new }

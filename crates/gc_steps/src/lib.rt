@@ -16,11 +16,7 @@ mod starting;
 mod stepping;
 
 pub use collection::{Collection, Stage};
-pub use copying::take_source;
-pub use filtering::{choose_sources, record_container};
 pub use laws::{marking_keeps_it_under_way, sealing_brings_no_steps, sealing_keeps_it_under_way};
-pub use marking::mark_container;
 pub use phase::{Phase, StepDone, phase_of};
-pub use releasing::release_source;
 pub use starting::start;
 pub use stepping::step;

@@ -45,8 +45,8 @@ fn scan_lent<D: Disk, X: Index>(
     ensures some { result ≡ Err OutOfMemory → ScansSome (X.places index.old (D.view disk.old).content) (D.view disk.old) (D.view disk.new)
         slot level (view meta.now) live.old live.new }
     ensures kept { IfErr result (λ fault. UnlessMemory fault (live.new ≡ live.old)) }
-    ensures refused { IfErr result (IsEntriesFault (X.places index.old (D.view disk.old).content) (D.view disk.old) (D.view disk.new) slot level
-        (view meta.now) live.old) }
+    ensures refused { IfErr result (IsEntriesFault (X.places index.old (D.view disk.old).content) (D.view disk.old)
+        (D.view disk.new) slot level (view meta.now) live.old) }
     ensures map { X.places index.new (D.view disk.new).content ≡ X.places index.old (D.view disk.old).content }
     ensures only { OnlyReads (D.view disk.old) (D.view disk.new) }
     ensures counts { CountsReads result (D.view disk.old).faults (D.view disk.new).faults }
@@ -63,7 +63,7 @@ fn scan_lent<D: Disk, X: Index>(
 /// Refusals: `Memory`; `DiskRead`; `Damaged` for a header or a node that breaks the format, or for the index's own bytes; `Corrupt`
 /// for a node whose bytes have another digest; `Missing` for a child that the index lacks. They leave the collection as it was, but
 /// that after `Memory` some of the children may be live.
-pub fn mark_container<D: Disk, X: Index>(
+pub(crate) fn mark_container<D: Disk, X: Index>(
     alloc: Global,
     disk: &mut D,
     tables: &Tables,
@@ -83,8 +83,8 @@ pub fn mark_container<D: Disk, X: Index>(
     ensures kept { IfErr result (KeepsMarks (X.places index.old (D.view disk.old).content) (D.view disk.old) (D.view disk.new) level slot
         collection.old collection.new) }
     ensures under_way { IsUnderWay tables.now.held collection.new }
-    ensures refused { IfErr result (IsMarkRefusal (X.places index.old (D.view disk.old).content) (D.view disk.old) (D.view disk.new) level slot
-        collection.old.live) }
+    ensures refused { IfErr result (IsMarkRefusal (X.places index.old (D.view disk.old).content) (D.view disk.old)
+        (D.view disk.new) level slot collection.old.live) }
     ensures map { X.places index.new (D.view disk.new).content ≡ X.places index.old (D.view disk.old).content }
     ensures reads { Reads (ending blames result) (D.view disk.old) (D.view disk.new) }
     ensures served { X.serves index.new (D.view disk.new).size }

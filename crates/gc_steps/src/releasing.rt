@@ -66,7 +66,7 @@ fn give_back<D: Disk>(disk: &mut D, tables: &mut Tables, slot: u32) -> Result<()
 
 /// Gives back the source in a slot, in which the index has no entry; `next` is the number of the source that comes after it. The
 /// one refusal is `DiskWrite`, which leaves tables and collection as they were.
-pub fn release_source<D: Disk>(
+pub(crate) fn release_source<D: Disk>(
     disk: &mut D,
     tables: &mut Tables,
     collection: &mut Collection,

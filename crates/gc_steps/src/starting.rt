@@ -37,8 +37,8 @@ fn root_key(root: &Root) -> Key
     key_of(kind, &root.digest)
 }
 
-/// Makes a key live. As long as keys are marked, and not places, it is the same which place is said.
-pub(crate) fn mark_key(live: &mut Live, key: &Key) -> Result<(), AllocError>
+// Makes a key live. As long as keys are marked, and not places, it is the same which place is said.
+fn mark_key(live: &mut Live, key: &Key) -> Result<(), AllocError>
     ensures ok { OnOk result (Marks (λ k. k ≡ key.now) live.old live.new) }
 {
     let any = Place {
@@ -144,7 +144,8 @@ pub fn start(
     ensures snapshot { IfOk result (λ c. c.snapshot ≡ min (tables.now.held.last_id + 1) (2 ^ 64 - 1)) }
     ensures percent { IfOk result (λ c. c.percent ≡ percent) }
     // These keys are live, and no others.
-    ensures live { IfOk result (λ c. (key : List ℕ) (place : PlaceValue) → IsLiveAt c.live key place ↔ IsRoot tables.now.names parts.now key) }
+    ensures live { IfOk result (λ c. (key : List ℕ) (place : PlaceValue) → IsLiveAt c.live key place
+        ↔ IsRoot tables.now.names parts.now key) }
     ensures nothing_yet { IfOk result (λ c. (c.liveness ≡ []) × (c.sources.items ≡ []) × (c.freed ≡ 0)) }
     ensures stage { IfOk result (λ c. c.stage ≡ level_stage c.snapshot tables.now.held MOST_LEVEL) }
     ensures under_way { IfOk result (λ c. IsUnderWay tables.now.held c) }

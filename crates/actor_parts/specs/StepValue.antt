@@ -17,6 +17,8 @@ pub data StepValue : Type 0 where
   EndRead : StepValue
   Delete : (name : List ℕ) → StepValue
   ListNames : StepValue
+  GcStart : (percent : ℕ) → StepValue
+  GcStep : StepValue
   Stat : StepValue
 
 abbrev pub step_value : steps.Step → StepValue
@@ -30,6 +32,8 @@ step_value asked.ReadNext = ReadNext
 step_value asked.EndRead = EndRead
 step_value (asked.Delete name) = Delete name.now
 step_value asked.List = ListNames
+step_value (asked.GcStart percent) = GcStart percent.now
+step_value asked.GcStep = GcStep
 step_value asked.Stat = Stat
 
 -- What may be asked: a segment of a tree is a node of its level, and a container holds a segment at least.

@@ -1,7 +1,9 @@
 //! The steps of the store, and what they answer.
 
+use crate::actor::Percent;
 use container_meta::{OpenContainer, Seg};
 use namespace::{Listing, Root};
+use refusals::Phase;
 
 /// What an actor asks of the store. docs/MODEL.md, 'Actors, steps and answers', says what each does.
 #[derive(Clone, Copy)]
@@ -26,6 +28,10 @@ pub enum Step<'a> {
     Delete { name: &'a [u8] },
     /// To list the names. Which actor asks doesn't matter.
     List,
+    /// To begin a collection, which frees containers of which less than this percentage is needed. Which actor asks doesn't matter.
+    GcStart { percent: &'a Percent },
+    /// To make the next step of the collection that runs. Which actor asks doesn't matter.
+    GcStep,
     /// To count what the store has.
     Stat,
 }
@@ -68,6 +74,19 @@ pub enum Answer {
     /// Each name with its root, in the order of the names' bytes.
     Listed {
         files: Listing,
+    },
+    /// A collection runs: it goes over the containers with an id below this one.
+    Started {
+        snapshot: u64,
+    },
+    /// The collection did this, and goes on.
+    Did {
+        phase: Phase,
+    },
+    /// The collection has ended: so many containers were given back, and so many segments copied.
+    Done {
+        freed: u64,
+        copied: u64,
     },
     /// How many names there are, entries of valid containers, bytes of these, and slots that are used and free.
     Stat {

@@ -1,7 +1,7 @@
 -- What an answer does to a session.
 use Rattle.std.proofs.Common.{◌≡◌, ◌<◌, Bool, true, false, if◌then◌else◌, refl, sym, subst, arith}
 use Rattle.actor_parts.specs.declared.step.Answer.{Answer}
-use Rattle.actor_parts.specs.declared.step.Answer.TheVariants.{Begun, Held, Absent, Sealed, Committed, Aborted, Opened, Bytes, End, Dropped, Deleted, Listed, Stat}
+use Rattle.actor_parts.specs.declared.step.Answer.TheVariants.{Started, Did, Done, Begun, Held, Absent, Sealed, Committed, Aborted, Opened, Bytes, End, Dropped, Deleted, Listed, Stat}
 use Rattle.ingest_session.specs.declared.due.Due.{Due}
 use Rattle.ingest_session.specs.declared.due.Due.TheVariants.{Claim, Seal, Nothing}
 use Rattle.ingest_session.specs.Due.{due_in, item_due, item_kind}
@@ -45,6 +45,9 @@ told_is_less s End sound settled right = absurd right
 told_is_less s Dropped sound settled right = absurd right
 told_is_less s (Deleted sequence) sound settled right = absurd right
 told_is_less s (Listed files) sound settled right = absurd right
+told_is_less s (Started snapshot) sound settled right = absurd right
+told_is_less s (Did phase) sound settled right = absurd right
+told_is_less s (Done freed copied) sound settled right = absurd right
 told_is_less s (Stat files segments bytes used free) sound settled right = absurd right
 
 pub told_has_less_to_do : (s t : SessionState) (answer : Answer) → t ≡ told_by answer s → IsSession s → IsSettled s →

@@ -1,7 +1,7 @@
 -- The numbers of the refusals (docs/FORMAT.md, 'Refusals').
 use Rattle.std.specs.Prelude.{ℕ}
 use Rattle.refusals.specs.declared.refusal.Refusal.{Refusal}
-use Rattle.refusals.specs.declared.refusal.Refusal.TheVariants.{Memory, NoFile, BadName, TooMany, TooLong, Full, Clash, WrongPart, DiskRead, DiskWrite, Stopped, Corrupt, Missing, Numbers, NotAStore, Version, Damaged, Unpinned, AlreadyStore, WrongSize}
+use Rattle.refusals.specs.declared.refusal.Refusal.TheVariants.{Memory, NoFile, BadName, TooMany, TooLong, Full, Clash, WrongPart, Collecting, NotCollecting, DiskRead, DiskWrite, Stopped, Corrupt, Missing, Numbers, NotAStore, Version, Damaged, Unpinned, AlreadyStore, WrongSize}
 
 abbrev pub number_of : Refusal → ℕ
 number_of Memory = 1
@@ -12,6 +12,8 @@ number_of TooLong = 5
 number_of (Full free) = 6
 number_of (Clash key at) = 7
 number_of (WrongPart part) = 8
+number_of (Collecting phase) = 9
+number_of NotCollecting = 9
 number_of DiskRead = 10
 number_of DiskWrite = 11
 number_of (Stopped at) = 12

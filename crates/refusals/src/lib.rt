@@ -3,4 +3,4 @@
 
 mod refusal;
 
-pub use refusal::{Difference, PartKind, Refusal};
+pub use refusal::{Difference, PartKind, Phase, Refusal};

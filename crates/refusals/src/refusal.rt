@@ -27,6 +27,23 @@ pub enum PartKind {
     Reading,
 }
 
+/// What the next step of a collection does (docs/MODEL.md, 'Collection').
+#[derive(Clone, Copy)]
+pub enum Phase {
+    /// It scans a container for nodes that are live.
+    Mark,
+    /// It records how much of a container is live.
+    Filter,
+    /// It chooses the sources.
+    Select,
+    /// It takes a source.
+    Copy,
+    /// It gives a source back.
+    Release,
+    /// It ends the collection.
+    End,
+}
+
 /// Why a step or a command was refused, with what it carries. docs/FORMAT.md, 'Refusals', has their texts and statuses.
 #[derive(Clone, Copy)]
 pub enum Refusal {
@@ -53,6 +70,12 @@ pub enum Refusal {
     WrongPart {
         part: PartKind,
     },
+    /// 9: a collection runs, and its next step does this.
+    Collecting {
+        phase: Phase,
+    },
+    /// 9: no collection runs.
+    NotCollecting,
     /// 10: a read of the disk failed.
     DiskRead,
     /// 11: a write or a sync of the disk failed.

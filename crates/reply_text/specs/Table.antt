@@ -1,7 +1,7 @@
 -- The exit statuses (docs/FORMAT.md, 'Commands' and 'Refusals').
 use Rattle.std.specs.Prelude.{ℕ}
 use Rattle.refusals.specs.declared.refusal.Refusal.{Refusal}
-use Rattle.refusals.specs.declared.refusal.Refusal.TheVariants.{Memory, NoFile, BadName, TooMany, TooLong, Full, Clash, WrongPart, DiskRead, DiskWrite, Stopped, Corrupt, Missing, Numbers, NotAStore, Version, Damaged, Unpinned, AlreadyStore, WrongSize}
+use Rattle.refusals.specs.declared.refusal.Refusal.TheVariants.{Memory, NoFile, BadName, TooMany, TooLong, Full, Clash, WrongPart, Collecting, NotCollecting, DiskRead, DiskWrite, Stopped, Corrupt, Missing, Numbers, NotAStore, Version, Damaged, Unpinned, AlreadyStore, WrongSize}
 use Rattle.reply_text.specs.declared.ending.Ending.{Ending}
 use Rattle.reply_text.specs.declared.ending.Ending.TheVariants.{Words, Source, Sink, Line, Script, Refused}
 
@@ -15,6 +15,8 @@ status_of_refusal TooLong = 3
 status_of_refusal (Full free) = 3
 status_of_refusal (Clash key at) = 3
 status_of_refusal (WrongPart part) = 3
+status_of_refusal (Collecting phase) = 3
+status_of_refusal NotCollecting = 3
 status_of_refusal DiskRead = 4
 status_of_refusal DiskWrite = 4
 status_of_refusal (Stopped at) = 4

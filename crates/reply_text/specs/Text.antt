@@ -8,10 +8,12 @@ use Rattle.refusals.specs.declared.refusal.Difference.{Difference}
 use Rattle.refusals.specs.declared.refusal.Difference.TheVariants.{Length, Byte}
 use Rattle.refusals.specs.declared.refusal.PartKind.{PartKind}
 use Rattle.refusals.specs.declared.refusal.PartKind.TheVariants.{Idle, Writing, Finished, Reading}
+use Rattle.refusals.specs.declared.refusal.Phase.{Phase}
+use Rattle.refusals.specs.declared.refusal.Phase.TheVariants.{Mark, Filter, Select, Copy, Release, End}
 use Rattle.disk_format.specs.declared.why.Why.{Why}
 use Rattle.disk_format.specs.declared.why.Why.TheVariants.{Digest, Field}
 use Rattle.refusals.specs.declared.refusal.Refusal.{Refusal}
-use Rattle.refusals.specs.declared.refusal.Refusal.TheVariants.{Memory, NoFile, BadName, TooMany, TooLong, Full, Clash, WrongPart, DiskRead, DiskWrite, Stopped, Corrupt, Missing, Numbers, NotAStore, Version, Damaged, Unpinned, AlreadyStore, WrongSize}
+use Rattle.refusals.specs.declared.refusal.Refusal.TheVariants.{Memory, NoFile, BadName, TooMany, TooLong, Full, Clash, WrongPart, Collecting, NotCollecting, DiskRead, DiskWrite, Stopped, Corrupt, Missing, Numbers, NotAStore, Version, Damaged, Unpinned, AlreadyStore, WrongSize}
 use Rattle.reply_text.specs.declared.ending.Ending.{Ending}
 use Rattle.reply_text.specs.declared.ending.Ending.TheVariants.{Words, Source, Sink, Line, Script, Refused}
 
@@ -58,6 +60,15 @@ part_text Writing = codes "writing"
 part_text Finished = codes "finished"
 part_text Reading = codes "reading"
 
+-- what the next step of a collection does
+unfoldable pub phase_text : Phase → List ℕ
+phase_text Mark = codes "mark"
+phase_text Filter = codes "filter"
+phase_text Select = codes "select"
+phase_text Copy = codes "copy"
+phase_text Release = codes "release"
+phase_text End = codes "end"
+
 -- how a cell or a header breaks the format
 unfoldable pub why_text : Why → List ℕ
 why_text (Digest want got) = codes "digest " ++ encode_lower want ++ codes " " ++ encode_lower got
@@ -73,6 +84,8 @@ refusal_text TooLong = codes "5 toolong"
 refusal_text (Full free) = codes "6 full " ++ decimal free
 refusal_text (Clash key at) = codes "7 clash " ++ encode_lower key ++ codes " " ++ difference_text at
 refusal_text (WrongPart part) = codes "8 wrongpart " ++ part_text part
+refusal_text (Collecting phase) = codes "9 collecting " ++ phase_text phase
+refusal_text NotCollecting = codes "9 notcollecting"
 refusal_text DiskRead = codes "10 diskread"
 refusal_text DiskWrite = codes "11 diskwrite"
 refusal_text (Stopped at) = codes "12 stopped " ++ decimal at

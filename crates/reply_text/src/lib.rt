@@ -8,6 +8,6 @@ mod status;
 mod text;
 
 pub use ending::Ending;
-pub use notes::{refused_line, write_fault};
+pub use notes::{phase_word, refused_line, write_fault};
 pub use status::status_of;
 pub use text::{deleted_line, formatted_line, listing_text, stored_line};

@@ -5,16 +5,16 @@ ghost use Rattle.dd_io.specs.Flow.{Sends};
 ghost use Rattle.refusals.specs.declared.refusal.Difference.TheVariants.{Length, Byte};
 ghost use Rattle.disk_format.specs.declared.why.Why.TheVariants.{Digest, Field};
 ghost use Rattle.reply_text.specs.declared.ending.Ending.TheVariants.{Line, Refused};
-ghost use Rattle.refusals.specs.declared.refusal.Refusal.TheVariants.{Full, Clash, WrongPart, Stopped, Corrupt, Missing};
+ghost use Rattle.refusals.specs.declared.refusal.Refusal.TheVariants.{Full, Clash, WrongPart, Collecting, Stopped, Corrupt, Missing};
 ghost use Rattle.refusals.specs.declared.refusal.Refusal.TheVariants.{NotAStore, Version, Damaged, Unpinned, WrongSize};
-ghost use Rattle.reply_text.specs.Text.{fault_line, refused_line, part_text};
+ghost use Rattle.reply_text.specs.Text.{fault_line, refused_line, part_text, phase_text};
 
 use crate::digits::put_digits;
 use crate::ending::Ending;
 use dd_io::{MemSink, Sink, SinkFault};
 use disk_format::Why;
 use itoa::Buffer;
-use refusals::{Difference, PartKind, Refusal};
+use refusals::{Difference, PartKind, Phase, Refusal};
 use std::alloc::{AllocError, Global};
 
 // Writes some pieces, one after another.
@@ -88,6 +88,8 @@ fn write_refusal<Q: Sink>(notes: &mut Q, refusal: &Refusal) -> Result<(), SinkFa
         Refusal::Full { free } => write_full(notes, *free),
         Refusal::Clash { key, at } => write_clash(notes, key, at),
         Refusal::WrongPart { part } => write_wrong_part(notes, part),
+        Refusal::Collecting { phase } => write_collecting(notes, phase),
+        Refusal::NotCollecting => write_pieces(notes, &[b"fault 9 notcollecting\n"]),
         Refusal::DiskRead => write_pieces(notes, &[b"fault 10 diskread\n"]),
         Refusal::DiskWrite => write_pieces(notes, &[b"fault 11 diskwrite\n"]),
         Refusal::Stopped { at } => write_stopped(notes, *at),
@@ -210,6 +212,28 @@ fn write_wrong_part<Q: Sink>(notes: &mut Q, part: &PartKind) -> Result<(), SinkF
     ensures { Sends (fault_line (Refused (WrongPart part.now))) result (Q.view notes.old) (Q.view notes.new) }
 {
     write_pieces(notes, &[b"fault 8 wrongpart ", word_of(part), b"\n"])
+}
+
+/// The word of what the next step of a collection does.
+#[tactic(auto, unfolding(crate::specs::Text::phase_text))]
+pub fn phase_word(phase: &Phase) -> &'static [u8]
+    ensures { result.now ≡ phase_text phase.now }
+{
+    match phase {
+        Phase::Mark => b"mark",
+        Phase::Filter => b"filter",
+        Phase::Select => b"select",
+        Phase::Copy => b"copy",
+        Phase::Release => b"release",
+        Phase::End => b"end",
+    }
+}
+
+#[tactic(auto, unfolding(crate::specs::Text::fault_line, crate::specs::Text::ending_text, crate::specs::Text::refusal_text))]
+fn write_collecting<Q: Sink>(notes: &mut Q, phase: &Phase) -> Result<(), SinkFault>
+    ensures { Sends (fault_line (Refused (Collecting phase.now))) result (Q.view notes.old) (Q.view notes.new) }
+{
+    write_pieces(notes, &[b"fault 9 collecting ", phase_word(phase), b"\n"])
 }
 
 #[tactic(auto, unfolding(crate::specs::Text::fault_line, crate::specs::Text::ending_text, crate::specs::Text::refusal_text))]

@@ -31,6 +31,7 @@ fn status_of_refusal(refusal: &Refusal) -> u8
         Refusal::Full { .. } => 3,
         Refusal::Clash { .. } => 3,
         Refusal::WrongPart { .. } => 3,
+        Refusal::Collecting { .. } | Refusal::NotCollecting => 3,
         Refusal::DiskRead => 4,
         Refusal::DiskWrite => 4,
         Refusal::Stopped { .. } => 4,

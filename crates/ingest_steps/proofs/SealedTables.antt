@@ -114,25 +114,26 @@ module _ (t new : Tables) (slot id : ℕ) (filled : Contents) (has : HasSlot t s
       told = subst (λ (j : JournalValue). IsTold store.other_open store.selector store.records j new.names j.last) (sym journal_is)
           (subst (λ (n : NameMap). IsTold store.other_open store.selector store.records t.journal n t.journal.last) (sym names_are) is.names_are)
 
-  pub has_sealed : (size : ℕ) (known : Option PlaceMap) → Runs size known t → HasSealed t size known slot filled new id
-  has_sealed size known runs = record {
+  pub has_sealed : (size : ℕ) (known : Option PlaceMap) → HasSealed t size known slot filled new id
+  has_sealed size known = record {
     number = next;
     last_is = last;
-    can = record { store_has = λ store is valid reserve. can_seal store known is (at store is valid reserve) };
-    represents = record { store_has = λ store is valid reserve. represents_sealed store known is (at store is valid reserve) };
-    runs = record {
-      store = with_sealed id filled.kind filled.segments runs.store;
-      represents = represents_sealed runs.store known runs.represents here;
-      valid = valid_sealed id filled.kind filled.segments runs.store (can_seal runs.store known runs.represents here) size runs.valid;
-      reserve_holds = omega (arith, free_sealed id filled.kind filled.segments runs.store (can_seal runs.store known runs.represents here), here.spare);
-    };
+    can = record { store_has = λ store is valid reserve. can_seal store known is (at known store is valid reserve) };
+    represents = record { store_has = λ store is valid reserve. represents_sealed store known is (at known store is valid reserve) };
+    alone = record { store_has = λ store is valid reserve. (can_seal store None is (at None store is valid reserve), represents_sealed store None is (at None store is valid reserve)) };
+    runs = λ map runs.
+        let here = at map runs.store runs.represents runs.valid runs.reserve_holds in
+        let can = can_seal runs.store map runs.represents here in
+        record {
+          store = with_sealed id filled.kind filled.segments runs.store;
+          represents = represents_sealed runs.store map runs.represents here;
+          valid = valid_sealed id filled.kind filled.segments runs.store can size runs.valid;
+          reserve_holds = omega (arith, free_sealed id filled.kind filled.segments runs.store can, here.spare);
+        };
   }
     where
-      at : (store : Store) → Represents store known t → IsValidFor size store → RESERVE ≤ free_slots store.held → IsSlotOf slot store
-      at store is valid reserve = (has.slot_is size known).store_has store is valid reserve
-
-      here : IsSlotOf slot runs.store
-      here = at runs.store runs.represents runs.valid runs.reserve_holds
+      at : (map : Option PlaceMap) (store : Store) → Represents store map t → IsValidFor size store → RESERVE ≤ free_slots store.held → IsSlotOf slot store
+      at map store is valid reserve = (has.slot_is size map).store_has store is valid reserve
 
 -- ---- the disk, where the index is changed
 

@@ -1,5 +1,5 @@
 -- Why a container is not sealed for an actor.
-use Rattle.std.proofs.Common.{◌≡◌, ℕ, Option, Result, Ok, Err, OnErr, refl, sym, subst}
+use Rattle.std.proofs.Common.{◌≡◌, ℕ, List, Option, Result, Ok, Err, OnErr, refl, sym, subst}
 use Rattle.disk_format.specs.Layout.{slot_at}
 use Rattle.dd_disk.specs.View.{DiskView}
 use Rattle.dd_disk.specs.Ending.{Blame, NoCall, Refused, ending_of}
@@ -7,13 +7,14 @@ use Rattle.container_meta.specs.Places.{PlaceMap}
 use Rattle.container_meta.specs.Segments.{Contents}
 use Rattle.actor_parts.specs.declared.part.Part.{Part}
 use Rattle.refusals.specs.declared.refusal.Refusal.{Refusal}
-use Rattle.refusals.specs.declared.refusal.Refusal.TheVariants.{WrongPart, Unpinned, Full, Numbers}
+use Rattle.refusals.specs.declared.refusal.Refusal.TheVariants.{Memory, WrongPart, Unpinned, Full, Numbers}
+use Rattle.store_state.specs.Comparing.{IsFirstUnlike}
 use Rattle.store_state.specs.Refused.{blames}
 use Rattle.store_state.specs.Settled.{Steps}
 use Rattle.store_state.specs.declared.tables.Tables.{Tables}
 use Rattle.store_state.proofs.Changed.{changes_none}
 use Rattle.ingest_steps.specs.Pinning.{MayKeep, IsUnkept}
-use Rattle.ingest_steps.specs.Sealing.{IsSlotRefusal}
+use Rattle.ingest_steps.specs.Sealing.{HasSlot, IsSlotRefusal, IsSealRefusal}
 use Rattle.ingest_steps.specs.SealStep.{IsStepRefusal}
 use Rattle.ingest_steps.proofs.SealedTables.{steps_refused}
 
@@ -31,6 +32,16 @@ module _ (part : Part) (t : Tables) (size : ℕ) (known : Option PlaceMap) (fill
   of_slot may (Full free) has = (may, has)
   of_slot may Numbers has = (may, has)
   of_slot may refusal has = absurd has
+
+module _ (part : Part) (t : Tables) (size : ℕ) (known : Option PlaceMap) (filled : Contents) (shown : (List ℕ → Type 0) → Type 0) (may : MayKeep part filled) (at : (slot : ℕ) × HasSlot t slot) where
+  pub of_seal : (refusal : Refusal) → IsSealRefusal known (IsFirstUnlike size known shown filled.kind filled.segments) refusal
+      → IsStepRefusal part t size known filled (IsFirstUnlike size known shown filled.kind filled.segments) refusal
+  of_seal Memory has = tt
+  of_seal (WrongPart kind) has = absurd has.unlike.refused.2
+  of_seal (Unpinned key) has = absurd has.unlike.refused.2
+  of_seal (Full free) has = absurd has.unlike.refused.2
+  of_seal Numbers has = absurd has.unlike.refused.2
+  of_seal refusal has = (may, at, has)
 
 pub slot_blames : (t : Tables) (size : ℕ) (known : Option PlaceMap) (refusal : Refusal) → IsSlotRefusal t size known refusal → blames refusal ≡ NoCall
 slot_blames t size known (Full free) has = refl

@@ -174,7 +174,8 @@ pub record HasPlacesOf (filled : Contents) (slot : ℕ) (before after : Option (
   pub untold : old ≡ None → KnownMap (before None) (λ m. after None ≡ places_with filled slot (Some m))
 
 -- The tables are those of before with a container more, under the next id: of each store that they and the map of the index
--- were those of, they are those of the store with it.
+-- were those of, they are those of the store with it. With whatever map they were those of some store, also with none, they are so
+-- with that map and the places of the container.
 pub record HasSealed (old : Tables) (size : ℕ) (known : Option PlaceMap) (slot : ℕ) (filled : Contents) (new : Tables) (id : ℕ)
     : Type 0 where
   pub number : id ≡ old.held.last_id + 1
@@ -182,4 +183,7 @@ pub record HasSealed (old : Tables) (size : ℕ) (known : Option PlaceMap) (slot
   pub can : OfEach size known old (CanSeal id filled.kind filled.segments)
   pub represents : OfEach size known old
       (λ store. Represents (with_sealed id filled.kind filled.segments store) (places_with filled slot known) new)
-  pub runs : Runs size (places_with filled slot known) new
+  -- of the tables alone, whatever the index has
+  pub alone : OfEach size None old
+      (λ store. CanSeal id filled.kind filled.segments store × Represents (with_sealed id filled.kind filled.segments store) None new)
+  pub runs : (map : Option PlaceMap) → Runs size map old → Runs size (places_with filled slot map) new

@@ -35,7 +35,7 @@ pub fn seal_compared<D: Disk, X: Index>(
     buf: &mut SegBuf,
 ) -> Result<u64, Refusal>
     requires serves { X.serves index.old (D.view disk.old).size }
-    requires state { Runs (D.view disk.old).size (X.places index.old (D.view disk.old).content) tables.old }
+    requires state { Runs (D.view disk.old).size None tables.old }
     requires slot { HasSlot tables.old slot }
     requires there { 1 ≤ length filled.now.segments }
     ensures ok { IfOk result (λ id. HasSealed tables.old (D.view disk.old).size (X.places index.old

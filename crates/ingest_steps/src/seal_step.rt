@@ -97,7 +97,7 @@ pub fn seal<D: Disk, X: Index>(
     buf: &mut SegBuf,
 ) -> Result<u64, Refusal>
     requires serves { X.serves index.old (D.view disk.old).size }
-    requires state { Runs (D.view disk.old).size (X.places index.old (D.view disk.old).content) tables.old }
+    requires state { Runs (D.view disk.old).size None tables.old }
     requires there { 1 ≤ length filled.now.segments }
     requires step { AreStepSegments filled.now.kind filled.now.segments }
     ensures ok { IfOk result (IsSealedFor tables.old (D.view disk.old) (X.places index.old

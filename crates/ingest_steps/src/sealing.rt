@@ -113,8 +113,7 @@ fn take_sealed(tables: &mut Tables, slot: u32, id: u64, filled: &OpenContainer, 
     requires id { id ≡ tables.old.held.last_id + 1 }
     requires bytes { bytes ≡ bytes_in filled.now.segments }
     requires right { IsHeader (header_of id filled.now.kind filled.now.segments) }
-    ensures { (size : ℕ) (known : Option PlaceMap) → Runs size known tables.old
-        → HasSealed tables.old size known slot filled.now tables.new id }
+    ensures { (size : ℕ) (known : Option PlaceMap) → HasSealed tables.old size known slot filled.now tables.new id }
 {
     tables
         .held
@@ -137,7 +136,7 @@ pub fn seal_indexed<D: Disk, X: Index>(
     image: &mut [u8],
 ) -> Result<u64, Refusal>
     requires serves { X.serves index.old (D.view disk.old).size }
-    requires state { Runs (D.view disk.old).size (X.places index.old (D.view disk.old).content) tables.old }
+    requires state { Runs (D.view disk.old).size None tables.old }
     requires slot { HasSlot tables.old slot }
     requires there { 1 ≤ length filled.now.segments }
     requires had { AreHad (D.view disk.old).size (X.places index.old (D.view disk.old).content) filled.now.kind

@@ -1,9 +1,8 @@
 //! An index as the store sees it.
-ghost use Rattle.std.specs.Prelude.{◌≡◌, ◌⊎◌, ℕ, ◌*◌, ◌≤◌, List, length, Option, Some, None, Err, IsSome, OnOk, IfOk, IfErr, IfSome};
+ghost use Rattle.std.specs.Prelude.{◌≡◌, ◌⊎◌, ℕ, ◌≤◌, List, length, Option, Some, None, Err, IsSome, OnOk, IfOk, IfErr, IfSome};
 ghost use Rattle.std.specs.FinMap as finite;
 ghost use Rattle.dd_disk.specs.Ending.{ending, Reads};
 ghost use Rattle.dd_disk.specs.Shows.{Shows};
-ghost use Rattle.disk_format.specs.declared.numbers.TheConstants.{MOST_ENTRIES};
 ghost use Rattle.disk_format.specs.Layout.{size_of, slot_at};
 ghost use Rattle.disk_format.specs.declared.why.Why.{Why};
 ghost use Rattle.container_meta.specs.Places.{PlaceMap};
@@ -26,9 +25,6 @@ pub trait Index {
     /// It can be kept on a disk of this size.
     ghost serves: { Self → ℕ → Type 0 };
 
-    /// On a disk of this size it may hold so many keys.
-    ghost takes: { Self → ℕ → ℕ → Type 0 };
-
     /// The first byte that is the index's own on a disk of this size.
     ghost owned_from: { Self → ℕ → ℕ };
 
@@ -49,13 +45,13 @@ pub trait Index {
         ensures served { serves self.new (D.view disk.new).size };
 
     /// Gives a key a place, instead of the one that it had; a map that isn't known stays so. Memory runs out only where the
-    /// key had none, and leaves the map as it was; where the disk fails, or damage is found, it may have changed.
+    /// key had none, and leaves the map as it was; where the disk fails, or damage is found, it may have changed. No room is
+    /// asked for: an index in memory takes any number of keys, and one in pages of the disk is to answer damage where these
+    /// are full.
     fn put<D: Disk>(&mut self, disk: &mut D, key: &Key, place: Place) -> Result<(), IndexFault>
         requires serves { serves self.old (D.view disk.old).size }
         requires kind { HasKind key.now }
         requires place { IsPlace (D.view disk.old).size place }
-        requires room { KnownMap (places self.old (D.view disk.old).content)
-            (λ m. takes self.old (D.view disk.old).size (finite.len (finite.insert m key.now place))) }
         ensures ok { OnOk result (KnownMap (places self.old (D.view disk.old).content)
             (λ m. places self.new (D.view disk.new).content ≡ Some (finite.insert m key.now place))) }
         ensures unknown { OnOk result (places self.old (D.view disk.old).content ≡ None
@@ -92,8 +88,4 @@ pub trait Index {
 
     /// No byte of a container slot is its own.
     ghost owns_no_slot: { (i : Self) (slots : ℕ) → serves i (size_of slots) → slot_at slots ≤ owned_from i (size_of slots) };
-
-    /// Each slot may have all the keys that a container holds.
-    ghost takes_all: { (i : Self) (slots keys : ℕ) → serves i (size_of slots) → keys ≤ MOST_ENTRIES * slots
-        → takes i (size_of slots) keys };
 }

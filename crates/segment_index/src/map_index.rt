@@ -71,8 +71,6 @@ impl Index for MapIndex {
 
     ghost serves = { λ i size. HasPlaces size i };
 
-    ghost takes = { λ _ _ _. Unit {0} };
-
     ghost owned_from = { λ _ size. size };
 
     ghost breaks = { λ _ _ _ _. ⊥ };
@@ -82,8 +80,6 @@ impl Index for MapIndex {
     ghost places_stay = { λ _ _ _ _. refl };
 
     ghost owns_no_slot = { λ _ slots _. slots_end slots };
-
-    ghost takes_all = { λ _ _ _ _ _. tt };
 
     fn get<D: Disk>(&mut self, _disk: &mut D, key: &Key) -> Result<Option<Place>, IndexFault> {
         Ok(self.find(key))

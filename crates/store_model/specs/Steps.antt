@@ -1,5 +1,5 @@
 -- The steps of a store, and what they make of it (docs/MODEL.md, 'Steps').
-use Rattle.std.specs.Prelude.{◌≡◌, ℕ, suc, ◌+◌, ◌-◌, ◌^◌, ◌<◌, ◌≤◌, Bool, true, nat_lt, if◌then◌else◌, List, [], ◌∷◌, ◌++◌, length, Option, Some}
+use Rattle.std.specs.Prelude.{◌≡◌, ℕ, suc, ◌+◌, ◌-◌, ◌^◌, ◌<◌, ◌≤◌, Bool, true, nat_lt, if◌then◌else◌, List, [], ◌∷◌, ◌++◌, length, slice_get, Option, Some}
 use Rattle.disk_format.specs.Cells.{Change, RecordValue, IsName, IsChange}
 use Rattle.disk_format.specs.Cells.Change.{Put as PutRoot, Delete as DeleteName}
 use Rattle.disk_format.specs.Layout.{half_cells}
@@ -12,6 +12,7 @@ use Rattle.container_meta.specs.Spelling.{HeaderValue, IsHeader, header_of}
 use Rattle.namespace.specs.Names.{HasPlace}
 use Rattle.namespace.specs.Puts.{puts_of}
 use Rattle.store_model.specs.Files.{Command, Put, Delete}
+use Rattle.store_model.specs.Freeing.{with_freed}
 use Rattle.store_model.specs.Image.{Store, names_of, last_sequence}
 use Rattle.store_model.specs.Journal.{selector_after}
 use Rattle.store_model.specs.Slots.{Copy, newest, last_id, free_slots, first_free, with_slot}
@@ -114,22 +115,31 @@ abbrev pub HoldsFor : Command → List (Option HeaderValue) → List ℕ → Typ
 HoldsFor (Put name bytes) held image = HoldsTree held image (file_tree bytes)
 HoldsFor (Delete name) held image = Unit {0}
 
--- ---- both
+-- ---- a container is given back
+
+-- one stands in the slot
+abbrev pub CanFree : ℕ → Store → Type 0
+CanFree slot store = (h : HeaderValue) × (slice_get store.held slot ≡ Some (Some h))
+
+-- ---- each of them
 
 -- what a step changes of a store
 pub data StoreChange : Type 0 where
   SealContainer : (id : ℕ) → (kind : Kind) → (segments : List Segment) → StoreChange
   ChangeName : (name : List ℕ) → (change : Change) → StoreChange
+  FreeContainer : (slot : ℕ) → StoreChange
 
 -- the store after a change
 abbrev pub changed : StoreChange → Store → Store
 changed (SealContainer id kind segments) store = with_sealed id kind segments store
 changed (ChangeName name change) store = with_change name change store
+changed (FreeContainer slot) store = with_freed slot store
 
 -- it can be made
 abbrev pub CanChange : StoreChange → Store → Type 0
 CanChange (SealContainer id kind segments) store = CanSeal id kind segments store
 CanChange (ChangeName name change) store = CanChangeName name change store × IsChange change
+CanChange (FreeContainer slot) store = CanFree slot store
 
 -- One store comes from another by a change. Each step of the core names its own.
 abbrev pub StoreStep : Store → Store → Type 0

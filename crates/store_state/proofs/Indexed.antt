@@ -1,5 +1,5 @@
 -- Places put into an index, and taken back.
-use Rattle.std.proofs.Common.{◌≡◌, ℕ, suc, ◌+◌, ◌*◌, ◌≤◌, Bool, true, false, cond, List, [], ◌∷◌, ◌++◌, length, Option, Some, None, Result, Ok, Err, refl, sym, ◌∙◌, ap, subst, arith}
+use Rattle.std.proofs.Common.{◌≡◌, ℕ, suc, ◌+◌, ◌≤◌, Bool, true, false, cond, List, [], ◌∷◌, ◌++◌, length, Option, Some, None, Result, Ok, Err, refl, sym, ◌∙◌, ap, subst, arith}
 use Rattle.std.specs.Prelude.{IsSome, IfSome, is_some, ◌||◌, nat_le}
 use Rattle.std.proofs.lemmas.Bool.{leb-true, eqb-true}
 use Rattle.base_model.proofs.Checks.{both}
@@ -18,7 +18,7 @@ use Rattle.std.specs.Ordering.{nat_cmp, eq_by_cmp}
 use Rattle.std.proofs.Math.Bool.{or-true}
 use Rattle.std.proofs.lemmas.List.Folds.{list_any-append}
 use Rattle.std.proofs.lemmas.Slice.Eq.{bytes_eq-Decides}
-use Rattle.disk_format.specs.declared.numbers.TheConstants.{MOST_ENTRIES, DATA_BYTES, MOST_LEVEL}
+use Rattle.disk_format.specs.declared.numbers.TheConstants.{DATA_BYTES, MOST_LEVEL}
 use Rattle.disk_format.specs.Layout.{size_of}
 use Rattle.container_meta.specs.declared.entry.Entry.{Entry}
 use Rattle.container_meta.specs.declared.kind.Kind.{Kind}
@@ -31,23 +31,12 @@ use Rattle.store_model.specs.Slots.{place_of}
 use Rattle.store_model.proofs.Indexing.{tied}
 use Rattle.refusals.specs.declared.refusal.Refusal.{Refusal}
 use Rattle.refusals.specs.declared.refusal.Refusal.TheVariants.{Memory, DiskWrite, Damaged}
-use Rattle.store_state.specs.Indexing.{IsChangeRefusal, HasRoomFor, ArePart, HaveHad, AreHad, Stays, with_had}
+use Rattle.store_state.specs.Indexing.{IsChangeRefusal, IsOfSlots, ArePart, HaveHad, AreHad, Stays, with_had}
 
 same_bytes : (a b : List ℕ) → bytes_eq a b ≡ true → a ≡ b
 same_bytes a b = (bytes_eq-Decides a b).0
 
 -- ---- one key more
-
-pub len_put : (m : PlaceMap) (key : List ℕ) (place : Place) → finite.len (finite.insert m key place) ≤ finite.len m + 1
-len_put m key place = by_test (finite.contains_key m key) (finite.len-insert nat_list_cmp_total m key place)
-  where
-    by_test : (b : Bool) → finite.len (finite.insert m key place) ≡ cond b (finite.len m) (finite.len m + 1) → finite.len (finite.insert m key place) ≤ finite.len m + 1
-    by_test true is = omega (arith, is)
-    by_test false is = omega (arith, is)
-
--- a key that is there
-pub len_over : (m : PlaceMap) (key : List ℕ) (place : Place) → IsSome (finite.get m key) → finite.len (finite.insert m key place) ≡ finite.len m
-len_over m key place some = finite.len-insert nat_list_cmp_total m key place ∙ ap (λ (b : Bool). cond b (finite.len m) (finite.len m + 1)) some
 
 pub got_put : (m : PlaceMap) (key : List ℕ) (place : Place) → finite.get (finite.insert m key place) key ≡ Some place
 got_put m key place =
@@ -157,12 +146,8 @@ module _ (size next_size slot : ℕ) (kind : Kind) (key : List ℕ) (place : Pla
       let places : AllByRecursion (λ x. IsPlace size (place_of slot x)) (e ∷ es) = subst (λ (l : List Entry). AllByRecursion (λ x. IsPlace size (place_of slot x)) l) cases part.places in
       record { before = part.before ++ e ∷ []; follow = follow.1; places = subst (λ (n : ℕ). AllByRecursion (λ x. IsPlace n (place_of slot x)) es) (sym same_size) places.1 }
 
-  pub rest_room : HasRoomFor size old (length all) → HasRoomFor next_size next (length es)
-  rest_room room = record {
-    slots = room.slots;
-    size_is = same_size ∙ room.size_is;
-    few = known_on (λ n. finite.len n + length es ≤ MOST_ENTRIES * room.slots) old next (λ m. finite.insert m key place) stays put (λ m is. omega (arith, room.few m is, len_put m key place, ap length cases));
-  }
+  pub rest_slots : IsOfSlots size → IsOfSlots next_size
+  rest_slots of_slots = record { slots = of_slots.slots; size_is = same_size ∙ of_slots.size_is }
 
   had_all : (had : Option Place) (hads places : List (Option Place)) → places ≡ had ∷ hads → AreHad size old kind all places → KnownMap old (λ m. HaveHad m kind (e ∷ es) (had ∷ hads))
   had_all had hads places is had_is m known = subst (λ (l : List Entry). HaveHad m kind l (had ∷ hads)) cases (subst (λ (l : List (Option Place)). HaveHad m kind all l) is (had_is.had m known))
@@ -184,11 +169,6 @@ module _ (size next_size slot : ℕ) (kind : Kind) (key : List ℕ) (place : Pla
   module _ (end : Option PlaceMap) (end_size : ℕ) (same : end ≡ next) (end_same : end_size ≡ next_size) where
     pub back_place : (had : Option Place) (hads places : List (Option Place)) → places ≡ had ∷ hads → AreHad size old kind all places → IfSome had (IsPlace end_size)
     back_place had hads places is had_is = subst (λ (n : ℕ). IfSome had (IsPlace n)) (sym (end_same ∙ same_size)) (lie_all had hads places is had_is).0
-
-    pub back_room : HasRoomFor size old (length all) → HasRoomFor end_size end 0
-    back_room room =
-        let rest = rest_room room in
-        record { slots = rest.slots; size_is = end_same ∙ rest.size_is; few = λ n there. (let few = rest.few n (sym same ∙ there) in omega (arith, few)) }
 
     pub back_there : KnownMap end (λ n. IsSome (finite.get n key))
     back_there n there =

@@ -5,6 +5,5 @@ pub mod Few
 pub mod Indexed
 mod Newest
 pub mod Parts
-pub mod Room
 pub mod Serving
 pub mod Taken

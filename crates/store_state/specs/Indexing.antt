@@ -1,8 +1,7 @@
 -- What is looked up in an index, and put into it (docs/MODEL.md, 'The running store').
-use Rattle.std.specs.Prelude.{◌≡◌, ℕ, ◌+◌, ◌*◌, ◌≤◌, List, [], ◌∷◌, length, Option, Some, None, IfSome}
+use Rattle.std.specs.Prelude.{◌≡◌, ℕ, List, [], ◌∷◌, length, Option, Some, None, IfSome}
 use Rattle.std.specs.FinMap as finite
 use Rattle.std.specs.List.{AllByRecursion}
-use Rattle.disk_format.specs.declared.numbers.TheConstants.{MOST_ENTRIES}
 use Rattle.disk_format.specs.declared.why.Why.{Why}
 use Rattle.disk_format.specs.Layout.{size_of}
 use Rattle.container_meta.specs.declared.entry.Entry.{Entry}
@@ -29,11 +28,10 @@ IsChangeRefusal known DiskWrite = Unit {0}
 IsChangeRefusal known (Damaged at why) = known ≡ None
 IsChangeRefusal known refusal = ⊥
 
--- The slots of the disk have room for so many keys more than the map has, where it is known.
-pub record HasRoomFor (size : ℕ) (known : Option PlaceMap) (keys : ℕ) : Type 0 where
+-- a disk of so many slots has this size
+pub record IsOfSlots (size : ℕ) : Type 0 where
   pub slots : ℕ
   pub size_is : size ≡ size_of slots
-  pub few : KnownMap known (λ m. finite.len m + keys ≤ MOST_ENTRIES * slots)
 
 -- these stand one after the other in a container of the slot, each where a segment may lie
 pub record ArePart (size slot : ℕ) (kind : Kind) (entries : List Entry) : Type 0 where

@@ -13,7 +13,7 @@ ghost use Rattle.store_model.specs.Indexing.{entry_key, with_entries};
 ghost use Rattle.store_model.specs.Slots.{place_of};
 ghost use Rattle.store_state.specs.Refused.{blames};
 ghost use Rattle.store_state.specs.Settled.{KeepsWhatCounts};
-ghost use Rattle.store_state.specs.Indexing.{IsFindRefusal, IsChangeRefusal, HasRoomFor, ArePart, AreHad, Stays, with_had};
+ghost use Rattle.store_state.specs.Indexing.{IsFindRefusal, IsChangeRefusal, IsOfSlots, ArePart, AreHad, Stays, with_had};
 
 use crate::containers::place_in;
 use container_meta::{Entry, Key, Kind, OpenContainer, Place, key_of};
@@ -65,8 +65,6 @@ fn put<D: Disk, X: Index>(
     requires serves { X.serves index.old (D.view disk.old).size }
     requires kind { HasKind key.now }
     requires place { IsPlace (D.view disk.old).size place }
-    requires room { KnownMap (X.places index.old (D.view disk.old).content)
-        (λ m. X.takes index.old (D.view disk.old).size (finite.len (finite.insert m key.now place))) }
     ensures ok { OnOk result (KnownMap (X.places index.old (D.view disk.old).content)
         (λ m. X.places index.new (D.view disk.new).content ≡ Some (finite.insert m key.now place))) }
     ensures unknown { OnOk result (Stays (X.places index.old (D.view disk.old).content) (X.places index.new (D.view disk.new).content)) }
@@ -121,7 +119,6 @@ fn give_back<D: Disk, X: Index>(
     requires serves { X.serves index.old (D.view disk.old).size }
     requires kind { HasKind key.now }
     requires place { IfSome had.now (IsPlace (D.view disk.old).size) }
-    requires room { HasRoomFor (D.view disk.old).size (X.places index.old (D.view disk.old).content) 0 }
     requires there { KnownMap (X.places index.old (D.view disk.old).content) (λ m. IsSome (finite.get m key.now)) }
     ensures ok { OnOk result (KnownMap (X.places index.old (D.view disk.old).content)
         (λ m. X.places index.new (D.view disk.new).content ≡ Some (with_had had.now key.now m))) }
@@ -159,7 +156,7 @@ fn put_from<D: Disk, X: Index>(
 ) -> Result<(), Refusal>
     requires serves { X.serves index.old (D.view disk.old).size }
     requires part { ArePart (D.view disk.old).size slot kind entries.now }
-    requires room { HasRoomFor (D.view disk.old).size (X.places index.old (D.view disk.old).content) (length entries.now) }
+    requires slots { IsOfSlots (D.view disk.old).size }
     requires had { AreHad (D.view disk.old).size (X.places index.old (D.view disk.old).content) kind entries.now before.now }
     ensures ok { OnOk result (KnownMap (X.places index.old (D.view disk.old).content)
         (λ m. X.places index.new (D.view disk.new).content ≡ Some (with_entries kind slot entries.now m))) }
@@ -202,7 +199,7 @@ pub fn put_entries<D: Disk, X: Index>(
     requires serves { X.serves index.old (D.view disk.old).size }
     requires some { 1 ≤ length filled.now.segments }
     requires slot { size_of (slot + 1) ≤ (D.view disk.old).size }
-    requires room { HasRoomFor (D.view disk.old).size (X.places index.old (D.view disk.old).content) (length filled.now.segments) }
+    requires slots { IsOfSlots (D.view disk.old).size }
     requires had { AreHad (D.view disk.old).size (X.places index.old (D.view disk.old).content) filled.now.kind
         (entries_from 0 filled.now.segments) before.now }
     ensures ok { OnOk result (KnownMap (X.places index.old (D.view disk.old).content) (λ m. X.places index.new (D.view disk.new).content

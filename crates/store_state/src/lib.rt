@@ -4,7 +4,6 @@
 mod comparing;
 mod containers;
 mod indexing;
-mod laws;
 mod open_store;
 mod slot_table;
 mod tables;
@@ -12,7 +11,6 @@ mod tables;
 pub use comparing::{compare_all, compare_one, read_copy, read_same};
 pub use containers::Containers;
 pub use indexing::{find, put_entries, remove_key};
-pub use laws::an_index_has_room;
 pub use open_store::OpenStore;
 pub use slot_table::{SlotCount, SlotTable};
 pub use tables::Tables;

@@ -15,7 +15,7 @@ use Rattle.ingest_steps.specs.Pinning.{MayKeep, IsUnkept, WereHad, with_pins}
 use Rattle.ingest_steps.specs.SealStep.{IsStepRefusal}
 use Rattle.ingest_steps.proofs.AfterReads.{seals_refused_by}
 use Rattle.ingest_steps.proofs.SealedPins.{keeps_sealed}
-use Rattle.ingest_steps.proofs.StepRefusals.{of_unkept, of_slot, slot_blames, steps_here}
+use Rattle.ingest_steps.proofs.StepRefusals.{of_unkept, of_slot, of_seal, slot_blames, steps_here}
 use Rattle.ingest_steps.proofs.seal_step.seal.Goals as goal
 
 pub returns-in_err-may_keep-clause-refused : goal.returns-in_err-may_keep-clause-refused
@@ -40,6 +40,15 @@ returns-in_err-slot-clause-refused g c =
     passed_on c.from_residual-in_err-slot.result (IsStepRefusal part c.args.tables.now old.size known filled unlike) e c.from_residual-in_err-slot.ensures.1
     (of_slot part c.args.tables.now old.size known filled unlike (subst (λ (p : Part). MayKeep p filled) c.part.ensures.part c.in_ok-may_keep.ensures.may) e
     (c.in_err-slot.ensures.refused old.size known))
+
+pub returns-clause-refused : goal.returns-clause-refused
+returns-clause-refused g c =
+    let view = g.D.Disk.view in
+    let old = view c.args.disk.now in
+    let filled = c.args.filled.now in
+    of_seal (part_of c.args.parts.now c.args.actor) c.args.tables.now old.size (g.X.Index.places c.args.index.now old.content) filled
+    (Shows old (view c.seal_compared.new.disk))
+    (subst (λ (p : Part). MayKeep p filled) c.part.ensures.part c.in_ok-may_keep.ensures.may) (c.in_ok-slot.slot, c.in_ok-slot.ensures.slot) c.in-Err.refusal c.in-Err.ensures.refused
 
 pub returns-in_err-slot-clause-disk : goal.returns-in_err-slot-clause-disk
 returns-in_err-slot-clause-disk g c =

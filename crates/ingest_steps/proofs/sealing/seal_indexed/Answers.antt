@@ -1,32 +1,25 @@
-use Rattle.std.proofs.Common.{ℕ, ◌+◌, ap, refl, sym, subst, ◌∙◌}
-use Rattle.container_meta.specs.Spelling.{header_of}
+use Rattle.std.proofs.Common.{ℕ, ◌+◌, None, ap, refl, sym, subst, ◌∙◌}
 use Rattle.dd_disk.specs.Ending.{Done, ending_of}
 use Rattle.dd_disk.proofs.Moves.{passed}
-use Rattle.store_state.specs.Indexing.{HasRoomFor}
 use Rattle.store_state.specs.Refused.{blames}
 use Rattle.store_state.specs.Settled.{Steps}
 use Rattle.store_state.specs.Tables.{Runs}
-use Rattle.store_state.proofs.Room.{room_of}
 use Rattle.ingest_steps.specs.Sealing.{SealsContainer, SealsIndexed}
 use Rattle.disk_format.specs.Layout.{slot_at}
 use Rattle.segment_index.specs.Changes.{SameBefore}
-use Rattle.ingest_steps.proofs.SealedTables.{length-of_entries, place_on_disk, slots_on_disk, steps_refused, steps_on, seals_refused, seals_on, steps_broken, map_on, no_content}
+use Rattle.ingest_steps.proofs.SealedTables.{place_on_disk, slots_on_disk, steps_refused, steps_on, seals_refused, seals_on, steps_broken, map_on, no_content}
 use Rattle.ingest_steps.proofs.sealing.seal_indexed.Goals as goal
 
 pub returns-clause-ok : goal.returns-clause-ok
-returns-clause-ok g c = c.take_sealed.ensures _ _ c.requires.state
+returns-clause-ok g c = c.take_sealed.ensures _ _
 
 pub put_entries-requires-clause-slot : goal.put_entries-requires-clause-slot
 put_entries-requires-clause-slot g c =
     let old = g.D.Disk.view c.args.disk.now in
-    place_on_disk old.size (g.X.Index.places c.args.index.now old.content) c.args.tables.now c.args.slot c.requires.slot c.requires.state
+    place_on_disk old.size None c.args.tables.now c.args.slot c.requires.slot c.requires.state
 
-pub put_entries-requires-clause-room : goal.put_entries-requires-clause-room
-put_entries-requires-clause-room g c =
-    let old = g.D.Disk.view c.args.disk.now in
-    let known = g.X.Index.places c.args.index.now old.content in
-    let filled = c.args.filled.now in
-    subst (HasRoomFor old.size known) (length-of_entries 0 filled.segments) (room_of old.size known c.args.tables.now (header_of 1 filled.kind filled.segments) c.requires.state (c.data_bytes-bytes.ensures.right 1 refl))
+pub put_entries-requires-clause-slots : goal.put_entries-requires-clause-slots
+put_entries-requires-clause-slots g c = record { slots = c.args.tables.now.slots; size_is = slots_on_disk (g.D.Disk.view c.args.disk.now).size None c.args.tables.now c.requires.state }
 
 pub returns-in_err-put_entries-clause-disk : goal.returns-in_err-put_entries-clause-disk
 returns-in_err-put_entries-clause-disk g c =
@@ -36,7 +29,7 @@ returns-in_err-put_entries-clause-disk g c =
     let e = c.in_err-put_entries.field-0.0 in
     passed (λ x. Steps t.slots x old new) blames c.from_residual.result e c.from_residual.ensures.1
     (steps_refused t.slots (blames e) old new
-    (c.in_err-put_entries.ensures.changes t.slots (slots_on_disk old.size (g.X.Index.places c.args.index.now old.content) t c.requires.state)))
+    (c.in_err-put_entries.ensures.changes t.slots (slots_on_disk old.size None t c.requires.state)))
 
 pub returns-in_err-put_entries-clause-moves : goal.returns-in_err-put_entries-clause-moves
 returns-in_err-put_entries-clause-moves g c =
@@ -46,15 +39,14 @@ returns-in_err-put_entries-clause-moves g c =
     let e = c.in_err-put_entries.field-0.0 in
     passed (λ x. SealsIndexed t (t.held.last_id + 1) c.args.filled.now x old new) blames c.from_residual.result e c.from_residual.ensures.1
     (seals_refused t (t.held.last_id + 1) c.args.filled.now (blames e) old new
-    (c.in_err-put_entries.ensures.changes t.slots (slots_on_disk old.size (g.X.Index.places c.args.index.now old.content) t c.requires.state)))
+    (c.in_err-put_entries.ensures.changes t.slots (slots_on_disk old.size None t c.requires.state)))
 
 pub seal_container-requires-clause-state : goal.seal_container-requires-clause-state
 seal_container-requires-clause-state g c =
     let old = g.D.Disk.view c.args.disk.now in
-    let known = g.X.Index.places c.args.index.now old.content in
     let t = c.args.tables.now in
-    let changes = c.in_ok-put_entries.ensures.changes t.slots (slots_on_disk old.size known t c.requires.state) in
-    (known, subst (λ (n : ℕ). Runs n known t) (sym changes.later.size_is) c.requires.state)
+    let changes = c.in_ok-put_entries.ensures.changes t.slots (slots_on_disk old.size None t c.requires.state) in
+    (None, subst (λ (n : ℕ). Runs n None t) (sym changes.later.size_is) c.requires.state)
 
 pub returns-in_err-seal_container-clause-disk : goal.returns-in_err-seal_container-clause-disk
 returns-in_err-seal_container-clause-disk g c =
@@ -63,7 +55,7 @@ returns-in_err-seal_container-clause-disk g c =
     let new = g.D.Disk.view c.seal_container.new.disk in
     let t = c.args.tables.now in
     let e = c.in_err-seal_container.field-0.0 in
-    let changes = c.in_ok-put_entries.ensures.changes t.slots (slots_on_disk old.size (g.X.Index.places c.args.index.now old.content) t c.requires.state) in
+    let changes = c.in_ok-put_entries.ensures.changes t.slots (slots_on_disk old.size None t c.requires.state) in
     passed (λ x. Steps t.slots x old new) blames c.from_residual-in_err-seal_container.result e c.from_residual-in_err-seal_container.ensures.1
     (steps_broken t.slots old mid new e c.in_err-seal_container.ensures.refused changes c.in_err-seal_container.ensures.disk)
 
@@ -75,7 +67,7 @@ returns-in_err-seal_container-clause-moves g c =
     let t = c.args.tables.now in
     let e = c.in_err-seal_container.field-0.0 in
     let id = t.held.last_id + 1 in
-    let changes = c.in_ok-put_entries.ensures.changes t.slots (slots_on_disk old.size (g.X.Index.places c.args.index.now old.content) t c.requires.state) in
+    let changes = c.in_ok-put_entries.ensures.changes t.slots (slots_on_disk old.size None t c.requires.state) in
     passed (λ x. SealsIndexed t id c.args.filled.now x old new) blames c.from_residual-in_err-seal_container.result e c.from_residual-in_err-seal_container.ensures.1
     (seals_on t id c.args.filled.now (ending_of (blames e)) old mid new changes
     (subst (λ (i : ℕ). SealsContainer t i c.args.filled.now (ending_of (blames e)) mid new) c.next_id-id.ensures.next c.in_err-seal_container.ensures.moves)
@@ -90,9 +82,9 @@ returns-clause-map g c =
     let t = c.args.tables.now in
     let index = c.put_entries.new.index in
     let places = g.X.Index.places index in
-    let changes = c.in_ok-put_entries.ensures.changes t.slots (slots_on_disk old.size (g.X.Index.places c.args.index.now old.content) t c.requires.state) in
+    let changes = c.in_ok-put_entries.ensures.changes t.slots (slots_on_disk old.size None t c.requires.state) in
     record {
-      told = λ given content m known_is. map_on places (g.X.Index.owned_from index) (g.met.X.Index.places_stay index) (g.X.Index.serves index) (g.met.X.Index.owns_no_slot index) old.size (g.X.Index.places c.args.index.now old.content) t c.args.slot c.requires.slot c.requires.state
+      told = λ given content m known_is. map_on places (g.X.Index.owned_from index) (g.met.X.Index.places_stay index) (g.X.Index.serves index) (g.met.X.Index.owns_no_slot index) old.size None t c.args.slot c.requires.slot c.requires.state
           old mid new changes refl given content c.in_ok-put_entries.ensures.served c.in_ok-seal_container.ensures.same
           ∙ c.in_ok-put_entries.ensures.ok m known_is;
       untold = λ none m known_is.
@@ -106,7 +98,7 @@ returns-clause-disk g c =
     let mid = g.D.Disk.view c.put_entries.new.disk in
     let new = g.D.Disk.view c.seal_container.new.disk in
     let t = c.args.tables.now in
-    let changes = c.in_ok-put_entries.ensures.changes t.slots (slots_on_disk old.size (g.X.Index.places c.args.index.now old.content) t c.requires.state) in
+    let changes = c.in_ok-put_entries.ensures.changes t.slots (slots_on_disk old.size None t c.requires.state) in
     steps_on t.slots old mid new changes c.in_ok-seal_container.ensures.disk c.in_ok-seal_container.ensures.durable
 
 pub returns-clause-moves : goal.returns-clause-moves
@@ -115,7 +107,7 @@ returns-clause-moves g c =
     let mid = g.D.Disk.view c.put_entries.new.disk in
     let new = g.D.Disk.view c.seal_container.new.disk in
     let t = c.args.tables.now in
-    let changes = c.in_ok-put_entries.ensures.changes t.slots (slots_on_disk old.size (g.X.Index.places c.args.index.now old.content) t c.requires.state) in
+    let changes = c.in_ok-put_entries.ensures.changes t.slots (slots_on_disk old.size None t c.requires.state) in
     seals_on t (t.held.last_id + 1) c.args.filled.now Done old mid new changes
     (subst (λ (i : ℕ). SealsContainer t i c.args.filled.now Done mid new) c.next_id-id.ensures.next c.in_ok-seal_container.ensures.moves)
     c.args.slot c.requires.slot c.in_ok-seal_container.ensures.disk.later c.in_ok-seal_container.ensures.frame

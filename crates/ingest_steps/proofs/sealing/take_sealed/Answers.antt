@@ -16,8 +16,8 @@ pub take_container-requires-clause-counts : goal.take_container-requires-clause-
 take_container-requires-clause-counts c = counts_many c.requires.state.0 c.requires.state.1 c.args.tables.now c.requires.state.2
 
 pub returns : goal.returns
-returns c = λ size known runs.
+returns c = λ size known.
     let filled = c.args.filled.now in
     has_sealed c.args.tables.now _ c.args.slot c.args.id filled c.requires.slot c.requires.id c.requires.right
     (omega (arith, c.take_container.ensures.last, c.requires.id)) refl refl refl
-    (λ held. c.take_container.ensures.holds held (header_of c.args.id filled.kind filled.segments) refl (sym c.kind.ensures) (length-of_entries 0 filled.segments ∙ sym c.len.ensures) (sym c.requires.bytes)) size known runs
+    (λ held. c.take_container.ensures.holds held (header_of c.args.id filled.kind filled.segments) refl (sym c.kind.ensures) (length-of_entries 0 filled.segments ∙ sym c.len.ensures) (sym c.requires.bytes)) size known

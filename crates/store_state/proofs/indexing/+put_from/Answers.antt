@@ -9,18 +9,8 @@ use Rattle.refusals.specs.declared.refusal.Refusal.TheVariants.{Memory}
 use Rattle.store_state.specs.Refused.{blames}
 use Rattle.store_state.specs.Indexing.{IsChangeRefusal}
 use Rattle.store_state.proofs.Changed.{on, changes_on, lifted, size_on}
-use Rattle.store_state.proofs.Indexed.{len_put, refusal_on, none_before, rest_part, rest_room, rest_had, back_place, back_room, back_there, restored, err_is}
+use Rattle.store_state.proofs.Indexed.{refusal_on, none_before, rest_part, rest_slots, rest_had, back_place, back_there, restored, err_is}
 use Rattle.store_state.proofs.indexing.+put_from.Goals as goal
-
-pub put-requires-clause-room : goal.put-requires-clause-room
-put-requires-clause-room g t c = λ m is.
-    let room = c.requires.room in
-    let takes = g.X.Index.takes c.args.index.now in
-    let few = room.few m is in
-    let n = finite.len (finite.insert m c.key_in-key.result c.place_in.result) in
-    subst (λ s. takes s n) (sym room.size_is)
-    (g.met.X.Index.takes_all c.args.index.now room.slots n (subst (g.X.Index.serves c.args.index.now) room.size_is c.requires.serves)
-    (omega (arith, few, len_put m c.key_in-key.result c.place_in.result, ap length c.in-Some.ensures.cases.0)))
 
 pub returns-in_err-put-clause-changes : goal.returns-in_err-put-clause-changes
 returns-in_err-put-clause-changes g t c = λ slots size_is.
@@ -56,7 +46,7 @@ put_from-ended-requires g t c κs within =
             (
               rest_part size next_size c.args.slot c.args.kind key c.place_in.result e es all old next is same_size c.key_in-key.ensures.key put stays c.requires.part,
               (
-                rest_room size next_size c.args.slot c.args.kind key c.place_in.result e es all old next is same_size c.key_in-key.ensures.key put stays c.requires.room,
+                rest_slots size next_size c.args.slot c.args.kind key c.place_in.result e es all old next is same_size c.key_in-key.ensures.key put stays c.requires.slots,
                 rest_had size next_size c.args.slot c.args.kind key c.place_in.result e es all old next is same_size c.key_in-key.ensures.key put stays c.in-Some-split_first.had.now c.in-Some-split_first.had_rest.now c.args.before.now c.in-Some-split_first.ensures.cases.0 c.requires.part c.requires.had,
               ),
             ),
@@ -88,18 +78,8 @@ give_back-requires-clause-place g t c =
     back_place (view c.args.disk.now).size (view c.put.new.disk).size c.args.slot c.args.kind c.key_in-key.result c.place_in.result c.in-Some.entry.now c.in-Some.rest.now c.args.entries.now
     (places c.args.index.now (view c.args.disk.now).content) (places c.put.new.index (view c.put.new.disk).content) c.in-Some.ensures.cases.0 c.in_ok-put.ensures.changes.later.size_is c.key_in-key.ensures.key c.in_ok-put.ensures.ok c.in_ok-put.ensures.unknown
     (places c.put_from-ended.new.index (view c.put_from-ended.new.disk).content) (view c.put_from-ended.new.disk).size (c.put_from-ended.ensures.memory (c.if-not-ran_out.ensures.yes refl))
-    (c.put_from-ended.ensures.changes c.requires.room.slots (size_on (view c.args.disk.now) (view c.put.new.disk) c.requires.room.slots c.in_ok-put.ensures.changes.later c.requires.room.size_is)).later.size_is
+    (c.put_from-ended.ensures.changes c.requires.slots.slots (size_on (view c.args.disk.now) (view c.put.new.disk) c.requires.slots.slots c.in_ok-put.ensures.changes.later c.requires.slots.size_is)).later.size_is
     c.in-Some-split_first.had.now c.in-Some-split_first.had_rest.now c.args.before.now c.in-Some-split_first.ensures.cases.0 c.requires.had
-
-pub give_back-requires-clause-room : goal.give_back-requires-clause-room
-give_back-requires-clause-room g t c =
-    let view = g.D.Disk.view in
-    let places = g.X.Index.places in
-    back_room (view c.args.disk.now).size (view c.put.new.disk).size c.args.slot c.args.kind c.key_in-key.result c.place_in.result c.in-Some.entry.now c.in-Some.rest.now c.args.entries.now
-    (places c.args.index.now (view c.args.disk.now).content) (places c.put.new.index (view c.put.new.disk).content) c.in-Some.ensures.cases.0 c.in_ok-put.ensures.changes.later.size_is c.key_in-key.ensures.key c.in_ok-put.ensures.ok c.in_ok-put.ensures.unknown
-    (places c.put_from-ended.new.index (view c.put_from-ended.new.disk).content) (view c.put_from-ended.new.disk).size (c.put_from-ended.ensures.memory (c.if-not-ran_out.ensures.yes refl))
-    (c.put_from-ended.ensures.changes c.requires.room.slots (size_on (view c.args.disk.now) (view c.put.new.disk) c.requires.room.slots c.in_ok-put.ensures.changes.later c.requires.room.size_is)).later.size_is
-    c.requires.room
 
 pub give_back-requires-clause-there : goal.give_back-requires-clause-there
 give_back-requires-clause-there g t c =
@@ -108,7 +88,7 @@ give_back-requires-clause-there g t c =
     back_there (view c.args.disk.now).size (view c.put.new.disk).size c.args.slot c.args.kind c.key_in-key.result c.place_in.result c.in-Some.entry.now c.in-Some.rest.now c.args.entries.now
     (places c.args.index.now (view c.args.disk.now).content) (places c.put.new.index (view c.put.new.disk).content) c.in-Some.ensures.cases.0 c.in_ok-put.ensures.changes.later.size_is c.key_in-key.ensures.key c.in_ok-put.ensures.ok c.in_ok-put.ensures.unknown
     (places c.put_from-ended.new.index (view c.put_from-ended.new.disk).content) (view c.put_from-ended.new.disk).size (c.put_from-ended.ensures.memory (c.if-not-ran_out.ensures.yes refl))
-    (c.put_from-ended.ensures.changes c.requires.room.slots (size_on (view c.args.disk.now) (view c.put.new.disk) c.requires.room.slots c.in_ok-put.ensures.changes.later c.requires.room.size_is)).later.size_is
+    (c.put_from-ended.ensures.changes c.requires.slots.slots (size_on (view c.args.disk.now) (view c.put.new.disk) c.requires.slots.slots c.in_ok-put.ensures.changes.later c.requires.slots.size_is)).later.size_is
 
 pub returns-in_err-give_back-clause-memory : goal.returns-in_err-give_back-clause-memory
 returns-in_err-give_back-clause-memory g t c = λ ran_out.
@@ -154,7 +134,7 @@ returns-clause-memory g t c = λ ran_out.
     restored (view c.args.disk.now).size (view c.put.new.disk).size c.args.slot c.args.kind c.key_in-key.result c.place_in.result c.in-Some.entry.now c.in-Some.rest.now c.args.entries.now
     (places c.args.index.now (view c.args.disk.now).content) (places c.put.new.index (view c.put.new.disk).content) c.in-Some.ensures.cases.0 c.in_ok-put.ensures.changes.later.size_is c.key_in-key.ensures.key c.in_ok-put.ensures.ok c.in_ok-put.ensures.unknown
     (places c.put_from-ended.new.index (view c.put_from-ended.new.disk).content) (view c.put_from-ended.new.disk).size (c.put_from-ended.ensures.memory (c.if-not-ran_out.ensures.yes refl))
-    (c.put_from-ended.ensures.changes c.requires.room.slots (size_on (view c.args.disk.now) (view c.put.new.disk) c.requires.room.slots c.in_ok-put.ensures.changes.later c.requires.room.size_is)).later.size_is
+    (c.put_from-ended.ensures.changes c.requires.slots.slots (size_on (view c.args.disk.now) (view c.put.new.disk) c.requires.slots.slots c.in_ok-put.ensures.changes.later c.requires.slots.size_is)).later.size_is
     (places c.give_back.new.index (view c.give_back.new.disk).content) c.in-Some-split_first.had.now c.in-Some-split_first.had_rest.now c.args.before.now c.in-Some-split_first.ensures.cases.0 c.requires.had
     c.in_ok-give_back.ensures.ok c.in_ok-give_back.ensures.unknown
 

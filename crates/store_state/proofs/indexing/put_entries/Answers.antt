@@ -1,12 +1,12 @@
-use Rattle.std.proofs.Common.{List, length, refl, ap, subst, sym, ◌∙◌}
+use Rattle.std.proofs.Common.{List, refl, subst, sym}
 use Rattle.container_meta.specs.declared.entry.Entry.{Entry}
 use Rattle.container_meta.specs.declared.kind.Kind.{Kind}
 use Rattle.container_meta.specs.Spelling.{header_of}
-use Rattle.store_state.specs.Indexing.{HasRoomFor, ArePart}
+use Rattle.store_state.specs.Indexing.{ArePart}
 use Rattle.dd_disk.specs.Ending.{ending}
 use Rattle.store_state.specs.Refused.{blames}
 use Rattle.store_state.proofs.Changed.{keeps}
-use Rattle.store_state.proofs.Indexed.{part_of, length-entries_from}
+use Rattle.store_state.proofs.Indexed.{part_of}
 use Rattle.store_state.proofs.indexing.put_entries.Goals as goal
 
 pub put_from-requires-clause-part : goal.put_from-requires-clause-part
@@ -16,12 +16,6 @@ put_from-requires-clause-part g c =
     subst (λ (k : Kind). ArePart size c.args.slot k c.entries.result.now) (sym c.kind.ensures)
     (subst (λ (l : List Entry). ArePart size c.args.slot filled.kind l) (sym c.entries.ensures.entries)
     (part_of size c.args.slot (header_of 1 filled.kind filled.segments) (c.entries.ensures.header 1 refl c.requires.some) c.requires.slot))
-
-pub put_from-requires-clause-room : goal.put_from-requires-clause-room
-put_from-requires-clause-room g c =
-    let view = g.D.Disk.view in
-    subst (HasRoomFor (view c.args.disk.now).size (g.X.Index.places c.args.index.now (view c.args.disk.now).content))
-    (sym (ap length c.entries.ensures.entries ∙ length-entries_from 0 c.args.filled.now.segments)) c.requires.room
 
 pub returns-clause-counts : goal.returns-clause-counts
 returns-clause-counts g c = λ slots size_is.

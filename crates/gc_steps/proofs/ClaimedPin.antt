@@ -36,7 +36,7 @@ module _ (pins : PinMap) (key : List ℕ) (pin : Pin) where
   abbrev more : PinMap
   more = finite.insert pins key pin
 
-  one_more : (other : List ℕ) → IsPartKey (Writing more) other ↔ (IsPartKey (Writing pins) other ⊎ (other ≡ key))
+  pub one_more : (other : List ℕ) → IsPartKey (Writing more) other ↔ (IsPartKey (Writing pins) other ⊎ (other ≡ key))
   one_more other = (λ is. to is.0 (sym (got other) ∙ is.1), λ is. back is)
     where
       got : (k : List ℕ) → finite.get more k ≡ cond (bytes_eq key k) (Some pin) (finite.get pins k)
@@ -64,16 +64,15 @@ unfolding SharesMark
 one_mark old marked key place shares = shares
 
 -- The key of a segment that is held is pinned, and marked.
-pub claimed : (index : PlaceMap) (store : Store) (image : List ℕ) (files : Files) (parts : List Part) (c : Collection) (marked : LiveKeys) (actor : ℕ) (pins : PinMap) (key : List ℕ) (pin : Pin) (place : Place)
-    → actor < ACTORS → actor < length parts → part_of parts actor ≡ Writing pins
-    → ((other : List ℕ) (there : Place) → IsLiveAt marked other there ↔ (IsLiveAt c.live other there ⊎ SharesMark other there key place))
+pub claimed_key : (index : PlaceMap) (store : Store) (image : List ℕ) (files : Files) (parts : List Part) (c : Collection) (marked : LiveKeys) (actor : ℕ) (pins : PinMap) (key : List ℕ) (pin : Pin)
+    → actor < ACTORS → actor < length parts → part_of parts actor ≡ Writing pins → Marks (λ other. other ≡ key) c.live marked
     → CoreInvariant index store files (with_part parts actor (Writing (finite.insert pins key pin))) image → IsStoreOf store files image
     → KeepsBoth index index store store parts (with_part parts actor (Writing (finite.insert pins key pin))) image image c (record c { live = marked })
-claimed index store image files parts c marked actor pins key pin place below there writing shares core holds =
+claimed_key index store image files parts c marked actor pins key pin below there writing marks core holds =
     gained (λ other. other ≡ key) index index store store image image files parts c marked actor pins (finite.insert pins key pin) below there writing gains grows core holds (λ ready. ready)
   where
     gains : Gains (λ other. other ≡ key) c.live marked pins (finite.insert pins key pin)
-    gains = record { marks = one_mark c.live marked key place shares; pinned = one_more pins key pin; decided = one_or_other key }
+    gains = record { marks = marks; pinned = one_more pins key pin; decided = one_or_other key }
 
     grows : Grows (λ other. other ≡ key) index index store store image image
     grows = record {
@@ -84,3 +83,12 @@ claimed index store image files parts c marked actor pins key pin place below th
       same = λ k others. refl;
       slots = λ slot h is. inl is;
     }
+
+-- So it is where the mark is said by those that share it.
+pub claimed : (index : PlaceMap) (store : Store) (image : List ℕ) (files : Files) (parts : List Part) (c : Collection) (marked : LiveKeys) (actor : ℕ) (pins : PinMap) (key : List ℕ) (pin : Pin) (place : Place)
+    → actor < ACTORS → actor < length parts → part_of parts actor ≡ Writing pins
+    → ((other : List ℕ) (there : Place) → IsLiveAt marked other there ↔ (IsLiveAt c.live other there ⊎ SharesMark other there key place))
+    → CoreInvariant index store files (with_part parts actor (Writing (finite.insert pins key pin))) image → IsStoreOf store files image
+    → KeepsBoth index index store store parts (with_part parts actor (Writing (finite.insert pins key pin))) image image c (record c { live = marked })
+claimed index store image files parts c marked actor pins key pin place below there writing shares core holds =
+    claimed_key index store image files parts c marked actor pins key pin below there writing (one_mark c.live marked key place shares) core holds

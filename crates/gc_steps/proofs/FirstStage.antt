@@ -88,7 +88,7 @@ count_there [] slot h there = absurd cc
 count_there (c ∷ cs) zero h there = ap (λ (x : Option HeaderValue). Some (count_of x)) (some_same c (Some h) there)
 count_there (c ∷ cs) (suc slot) h there = count_there cs slot h there
 
-id_there : (held : List (Option HeaderValue)) (slot : ℕ) (h : HeaderValue) → slice_get held slot ≡ Some (Some h) → get_or (ids_of held) slot 0 ≡ h.id
+pub id_there : (held : List (Option HeaderValue)) (slot : ℕ) (h : HeaderValue) → slice_get held slot ≡ Some (Some h) → get_or (ids_of held) slot 0 ≡ h.id
 id_there [] slot h there = absurd cc
 id_there (None ∷ cs) zero h there = absurd (let wrong : None ≡ Some h = some_same None (Some h) there in cc)
 id_there (Some g ∷ cs) zero h there = ap (λ (x : HeaderValue). x.id) (some_same g h (some_same (Some g) (Some h) there))

@@ -31,7 +31,7 @@ segment_same slot place old new same ends = elim (leb_tells slot place.slot) [
 ]
 
 -- after a source comes the next one, or the end
-none_ready : (index : PlaceMap) (held : List (Option HeaderValue)) (snapshot : ℕ) (sources : List ℕ) (source : ℕ) → ReleasesReady index held snapshot (sweep_from sources source)
+pub none_ready : (index : PlaceMap) (held : List (Option HeaderValue)) (snapshot : ℕ) (sources : List ℕ) (source : ℕ) → ReleasesReady index held snapshot (sweep_from sources source)
 none_ready index held snapshot sources source = by_test (nat_lt source (length sources))
   where
     by_test : (b : Bool) → ReleasesReady index held snapshot (if b then CopyStage source else End)

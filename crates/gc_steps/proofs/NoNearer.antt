@@ -13,7 +13,7 @@ use Rattle.gc_steps.specs.declared.collection.Collection.{Collection}
 use Rattle.gc_steps.specs.declared.collection.Stage.{Stage}
 use Rattle.gc_steps.specs.declared.collection.Stage.TheVariants.{Mark, Filter, Select, Copy, Release, End}
 use Rattle.gc_steps.specs.Stages.{is_old, is_old_slot, is_tree, is_tree_slot}
-use Rattle.gc_steps.specs.StepsToCome.{count_from, steps_at, steps_to_come}
+use Rattle.gc_steps.specs.StepsToCome.{count_from, old_from, steps_at, steps_to_come}
 use Rattle.gc_steps.specs.UnderWay.{IsUnderWay}
 
 -- of two tests that agree
@@ -91,6 +91,9 @@ module _ (t now : SlotTable) (snapshot slot id : ℕ) (count : SlotCount) (close
   count_on : (now_test test : ℕ → Bool) → ((n : ℕ) → now_test n ≡ test n) → (from : ℕ) → count_from now_test from (length now.ids.items - from) ≡ count_from test from (length t.ids.items - from)
   count_on now_test test same from = ap (λ (n : ℕ). count_from now_test from (n - from)) many ∙ count_same now_test test same from (length t.ids.items - from)
 
+  pub old_from_same : (from : ℕ) → old_from snapshot now from ≡ old_from snapshot t from
+  old_from_same from = count_on (is_old_slot snapshot now) (is_old_slot snapshot t) old_same from
+
   pub steps_same : (chosen : ℕ) (c : Collection) → c.snapshot ≡ snapshot → (stage : Stage) → steps_at chosen now c stage ≡ steps_at chosen t c stage
   steps_same chosen c at (Mark level other) = subst (λ (s : ℕ). (let d : Collection = record c { snapshot = s } in steps_at chosen now d (Mark level other) ≡ steps_at chosen t d (Mark level other))) (sym at) (
       let old = count_on (is_old_slot snapshot now) (is_old_slot snapshot t) old_same 0 in
@@ -124,3 +127,11 @@ as_many held t now c slot h chosen free was is next under =
     steps_same t now c.snapshot slot h.id (count_of (Some h)) (ap (λ (ids : List ℕ). get_or ids slot 0) was.ids_are ∙ closed_slot held slot free.closed)
     (omega (arith, free.within, ap length was.ids_are, many_ids held)) (omega (arith, under.began, next)) (is.ids_are ∙ ids_with slot h held ∙ ap (λ (ids : List ℕ). set ids slot h.id) (sym was.ids_are))
     (is.counts_are ∙ counts_with slot h held ∙ ap (λ (counts : List SlotCount). set counts slot (count_of (Some h))) (sym was.counts_are)) chosen c refl c.stage
+
+-- and there are as many containers that were there when the collection began
+pub old_many : (held : List (Option HeaderValue)) (t now : SlotTable) (c : Collection) (slot : ℕ) (h : HeaderValue) → IsFirstFree slot held → RepresentsSlots held t
+    → RepresentsSlots (with_slot slot h held) now → t.last_id < h.id → IsUnderWay t c → (from : ℕ) → old_from c.snapshot now from ≡ old_from c.snapshot t from
+old_many held t now c slot h free was is next under from =
+    old_from_same t now c.snapshot slot h.id (count_of (Some h)) (ap (λ (ids : List ℕ). get_or ids slot 0) was.ids_are ∙ closed_slot held slot free.closed)
+    (omega (arith, free.within, ap length was.ids_are, many_ids held)) (omega (arith, under.began, next)) (is.ids_are ∙ ids_with slot h held ∙ ap (λ (ids : List ℕ). set ids slot h.id) (sym was.ids_are))
+    (is.counts_are ∙ counts_with slot h held ∙ ap (λ (counts : List SlotCount). set counts slot (count_of (Some h))) (sym was.counts_are)) from

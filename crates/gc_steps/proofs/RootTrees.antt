@@ -28,14 +28,14 @@ use Rattle.gc_steps.specs.LiveTrees.{IsRootOf, IsWhole}
 use Rattle.gc_steps.specs.Roots.{HasRootKey, IsNameKey}
 use Rattle.gc_steps.proofs.ListedKeys.{name_of_key}
 
-abbrev top_of : Root → Top
+abbrev pub top_of : Root → Top
 top_of root = record { length = root.length; level = root.level; digest = root.digest }
 
 -- the key that a root has
-abbrev top_key : Top → List ℕ
+abbrev pub top_key : Top → List ℕ
 top_key top = key_of (if top.level == 0 then 0 else 1) top.digest
 
-not_zero : (n : ℕ) → 1 ≤ n → (n == 0) ≡ false
+pub not_zero : (n : ℕ) → 1 ≤ n → (n == 0) ≡ false
 not_zero n above = by_test (n == 0) refl
   where
     by_test : (b : Bool) → (n == 0) ≡ b → b ≡ false

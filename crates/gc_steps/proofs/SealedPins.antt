@@ -1,5 +1,5 @@
 -- A seal leaves both invariants of a collection, where the keys of what is sealed become live.
-use Rattle.std.proofs.Common.{◌≡◌, ◌≢◌, ◌⊎◌, ◌↔◌, ◌<◌, ◌+◌, inl, inr, ℕ, zero, suc, Bool, true, false, cond, List, [], ◌∷◌, length, map, get_or, Option, Some, None, refl, sym, ◌∙◌, ap, subst, arith}
+use Rattle.std.proofs.Common.{◌≡◌, ◌≢◌, ◌⊎◌, ◌↔◌, ◌<◌, ◌+◌, inl, inr, ℕ, zero, suc, Bool, true, false, cond, List, [], ◌∷◌, length, map, get_or, option_map, Option, Some, None, refl, sym, ◌∙◌, ap, subst, arith}
 use Rattle.std.specs.Prelude.{slice_get}
 use Rattle.std.specs.FinMap as finite
 use Rattle.std.specs.List.{All, Contains}
@@ -20,18 +20,18 @@ use Rattle.container_meta.specs.Spelling.{HeaderValue, header_of}
 use Rattle.gc_enumerate.specs.Live.{LiveKeys}
 use Rattle.store_model.specs.Files.{Files}
 use Rattle.store_model.specs.Image.{Store}
-use Rattle.store_model.specs.Indexing.{entry_key, with_entries}
-use Rattle.store_model.specs.Slots.{HasKey, first_free, place_of, with_slot}
+use Rattle.store_model.specs.Indexing.{entry_key}
+use Rattle.store_model.specs.Slots.{Copy, HasKey, IsPartialIndexOf, first_free, place_of, with_slot}
 use Rattle.store_model.specs.Standing.{IsStoreOf}
 use Rattle.store_model.specs.Steps.{CanSeal, KeepsCopies, with_sealed}
 use Rattle.store_model.proofs.Copies.{some_same}
 use Rattle.store_model.proofs.FreedTrees.{in_head, in_tail}
-use Rattle.store_model.proofs.Indexing.{entry_of, put_none, put_some}
-use Rattle.store_model.proofs.NewestSealed.{newest_without}
+use Rattle.store_model.proofs.Indexing.{entry_of}
+use Rattle.store_model.proofs.NewestSealed.{newest_with, newest_without}
 use Rattle.store_state.specs.Invariant.{CoreInvariant}
 use Rattle.gc_steps.specs.declared.collection.Collection.{Collection}
 use Rattle.gc_steps.specs.declared.collection.Stage.{Stage}
-use Rattle.gc_steps.specs.declared.collection.Stage.TheVariants.{Mark, Filter, Select, Copy, Release, End}
+use Rattle.gc_steps.specs.declared.collection.Stage.TheVariants.{Mark, Filter, Select, Copy as CopyStage, Release, End}
 use Rattle.gc_steps.specs.Roots.{IsPartKey, Marks}
 use Rattle.gc_steps.specs.SweepIsSafe.{IsReadySource, ReleasesReady}
 use Rattle.gc_steps.proofs.Carried.{KeepsBoth}
@@ -109,21 +109,12 @@ stays_there h (Some x ∷ cs) (suc slot) g is = stays_there h cs slot g is
 
 -- ---- the index
 
-module _ (index : PlaceMap) (store : Store) (id : ℕ) (filled : Contents) (can : CanSeal id filled.kind filled.segments store) where
+module _ (store : Store) (id : ℕ) (filled : Contents) (can : CanSeal id filled.kind filled.segments store) where
   abbrev entries : List Entry
   entries = entries_from 0 filled.segments
 
-  abbrev later : PlaceMap
-  later = with_entries filled.kind (first_free store.held) entries index
-
   abbrev sealed_store : Store
   sealed_store = with_sealed id filled.kind filled.segments store
-
-  put_there : (key : List ℕ) (e : Entry) → entry_of filled.kind entries key ≡ Some e → finite.get later key ≡ Some (place_of (first_free store.held) e)
-  put_there key e found = put_some filled.kind (first_free store.held) [] entries index key e can.right.entries found
-
-  put_elsewhere : (key : List ℕ) → entry_of filled.kind entries key ≡ None → finite.get later key ≡ finite.get index key
-  put_elsewhere key none = put_none filled.kind (first_free store.held) entries index key none
 
   decided : (key : List ℕ) → IsSealedKey filled key ⊎ (IsSealedKey filled key → ⊥)
   decided key = by_found (entry_of filled.kind entries key) refl
@@ -131,13 +122,6 @@ module _ (index : PlaceMap) (store : Store) (id : ℕ) (filled : Contents) (can 
       by_found : (found : Option Entry) → entry_of filled.kind entries key ≡ found → IsSealedKey filled key ⊎ (IsSealedKey filled key → ⊥)
       by_found None none = inr (key_lacking filled.kind 0 filled.segments key none)
       by_found (Some e) found = inl (key_found filled.kind 0 filled.segments key e found)
-
-  has_still : (key : List ℕ) → HasKey index key → HasKey later key
-  has_still key has = by_found (entry_of filled.kind entries key) refl
-    where
-      by_found : (found : Option Entry) → entry_of filled.kind entries key ≡ found → HasKey later key
-      by_found None none = (has.0, put_elsewhere key none ∙ has.1)
-      by_found (Some e) found = (place_of (first_free store.held) e, put_there key e found)
 
   -- a key that is none of those that are sealed has no entry
   no_entry : (key : List ℕ) → (IsSealedKey filled key → ⊥) → entry_of filled.kind entries key ≡ None
@@ -147,51 +131,58 @@ module _ (index : PlaceMap) (store : Store) (id : ℕ) (filled : Contents) (can 
       by_found None none = none
       by_found (Some e) found = absurd (others (key_found filled.kind 0 filled.segments key e found))
 
-  grows : (old new : List ℕ) → KeepsCopies (HasKey index) store old sealed_store new → Grows (IsSealedKey filled) index later store sealed_store old new
-  grows old new keeps = record {
-    names_stay = refl;
-    keeps = keeps;
-    has_still = has_still;
-    had = λ key others has. (has.0, sym (put_elsewhere key (no_entry key others)) ∙ has.1);
-    same = λ key others. newest_without 0 (header_of id filled.kind filled.segments) store.held key (omega (arith, can.slot)) (no_entry key others);
-    slots = λ slot h is. by_slot slot h (with_there (first_free store.held) (header_of id filled.kind filled.segments) store.held slot h is);
-  }
-    where
-      by_slot : (slot : ℕ) (h : HeaderValue) → (slice_get store.held slot ≡ Some (Some h)) ⊎ (header_of id filled.kind filled.segments ≡ h)
-          → (slice_get store.held slot ≡ Some (Some h)) ⊎ All (λ e. IsSealedKey filled (entry_key h.kind e)) h.entries
-      by_slot slot h (inl was) = inl was
-      by_slot slot h (inr same) = inr (subst (λ (g : HeaderValue). All (λ e. IsSealedKey filled (entry_key g.kind e)) g.entries) same (entries_sealed filled.kind 0 filled.segments))
+  -- The index is another then: it has the keys that it had, those that are not sealed at their places, and each at that of its newest copy.
+  module _ (index later : PlaceMap) (has_still : (key : List ℕ) → HasKey index key → HasKey later key)
+      (others_same : (key : List ℕ) → (IsSealedKey filled key → ⊥) → finite.get later key ≡ finite.get index key) (partial : IsPartialIndexOf sealed_store.held later) where
+    grows : (old new : List ℕ) → KeepsCopies (HasKey index) store old sealed_store new → Grows (IsSealedKey filled) index later store sealed_store old new
+    grows old new keeps = record {
+      names_stay = refl;
+      keeps = keeps;
+      has_still = has_still;
+      had = λ key others has. (has.0, sym (others_same key others) ∙ has.1);
+      same = λ key others. newest_without 0 (header_of id filled.kind filled.segments) store.held key (omega (arith, can.slot)) (no_entry key others);
+      slots = λ slot h is. by_slot slot h (with_there (first_free store.held) (header_of id filled.kind filled.segments) store.held slot h is);
+    }
+      where
+        by_slot : (slot : ℕ) (h : HeaderValue) → (slice_get store.held slot ≡ Some (Some h)) ⊎ (header_of id filled.kind filled.segments ≡ h)
+            → (slice_get store.held slot ≡ Some (Some h)) ⊎ All (λ e. IsSealedKey filled (entry_key h.kind e)) h.entries
+        by_slot slot h (inl was) = inl was
+        by_slot slot h (inr same) = inr (subst (λ (g : HeaderValue). All (λ e. IsSealedKey filled (entry_key g.kind e)) g.entries) same (entries_sealed filled.kind 0 filled.segments))
 
-  -- a source that was ready is so still
-  ready_still : (snapshot next slot : ℕ) → IsReadySource index store.held snapshot next slot → IsReadySource later sealed_store.held snapshot next slot
-  ready_still snapshot next slot ready = record {
-    counted = ready.counted;
-    header = ready.header;
-    there = stays_there (header_of id filled.kind filled.segments) store.held slot ready.header ready.there;
-    came_before = ready.came_before;
-    is_empty = λ key place has. by_found key place has (entry_of filled.kind entries key) refl;
-  }
-    where
-      by_found : (key : List ℕ) (place : Place) → finite.get later key ≡ Some place → (found : Option Entry) → entry_of filled.kind entries key ≡ found → place.slot ≢ slot
-      by_found key place has None none = ready.is_empty key place (sym (put_elsewhere key none) ∙ has)
-      by_found key place has (Some e) found =
-          λ same. not_first store.held slot ready.header ready.there
-          (ap (λ (p : Place). p.slot) (some_same (place_of (first_free store.held) e) place (sym (put_there key e found) ∙ has)) ∙ same)
+    -- the place of a key that is sealed is in the first free slot
+    sealed_place : (key : List ℕ) (place : Place) (e : Entry) → finite.get later key ≡ Some place → entry_of filled.kind entries key ≡ Some e → place.slot ≡ first_free store.held
+    sealed_place key place e has found =
+        let newest_is = newest_with 0 (first_free store.held) (header_of id filled.kind filled.segments) store.held key e (omega arith) (omega (arith, can.slot)) can.new_id found in
+        ap (λ (p : Place). p.slot) (sym (some_same (place_of (first_free store.held) e) place (sym (ap (option_map (λ (c : Copy). c.place)) newest_is) ∙ partial key place has)))
 
-  releases_still : (snapshot : ℕ) (stage : Stage) → ReleasesReady index store.held snapshot stage → ReleasesReady later sealed_store.held snapshot stage
-  releases_still snapshot (Mark level slot) ready = tt
-  releases_still snapshot (Filter slot) ready = tt
-  releases_still snapshot Select ready = tt
-  releases_still snapshot (Copy source) ready = tt
-  releases_still snapshot (Release next slot) ready = ready_still snapshot next slot ready
-  releases_still snapshot End ready = tt
+    -- a source that was ready is so still
+    ready_still : (snapshot next slot : ℕ) → IsReadySource index store.held snapshot next slot → IsReadySource later sealed_store.held snapshot next slot
+    ready_still snapshot next slot ready = record {
+      counted = ready.counted;
+      header = ready.header;
+      there = stays_there (header_of id filled.kind filled.segments) store.held slot ready.header ready.there;
+      came_before = ready.came_before;
+      is_empty = λ key place has. by_found key place has (entry_of filled.kind entries key) refl;
+    }
+      where
+        by_found : (key : List ℕ) (place : Place) → finite.get later key ≡ Some place → (found : Option Entry) → entry_of filled.kind entries key ≡ found → place.slot ≢ slot
+        by_found key place has None none = ready.is_empty key place (sym (others_same key (key_lacking filled.kind 0 filled.segments key none)) ∙ has)
+        by_found key place has (Some e) found = λ same. not_first store.held slot ready.header ready.there (sym (sealed_place key place e has found) ∙ same)
 
-  -- The container is in the first free slot, and the index has its places; its keys are pinned, and marked.
-  pub sealed_on : (old new : List ℕ) (files : Files) (parts : List Part) (c : Collection) (marked : LiveKeys) (actor : ℕ) (pins more : PinMap)
-      → actor < ACTORS → actor < length parts → part_of parts actor ≡ Writing pins → Marks (IsSealedKey filled) c.live marked
-      → ((key : List ℕ) → IsPartKey (Writing more) key ↔ (IsPartKey (Writing pins) key ⊎ IsSealedKey filled key)) → KeepsCopies (HasKey index) store old sealed_store new
-      → CoreInvariant later sealed_store files (with_part parts actor (Writing more)) new → IsStoreOf sealed_store files new
-      → KeepsBoth index later store sealed_store parts (with_part parts actor (Writing more)) old new c (record c { live = marked })
-  sealed_on old new files parts c marked actor pins more below there writing marks pinned keeps core holds =
-      gained (IsSealedKey filled) index later store sealed_store old new files parts c marked actor pins more below there writing
-      (record { marks = marks; pinned = pinned; decided = decided }) (grows old new keeps) core holds (releases_still c.snapshot c.stage)
+    releases_still : (snapshot : ℕ) (stage : Stage) → ReleasesReady index store.held snapshot stage → ReleasesReady later sealed_store.held snapshot stage
+    releases_still snapshot (Mark level slot) ready = tt
+    releases_still snapshot (Filter slot) ready = tt
+    releases_still snapshot Select ready = tt
+    releases_still snapshot (CopyStage source) ready = tt
+    releases_still snapshot (Release next slot) ready = ready_still snapshot next slot ready
+    releases_still snapshot End ready = tt
+
+    -- The container is in the first free slot; its keys are pinned, and marked.
+    pub sealed_safe : (old new : List ℕ) (files : Files) (parts : List Part) (c : Collection) (marked : LiveKeys) (actor : ℕ) (pins more : PinMap)
+        → actor < ACTORS → actor < length parts → part_of parts actor ≡ Writing pins → Marks (IsSealedKey filled) c.live marked
+        → ((key : List ℕ) → IsPartKey (Writing more) key ↔ (IsPartKey (Writing pins) key ⊎ IsSealedKey filled key)) → KeepsCopies (HasKey index) store old sealed_store new
+        → CoreInvariant later sealed_store files (with_part parts actor (Writing more)) new → IsStoreOf sealed_store files new
+        → KeepsBoth index later store sealed_store parts (with_part parts actor (Writing more)) old new c (record c { live = marked })
+    sealed_safe old new files parts c marked actor pins more below there writing marks pinned keeps core holds =
+        gained (IsSealedKey filled) index later store sealed_store old new files parts c marked actor pins more below there writing
+        (record { marks = marks; pinned = pinned; decided = decided }) (grows old new keeps) core holds (releases_still c.snapshot c.stage)

@@ -1,12 +1,15 @@
 pub mod Copying
 pub mod Entries
+pub mod FewSources
 pub mod Filtering
+pub mod Fresh
 pub mod Laws
 pub mod LiveTrees
 pub mod Marking
 pub mod MarksAreClosed
 pub mod Releasing
 pub mod Roots
+pub mod Safety
 pub mod Scanning
 pub mod Stages
 pub mod Stepping

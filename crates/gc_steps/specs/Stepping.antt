@@ -6,6 +6,8 @@ use Rattle.dd_disk.specs.Ending.{Ending, Reads}
 use Rattle.dd_disk.specs.Moves.{Acts}
 use Rattle.dd_disk.specs.View.{DiskView, IsDurable}
 use Rattle.disk_format.specs.Layout.{size_of, slot_at}
+use Rattle.refusals.specs.declared.refusal.Phase.{Phase}
+use Rattle.refusals.specs.declared.refusal.Phase.TheVariants as phases
 use Rattle.refusals.specs.declared.refusal.Refusal.{Refusal}
 use Rattle.refusals.specs.declared.refusal.Refusal.TheVariants.{Memory, DiskWrite}
 use Rattle.segment_index.specs.Changes.{Changes}
@@ -15,8 +17,6 @@ use Rattle.store_state.specs.declared.tables.Tables.{Tables}
 use Rattle.gc_steps.specs.declared.collection.Collection.{Collection}
 use Rattle.gc_steps.specs.declared.collection.Stage.{Stage}
 use Rattle.gc_steps.specs.declared.collection.Stage.TheVariants.{Mark, Filter, Select, Copy, Release, End}
-use Rattle.gc_steps.specs.declared.phase.Phase.{Phase}
-use Rattle.gc_steps.specs.declared.phase.Phase.TheVariants as phases
 use Rattle.gc_steps.specs.declared.phase.StepDone.{StepDone}
 use Rattle.gc_steps.specs.declared.phase.StepDone.TheVariants.{Did, Done}
 use Rattle.gc_steps.specs.Copying.{Takes, IsSourceRefusal, IsTakeRefusal, MapStays}

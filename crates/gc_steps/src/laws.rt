@@ -1,11 +1,13 @@
 //! Laws of a collection that is under way (docs/MODEL.md, 'Collection').
-ghost use Rattle.std.specs.Prelude.{◌≡◌, ◌<◌, ℕ, List, Option, max};
+ghost use Rattle.std.specs.Prelude.{◌≡◌, ◌<◌, ℕ, List, Option, Contains, max};
 ghost use Rattle.container_meta.specs.Spelling.{HeaderValue};
 ghost use Rattle.gc_enumerate.specs.Live.{LiveKeys};
 ghost use Rattle.store_model.specs.Slots.{with_slot};
 ghost use Rattle.store_state.specs.Tables.{IsFirstFree, RepresentsSlots};
 ghost use Rattle.store_state.specs.declared.slot_table.SlotTable.{SlotTable};
 ghost use Rattle.gc_steps.specs.declared.collection.Collection.{Collection as CollectionValue};
+ghost use Rattle.gc_steps.specs.Fresh.{AreFresh, IsAsLive, Unmarks};
+ghost use Rattle.gc_steps.specs.Roots.{Marks};
 ghost use Rattle.gc_steps.specs.StepsToCome.{steps_to_come};
 ghost use Rattle.gc_steps.specs.UnderWay.{IsUnderWay};
 
@@ -26,4 +28,10 @@ pub fn sealing_brings_no_steps()
 /// That it stays so whichever keys become live.
 pub fn marking_keeps_it_under_way()
     ensures { (t : SlotTable) (c : CollectionValue) (live : LiveKeys) → IsUnderWay t c → IsUnderWay t (record c { live = live }) }
+{}
+
+/// That each key is as live as before, once just those are unmarked that became live.
+pub fn unmarking_undoes_marking()
+    ensures { (keys fresh : List (List ℕ)) (old mid new : LiveKeys) → Marks (Contains keys) old mid → AreFresh keys old fresh
+        → Unmarks fresh mid new → IsAsLive old new }
 {}

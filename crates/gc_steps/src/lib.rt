@@ -7,6 +7,7 @@ mod copies;
 mod copying;
 mod entries;
 mod filtering;
+mod fresh;
 mod laws;
 mod marking;
 mod phase;
@@ -16,7 +17,11 @@ mod starting;
 mod stepping;
 
 pub use collection::{Collection, Stage};
-pub use laws::{marking_keeps_it_under_way, sealing_brings_no_steps, sealing_keeps_it_under_way};
-pub use phase::{Phase, StepDone, phase_of};
+pub use fresh::{mark_fresh, unmark};
+pub use laws::{
+    marking_keeps_it_under_way, sealing_brings_no_steps, sealing_keeps_it_under_way,
+    unmarking_undoes_marking,
+};
+pub use phase::{StepDone, phase_of};
 pub use starting::start;
 pub use stepping::step;

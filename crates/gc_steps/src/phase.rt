@@ -3,23 +3,7 @@ ghost use Rattle.std.specs.Prelude.{◌≡◌};
 ghost use Rattle.gc_steps.specs.Stepping.{phase_at};
 
 use crate::collection::Stage;
-
-/// What a step does.
-#[derive(Clone, Copy)]
-pub enum Phase {
-    /// It scans a container for nodes that are live.
-    Mark,
-    /// It records how much of a container is live.
-    Filter,
-    /// It chooses the sources.
-    Select,
-    /// It takes a source.
-    Copy,
-    /// It gives a source back.
-    Release,
-    /// It ends the collection.
-    End,
-}
+use refusals::Phase;
 
 /// What a step did.
 #[derive(Clone, Copy)]

@@ -1,5 +1,5 @@
 //! A collection begins.
-ghost use Rattle.std.specs.Prelude.{◌≡◌, ◌↔◌, ◌+◌, ◌-◌, ◌*◌, ◌^◌, ◌<◌, ◌≤◌, ℕ, List, [], min, length, Contains, map, IfOk, IfErr, OnOk};
+ghost use Rattle.std.specs.Prelude.{◌≡◌, ◌↔◌, ◌+◌, ◌-◌, ◌*◌, ◌^◌, ◌<◌, ◌≤◌, ℕ, List, [], min, length, Contains, map, IfOk, IfErr, OnOk, OnErr};
 ghost use Rattle.std.specs.FinMap as finite;
 ghost use Rattle.disk_format.specs.declared.numbers.TheConstants.{MOST_LEVEL};
 ghost use Rattle.container_meta.specs.declared.place.Place.{Place as PlaceValue};
@@ -37,17 +37,22 @@ fn root_key(root: &Root) -> Key
     key_of(kind, &root.digest)
 }
 
-// Makes a key live. As long as keys are marked, and not places, it is the same which place is said.
-fn mark_key(live: &mut Live, key: &Key) -> Result<(), AllocError>
-    ensures ok { OnOk result (Marks (λ k. k ≡ key.now) live.old live.new) }
-{
-    let any = Place {
+/// A place. As long as keys are marked, and not places, it is the same which one is said.
+pub(crate) fn any_place() -> Place {
+    Place {
         slot: 0,
         offset: 0,
         length: 1,
         level: 0,
-    };
-    live.mark(key, &any)
+    }
+}
+
+/// Makes a key live. Where memory runs out nothing changes.
+pub(crate) fn mark_key(live: &mut Live, key: &Key) -> Result<(), AllocError>
+    ensures ok { OnOk result (Marks (λ k. k ≡ key.now) live.old live.new) }
+    ensures err { OnErr result (live.new ≡ live.old) }
+{
+    live.mark(key, &any_place())
 }
 
 // Makes the key of a root live, if it has one.

@@ -1,0 +1,52 @@
+-- What an actor needs that takes a file: the tree of the root that it has.
+use Rattle.std.proofs.Common.{◌≡◌, ◌≤◌, ℕ, Bool, false, List, [], ◌∷◌, length, Option, refl, ◌∙◌, ap, arith}
+use Rattle.std.specs.Prelude.{◌==◌, if◌then◌else◌}
+use Rattle.std.specs.List.{AllByRecursion, Contains}
+use Rattle.std.proofs.lemmas.Bool.{ne_eqb}
+use Rattle.std.proofs.lemmas.List.Sums.{sum_by-cons}
+use Rattle.actor_parts.specs.declared.part.Reader.{Reader}
+use Rattle.base_model.specs.Bytes.{key_of}
+use Rattle.container_meta.specs.Spelling.{HeaderValue}
+use Rattle.disk_format.specs.Cells.{Root}
+use Rattle.merkle_file.specs.declared.node.Child.{Child}
+use Rattle.merkle_file.specs.declared.top.Top.{Top}
+use Rattle.merkle_file.specs.Node.{IsChild, node_digest, total}
+use Rattle.merkle_file.specs.Tree as tree
+use Rattle.merkle_file.specs.Tree.{Tree, children_of, of_segment}
+use Rattle.merkle_file.specs.Walk.{IsTree, contents_of, trees_in}
+use Rattle.store_model.specs.Refusals.{root_key}
+use Rattle.store_model.specs.Reserve.{tree_keys}
+use Rattle.store_model.specs.Trees.{HoldsTree}
+use Rattle.store_state.specs.Invariant.{HoldsRest}
+use Rattle.gc_steps.specs.LiveTrees.{IsRootOf}
+use Rattle.gc_steps.specs.Roots.{HasRootKey}
+use Rattle.gc_steps.proofs.Marked.{contains_none}
+
+-- the key that a root has
+abbrev top_key : Top → List ℕ
+top_key top = key_of (if top.level == 0 then 0 else 1) top.digest
+
+-- some bytes lie below the children of a node
+some_total : (level : ℕ) (cs : List Child) → 1 ≤ length cs → AllByRecursion (IsChild level) cs → 1 ≤ total cs
+some_total level [] some all = absurd (omega (arith, some))
+some_total level (c ∷ cs) some all = omega (arith, all.0.some, sum_by-cons (λ (x : Child). x.length) c cs)
+
+-- a tree that has a key isn't empty, and is that of its root's key
+tree_root : (t : Tree (List ℕ)) (root : Root) (key : List ℕ) → AllByRecursion IsTree (trees_in t) → record { length = root.length; level = root.level; digest = root.digest } ≡ tree.root_of of_segment t → Contains (tree_keys t) key
+    → HasRootKey root (root_key root) × IsRootOf (root_key root) t × IsTree t
+tree_root tree.Empty root key right top there = absurd (contains_none key there)
+tree_root (tree.Leaf segment) root key right top there = ((λ none. omega (arith, right.0, ap (λ (x : Top). x.length) top, none), refl), ap top_key top, right.0)
+tree_root (tree.Node level ts) root key right top there =
+    let some = some_total level (children_of of_segment ts) right.0.0.some right.0.0.each in
+    let above : (level == 0) ≡ false = ne_eqb level 0 (λ none. omega (arith, right.0.0.above, none)) in (
+      (λ none. omega (arith, some, ap (λ (x : Top). x.length) top, none), refl),
+      ap top_key top ∙ ap (λ (b : Bool). key_of (if b then 0 else 1) (node_digest (contents_of level ts))) above,
+      right.0,
+    )
+
+-- Where the file that an actor takes has a key, it has a root, and its tree is that of the root's key, keeps the rules, and is held.
+pub reader_needs : (P : List ℕ → Type 0) (held : List (Option HeaderValue)) (image : List ℕ) (reader : Reader) (rest : HoldsRest P held image reader) (key : List ℕ) → Contains (tree_keys rest.whole) key
+    → HasRootKey reader.root (root_key reader.root) × IsRootOf (root_key reader.root) rest.whole × IsTree rest.whole × HoldsTree held image rest.whole
+reader_needs P held image reader rest key there =
+    let root = tree_root rest.whole reader.root key rest.right rest.top_is there in
+    (root.0, root.1, root.2, rest.is_held.tree_is_held)

@@ -1,0 +1,6 @@
+use Rattle.std.proofs.Common.{take}
+use Rattle.gc_steps.specs.Fresh.{Unmarks}
+use Rattle.gc_steps.proofs.fresh.unmark_keys.Given as goal
+
+abbrev pub invariant-loop-key : goal.invariant-loop-key
+invariant-loop-key l = Unmarks (take l.key-index l.keys) l.fn.live l.live

@@ -1,5 +1,5 @@
 -- What a commit or a delete makes of a core.
-use Rattle.std.proofs.Common.{◌≡◌, ◌≤◌, ℕ, List, Option, Some, Ok, sym, ◌∙◌, subst, ap, arith}
+use Rattle.std.proofs.Common.{◌≡◌, ◌≤◌, ℕ, List, Option, Some, Ok, sym, ◌∙◌, subst, ap, arith, None}
 use Rattle.base_model.specs.Known.{Known, KnownWith}
 use Rattle.std.specs.FinMap as finite
 use Rattle.disk_format.specs.Cells.{Change, Root}
@@ -37,8 +37,16 @@ module _ (old new : CoreState) (name : List ℕ) (change : Change) (sequence : �
     keeps_keys = λ before is after after_is key has. subst (λ (m : PlaceMap). HasKey m key) (one_map before after (sym is ∙ sym index ∙ after_is)) has;
     adds_keys = λ before is after after_is. tt;
     keeps_others = λ before is after after_is key none. ap (λ (m : PlaceMap). finite.get m key) (one_map after before (sym after_is ∙ index ∙ is));
+    alone = record {
+      store_has = λ store represents valid reserve. record {
+        can = (named.can store represents.names_are, named.right);
+        represents = named.represents store None valid.follow represents;
+        valid = subst (λ (size : ℕ). IsValidFor size (with_change name change store)) (sym later.size_is) (valid_change old.disk.size name change store valid (named.can store represents.names_are) named.right);
+      };
+    };
     whole = record { store_has = λ store represents valid reserve whole. subst (IndexesAll (with_change name change store)) (sym index) whole };
-    runs = λ runs. subst (λ (size : ℕ). Runs size new.known new.tables) (sym later.size_is) (subst (λ (known : Option PlaceMap). Runs old.disk.size known new.tables) (sym index) (named.runs old.disk.size old.known runs));
+    runs = λ runs. subst (λ (size : ℕ). Runs size None new.tables) (sym later.size_is) (named.runs old.disk.size None runs);
+    runs_indexed = λ runs. subst (λ (size : ℕ). Runs size new.known new.tables) (sym later.size_is) (subst (λ (known : Option PlaceMap). Runs old.disk.size known new.tables) (sym index) (named.runs old.disk.size old.known runs));
   }
 
   -- what is held goes on
@@ -62,6 +70,7 @@ change_effect name change sequence answer old new changed acts moves keeps frame
   frame = frame;
   durable = durable;
   made = makes_change old new name change sequence changed acts.later index;
+  index = index;
   copies = change_copies old new name change sequence changed acts.later index keeps;
   kept = tt;
 }
@@ -70,7 +79,7 @@ pub made_put : (name : List ℕ) (root : Root) (actor sequence : ℕ) (buf : Lis
     → ChangesName old.tables name (Put root) Done old.disk new.disk → KeepsButRecord old.tables.journal old.disk new.disk → ChangesJournalAlone old.tables name (Put root) old.disk new.disk → IsDurable new.disk → new.known ≡ old.known → (old.served → new.served)
     → Made (asked.Commit name root) actor (Ok (answers.Committed sequence)) buf old new
 made_put name root actor sequence buf old new committed acts moves keeps frame durable index served = record {
-  row = (committed.may, committed.named.number, committed.parts_are, ap (λ (t : Tables). t.held.last_id) committed.named.tables_are);
+  row = (committed.may, committed.named.number, committed.parts_are, ap (λ (t : Tables). t.held) committed.named.tables_are);
   effect = change_effect name (Put root) sequence (answers.Committed sequence) old new committed.named acts moves keeps frame durable index;
   served = served;
 }
@@ -79,7 +88,7 @@ pub made_delete : (name : List ℕ) (actor sequence : ℕ) (buf : List ℕ) (old
     → ChangesName old.tables name Delete Done old.disk new.disk → KeepsButRecord old.tables.journal old.disk new.disk → ChangesJournalAlone old.tables name Delete old.disk new.disk → IsDurable new.disk → new.known ≡ old.known → (old.served → new.served)
     → Made (asked.Delete name) actor (Ok (answers.Deleted sequence)) buf old new
 made_delete name actor sequence buf old new deleted parts acts moves keeps frame durable index served = record {
-  row = (deleted.may, deleted.changed.number, parts, ap (λ (t : Tables). t.held.last_id) deleted.changed.tables_are);
+  row = (deleted.may, deleted.changed.number, parts, ap (λ (t : Tables). t.held) deleted.changed.tables_are);
   effect = change_effect name Delete sequence (answers.Deleted sequence) old new deleted.changed acts moves keeps frame durable index;
   served = served;
 }

@@ -1,6 +1,6 @@
 -- What a crash leaves at any moment of a run.
 use Rattle.std.proofs.Common.{◌≡◌, ◌⊎◌, inl, inr, ℕ, List, [], ◌∷◌, Option, Some, None, Result, Ok, Err, refl, sym, ◌∙◌, subst, arith, ap, suc}
-use Rattle.dd_disk.specs.View.{OnlyReads, CrashLeaves}
+use Rattle.dd_disk.specs.View.{OnlyReads, CrashLeaves, SteppedFrom}
 use Rattle.dd_disk.proofs.Later.{reads_here, reads_leave, leaves_on, leaves_weaker}
 use Rattle.container_meta.specs.Segments.{Contents}
 use Rattle.disk_format.specs.Cells.{Change, Root}
@@ -20,11 +20,28 @@ use Rattle.store_model.specs.Files as files
 use Rattle.store_model.proofs.NameChanges.{last_changed}
 use Rattle.store_core.specs.declared.stop.Stop.{Stop}
 use Rattle.store_core.specs.Core.{Effect, SealsOne, NamesOne, StepsOr, StopsAfter, next_id}
-use Rattle.store_core.specs.Runs.{FileEvent, FileStep, FileRun, IsAt, IsOnTheWay, IsGivenRight, IsRootOf, SurvivesCrashes, SurvivesSince, KeepsAcknowledged, stored_with, stored_by, stored_after, stored_tried, stored_tried_by, events_of, EndsWithAll}
+use Rattle.store_core.specs.Runs.{FileEvent, FileStep, FileRun, IsAt, IsOnTheWay, IsGivenRight, IsRootOf, SurvivesCrashes, SurvivesSince, KeepsAcknowledged, stored_with, stored_by, stored_after, stored_tried, stored_tried_by, events_of, EndsWithAll, IsSafeIn}
 use Rattle.store_core.specs.State.{CoreState}
 use Rattle.store_core.proofs.CoreRuns.{stopped_reads, core_run}
-use Rattle.store_core.proofs.KeepingFiles.{file_step, keeps_files, may_seal_all}
+use Rattle.gc_steps.specs.declared.collection.Stage.TheVariants.{Mark, Filter, Select, Copy as CopyStage, Release, End}
+use Rattle.store_core.proofs.AnySteps.{any_step, keeps_files}
+use Rattle.store_core.proofs.KeepingFiles.{may_seal_all}
 use Rattle.store_core.proofs.Stepping.{step_later}
+use Rattle.segment_index.specs.Changes.{Changes, SameBefore}
+use Rattle.gc_steps.specs.declared.collection.Collection.{Collection}
+use Rattle.gc_steps.specs.Releasing.{GivesBack}
+use Rattle.gc_steps.specs.SweepIsSafe.{HasNoEntryIn, ReleasesReady}
+use Rattle.gc_steps.specs.Safety.{IsSafeAt}
+use Rattle.container_meta.specs.Places.{PlaceMap}
+use Rattle.store_state.specs.Tables.{Represents}
+use Rattle.gc_steps.specs.declared.collection.Stage.{Stage}
+use Rattle.gc_steps.specs.Stepping.{Touches}
+use Rattle.store_core.specs.Collecting.{TouchesBy}
+use Rattle.store_state.specs.Refused.{blames}
+use Rattle.dd_disk.specs.Ending.{ending, Ending}
+use Rattle.disk_format.specs.Layout.{slot_at}
+use Rattle.store_model.proofs.FramedTrees.{stands_framed}
+use Rattle.store_model.specs.Freeing.{with_freed}
 
 -- the last number of the store
 pub last_at : (S : List ℕ → Type 0) (s : Store) (stored : Stored) (c : CoreState) → IsAt S s stored c → last_sequence s ≡ stored.last
@@ -111,6 +128,37 @@ module _ (among : ByteSet) (s : Store) (stored : Stored) (old new : CoreState) (
   by_delete name (Err refusals.DiskRead) effect = by_reads (asked.Delete name) (Err refusals.DiskRead) effect.disk.ends
   by_delete name (Err refusal) effect = by_reads (asked.Delete name) (Err refusal) effect.disk.ends
 
+  -- a step of a collection: each image is of the same files
+  of_same : (t : Store) (c : List ℕ) → last_sequence t ≡ last_sequence s → Stands S t stored.files c → IsOf S stored c
+  of_same t c same is = (t, (is, same ∙ last_here))
+
+  by_changes : (answer : Result Answer Refusal) (e : Ending) → Changes (slot_at s.slots) e old.disk new.disk → CrashLeaves (Either S asked.GcStep answer bytes stored) old.disk new.disk
+  by_changes answer e changes =
+      leaves_weaker (SteppedFrom (SameBefore (slot_at s.slots)) old.disk) (Either S asked.GcStep answer bytes stored) old.disk new.disk
+      (λ c from. elim from [
+        | inl was ↦ inl (of_old c was)
+        | inr stepped ↦ inl (of_same s c refl (stands_framed S s stored.files stepped.0 c (at.stands.each stepped.0 stepped.1) stepped.2.before stepped.2.size))
+      ]) changes.leaves
+
+  by_release : (answer : Result Answer Refusal) (e : Ending) (slot : ℕ) → HasNoEntryIn at.index slot → GivesBack old.tables slot e old.disk new.disk → CrashLeaves (Either S asked.GcStep answer bytes stored) old.disk new.disk
+  by_release answer e slot none gives =
+      leaves_weaker (λ c. Stands S s stored.files c ⊎ Stands S (with_freed slot s) stored.files c) (Either S asked.GcStep answer bytes stored) old.disk new.disk
+      (λ c stands. elim stands [ inl is ↦ inl (of_same s c refl is) | inr is ↦ inl (of_same (with_freed slot s) c refl is) ])
+      (gives.moves among s at.index stored.files (subst (λ (known : Option PlaceMap). Represents s known old.tables) at.index_known at.represents) (at.invariant at.stands.known.0 at.stands.known.1).files_are_indexed none at.stands).leaves
+
+  by_stage : (answer : Result Answer Refusal) (c : Collection) (stage : Stage) (e : Ending) → IsSafeAt stage at.index s old.parts at.stands.known.0 c → c.stage ≡ stage → Touches stage old.tables e old.disk new.disk
+      → CrashLeaves (Either S asked.GcStep answer bytes stored) old.disk new.disk
+  by_stage answer c (Mark level slot) e safe is touches = by_reads asked.GcStep answer touches.only
+  by_stage answer c (Filter slot) e safe is touches = by_reads asked.GcStep answer touches.only
+  by_stage answer c Select e safe is touches = by_reads asked.GcStep answer touches.only
+  by_stage answer c (CopyStage source) e safe is touches = by_changes answer e (touches s.slots at.valid.size_is)
+  by_stage answer c (Release next slot) e safe is touches = by_release answer e slot (subst (ReleasesReady at.index s.held c.snapshot) is safe.releases_ready).is_empty touches.1
+  by_stage answer c End e safe is touches = by_reads asked.GcStep answer touches.only
+
+  by_gc : (answer : Result Answer Refusal) (running : Option Collection) → IsSafeIn at.index s old.parts at.stands.known.0 running → TouchesBy running answer old new.disk → CrashLeaves (Either S asked.GcStep answer bytes stored) old.disk new.disk
+  by_gc answer None safe touches = by_reads asked.GcStep answer touches.only
+  by_gc answer (Some c) safe touches = by_stage answer c c.stage (ending blames answer) safe refl touches
+
   by_effect : (step : StepValue) (answer : Result Answer Refusal) → Effect step answer old new → IsStep step → IsGivenRight S step answer bytes old → CrashLeaves (Either S step answer bytes stored) old.disk new.disk
   by_effect asked.Begin answer effect right given = by_reads asked.Begin answer effect.disk.only
   by_effect (asked.Claim seg) answer effect right given = by_reads (asked.Claim seg) answer effect.disk.only
@@ -122,6 +170,8 @@ module _ (among : ByteSet) (s : Store) (stored : Stored) (old new : CoreState) (
   by_effect asked.EndRead answer effect right given = by_reads asked.EndRead answer effect.disk.only
   by_effect (asked.Delete name) answer effect right given = by_delete name answer effect
   by_effect asked.ListNames answer effect right given = by_reads asked.ListNames answer effect.disk.only
+  by_effect (asked.GcStart percent) answer effect right given = by_reads (asked.GcStart percent) answer effect.disk.only
+  by_effect asked.GcStep answer effect right given = by_gc answer old.collection (at.safe at.stands.known.0 at.stands.known.1) effect.touches
   by_effect asked.Stat answer effect right given = by_reads asked.Stat answer effect.disk.only
 
   by_stop : (stop : Option Stop) (f : FileEvent) → f.bytes ≡ bytes → StepsOr stop f.event old new → IsStep f.event.step → IsGivenRight S f.event.step f.event.answer bytes old
@@ -154,7 +204,7 @@ module _ (C : Type 0) (state : C → CoreState) (among : ByteSet) (distinct : Ha
   step_leaves f fs s stored old mid new at step run others None is =
       let first = by_stop among s stored (state old) (state mid) f.bytes distinct at (state old).stop f refl step.made step.asked step.given in
       let later = step_later (state old) (state mid) f.event (state old).stop step.made in
-      let next = file_step among distinct f s stored (state old) (state mid) step at is in
+      let next = (any_step among distinct f s stored (state old) (state mid) step at is).next in
       leaves_on (Either In f.event.step f.event.answer f.bytes stored) (IsOnTheWay In fs (stored_by f stored)) (IsOnTheWay In (f ∷ fs) stored) (state old).disk (state mid).disk (state new).disk later.clock_is
       first (others next.store next.is_at) (first_one f fs stored) (λ c is. inr (inr is))
   step_leaves f fs s stored old mid new at step run others (Some stop) is =
@@ -200,6 +250,8 @@ put_none asked.ReadNext at bytes stored = refl
 put_none asked.EndRead at bytes stored = refl
 put_none (asked.Delete name) at bytes stored = refl
 put_none asked.ListNames at bytes stored = refl
+put_none (asked.GcStart percent) at bytes stored = refl
+put_none asked.GcStep at bytes stored = refl
 put_none asked.Stat at bytes stored = refl
 
 tried_none : (step : StepValue) (at : ℕ) (bytes : List ℕ) (stored : Stored) → stored_tried step (Err (refusals.Stopped at)) bytes stored ≡ stored
@@ -213,6 +265,8 @@ tried_none asked.ReadNext at bytes stored = refl
 tried_none asked.EndRead at bytes stored = refl
 tried_none (asked.Delete name) at bytes stored = refl
 tried_none asked.ListNames at bytes stored = refl
+tried_none (asked.GcStart percent) at bytes stored = refl
+tried_none asked.GcStep at bytes stored = refl
 tried_none asked.Stat at bytes stored = refl
 
 -- where a step didn't stop the core, what it tried is what it did
@@ -232,6 +286,8 @@ put_refused asked.ReadNext refusal bytes stored = refl
 put_refused asked.EndRead refusal bytes stored = refl
 put_refused (asked.Delete name) refusal bytes stored = refl
 put_refused asked.ListNames refusal bytes stored = refl
+put_refused (asked.GcStart percent) refusal bytes stored = refl
+put_refused asked.GcStep refusal bytes stored = refl
 put_refused asked.Stat refusal bytes stored = refl
 
 -- what stopped the core put no file
@@ -272,7 +328,7 @@ module _ (C : Type 0) (state : C → CoreState) (among : ByteSet) (distinct : Ha
       → (image : List ℕ) → (state new).disk.images image → ((t : Store) → IsAt (IsIn among) t (stored_by f stored) (state mid) → Ends fs (stored_by f stored) image)
       → (stop : Option Stop) → (state mid).stop ≡ stop → Ends (f ∷ fs) stored image
   ends_by f fs s stored old mid new at step run image there others None is =
-      let next = file_step among distinct f s stored (state old) (state mid) step at is in
+      let next = (any_step among distinct f s stored (state old) (state mid) step at is).next in
       let same = by_old_tried (state old).stop f (state old) (state mid) stored step.made is in
       elim (others next.store next.is_at) [
         | inl done ↦ inl done

@@ -40,11 +40,20 @@ use Rattle.read_steps.specs.Readers.{IsStuck}
 use Rattle.read_steps.specs.Walking.{IsHeldAnswer}
 use Rattle.store_core.specs.declared.stop.Stop.{Stop}
 use Rattle.store_core.specs.Core.{Row, ClaimRow, SealRow, CommitRow, OpenRow, ReadRow, EndRow, DeleteRow, ListRow, IsAtOther, IsNotGiven, StepsOr}
-use Rattle.store_core.specs.Runs.{FileEvent, FileStep, FileRun, IsAt, IsGivenRight, stored_after}
+use Rattle.store_core.specs.Runs.{FileEvent, FileStep, FileRun, IsAt, IsGivenRight, stored_after, IsSafeIn}
 use Rattle.store_core.specs.Sound.{HasTwin, IsTwin, MayClash, IsHarmless, NeverDamaged, FindsFile, FindsFiles}
-use Rattle.store_core.specs.State.{CoreState}
-use Rattle.store_core.proofs.KeepingFiles.{keeps_files}
+use Rattle.store_core.specs.State.{CoreState, IsUnderWayIn}
+use Rattle.store_core.proofs.AnySteps.{keeps_files}
 use Rattle.store_core.proofs.OwnParts.{stuck_held}
+use Rattle.gc_steps.specs.declared.collection.Collection.{Collection}
+use Rattle.gc_steps.specs.declared.collection.Stage.TheVariants.{Copy as CopyStage, End, Filter, Mark, Release, Select}
+use Rattle.store_core.specs.Collecting.{GcRow, IsNotMade, StartRow}
+use Rattle.gc_steps.proofs.NoDamage.{IsClean, no_damage, IsMarked}
+use Rattle.gc_steps.specs.Safety.{IsSafeAt}
+use Rattle.container_meta.specs.Places.{PlaceMap}
+use Rattle.store_state.specs.Tables.{Represents}
+use Rattle.gc_steps.specs.declared.collection.Stage.{Stage}
+use Rattle.gc_steps.specs.Stepping.{moment, IsStepRefusal}
 
 some_one : {A : Type 0} (x y : A) → Some x ≡ Some y → x ≡ y
 some_one x y same = cc
@@ -244,6 +253,34 @@ module _ (among : ByteSet) (s : Store) (stored : Stored) (old new : CoreState) (
     read_harmless (refusals.Damaged at_byte why) row = absurd (stuck (refusals.Damaged at_byte why) row row.cause).1.1.1
     read_harmless refusal row = tt
 
+    start_harmless : (percent : ℕ) (refusal : Refusal) → StartRow percent (Err refusal) old new → IsHarmless ⊥ refusal
+    start_harmless percent (refusals.Collecting phase) row = tt
+    start_harmless percent refusals.Memory row = tt
+    start_harmless percent refusal row = absurd row
+
+    -- while it marks, the marks are closed
+    marked_at : (c : Collection) (stage : Stage) → IsSafeAt stage at.index s old.parts image c → IsMarked at.index s old.parts image c stage
+    marked_at c (Mark level slot) safe = safe
+    marked_at c (Filter slot) safe = tt
+    marked_at c Select safe = tt
+    marked_at c (CopyStage source) safe = tt
+    marked_at c (Release next slot) safe = tt
+    marked_at c End safe = tt
+
+    gc_clean : (refusal : Refusal) → IsNotMade refusal old new → IsClean refusal
+    gc_clean refusal row =
+        let c = row.before in
+        no_damage at.index s stored.files old.parts image old.tables old.disk new.disk c refusal stands_here.holds (subst (λ (known : Option PlaceMap). Represents s known old.tables) at.index_known at.represents) here
+        (subst (IsUnderWayIn old.tables.held) row.ran at.under_way) (marked_at c c.stage (subst (IsSafeIn at.index s old.parts image) row.ran (at.safe image here)))
+        (subst (λ (k : Option PlaceMap). IsStepRefusal c.stage (moment old.tables k old.disk c) new.disk refusal) at.index_known row.cause)
+
+    gc_harmless : (refusal : Refusal) → GcRow (Err refusal) old new → IsHarmless ⊥ refusal
+    gc_harmless (refusals.Clash key d) row = gc_clean (refusals.Clash key d) row.0
+    gc_harmless (refusals.Corrupt slot offset count want got) row = gc_clean (refusals.Corrupt slot offset count want got) row.0
+    gc_harmless (refusals.Missing key) row = gc_clean (refusals.Missing key) row.0
+    gc_harmless (refusals.Damaged at_byte why) row = gc_clean (refusals.Damaged at_byte why) row.0
+    gc_harmless refusal row = tt
+
     step_harmless : (step : StepValue) (refusal : Refusal) → IsGivenRight (IsIn among) step (Err refusal) bytes old → Row step actor (Err refusal) buf old new → IsHarmless (MayClash step) refusal
     step_harmless asked.Begin refusal given row = other_harmless part.Idle refusal row
     step_harmless (asked.Claim seg) refusal given row = claim_harmless seg refusal given row
@@ -255,6 +292,8 @@ module _ (among : ByteSet) (s : Store) (stored : Stored) (old new : CoreState) (
     step_harmless asked.EndRead refusal given row = end_harmless refusal row
     step_harmless (asked.Delete name) refusal given row = delete_harmless name refusal row
     step_harmless asked.ListNames refusal given row = list_harmless refusal row
+    step_harmless (asked.GcStart percent) refusal given row = start_harmless percent refusal row
+    step_harmless asked.GcStep refusal given row = gc_harmless refusal row
     step_harmless asked.Stat refusal given row = absurd row
 
     pub answer_harmless : (step : StepValue) (answer : Result Answer Refusal) → IsGivenRight (IsIn among) step answer bytes old → Row step actor answer buf old new

@@ -31,7 +31,7 @@ use Rattle.store_model.specs.Files.{Stored}
 use Rattle.store_model.specs.Image.{Store, IsValidFor}
 use Rattle.store_model.specs.Slots.{free_slots, first_free, with_slot}
 use Rattle.store_model.specs.Standing.{HasJournal}
-use Rattle.store_model.specs.Steps.{HasCellsFor, StoreChange, SealContainer, ChangeName, appended, changed, record_of, with_change}
+use Rattle.store_model.specs.Steps.{HasCellsFor, StoreChange, SealContainer, ChangeName, appended, changed, record_of, with_change, FreeContainer}
 use Rattle.store_model.specs.Steps.{has_cell as store_has_cell}
 use Rattle.store_model.proofs.Cells.{cell_here, cell_anew, with_cell_is}
 use Rattle.store_model.proofs.Filled.{free_less}
@@ -49,7 +49,7 @@ use Rattle.ingest_steps.proofs.RecordFrames.{record_alone}
 use Rattle.store_core.specs.declared.stop.Stop.{Stop}
 use Rattle.store_core.specs.Core.{CoreStep, Steps, StepsOr, StopsAfter, Row, Effect, Rests, SealsOne, NamesOne, KeepsTables}
 use Rattle.store_core.specs.Frame.{IsOn, HadContainer, KeepsJournal, KeepsBytes, AddsBytes, KeepsWritten, AddsAlone, WrittenStays, commands_in, commands_of}
-use Rattle.store_core.specs.Runs.{ChangesTo, CoreRun, FileEvent, IsAt, changes_by, changes_of, events_of}
+use Rattle.store_core.specs.Runs.{ChangesTo, CoreRun, FileEvent, IsAt, changes_by, changes_of, events_of, AreNoGcSteps, IsNoGcStep}
 use Rattle.store_core.specs.State.{CoreState, Event}
 use Rattle.store_core.proofs.CoreRuns.{was_running, running_step, runs_before, run_later, stopped_reads}
 use Rattle.store_core.proofs.KeepingFiles.{only_reads, chain_on}
@@ -179,6 +179,7 @@ abbrev names_in : List StoreChange → ℕ
 names_in [] = 0
 names_in (SealContainer id kind segments ∷ rest) = names_in rest
 names_in (ChangeName name change ∷ rest) = suc (names_in rest)
+names_in (FreeContainer slot ∷ rest) = names_in rest
 
 few_names : (step : StepValue) (answer : Result Answer Refusal) → names_in (changes_by step answer) ≤ commands_of step
 few_names (asked.Seal filled) (Ok (answers.Sealed id)) = omega arith
@@ -360,22 +361,24 @@ module _ (s : Store) (base : List ℕ) (t : Store) (old new : CoreState) (framed
           | inr step ↦ record_written some_left step.0 c (image_written step.0 step.1) step.2.same
         ]) (effect.frame.leaves given known)
 
-    by_effect : (step : StepValue) (answer : Result Answer Refusal) → commands_of step ≤ left → Effect step answer old new → CrashLeaves Written old.disk new.disk
-    by_effect asked.Begin answer few effect = by_reads effect.disk.only
-    by_effect (asked.Claim seg) answer few effect = by_reads effect.disk.only
-    by_effect (asked.Seal filled) answer few effect = by_seal filled answer effect
-    by_effect (asked.Commit name root) answer few effect = by_name name (Put root) answer few effect
-    by_effect asked.Abort answer few effect = by_reads effect.disk.only
-    by_effect (asked.OpenRead name) answer few effect = by_reads effect.disk.only
-    by_effect asked.ReadNext answer few effect = by_reads effect.disk.only
-    by_effect asked.EndRead answer few effect = by_reads effect.disk.only
-    by_effect (asked.Delete name) answer few effect = by_name name Delete answer few effect
-    by_effect asked.ListNames answer few effect = by_reads effect.disk.only
-    by_effect asked.Stat answer few effect = by_reads effect.disk.only
+    by_effect : (step : StepValue) (answer : Result Answer Refusal) → IsNoGcStep step → commands_of step ≤ left → Effect step answer old new → CrashLeaves Written old.disk new.disk
+    by_effect asked.Begin answer other few effect = by_reads effect.disk.only
+    by_effect (asked.Claim seg) answer other few effect = by_reads effect.disk.only
+    by_effect (asked.Seal filled) answer other few effect = by_seal filled answer effect
+    by_effect (asked.Commit name root) answer other few effect = by_name name (Put root) answer few effect
+    by_effect asked.Abort answer other few effect = by_reads effect.disk.only
+    by_effect (asked.OpenRead name) answer other few effect = by_reads effect.disk.only
+    by_effect asked.ReadNext answer other few effect = by_reads effect.disk.only
+    by_effect asked.EndRead answer other few effect = by_reads effect.disk.only
+    by_effect (asked.Delete name) answer other few effect = by_name name Delete answer few effect
+    by_effect asked.ListNames answer other few effect = by_reads effect.disk.only
+    by_effect (asked.GcStart percent) answer other few effect = by_reads effect.disk.only
+    by_effect asked.GcStep answer other few effect = absurd other
+    by_effect asked.Stat answer other few effect = by_reads effect.disk.only
 
-    step_leaves : (e : Event) (stop : Option Stop) → commands_of e.step ≤ left → StepsOr stop e old new → CrashLeaves Written old.disk new.disk
-    step_leaves e None few steps = by_effect e.step e.answer few steps.made.effect
-    step_leaves e (Some stop) few steps = by_reads steps.same.disk.only
+    step_leaves : (e : Event) (stop : Option Stop) → IsNoGcStep e.step → commands_of e.step ≤ left → StepsOr stop e old new → CrashLeaves Written old.disk new.disk
+    step_leaves e None other few steps = by_effect e.step e.answer other few steps.made.effect
+    step_leaves e (Some stop) other few steps = by_reads steps.same.disk.only
 
   -- ---- at the end of a step that doesn't stop the core
 
@@ -527,33 +530,35 @@ module _ (s : Store) (base : List ℕ) (t : Store) (old new : CoreState) (framed
             fits = λ count more fits. fits_changed name change t s count more (fits_fewer s count t (names_in (ChangeName name change ∷ []) + more) (suc more) (omega arith) fits);
           }
 
-    leads : (actor : ℕ) (buf : List ℕ) (step : StepValue) (answer : Result Answer Refusal) → Row step actor answer buf old new → Effect step answer old new → StopsAfter step answer old.acknowledged new.stop
+    leads : (actor : ℕ) (buf : List ℕ) (step : StepValue) (answer : Result Answer Refusal) → IsNoGcStep step → Row step actor answer buf old new → Effect step answer old new → StopsAfter step answer old.acknowledged new.stop
         → IsSettled old.tables.slots new.disk → Leads s base (changes_by step answer) t new
-    leads actor buf asked.Begin answer row effect stops calm = rests answer effect calm
-    leads actor buf (asked.Claim seg) answer row effect stops calm = rests answer effect calm
-    leads actor buf (asked.Seal filled) (Ok (answers.Sealed id)) row effect stops calm = seals id filled (answers.Sealed id) effect row.id_is calm
-    leads actor buf (asked.Seal filled) (Ok answer) row effect stops calm = absurd row
-    leads actor buf (asked.Seal filled) (Err refusal) row effect stops calm =
+    leads actor buf asked.Begin answer other row effect stops calm = rests answer effect calm
+    leads actor buf (asked.Claim seg) answer other row effect stops calm = rests answer effect calm
+    leads actor buf (asked.Seal filled) (Ok (answers.Sealed id)) other row effect stops calm = seals id filled (answers.Sealed id) effect row.id_is calm
+    leads actor buf (asked.Seal filled) (Ok answer) other row effect stops calm = absurd row
+    leads actor buf (asked.Seal filled) (Err refusal) other row effect stops calm =
         still (seal_kept old new stays filled refusal old.acknowledged stops effect.kept) effect.disk.later (unsealed_counts filled refusal stops effect.disk.later effect.disk.left) calm
-    leads actor buf (asked.Commit name root) (Ok (answers.Committed sequence)) row effect stops calm = names name (Put root) (answers.Committed sequence) effect calm
-    leads actor buf (asked.Commit name root) (Ok answer) row effect stops calm = absurd row
-    leads actor buf (asked.Commit name root) (Err refusal) row effect stops calm =
+    leads actor buf (asked.Commit name root) (Ok (answers.Committed sequence)) other row effect stops calm = names name (Put root) (answers.Committed sequence) effect calm
+    leads actor buf (asked.Commit name root) (Ok answer) other row effect stops calm = absurd row
+    leads actor buf (asked.Commit name root) (Err refusal) other row effect stops calm =
         still effect.kept effect.disk.later (reads_count (only_reads old new stays (asked.Commit name root) refusal stops effect.disk.ends)) calm
-    leads actor buf asked.Abort answer row effect stops calm = rests answer effect calm
-    leads actor buf (asked.OpenRead name) answer row effect stops calm = rests answer effect calm
-    leads actor buf asked.ReadNext answer row effect stops calm = rests answer effect calm
-    leads actor buf asked.EndRead answer row effect stops calm = rests answer effect calm
-    leads actor buf (asked.Delete name) (Ok (answers.Deleted sequence)) row effect stops calm = names name Delete (answers.Deleted sequence) effect calm
-    leads actor buf (asked.Delete name) (Ok answer) row effect stops calm = absurd row
-    leads actor buf (asked.Delete name) (Err refusal) row effect stops calm =
+    leads actor buf asked.Abort answer other row effect stops calm = rests answer effect calm
+    leads actor buf (asked.OpenRead name) answer other row effect stops calm = rests answer effect calm
+    leads actor buf asked.ReadNext answer other row effect stops calm = rests answer effect calm
+    leads actor buf asked.EndRead answer other row effect stops calm = rests answer effect calm
+    leads actor buf (asked.Delete name) (Ok (answers.Deleted sequence)) other row effect stops calm = names name Delete (answers.Deleted sequence) effect calm
+    leads actor buf (asked.Delete name) (Ok answer) other row effect stops calm = absurd row
+    leads actor buf (asked.Delete name) (Err refusal) other row effect stops calm =
         still effect.kept effect.disk.later (reads_count (only_reads old new stays (asked.Delete name) refusal stops effect.disk.ends)) calm
-    leads actor buf asked.ListNames answer row effect stops calm = rests answer effect calm
-    leads actor buf asked.Stat answer row effect stops calm = rests answer effect calm
+    leads actor buf asked.ListNames answer other row effect stops calm = rests answer effect calm
+    leads actor buf (asked.GcStart percent) answer other row effect stops calm = rests answer effect calm
+    leads actor buf asked.GcStep answer other row effect stops calm = absurd other
+    leads actor buf asked.Stat answer other row effect stops calm = rests answer effect calm
 
-    step_leads : (e : Event) → Steps e old new → Leads s base (changes_by e.step e.answer) t new
-    step_leads e steps =
-        leads e.actor e.buf e.step e.answer steps.made.row steps.made.effect steps.stops
-        (effect_settled old new stays given known framed.on.settled e.step e.answer steps.stops steps.made.effect)
+    step_leads : (e : Event) → IsNoGcStep e.step → Steps e old new → Leads s base (changes_by e.step e.answer) t new
+    step_leads e other steps =
+        leads e.actor e.buf e.step e.answer other steps.made.row steps.made.effect steps.stops
+        (effect_settled old new stays given known framed.on.settled e.step e.answer other steps.stops steps.made.effect)
 
 -- ---- a run
 
@@ -565,15 +570,15 @@ record LeadsOn (s : Store) (base : List ℕ) (changes : List StoreChange) (t : S
 
 module _ (C : Type 0) (state : C → CoreState) where
   module _ (s : Store) (base : List ℕ) where
-    run_leads : (steps : List FileEvent) (t : Store) (old new : C) → IsFramed s base t (state old) → CoreRun C state (events_of steps) old new → (state new).stop ≡ None → LeadsOn s base (changes_of steps) t (state new)
-    run_leads [] t old new framed run stays = record { after = t; chain = refl; framed = subst (λ (c : C). IsFramed s base t (state c)) (sym run) framed }
-    run_leads (f ∷ fs) t old new framed run stays =
+    run_leads : (steps : List FileEvent) (t : Store) (old new : C) → IsFramed s base t (state old) → CoreRun C state (events_of steps) old new → AreNoGcSteps (events_of steps) → (state new).stop ≡ None → LeadsOn s base (changes_of steps) t (state new)
+    run_leads [] t old new framed run others stays = record { after = t; chain = refl; framed = subst (λ (c : C). IsFramed s base t (state c)) (sym run) framed }
+    run_leads (f ∷ fs) t old new framed run others stays =
         let e : Event = f.event in
         let mid = run.0 in
         let going = runs_before C state (events_of fs) mid new run.1.1 stays in
         let was = was_running (state old).stop e (state old) (state mid) refl run.1.0 going in
-        let next = step_leads s base t (state old) (state mid) framed going e (running_step (state old) (state mid) e was run.1.0) in
-        let rest = run_leads fs next.after mid new next.framed run.1.1 stays in
+        let next = step_leads s base t (state old) (state mid) framed going e others.0 (running_step (state old) (state mid) e was run.1.0) in
+        let rest = run_leads fs next.after mid new next.framed run.1.1 others.1 stays in
         record { after = rest.after; chain = chain_on (changes_by e.step e.answer) (changes_of fs) t next.after rest.after next.chain rest.chain; framed = rest.framed }
 
     module _ (count : ℕ) where
@@ -581,25 +586,25 @@ module _ (C : Type 0) (state : C → CoreState) where
       LeavesWritten old new = CrashLeaves (KeepsWritten s count base) (state old).disk (state new).disk
 
       -- a step, and what follows where it didn't stop the core
-      after_step : (e : Event) (es : List Event) (t : Store) (old mid new : C) → IsFramed s base t (state old) → Fits s count t (commands_of e.step + commands_in es) → CoreStep (state old) e (state mid) → CoreRun C state es mid new
+      after_step : (e : Event) (es : List Event) (t : Store) (old mid new : C) → IsNoGcStep e.step → IsFramed s base t (state old) → Fits s count t (commands_of e.step + commands_in es) → CoreStep (state old) e (state mid) → CoreRun C state es mid new
           → ((u : Store) → IsFramed s base u (state mid) → Fits s count u (commands_in es) → LeavesWritten mid new) → (stop : Option Stop) → (state mid).stop ≡ stop → LeavesWritten old new
-      after_step e es t old mid new framed fits step run others None is =
+      after_step e es t old mid new other framed fits step run others None is =
           let was = was_running (state old).stop e (state old) (state mid) refl step is in
-          let next = step_leads s base t (state old) (state mid) framed is e (running_step (state old) (state mid) e was step) in
+          let next = step_leads s base t (state old) (state mid) framed is e other (running_step (state old) (state mid) e was step) in
           let rest = next.fits count (commands_in es) (fits_fewer s count t (commands_of e.step + commands_in es) (names_in (changes_by e.step e.answer) + commands_in es) (omega (arith, few_names e.step e.answer)) fits) in
           leaves_on (KeepsWritten s count base) (KeepsWritten s count base) (KeepsWritten s count base) (state old).disk (state mid).disk (state new).disk (step_later (state old) (state mid) e (state old).stop step).clock_is
-          (step_leaves s base t (state old) (state mid) framed count (commands_of e.step + commands_in es) fits e (state old).stop (omega arith) step) (others next.after next.framed rest) (λ c keeps. keeps) (λ c keeps. keeps)
-      after_step e es t old mid new framed fits step run others (Some stop) is =
-          let first = step_leaves s base t (state old) (state mid) framed count (commands_of e.step + commands_in es) fits e (state old).stop (omega arith) step in
+          (step_leaves s base t (state old) (state mid) framed count (commands_of e.step + commands_in es) fits e (state old).stop other (omega arith) step) (others next.after next.framed rest) (λ c keeps. keeps) (λ c keeps. keeps)
+      after_step e es t old mid new other framed fits step run others (Some stop) is =
+          let first = step_leaves s base t (state old) (state mid) framed count (commands_of e.step + commands_in es) fits e (state old).stop other (omega arith) step in
           leaves_on (KeepsWritten s count base) (KeepsWritten s count base) (KeepsWritten s count base) (state old).disk (state mid).disk (state new).disk (step_later (state old) (state mid) e (state old).stop step).clock_is
           first (reads_leave (KeepsWritten s count base) (state mid).disk (state new).disk first.now (stopped_reads C state stop es mid new is run)) (λ c keeps. keeps) (λ c keeps. keeps)
 
-      run_leaves : (events : List Event) (t : Store) (old new : C) → IsFramed s base t (state old) → Fits s count t (commands_in events) → CoreRun C state events old new → LeavesWritten old new
-      run_leaves [] t old new framed fits run =
+      run_leaves : (events : List Event) (t : Store) (old new : C) → AreNoGcSteps events → IsFramed s base t (state old) → Fits s count t (commands_in events) → CoreRun C state events old new → LeavesWritten old new
+      run_leaves [] t old new others framed fits run =
           reads_leave (KeepsWritten s count base) (state old).disk (state new).disk (image_written s base t (state old) (state old) framed count 0 fits)
           (subst (λ (c : C). OnlyReads (state old).disk (state c).disk) (sym run) (reads_here (state old).disk))
-      run_leaves (e ∷ es) t old new framed fits run =
-          after_step e es t old run.0 new framed fits run.1.0 run.1.1 (λ u there rest. run_leaves es u run.0 new there rest run.1.1) (state run.0).stop refl
+      run_leaves (e ∷ es) t old new others framed fits run =
+          after_step e es t old run.0 new others.0 framed fits run.1.0 run.1.1 (λ u there rest. run_leaves es u run.0 new others.1 there rest run.1.1) (state run.0).stop refl
 
 -- where it begins
 begins : (s : Store) (base : List ℕ) (c : CoreState) → IsOn s c → c.disk.content ≡ Some base → IsFramed s base s c
@@ -624,12 +629,12 @@ at_on S s stored c at calm = record {
 
 module _ (C : Type 0) (state : C → CoreState) where
   pub adds_alone : AddsAlone C state
-  adds_alone steps s base old new on told run stays =
-      let end = run_leads C state s base steps s old new (begins s base (state old) on told) run stays in
+  adds_alone steps s base old new on told run others stays =
+      let end = run_leads C state s base steps s old new (begins s base (state old) on told) run others stays in
       record { store = end.after; chain = end.chain; on = end.framed.on; held = end.framed.held; content = end.framed.content; journal = end.framed.journal }
 
   pub written_stays : WrittenStays C state
-  written_stays events s base old new on told run =
-      let leaves = run_leaves C state s base (commands_in events) events s old new (begins s base (state old) on told) (λ has. (refl, has)) run in
+  written_stays events s base old new on told run others =
+      let leaves = run_leaves C state s base (commands_in events) events s old new others (begins s base (state old) on told) (λ has. (refl, has)) run in
       let now = (run_later C state events old new run).tells base told in
       ((now.0, now.1, leaves.now now.0 ((state new).disk.as_read now.0 now.1)), leaves)

@@ -1,5 +1,8 @@
 -- A file that was opened is given as it was then, whatever steps others make.
-use Rattle.std.proofs.Common.{◌≡◌, ◌≢◌, ◌<◌, ◌==◌, ℕ, Bool, true, false, List, [], ◌∷◌, length, Option, Some, None, Result, Ok, Err, refl, sym, ◌∙◌, ap, subst}
+use Rattle.store_model.proofs.SameFiles.{FitsFile, files_fit}
+use Rattle.disk_format.specs.declared.numbers.TheConstants.{MOST_FILE}
+use Rattle.merkle_file.specs.Tree as tree
+use Rattle.std.proofs.Common.{◌≤◌, ◌≡◌, ◌≢◌, ◌<◌, ◌==◌, ℕ, Bool, true, false, List, [], ◌∷◌, length, Option, Some, None, Result, Ok, Err, refl, sym, ◌∙◌, ap, subst, arith, ◌⊎◌, inl, inr}
 use Rattle.std.specs.FinMap as finite
 use Rattle.std.proofs.lemmas.Bool.{eqb-true, eqb-false}
 use Rattle.disk_format.specs.Cells.{Root}
@@ -20,19 +23,33 @@ use Rattle.store_model.specs.Files.{Stored}
 use Rattle.store_model.specs.Image.{Store}
 use Rattle.store_model.specs.Reserve.{key_set, tree_keys}
 use Rattle.store_model.specs.Slots.{HasKey}
-use Rattle.store_model.specs.Steps.{StoreChange, KeepsCopies}
-use Rattle.store_model.specs.Trees.{file_tree}
-use Rattle.store_model.proofs.Counted.{contained}
+use Rattle.store_model.specs.Steps.{KeepsCopies}
+use Rattle.store_model.specs.Trees.{file_tree, HoldsTree, root_of}
+use Rattle.store_model.proofs.Counted.{contained, in_set, tree_on}
 use Rattle.read_steps.specs.Readers.{reading}
 use Rattle.read_steps.specs.Walking.{IsIndexed, SegmentsAhead}
 use Rattle.read_steps.proofs.Openings.{segments_on}
 use Rattle.store_core.specs.declared.stop.Stop.{Stop}
 use Rattle.store_core.specs.Core.{ReadRow, Row, Steps, StepsOr}
-use Rattle.store_core.specs.Runs.{FileEvent, FileStep, FileRun, IsAt, ReadsAlone, IsReadNext, GivesOne, GivesInOrder, GivesTheFile, changes_by, events_of, stored_by, opens}
+use Rattle.store_core.specs.Runs.{FileEvent, FileStep, FileRun, IsAt, ReadsAlone, IsReadNext, GivesOne, GivesInOrder, GivesTheFile, events_of, stored_by, opens, IsNoGcStep}
 use Rattle.store_core.specs.State.{CoreState, Event}
-use Rattle.store_core.proofs.KeepingFiles.{Next, file_step, run_running}
+use Rattle.store_core.proofs.KeepingFiles.{file_step, run_running}
 use Rattle.store_core.proofs.OwnParts.{same_reader}
 use Rattle.store_core.proofs.Stepping.{ChangesOne, row_one}
+use Rattle.actor_parts.specs.declared.actor.TheConstants.{ACTORS}
+use Rattle.std.specs.List.{AllByRecursion, Contains}
+use Rattle.store_state.specs.Invariant.{HoldsRest}
+use Rattle.gc_steps.specs.Safety.{IsNeeded}
+use Rattle.gc_steps.specs.Roots.{IsPartKey}
+use Rattle.store_core.proofs.Leading.{IsSpared, Leads}
+use Rattle.merkle_file.specs.Walk.{IsTree, trees_in}
+use Rattle.actor_parts.specs.declared.part.Reader.{Reader}
+use Rattle.store_core.proofs.AnySteps.{any_step, gc_or_not, spared_other}
+use Rattle.merkle_file.specs.Tree.{of_segment, Tree}
+use Rattle.gc_steps.proofs.ReaderNeeds.{reader_needs}
+use Rattle.store_model.specs.Refusals.{root_key}
+use Rattle.store_model.proofs.Unfolding.{root_of_tree}
+use Rattle.read_steps.specs.Opening.{top_of}
 
 -- the actor takes a file of which these segments, which the store holds, are to come
 pub record IsReader (actor : ℕ) (store : Store) (segments : List (List ℕ)) (c : CoreState) : Type 0 where
@@ -40,10 +57,13 @@ pub record IsReader (actor : ℕ) (store : Store) (segments : List (List ℕ)) (
   pub ahead : List Top
   pub below : actor < length c.parts
   pub part_is : part_of c.parts actor ≡ reading root ahead
-  -- the index has the keys of the file
-  pub counts : ByteSet
-  pub has : (index : PlaceMap) → c.known ≡ Some index → (key : List ℕ) → IsIn counts key → HasKey index key
-  pub ahead_is : (image : List ℕ) → c.disk.content ≡ Some image → SegmentsAhead counts store.held image ahead segments
+  -- the tree of the file, of which the index has the keys
+  pub whole : Tree (List ℕ)
+  pub right : AllByRecursion IsTree (trees_in whole)
+  pub top_is : top_of root ≡ tree.root_of of_segment whole
+  pub is_held : (image : List ℕ) → c.disk.content ≡ Some image → HoldsTree store.held image whole
+  pub has : (index : PlaceMap) → c.known ≡ Some index → (key : List ℕ) → Contains (tree_keys whole) key → HasKey index key
+  pub ahead_is : (image : List ℕ) → c.disk.content ≡ Some image → SegmentsAhead (key_set (tree_keys whole)) store.held image ahead segments
 
 -- another actor's step leaves its part
 pub other_part : (actor own : ℕ) (old new : List Part) → ChangesOne own old new → actor ≢ own → part_of new actor ≡ part_of old actor
@@ -61,38 +81,97 @@ gives_map true (Ok answers.End) buf segments P Q next gives = (gives.0, next seg
 gives_map true (Err refusals.DiskRead) buf segments P Q next gives = next segments gives
 gives_map true answer buf segments P Q next gives = absurd gives
 
-module _ (among : ByteSet) (s : Store) (changes : List StoreChange) (stored later : Stored) (old new : CoreState) (actor : ℕ) (segments : List (List ℕ)) (at : IsAt (IsIn among) s stored old) (next : Next (IsIn among) s changes later old new) (reader : IsReader actor s segments old) where
+-- a key of the file's tree is needed while the file is taken
+needed_key : (actor : ℕ) (s : Store) (segments : List (List ℕ)) (c : CoreState) (image : List ℕ) → c.disk.content ≡ Some image → length c.parts ≡ ACTORS → (reader : IsReader actor s segments c) → (key : List ℕ) → Contains (tree_keys reader.whole) key
+    → IsNeeded s c.parts image key
+needed_key actor s segments c image told many reader key there =
+    let own : Reader = record { root = reader.root; cursor = reader.ahead } in
+    let rest : HoldsRest (λ k. Unit {0}) s.held image own = record {
+      whole = reader.whole;
+      right = reader.right;
+      top_is = reader.top_is;
+      is_held = record { tree_is_held = reader.is_held image told; count = λ k has. tt };
+      trees = (reader.ahead_is image told).trees;
+      ahead = (reader.ahead_is image told).held_ahead.trees;
+      are_held = (reader.ahead_is image told).held_ahead.each;
+    } in
+    let needs = reader_needs (λ k. Unit {0}) s.held image own rest key there in
+    record {
+      root = root_key reader.root;
+      is_root = inr (actor, (omega (arith, reader.below, many), subst (λ (part : Part). IsPartKey part (root_key reader.root)) (sym reader.part_is) needs.0));
+      tree = reader.whole;
+      right = needs.2;
+      is_held = needs.3;
+      root_is = needs.1;
+      within = there;
+    }
+
+-- what a step spares is spared of the file
+spared_key : (step : StepValue) (actor : ℕ) (s : Store) (segments : List (List ℕ)) (c : CoreState) (image : List ℕ) → c.disk.content ≡ Some image → length c.parts ≡ ACTORS → (reader : IsReader actor s segments c)
+    → (key : List ℕ) → Contains (tree_keys reader.whole) key → IsSpared step s c.parts image key
+spared_key step actor s segments c image told many reader key there = by_step (gc_or_not step)
+  where
+    by_step : (step ≡ asked.GcStep) ⊎ IsNoGcStep step → IsSpared step s c.parts image key
+    by_step (inl gc) = subst (λ (st : StepValue). IsSpared st s c.parts image key) (sym gc) (needed_key actor s segments c image told many reader key there)
+    by_step (inr other) = spared_other step s c.parts image key other
+
+module _ (among : ByteSet) (s : Store) (f : FileEvent) (stored later : Stored) (old new : CoreState) (actor : ℕ) (segments : List (List ℕ)) (at : IsAt (IsIn among) s stored old) (leads : Leads (IsIn among) s f later old new) (reader : IsReader actor s segments old) where
   abbrev image : List ℕ
   image = at.stands.known.0
 
   abbrev here : old.disk.content ≡ Some image
   here = at.stands.known.1
 
-  abbrev Still : List (List ℕ) → Type 0
-  Still rest = IsReader actor next.store rest new
+  abbrev counts : ByteSet
+  counts = key_set (tree_keys reader.whole)
 
-  has_here : (key : List ℕ) → IsIn reader.counts key → HasKey at.index key
+  abbrev Still : List (List ℕ) → Type 0
+  Still rest = IsReader actor leads.next.store rest new
+
+  has_here : (key : List ℕ) → Contains (tree_keys reader.whole) key → HasKey at.index key
   has_here = reader.has at.index at.index_known
 
+  spared : (key : List ℕ) → Contains (tree_keys reader.whole) key → IsSpared f.event.step s old.parts image key
+  spared = spared_key f.event.step actor s segments old image here at.many reader
+
+  -- its newest copies go on
+  goes_on : (after : List ℕ) → new.disk.content ≡ Some after → KeepsCopies (IsIn counts) s image leads.next.store after
+  goes_on after told key level text there newest =
+      let has = contained key (tree_keys reader.whole) there in
+      leads.copies key image after here told (spared key has) at.index at.index_known (has_here key has) level text newest
+
   -- what is to come of its part, by the old store, is so by the new one
-  goes : (own : ℕ) (root : Root) (ahead : List Top) (rest : List (List ℕ)) → ChangesOne own old.parts new.parts → part_of new.parts actor ≡ reading root ahead → SegmentsAhead reader.counts s.held image ahead rest → Still rest
-  goes own root ahead rest one is held = record {
+  goes : (own : ℕ) (root : Root) (ahead : List Top) (rest : List (List ℕ)) → root ≡ reader.root → ChangesOne own old.parts new.parts → part_of new.parts actor ≡ reading root ahead → SegmentsAhead counts s.held image ahead rest → Still rest
+  goes own root ahead rest same one is held = record {
     root = root;
     ahead = ahead;
     below = subst (λ (n : ℕ). actor < n) (sym (length_on own old.parts new.parts one)) reader.below;
     part_is = is;
-    counts = reader.counts;
-    has = λ then is_known key there. next.keys at.index then at.index_known is_known key (has_here key there);
-    ahead_is = λ after told.
-        segments_on reader.counts s next.store image after (λ key level text there newest. next.copies at.index image after at.index_known here told key level text (has_here key there) newest) ahead rest held;
+    whole = reader.whole;
+    right = reader.right;
+    top_is = ap top_of same ∙ reader.top_is;
+    is_held = λ after told. (tree_on (IsIn counts) (IsIn counts) s leads.next.store image after (goes_on after told) (λ key there. there) reader.whole
+        (record { tree_is_held = reader.is_held image here; count = λ key there. in_set key (tree_keys reader.whole) there })).tree_is_held;
+    has = λ then is_known key there. leads.keys key image here (spared key there) at.index then at.index_known is_known (has_here key there);
+    ahead_is = λ after told. segments_on counts s leads.next.store image after (goes_on after told) ahead rest held;
   }
 
   -- a step of another
   pub other_still : (own : ℕ) → ChangesOne own old.parts new.parts → actor ≢ own → Still segments
-  other_still own one differs = goes own reader.root reader.ahead segments one (other_part actor own old.parts new.parts one differs ∙ reader.part_is) (reader.ahead_is image here)
+  other_still own one differs = goes own reader.root reader.ahead segments refl one (other_part actor own old.parts new.parts one differs ∙ reader.part_is) (reader.ahead_is image here)
 
-  indexed : IsIndexed reader.counts s.held old.known old.disk.content image
-  indexed = record { told = here; index = at.index; index_known = at.index_known; index_is_newest = at.represents.index_is_newest at.index at.index_known; has = has_here }
+  indexed : IsIndexed counts s.held old.known old.disk.content image
+  indexed = record {
+    told = here;
+    index = at.index;
+    index_known = at.index_known;
+    index_is_newest = at.represents.index_is_newest at.index at.index_known;
+    has = λ key there. has_here key (contained key (tree_keys reader.whole) there);
+  }
+
+  -- the file that it takes stays the same
+  same_root : (root : Root) (before : List Top) → part_of old.parts actor ≡ reading root before → root ≡ reader.root
+  same_root root before is = (same_reader root reader.root before reader.ahead (sym is ∙ reader.part_is)).0
 
   set_part : (root : Root) (ahead : List Top) → new.parts ≡ with_part old.parts actor (reading root ahead) → part_of new.parts actor ≡ reading root ahead
   set_part root ahead is = ap (λ (parts : List Part). part_of parts actor) is ∙ apart.same old.parts actor (reading root ahead) reader.below
@@ -100,25 +179,25 @@ module _ (among : ByteSet) (s : Store) (changes : List StoreChange) (stored late
   -- its own
   own_still : (answer : Result Answer Refusal) (buf : List ℕ) → ReadRow actor answer buf old new → GivesOne true answer buf segments Still
   own_still (Ok (answers.Bytes count)) buf row =
-      let held = row.held reader.root reader.ahead reader.counts s.held image segments reader.part_is indexed (reader.ahead_is image here) in (
+      let held = row.held reader.root reader.ahead counts s.held image segments reader.part_is indexed (reader.ahead_is image here) in (
         held.given.others,
         (
           held.given.segments_are,
-          goes actor held.goes_on.root held.rest held.given.others (record { part = _; parts_are = held.goes_on.parts_are }) (set_part held.goes_on.root held.rest held.goes_on.parts_are) held.given.ahead,
+          goes actor held.goes_on.root held.rest held.given.others (same_root held.goes_on.root reader.ahead held.goes_on.part_is) (record { part = _; parts_are = held.goes_on.parts_are }) (set_part held.goes_on.root held.rest held.goes_on.parts_are) held.given.ahead,
         ),
       )
   own_still (Ok answers.End) buf row =
-      let held = row.held reader.root reader.ahead reader.counts s.held image segments reader.part_is indexed (reader.ahead_is image here) in
+      let held = row.held reader.root reader.ahead counts s.held image segments reader.part_is indexed (reader.ahead_is image here) in
       let next_part = row.next.goes_on in (
         held.given,
-        goes actor next_part.root row.next.rest segments (record { part = _; parts_are = next_part.parts_are }) (set_part next_part.root row.next.rest next_part.parts_are)
+        goes actor next_part.root row.next.rest segments (same_root next_part.root row.next.was next_part.part_is) (record { part = _; parts_are = next_part.parts_are }) (set_part next_part.root row.next.rest next_part.parts_are)
             (record { trees = []; held_ahead = record { trees = record { tops = row.next.given.1; each = tt }; each = tt }; segments_are = held.given }),
       )
   own_still (Err refusals.DiskRead) buf row =
-      let held = row.held reader.root reader.ahead reader.counts s.held image segments reader.part_is indexed (reader.ahead_is image here) in
-      goes actor held.goes_on.root held.rest segments (record { part = _; parts_are = held.goes_on.parts_are }) (set_part held.goes_on.root held.rest held.goes_on.parts_are) held.given
+      let held = row.held reader.root reader.ahead counts s.held image segments reader.part_is indexed (reader.ahead_is image here) in
+      goes actor held.goes_on.root held.rest segments (same_root held.goes_on.root reader.ahead held.goes_on.part_is) (record { part = _; parts_are = held.goes_on.parts_are }) (set_part held.goes_on.root held.rest held.goes_on.parts_are) held.given
   own_still (Err refusal) buf row =
-      absurd (row.held reader.root reader.ahead reader.counts s.held image segments reader.part_is indexed (reader.ahead_is image here)).given
+      absurd (row.held reader.root reader.ahead counts s.held image segments reader.part_is indexed (reader.ahead_is image here)).given
   own_still answer buf row = absurd row
 
   own_step : (step : StepValue) (answer : Result Answer Refusal) (buf : List ℕ) → IsReadNext step → Row step actor answer buf old new → GivesOne true answer buf segments Still
@@ -146,10 +225,10 @@ module _ (C : Type 0) (state : C → CoreState) (among : ByteSet) (distinct : Ha
   gives_on (f ∷ fs) s stored segments old new at reader run alone stays =
       let mid = run.0 in
       let going = run_running C state among fs mid new run.1.1 stays in
-      let next = file_step among distinct f s stored (state old) (state mid) run.1.0 at going in
-      gives_map (f.event.actor == actor) f.event.answer f.event.buf segments (λ rest. IsReader actor next.store rest (state mid)) (GivesInOrder actor (events_of fs))
-      (λ rest still. gives_on fs next.store (stored_by f stored) rest mid new next.is_at still run.1.1 alone.1 stays)
-      (read_step among s (changes_by f.event.step f.event.answer) stored (stored_by f stored) (state old) (state mid) actor segments at next reader f.event (run_running C state among (f ∷ []) old mid (mid, (run.1.0, refl)) going) alone.0 run.1.0.made)
+      let leads = any_step among distinct f s stored (state old) (state mid) run.1.0 at going in
+      gives_map (f.event.actor == actor) f.event.answer f.event.buf segments (λ rest. IsReader actor leads.next.store rest (state mid)) (GivesInOrder actor (events_of fs))
+      (λ rest still. gives_on fs leads.next.store (stored_by f stored) rest mid new leads.next.is_at still run.1.1 alone.1 stays)
+      (read_step among s f stored (stored_by f stored) (state old) (state mid) actor segments at leads reader f.event (run_running C state among (f ∷ []) old mid (mid, (run.1.0, refl)) going) alone.0 run.1.0.made)
 
 -- ---- it is opened
 
@@ -157,8 +236,12 @@ module _ (among : ByteSet) (s t : Store) (stored : Stored) (old new : CoreState)
     (below : actor < length old.parts) (keys : (first then : PlaceMap) → old.known ≡ Some first → new.known ≡ Some then → (key : List ℕ) → HasKey first key → HasKey then key)
     (copies : (first : PlaceMap) (before after : List ℕ) → old.known ≡ Some first → old.disk.content ≡ Some before → new.disk.content ≡ Some after → KeepsCopies (HasKey first) s before t after) where
   -- the index has the keys of the file
-  has_file : (key : List ℕ) → IsIn (key_set (tree_keys (file_tree bytes))) key → HasKey at.index key
-  has_file key there = (at.invariant at.stands.known.0 at.stands.known.1).files_are_indexed key (name, (bytes, (filed, contained key (tree_keys (file_tree bytes)) there)))
+  has_file : (key : List ℕ) → Contains (tree_keys (file_tree bytes)) key → HasKey at.index key
+  has_file key there = (at.invariant at.stands.known.0 at.stands.known.1).files_are_indexed key (name, (bytes, (filed, there)))
+
+  goes_on_file : (after : List ℕ) → new.disk.content ≡ Some after → KeepsCopies (IsIn (key_set (tree_keys (file_tree bytes)))) s at.stands.known.0 t after
+  goes_on_file after told key level text there newest =
+      copies at.index at.stands.known.0 after at.index_known at.stands.known.1 told key level text (has_file key (contained key (tree_keys (file_tree bytes)) there)) newest
 
   opened_reader : Steps (opens actor name count buf) old new → IsReader actor t (segments_of bytes) new
   opened_reader steps =
@@ -167,15 +250,19 @@ module _ (among : ByteSet) (s t : Store) (stored : Stored) (old new : CoreState)
       let one = row_one actor buf old new (asked.OpenRead name) (Ok (answers.Opened count)) steps.made.row in
       let opened = steps.made.row.file s stored.files image at.represents.names_are.names_are (at.stands.each image (old.disk.as_read image here)).holds in
       let same : opened.file.bytes ≡ bytes = let both = sym opened.file.filed ∙ filed in cc in
+      let few : length bytes ≤ MOST_FILE = subst FitsFile filed (files_fit s stored.files image (at.stands.each image (old.disk.as_read image here)).holds name) in
       record {
         root = opened.root;
         ahead = opened.ahead;
         below = subst (λ (n : ℕ). actor < n) (sym (length_on actor old.parts new.parts one)) below;
         part_is = ap (λ (parts : List Part). part_of parts actor) opened.parts_are ∙ apart.same old.parts actor (reading opened.root opened.ahead) below;
-        counts = key_set (tree_keys (file_tree bytes));
+        whole = file_tree bytes;
+        right = subst (λ (b : List ℕ). AllByRecursion IsTree (trees_in (file_tree b))) same opened.file.held_ahead.trees.each;
+        top_is = ap top_of (opened.file.root_is ∙ ap root_of same ∙ root_of_tree bytes few);
+        is_held = λ after told. (tree_on (IsIn (key_set (tree_keys (file_tree bytes)))) (IsIn (key_set (tree_keys (file_tree bytes)))) s t image after (goes_on_file after told) (λ key there. there) (file_tree bytes)
+            (record { tree_is_held = subst (λ (b : List ℕ). HoldsTree s.held image (file_tree b)) same opened.file.tree_is_held; count = λ key there. in_set key (tree_keys (file_tree bytes)) there })).tree_is_held;
         has = λ then is_known key there. keys at.index then at.index_known is_known key (has_file key there);
-        ahead_is = λ after told. segments_on (key_set (tree_keys (file_tree bytes))) s t image after
-            (λ key level text there newest. copies at.index image after at.index_known here told key level text (has_file key there) newest) opened.ahead (segments_of bytes)
+        ahead_is = λ after told. segments_on (key_set (tree_keys (file_tree bytes))) s t image after (goes_on_file after told) opened.ahead (segments_of bytes)
             (subst (λ (b : List ℕ). SegmentsAhead (key_set (tree_keys (file_tree b))) s.held image opened.ahead (segments_of b)) same opened.file.segments_ahead);
       }
 
@@ -204,7 +291,7 @@ module _ (C : Type 0) (state : C → CoreState) where
       let opening : FileEvent = record { event = opens actor name count buf; bytes = [] } in
       let made : FileStep (IsIn among) opening (state old) (state mid) = record { asked = tt; given = tt; made = step } in
       let going = run_running C state among steps mid new run stays in
-      let next = file_step among distinct opening s stored (state old) (state mid) made at going in
+      let on = file_step among distinct opening s stored (state old) (state mid) tt made at going in
       let runs = run_running C state among (opening ∷ []) old mid (mid, (made, refl)) going in
-      let opened = open_step among s next.store stored (state old) (state mid) actor name bytes count buf at filed below next.keys next.copies runs step in
-      (opened.0, gives_on C state among distinct actor steps next.store stored (segments_of bytes) mid new next.is_at opened.1 run alone stays)
+      let opened = open_step among s on.next.store stored (state old) (state mid) actor name bytes count buf at filed below on.keys on.copies runs step in
+      (opened.0, gives_on C state among distinct actor steps on.next.store stored (segments_of bytes) mid new on.next.is_at opened.1 run alone stays)

@@ -1,5 +1,5 @@
 -- A core that isn't stopped has the stored of the commits that it acknowledged, and its invariant holds.
-use Rattle.std.proofs.Common.{◌≡◌, ◌⊎◌, inl, inr, ◌≤◌, ℕ, List, [], ◌∷◌, ◌++◌, Option, Some, None, Result, Ok, Err, refl, sym, ◌∙◌, subst, ap, suc}
+use Rattle.std.proofs.Common.{◌≡◌, ◌⊎◌, inl, inr, ◌≤◌, ℕ, List, [], ◌∷◌, ◌++◌, Option, Some, None, Result, Ok, Err, refl, sym, ◌∙◌, subst, ap, suc, length}
 use Rattle.std.specs.List.{AllByRecursion}
 use Rattle.disk_format.specs.Cells.{Root}
 use Rattle.disk_format.specs.Cells.Change.{Delete, Put}
@@ -32,27 +32,38 @@ use Rattle.store_model.specs.Steps.{AnyKey, StoreChange, SealContainer, ChangeNa
 use Rattle.store_state.specs.declared.tables.Tables.{Tables}
 use Rattle.store_state.specs.Invariant.{CoreInvariant, HoldsPart, IndexesFiles}
 use Rattle.store_state.specs.Refused.{blames}
-use Rattle.store_state.specs.Tables.{Represents}
+use Rattle.store_state.specs.Tables.{Represents, Runs}
 use Rattle.store_model.proofs.NameChanges.{last_changed}
 use Rattle.store_state.proofs.Parts.{part_kept, parts_kept}
 use Rattle.ingest_steps.specs.Sealing.{KeepsHeld, sealing_indexed}
 use Rattle.store_core.specs.declared.stop.Stop.{Stop}
-use Rattle.store_core.specs.Core.{IndexesAll, Row, Effect, Rests, SealsOne, Makes, KeepsTables, KeepsUnlessBroken, StopsAfter, StepsOr, next_id}
-use Rattle.store_core.specs.Runs.{FileEvent, FileStep, FileRun, IsAt, ChangesTo, changes_by, changes_of, events_of, KeepsFiles, IsGivenRight, stored_with, stored_by}
-use Rattle.store_core.specs.State.{CoreState}
+use Rattle.store_core.specs.Core.{IndexesAll, Row, Effect, Rests, SealsOne, Makes, KeepsTables, StopsAfter, StepsOr, next_id}
+use Rattle.store_core.specs.Runs.{FileEvent, FileStep, FileRun, IsAt, ChangesTo, changes_by, events_of, IsGivenRight, stored_with, stored_by, IsNoGcStep, IsSafeIn}
+use Rattle.store_core.specs.State.{CoreState, IsUnderWayIn}
 use Rattle.store_core.proofs.CoreRuns.{runs_before, core_run}
 use Rattle.store_core.proofs.OwnParts.{all_part, all_own, own_begin, own_claim, own_abort, own_open, own_read, own_drop, own_set, own_stat, own_list, own_refused}
 use Rattle.store_core.proofs.Stepping.{ChangesOne, row_one}
+use Rattle.actor_parts.specs.declared.actor.TheConstants.{ACTORS}
+use Rattle.gc_steps.specs.declared.collection.Collection.{Collection}
+use Rattle.store_core.specs.Collecting.{Collects}
+use Rattle.store_core.proofs.SafeSteps.{IsSafeFor, abort_rested, begin_rested, begun_safe, claim_safe, committed_safe, deleted_safe, drop_rested, list_rested, open_rested, read_rested, runs_alone, sealed_safe_in, start_parts, stat_rested, still_rested, unchanged_safe, unsealed_safe}
+use Rattle.gc_steps.proofs.Carried.{KeepsBoth}
+use Rattle.base_model.specs.Known.{Known}
+use Rattle.actor_parts.proofs.Apart.{apart}
+use Rattle.store_core.proofs.RunningOn.{seal_kept, under_way_on}
 
 -- where a step leads, by these changes
 pub record Next (S : List ℕ → Type 0) (s : Store) (changes : List StoreChange) (stored : Stored) (old new : CoreState) : Type 0 where
   pub store : Store
   pub chain : ChangesTo changes s store
   pub is_at : IsAt S store stored new
-  -- what the index had it has, and its newest copies go on
+
+-- where no collection makes it, what the index had it has, and its newest copies go on
+pub record NextOn (S : List ℕ → Type 0) (s : Store) (changes : List StoreChange) (stored : Stored) (old new : CoreState) : Type 0 where
+  pub next : Next S s changes stored old new
   pub keys : (first then : PlaceMap) → old.known ≡ Some first → new.known ≡ Some then → (key : List ℕ) → HasKey first key → HasKey then key
-  pub copies : (first : PlaceMap) (before after : List ℕ) → old.known ≡ Some first → old.disk.content ≡ Some before → new.disk.content ≡ Some after → KeepsCopies (HasKey first) s before store after
-  pub whole : IndexesAll s old.known → IndexesAll store new.known
+  pub copies : (first : PlaceMap) (before after : List ℕ) → old.known ≡ Some first → old.disk.content ≡ Some before → new.disk.content ≡ Some after → KeepsCopies (HasKey first) s before next.store after
+  pub whole : IndexesAll s old.known → IndexesAll next.store new.known
 
 one_some : {A : Type 0} (x y : A) → Some x ≡ Some y → x ≡ y
 one_some x y same = cc
@@ -63,23 +74,31 @@ module _ (S : List ℕ → Type 0) (store : Store) (stored : Stored) (new : Core
   -- from what the tables are, what each image is, and what the actors are at
   pub arrive : Represents store new.known new.tables → (places : PlaceMap) → new.known ≡ Some places → IsValidFor new.disk.size store → StandsFor (Stands S store stored.files) new.disk
       → new.tables.journal.last ≡ stored.last → IndexesFiles places stored.files
-      → ((image : List ℕ) → new.disk.content ≡ Some image → AllByRecursion (HoldsPart (HasKey places) store.held image) new.parts) → IsAt S store stored new
-  arrive represents places known valid stands last files_indexed parts = record {
+      → ((image : List ℕ) → new.disk.content ≡ Some image → AllByRecursion (HoldsPart (HasKey places) store.held image) new.parts)
+      → length new.parts ≡ ACTORS → IsUnderWayIn new.tables.held new.collection → IsSafeFor places store stored new → IsAt S store stored new
+  arrive represents places known valid stands last files_indexed parts many under_way safe = record {
     represents = represents;
     index = places;
     index_known = known;
     valid = valid;
     stands = stands;
     last_is = last;
-    invariant = λ image told. record {
-      index_is_newest = represents.index_is_newest places known;
-      files_are_indexed = files_indexed;
-      pins_are_closed = parts image told;
-      reserve_holds = (stands.each image (new.disk.as_read image told)).holds.reserve;
-    };
+    invariant = core;
+    many = many;
+    under_way = under_way;
+    safe = λ image told. safe image told (core image told) (stands.each image (new.disk.as_read image told)).holds;
   }
+    where
+      core : Known new.disk.content (CoreInvariant places store stored.files new.parts)
+      core image told = record {
+        index_is_newest = represents.index_is_newest places known;
+        files_are_indexed = files_indexed;
+        pins_are_closed = parts image told;
+        reserve_holds = (stands.each image (new.disk.as_read image told)).holds.reserve;
+      }
 
-module _ (among : ByteSet) (s : Store) (stored : Stored) (old new : CoreState) (actor : ℕ) (at : IsAt (IsIn among) s stored old) (one : ChangesOne actor old.parts new.parts) where
+module _ (among : ByteSet) (s : Store) (stored : Stored) (old new : CoreState) (actor : ℕ) (at : IsAt (IsIn among) s stored old) (one : ChangesOne actor old.parts new.parts)
+    (under_way : IsUnderWayIn new.tables.held new.collection) where
   abbrev content : List ℕ
   content = at.stands.known.0
 
@@ -121,15 +140,21 @@ module _ (among : ByteSet) (s : Store) (stored : Stored) (old new : CoreState) (
   same_last : KeepsTables old new → new.tables.journal.last ≡ stored.last
   same_last kept = ap (λ (tables : Tables). tables.journal.last) kept.tables_are ∙ at.last_is
 
+  many_here : length new.parts ≡ ACTORS
+  many_here = ap length one.parts_are ∙ apart.as_many old.parts actor one.part ∙ at.many
+
   -- a step that only reads
-  pub rests : KeepsTables old new → OnlyReads old.disk new.disk → HoldsPart (HasKey at.index) s.held content (part_of new.parts actor) → Next (IsIn among) s [] stored old new
-  rests kept reads own = record {
-    store = s;
-    chain = refl;
-    is_at = arrive (IsIn among) s stored new (same_tables kept) at.index (kept.index_is ∙ at.index_known)
-        (subst (λ (size : ℕ). IsValidFor size s) (sym reads.later.size_is) at.valid) (stands_reads (Stands (IsIn among) s stored.files) old.disk new.disk at.stands reads) (same_last kept) invariant.files_are_indexed
-        (λ image is. let same : content ≡ image = one_some content image (sym told ∙ sym reads.content_is ∙ is) in
-        subst (λ (bytes : List ℕ). AllByRecursion (HoldsPart (HasKey at.index) s.held bytes) new.parts) same (all_hold at.index s content (λ key has. has) (λ key level bytes counts has. has) own));
+  pub rests : KeepsTables old new → OnlyReads old.disk new.disk → HoldsPart (HasKey at.index) s.held content (part_of new.parts actor) → IsSafeFor at.index s stored new
+      → NextOn (IsIn among) s [] stored old new
+  rests kept reads own safe = record {
+    next = record {
+      store = s;
+      chain = refl;
+      is_at = arrive (IsIn among) s stored new (same_tables kept) at.index (kept.index_is ∙ at.index_known)
+          (subst (λ (size : ℕ). IsValidFor size s) (sym reads.later.size_is) at.valid) (stands_reads (Stands (IsIn among) s stored.files) old.disk new.disk at.stands reads) (same_last kept) invariant.files_are_indexed
+          (λ image is. let same : content ≡ image = one_some content image (sym told ∙ sym reads.content_is ∙ is) in
+          subst (λ (bytes : List ℕ). AllByRecursion (HoldsPart (HasKey at.index) s.held bytes) new.parts) same (all_hold at.index s content (λ key has. has) (λ key level bytes counts has. has) own)) many_here under_way safe;
+    };
     keys = kept_keys kept;
     copies = λ first before after is is_before is_after. let same : before ≡ after = one_some before after (sym is_before ∙ sym reads.content_is ∙ is_after) in
         subst (λ (bytes : List ℕ). KeepsCopies (HasKey first) s before s bytes) same (λ key level bytes counts has. has);
@@ -138,13 +163,15 @@ module _ (among : ByteSet) (s : Store) (stored : Stored) (old new : CoreState) (
 
   -- a step after which each image is the same store
   pub still : KeepsTables old new → IsLater old.disk new.disk → StandsFor (Stands (IsIn among) s stored.files) new.disk
-      → ((after : List ℕ) → new.disk.content ≡ Some after → KeepsCopies (HasKey at.index) s content s after × HoldsPart (HasKey at.index) s.held after (part_of new.parts actor))
-      → Next (IsIn among) s [] stored old new
-  still kept goes stands keeps = record {
-    store = s;
-    chain = refl;
-    is_at = arrive (IsIn among) s stored new (same_tables kept) at.index (kept.index_is ∙ at.index_known) (subst (λ (size : ℕ). IsValidFor size s) (sym goes.size_is) at.valid) stands (same_last kept) invariant.files_are_indexed
-        (λ image is. let kept_here = keeps image is in all_hold at.index s image (λ key has. has) kept_here.0 kept_here.1);
+      → ((after : List ℕ) → new.disk.content ≡ Some after → KeepsCopies (HasKey at.index) s content s after × HoldsPart (HasKey at.index) s.held after (part_of new.parts actor)) → IsSafeFor at.index s stored new
+      → NextOn (IsIn among) s [] stored old new
+  still kept goes stands keeps safe = record {
+    next = record {
+      store = s;
+      chain = refl;
+      is_at = arrive (IsIn among) s stored new (same_tables kept) at.index (kept.index_is ∙ at.index_known) (subst (λ (size : ℕ). IsValidFor size s) (sym goes.size_is) at.valid) stands (same_last kept) invariant.files_are_indexed
+          (λ image is. let kept_here = keeps image is in all_hold at.index s image (λ key has. has) kept_here.0 kept_here.1) many_here under_way safe;
+    };
     keys = kept_keys kept;
     copies = λ first before after is is_before is_after. let same : content ≡ before = one_some content before (sym told ∙ is_before) in
         subst (λ (m : PlaceMap). KeepsCopies (HasKey m) s before s after) (same_index first is)
@@ -157,17 +184,19 @@ module _ (among : ByteSet) (s : Store) (stored : Stored) (old new : CoreState) (
       → ((then : PlaceMap) → new.known ≡ Some then → IndexesFiles then stored.files → IndexesFiles then later.files)
       → ((then : PlaceMap) (after : List ℕ) → new.known ≡ Some then → new.disk.content ≡ Some after
       → KeepsCopies (HasKey at.index) s content (changed change s) after × HoldsPart (HasKey then) (changed change s).held after (part_of new.parts actor))
-      → Next (IsIn among) s (change ∷ []) later old new
-  makes change later last made goes stands files_on keeps =
+      → ((then : PlaceMap) → new.known ≡ Some then → IsSafeFor then (changed change s) later new) → NextOn (IsIn among) s (change ∷ []) later old new
+  makes change later last made goes stands files_on keeps safe =
       let known = made.tells at.index at.index_known in
       let keys : (key : List ℕ) → HasKey at.index key → HasKey known.0 key = made.keeps_keys at.index at.index_known known.0 known.1 in
       let represents = made.represents.store_has s at.represents at.valid reserve in
       record {
-        store = changed change s;
-        chain = (made.can.store_has s at.represents at.valid reserve, refl);
-        is_at = arrive (IsIn among) (changed change s) later new represents known.0 known.1 (made.valid.store_has s at.represents at.valid reserve) stands (represents.names_are.last_is ∙ last)
-            (files_on known.0 known.1 (λ key need. keys key (invariant.files_are_indexed key need)))
-            (λ image is. let kept = keeps known.0 image known.1 is in all_hold known.0 (changed change s) image keys kept.0 kept.1);
+        next = record {
+          store = changed change s;
+          chain = (made.can.store_has s at.represents at.valid reserve, refl);
+          is_at = arrive (IsIn among) (changed change s) later new represents known.0 known.1 (made.valid.store_has s at.represents at.valid reserve) stands (represents.names_are.last_is ∙ last)
+              (files_on known.0 known.1 (λ key need. keys key (invariant.files_are_indexed key need)))
+              (λ image is. let kept = keeps known.0 image known.1 is in all_hold known.0 (changed change s) image keys kept.0 kept.1) many_here under_way (safe known.0 known.1);
+        };
         keys = λ first then is after key has. made.keeps_keys first is then after key has;
         copies = λ first before after is is_before is_after. let same : content ≡ before = one_some content before (sym told ∙ is_before) in
             subst (λ (m : PlaceMap). KeepsCopies (HasKey m) s before (changed change s) after) (same_index first is)
@@ -226,41 +255,68 @@ module _ (among : ByteSet) (s : Store) (stored : Stored) (old new : CoreState) (
   newest_index = at.represents.index_is_newest at.index at.index_known
 
   abbrev Goes : StepValue → Result Answer Refusal → Type 0
-  Goes step answer = Row step actor answer buf old new → Effect step answer old new → StopsAfter step answer old.acknowledged new.stop
-      → IsStep step → IsGivenRight (IsIn among) step answer bytes old → Next (IsIn among) s (changes_by step answer) (stored_with step answer bytes stored) old new
+  Goes step answer = Row step actor answer buf old new → Effect step answer old new → Collects step answer old new → StopsAfter step answer old.acknowledged new.stop
+      → IsStep step → IsGivenRight (IsIn among) step answer bytes old → NextOn (IsIn among) s (changes_by step answer) (stored_with step answer bytes stored) old new
 
-  rests_by : (step : StepValue) (answer : Result Answer Refusal) → Row step actor answer buf old new → Rests answer old new → Own → Next (IsIn among) s [] stored old new
-  rests_by step answer row effect own = rests among s stored old new actor at (row_one actor buf old new step answer row) effect.tables effect.disk.only own
+  -- the tables alone run
+  tables_run : Runs old.disk.size None old.tables
+  tables_run = runs_alone (IsIn among) s stored old at
+
+  goes_under_way : (step : StepValue) (answer : Result Answer Refusal) → Row step actor answer buf old new → Effect step answer old new → Collects step answer old new → IsUnderWayIn new.tables.held new.collection
+  goes_under_way step answer row effect collects = under_way_on old new step actor answer buf row effect collects tables_run at.under_way
+
+  -- what holds of the collection, where nothing but the parts changes
+  rested_safe : (answer : Result Answer Refusal) → Rests answer old new → (IsSafeIn at.index s old.parts image old.collection → IsSafeIn at.index s new.parts image new.collection) → IsSafeFor at.index s stored new
+  rested_safe answer effect safe after told core is_store =
+      let same : image ≡ after = one_some image after (sym here ∙ sym effect.disk.only.content_is ∙ told) in
+      subst (λ (bytes : List ℕ). IsSafeIn at.index s new.parts bytes new.collection) same (safe (at.safe image here))
+
+  rests_by : (step : StepValue) (answer : Result Answer Refusal) → Row step actor answer buf old new → Rests answer old new → IsUnderWayIn new.tables.held new.collection → IsSafeFor at.index s stored new → Own
+      → NextOn (IsIn among) s [] stored old new
+  rests_by step answer row effect under_way safe own = rests among s stored old new actor at (row_one actor buf old new step answer row) under_way effect.tables effect.disk.only own safe
+
+  -- nothing but the actor's part changes
+  part_rests : (step : StepValue) (answer : Result Answer Refusal) → Row step actor answer buf old new → Rests answer old new → IsUnderWayIn new.tables.held new.collection → new.collection ≡ old.collection
+      → ((c : Collection) → KeepsBoth at.index at.index s s old.parts new.parts image image c c) → Own → NextOn (IsIn among) s [] stored old new
+  part_rests step answer row effect under_way same both own =
+      rests_by step answer row effect under_way
+      (rested_safe answer effect (unchanged_safe at.index at.index s s old.parts new.parts image image old.collection new.collection both same)) own
 
   begin_next : (answer : Result Answer Refusal) → Goes asked.Begin answer
-  begin_next answer row effect stops right given =
-      rests_by asked.Begin answer row effect (own_begin among s stored.files image at.index actor buf old new here at.index_known newest_index invariant_here.files_are_indexed at.represents.names_are.names_are stands_here distinct holds answer row)
+  begin_next answer row effect collects stops right given =
+      part_rests asked.Begin answer row effect (goes_under_way asked.Begin answer row effect collects) collects (begin_rested among s stored old new actor buf at answer row)
+      (own_begin among s stored.files image at.index actor buf old new here at.index_known newest_index invariant_here.files_are_indexed at.represents.names_are.names_are stands_here distinct holds answer row)
 
   claim_next : (seg : KindSegment) (answer : Result Answer Refusal) → Goes (asked.Claim seg) answer
-  claim_next seg answer row effect stops right given =
-      rests_by (asked.Claim seg) answer row effect
+  claim_next seg answer row effect collects stops right given =
+      rests_by (asked.Claim seg) answer row effect (goes_under_way (asked.Claim seg) answer row effect collects)
+      (claim_safe among s stored old new actor buf at seg answer row effect collects)
       (own_claim among s stored.files image at.index actor buf old new here at.index_known newest_index invariant_here.files_are_indexed at.represents.names_are.names_are stands_here distinct holds seg answer given row)
 
   abort_next : (answer : Result Answer Refusal) → Goes asked.Abort answer
-  abort_next answer row effect stops right given =
-      rests_by asked.Abort answer row effect (own_abort among s stored.files image at.index actor buf old new here at.index_known newest_index invariant_here.files_are_indexed at.represents.names_are.names_are stands_here distinct holds answer row)
+  abort_next answer row effect collects stops right given =
+      part_rests asked.Abort answer row effect (goes_under_way asked.Abort answer row effect collects) collects (abort_rested among s stored old new actor buf at answer row)
+      (own_abort among s stored.files image at.index actor buf old new here at.index_known newest_index invariant_here.files_are_indexed at.represents.names_are.names_are stands_here distinct holds answer row)
 
   open_next : (name : List ℕ) (answer : Result Answer Refusal) → Goes (asked.OpenRead name) answer
-  open_next name answer row effect stops right given =
-      rests_by (asked.OpenRead name) answer row effect
+  open_next name answer row effect collects stops right given =
+      part_rests (asked.OpenRead name) answer row effect (goes_under_way (asked.OpenRead name) answer row effect collects) collects (open_rested among s stored old new actor buf at name answer row)
       (own_open among s stored.files image at.index actor buf old new here at.index_known newest_index invariant_here.files_are_indexed at.represents.names_are.names_are stands_here distinct holds name answer row)
 
   read_next : (answer : Result Answer Refusal) → Goes asked.ReadNext answer
-  read_next answer row effect stops right given =
-      rests_by asked.ReadNext answer row effect (own_read among s stored.files image at.index actor buf old new here at.index_known newest_index invariant_here.files_are_indexed at.represents.names_are.names_are stands_here distinct holds answer row)
+  read_next answer row effect collects stops right given =
+      part_rests asked.ReadNext answer row effect (goes_under_way asked.ReadNext answer row effect collects) collects (read_rested among s stored old new actor buf at answer row)
+      (own_read among s stored.files image at.index actor buf old new here at.index_known newest_index invariant_here.files_are_indexed at.represents.names_are.names_are stands_here distinct holds answer row)
 
   drop_next : (answer : Result Answer Refusal) → Goes asked.EndRead answer
-  drop_next answer row effect stops right given =
-      rests_by asked.EndRead answer row effect (own_drop among s stored.files image at.index actor buf old new here at.index_known newest_index invariant_here.files_are_indexed at.represents.names_are.names_are stands_here distinct holds answer row)
+  drop_next answer row effect collects stops right given =
+      part_rests asked.EndRead answer row effect (goes_under_way asked.EndRead answer row effect collects) collects (drop_rested among s stored old new actor buf at answer row)
+      (own_drop among s stored.files image at.index actor buf old new here at.index_known newest_index invariant_here.files_are_indexed at.represents.names_are.names_are stands_here distinct holds answer row)
 
   stat_next : (answer : Result Answer Refusal) → Goes asked.Stat answer
-  stat_next answer row effect stops right given =
-      rests_by asked.Stat answer row effect (own_stat among s stored.files image at.index actor buf old new here at.index_known newest_index invariant_here.files_are_indexed at.represents.names_are.names_are stands_here distinct holds answer row)
+  stat_next answer row effect collects stops right given =
+      part_rests asked.Stat answer row effect (goes_under_way asked.Stat answer row effect collects) collects (stat_rested among s stored old new actor buf at answer row)
+      (own_stat among s stored.files image at.index actor buf old new here at.index_known newest_index invariant_here.files_are_indexed at.represents.names_are.names_are stands_here distinct holds answer row)
 
   own_still : new.parts ≡ old.parts → Own
   own_still = own_refused among s stored.files image at.index actor buf old new here at.index_known newest_index invariant_here.files_are_indexed at.represents.names_are.names_are stands_here distinct holds
@@ -285,97 +341,120 @@ module _ (among : ByteSet) (s : Store) (stored : Stored) (old new : CoreState) (
   seal_stands filled refusals.DiskRead stops arrives = stands_still arrives
   seal_stands filled refusal stops arrives = stands_still arrives
 
-  seal_kept : (filled : Contents) (refusal : Refusal) → StopsAfter (asked.Seal filled) (Err refusal) old.acknowledged new.stop → KeepsUnlessBroken refusal old new → KeepsTables old new
-  seal_kept filled refusals.DiskWrite stops kept = absurd (let both = sym stays ∙ stops in cc)
-  seal_kept filled (refusals.Damaged at_byte why) stops kept = absurd (let both = sym stays ∙ stops in cc)
-  seal_kept filled refusal stops kept = kept
-
   seal_copies : (filled : Contents) (refusal : Refusal) (after : List ℕ) → StopsAfter (asked.Seal filled) (Err refusal) old.acknowledged new.stop → KeepsHeld at.index (ending_of (blames refusal)) (next_id old) filled s image after → KeepsCopies AnyKey s image s after
   seal_copies filled refusals.DiskWrite after stops keeps = absurd (let both = sym stays ∙ stops in cc)
   seal_copies filled refusals.DiskRead after stops keeps = keeps
   seal_copies filled refusal after stops keeps = keeps
 
   seal_next : (filled : Contents) (answer : Result Answer Refusal) → Goes (asked.Seal filled) answer
-  seal_next filled (Ok (answers.Sealed id)) row effect stops right given =
+  seal_next filled (Ok (answers.Sealed id)) row effect collects stops right given =
       let may = may_seal_all (IsIn among) filled.kind filled.segments right.1 given in
-      let next : Next (IsIn among) s (SealContainer (next_id old) filled.kind filled.segments ∷ []) stored old new =
-      makes among s stored old new actor at (row_one actor buf old new (asked.Seal filled) (Ok (answers.Sealed id)) row) (SealContainer (next_id old) filled.kind filled.segments) stored last_here effect.made effect.disk.later
+      let next : NextOn (IsIn among) s (SealContainer (next_id old) filled.kind filled.segments ∷ []) stored old new =
+      makes among s stored old new actor at (row_one actor buf old new (asked.Seal filled) (Ok (answers.Sealed id)) row) (goes_under_way (asked.Seal filled) (Ok (answers.Sealed id)) row effect collects) (SealContainer (next_id old) filled.kind filled.segments) stored last_here effect.made effect.disk.later
       (seal_moves filled (Ok (answers.Sealed id)) effect right given).arrives (λ then then_is files. files)
       (λ then after then_is is. (
         (seal_holds filled (Ok (answers.Sealed id)) after is effect right given).0,
         subst (λ (n : ℕ). HoldsPart (HasKey then) (with_sealed n filled.kind filled.segments s).held after (part_of new.parts actor)) row.id_is
             (row.kept among s stored.files at.index then image after at.index_known then_is at.represents here is stands_here distinct may (all_part (HoldsPart (HasKey at.index) s.held image) old.parts actor tt holds)),
-      )) in
-      subst (λ (n : ℕ). Next (IsIn among) s (SealContainer n filled.kind filled.segments ∷ []) stored old new) (sym row.id_is) next
-  seal_next filled (Err refusal) row effect stops right given =
-      still among s stored old new actor at (row_one actor buf old new (asked.Seal filled) (Err refusal) row) (seal_kept filled refusal stops effect.kept) effect.disk.later
+      ))
+      (λ then then_is after is core holds_now. sealed_safe_in among s stored old new actor buf at filled id row effect collects then then_is after core holds_now (seal_holds filled (Ok (answers.Sealed id)) after is effect right given).0) in
+      subst (λ (n : ℕ). NextOn (IsIn among) s (SealContainer n filled.kind filled.segments ∷ []) stored old new) (sym row.id_is) next
+  seal_next filled (Err refusal) row effect collects stops right given =
+      still among s stored old new actor at (row_one actor buf old new (asked.Seal filled) (Err refusal) row) (goes_under_way (asked.Seal filled) (Err refusal) row effect collects) (seal_kept old new stays filled refusal old.acknowledged stops effect.kept) effect.disk.later
       (seal_stands filled refusal stops (seal_moves filled (Err refusal) effect right given).arrives)
       (λ after is. let copies = seal_copies filled refusal after stops (seal_holds filled (Err refusal) after is effect right given) in
       let mine : KeepsCopies (HasKey at.index) s image s after = λ key level bytes counts has. copies key level bytes tt has in
       (mine, part_kept (HasKey at.index) (HasKey at.index) s s image after mine (λ key has. has) (part_of new.parts actor) (own_still row.1)))
-  seal_next filled answer row effect stops right given = absurd row
+      (λ after is core holds_now. let copies = seal_copies filled refusal after stops (seal_holds filled (Err refusal) after is effect right given) in
+      unsealed_safe among s stored old new actor buf at filled refusal row collects after (λ key level bytes counts has. copies key level bytes tt has))
+  seal_next filled answer row effect collects stops right given = absurd row
+
+  -- where nothing changes
+  refused_safe : OnlyReads old.disk new.disk → new.parts ≡ old.parts → new.collection ≡ old.collection → IsSafeFor at.index s stored new
+  refused_safe reads parts same after told core holds_now =
+      let bytes : image ≡ after = one_some image after (sym here ∙ sym reads.content_is ∙ told) in
+      subst (λ (b : List ℕ). IsSafeIn at.index s new.parts b new.collection) bytes
+      (unchanged_safe at.index at.index s s old.parts new.parts image image old.collection new.collection (still_rested among s stored old new actor buf at parts) same (at.safe image here))
 
   -- a name
   commit_next : (name : List ℕ) (root : Root) (answer : Result Answer Refusal) → Goes (asked.Commit name root) answer
-  commit_next name root (Ok (answers.Committed sequence)) row effect stops right given =
+  commit_next name root (Ok (answers.Committed sequence)) row effect collects stops right given =
       let tree = given.tree s at.represents in
       let moved = effect.moves.moves among s stored.files (files.Put name bytes) at.represents.names_are refl (ap Put given.root_is) (record { known = at.stands.known; each = λ c is. (at.stands.each c is, tree.each c is) }) in
       let copies = effect.copies s at.represents image here stands_here.holds.right in
-      makes among s stored old new actor at (row_one actor buf old new (asked.Commit name root) (Ok (answers.Committed sequence)) row) (ChangeName name (Put root)) (with_stored stored name bytes) (last_changed name (Put root) s at.valid.follow ∙ ap suc last_here) effect.made effect.disk.later
+      makes among s stored old new actor at (row_one actor buf old new (asked.Commit name root) (Ok (answers.Committed sequence)) row) (goes_under_way (asked.Commit name root) (Ok (answers.Committed sequence)) row effect collects) (ChangeName name (Put root)) (with_stored stored name bytes) (last_changed name (Put root) s at.valid.follow ∙ ap suc last_here) effect.made effect.disk.later
       (subst (λ (r : Root). StandsFor (Stands (IsIn among) (with_change name (Put r) s) (with_stored stored name bytes).files) new.disk) (sym given.root_is) moved.arrives)
       (λ then then_is all. reached_put (HasKey then) stored.files all name bytes (λ key there. effect.made.keeps_keys at.index at.index_known then then_is key (given.indexed at.index at.index_known key there)))
       (λ then after then_is is. (
         (λ key level text counts has. subst (KeepsCopies AnyKey s image (with_change name (Put root) s)) (one_some copies.0 after (sym copies.1 ∙ is)) copies.2 key level text tt has),
         subst (λ (parts : List Part). HoldsPart (HasKey then) s.held after (part_of parts actor)) (sym row.2) (own_set (HoldsPart (HasKey then) s.held after) old.parts actor Idle tt tt),
       ))
-  commit_next name root (Err refusal) row effect stops right given =
-      rests among s stored old new actor at (row_one actor buf old new (asked.Commit name root) (Err refusal) row) effect.kept
-      (only_reads old new stays (asked.Commit name root) refusal stops effect.disk.ends) (own_still row.1)
-  commit_next name root answer row effect stops right given = absurd row
+      (λ then then_is after is core holds_now. committed_safe among s stored old new actor buf at name root (row.0, refl, row.2, row.3) effect.index collects then then_is after
+      (λ key level text counts has. subst (KeepsCopies AnyKey s image (with_change name (Put root) s)) (one_some copies.0 after (sym copies.1 ∙ is)) copies.2 key level text tt has))
+  commit_next name root (Err refusal) row effect collects stops right given =
+      let reads = only_reads old new stays (asked.Commit name root) refusal stops effect.disk.ends in
+      rests among s stored old new actor at (row_one actor buf old new (asked.Commit name root) (Err refusal) row) (goes_under_way (asked.Commit name root) (Err refusal) row effect collects) effect.kept
+      reads (own_still row.1) (refused_safe reads row.1 collects)
+  commit_next name root answer row effect collects stops right given = absurd row
 
   -- a name that is deleted
   delete_next : (name : List ℕ) (answer : Result Answer Refusal) → Goes (asked.Delete name) answer
-  delete_next name (Ok (answers.Deleted sequence)) row effect stops right given =
+  delete_next name (Ok (answers.Deleted sequence)) row effect collects stops right given =
       let moved = effect.moves.moves among s stored.files (files.Delete name) at.represents.names_are refl refl (record { known = at.stands.known; each = λ c is. (at.stands.each c is, tt) }) in
       let copies = effect.copies s at.represents image here stands_here.holds.right in
-      makes among s stored old new actor at (row_one actor buf old new (asked.Delete name) (Ok (answers.Deleted sequence)) row) (ChangeName name Delete) (without_stored stored name) (last_changed name Delete s at.valid.follow ∙ ap suc last_here) effect.made effect.disk.later
+      makes among s stored old new actor at (row_one actor buf old new (asked.Delete name) (Ok (answers.Deleted sequence)) row) (goes_under_way (asked.Delete name) (Ok (answers.Deleted sequence)) row effect collects) (ChangeName name Delete) (without_stored stored name) (last_changed name Delete s at.valid.follow ∙ ap suc last_here) effect.made effect.disk.later
       moved.arrives (λ then then_is all. reached_less (HasKey then) stored.files all name)
       (λ then after then_is is.
       let any = subst (KeepsCopies AnyKey s image (with_change name Delete s)) (one_some copies.0 after (sym copies.1 ∙ is)) copies.2 in
       let kept : KeepsCopies (HasKey at.index) s image (with_change name Delete s) after = λ key level text counts has. any key level text tt has in
       (kept, part_kept (HasKey at.index) (HasKey then) s (with_change name Delete s) image after kept (effect.made.keeps_keys at.index at.index_known then then_is) (part_of new.parts actor) (own_still row.2)))
-  delete_next name (Err refusal) row effect stops right given =
-      rests among s stored old new actor at (row_one actor buf old new (asked.Delete name) (Err refusal) row) effect.kept
-      (only_reads old new stays (asked.Delete name) refusal stops effect.disk.ends) (own_still row.1)
-  delete_next name answer row effect stops right given = absurd row
+      (λ then then_is after is core holds_now. deleted_safe among s stored old new actor buf at name row.2 effect.index collects then then_is after
+      (λ key level text counts has. subst (KeepsCopies AnyKey s image (with_change name Delete s)) (one_some copies.0 after (sym copies.1 ∙ is)) copies.2 key level text tt has))
+  delete_next name (Err refusal) row effect collects stops right given =
+      let reads = only_reads old new stays (asked.Delete name) refusal stops effect.disk.ends in
+      rests among s stored old new actor at (row_one actor buf old new (asked.Delete name) (Err refusal) row) (goes_under_way (asked.Delete name) (Err refusal) row effect collects) effect.kept
+      reads (own_still row.1) (refused_safe reads row.1 collects)
+  delete_next name answer row effect collects stops right given = absurd row
 
   list_next : (answer : Result Answer Refusal) → Goes asked.ListNames answer
-  list_next answer row effect stops right given =
-      rests_by asked.ListNames answer row effect (own_list among s stored.files image at.index actor buf old new here at.index_known newest_index invariant_here.files_are_indexed at.represents.names_are.names_are stands_here distinct holds answer row)
+  list_next answer row effect collects stops right given =
+      part_rests asked.ListNames answer row effect (goes_under_way asked.ListNames answer row effect collects) collects (list_rested among s stored old new actor buf at answer row)
+      (own_list among s stored.files image at.index actor buf old new here at.index_known newest_index invariant_here.files_are_indexed at.represents.names_are.names_are stands_here distinct holds answer row)
 
-  pub step_next : (step : StepValue) (answer : Result Answer Refusal) → Goes step answer
-  step_next asked.Begin answer = begin_next answer
-  step_next (asked.Claim seg) answer = claim_next seg answer
-  step_next (asked.Seal filled) answer = seal_next filled answer
-  step_next (asked.Commit name root) answer = commit_next name root answer
-  step_next asked.Abort answer = abort_next answer
-  step_next (asked.OpenRead name) answer = open_next name answer
-  step_next asked.ReadNext answer = read_next answer
-  step_next asked.EndRead answer = drop_next answer
-  step_next (asked.Delete name) answer = delete_next name answer
-  step_next asked.ListNames answer = list_next answer
-  step_next asked.Stat answer = stat_next answer
+  -- a collection begins
+  start_next : (percent : ℕ) (answer : Result Answer Refusal) → Goes (asked.GcStart percent) answer
+  start_next percent answer row effect collects stops right given =
+      rests_by (asked.GcStart percent) answer row effect (goes_under_way (asked.GcStart percent) answer row effect collects)
+      (begun_safe among s stored old new actor buf at percent answer row effect) (own_still (start_parts among s stored old new actor buf at percent answer row))
+
+  pub step_next : (step : StepValue) (answer : Result Answer Refusal) → IsNoGcStep step → Goes step answer
+  step_next asked.Begin answer other = begin_next answer
+  step_next (asked.Claim seg) answer other = claim_next seg answer
+  step_next (asked.Seal filled) answer other = seal_next filled answer
+  step_next (asked.Commit name root) answer other = commit_next name root answer
+  step_next asked.Abort answer other = abort_next answer
+  step_next (asked.OpenRead name) answer other = open_next name answer
+  step_next asked.ReadNext answer other = read_next answer
+  step_next asked.EndRead answer other = drop_next answer
+  step_next (asked.Delete name) answer other = delete_next name answer
+  step_next asked.ListNames answer other = list_next answer
+  step_next (asked.GcStart percent) answer other = start_next percent answer
+  step_next asked.GcStep answer other = absurd other
+  step_next asked.Stat answer other = stat_next answer
 
 -- ---- a run
 
 module _ (among : ByteSet) (distinct : HasNoCollisions (IsIn among)) where
-  by_stop : (stop : Option Stop) (f : FileEvent) (s : Store) (stored : Stored) (old new : CoreState) → old.stop ≡ stop → StepsOr stop f.event old new → IsStep f.event.step
-      → IsGivenRight (IsIn among) f.event.step f.event.answer f.bytes old → IsAt (IsIn among) s stored old → new.stop ≡ None → Next (IsIn among) s (changes_by f.event.step f.event.answer) (stored_by f stored) old new
-  by_stop None f s stored old new is steps right given at stays = step_next among s stored old new f.event.actor f.event.buf f.bytes distinct at stays f.event.step f.event.answer steps.made.row steps.made.effect steps.stops right given
-  by_stop (Some stop) f s stored old new is steps right given at stays = absurd (let both = sym stays ∙ steps.same.stop_is ∙ is in cc)
+  by_stop : (stop : Option Stop) (f : FileEvent) (s : Store) (stored : Stored) (old new : CoreState) → old.stop ≡ stop → StepsOr stop f.event old new → IsStep f.event.step → IsNoGcStep f.event.step
+      → IsGivenRight (IsIn among) f.event.step f.event.answer f.bytes old → IsAt (IsIn among) s stored old → new.stop ≡ None → NextOn (IsIn among) s (changes_by f.event.step f.event.answer) (stored_by f stored) old new
+  by_stop None f s stored old new is steps right other given at stays =
+      step_next among s stored old new f.event.actor f.event.buf f.bytes distinct at stays f.event.step f.event.answer other steps.made.row steps.made.effect steps.collects steps.stops right given
+  by_stop (Some stop) f s stored old new is steps right other given at stays = absurd (let both = sym stays ∙ steps.same.stop_is ∙ is in cc)
 
-  pub file_step : (f : FileEvent) (s : Store) (stored : Stored) (old new : CoreState) → FileStep (IsIn among) f old new → IsAt (IsIn among) s stored old → new.stop ≡ None → Next (IsIn among) s (changes_by f.event.step f.event.answer) (stored_by f stored) old new
-  file_step f s stored old new step at stays = by_stop old.stop f s stored old new refl step.made step.asked step.given at stays
+  -- a step that no collection makes
+  pub file_step : (f : FileEvent) (s : Store) (stored : Stored) (old new : CoreState) → IsNoGcStep f.event.step → FileStep (IsIn among) f old new → IsAt (IsIn among) s stored old → new.stop ≡ None
+      → NextOn (IsIn among) s (changes_by f.event.step f.event.answer) (stored_by f stored) old new
+  file_step f s stored old new other step at stays = by_stop old.stop f s stored old new refl step.made step.asked other step.given at stays
 
 module _ (C : Type 0) (state : C → CoreState) (among : ByteSet) where
   pub run_running : (steps : List FileEvent) (old new : C) → FileRun C state (IsIn among) steps old new → (state new).stop ≡ None → (state old).stop ≡ None
@@ -384,21 +463,3 @@ module _ (C : Type 0) (state : C → CoreState) (among : ByteSet) where
 pub chain_on : (first rest : List StoreChange) (s mid t : Store) → ChangesTo first s mid → ChangesTo rest mid t → ChangesTo (first ++ rest) s t
 chain_on [] rest s mid t one two = subst (λ (u : Store). ChangesTo rest u t) one two
 chain_on (change ∷ more) rest s mid t one two = (one.0, chain_on more rest (changed change s) mid t one.1 two)
-
-module _ (C : Type 0) (state : C → CoreState) where
-  pub keeps_files : KeepsFiles C state
-  keeps_files among [] s stored old new distinct at run stays = record {
-    store = s;
-    chain = refl;
-    is_at = subst (λ (c : C). IsAt (IsIn among) s stored (state c)) (sym run) at;
-    whole = subst (λ (c : C). IndexesAll s (state old).known → IndexesAll s (state c).known) (sym run) (λ whole. whole);
-  }
-  keeps_files among (f ∷ fs) s stored old new distinct at run stays =
-      let next = file_step among distinct f s stored (state old) (state run.0) run.1.0 at (run_running C state among fs run.0 new run.1.1 stays) in
-      let reached = keeps_files among fs next.store (stored_by f stored) run.0 new distinct next.is_at run.1.1 stays in
-      record {
-        store = reached.store;
-        chain = chain_on (changes_by f.event.step f.event.answer) (changes_of fs) s next.store reached.store next.chain reached.chain;
-        is_at = reached.is_at;
-        whole = λ whole. reached.whole (next.whole whole);
-      }

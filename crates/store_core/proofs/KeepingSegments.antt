@@ -1,11 +1,11 @@
 -- The segments that the steps of a run kept are held at its end.
-use Rattle.std.proofs.Common.{◌≡◌, inl, inr, ℕ, List, [], ◌∷◌, ◌++◌, map, Some, None, Result, Ok, Err, refl, sym, ◌∙◌, ap, subst}
+use Rattle.std.proofs.Common.{◌≡◌, inl, inr, ℕ, List, [], ◌∷◌, ◌++◌, map, Some, None, Result, Ok, Err, refl, sym, ◌∙◌, ap, subst, Option}
 use Rattle.std.proofs.lemmas.Bool.{eqb-true}
 use Rattle.std.proofs.lemmas.List.{append-nil, append_assoc}
 use Rattle.std.specs.List.{AllByRecursion}
 use Rattle.sha2.specs.Sha256.{sha256}
-use Rattle.disk_format.specs.Layout.{slot_at}
-use Rattle.dd_disk.specs.Ending.{ending_of}
+use Rattle.disk_format.specs.Layout.{slot_at, size_of}
+use Rattle.dd_disk.specs.Ending.{ending_of, Done, Ending}
 use Rattle.dd_disk.specs.View.{OnlyReads, IsDurable}
 use Rattle.dd_disk.proofs.Shows.{shown_content}
 use Rattle.container_meta.specs.declared.kind.Kind.{Kind}
@@ -13,7 +13,7 @@ use Rattle.container_meta.specs.declared.kind.Kind.TheVariants.{Leaf, Tree}
 use Rattle.container_meta.specs.declared.place.Place.{Place}
 use Rattle.container_meta.specs.Places.{PlaceMap}
 use Rattle.container_meta.specs.Segments.{Segment, KindSegment, Contents, segment_key}
-use Rattle.segment_index.specs.Changes.{SameBefore}
+use Rattle.segment_index.specs.Changes.{SameBefore, Changes}
 use Rattle.actor_parts.specs.declared.step.Answer.{Answer}
 use Rattle.actor_parts.specs.declared.step.Answer.TheVariants as answers
 use Rattle.actor_parts.specs.Segments.{IsOfKind, pin_of}
@@ -25,7 +25,7 @@ use Rattle.store_model.specs.Collisions.{HasNoCollisions, ByteSet, IsIn, IsAmong
 use Rattle.store_model.specs.Files.{Files, Stored}
 use Rattle.store_model.specs.Image.{Store}
 use Rattle.store_model.specs.Slots.{Copy, HasKey, newest}
-use Rattle.store_model.specs.Steps.{StoreChange, SealContainer, ChangeName, with_sealed, with_change}
+use Rattle.store_model.specs.Steps.{StoreChange, SealContainer, ChangeName, with_sealed, with_change, FreeContainer}
 use Rattle.store_model.specs.Trees.{HasNewest, bytes_at}
 use Rattle.store_model.proofs.Copies.{copy_digest, headers_of_right}
 use Rattle.store_model.proofs.FramedTrees.{newest_framed}
@@ -37,17 +37,25 @@ use Rattle.store_state.specs.Comparing.{FitsBytes}
 use Rattle.store_state.specs.Refused.{blames}
 use Rattle.store_state.specs.Settled.{IsSettled, KeepsWhatCounts, Left}
 use Rattle.ingest_steps.proofs.HeldPins.{node_of}
-use Rattle.store_core.specs.Core.{Row, ClaimRow, SealRow, Effect, StopsAfter, next_id}
+use Rattle.store_core.specs.Core.{Row, ClaimRow, SealRow, Effect, StopsAfter, next_id, Steps}
 use Rattle.store_core.specs.Keeping.{kept_by, kept_of, IsHeldIn, KeepsSegments, StaysHeld, StaysSettled}
-use Rattle.store_core.specs.Runs.{FileEvent, FileStep, FileRun, IsAt, IsGivenRight, ChangesTo, changes_by, stored_by, stored_after}
+use Rattle.store_core.specs.Runs.{FileEvent, FileStep, FileRun, IsAt, IsGivenRight, ChangesTo, changes_by, stored_by, stored_after, AreNoGcSteps, IsNoGcStep, events_of}
 use Rattle.store_core.specs.State.{CoreState}
 use Rattle.store_core.proofs.CoreRuns.{running_step}
-use Rattle.store_core.proofs.KeepingFiles.{Next, file_step, run_running, only_reads, seal_holds}
+use Rattle.gc_steps.specs.declared.collection.Stage.TheVariants.{Mark, Filter, Select, Copy as CopyStage, Release, End}
+use Rattle.store_core.proofs.AnySteps.{any_step, gc_or_not, other_leads, with_step}
+use Rattle.store_core.proofs.Leading.{Leads}
+use Rattle.store_core.proofs.KeepingFiles.{file_step, run_running, only_reads, seal_holds, NextOn}
 use Rattle.store_core.proofs.Sealing.{one_map}
+use Rattle.gc_steps.specs.declared.collection.Collection.{Collection}
+use Rattle.store_core.specs.Collecting.{GcEffect, GcRow, TouchesBy, at_moment}
+use Rattle.gc_steps.specs.declared.collection.Stage.{Stage}
+use Rattle.gc_steps.specs.Stepping.{StepsTo, Touches, IsStepRefusal}
+use Rattle.store_model.specs.Freeing.{with_freed}
 
 -- ---- lists
 
-all_on : {A : Type 0} (P : A → Type 0) (xs ys : List A) → AllByRecursion P xs → AllByRecursion P ys → AllByRecursion P (xs ++ ys)
+pub all_on : {A : Type 0} (P : A → Type 0) (xs ys : List A) → AllByRecursion P xs → AllByRecursion P ys → AllByRecursion P (xs ++ ys)
 all_on P [] ys first second = second
 all_on P (x ∷ xs) ys first second = (first.0, all_on P xs ys first.1 second)
 
@@ -134,27 +142,66 @@ module _ (old new : CoreState) (stays : new.stop ≡ None) (given : List ℕ) (h
   seal_settled filled refusals.DiskRead stops left = counts_settled left
   seal_settled filled refusal stops left = counts_settled left
 
-  pub effect_settled : (step : StepValue) (answer : Result Answer Refusal) → StopsAfter step answer old.acknowledged new.stop → Effect step answer old new → Settled
-  effect_settled asked.Begin answer stops effect = reads_settled effect.disk.only
-  effect_settled (asked.Claim seg) answer stops effect = reads_settled effect.disk.only
-  effect_settled (asked.Seal filled) (Ok answer) stops effect = effect.disk.left settled
-  effect_settled (asked.Seal filled) (Err refusal) stops effect = seal_settled filled refusal stops effect.disk.left
-  effect_settled (asked.Commit name root) (Ok answer) stops effect = durable_settled effect.durable
-  effect_settled (asked.Commit name root) (Err refusal) stops effect = reads_settled (only_reads old new stays (asked.Commit name root) refusal stops effect.disk.ends)
-  effect_settled (asked.Delete name) (Ok answer) stops effect = durable_settled effect.durable
-  effect_settled (asked.Delete name) (Err refusal) stops effect = reads_settled (only_reads old new stays (asked.Delete name) refusal stops effect.disk.ends)
-  effect_settled asked.ListNames answer stops effect = reads_settled effect.disk.only
-  effect_settled asked.Abort answer stops effect = reads_settled effect.disk.only
-  effect_settled (asked.OpenRead name) answer stops effect = reads_settled effect.disk.only
-  effect_settled asked.ReadNext answer stops effect = reads_settled effect.disk.only
-  effect_settled asked.EndRead answer stops effect = reads_settled effect.disk.only
-  effect_settled asked.Stat answer stops effect = reads_settled effect.disk.only
+  pub effect_settled : (step : StepValue) (answer : Result Answer Refusal) → IsNoGcStep step → StopsAfter step answer old.acknowledged new.stop → Effect step answer old new → Settled
+  effect_settled asked.Begin answer other stops effect = reads_settled effect.disk.only
+  effect_settled (asked.Claim seg) answer other stops effect = reads_settled effect.disk.only
+  effect_settled (asked.Seal filled) (Ok answer) other stops effect = effect.disk.left settled
+  effect_settled (asked.Seal filled) (Err refusal) other stops effect = seal_settled filled refusal stops effect.disk.left
+  effect_settled (asked.Commit name root) (Ok answer) other stops effect = durable_settled effect.durable
+  effect_settled (asked.Commit name root) (Err refusal) other stops effect = reads_settled (only_reads old new stays (asked.Commit name root) refusal stops effect.disk.ends)
+  effect_settled (asked.Delete name) (Ok answer) other stops effect = durable_settled effect.durable
+  effect_settled (asked.Delete name) (Err refusal) other stops effect = reads_settled (only_reads old new stays (asked.Delete name) refusal stops effect.disk.ends)
+  effect_settled asked.ListNames answer other stops effect = reads_settled effect.disk.only
+  effect_settled asked.Abort answer other stops effect = reads_settled effect.disk.only
+  effect_settled (asked.OpenRead name) answer other stops effect = reads_settled effect.disk.only
+  effect_settled asked.ReadNext answer other stops effect = reads_settled effect.disk.only
+  effect_settled asked.EndRead answer other stops effect = reads_settled effect.disk.only
+  effect_settled (asked.GcStart percent) answer other stops effect = reads_settled effect.disk.only
+  effect_settled asked.GcStep answer other stops effect = absurd other
+  effect_settled asked.Stat answer other stops effect = reads_settled effect.disk.only
+
+  -- ---- a step of a collection
+
+  changes_settled : (e : Ending) → old.disk.size ≡ size_of old.tables.slots → ((slots : ℕ) → old.disk.size ≡ size_of slots → Changes (slot_at slots) e old.disk new.disk) → Settled
+  changes_settled e sized changes = let changed = changes old.tables.slots sized in counts_settled (record { content_is = changed.content_is; leaves = changed.leaves })
+
+  did_settled : (before after : Collection) (stage : Stage) → old.disk.size ≡ size_of old.tables.slots → StepsTo stage (at_moment old before) (at_moment new after) → Touches stage old.tables Done old.disk new.disk → Settled
+  did_settled before after (Mark level slot) sized steps touches = reads_settled touches.only
+  did_settled before after (Filter slot) sized steps touches = reads_settled touches.only
+  did_settled before after Select sized steps touches = reads_settled touches.only
+  did_settled before after (CopyStage source) sized steps touches = changes_settled Done sized touches
+  did_settled before after (Release next slot) sized steps touches = durable_settled steps.1
+  did_settled before after End sized steps touches = reads_settled touches.only
+
+  refused_settled : (before : Collection) (stage : Stage) (refusal : Refusal) (e : Ending) → StopsAfter asked.GcStep (Err refusal) old.acknowledged new.stop → old.disk.size ≡ size_of old.tables.slots
+      → IsStepRefusal stage (at_moment old before) new.disk refusal → Touches stage old.tables e old.disk new.disk → Settled
+  refused_settled before (Mark level slot) refusal e stops sized cause touches = reads_settled touches.only
+  refused_settled before (Filter slot) refusal e stops sized cause touches = reads_settled touches.only
+  refused_settled before Select refusal e stops sized cause touches = reads_settled touches.only
+  refused_settled before (CopyStage source) refusal e stops sized cause touches = changes_settled e sized touches
+  refused_settled before (Release next slot) refusal e stops sized cause touches = absurd (broken (subst (λ (x : Refusal). StopsAfter asked.GcStep (Err x) old.acknowledged new.stop) cause stops))
+    where
+      broken : StopsAfter asked.GcStep (Err refusals.DiskWrite) old.acknowledged new.stop → ⊥
+      broken is = let both = sym stays ∙ is in cc
+  refused_settled before End refusal e stops sized cause touches = absurd cause
+
+  pub gc_settled : (answer : Result Answer Refusal) → old.disk.size ≡ size_of old.tables.slots → StopsAfter asked.GcStep answer old.acknowledged new.stop → GcRow answer old new → GcEffect answer old new → Settled
+  gc_settled (Ok (answers.Did phase)) sized stops row effect =
+      did_settled row.0.before row.0.after row.0.before.stage sized row.0.steps (subst (λ (o : Option Collection). TouchesBy o (Ok (answers.Did phase)) old new.disk) row.0.ran effect.touches)
+  gc_settled (Ok (answers.Done freed copied)) sized stops row effect =
+      let touched = subst (λ (o : Option Collection). TouchesBy o (Ok (answers.Done freed copied)) old new.disk) row.0.ran effect.touches in
+      reads_settled (subst (λ (stage : Stage). Touches stage old.tables Done old.disk new.disk) row.0.at_end touched).only
+  gc_settled (Err refusals.NotCollecting) sized stops row effect = reads_settled (subst (λ (o : Option Collection). TouchesBy o (Err refusals.NotCollecting) old new.disk) row.0.none_ran effect.touches).only
+  gc_settled (Err refusal) sized stops row effect =
+      refused_settled row.0.before row.0.before.stage refusal (ending_of (blames refusal)) stops sized row.0.cause (subst (λ (o : Option Collection). TouchesBy o (Err refusal) old new.disk) row.0.ran effect.touches)
+  gc_settled answer sized stops row effect = absurd row
 
 -- changes leave the number of slots
 same_slots : (changes : List StoreChange) (s t : Store) → ChangesTo changes s t → t.slots ≡ s.slots
 same_slots [] s t chain = ap (λ (store : Store). store.slots) chain
 same_slots (SealContainer id kind segments ∷ rest) s t chain = same_slots rest (with_sealed id kind segments s) t chain.1
 same_slots (ChangeName name change ∷ rest) s t chain = same_slots rest (with_change name change s) t chain.1
+same_slots (FreeContainer slot ∷ rest) s t chain = same_slots rest (with_freed slot s) t chain.1
 
 -- ---- along a run
 
@@ -176,8 +223,8 @@ module _ (among : ByteSet) (s : Store) (stored later : Stored) (old new : CoreSt
 
   -- what a step kept, by the store that it leads to
   abbrev Kept : StepValue → Result Answer Refusal → Type 0
-  Kept step answer = (next : Next (IsIn among) s (changes_by step answer) later old new) → (then : PlaceMap) → new.known ≡ Some then → (after : List ℕ) → new.disk.content ≡ Some after → Effect step answer old new
-      → IsStep step → IsGivenRight (IsIn among) step answer bytes old → AllByRecursion (HoldsSegment then next.store after) (kept_by step answer)
+  Kept step answer = (next : NextOn (IsIn among) s (changes_by step answer) later old new) → (then : PlaceMap) → new.known ≡ Some then → (after : List ℕ) → new.disk.content ≡ Some after → Effect step answer old new
+      → IsStep step → IsGivenRight (IsIn among) step answer bytes old → AllByRecursion (HoldsSegment then next.next.store after) (kept_by step answer)
 
   claim_kept : (seg : KindSegment) (answer : Result Answer Refusal) → ClaimRow seg actor answer old new → Kept (asked.Claim seg) answer
   claim_kept seg (Ok answers.Held) row next then then_is after is effect right given =
@@ -196,13 +243,13 @@ module _ (among : ByteSet) (s : Store) (stored later : Stored) (old new : CoreSt
   seal_kept : (filled : Contents) (answer : Result Answer Refusal) → SealRow filled actor answer old new → Kept (asked.Seal filled) answer
   seal_kept filled (Ok (answers.Sealed id)) row next then then_is after is effect right given =
       let holds = (seal_holds among s stored old new actor buf bytes distinct at stays filled (Ok (answers.Sealed id)) after is effect right given).1 in
-      let store : next.store ≡ with_sealed (next_id old) filled.kind filled.segments s = next.chain.1 ∙ ap (λ (n : ℕ). with_sealed n filled.kind filled.segments s) row.id_is in
+      let store : next.next.store ≡ with_sealed (next_id old) filled.kind filled.segments s = next.next.chain.1 ∙ ap (λ (n : ℕ). with_sealed n filled.kind filled.segments s) row.id_is in
       let there = subst (λ (t : Store). AllByRecursion (λ x. HasNewest t.held (segment_key filled.kind x) x.level x.bytes after) filled.segments) (sym store) holds in
       let keys = effect.made.adds_keys at.index at.index_known then then_is in
-      all_map (λ x. HasKey then (segment_key filled.kind x) × HasNewest next.store.held (segment_key filled.kind x) x.level x.bytes after) (HoldsSegment then next.store after) (λ x. record { kind = filled.kind; segment = x })
+      all_map (λ x. HasKey then (segment_key filled.kind x) × HasNewest next.next.store.held (segment_key filled.kind x) x.level x.bytes after) (HoldsSegment then next.next.store after) (λ x. record { kind = filled.kind; segment = x })
       filled.segments
-      (λ x both. (both.0, sealed_held (IsIn among) next.store later.files after (next.is_at.stands.each after (new.disk.as_read after is)) filled.kind x both.1))
-      (all_two (λ x. HasKey then (segment_key filled.kind x)) (λ x. HasNewest next.store.held (segment_key filled.kind x) x.level x.bytes after) filled.segments keys there)
+      (λ x both. (both.0, sealed_held (IsIn among) next.next.store later.files after (next.next.is_at.stands.each after (new.disk.as_read after is)) filled.kind x both.1))
+      (all_two (λ x. HasKey then (segment_key filled.kind x)) (λ x. HasNewest next.next.store.held (segment_key filled.kind x) x.level x.bytes after) filled.segments keys there)
   seal_kept filled (Err refusal) row next then then_is after is effect right given = tt
   seal_kept filled answer row next then then_is after is effect right given = absurd row
 
@@ -211,21 +258,34 @@ module _ (among : ByteSet) (s : Store) (stored later : Stored) (old new : CoreSt
   step_kept (asked.Seal filled) answer row = seal_kept filled answer row
   step_kept step answer row = λ next then then_is after is effect right given. tt
 
+-- a disk that was settled is settled, whatever the step
+settled_step : (among : ByteSet) (distinct : HasNoCollisions (IsIn among)) (f : FileEvent) (s : Store) (stored : Stored) (old new : CoreState) → IsAt (IsIn among) s stored old → IsSettled old.tables.slots old.disk
+    → FileStep (IsIn among) f old new → (leads : Leads (IsIn among) s f (stored_by f stored) old new) → old.stop ≡ None → new.stop ≡ None → IsSettled new.tables.slots new.disk
+settled_step among distinct f s stored old new at settled step leads runs stays =
+    let steps = running_step old new f.event runs step.made in
+    let slots : old.tables.slots ≡ new.tables.slots = at.represents.slots_are ∙ sym (same_slots leads.changes s leads.next.store leads.next.chain) ∙ sym leads.next.is_at.represents.slots_are in
+    let sized : old.disk.size ≡ size_of old.tables.slots = at.valid.size_is ∙ ap size_of (sym at.represents.slots_are) in
+    subst (λ (n : ℕ). IsSettled n new.disk) slots
+    (elim (gc_or_not f.event.step) [
+      | inl gc ↦ subst (λ (st : StepValue). Steps (with_step f st).event old new → IsSettled old.tables.slots new.disk) (sym gc)
+          (λ made. gc_settled old new stays at.stands.known.0 at.stands.known.1 settled f.event.answer sized made.stops made.made.row made.made.effect) steps
+      | inr other ↦ effect_settled old new stays at.stands.known.0 at.stands.known.1 settled f.event.step f.event.answer other steps.stops steps.made.effect
+    ])
+
 module _ (among : ByteSet) (distinct : HasNoCollisions (IsIn among)) where
-  -- a step more
-  keeps_step : (f : FileEvent) (s : Store) (stored : Stored) (segs : List KindSegment) (old new : CoreState) → Keeps (IsIn among) s stored segs old → FileStep (IsIn among) f old new → old.stop ≡ None → new.stop ≡ None
+  -- a step more, of no collection
+  keeps_step : (f : FileEvent) (s : Store) (stored : Stored) (segs : List KindSegment) (old new : CoreState) → IsNoGcStep f.event.step → Keeps (IsIn among) s stored segs old → FileStep (IsIn among) f old new → old.stop ≡ None → new.stop ≡ None
       → (t : Store) × Keeps (IsIn among) t (stored_by f stored) (segs ++ kept_by f.event.step f.event.answer) new
-  keeps_step f s stored segs old new keeps step runs stays =
+  keeps_step f s stored segs old new other keeps step runs stays =
       let at = keeps.is_at in
       let steps = running_step old new f.event runs step.made in
-      let next = file_step among distinct f s stored old new step at stays in
-      let slots : old.tables.slots ≡ new.tables.slots = at.represents.slots_are ∙ sym (same_slots (changes_by f.event.step f.event.answer) s next.store next.chain) ∙ sym next.is_at.represents.slots_are in (
-        next.store,
+      let next = file_step among distinct f s stored old new other step at stays in (
+        next.next.store,
         record {
-          is_at = next.is_at;
-          settled = subst (λ (n : ℕ). IsSettled n new.disk) slots (effect_settled old new stays at.stands.known.0 at.stands.known.1 keeps.settled f.event.step f.event.answer steps.stops steps.made.effect);
-          held = λ then then_is after is. all_on (HoldsSegment then next.store after) segs (kept_by f.event.step f.event.answer)
-              (all_weaker (HoldsSegment at.index s at.stands.known.0) (HoldsSegment then next.store after) segs
+          is_at = next.next.is_at;
+          settled = settled_step among distinct f s stored old new at keeps.settled step (other_leads among distinct f s stored old new other next) runs stays;
+          held = λ then then_is after is. all_on (HoldsSegment then next.next.store after) segs (kept_by f.event.step f.event.answer)
+              (all_weaker (HoldsSegment at.index s at.stands.known.0) (HoldsSegment then next.next.store after) segs
               (λ seg has. (
                 next.keys at.index then at.index_known then_is (segment_key seg.kind seg.segment) has.0,
                 next.copies at.index at.stands.known.0 after at.index_known at.stands.known.1 is (segment_key seg.kind seg.segment) (pin_of seg).level seg.segment.bytes has.0 has.1,
@@ -272,33 +332,43 @@ held_after S stored segs c kept =
     all_held S kept.store stored c at kept.keeps.settled segs (kept.keeps.held at.index at.index_known at.stands.known.0 at.stands.known.1)
 
 module _ (C : Type 0) (state : C → CoreState) (among : ByteSet) (distinct : HasNoCollisions (IsIn among)) where
-  keeps_on : (steps : List FileEvent) (s : Store) (stored : Stored) (segs : List KindSegment) (old new : C) → Keeps (IsIn among) s stored segs (state old) → FileRun C state (IsIn among) steps old new → (state new).stop ≡ None
-      → KeepsAll (IsIn among) (stored_after steps stored) (segs ++ kept_of steps) (state new)
-  keeps_on [] s stored segs old new keeps run stays =
+  keeps_on : (steps : List FileEvent) (s : Store) (stored : Stored) (segs : List KindSegment) (old new : C) → Keeps (IsIn among) s stored segs (state old) → FileRun C state (IsIn among) steps old new → AreNoGcSteps (events_of steps)
+      → (state new).stop ≡ None → KeepsAll (IsIn among) (stored_after steps stored) (segs ++ kept_of steps) (state new)
+  keeps_on [] s stored segs old new keeps run others stays =
       subst (λ (all : List KindSegment). KeepsAll (IsIn among) stored all (state new)) (sym (append-nil segs))
       (subst (λ (c : C). KeepsAll (IsIn among) stored segs (state c)) (sym run) (record { store = s; keeps = keeps }))
-  keeps_on (f ∷ fs) s stored segs old new keeps run stays =
+  keeps_on (f ∷ fs) s stored segs old new keeps run others stays =
       let mid = run.0 in
       let going = run_running C state among fs mid new run.1.1 stays in
       let runs = run_running C state among (f ∷ fs) old new run stays in
-      let next = keeps_step among distinct f s stored segs (state old) (state mid) keeps run.1.0 runs going in
+      let next = keeps_step among distinct f s stored segs (state old) (state mid) others.0 keeps run.1.0 runs going in
       let more = kept_by f.event.step f.event.answer in
       subst (λ (all : List KindSegment). KeepsAll (IsIn among) (stored_after (f ∷ fs) stored) all (state new)) (append_assoc segs more (kept_of fs))
-      (keeps_on fs next.0 (stored_by f stored) (segs ++ more) mid new next.1 run.1.1 stays)
+      (keeps_on fs next.0 (stored_by f stored) (segs ++ more) mid new next.1 run.1.1 others.1 stays)
+
+  -- where a run leads, and its disk is settled
+  pub settled_on : (steps : List FileEvent) (s : Store) (stored : Stored) (old new : C) → IsAt (IsIn among) s stored (state old) → IsSettled (state old).tables.slots (state old).disk → FileRun C state (IsIn among) steps old new
+      → (state new).stop ≡ None → IsSettled (state new).tables.slots (state new).disk
+  settled_on [] s stored old new at settled run stays = subst (λ (c : C). IsSettled (state c).tables.slots (state c).disk) (sym run) settled
+  settled_on (f ∷ fs) s stored old new at settled run stays =
+      let mid = run.0 in
+      let going = run_running C state among fs mid new run.1.1 stays in
+      let runs = run_running C state among (f ∷ fs) old new run stays in
+      let leads = any_step among distinct f s stored (state old) (state mid) run.1.0 at going in
+      settled_on fs leads.next.store (stored_by f stored) mid new leads.next.is_at (settled_step among distinct f s stored (state old) (state mid) at settled run.1.0 leads runs going) run.1.1 stays
 
 module _ (C : Type 0) (state : C → CoreState) where
   pub keeps_segments : KeepsSegments C state
-  keeps_segments among steps s stored old new distinct at settled run stays =
+  keeps_segments among steps s stored old new distinct at settled run others stays =
       held_after (IsIn among) (stored_after steps stored) (kept_of steps) (state new)
-      (keeps_on C state among distinct steps s stored [] old new (record { is_at = at; settled = settled; held = λ index known image is. tt }) run stays)
+      (keeps_on C state among distinct steps s stored [] old new (record { is_at = at; settled = settled; held = λ index known image is. tt }) run others stays)
 
   pub stays_settled : StaysSettled C state
-  stays_settled among steps s stored old new distinct at settled run stays =
-      (keeps_on C state among distinct steps s stored [] old new (record { is_at = at; settled = settled; held = λ index known image is. tt }) run stays).keeps.settled
+  stays_settled among steps s stored old new distinct at settled run stays = settled_on C state among distinct steps s stored old new at settled run stays
 
   pub stays_held : StaysHeld C state
-  stays_held among steps s stored seg old new distinct at settled run stays held =
+  stays_held among steps s stored seg old new distinct at settled run others stays held =
       let here : (index : PlaceMap) → (state old).known ≡ Some index → (image : List ℕ) → (state old).disk.content ≡ Some image → AllByRecursion (HoldsSegment index s image) (seg ∷ []) =
       λ index known image is. ((held.indexed index known, (held.newest s at.represents).each image ((state old).disk.as_read image is)), tt) in
       (held_after (IsIn among) (stored_after steps stored) (seg ∷ kept_of steps) (state new)
-      (keeps_on C state among distinct steps s stored (seg ∷ []) old new (record { is_at = at; settled = settled; held = here }) run stays)).0
+      (keeps_on C state among distinct steps s stored (seg ∷ []) old new (record { is_at = at; settled = settled; held = here }) run others stays)).0

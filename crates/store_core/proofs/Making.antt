@@ -1,5 +1,5 @@
 -- A step of a core that runs, from what one of its functions did.
-use Rattle.std.proofs.Common.{◌≡◌, ℕ, List, Option, None, Result, Ok, refl, sym, subst}
+use Rattle.std.proofs.Common.{◌≡◌, ℕ, List, Option, None, Result, Ok, refl, sym, ◌∙◌, subst}
 use Rattle.dd_disk.proofs.Later.{reads_here}
 use Rattle.actor_parts.specs.declared.step.Answer.{Answer}
 use Rattle.actor_parts.specs.StepValue as asked
@@ -9,6 +9,8 @@ use Rattle.store_core.specs.declared.stop.Stop.{Stop}
 use Rattle.store_core.specs.Core.{IsCount, Made, StopsAfter, StepsOr, CoreStep, counted}
 use Rattle.store_core.specs.State.{CoreState, Event, IsUp, UnlessStopped, IsRunning}
 use Rattle.store_core.proofs.RunningOn.{step_runs}
+use Rattle.gc_steps.specs.declared.collection.Collection.{Collection}
+use Rattle.store_core.specs.Collecting.{Collects, IsKeptKey, MarksIn}
 
 -- the same step, by another name
 pub made_of : (value other : StepValue) → value ≡ other → (actor : ℕ) (answer : Result Answer Refusal) (buf : List ℕ) (old new : CoreState) → Made other actor answer buf old new → Made value actor answer buf old new
@@ -22,18 +24,26 @@ made_stat value same actor answer buf old stop count is = made_of value asked.St
   served = λ served. served;
 })
 
+-- what it does to the collection tells of the collection alone
+pub collects_same : (step : StepValue) (answer : Result Answer Refusal) (old new other : CoreState) → other.collection ≡ new.collection → Collects step answer old new → Collects step answer old other
+collects_same (asked.Claim seg) answer old new other same collects = subst (λ (c : Option Collection). MarksIn (IsKeptKey (asked.Claim seg) answer) old.collection c) (sym same) collects
+collects_same (asked.Seal filled) answer old new other same collects = subst (λ (c : Option Collection). MarksIn (IsKeptKey (asked.Seal filled) answer) old.collection c) (sym same) collects
+collects_same (asked.GcStart percent) answer old new other same collects = tt
+collects_same asked.GcStep answer old new other same collects = tt
+collects_same step answer old new other same collects = same ∙ collects
+
 -- it is up, where it isn't stopped
 pub up_of : (old : CoreState) → old.stop ≡ None → IsRunning old → IsUp old
 up_of old runs running = subst (λ (o : Option Stop). UnlessStopped o (IsUp old)) runs running
 
-pub core_step : (step : StepValue) (actor : ℕ) (answer : Result Answer Refusal) (buf : List ℕ) (old new : CoreState) → old.stop ≡ None → Made step actor answer buf old new
+pub core_step : (step : StepValue) (actor : ℕ) (answer : Result Answer Refusal) (buf : List ℕ) (old new : CoreState) → old.stop ≡ None → Made step actor answer buf old new → Collects step answer old new
     → StopsAfter step answer old.acknowledged new.stop → new.acknowledged ≡ counted answer old.acknowledged → CoreStep old (record { actor = actor; step = step; answer = answer; buf = buf }) new
-core_step step actor answer buf old new runs made stops is =
+core_step step actor answer buf old new runs made collects stops is =
     let e : Event = record { actor = actor; step = step; answer = answer; buf = buf } in
-    subst (λ (o : Option Stop). StepsOr o e old new) (sym runs) (record { made = made; stops = stops; counted_is = is })
+    subst (λ (o : Option Stop). StepsOr o e old new) (sym runs) (record { made = made; collects = collects; stops = stops; counted_is = is })
 
 -- and it runs on
-pub core_runs : (step : StepValue) (actor : ℕ) (answer : Result Answer Refusal) (buf : List ℕ) (old new : CoreState) → old.stop ≡ None → Made step actor answer buf old new
+pub core_runs : (step : StepValue) (actor : ℕ) (answer : Result Answer Refusal) (buf : List ℕ) (old new : CoreState) → old.stop ≡ None → Made step actor answer buf old new → Collects step answer old new
     → StopsAfter step answer old.acknowledged new.stop → new.acknowledged ≡ counted answer old.acknowledged → IsRunning old → IsRunning new
-core_runs step actor answer buf old new runs made stops is running =
-    step_runs old new (record { actor = actor; step = step; answer = answer; buf = buf }) (core_step step actor answer buf old new runs made stops is) running
+core_runs step actor answer buf old new runs made collects stops is running =
+    step_runs old new (record { actor = actor; step = step; answer = answer; buf = buf }) (core_step step actor answer buf old new runs made collects stops is) running

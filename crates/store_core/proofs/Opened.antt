@@ -33,12 +33,14 @@ use Rattle.store_state.specs.Tables.{Represents, Runs}
 use Rattle.store_core.specs.declared.stop.Stop.{Stop}
 use Rattle.store_core.specs.Core.{IndexesAll}
 use Rattle.store_core.specs.Opening.{IsNew, IsKept, BeginsAt, IsNewAt, IsNotRead, IsReadFrom, OpensCore, OpensNone}
-use Rattle.store_core.specs.State.{CoreState, IsUp, UnlessStopped, IsRunning}
+use Rattle.store_core.specs.Runs.{IsSafeIn}
+use Rattle.store_core.specs.State.{CoreState, IsUnderWayIn, IsUp, UnlessStopped, IsRunning}
+use Rattle.store_core.proofs.SafeSteps.{alone}
 
 pub new_core : (shown : (List ℕ → Type 0) → Type 0) (size : ℕ) (o : OpenStore) (c : CoreState) → IsOpened shown size o → c.disk.size ≡ size
     → ((store : Store) → opened.Represents store o → Represents store c.known c.tables) → ((store : Store) → opened.Represents store o → IsValidFor size store → c.served)
-    → ((store : Store) → opened.Represents store o → IndexesAll store c.known) → c.tables.held.last_id ≡ o.containers.last_id → ((places : PlaceMap) × (c.known ≡ Some places)) → c.parts ≡ replicate ACTORS Idle → c.stop ≡ None → c.acknowledged ≡ 0 → IsNew shown size c
-new_core shown size o c is same represents serves whole last told parts stop count = record {
+    → ((store : Store) → opened.Represents store o → IndexesAll store c.known) → c.tables.held.last_id ≡ o.containers.last_id → ((places : PlaceMap) × (c.known ≡ Some places)) → c.parts ≡ replicate ACTORS Idle → c.collection ≡ None → c.stop ≡ None → c.acknowledged ≡ 0 → IsNew shown size c
+new_core shown size o c is same represents serves whole last told parts none stop count = record {
   store = is.found.store;
   right = is.found.right;
   represents = represents is.found.store is.found.represents;
@@ -46,6 +48,7 @@ new_core shown size o c is same represents serves whole last told parts stop cou
   valid = is.found.valid;
   reserve = is.reserve;
   parts_are = parts;
+  collection_is = none;
   stop_is = stop;
   counted = count;
   served = serves is.found.store is.found.represents is.found.valid;
@@ -55,9 +58,10 @@ new_core shown size o c is same represents serves whole last told parts stop cou
 
 pub new_runs : (shown : (List ℕ → Type 0) → Type 0) (size : ℕ) (c : CoreState) → c.disk.size ≡ size → IsNew shown size c → IsRunning c
 new_runs shown size c same is = subst (λ (stop : Option Stop). UnlessStopped stop (IsUp c)) (sym is.stop_is) (record {
-  runs = record { store = is.store; represents = is.represents; valid = subst (λ (n : ℕ). IsValidFor n is.store) (sym same) is.valid; reserve_holds = is.reserve };
+  runs = record { store = is.store; represents = alone is.store c.known c.tables is.represents; valid = subst (λ (n : ℕ). IsValidFor n is.store) (sym same) is.valid; reserve_holds = is.reserve };
   many = ap length is.parts_are ∙ length-replicate ACTORS Idle;
   served = is.served;
+  under_way = subst (IsUnderWayIn c.tables.held) (sym is.collection_is) tt;
 })
 
 -- ---- one over a store that was opened, with room that may have been made
@@ -69,13 +73,13 @@ module _ (D : Type 0) (view : D → DiskView) (old new : D) where
       → ((store : Store) → opened.Represents store found → IndexesAll store known)
       → tables.held.last_id ≡ found.containers.last_id → ((places : PlaceMap) × (known ≡ Some places)) → parts ≡ replicate ACTORS Idle
       → (mid : D) → ReadsStore (Ok found) (view mid) (view new)
-      → IsReadFrom (view mid) (record { disk = view new; tables = tables; known = known; served = served; breaks = breaks; parts = parts; stop = None; acknowledged = 0 })
+      → IsReadFrom (view mid) (record { disk = view new; tables = tables; known = known; served = served; breaks = breaks; parts = parts; collection = None; stop = None; acknowledged = 0 })
   read_core found tables known served breaks parts represents serves whole last told are mid reads =
       let same : (view new).size ≡ (view mid).size = reads.reads.only.later.size_is in
       record {
         opened = new_core (Shows (view mid) (view new)) (view mid).size found
-            (record { disk = view new; tables = tables; known = known; served = served; breaks = breaks; parts = parts; stop = None; acknowledged = 0 })
-            reads.opened same represents (λ store is valid. serves store is (subst (λ (n : ℕ). IsValidFor n store) (sym same) valid)) whole last told are refl refl;
+            (record { disk = view new; tables = tables; known = known; served = served; breaks = breaks; parts = parts; collection = None; stop = None; acknowledged = 0 })
+            reads.opened same represents (λ store is valid. serves store is (subst (λ (n : ℕ). IsValidFor n store) (sym same) valid)) whole last told are refl refl refl;
         durable = reads.durable;
         reads = reads.reads;
       }
@@ -86,7 +90,7 @@ module _ (D : Type 0) (view : D → DiskView) (old new : D) where
       → ((store : Store) → opened.Represents store found → IsValidFor (view new).size store → served)
       → ((store : Store) → opened.Represents store found → IndexesAll store known)
       → tables.held.last_id ≡ found.containers.last_id → ((places : PlaceMap) × (known ≡ Some places)) → parts ≡ replicate ACTORS Idle
-      → OpensCore D view (view old) (record { disk = view new; tables = tables; known = known; served = served; breaks = breaks; parts = parts; stop = None; acknowledged = 0 })
+      → OpensCore D view (view old) (record { disk = view new; tables = tables; known = known; served = served; breaks = breaks; parts = parts; collection = None; stop = None; acknowledged = 0 })
   core_read found tables known served breaks parts (inl is) represents serves whole last told are =
       inl (read_core found tables known served breaks parts represents serves whole last told are old is.0)
   core_read found tables known served breaks parts (inr (inl is)) represents serves whole last told are =
@@ -126,11 +130,10 @@ opened_runs D view old c (inr is) = read_runs (view is.0) c is.1.1
 module _ (old new : CoreState) (same_size : new.disk.size ≡ old.disk.size) (kept : IsKept old new) where
   kept_up : IsUp old → IsUp new
   kept_up up = record {
-    runs = subst (λ (size : ℕ). Runs size new.known new.tables) (sym same_size)
-        (subst (λ (known : Option PlaceMap). Runs old.disk.size known new.tables) (sym kept.index_is)
-        (subst (λ (tables : Tables). Runs old.disk.size old.known tables) (sym kept.tables_are) up.runs));
+    runs = subst (λ (size : ℕ). Runs size None new.tables) (sym same_size) (subst (λ (tables : Tables). Runs old.disk.size None tables) (sym kept.tables_are) up.runs);
     many = ap length kept.parts_are ∙ up.many;
     served = kept.served up.served;
+    under_way = subst (IsUnderWayIn new.tables.held) (sym kept.collection_is) (subst (λ (t : Tables). IsUnderWayIn t.held old.collection) (sym kept.tables_are) up.under_way);
   }
 
   unless_stopped : (stop : Option Stop) → UnlessStopped stop (IsUp old) → UnlessStopped stop (IsUp new)
@@ -189,8 +192,12 @@ begins_at S stored image v c new durable reads told is =
           pins_are_closed = subst (AllByRecursion (HoldsPart (HasKey new.told.0) is.0.held bytes)) (sym new.parts_are) (idle_parts (HasKey new.told.0) is.0 bytes ACTORS);
           reserve_holds = stands.holds.reserve;
         };
+        many = ap length new.parts_are ∙ length-replicate ACTORS Idle;
+        under_way = subst (IsUnderWayIn c.tables.held) (sym new.collection_is) tt;
+        safe = λ bytes told_here. subst (IsSafeIn new.told.0 is.0 c.parts bytes) (sym new.collection_is) tt;
       };
       whole = whole;
+      none_runs = new.collection_is;
       last_id_is = new.last_id_is ∙ ap (λ (store : Store). last_id store.held) same;
       settled = durable_settled c.tables.slots c.disk durable;
     }

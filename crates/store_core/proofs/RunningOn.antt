@@ -1,6 +1,7 @@
 -- A core that runs runs on, or is stopped.
-use Rattle.std.proofs.Common.{◌≡◌, ℕ, List, [], ◌∷◌, length, Option, Some, None, Result, Ok, Err, refl, sym, ◌∙◌, ap, subst}
-use Rattle.container_meta.specs.Places.{PlaceMap}
+use Rattle.gc_steps.proofs.Sealed.{sealed}
+use Rattle.actor_parts.specs.declared.step.Answer.TheVariants as answers
+use Rattle.std.proofs.Common.{◌≡◌, ℕ, List, [], ◌∷◌, length, Option, Some, None, Result, Ok, Err, refl, sym, ◌∙◌, ap, subst, arith, ◌<◌, ◌≤◌, slice_get}
 use Rattle.dd_disk.specs.View.{IsLater}
 use Rattle.actor_parts.specs.declared.actor.TheConstants.{ACTORS}
 use Rattle.actor_parts.specs.declared.part.Part.{Part}
@@ -10,52 +11,180 @@ use Rattle.actor_parts.specs.StepValue.{StepValue}
 use Rattle.actor_parts.proofs.Apart.{apart}
 use Rattle.refusals.specs.declared.refusal.Refusal.{Refusal}
 use Rattle.refusals.specs.declared.refusal.Refusal.TheVariants as refusals
-use Rattle.container_meta.specs.Segments.{Contents}
+use Rattle.container_meta.specs.Segments.{Contents, KindSegment}
 use Rattle.store_state.specs.declared.tables.Tables.{Tables}
-use Rattle.store_state.specs.Tables.{Runs}
+use Rattle.store_state.specs.Tables.{Runs, IsFirstFree}
 use Rattle.store_core.specs.declared.stop.Stop.{Stop}
-use Rattle.store_core.specs.Core.{Effect, KeepsTables, KeepsUnlessBroken, StopsAfter, Steps, StepsOr, CoreStep}
+use Rattle.store_core.specs.Core.{Effect, KeepsTables, KeepsUnlessBroken, StopsAfter, Steps, StepsOr, CoreStep, CommitRow, DeleteRow, Makes, NamesOne, Rests, Row, SealRow, SealsOne, next_id}
 use Rattle.store_core.specs.Runs.{RunsOn}
-use Rattle.store_core.specs.State.{CoreState, Event, IsUp, UnlessStopped, IsRunning}
+use Rattle.store_core.specs.State.{CoreState, Event, IsUp, UnlessStopped, IsRunning, IsUnderWayIn}
 use Rattle.store_core.proofs.Stepping.{ChangesOne, row_one}
+use Rattle.gc_steps.specs.declared.collection.Collection.{Collection}
+use Rattle.store_core.specs.Collecting.{Collects, GcRow, IsKeptKey, MarksIn, StartRow}
+use Rattle.store_model.specs.Slots.{free_slots, first_free}
+use Rattle.disk_format.specs.Cells.Change.{Delete, Put}
+use Rattle.gc_steps.specs.declared.collection.Stage.TheVariants.{End, Filter, Mark, Release, Select, Copy}
+use Rattle.container_meta.specs.Spelling.{HeaderValue, header_of}
+use Rattle.disk_format.specs.Cells.{Root}
+use Rattle.store_model.specs.Steps.{SealContainer}
+use Rattle.store_state.specs.declared.slot_table.SlotTable.{SlotTable}
+use Rattle.gc_steps.specs.declared.collection.Stage.{Stage}
+use Rattle.gc_steps.specs.Stepping.{TablesAfter}
+use Rattle.gc_steps.proofs.UnderWay.{live_on}
 
 many_on : (actor : ℕ) (old new : List Part) → ChangesOne actor old new → length old ≡ ACTORS → length new ≡ ACTORS
 many_on actor old new changes many = ap length changes.parts_are ∙ apart.as_many old actor changes.part ∙ many
 
-module _ (old new : CoreState) (stays : new.stop ≡ None) where
-  same_runs : IsLater old.disk new.disk → KeepsTables old new → Runs old.disk.size old.known old.tables → Runs new.disk.size new.known new.tables
-  same_runs later kept runs =
-      subst (λ (size : ℕ). Runs size new.known new.tables) (sym later.size_is)
-      (subst (λ (known : Option PlaceMap). Runs old.disk.size known new.tables) (sym kept.index_is)
-      (subst (λ (tables : Tables). Runs old.disk.size old.known tables) (sym kept.tables_are) runs))
+module _ (old new : CoreState) where
+  same_runs : IsLater old.disk new.disk → new.tables ≡ old.tables → Runs old.disk.size None old.tables → Runs new.disk.size None new.tables
+  same_runs later same runs =
+      subst (λ (size : ℕ). Runs size None new.tables) (sym later.size_is) (subst (λ (tables : Tables). Runs old.disk.size None tables) (sym same) runs)
 
+  -- the tables are as they were, also where a change of the index broke off
+  tables_kept : (refusal : Refusal) → KeepsUnlessBroken refusal old new → new.tables ≡ old.tables
+  tables_kept refusals.DiskWrite kept = kept
+  tables_kept (refusals.Damaged at_byte why) kept = kept
+  tables_kept refusal kept = kept.tables_are
+
+  -- a step of a collection, by its stage
+  stage_runs : (stage : Stage) → IsLater old.disk new.disk → TablesAfter stage old.tables new.tables → Runs old.disk.size None old.tables → Runs new.disk.size None new.tables
+  stage_runs (Mark level slot) later after runs = same_runs later after runs
+  stage_runs (Filter slot) later after runs = same_runs later after runs
+  stage_runs Select later after runs = same_runs later after runs
+  stage_runs (Copy source) later after runs = same_runs later after runs
+  stage_runs (Release next slot) later after runs =
+      subst (λ (size : ℕ). Runs size None new.tables) (sym later.size_is) (after.runs old.disk.size None (λ index is. absurd cc) runs)
+  stage_runs End later after runs = same_runs later after runs
+
+  gc_runs : (answer : Result Answer Refusal) → IsLater old.disk new.disk → GcRow answer old new → Runs old.disk.size None old.tables → Runs new.disk.size None new.tables
+  gc_runs (Ok (answers.Did phase)) later row = stage_runs row.0.before.stage later row.0.tables
+  gc_runs (Ok (answers.Done freed copied)) later row = same_runs later row.0.tables_are
+  gc_runs (Err refusals.NotCollecting) later row = same_runs later row.0.tables_are
+  gc_runs (Err refusal) later row = same_runs later row.0.tables_are
+  gc_runs answer later row = absurd row
+
+  module _ (actor : ℕ) (buf : List ℕ) where
+    pub effect_runs : (step : StepValue) (answer : Result Answer Refusal) → Row step actor answer buf old new → Effect step answer old new → Runs old.disk.size None old.tables → Runs new.disk.size None new.tables
+    effect_runs asked.Begin answer row effect = same_runs effect.disk.only.later effect.tables.tables_are
+    effect_runs (asked.Claim seg) answer row effect = same_runs effect.disk.only.later effect.tables.tables_are
+    effect_runs (asked.Seal filled) (Ok answer) row effect = effect.made.runs
+    effect_runs (asked.Seal filled) (Err refusal) row effect = same_runs effect.disk.later (tables_kept refusal effect.kept)
+    effect_runs (asked.Commit name root) (Ok answer) row effect = effect.made.runs
+    effect_runs (asked.Commit name root) (Err refusal) row effect = same_runs effect.disk.later effect.kept.tables_are
+    effect_runs (asked.Delete name) (Ok answer) row effect = effect.made.runs
+    effect_runs (asked.Delete name) (Err refusal) row effect = same_runs effect.disk.later effect.kept.tables_are
+    effect_runs asked.ListNames answer row effect = same_runs effect.disk.only.later effect.tables.tables_are
+    effect_runs asked.Abort answer row effect = same_runs effect.disk.only.later effect.tables.tables_are
+    effect_runs (asked.OpenRead name) answer row effect = same_runs effect.disk.only.later effect.tables.tables_are
+    effect_runs asked.ReadNext answer row effect = same_runs effect.disk.only.later effect.tables.tables_are
+    effect_runs asked.EndRead answer row effect = same_runs effect.disk.only.later effect.tables.tables_are
+    effect_runs (asked.GcStart percent) answer row effect = same_runs effect.disk.only.later effect.tables.tables_are
+    effect_runs asked.GcStep answer row effect = gc_runs answer effect.later row
+    effect_runs asked.Stat answer row effect = same_runs effect.disk.only.later effect.tables.tables_are
+
+module _ (old new : CoreState) (stays : new.stop ≡ None) where
   pub seal_kept : (filled : Contents) (refusal : Refusal) (count : ℕ) → StopsAfter (asked.Seal filled) (Err refusal) count new.stop → KeepsUnlessBroken refusal old new → KeepsTables old new
   seal_kept filled refusals.DiskWrite count stops kept = absurd (let both = sym stays ∙ stops in cc)
   seal_kept filled (refusals.Damaged at_byte why) count stops kept = absurd (let both = sym stays ∙ stops in cc)
   seal_kept filled refusal count stops kept = kept
 
-  effect_runs : (step : StepValue) (answer : Result Answer Refusal) (count : ℕ) → StopsAfter step answer count new.stop → Effect step answer old new → Runs old.disk.size old.known old.tables → Runs new.disk.size new.known new.tables
-  effect_runs asked.Begin answer count stops effect = same_runs effect.disk.only.later effect.tables
-  effect_runs (asked.Claim seg) answer count stops effect = same_runs effect.disk.only.later effect.tables
-  effect_runs (asked.Seal filled) (Ok answer) count stops effect = effect.made.runs
-  effect_runs (asked.Seal filled) (Err refusal) count stops effect = same_runs effect.disk.later (seal_kept filled refusal count stops effect.kept)
-  effect_runs (asked.Commit name root) (Ok answer) count stops effect = effect.made.runs
-  effect_runs (asked.Commit name root) (Err refusal) count stops effect = same_runs effect.disk.later effect.kept
-  effect_runs (asked.Delete name) (Ok answer) count stops effect = effect.made.runs
-  effect_runs (asked.Delete name) (Err refusal) count stops effect = same_runs effect.disk.later effect.kept
-  effect_runs asked.ListNames answer count stops effect = same_runs effect.disk.only.later effect.tables
-  effect_runs asked.Abort answer count stops effect = same_runs effect.disk.only.later effect.tables
-  effect_runs (asked.OpenRead name) answer count stops effect = same_runs effect.disk.only.later effect.tables
-  effect_runs asked.ReadNext answer count stops effect = same_runs effect.disk.only.later effect.tables
-  effect_runs asked.EndRead answer count stops effect = same_runs effect.disk.only.later effect.tables
-  effect_runs asked.Stat answer count stops effect = same_runs effect.disk.only.later effect.tables
+-- ---- the collection that runs
+
+-- whichever keys became live
+marked_on : (P : List ℕ → Type 0) (t : SlotTable) (was now : Option Collection) → MarksIn P was now → IsUnderWayIn t was → IsUnderWayIn t now
+marked_on P t None now marks under_way = subst (IsUnderWayIn t) (sym marks) tt
+marked_on P t (Some c) now marks under_way = subst (IsUnderWayIn t) (sym marks.1.0) (live_on t c marks.0 under_way)
+
+-- the closed slot of least number is one
+first_within : (held : List (Option HeaderValue)) → 1 ≤ free_slots held → first_free held < length held
+first_within [] some = absurd (omega (arith, some))
+first_within (None ∷ cs) some = omega arith
+first_within (Some h ∷ cs) some = let rest = first_within cs some in omega (arith, rest)
+
+first_closed : (held : List (Option HeaderValue)) → 1 ≤ free_slots held → slice_get held (first_free held) ≡ Some None
+first_closed [] some = absurd (omega (arith, some))
+first_closed (None ∷ cs) some = refl
+first_closed (Some h ∷ cs) some = first_closed cs some
+
+-- a container that is sealed, of any store that the tables alone are of
+sealed_on : (filled : Contents) (id : ℕ) (old new : CoreState) (collection : Option Collection) → Runs old.disk.size None old.tables → Makes (SealContainer (next_id old) filled.kind filled.segments) old new
+    → id ≡ next_id old → new.tables.held.last_id ≡ id → IsUnderWayIn old.tables.held collection → IsUnderWayIn new.tables.held collection
+sealed_on filled id old new None runs made id_is last under_way = tt
+sealed_on filled id old new (Some c) runs made id_is last under_way =
+    let s = runs.store in
+    let now = made.alone.store_has s runs.represents runs.valid runs.reserve_holds in
+    let h : HeaderValue = header_of (next_id old) filled.kind filled.segments in
+    let first : IsFirstFree (first_free s.held) s.held = record {
+      first = refl;
+      within = first_within s.held (omega (arith, runs.reserve_holds));
+      closed = first_closed s.held (omega (arith, runs.reserve_holds));
+    } in
+    sealed s.held old.tables.held new.tables.held c (first_free s.held) h first runs.represents.slots_hold now.represents.slots_hold (omega (arith, id_is, last)) (omega arith) under_way
+
+module _ (old new : CoreState) where
+  -- nothing of it changes
+  unchanged_on : new.tables.held ≡ old.tables.held → new.collection ≡ old.collection → IsUnderWayIn old.tables.held old.collection → IsUnderWayIn new.tables.held new.collection
+  unchanged_on held same under_way =
+      subst (λ (t : SlotTable). IsUnderWayIn t new.collection) (sym held) (subst (IsUnderWayIn old.tables.held) (sym same) under_way)
+
+  kept_on : KeepsTables old new → new.collection ≡ old.collection → IsUnderWayIn old.tables.held old.collection → IsUnderWayIn new.tables.held new.collection
+  kept_on kept = unchanged_on (ap (λ (t : Tables). t.held) kept.tables_are)
+
+  claimed_on : (seg : KindSegment) (answer : Result Answer Refusal) → Rests answer old new → Collects (asked.Claim seg) answer old new → IsUnderWayIn old.tables.held old.collection → IsUnderWayIn new.tables.held new.collection
+  claimed_on seg answer effect collects under_way =
+      subst (λ (t : Tables). IsUnderWayIn t.held new.collection) (sym effect.tables.tables_are) (marked_on (IsKeptKey (asked.Claim seg) answer) old.tables.held old.collection new.collection collects under_way)
+
+  sealed_answer : (filled : Contents) (actor : ℕ) (answer : Result Answer Refusal) → Runs old.disk.size None old.tables → SealRow filled actor answer old new → SealsOne filled answer old new → Collects (asked.Seal filled) answer old new
+      → IsUnderWayIn old.tables.held old.collection → IsUnderWayIn new.tables.held new.collection
+  sealed_answer filled actor (Ok (answers.Sealed id)) runs row effect collects under_way =
+      marked_on (IsKeptKey (asked.Seal filled) (Ok (answers.Sealed id))) new.tables.held old.collection new.collection collects (sealed_on filled id old new old.collection runs effect.made row.id_is row.last_is under_way)
+  sealed_answer filled actor (Err refusal) runs row effect collects under_way =
+      subst (λ (t : Tables). IsUnderWayIn t.held new.collection) (sym (tables_kept old new refusal effect.kept)) (marked_on (IsKeptKey (asked.Seal filled) (Err refusal)) old.tables.held old.collection new.collection collects under_way)
+  sealed_answer filled actor answer runs row effect collects under_way = absurd row
+
+  begun_on : (percent : ℕ) (answer : Result Answer Refusal) → StartRow percent answer old new → KeepsTables old new → IsUnderWayIn old.tables.held old.collection → IsUnderWayIn new.tables.held new.collection
+  begun_on percent (Ok (answers.Started snapshot)) row kept under_way =
+      subst (λ (t : Tables). IsUnderWayIn t.held new.collection) (sym kept.tables_are) (subst (IsUnderWayIn old.tables.held) (sym row.0.runs) row.0.under_way)
+  begun_on percent (Err (refusals.Collecting phase)) row kept under_way = kept_on kept row.1 under_way
+  begun_on percent (Err refusals.Memory) row kept under_way = kept_on kept row.1 under_way
+  begun_on percent answer row kept under_way = absurd row
+
+  commit_held : (name : List ℕ) (root : Root) (actor : ℕ) (answer : Result Answer Refusal) → CommitRow name root actor answer old new → NamesOne name (Put root) answer old new → new.tables.held ≡ old.tables.held
+  commit_held name root actor (Ok (answers.Committed sequence)) row effect = row.3
+  commit_held name root actor (Err refusal) row effect = ap (λ (t : Tables). t.held) effect.kept.tables_are
+  commit_held name root actor answer row effect = absurd row
+
+  delete_held : (name : List ℕ) (answer : Result Answer Refusal) → DeleteRow name answer old new → NamesOne name Delete answer old new → new.tables.held ≡ old.tables.held
+  delete_held name (Ok (answers.Deleted sequence)) row effect = row.3
+  delete_held name (Err refusal) row effect = ap (λ (t : Tables). t.held) effect.kept.tables_are
+  delete_held name answer row effect = absurd row
+
+  -- it stays under way
+  pub under_way_on : (step : StepValue) (actor : ℕ) (answer : Result Answer Refusal) (buf : List ℕ) → Row step actor answer buf old new → Effect step answer old new → Collects step answer old new
+      → Runs old.disk.size None old.tables → IsUnderWayIn old.tables.held old.collection → IsUnderWayIn new.tables.held new.collection
+  under_way_on asked.Begin actor answer buf row effect collects runs = kept_on effect.tables collects
+  under_way_on (asked.Claim seg) actor answer buf row effect collects runs = claimed_on seg answer effect collects
+  under_way_on (asked.Seal filled) actor answer buf row effect collects runs = sealed_answer filled actor answer runs row effect collects
+  under_way_on (asked.Commit name root) actor answer buf row effect collects runs = unchanged_on (commit_held name root actor answer row effect) collects
+  under_way_on asked.Abort actor answer buf row effect collects runs = kept_on effect.tables collects
+  under_way_on (asked.OpenRead name) actor answer buf row effect collects runs = kept_on effect.tables collects
+  under_way_on asked.ReadNext actor answer buf row effect collects runs = kept_on effect.tables collects
+  under_way_on asked.EndRead actor answer buf row effect collects runs = kept_on effect.tables collects
+  under_way_on (asked.Delete name) actor answer buf row effect collects runs = unchanged_on (delete_held name answer row effect) collects
+  under_way_on asked.ListNames actor answer buf row effect collects runs = kept_on effect.tables collects
+  under_way_on (asked.GcStart percent) actor answer buf row effect collects runs = begun_on percent answer row effect.tables
+  under_way_on asked.GcStep actor answer buf row effect collects runs = effect.under_way
+  under_way_on asked.Stat actor answer buf row effect collects runs = kept_on effect.tables collects
+
+-- ---- a step
 
 module _ (old new : CoreState) (e : Event) where
   steps_up : new.stop ≡ None → Steps e old new → IsUp old → IsUp new
   steps_up stays steps up = record {
-    runs = effect_runs old new stays e.step e.answer old.acknowledged steps.stops steps.made.effect up.runs;
+    runs = effect_runs old new e.actor e.buf e.step e.answer steps.made.row steps.made.effect up.runs;
     many = many_on e.actor old.parts new.parts (row_one e.actor e.buf old new e.step e.answer steps.made.row) up.many;
     served = steps.made.served up.served;
+    under_way = under_way_on old new e.step e.actor e.answer e.buf steps.made.row steps.made.effect steps.collects up.runs up.under_way;
   }
 
   by_stop : (stop : Option Stop) → new.stop ≡ stop → Steps e old new → IsUp old → UnlessStopped stop (IsUp new)

@@ -85,7 +85,18 @@ module _ (old new : CoreState) (filled : Contents) (slot id : ℕ) (has : HasSlo
           subst (IsIndexOf (with_sealed (next_id old) filled.kind filled.segments store).held) there
           (index_sealed (next_id old) filled.kind filled.segments store can m (whole m known) can.right);
     };
-    runs = λ runs. subst (λ (size : ℕ). Runs size new.known new.tables) (sym later.size_is) (subst (λ (k : Option PlaceMap). Runs old.disk.size k new.tables) (sym map_is) sealed.runs);
+    alone = record {
+      store_has = λ store represents valid reserve.
+          let is = sealed.alone.store_has store represents valid reserve in
+          let can = subst (λ (n : ℕ). CanSeal n filled.kind filled.segments store) id_is is.0 in
+          record {
+            can = can;
+            represents = subst (λ (n : ℕ). Represents (with_sealed n filled.kind filled.segments store) None new.tables) id_is is.1;
+            valid = subst (λ (size : ℕ). IsValidFor size (with_sealed (next_id old) filled.kind filled.segments store)) (sym later.size_is) (valid_sealed (next_id old) filled.kind filled.segments store can old.disk.size valid);
+          };
+    };
+    runs = λ runs. subst (λ (size : ℕ). Runs size None new.tables) (sym later.size_is) (sealed.runs None runs);
+    runs_indexed = λ runs. subst (λ (size : ℕ). Runs size new.known new.tables) (sym later.size_is) (subst (λ (k : Option PlaceMap). Runs old.disk.size k new.tables) (sym map_is) (sealed.runs old.known runs));
   }
 
 kept_map : (refusal : Refusal) (old new : CoreState) → new.tables ≡ old.tables → KeepsMap old.known new.known refusal → KeepsUnlessBroken refusal old new

@@ -16,6 +16,7 @@ use Rattle.read_steps.specs.Readers as readers
 use Rattle.store_core.specs.Core.{Row, BeginRow, ClaimRow, SealRow, CommitRow, AbortRow, OpenRow, ReadRow, EndRow, StatRow, DeleteRow, ListRow, Effect, StepsOr}
 use Rattle.store_core.specs.declared.stop.Stop.{Stop}
 use Rattle.store_core.specs.State.{CoreState, Event}
+use Rattle.store_core.specs.Collecting.{GcRow, StartRow}
 
 -- ---- parts
 
@@ -91,6 +92,19 @@ module _ (actor : ℕ) (buf : List ℕ) (old new : CoreState) where
   list_one (Err refusals.Memory) row = same_one actor old.parts new.parts row
   list_one answer row = absurd row
 
+  start_one : (percent : ℕ) (answer : Result Answer Refusal) → StartRow percent answer old new → ChangesOne actor old.parts new.parts
+  start_one percent (Ok (answers.Started snapshot)) row = same_one actor old.parts new.parts row.1
+  start_one percent (Err (refusals.Collecting phase)) row = same_one actor old.parts new.parts row.2
+  start_one percent (Err refusals.Memory) row = same_one actor old.parts new.parts row.2
+  start_one percent answer row = absurd row
+
+  gc_one : (answer : Result Answer Refusal) → GcRow answer old new → ChangesOne actor old.parts new.parts
+  gc_one (Ok (answers.Did phase)) row = same_one actor old.parts new.parts row.1
+  gc_one (Ok (answers.Done freed copied)) row = same_one actor old.parts new.parts row.1
+  gc_one (Err refusals.NotCollecting) row = same_one actor old.parts new.parts row.1
+  gc_one (Err refusal) row = same_one actor old.parts new.parts row.1
+  gc_one answer row = absurd row
+
   pub row_one : (step : StepValue) (answer : Result Answer Refusal) → Row step actor answer buf old new → ChangesOne actor old.parts new.parts
   row_one asked.Begin answer row = begin_one answer row
   row_one (asked.Claim seg) answer row = claim_one seg answer row
@@ -102,6 +116,8 @@ module _ (actor : ℕ) (buf : List ℕ) (old new : CoreState) where
   row_one asked.EndRead answer row = end_one answer row
   row_one (asked.Delete name) answer row = delete_one name answer row
   row_one asked.ListNames answer row = list_one answer row
+  row_one (asked.GcStart percent) answer row = start_one percent answer row
+  row_one asked.GcStep answer row = gc_one answer row
   row_one asked.Stat answer row = stat_one answer row
 
 -- ---- the disk
@@ -119,6 +135,8 @@ module _ (old new : CoreState) where
   effect_later asked.EndRead answer effect = effect.disk.only.later
   effect_later (asked.Delete name) answer effect = effect.disk.later
   effect_later asked.ListNames answer effect = effect.disk.only.later
+  effect_later (asked.GcStart percent) answer effect = effect.disk.only.later
+  effect_later asked.GcStep answer effect = effect.later
   effect_later asked.Stat answer effect = effect.disk.only.later
 
 module _ (old new : CoreState) (e : Event) where

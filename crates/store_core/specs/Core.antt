@@ -33,7 +33,7 @@ use Rattle.store_model.specs.Standing.{IsStoreOf}
 use Rattle.namespace.specs.Listing.{listing_of}
 use Rattle.store_model.specs.Collisions.{ByteSet}
 use Rattle.store_model.specs.Slots.{HasKey, IsIndexOf}
-use Rattle.store_model.specs.Steps.{AnyKey, StoreChange, SealContainer, ChangeName, CanChange, KeepsCopies, changed}
+use Rattle.store_model.specs.Steps.{AnyKey, StoreChange, SealContainer, ChangeName, FreeContainer, CanChange, KeepsCopies, changed}
 use Rattle.store_state.specs.Refused.{blames}
 use Rattle.store_state.specs.Settled as settled
 use Rattle.store_state.specs.declared.tables.Tables.{Tables}
@@ -51,6 +51,7 @@ use Rattle.read_steps.specs.Counting.{counts_of}
 use Rattle.read_steps.specs.Readers as readers
 use Rattle.read_steps.specs.Walking.{IsIndexed, SegmentsAhead}
 use Rattle.store_core.specs.declared.stop.Stop.{Stop}
+use Rattle.store_core.specs.Collecting.{Collects, GcEffect, GcRow, StartRow}
 use Rattle.store_core.specs.State.{CoreState, IsSame, Event, one_more}
 
 -- ---- what becomes of the actor's part
@@ -131,9 +132,9 @@ pub record IsNotGiven (refusal : Refusal) (buf : List ℕ) (actor : ℕ) (old ne
 
 -- ---- what is counted
 
--- what each store has that the tables represent
+-- what each store has that the tables represent, whatever the index has
 abbrev pub IsCount : Answer → CoreState → Type 0
-IsCount answer c = OfEach c.disk.size c.known c.tables (λ store. answer ≡ counts_of store)
+IsCount answer c = OfEach c.disk.size None c.tables (λ store. answer ≡ counts_of store)
 
 -- ---- what is answered, step by step; no step answers anything else
 
@@ -156,7 +157,7 @@ SealRow filled actor answer old new = ⊥
 abbrev pub CommitRow : List ℕ → Root → ℕ → Result Answer Refusal → CoreState → CoreState → Type 0
 CommitRow name root actor (Ok (answers.Committed sequence)) old new =
     MayCommit (part_of old.parts actor) old.tables name root × (sequence ≡ suc old.tables.journal.last) × Gets Idle actor old new
-    × (new.tables.held.last_id ≡ old.tables.held.last_id)
+    × (new.tables.held ≡ old.tables.held)
 CommitRow name root actor (Err refusal) old new =
     IsCommitRefusal (part_of old.parts actor) old.tables name root refusal × (new.parts ≡ old.parts)
 CommitRow name root actor answer old new = ⊥
@@ -193,7 +194,7 @@ StatRow (Err refusal) old new = ⊥
 abbrev pub DeleteRow : List ℕ → Result Answer Refusal → CoreState → CoreState → Type 0
 DeleteRow name (Ok (answers.Deleted sequence)) old new =
     MayDelete old.tables name × (sequence ≡ suc old.tables.journal.last) × (new.parts ≡ old.parts)
-    × (new.tables.held.last_id ≡ old.tables.held.last_id)
+    × (new.tables.held ≡ old.tables.held)
 DeleteRow name (Err refusal) old new = IsDeleteRefusal old.tables name refusal × (new.parts ≡ old.parts)
 DeleteRow name answer old new = ⊥
 
@@ -214,6 +215,8 @@ Row asked.ReadNext actor answer buf old new = ReadRow actor answer buf old new
 Row asked.EndRead actor answer buf old new = EndRow actor answer old new
 Row (asked.Delete name) actor answer buf old new = DeleteRow name answer old new
 Row asked.ListNames actor answer buf old new = ListRow answer old new
+Row (asked.GcStart percent) actor answer buf old new = StartRow percent answer old new
+Row asked.GcStep actor answer buf old new = GcRow answer old new
 Row asked.Stat actor answer buf old new = StatRow answer old new
 
 -- ---- what becomes of tables, index and disk
@@ -241,11 +244,19 @@ OfEachIndexed size known t P = OfEach size known t (λ store. IndexesAll store k
 abbrev pub IndexesAdded : StoreChange → PlaceMap → Type 0
 IndexesAdded (SealContainer id kind segments) index = AllByRecursion (λ s. HasKey index (segment_key kind s)) segments
 IndexesAdded (ChangeName name change) index = Unit {0}
+IndexesAdded (FreeContainer slot) index = Unit {0}
 
 -- a change adds no copy of this key
 abbrev pub AddsNone : StoreChange → List ℕ → Type 0
 AddsNone (SealContainer id kind segments) key = AllByRecursion (λ s. segment_key kind s ≢ key) segments
 AddsNone (ChangeName name change) key = Unit {0}
+AddsNone (FreeContainer slot) key = Unit {0}
+
+-- It can be made to this store, and the tables, whatever the index has, are those of the changed one.
+pub record MakesAlone (change : StoreChange) (store : Store) (size : ℕ) (t : Tables) : Type 0 where
+  pub can : CanChange change store
+  pub represents : Represents (changed change store) None t
+  pub valid : IsValidFor size (changed change store)
 
 -- A change is made: for each store that the tables stood for, tables and index are those of the changed one.
 pub record Makes (change : StoreChange) (old new : CoreState) : Type 0 where
@@ -261,7 +272,11 @@ pub record Makes (change : StoreChange) (old new : CoreState) : Type 0 where
       → finite.get after key ≡ finite.get before key))
   -- where it had all that was held, it has all that is
   pub whole : OfEachIndexed old.disk.size old.known old.tables (λ store. IndexesAll (changed change store) new.known)
-  pub runs : Runs old.disk.size old.known old.tables → Runs new.disk.size new.known new.tables
+  -- of the tables alone, whatever the index has
+  pub alone : OfEach old.disk.size None old.tables (λ store. MakesAlone change store new.disk.size new.tables)
+  pub runs : Runs old.disk.size None old.tables → Runs new.disk.size None new.tables
+  -- and with the index
+  pub runs_indexed : Runs old.disk.size old.known old.tables → Runs new.disk.size new.known new.tables
 
 -- nothing changes
 pub record Rests (answer : Result Answer Refusal) (old new : CoreState) : Type 0 where
@@ -283,6 +298,7 @@ pub record NamesOne (name : List ℕ) (change : Change) (answer : Result Answer 
   pub frame : ChangesJournalAlone old.tables name change old.disk new.disk
   pub durable : OnOk answer (IsDurable new.disk)
   pub made : OnOk answer (Makes (ChangeName name change) old new)
+  pub index : OnOk answer (new.known ≡ old.known)
   pub copies : OnOk answer ((store : Store) → Represents store old.known old.tables
       → Known old.disk.content (λ before. Encodes before store
       → KnownWith new.disk.content (KeepsCopies AnyKey store before (changed (ChangeName name change) store))))
@@ -292,6 +308,7 @@ abbrev pub Effect : StepValue → Result Answer Refusal → CoreState → CoreSt
 Effect (asked.Seal filled) answer old new = SealsOne filled answer old new
 Effect (asked.Commit name root) answer old new = NamesOne name (Put root) answer old new
 Effect (asked.Delete name) answer old new = NamesOne name Delete answer old new
+Effect asked.GcStep answer old new = GcEffect answer old new
 Effect step answer old new = Rests answer old new
 
 -- ---- what stops the core
@@ -325,6 +342,7 @@ MadeBefore step actor answer buf old new =
 -- of a core that runs
 pub record Steps (e : Event) (old new : CoreState) : Type 0 where
   pub made : Made e.step e.actor e.answer e.buf old new
+  pub collects : Collects e.step e.answer old new
   pub stops : StopsAfter e.step e.answer old.acknowledged new.stop
   pub counted_is : new.acknowledged ≡ counted e.answer old.acknowledged
 

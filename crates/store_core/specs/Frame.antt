@@ -15,7 +15,7 @@ use Rattle.store_model.specs.Standing.{HasJournal}
 use Rattle.store_model.specs.Steps.{StoreChange, HasCellsFor}
 use Rattle.store_state.specs.Settled.{IsSettled}
 use Rattle.store_state.specs.Tables.{Represents}
-use Rattle.store_core.specs.Runs.{FileEvent, CoreRun, ChangesTo, changes_of, events_of}
+use Rattle.store_core.specs.Runs.{AreNoGcSteps, FileEvent, CoreRun, ChangesTo, changes_of, events_of}
 use Rattle.store_core.specs.State.{CoreState, Event}
 
 -- The tables are those of the store, which has two free slots or more, and the disk is settled.
@@ -81,17 +81,17 @@ pub record HasGrown (changes : List StoreChange) (s : Store) (base : List ℕ) (
   -- where the content had the journal of the first store, each image has that of this one, whatever the containers hold
   pub journal : HasJournal s base → StandsFor (HasJournal store) c.disk
 
--- A core that isn't stopped at the end of a run has changed no bytes but those of the records and containers that it
--- acknowledged, and what comes after all slots.
+-- A core that isn't stopped at the end of a run without steps of a collection has changed no bytes but those of the records and
+-- containers that it acknowledged, and what comes after all slots.
 abbrev pub AddsAlone : (C : Type 0) → (C → CoreState) → Type 0
 AddsAlone C state = (steps : List FileEvent) (s : Store) (base : List ℕ) (old new : C)
     → IsOn s (state old) → (state old).disk.content ≡ Some base → CoreRun C state (events_of steps) old new
-    → (state new).stop ≡ None → HasGrown (changes_of steps) s base (state new)
+    → AreNoGcSteps (events_of steps) → (state new).stop ≡ None → HasGrown (changes_of steps) s base (state new)
 
--- In what reads give, and in what a crash leaves at any moment of a run, what was written stays, also where a write fails; of the
--- journal, where its half has cells for all commands of the run.
+-- In what reads give, and in what a crash leaves at any moment of a run without steps of a collection, what was written stays, also
+-- where a write fails; of the journal, where its half has cells for all commands of the run.
 abbrev pub WrittenStays : (C : Type 0) → (C → CoreState) → Type 0
 WrittenStays C state = (events : List Event) (s : Store) (base : List ℕ) (old new : C)
     → IsOn s (state old) → (state old).disk.content ≡ Some base → CoreRun C state events old new
-    → KnownWith (state new).disk.content (KeepsWritten s (commands_in events) base)
+    → AreNoGcSteps events → KnownWith (state new).disk.content (KeepsWritten s (commands_in events) base)
     × CrashLeaves (KeepsWritten s (commands_in events) base) (state old).disk (state new).disk

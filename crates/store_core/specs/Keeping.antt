@@ -17,7 +17,7 @@ use Rattle.store_model.specs.Slots.{HasKey}
 use Rattle.store_model.specs.Trees.{HasNewest}
 use Rattle.store_state.specs.Settled.{IsSettled}
 use Rattle.store_state.specs.Tables.{Represents}
-use Rattle.store_core.specs.Runs.{FileEvent, FileRun, IsAt}
+use Rattle.store_core.specs.Runs.{AreNoGcSteps, FileEvent, FileRun, IsAt, events_of}
 use Rattle.store_core.specs.State.{CoreState}
 
 -- what a step keeps: a segment that was claimed and is held, and those of a container that was sealed
@@ -37,24 +37,25 @@ pub record IsHeldIn (seg : KindSegment) (c : CoreState) : Type 0 where
   pub newest : (store : Store) → Represents store c.known c.tables
       → StandsFor (λ image. HasNewest store.held (segment_key seg.kind seg.segment) (pin_of seg).level seg.segment.bytes image) c.disk
 
--- What each image held is held at the end of a run,
+-- What each image held is held at the end of a run without steps of a collection,
 abbrev pub StaysHeld : (C : Type 0) → (C → CoreState) → Type 0
 StaysHeld C state = (among : ByteSet) (steps : List FileEvent) (s : Store) (stored : Stored) (seg : KindSegment) (old new : C)
     → HasNoCollisions (IsIn among) → IsAt (IsIn among) s stored (state old)
     → IsSettled (state old).tables.slots (state old).disk
-    → FileRun C state (IsIn among) steps old new → (state new).stop ≡ None → IsHeldIn seg (state old) → IsHeldIn seg (state new)
+    → FileRun C state (IsIn among) steps old new → AreNoGcSteps (events_of steps) → (state new).stop ≡ None
+    → IsHeldIn seg (state old) → IsHeldIn seg (state new)
 
--- and a disk that was settled is settled.
+-- and a disk that was settled is settled at the end of any run.
 abbrev pub StaysSettled : (C : Type 0) → (C → CoreState) → Type 0
 StaysSettled C state = (among : ByteSet) (steps : List FileEvent) (s : Store) (stored : Stored) (old new : C)
     → HasNoCollisions (IsIn among) → IsAt (IsIn among) s stored (state old)
     → IsSettled (state old).tables.slots (state old).disk
     → FileRun C state (IsIn among) steps old new → (state new).stop ≡ None → IsSettled (state new).tables.slots (state new).disk
 
--- What the steps of a run kept is held at its end, where no two different data segments have one digest.
+-- What the steps of such a run kept is held at its end, where no two different data segments have one digest.
 abbrev pub KeepsSegments : (C : Type 0) → (C → CoreState) → Type 0
 KeepsSegments C state = (among : ByteSet) (steps : List FileEvent) (s : Store) (stored : Stored) (old new : C)
     → HasNoCollisions (IsIn among) → IsAt (IsIn among) s stored (state old)
     → IsSettled (state old).tables.slots (state old).disk
-    → FileRun C state (IsIn among) steps old new → (state new).stop ≡ None
+    → FileRun C state (IsIn among) steps old new → AreNoGcSteps (events_of steps) → (state new).stop ≡ None
     → AllByRecursion (λ seg. IsHeldIn seg (state new)) (kept_of steps)

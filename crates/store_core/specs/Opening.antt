@@ -31,6 +31,7 @@ pub record IsNew (shown : (List ℕ → Type 0) → Type 0) (size : ℕ) (c : Co
   pub valid : IsValidFor size store
   pub reserve : RESERVE ≤ free_slots store.held
   pub parts_are : c.parts ≡ replicate ACTORS Idle
+  pub collection_is : c.collection ≡ None
   pub stop_is : c.stop ≡ None
   pub counted : c.acknowledged ≡ 0
   pub served : c.served
@@ -72,16 +73,18 @@ pub record IsKept (old new : CoreState) : Type 0 where
   pub tables_are : new.tables ≡ old.tables
   pub index_is : new.known ≡ old.known
   pub parts_are : new.parts ≡ old.parts
+  pub collection_is : new.collection ≡ old.collection
   pub stop_is : new.stop ≡ old.stop
   pub counted : new.acknowledged ≡ old.acknowledged
   pub served : old.served → new.served
 
--- Runs can begin: it is at a store of these files, whose keys the index all has, no id was given out that none of its containers has, and
--- its disk is settled.
+-- Runs can begin: it is at a store of these files, whose keys the index all has, no id was given out that none of its containers has,
+-- no collection runs, and its disk is settled.
 pub record BeginsAt (S : List ℕ → Type 0) (stored : Stored) (c : CoreState) : Type 0 where
   pub store : Store
   pub is_at : IsAt S store stored c
   pub whole : IndexesAll store c.known
+  pub none_runs : c.collection ≡ None
   pub last_id_is : c.tables.held.last_id ≡ last_id store.held
   pub settled : IsSettled c.tables.slots c.disk
 

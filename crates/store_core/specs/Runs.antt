@@ -24,7 +24,7 @@ use Rattle.store_model.specs.Image.{Store, IsValidFor}
 use Rattle.store_model.specs.Reserve.{AllKeys}
 use Rattle.store_model.specs.Slots.{HasKey}
 use Rattle.segment_index.specs.Places.{KnownMap}
-use Rattle.store_model.specs.Steps.{StoreChange, SealContainer, ChangeName, CanChange, changed}
+use Rattle.store_model.specs.Steps.{StoreChange, SealContainer, ChangeName, FreeContainer, CanChange, changed}
 use Rattle.store_model.specs.Trees.{root_of, file_tree, HoldsTree}
 use Rattle.store_state.specs.Invariant.{CoreInvariant}
 use Rattle.store_state.specs.Tables.{Represents}
@@ -32,8 +32,13 @@ use Rattle.read_steps.specs.Readers.{reading}
 use Rattle.namespace.specs.Names.{NameMap}
 use Rattle.read_steps.specs.Opening.{top_of, HasRoot}
 use Rattle.read_steps.specs.Walking.{GivesAll}
+use Rattle.refusals.specs.declared.refusal.Phase.TheVariants as phases
+use Rattle.actor_parts.specs.declared.actor.TheConstants.{ACTORS}
+use Rattle.actor_parts.specs.declared.part.Part.{Part}
+use Rattle.gc_steps.specs.declared.collection.Collection.{Collection}
+use Rattle.gc_steps.specs.Safety.{IsSafe}
 use Rattle.store_core.specs.Core.{CoreStep, IndexesAll}
-use Rattle.store_core.specs.State.{CoreState, Event, IsRunning}
+use Rattle.store_core.specs.State.{CoreState, Event, IsRunning, IsUnderWayIn}
 
 -- The first step makes of the core one of which the others make the last one. A core is anything that has a state.
 abbrev pub CoreRun : (C : Type 0) → (C → CoreState) → List Event → C → C → Type 0
@@ -95,8 +100,13 @@ abbrev pub FileRun : (C : Type 0) → (C → CoreState) → (List ℕ → Type 0
 FileRun C state S [] old new = new ≡ old
 FileRun C state S (f ∷ fs) old new = (mid : C) × (FileStep S f (state old) (state mid) × FileRun C state S fs mid new)
 
--- Tables and index are those of the store, each image is that store of these files, the number is the last, and the invariant
--- holds.
+-- what holds of a collection, if one runs: while it marks its marks are closed, and then its sweep is safe
+abbrev pub IsSafeIn : PlaceMap → Store → List Part → List ℕ → Option Collection → Type 0
+IsSafeIn index store parts image None = Unit {0}
+IsSafeIn index store parts image (Some c) = IsSafe index store parts image c
+
+-- Tables and index are those of the store, each image is that store of these files, the number is the last, and the invariants
+-- hold.
 pub record IsAt (S : List ℕ → Type 0) (store : Store) (stored : Stored) (c : CoreState) : Type 0 where
   pub represents : Represents store c.known c.tables
   pub index : PlaceMap
@@ -105,6 +115,9 @@ pub record IsAt (S : List ℕ → Type 0) (store : Store) (stored : Stored) (c :
   pub stands : StandsFor (Stands S store stored.files) c.disk
   pub last_is : c.tables.journal.last ≡ stored.last
   pub invariant : Known c.disk.content (CoreInvariant index store stored.files c.parts)
+  pub many : length c.parts ≡ ACTORS
+  pub under_way : IsUnderWayIn c.tables.held c.collection
+  pub safe : Known c.disk.content (λ image. IsSafeIn index store c.parts image c.collection)
 
 -- one change after the other, each where it can be made
 abbrev pub ChangesTo : List StoreChange → Store → Store → Type 0
@@ -123,17 +136,43 @@ abbrev pub changes_of : List FileEvent → List StoreChange
 changes_of [] = []
 changes_of (f ∷ fs) = changes_by f.event.step f.event.answer ++ changes_of fs
 
+-- These are the changes of a step: those that its answer tells, and, where a collection gives a container back, of some slot.
+abbrev pub AreChangesBy : StepValue → Result Answer Refusal → List StoreChange → Type 0
+AreChangesBy asked.GcStep (Ok (answers.Did phases.Release)) changes = (slot : ℕ) × (changes ≡ FreeContainer slot ∷ [])
+AreChangesBy step answer changes = changes ≡ changes_by step answer
+
+-- and of steps, the first of them first
+abbrev pub AreChangesOf : List FileEvent → List StoreChange → Type 0
+AreChangesOf [] changes = changes ≡ []
+AreChangesOf (f ∷ fs) changes =
+    (first : List StoreChange) × (rest : List StoreChange) × (changes ≡ first ++ rest)
+    × AreChangesBy f.event.step f.event.answer first × AreChangesOf fs rest
+
+-- a step of another kind than those of a collection: the index keeps what it has, and containers stay
+abbrev pub IsNoGcStep : StepValue → Type 0
+IsNoGcStep asked.GcStep = ⊥
+IsNoGcStep step = Unit {0}
+
+abbrev pub AreNoGcSteps : List Event → Type 0
+AreNoGcSteps events = AllByRecursion (λ e. IsNoGcStep e.step) events
+
+abbrev pub events_of : List FileEvent → List Event
+events_of [] = []
+events_of (f ∷ fs) = f.event ∷ events_of fs
+
 -- It has come to these files, from a store by the changes that the steps' answers tell. Where the map of the index had each key that the
--- store held, it has each that this one holds.
+-- store held, and no step was one of a collection, it has each that this one holds.
 pub record Reaches (S : List ℕ → Type 0) (s : Store) (known : Option PlaceMap) (stored : Stored) (steps : List FileEvent) (c : CoreState)
     : Type 0 where
   pub store : Store
-  pub chain : ChangesTo (changes_of steps) s store
+  pub changes : List StoreChange
+  pub changes_are : AreChangesOf steps changes
+  pub chain : ChangesTo changes s store
   pub is_at : IsAt S store stored c
-  pub whole : IndexesAll s known → IndexesAll store c.known
+  pub whole : AreNoGcSteps (events_of steps) → IndexesAll s known → IndexesAll store c.known
 
--- A core that isn't stopped at the end of a run has made exactly the commits, the deletes and the seals that it acknowledged, and its
--- invariant holds.
+-- A core that isn't stopped at the end of a run has made exactly the commits, the deletes, the seals and the releases that it acknowledged,
+-- and its invariants hold.
 abbrev pub KeepsFiles : (C : Type 0) → (C → CoreState) → Type 0
 KeepsFiles C state = (among : ByteSet) (steps : List FileEvent) (s : Store) (stored : Stored) (old new : C)
     → HasNoCollisions (IsIn among) → IsAt (IsIn among) s stored (state old) → FileRun C state (IsIn among) steps old new
@@ -214,10 +253,6 @@ GivesOne false answer buf segments next = next segments
 abbrev pub GivesInOrder : ℕ → List Event → List (List ℕ) → Type 0
 GivesInOrder actor [] segments = Unit {0}
 GivesInOrder actor (e ∷ es) segments = GivesOne (e.actor == actor) e.answer e.buf segments (GivesInOrder actor es)
-
-abbrev pub events_of : List FileEvent → List Event
-events_of [] = []
-events_of (f ∷ fs) = f.event ∷ events_of fs
 
 abbrev pub opens : ℕ → List ℕ → ℕ → List ℕ → Event
 opens actor name count buf = record { actor = actor; step = asked.OpenRead name; answer = Ok (answers.Opened count); buf = buf }

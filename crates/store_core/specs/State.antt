@@ -10,8 +10,11 @@ use Rattle.actor_parts.specs.declared.step.Answer.{Answer}
 use Rattle.actor_parts.specs.StepValue.{StepValue}
 use Rattle.refusals.specs.declared.refusal.Refusal.{Refusal}
 use Rattle.refusals.specs.declared.refusal.Refusal.TheVariants.{Stopped}
+use Rattle.store_state.specs.declared.slot_table.SlotTable.{SlotTable}
 use Rattle.store_state.specs.declared.tables.Tables.{Tables}
 use Rattle.store_state.specs.Tables.{Runs}
+use Rattle.gc_steps.specs.declared.collection.Collection.{Collection}
+use Rattle.gc_steps.specs.UnderWay.{IsUnderWay}
 use Rattle.store_core.specs.declared.stop.Stop.{Stop}
 
 pub record CoreState : Type 1 where
@@ -24,17 +27,26 @@ pub record CoreState : Type 1 where
   -- bytes of a disk break the form of the index, at this byte and for this reason
   pub breaks : ℕ → Why → List ℕ → Type 0
   pub parts : List Part
+  -- the collection that runs, if one does
+  pub collection : Option Collection
   -- what stopped it
   pub stop : Option Stop
   -- how many puts and deletes were acknowledged since the opening
   pub acknowledged : ℕ
 
+-- a collection, if one runs, is under way
+abbrev pub IsUnderWayIn : SlotTable → Option Collection → Type 0
+IsUnderWayIn t None = Unit {0}
+IsUnderWayIn t (Some c) = IsUnderWay t c
+
 -- The tables are those of a store that the disk may hold, with two slots or more free; the index serves it; each actor has a
--- part.
+-- part; a collection is under way. What the index has is not told: a disk that lies may have shown another header where a
+-- container was given back.
 pub record IsUp (c : CoreState) : Type 0 where
-  pub runs : Runs c.disk.size c.known c.tables
+  pub runs : Runs c.disk.size None c.tables
   pub many : length c.parts ≡ ACTORS
   pub served : c.served
+  pub under_way : IsUnderWayIn c.tables.held c.collection
 
 -- where it isn't stopped
 abbrev pub UnlessStopped : Option Stop → Type 0 → Type 0
@@ -54,6 +66,7 @@ pub record IsSame (old new : CoreState) : Type 0 where
   pub tables_are : new.tables ≡ old.tables
   pub index_is : new.known ≡ old.known
   pub parts_are : new.parts ≡ old.parts
+  pub collection_is : new.collection ≡ old.collection
   pub stop_is : new.stop ≡ old.stop
   pub counted : new.acknowledged ≡ old.acknowledged
 

@@ -2,6 +2,7 @@
 #![tactic(auto)]
 
 mod laws;
+mod marking;
 mod opening;
 mod running;
 mod solo;

@@ -53,6 +53,7 @@ fn open_store<D: Disk>(alloc: Global, disk: &mut D) -> Result<(Tables, StoreInde
       served = ⟦<StoreIndex as Index>⟧.serves r.1 (D.view disk.new).size;
       breaks = ⟦<StoreIndex as Index>⟧.breaks r.1;
       parts = r.2;
+      collection = None;
       stop = None;
       acknowledged = 0;
     })) }
@@ -72,6 +73,7 @@ fn read_store<D: Disk>(alloc: Global, disk: &mut D) -> Result<(Tables, StoreInde
       served = ⟦<StoreIndex as Index>⟧.serves r.1 (D.view disk.new).size;
       breaks = ⟦<StoreIndex as Index>⟧.breaks r.1;
       parts = r.2;
+      collection = None;
       stop = None;
       acknowledged = 0;
     })) }
@@ -106,6 +108,7 @@ impl<D: Disk, M: Summary + Drop> Core<D, M> {
             index,
             parts,
             summary,
+            collection: None,
             stop: None,
             acknowledged: 0,
         })
@@ -141,6 +144,7 @@ impl<D: Disk, M: Summary> Core<D, M> {
         self.tables = tables;
         self.index = index;
         self.parts = parts;
+        self.collection = None;
         self.stop = None;
         self.acknowledged = 0;
         Ok(())

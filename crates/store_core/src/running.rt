@@ -1,5 +1,5 @@
 //! The core of a running store: one step after the other.
-ghost use Rattle.std.specs.Prelude.{◌≡◌, ◌-◌, ◌^◌, ℕ, List, None, Err, IfErr, IfSome, OnOk, min, option_map};
+ghost use Rattle.std.specs.Prelude.{◌≡◌, ◌↔◌, ◌-◌, ◌^◌, ℕ, List, None, Err, IfErr, IfSome, IsTrue, OnOk, min, option_map};
 ghost use Rattle.dd_disk.specs.Ending.{Done, Reads};
 ghost use Rattle.actor_parts.specs.Kinds.{kind_of};
 ghost use Rattle.actor_parts.specs.Parts.{part_of};
@@ -7,14 +7,17 @@ ghost use Rattle.actor_parts.specs.StepValue as asked;
 ghost use Rattle.actor_parts.specs.StepValue.{IsStep, step_value};
 ghost use Rattle.actor_parts.specs.Segments.{IsStepSegment};
 ghost use Rattle.refusals.specs.declared.refusal.Refusal.TheVariants.{Stopped};
+ghost use Rattle.store_core.specs.Collecting.{Collects, IsHeldAnswer};
 ghost use Rattle.store_core.specs.Core.{MadeBefore, CoreStep, StopsAfter, IsCount, counted};
 ghost use Rattle.store_core.specs.State.{IsUp, IsRunning, IsSame, IsStopped};
 
+use crate::marking::{mark_container, mark_key, unmark_unless};
 use crate::state::HasState;
 use crate::stop::Stop;
-use actor_parts::{Actor, Answer, Parts, SegBuf, Step};
+use actor_parts::{Actor, Answer, Parts, Percent, SegBuf, Step};
 use container_meta::{OpenContainer, Seg};
 use dd_disk::Disk;
+use gc_steps::{Collection, StepDone, phase_of, start, step};
 use ingest_steps::{Claimed, abort, begin, claim, commit, delete, seal};
 use namespace::Root;
 use read_steps::{end_read, list, open_read, read_next, stat};
@@ -33,6 +36,8 @@ pub struct Core<D, M> {
     pub(crate) index: StoreIndex,
     pub(crate) parts: Parts,
     pub(crate) summary: M,
+    /// The collection that runs, if one does.
+    pub(crate) collection: Option<Collection>,
     /// What stopped it.
     pub(crate) stop: Option<Stop>,
     /// How many puts and deletes were acknowledged since the opening; it stays at 2^64 - 1 once there.
@@ -47,6 +52,7 @@ impl<D: Disk, M: Summary> HasState for Core<D, M> {
       served = ⟦<StoreIndex as Index>⟧.serves c.index (D.view c.disk).size;
       breaks = ⟦<StoreIndex as Index>⟧.breaks c.index;
       parts = c.parts;
+      collection = c.collection;
       stop = c.stop;
       acknowledged = c.acknowledged;
     } };
@@ -105,6 +111,13 @@ fn stop_after(step: &Step<'_>, answer: &Result<Answer, Refusal>, count: u64) -> 
     }
 }
 
+// Whether a segment that was claimed is held.
+fn is_held(answer: &Result<Answer, Refusal>) -> bool
+    ensures { IsTrue result ↔ IsHeldAnswer answer.now }
+{
+    matches!(answer, Ok(Answer::Held))
+}
+
 // How many puts and deletes were acknowledged, with this answer.
 fn count_after(answer: &Result<Answer, Refusal>, count: u64) -> u64
     ensures { result ≡ counted answer.now count }
@@ -121,6 +134,7 @@ impl<D: Disk, M: Summary> Core<D, M> {
             (⟦<Core<D, M> as HasState>⟧.state self.new) }
         ensures stop { self.new.stop ≡ self.old.stop }
         ensures count { self.new.acknowledged ≡ self.old.acknowledged }
+        ensures collection { self.new.collection ≡ self.old.collection }
     {
         match begin(self.alloc, &mut self.parts, actor) {
             Ok(()) => Ok(Answer::Begun),
@@ -133,6 +147,7 @@ impl<D: Disk, M: Summary> Core<D, M> {
             (⟦<Core<D, M> as HasState>⟧.state self.new) }
         ensures stop { self.new.stop ≡ self.old.stop }
         ensures count { self.new.acknowledged ≡ self.old.acknowledged }
+        ensures collection { self.new.collection ≡ self.old.collection }
     {
         match abort(&mut self.parts, actor) {
             Ok(()) => Ok(Answer::Aborted),
@@ -140,13 +155,15 @@ impl<D: Disk, M: Summary> Core<D, M> {
         }
     }
 
-    fn claim(&mut self, actor: Actor, seg: &Seg, buf: &mut SegBuf) -> Result<Answer, Refusal>
+    // The claim alone: what is kept is live already, where a collection runs.
+    fn claim_alone(&mut self, actor: Actor, seg: &Seg, buf: &mut SegBuf) -> Result<Answer, Refusal>
         requires segment { IsStepSegment seg.now }
         requires up { IsUp (⟦<Core<D, M> as HasState>⟧.state self.old) }
         ensures made { MadeBefore (asked.Claim seg.now) actor result buf.new (⟦<Core<D, M> as HasState>⟧.state self.old)
             (⟦<Core<D, M> as HasState>⟧.state self.new) }
         ensures stop { self.new.stop ≡ self.old.stop }
         ensures count { self.new.acknowledged ≡ self.old.acknowledged }
+        ensures collection { self.new.collection ≡ self.old.collection }
     {
         match claim(
             &mut self.disk,
@@ -169,6 +186,7 @@ impl<D: Disk, M: Summary> Core<D, M> {
             (⟦<Core<D, M> as HasState>⟧.state self.new) }
         ensures stop { self.new.stop ≡ self.old.stop }
         ensures count { self.new.acknowledged ≡ self.old.acknowledged }
+        ensures collection { self.new.collection ≡ self.old.collection }
     {
         match commit(
             self.alloc,
@@ -190,6 +208,7 @@ impl<D: Disk, M: Summary> Core<D, M> {
             (⟦<Core<D, M> as HasState>⟧.state self.new) }
         ensures stop { self.new.stop ≡ self.old.stop }
         ensures count { self.new.acknowledged ≡ self.old.acknowledged }
+        ensures collection { self.new.collection ≡ self.old.collection }
     {
         match open_read(self.alloc, &self.tables.names, &mut self.parts, actor, name) {
             Ok(length) => Ok(Answer::Opened { length }),
@@ -203,6 +222,7 @@ impl<D: Disk, M: Summary> Core<D, M> {
             (⟦<Core<D, M> as HasState>⟧.state self.new) }
         ensures stop { self.new.stop ≡ self.old.stop }
         ensures count { self.new.acknowledged ≡ self.old.acknowledged }
+        ensures collection { self.new.collection ≡ self.old.collection }
     {
         match read_next(&mut self.disk, &mut self.index, &mut self.parts, actor, buf) {
             Ok(given) => match given {
@@ -218,6 +238,7 @@ impl<D: Disk, M: Summary> Core<D, M> {
             (⟦<Core<D, M> as HasState>⟧.state self.new) }
         ensures stop { self.new.stop ≡ self.old.stop }
         ensures count { self.new.acknowledged ≡ self.old.acknowledged }
+        ensures collection { self.new.collection ≡ self.old.collection }
     {
         match end_read(&mut self.parts, actor) {
             Ok(()) => Ok(Answer::Dropped),
@@ -232,6 +253,7 @@ impl<D: Disk, M: Summary> Core<D, M> {
             (⟦<Core<D, M> as HasState>⟧.state self.new) }
         ensures stop { self.new.stop ≡ self.old.stop }
         ensures count { self.new.acknowledged ≡ self.old.acknowledged }
+        ensures collection { self.new.collection ≡ self.old.collection }
     {
         match delete(self.alloc, &mut self.disk, &mut self.tables, name) {
             Ok(sequence) => Ok(Answer::Deleted { sequence }),
@@ -244,6 +266,7 @@ impl<D: Disk, M: Summary> Core<D, M> {
             (⟦<Core<D, M> as HasState>⟧.state self.new) }
         ensures stop { self.new.stop ≡ self.old.stop }
         ensures count { self.new.acknowledged ≡ self.old.acknowledged }
+        ensures collection { self.new.collection ≡ self.old.collection }
     {
         match list(self.alloc, &self.tables) {
             Ok(files) => Ok(Answer::Listed { files }),
@@ -251,7 +274,8 @@ impl<D: Disk, M: Summary> Core<D, M> {
         }
     }
 
-    fn seal(
+    // The seal alone: what is kept is live already, where a collection runs.
+    fn seal_alone(
         &mut self,
         actor: Actor,
         filled: &OpenContainer,
@@ -264,6 +288,7 @@ impl<D: Disk, M: Summary> Core<D, M> {
             (⟦<Core<D, M> as HasState>⟧.state self.new) }
         ensures stop { self.new.stop ≡ self.old.stop }
         ensures count { self.new.acknowledged ≡ self.old.acknowledged }
+        ensures collection { self.new.collection ≡ self.old.collection }
     {
         match seal(
             self.alloc,
@@ -280,6 +305,94 @@ impl<D: Disk, M: Summary> Core<D, M> {
         }
     }
 
+    // What is claimed becomes live before it is pinned, so that no pin is dead at any moment; it is live no more where it isn't held.
+    fn claim(&mut self, actor: Actor, seg: &Seg, buf: &mut SegBuf) -> Result<Answer, Refusal>
+        requires segment { IsStepSegment seg.now }
+        requires up { IsUp (⟦<Core<D, M> as HasState>⟧.state self.old) }
+        ensures made { MadeBefore (asked.Claim seg.now) actor result buf.new (⟦<Core<D, M> as HasState>⟧.state self.old)
+            (⟦<Core<D, M> as HasState>⟧.state self.new) }
+        ensures collects { Collects (asked.Claim seg.now) result (⟦<Core<D, M> as HasState>⟧.state self.old)
+            (⟦<Core<D, M> as HasState>⟧.state self.new) }
+        ensures stop { self.new.stop ≡ self.old.stop }
+        ensures count { self.new.acknowledged ≡ self.old.acknowledged }
+    {
+        let fresh = mark_key(self.alloc, &mut self.collection, &seg.key())?;
+        let answer = self.claim_alone(actor, seg, buf);
+        unmark_unless(&mut self.collection, &fresh, is_held(&answer));
+        answer
+    }
+
+    // So it is with the segments of a container that is sealed.
+    fn seal(
+        &mut self,
+        actor: Actor,
+        filled: &OpenContainer,
+        buf: &mut SegBuf,
+    ) -> Result<Answer, Refusal>
+        requires asked { IsStep (asked.Seal filled.now) }
+        requires up { IsUp (⟦<Core<D, M> as HasState>⟧.state self.old) }
+        ensures made { (bytes : List ℕ) → MadeBefore (asked.Seal filled.now) actor result bytes
+            (⟦<Core<D, M> as HasState>⟧.state self.old)
+            (⟦<Core<D, M> as HasState>⟧.state self.new) }
+        ensures collects { Collects (asked.Seal filled.now) result (⟦<Core<D, M> as HasState>⟧.state self.old)
+            (⟦<Core<D, M> as HasState>⟧.state self.new) }
+        ensures stop { self.new.stop ≡ self.old.stop }
+        ensures count { self.new.acknowledged ≡ self.old.acknowledged }
+    {
+        let fresh = mark_container(self.alloc, &mut self.collection, filled)?;
+        let answer = self.seal_alone(actor, filled, buf);
+        unmark_unless(&mut self.collection, &fresh, answer.is_ok());
+        answer
+    }
+
+    fn gc_start(&mut self, actor: Actor, percent: Percent) -> Result<Answer, Refusal>
+        requires up { IsUp (⟦<Core<D, M> as HasState>⟧.state self.old) }
+        ensures made { (buf : List ℕ) → MadeBefore (asked.GcStart percent) actor result buf
+            (⟦<Core<D, M> as HasState>⟧.state self.old)
+            (⟦<Core<D, M> as HasState>⟧.state self.new) }
+        ensures stop { self.new.stop ≡ self.old.stop }
+        ensures count { self.new.acknowledged ≡ self.old.acknowledged }
+    {
+        if let Some(running) = &self.collection {
+            return Err(Refusal::Collecting {
+                phase: phase_of(&running.stage),
+            });
+        }
+        let begun = start(self.alloc, &self.tables, &self.parts, percent)?;
+        let snapshot = begun.snapshot;
+        self.collection = Some(begun);
+        Ok(Answer::Started { snapshot })
+    }
+
+    fn gc_step(&mut self, actor: Actor, buf: &mut SegBuf) -> Result<Answer, Refusal>
+        requires up { IsUp (⟦<Core<D, M> as HasState>⟧.state self.old) }
+        ensures made { MadeBefore asked.GcStep actor result buf.new (⟦<Core<D, M> as HasState>⟧.state self.old)
+            (⟦<Core<D, M> as HasState>⟧.state self.new) }
+        ensures stop { self.new.stop ≡ self.old.stop }
+        ensures count { self.new.acknowledged ≡ self.old.acknowledged }
+    {
+        let Some(running) = &mut self.collection else {
+            return Err(Refusal::NotCollecting);
+        };
+        match step(
+            self.alloc,
+            &mut self.disk,
+            &mut self.tables,
+            &mut self.index,
+            running,
+            buf.bytes_mut(),
+        )? {
+            StepDone::Did(phase) => Ok(Answer::Did { phase }),
+            StepDone::Done { freed } => {
+                self.collection = None;
+                Ok(Answer::Done {
+                    freed: freed as u64,
+                    copied: 0,
+                })
+            }
+        }
+    }
+
     fn stat(&self) -> Answer
         requires { IsUp (⟦<Core<D, M> as HasState>⟧.state self.now) }
         ensures { IsCount result (⟦<Core<D, M> as HasState>⟧.state self.now) }
@@ -292,6 +405,8 @@ impl<D: Disk, M: Summary> Core<D, M> {
         requires asked { IsStep (step_value step) }
         requires up { IsUp (⟦<Core<D, M> as HasState>⟧.state self.old) }
         ensures made { MadeBefore (step_value step.entry) actor result buf.new (⟦<Core<D, M> as HasState>⟧.state self.old)
+            (⟦<Core<D, M> as HasState>⟧.state self.new) }
+        ensures collects { Collects (step_value step.entry) result (⟦<Core<D, M> as HasState>⟧.state self.old)
             (⟦<Core<D, M> as HasState>⟧.state self.new) }
         ensures stop { self.new.stop ≡ self.old.stop }
         ensures count { self.new.acknowledged ≡ self.old.acknowledged }
@@ -307,6 +422,8 @@ impl<D: Disk, M: Summary> Core<D, M> {
             Step::EndRead => self.end_read(actor),
             Step::Delete { name } => self.delete(actor, name),
             Step::List => self.list(actor),
+            Step::GcStart { percent } => self.gc_start(actor, *percent),
+            Step::GcStep => self.gc_step(actor, buf),
             Step::Stat => Ok(self.stat()),
         }
     }

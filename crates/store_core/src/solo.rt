@@ -82,6 +82,7 @@ fn number(refusal: &Refusal) -> usize
         Refusal::Full { .. } => 6,
         Refusal::Clash { .. } => 7,
         Refusal::WrongPart { .. } => 8,
+        Refusal::Collecting { .. } | Refusal::NotCollecting => 9,
         Refusal::DiskRead => 10,
         Refusal::DiskWrite => 11,
         Refusal::Stopped { .. } => 12,

@@ -1,4 +1,4 @@
-use Rattle.store_core.proofs.KeepingFiles.{keeps_files}
+use Rattle.store_core.proofs.AnySteps.{keeps_files}
 use Rattle.store_core.proofs.laws.a_core_keeps_files.Goals as goal
 
 pub returns : goal.returns

@@ -33,7 +33,7 @@ returns g c =
     record {
       opened = new_core (Shows (view c.args.disk.now) (view c.reopen.new.disk)) (view c.args.disk.now).size c.in_ok-found.found _ is.opened same started.represents
           (λ store represents valid. subst (λ (n : ℕ). HasPlaces n c.in_ok-started.started.1) (sym same) (started.serves (view c.args.disk.now).size store represents valid))
-          started.whole started.ids (_, started.known (view c.reopen.new.disk).content) started.parts refl refl;
+          started.whole started.ids (_, started.known (view c.reopen.new.disk).content) started.parts refl refl refl;
       durable = is.durable;
       reads = is.reads;
       refused = tt;

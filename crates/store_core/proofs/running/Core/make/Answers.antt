@@ -33,5 +33,11 @@ returns-in-Delete-clause-made g c = λ stop count. made_of _ _ (ap step_value c.
 pub returns-in-List-clause-made : goal.returns-in-List-clause-made
 returns-in-List-clause-made g c = λ stop count. made_of _ _ (ap step_value c.in-List.is) _ _ _ _ _ (c.list.ensures.made c.args.buf.now stop count)
 
+pub returns-in-GcStart-clause-made : goal.returns-in-GcStart-clause-made
+returns-in-GcStart-clause-made g c = λ stop count. made_of _ _ (ap step_value c.in-GcStart.is) _ _ _ _ _ (c.gc_start.ensures.made c.args.buf.now stop count)
+
+pub returns-in-GcStep-clause-made : goal.returns-in-GcStep-clause-made
+returns-in-GcStep-clause-made g c = λ stop count. made_of _ _ (ap step_value c.in-GcStep.is) _ _ _ _ _ (c.gc_step.ensures.made stop count)
+
 pub returns-in-Stat-clause-made : goal.returns-in-Stat-clause-made
 returns-in-Stat-clause-made g c = λ stop count. made_stat _ (ap step_value c.in-Stat.is) _ _ _ _ stop count c.stat.ensures

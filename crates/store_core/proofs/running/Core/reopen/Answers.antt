@@ -10,6 +10,7 @@ returns-in_err-tables-clause-kept g c = on_err c.from_residual.result _ (record 
   tables_are = refl;
   index_is = refl;
   parts_are = refl;
+  collection_is = refl;
   stop_is = refl;
   counted = refl;
   served = λ served. subst (λ (size : ℕ). HasPlaces size c.args.self.now.index) (sym c.in_err-tables.ensures.reads.only.later.size_is) served;

@@ -1,0 +1,139 @@
+-- Steps of a run, those of a collection among them.
+use Rattle.actor_parts.specs.StepValue as asked
+use Rattle.actor_parts.specs.declared.step.Answer.{Answer}
+use Rattle.store_core.specs.Runs.{AreChangesBy, AreChangesOf, AreNoGcSteps, FileEvent, FileStep, IsAt, IsNoGcStep, KeepsFiles, changes_by, changes_of, events_of, stored_by}
+use Rattle.store_model.specs.Collisions.{ByteSet, HasNoCollisions, IsIn}
+use Rattle.store_core.specs.State.{CoreState}
+use Rattle.store_core.specs.Core.{IndexesAll, Steps}
+use Rattle.store_core.proofs.Leading.{Leads, IsSpared}
+use Rattle.std.proofs.Common.{[], List, None, Result, ap, refl, subst, sym, ◌++◌, ◌∙◌, ◌∷◌, ◌≡◌, ◌⊎◌, inl, inr, ℕ}
+use Rattle.refusals.specs.declared.refusal.Refusal.{Refusal}
+use Rattle.actor_parts.specs.StepValue.{StepValue}
+use Rattle.store_model.specs.Image.{Store}
+use Rattle.store_model.specs.Steps.{StoreChange}
+use Rattle.store_model.specs.Files.{Stored}
+use Rattle.store_core.proofs.KeepingFiles.{chain_on, file_step, run_running, NextOn}
+use Rattle.store_core.proofs.GcSteps.{gc_led}
+use Rattle.store_core.proofs.CoreRuns.{running_step, was_running}
+use Rattle.actor_parts.specs.declared.part.Part.{Part}
+
+-- each step is one of a collection, or it isn't
+pub gc_or_not : (step : StepValue) → (step ≡ asked.GcStep) ⊎ IsNoGcStep step
+gc_or_not asked.GcStep = inl refl
+gc_or_not asked.Begin = inr tt
+gc_or_not (asked.Claim seg) = inr tt
+gc_or_not (asked.Seal filled) = inr tt
+gc_or_not (asked.Commit name root) = inr tt
+gc_or_not asked.Abort = inr tt
+gc_or_not (asked.OpenRead name) = inr tt
+gc_or_not asked.ReadNext = inr tt
+gc_or_not asked.EndRead = inr tt
+gc_or_not (asked.Delete name) = inr tt
+gc_or_not asked.ListNames = inr tt
+gc_or_not (asked.GcStart percent) = inr tt
+gc_or_not asked.Stat = inr tt
+
+-- what a step that no collection makes may not lose: nothing
+pub spared_other : (step : StepValue) (s : Store) (parts : List Part) (image key : List ℕ) → IsNoGcStep step → IsSpared step s parts image key
+spared_other asked.GcStep s parts image key other = absurd other
+spared_other asked.Begin s parts image key other = tt
+spared_other (asked.Claim seg) s parts image key other = tt
+spared_other (asked.Seal filled) s parts image key other = tt
+spared_other (asked.Commit name root) s parts image key other = tt
+spared_other asked.Abort s parts image key other = tt
+spared_other (asked.OpenRead name) s parts image key other = tt
+spared_other asked.ReadNext s parts image key other = tt
+spared_other asked.EndRead s parts image key other = tt
+spared_other (asked.Delete name) s parts image key other = tt
+spared_other asked.ListNames s parts image key other = tt
+spared_other (asked.GcStart percent) s parts image key other = tt
+spared_other asked.Stat s parts image key other = tt
+
+-- the changes of a step that no collection makes
+changes_same : (step : StepValue) (answer : Result Answer Refusal) → IsNoGcStep step → AreChangesBy step answer (changes_by step answer)
+changes_same asked.GcStep answer other = absurd other
+changes_same asked.Begin answer other = refl
+changes_same (asked.Claim seg) answer other = refl
+changes_same (asked.Seal filled) answer other = refl
+changes_same (asked.Commit name root) answer other = refl
+changes_same asked.Abort answer other = refl
+changes_same (asked.OpenRead name) answer other = refl
+changes_same asked.ReadNext answer other = refl
+changes_same asked.EndRead answer other = refl
+changes_same (asked.Delete name) answer other = refl
+changes_same asked.ListNames answer other = refl
+changes_same (asked.GcStart percent) answer other = refl
+changes_same asked.Stat answer other = refl
+
+pub changes_only : (step : StepValue) (answer : Result Answer Refusal) (changes : List StoreChange) → IsNoGcStep step → AreChangesBy step answer changes → changes ≡ changes_by step answer
+changes_only asked.GcStep answer changes other are = absurd other
+changes_only asked.Begin answer changes other are = are
+changes_only (asked.Claim seg) answer changes other are = are
+changes_only (asked.Seal filled) answer changes other are = are
+changes_only (asked.Commit name root) answer changes other are = are
+changes_only asked.Abort answer changes other are = are
+changes_only (asked.OpenRead name) answer changes other are = are
+changes_only asked.ReadNext answer changes other are = are
+changes_only asked.EndRead answer changes other are = are
+changes_only (asked.Delete name) answer changes other are = are
+changes_only asked.ListNames answer changes other are = are
+changes_only (asked.GcStart percent) answer changes other are = are
+changes_only asked.Stat answer changes other are = are
+
+-- of steps without one of a collection the changes are those that their answers tell
+pub changes_told : (steps : List FileEvent) (changes : List StoreChange) → AreNoGcSteps (events_of steps) → AreChangesOf steps changes → changes ≡ changes_of steps
+changes_told [] changes others are = are
+changes_told (f ∷ fs) changes others are =
+    are.2 ∙ ap (λ (l : List StoreChange). l ++ are.1) (changes_only f.event.step f.event.answer are.0 others.0 are.3) ∙ ap (λ (l : List StoreChange). changes_by f.event.step f.event.answer ++ l) (changes_told fs are.1 others.1 are.4)
+
+-- the same step by another name
+abbrev pub with_step : FileEvent → StepValue → FileEvent
+with_step f step = record { event = record { actor = f.event.actor; step = step; answer = f.event.answer; buf = f.event.buf }; bytes = f.bytes }
+
+gc_leads : (among : ByteSet) (f : FileEvent) (s : Store) (stored : Stored) (old new : CoreState) → f.event.step ≡ asked.GcStep → FileStep (IsIn among) f old new → IsAt (IsIn among) s stored old → new.stop ≡ None
+    → Leads (IsIn among) s f (stored_by f stored) old new
+gc_leads among f s stored old new is step at stays =
+    let runs : old.stop ≡ None = was_running old.stop f.event old new refl step.made stays in
+    subst (λ (st : StepValue). Steps (with_step f st).event old new → Leads (IsIn among) s (with_step f st) (stored_by (with_step f st) stored) old new) (sym is)
+    (λ steps. gc_led among s stored old new f.event.actor f.event.buf f.bytes at stays f.event.answer steps.made.row steps.made.effect steps.stops) (running_step old new f.event runs step.made)
+
+module _ (among : ByteSet) (distinct : HasNoCollisions (IsIn among)) where
+  pub other_leads : (f : FileEvent) (s : Store) (stored : Stored) (old new : CoreState) → IsNoGcStep f.event.step → NextOn (IsIn among) s (changes_by f.event.step f.event.answer) (stored_by f stored) old new
+      → Leads (IsIn among) s f (stored_by f stored) old new
+  other_leads f s stored old new other goes = record {
+    changes = changes_by f.event.step f.event.answer;
+    changes_are = changes_same f.event.step f.event.answer other;
+    next = goes.next;
+    keys = λ key before told spared first then is then_is has. goes.keys first then is then_is key has;
+    copies = λ key before after told told_after spared first is has level bytes newest. goes.copies first before after is told told_after key level bytes has newest;
+    whole = λ none. goes.whole;
+  }
+
+  -- a step of a run, whichever it is
+  pub any_step : (f : FileEvent) (s : Store) (stored : Stored) (old new : CoreState) → FileStep (IsIn among) f old new → IsAt (IsIn among) s stored old → new.stop ≡ None → Leads (IsIn among) s f (stored_by f stored) old new
+  any_step f s stored old new step at stays = elim (gc_or_not f.event.step) [
+    | inl gc ↦ gc_leads among f s stored old new gc step at stays
+    | inr other ↦ other_leads f s stored old new other (file_step among distinct f s stored old new other step at stays)
+  ]
+
+module _ (C : Type 0) (state : C → CoreState) where
+  pub keeps_files : KeepsFiles C state
+  keeps_files among [] s stored old new distinct at run stays = record {
+    store = s;
+    changes = [];
+    changes_are = refl;
+    chain = refl;
+    is_at = subst (λ (c : C). IsAt (IsIn among) s stored (state c)) (sym run) at;
+    whole = λ none. subst (λ (c : C). IndexesAll s (state old).known → IndexesAll s (state c).known) (sym run) (λ whole. whole);
+  }
+  keeps_files among (f ∷ fs) s stored old new distinct at run stays =
+      let leads = any_step among distinct f s stored (state old) (state run.0) run.1.0 at (run_running C state among fs run.0 new run.1.1 stays) in
+      let reached = keeps_files among fs leads.next.store (stored_by f stored) run.0 new distinct leads.next.is_at run.1.1 stays in
+      record {
+        store = reached.store;
+        changes = leads.changes ++ reached.changes;
+        changes_are = (leads.changes, reached.changes, refl, leads.changes_are, reached.changes_are);
+        chain = chain_on leads.changes reached.changes s leads.next.store reached.store leads.next.chain reached.chain;
+        is_at = reached.is_at;
+        whole = λ none whole. reached.whole none.1 (leads.whole none.0 whole);
+      }

@@ -1,0 +1,227 @@
+-- Where a step of a collection leads.
+use Rattle.store_state.specs.Refused.{blames}
+use Rattle.store_core.proofs.SafeSteps.{one_list, one_map_at}
+use Rattle.refusals.specs.declared.refusal.Refusal.TheVariants as refusals
+use Rattle.actor_parts.specs.declared.step.Answer.TheVariants as answers
+use Rattle.actor_parts.specs.StepValue as asked
+use Rattle.actor_parts.specs.declared.actor.TheConstants.{ACTORS}
+use Rattle.actor_parts.specs.declared.step.Answer.{Answer}
+use Rattle.store_core.specs.Runs.{AreChangesBy, ChangesTo, FileEvent, IsAt, IsSafeIn}
+use Rattle.store_model.specs.Collisions.{ByteSet, IsIn, Stands}
+use Rattle.gc_steps.specs.declared.collection.Collection.{Collection}
+use Rattle.store_model.specs.Slots.{HasKey}
+use Rattle.store_state.specs.Invariant.{CoreInvariant}
+use Rattle.store_core.specs.State.{CoreState, IsUnderWayIn}
+use Rattle.gc_steps.specs.declared.phase.StepDone.TheVariants.{Did}
+use Rattle.dd_disk.specs.Ending.{Done, Reads, ending_of}
+use Rattle.gc_steps.specs.declared.collection.Stage.TheVariants.{Copy, End, Filter, Mark, Release, Select}
+use Rattle.std.proofs.Common.{[], inl, inr, Err, List, None, Ok, Option, Result, Some, ap, arith, length, refl, subst, sym, ℕ, ◌∙◌, ◌∷◌, ◌≡◌, ◌≤◌}
+use Rattle.store_model.specs.Steps.{FreeContainer, StoreChange}
+use Rattle.store_core.specs.Collecting.{GcEffect, GcRow, IsNotMade, NoneRuns, TouchesBy, GoesOn, HasEnded, at_moment}
+use Rattle.store_model.specs.Trees.{HasNewest}
+use Rattle.dd_disk.specs.View.{IsLater, OnlyReads}
+use Rattle.gc_steps.specs.Safety.{IsNeeded, IsSafe}
+use Rattle.gc_steps.proofs.StepSafe.{IsStoreAfter, step_safe}
+use Rattle.store_model.specs.Standing.{IsStoreOf}
+use Rattle.gc_steps.specs.UnderWay.{IsUnderWay}
+use Rattle.store_model.specs.Image.{IsValidFor, Store}
+use Rattle.journal_cells.specs.Journal.{JournalValue}
+use Rattle.store_core.proofs.Leading.{Leads}
+use Rattle.actor_parts.specs.declared.part.Part.{Part}
+use Rattle.refusals.specs.declared.refusal.Phase.{Phase}
+use Rattle.container_meta.specs.Places.{PlaceMap}
+use Rattle.refusals.specs.declared.refusal.Refusal.{Refusal}
+use Rattle.store_state.specs.Tables.{Represents}
+use Rattle.gc_steps.specs.declared.collection.Stage.{Stage}
+use Rattle.dd_disk.specs.Moves.{StandsFor}
+use Rattle.gc_steps.specs.Stepping.{phase_at, StepsTo, TablesAfter, Touches, answer_at, Keeps, IsStepRefusal, moment}
+use Rattle.store_core.specs.Core.{StopsAfter}
+use Rattle.store_model.specs.Files.{Stored}
+use Rattle.store_state.specs.declared.tables.Tables.{Tables}
+use Rattle.gc_steps.proofs.RefusedSafe.{refused_safe}
+use Rattle.dd_disk.proofs.Moves.{stands_reads}
+
+-- ---- the store
+
+-- what a step of a stage is called
+phase_is : (stage : Stage) (freed : ℕ) (phase : Phase) → answer_at stage freed ≡ Did phase → phase_at stage ≡ phase
+phase_is (Mark level slot) freed phase is = cc
+phase_is (Filter slot) freed phase is = cc
+phase_is Select freed phase is = cc
+phase_is (Copy source) freed phase is = cc
+phase_is (Release next slot) freed phase is = cc
+phase_is End freed phase is = absurd (let wrong = is in cc)
+
+-- where it gives nothing back, the store stays
+stays_same : (stage : Stage) (index : PlaceMap) (s t : Store) → ((next slot : ℕ) → stage ≡ Release next slot → ⊥) → IsStoreAfter stage index s t → t ≡ s
+stays_same stage index s t none (inl same) = same.1
+stays_same stage index s t none (inr frees) = absurd (none frees.next frees.slot frees.stage_is)
+
+-- the changes of a step of a stage: the container of a slot is closed exactly where one is given back
+stage_changes : (stage : Stage) (index : PlaceMap) (s t : Store) → IsStoreAfter stage index s t → (changes : List StoreChange) × (AreChangesBy asked.GcStep (Ok (answers.Did (phase_at stage))) changes × ChangesTo changes s t)
+stage_changes (Mark level slot) index s t after = ([], (refl, stays_same (Mark level slot) index s t (λ next other is. let wrong = is in cc) after))
+stage_changes (Filter slot) index s t after = ([], (refl, stays_same (Filter slot) index s t (λ next other is. let wrong = is in cc) after))
+stage_changes Select index s t after = ([], (refl, stays_same Select index s t (λ next other is. let wrong = is in cc) after))
+stage_changes (Copy source) index s t after = ([], (refl, stays_same (Copy source) index s t (λ next other is. let wrong = is in cc) after))
+stage_changes (Release next slot) index s t (inl same) = absurd (same.0 next slot refl)
+stage_changes (Release next slot) index s t (inr frees) = (FreeContainer frees.slot ∷ [], ((frees.slot, refl), ((frees.header, frees.there), frees.now_is)))
+stage_changes End index s t after = ([], (refl, stays_same End index s t (λ next other is. let wrong = is in cc) after))
+
+did_changes : (stage : Stage) (freed : ℕ) (phase : Phase) (index : PlaceMap) (s t : Store) → answer_at stage freed ≡ Did phase → IsStoreAfter stage index s t
+    → (changes : List StoreChange) × (AreChangesBy asked.GcStep (Ok (answers.Did phase)) changes × ChangesTo changes s t)
+did_changes stage freed phase index s t is after =
+    subst (λ (p : Phase). (changes : List StoreChange) × (AreChangesBy asked.GcStep (Ok (answers.Did p)) changes × ChangesTo changes s t)) (phase_is stage freed phase is) (stage_changes stage index s t after)
+
+-- the journal is what it was
+journal_same : (stage : Stage) (t u : Tables) → TablesAfter stage t u → u.journal ≡ t.journal
+journal_same (Mark level slot) t u after = ap (λ (x : Tables). x.journal) after
+journal_same (Filter slot) t u after = ap (λ (x : Tables). x.journal) after
+journal_same Select t u after = ap (λ (x : Tables). x.journal) after
+journal_same (Copy source) t u after = ap (λ (x : Tables). x.journal) after
+journal_same (Release next slot) t u after = ap (λ (x : Tables). x.journal) after.others_stay
+journal_same End t u after = ap (λ (x : Tables). x.journal) after
+
+-- ---- a step
+
+-- the step of an actor
+abbrev gc_event : ℕ → Result Answer Refusal → List ℕ → List ℕ → FileEvent
+gc_event actor answer buf bytes = record { event = record { actor = actor; step = asked.GcStep; answer = answer; buf = buf }; bytes = bytes }
+
+module _ (among : ByteSet) (s : Store) (stored : Stored) (old new : CoreState) (actor : ℕ) (buf bytes : List ℕ) (at : IsAt (IsIn among) s stored old) (stays : new.stop ≡ None) where
+  abbrev image : List ℕ
+  image = at.stands.known.0
+
+  abbrev here : old.disk.content ≡ Some image
+  here = at.stands.known.1
+
+  abbrev represents : Represents s (Some at.index) old.tables
+  represents = subst (λ (known : Option PlaceMap). Represents s known old.tables) at.index_known at.represents
+
+  abbrev holds : IsStoreOf s stored.files image
+  holds = (at.stands.each image (old.disk.as_read image here)).holds
+
+  abbrev Led : Result Answer Refusal → Type 0
+  Led answer = Leads (IsIn among) s (gc_event actor answer buf bytes) stored old new
+
+  abbrev few : length old.parts ≤ ACTORS
+  few = omega (arith, at.many)
+
+  -- what holds afterwards, by the store, the map of the index and the content that there are then
+  module _ (now : List ℕ) (told : new.disk.content ≡ Some now) (goes : IsLater old.disk new.disk) (parts : new.parts ≡ old.parts) (under_way : IsUnderWayIn new.tables.held new.collection) where
+    at_now : (t : Store) (later : PlaceMap) → new.known ≡ Some later → Represents t (Some later) new.tables → IsValidFor new.disk.size t → StandsFor (Stands (IsIn among) t stored.files) new.disk
+        → new.tables.journal ≡ old.tables.journal → CoreInvariant later t stored.files old.parts now → IsSafeIn later t old.parts now new.collection → IsAt (IsIn among) t stored new
+    at_now t later known is valid stands journal core safe = record {
+      represents = subst (λ (k : Option PlaceMap). Represents t k new.tables) (sym known) is;
+      index = later;
+      index_known = known;
+      valid = valid;
+      stands = stands;
+      last_is = ap (λ (j : JournalValue). j.last) journal ∙ at.last_is;
+      invariant = λ c is. subst (CoreInvariant later t stored.files new.parts) (one_list now c (sym told ∙ is)) (subst (λ (p : List Part). CoreInvariant later t stored.files p now) (sym parts) core);
+      many = ap length parts ∙ at.many;
+      under_way = under_way;
+      safe = λ c is. subst (λ (bytes : List ℕ). IsSafeIn later t new.parts bytes new.collection) (one_list now c (sym told ∙ is))
+          (subst (λ (p : List Part). IsSafeIn later t p now new.collection) (sym parts) safe);
+    }
+
+    -- where the store and the index stay
+    same_led : (answer : Result Answer Refusal) → AreChangesBy asked.GcStep answer [] → new.known ≡ Some at.index → new.tables ≡ old.tables → StandsFor (Stands (IsIn among) s stored.files) new.disk
+        → CoreInvariant at.index s stored.files old.parts now → IsSafeIn at.index s old.parts now new.collection
+        → ((key : List ℕ) (level : ℕ) (text : List ℕ) → HasNewest s.held key level text image → HasNewest s.held key level text now) → Led answer
+    same_led answer none known tables stands core safe keeps = record {
+      changes = [];
+      changes_are = none;
+      next = record {
+        store = s;
+        chain = refl;
+        is_at = at_now s at.index known (subst (Represents s (Some at.index)) (sym tables) represents) (subst (λ (size : ℕ). IsValidFor size s) (sym goes.size_is) at.valid) stands (ap (λ (t : Tables). t.journal) tables) core safe;
+      };
+      keys = λ key before is spared first then first_is then_is has. subst (λ (m : PlaceMap). HasKey m key) (one_map_at first then (sym first_is ∙ at.index_known ∙ sym known ∙ then_is)) has;
+      copies = λ key before after is after_is spared first first_is has level text newest.
+          subst (HasNewest s.held key level text) (one_list now after (sym told ∙ after_is)) (keeps key level text (subst (HasNewest s.held key level text) (one_list before image (sym is ∙ here)) newest));
+      whole = λ other. absurd other;
+    }
+
+    -- where one was made, and the collection goes on
+    did_led : (phase : Phase) → GoesOn phase old new → TouchesBy old.collection (Ok (answers.Did phase)) old new.disk → Led (Ok (answers.Did phase))
+    did_led phase row touches =
+        let c = row.before in
+        let safe : IsSafe at.index s old.parts image c = subst (IsSafeIn at.index s old.parts image) row.ran (at.safe image here) in
+        let under : IsUnderWay old.tables.held c = subst (IsUnderWayIn old.tables.held) row.ran at.under_way in
+        let steps : StepsTo c.stage (moment old.tables (Some at.index) old.disk c) (at_moment new row.after) = subst (λ (k : Option PlaceMap). StepsTo c.stage (moment old.tables k old.disk c) (at_moment new row.after)) at.index_known row.steps in
+        let touched : Touches c.stage old.tables Done old.disk new.disk = subst (λ (o : Option Collection). TouchesBy o (Ok (answers.Did phase)) old new.disk) row.ran touches in
+        let leaves = step_safe at.index s stored.files old.parts image now among old.tables new.tables new.known old.disk new.disk c row.after
+        (at.invariant image here) few represents at.valid here told at.stands under safe steps row.tables touched in
+        let changes = did_changes c.stage c.freed phase at.index s leaves.store_now row.phase_is leaves.store_is in
+        record {
+          changes = changes.0;
+          changes_are = changes.1.0;
+          next = record {
+            store = leaves.store_now;
+            chain = changes.1.1;
+            is_at = at_now leaves.store_now leaves.later leaves.known_is leaves.represents leaves.valid leaves.stands (journal_same c.stage old.tables new.tables row.tables) leaves.core
+                (subst (IsSafeIn leaves.later leaves.store_now old.parts now) (sym row.runs) leaves.safe);
+          };
+          keys = λ key before is spared first then first_is then_is has.
+              subst (λ (m : PlaceMap). HasKey m key) (one_map_at leaves.later then (sym leaves.known_is ∙ then_is))
+              (leaves.spares key (subst (λ (b : List ℕ). IsNeeded s old.parts b key) (one_list before image (sym is ∙ here)) spared)).0;
+          copies = λ key before after is after_is spared first first_is has level text newest.
+              let same : before ≡ image = one_list before image (sym is ∙ here) in
+              subst (HasNewest leaves.store_now.held key level text) (one_list now after (sym told ∙ after_is))
+              ((leaves.spares key (subst (λ (b : List ℕ). IsNeeded s old.parts b key) same spared)).1 level text (subst (HasNewest s.held key level text) same newest));
+          whole = λ other. absurd other;
+        }
+
+    -- where nothing but time changes
+    read_led : (answer : Result Answer Refusal) → AreChangesBy asked.GcStep answer [] → new.known ≡ old.known → new.tables ≡ old.tables → OnlyReads old.disk new.disk
+        → (IsSafeIn at.index s old.parts image old.collection → IsSafeIn at.index s old.parts image new.collection) → Led answer
+    read_led answer none known tables reads safe =
+        let same : image ≡ now = one_list image now (sym here ∙ sym reads.content_is ∙ told) in
+        same_led answer none (known ∙ at.index_known) tables (stands_reads (Stands (IsIn among) s stored.files) old.disk new.disk at.stands reads)
+        (subst (CoreInvariant at.index s stored.files old.parts) same (at.invariant image here)) (subst (λ (bytes : List ℕ). IsSafeIn at.index s old.parts bytes new.collection) same (safe (at.safe image here)))
+        (λ key level text newest. subst (HasNewest s.held key level text) same newest)
+
+    ended_led : (freed copied : ℕ) → HasEnded freed copied old new → TouchesBy old.collection (Ok (answers.Done freed copied)) old new.disk → Led (Ok (answers.Done freed copied))
+    ended_led freed copied row touches =
+        let touched : Touches row.before.stage old.tables Done old.disk new.disk = subst (λ (o : Option Collection). TouchesBy o (Ok (answers.Done freed copied)) old new.disk) row.ran touches in
+        let reads : Reads Done old.disk new.disk = subst (λ (stage : Stage). Touches stage old.tables Done old.disk new.disk) row.at_end touched in
+        read_led (Ok (answers.Done freed copied)) refl row.index_is row.tables_are reads.only (λ safe. subst (IsSafeIn at.index s old.parts image) (sym row.ended) tt)
+
+    none_led : NoneRuns old new → TouchesBy old.collection (Err refusals.NotCollecting) old new.disk → Led (Err refusals.NotCollecting)
+    none_led row touches =
+        let reads = subst (λ (o : Option Collection). TouchesBy o (Err refusals.NotCollecting) old new.disk) row.none_ran touches in
+        read_led (Err refusals.NotCollecting) refl row.index_is row.tables_are reads.only (λ safe. subst (IsSafeIn at.index s old.parts image) (sym row.none_runs) tt)
+
+    -- where one was refused
+    refused_led : (refusal : Refusal) → AreChangesBy asked.GcStep (Err refusal) [] → (refusal ≡ refusals.DiskWrite → ⊥) → IsNotMade refusal old new → TouchesBy old.collection (Err refusal) old new.disk → Led (Err refusal)
+    refused_led refusal none other row touches =
+        let c = row.before in
+        let safe : IsSafe at.index s old.parts image c = subst (IsSafeIn at.index s old.parts image) row.ran (at.safe image here) in
+        let cause = subst (λ (k : Option PlaceMap). IsStepRefusal c.stage (moment old.tables k old.disk c) new.disk refusal) at.index_known row.cause in
+        let keeps = subst (λ (k : Option PlaceMap). Keeps c.stage (moment old.tables k old.disk c) (at_moment new row.after) refusal) at.index_known row.kept in
+        let kept = subst (λ (t : Tables). Keeps c.stage (moment old.tables (Some at.index) old.disk c) (moment t new.known new.disk row.after) refusal) row.tables_are keeps in
+        let touched : Touches c.stage old.tables (ending_of (blames refusal)) old.disk new.disk = subst (λ (o : Option Collection). TouchesBy o (Err refusal) old new.disk) row.ran touches in
+        let still = refused_safe at.index s stored.files old.parts image now among old.tables new.known old.disk new.disk c row.after (at.invariant image here) represents at.valid here told at.stands
+        (ending_of (blames refusal)) refusal other safe cause kept touched in
+        same_led (Err refusal) none still.known_is row.tables_are still.stands still.core (subst (IsSafeIn at.index s old.parts now) (sym row.runs) still.safe) still.keeps
+
+  not_broken : (refusal : Refusal) → StopsAfter asked.GcStep (Err refusal) old.acknowledged new.stop → refusal ≡ refusals.DiskWrite → ⊥
+  not_broken refusal stops is = wrong (subst (λ (r : Refusal). StopsAfter asked.GcStep (Err r) old.acknowledged new.stop) is stops)
+    where
+      wrong : StopsAfter asked.GcStep (Err refusals.DiskWrite) old.acknowledged new.stop → ⊥
+      wrong stops = let both = sym stays ∙ stops in cc
+
+  pub gc_led : (answer : Result Answer Refusal) → GcRow answer old new → GcEffect answer old new → StopsAfter asked.GcStep answer old.acknowledged new.stop → Led answer
+  gc_led (Ok (answers.Did phase)) row effect stops =
+      let now = effect.later.tells image here in
+      did_led now.0 now.1 effect.later row.1 (effect.under_way at.under_way) phase row.0 effect.touches
+  gc_led (Ok (answers.Done freed copied)) row effect stops =
+      let now = effect.later.tells image here in
+      ended_led now.0 now.1 effect.later row.1 (effect.under_way at.under_way) freed copied row.0 effect.touches
+  gc_led (Err refusals.NotCollecting) row effect stops =
+      let now = effect.later.tells image here in
+      none_led now.0 now.1 effect.later row.1 (effect.under_way at.under_way) row.0 effect.touches
+  gc_led (Err refusal) row effect stops =
+      let now = effect.later.tells image here in
+      refused_led now.0 now.1 effect.later row.1 (effect.under_way at.under_way) refusal refl (not_broken refusal stops) row.0 effect.touches
+  gc_led answer row effect stops = absurd row

@@ -1,0 +1,32 @@
+-- Where a step of a run leads, and what it may not lose.
+use Rattle.actor_parts.specs.StepValue as asked
+use Rattle.store_core.specs.Runs.{AreChangesBy, FileEvent, IsNoGcStep}
+use Rattle.store_core.specs.State.{CoreState}
+use Rattle.store_model.specs.Slots.{HasKey}
+use Rattle.store_model.specs.Trees.{HasNewest}
+use Rattle.store_core.specs.Core.{IndexesAll}
+use Rattle.gc_steps.specs.Safety.{IsNeeded}
+use Rattle.std.proofs.Common.{List, Some, ℕ, ◌≡◌}
+use Rattle.store_core.proofs.KeepingFiles.{Next}
+use Rattle.actor_parts.specs.declared.part.Part.{Part}
+use Rattle.container_meta.specs.Places.{PlaceMap}
+use Rattle.actor_parts.specs.StepValue.{StepValue}
+use Rattle.store_model.specs.Image.{Store}
+use Rattle.store_model.specs.Steps.{StoreChange}
+use Rattle.store_model.specs.Files.{Stored}
+
+-- a key that a step may not lose: for a collection each that is needed, and else each
+abbrev pub IsSpared : StepValue → Store → List Part → List ℕ → List ℕ → Type 0
+IsSpared asked.GcStep s parts image key = IsNeeded s parts image key
+IsSpared step s parts image key = Unit {0}
+
+-- Where a step leads, whichever it is: what is spared is in the index still, with its newest copy.
+pub record Leads (S : List ℕ → Type 0) (s : Store) (f : FileEvent) (stored : Stored) (old new : CoreState) : Type 0 where
+  pub changes : List StoreChange
+  pub changes_are : AreChangesBy f.event.step f.event.answer changes
+  pub next : Next S s changes stored old new
+  pub keys : (key before : List ℕ) → old.disk.content ≡ Some before → IsSpared f.event.step s old.parts before key
+      → (first then : PlaceMap) → old.known ≡ Some first → new.known ≡ Some then → HasKey first key → HasKey then key
+  pub copies : (key before after : List ℕ) → old.disk.content ≡ Some before → new.disk.content ≡ Some after → IsSpared f.event.step s old.parts before key
+      → (first : PlaceMap) → old.known ≡ Some first → HasKey first key → (level : ℕ) (bytes : List ℕ) → HasNewest s.held key level bytes before → HasNewest next.store.held key level bytes after
+  pub whole : IsNoGcStep f.event.step → IndexesAll s old.known → IndexesAll next.store new.known

@@ -1,0 +1,135 @@
+-- What a claim or a seal makes of a core, where what it keeps becomes live, too.
+use Rattle.std.proofs.Common.{◌≡◌, ◌↔◌, ℕ, Bool, true, false, List, Option, Result, Ok, Err, IsErr, IsTrue, refl, sym, subst, map}
+use Rattle.std.specs.List.{Contains}
+use Rattle.std.specs.Result.{is_ok}
+use Rattle.container_meta.specs.Segments.{Contents, KindSegment, segment_key}
+use Rattle.dd_disk.proofs.Later.{reads_here}
+use Rattle.actor_parts.specs.declared.step.Answer.{Answer}
+use Rattle.actor_parts.specs.declared.step.Answer.TheVariants as answers
+use Rattle.actor_parts.specs.StepValue as asked
+use Rattle.refusals.specs.declared.refusal.Refusal.{Refusal}
+use Rattle.refusals.specs.declared.refusal.Refusal.TheVariants as refusals
+use Rattle.store_model.specs.Steps.{StoreChange, SealContainer}
+use Rattle.gc_steps.specs.declared.collection.Collection.{Collection}
+use Rattle.ingest_steps.proofs.AfterReads.{seals_refused_by}
+use Rattle.ingest_steps.proofs.StepRefusals.{steps_here}
+use Rattle.store_core.specs.Collecting.{IsHeldAnswer, IsKeptKey, MarksIn, Restores}
+use Rattle.store_core.specs.Core.{ClaimRow, KeepsTables, KeepsUnlessBroken, Made, Makes, SealRow, SealsOne, next_id}
+use Rattle.store_core.specs.State.{CoreState}
+use Rattle.store_core.specs.declared.stop.Stop.{Stop}
+
+-- ---- a step that is so whatever collection runs
+
+module _ (old new : CoreState) (was now : Option Collection) where
+  abbrev before : CoreState
+  before = record old { collection = was }
+
+  abbrev after : CoreState
+  after = record new { collection = now }
+
+  keeps_alike : KeepsTables before after → KeepsTables old new
+  keeps_alike keeps = record { tables_are = keeps.tables_are; index_is = keeps.index_is }
+
+  claim_row : (seg : KindSegment) (actor : ℕ) (answer : Result Answer Refusal) → ClaimRow seg actor answer before after → ClaimRow seg actor answer old new
+  claim_row seg actor (Ok answers.Held) row = record { claimed = row.claimed; kept = row.kept }
+  claim_row seg actor (Ok answers.Absent) row = record { claimed = row.claimed; kept = row.kept }
+  claim_row seg actor (Err refusal) row = row
+  claim_row seg actor answer row = absurd row
+
+  pub claim_alike : (seg : KindSegment) (actor : ℕ) (answer : Result Answer Refusal) (buf : List ℕ) → Made (asked.Claim seg) actor answer buf before after → Made (asked.Claim seg) actor answer buf old new
+  claim_alike seg actor answer buf made = record {
+    row = claim_row seg actor answer made.row;
+    effect = record { disk = made.effect.disk; tables = keeps_alike made.effect.tables };
+    served = made.served;
+  }
+
+  seal_row : (filled : Contents) (actor : ℕ) (answer : Result Answer Refusal) → SealRow filled actor answer before after → SealRow filled actor answer old new
+  seal_row filled actor (Ok (answers.Sealed id)) row = record { may = row.may; compared = row.compared; id_is = row.id_is; last_is = row.last_is; parts_are = row.parts_are; kept = row.kept }
+  seal_row filled actor (Err refusal) row = row
+  seal_row filled actor answer row = absurd row
+
+  makes_alike : (change : StoreChange) → Makes change before after → Makes change old new
+  makes_alike change makes = record {
+    can = makes.can;
+    represents = makes.represents;
+    valid = makes.valid;
+    tells = makes.tells;
+    keeps_keys = makes.keeps_keys;
+    adds_keys = makes.adds_keys;
+    keeps_others = makes.keeps_others;
+    whole = makes.whole;
+    alone = makes.alone;
+    runs = makes.runs;
+    runs_indexed = makes.runs_indexed;
+  }
+
+  unless_broken : (refusal : Refusal) → KeepsUnlessBroken refusal before after → KeepsUnlessBroken refusal old new
+  unless_broken refusals.DiskWrite keeps = keeps
+  unless_broken (refusals.Damaged at_byte why) keeps = keeps
+  unless_broken refusal keeps = keeps_alike keeps
+
+  seal_effect : (filled : Contents) (answer : Result Answer Refusal) → SealsOne filled answer before after → SealsOne filled answer old new
+  seal_effect filled (Ok x) effect = record { disk = effect.disk; moves = effect.moves; made = makes_alike (SealContainer (next_id old) filled.kind filled.segments) effect.made; kept = tt }
+  seal_effect filled (Err refusal) effect = record { disk = effect.disk; moves = effect.moves; made = tt; kept = unless_broken refusal effect.kept }
+
+  pub seal_alike : (filled : Contents) (actor : ℕ) (answer : Result Answer Refusal) (buf : List ℕ) → Made (asked.Seal filled) actor answer buf before after → Made (asked.Seal filled) actor answer buf old new
+  seal_alike filled actor answer buf made = record { row = seal_row filled actor answer made.row; effect = seal_effect filled answer made.effect; served = made.served }
+
+-- ---- no memory for the marks
+
+-- Nothing changed but the collection.
+pub seal_without_memory : (filled : Contents) (actor : ℕ) (buf : List ℕ) (old : CoreState) (now : Option Collection) (stop : Option Stop) (count : ℕ)
+    → Made (asked.Seal filled) actor (Err refusals.Memory) buf old (record old { collection = now; stop = stop; acknowledged = count })
+seal_without_memory filled actor buf old now stop count = record {
+  row = (tt, refl);
+  effect = record {
+    disk = steps_here old.tables.slots _ old.disk refl;
+    moves = seals_refused_by old.tables old.known (next_id old) filled old.disk old.disk (reads_here old.disk) {T = Answer} (Err refusals.Memory) (λ refusal. refusal ≡ refusals.Memory) refl;
+    made = tt;
+    kept = record { tables_are = refl; index_is = refl };
+  };
+  served = λ served. served;
+}
+
+-- ---- what became live
+
+-- the collection stays, and the keys are read
+pub restores_moved : (old marked moved : Option Collection) (fresh keys : List (List ℕ)) → moved ≡ marked → keys ≡ fresh → Restores old marked fresh → Restores old moved keys
+restores_moved old marked moved fresh keys same read restores =
+    subst (λ (c : Option Collection). Restores old c keys) (sym same) (subst (λ (ks : List (List ℕ)). Restores old marked ks) (sym read) restores)
+
+pub marks_moved : (P : List ℕ → Type 0) (old marked moved : Option Collection) → moved ≡ marked → MarksIn P old marked → MarksIn P old moved
+marks_moved P old marked moved same marks = subst (λ (c : Option Collection). MarksIn P old c) (sym same) marks
+
+module _ (old marked new : Option Collection) (fresh : List (List ℕ)) (restores : Restores old marked fresh) where
+  -- what a step that kept something marked stays, and what another marked is undone
+  abbrev Undone : Bool → Type 0
+  Undone kept = kept ≡ false → (before : Option Collection) → Restores before marked fresh → MarksIn (λ k. ⊥) before new
+
+  not_kept : (kept : Bool) → (kept ≡ true → ⊥) → Undone kept → MarksIn (λ k. ⊥) old new
+  not_kept true wrong undone = absurd (wrong refl)
+  not_kept false wrong undone = undone refl old restores
+
+  pub claim_collects : (seg : KindSegment) (answer : Result Answer Refusal) (key : List ℕ) (kept : Bool) → key ≡ segment_key seg.kind seg.segment → MarksIn (λ k. k ≡ key) old marked → IsTrue kept ↔ IsHeldAnswer answer
+      → (kept ≡ true → new ≡ marked) → Undone kept → MarksIn (IsKeptKey (asked.Claim seg) answer) old new
+  claim_collects seg (Ok answers.Held) key kept is marks tells same undone =
+      subst (λ (x : Option Collection). MarksIn (λ k. k ≡ segment_key seg.kind seg.segment) old x) (sym (same (tells.1 tt)))
+      (subst (λ (x : List ℕ). MarksIn (λ k. k ≡ x) old marked) is marks)
+  claim_collects seg answer key kept is marks tells same undone = not_kept kept tells.0 undone
+
+  pub seal_collects : (filled : Contents) (actor : ℕ) (answer : Result Answer Refusal) (s t : CoreState) (kept : Bool) → SealRow filled actor answer s t
+      → MarksIn (Contains (map (segment_key filled.kind) filled.segments)) old marked → kept ≡ is_ok answer → (kept ≡ true → new ≡ marked) → Undone kept
+      → MarksIn (IsKeptKey (asked.Seal filled) answer) old new
+  seal_collects filled actor (Ok (answers.Sealed id)) s t kept row marks is same undone =
+      subst (λ (x : Option Collection). MarksIn (Contains (map (segment_key filled.kind) filled.segments)) old x) (sym (same is)) marks
+  seal_collects filled actor (Err refusal) s t kept row marks is same undone = undone is old restores
+  seal_collects filled actor answer s t kept row marks is same undone = absurd row
+
+-- none did, where a step is refused
+pub claim_refused : (seg : KindSegment) (answer : Result Answer Refusal) (old new : Option Collection) → IsErr answer → MarksIn (λ k. ⊥) old new → MarksIn (IsKeptKey (asked.Claim seg) answer) old new
+claim_refused seg (Ok x) old new is marks = absurd cc
+claim_refused seg (Err refusal) old new is marks = marks
+
+pub seal_refused : (filled : Contents) (answer : Result Answer Refusal) (old new : Option Collection) → IsErr answer → MarksIn (λ k. ⊥) old new → MarksIn (IsKeptKey (asked.Seal filled) answer) old new
+seal_refused filled (Ok x) old new is marks = absurd cc
+seal_refused filled (Err refusal) old new is marks = marks

@@ -1,0 +1,346 @@
+-- Steps keep what holds of the collection that runs.
+use Rattle.std.specs.FinMap as finite
+use Rattle.gc_steps.proofs.SealedPins.{sealed_safe}
+use Rattle.store_model.specs.Refusals.{root_key}
+use Rattle.ingest_steps.specs.Writers.{IsStored}
+use Rattle.refusals.specs.declared.refusal.Refusal.TheVariants as refusals
+use Rattle.read_steps.specs.Readers as readers
+use Rattle.actor_parts.specs.declared.step.Answer.TheVariants as answers
+use Rattle.actor_parts.specs.StepValue as asked
+use Rattle.store_core.specs.Core.{AbortRow, BeginRow, ClaimRow, CommitRow, EndRow, ListRow, OpenRow, ReadRow, Rests, SealRow, SealsOne, StatRow, next_id}
+use Rattle.std.specs.List.{AllByRecursion, Contains}
+use Rattle.actor_parts.specs.declared.step.Answer.{Answer}
+use Rattle.store_model.specs.Collisions.{ByteSet, IsIn}
+use Rattle.gc_steps.specs.declared.collection.Collection.{Collection}
+use Rattle.store_core.specs.Collecting.{Collects, IsKeptKey, MarksIn, StartRow}
+use Rattle.store_model.specs.Slots.{HasKey}
+use Rattle.store_state.specs.Invariant.{CoreInvariant}
+use Rattle.store_core.specs.State.{CoreState}
+use Rattle.disk_format.specs.Cells.Change.{Delete, Put}
+use Rattle.gc_steps.specs.declared.collection.Stage.TheVariants.{End, Filter, Mark, Release, Select, Copy}
+use Rattle.std.proofs.Common.{[], Err, List, None, Ok, Option, Result, Some, ap, arith, map, refl, subst, true, ℕ, ◌<◌, ◌↔◌, ◌∙◌, ◌∷◌, ◌≡◌, ◌≢◌, ◌⊎◌, zero, suc, inl, inr, sym, length}
+use Rattle.actor_parts.specs.declared.part.Part.TheVariants.{Idle, Writing}
+use Rattle.store_core.specs.Runs.{IsAt, IsSafeIn}
+use Rattle.gc_enumerate.specs.Live.{IsLiveAt, LiveKeys}
+use Rattle.gc_steps.specs.Roots.{IsPartKey, Marks}
+use Rattle.gc_steps.specs.Safety.{IsSafe, IsSafeAt}
+use Rattle.store_model.specs.Standing.{IsStoreOf}
+use Rattle.gc_steps.proofs.Carried.{KeepsBoth}
+use Rattle.store_model.specs.Steps.{KeepsCopies, with_change, with_sealed}
+use Rattle.container_meta.specs.declared.kind.Kind.{Kind}
+use Rattle.container_meta.specs.Segments.{KindSegment, Segment, segment_key, Contents}
+use Rattle.namespace.specs.Names.{NameMap}
+use Rattle.namespace.specs.declared.record.Named.{Named}
+use Rattle.actor_parts.specs.declared.part.Part.{Part}
+use Rattle.actor_parts.specs.PinMap.{PinMap, has_pin}
+use Rattle.container_meta.specs.declared.place.Place.{Place}
+use Rattle.container_meta.specs.Places.{PlaceMap}
+use Rattle.actor_parts.specs.declared.part.Reader.{Reader}
+use Rattle.refusals.specs.declared.refusal.Refusal.{Refusal}
+use Rattle.store_state.specs.Tables.{Represents, Runs}
+use Rattle.disk_format.specs.Cells.{Root}
+use Rattle.gc_steps.specs.declared.collection.Stage.{Stage}
+use Rattle.store_model.specs.Image.{Store, names_of}
+use Rattle.store_model.specs.Files.{Stored}
+use Rattle.store_state.specs.declared.tables.Tables.{Tables}
+use Rattle.merkle_file.specs.declared.top.Top.{Top}
+use Rattle.gc_steps.proofs.ClaimedPin.{claimed_key, one_more}
+use Rattle.gc_steps.proofs.Marked.{contains_first, contains_head, contains_next, contains_none}
+use Rattle.gc_steps.proofs.OtherSteps.{deleted, kept, began, committed, ended, opened, read_on}
+use Rattle.gc_steps.proofs.Unseen.{marked_unseen}
+use Rattle.actor_parts.specs.Parts.{part_of, with_part}
+use Rattle.actor_parts.specs.Segments.{pin_by, pin_of}
+use Rattle.gc_steps.proofs.Safe.{start_safe}
+use Rattle.ingest_steps.specs.Pinning.{with_pins}
+
+-- the tables of a core that is at a store, alone
+pub alone : (store : Store) (known : Option PlaceMap) (t : Tables) → Represents store known t → Represents store None t
+alone store known t is = record { slots_are = is.slots_are; names_are = is.names_are; slots_hold = is.slots_hold; index_is_newest = λ index none. absurd cc }
+
+pub runs_alone : (S : List ℕ → Type 0) (s : Store) (stored : Stored) (c : CoreState) → IsAt S s stored c → Runs c.disk.size None c.tables
+runs_alone S s stored c at = record {
+  store = s;
+  represents = alone s c.known c.tables at.represents;
+  valid = at.valid;
+  reserve_holds = (at.invariant at.stands.known.0 at.stands.known.1).reserve_holds;
+}
+
+pub one_list : (a b : List ℕ) → Some a ≡ Some b → a ≡ b
+one_list a b is = cc
+
+pub one_map_at : (a b : PlaceMap) → Some a ≡ Some b → a ≡ b
+one_map_at a b is = cc
+
+-- the collection's invariant holds of these, where the core's does
+abbrev pub IsSafeFor : PlaceMap → Store → Stored → CoreState → Type 0
+IsSafeFor places store stored new = (image : List ℕ) → new.disk.content ≡ Some image → CoreInvariant places store stored.files new.parts image → IsStoreOf store stored.files image
+    → IsSafeIn places store new.parts image new.collection
+
+-- ---- from what is kept whatever the stage
+
+pub same_both : (index : PlaceMap) (store : Store) (parts : List Part) (image : List ℕ) (c : Collection) → KeepsBoth index index store store parts parts image image c c
+same_both index store parts image c = (λ marks. marks, λ safe. safe)
+
+pub both_on : (index mid later : PlaceMap) (s m t : Store) (before between after : List Part) (old then new : List ℕ) (c d e : Collection) → KeepsBoth index mid s m before between old then c d
+    → KeepsBoth mid later m t between after then new d e → KeepsBoth index later s t before after old new c e
+both_on index mid later s m t before between after old then new c d e first second = (λ marks. second.0 (first.0 marks), λ safe. second.1 (first.1 safe))
+
+module _ (index later : PlaceMap) (s t : Store) (before after : List Part) (old new : List ℕ) where
+  -- by its stage, which stays
+  safe_at : (stage : Stage) (c d : Collection) → KeepsBoth index later s t before after old new c d → IsSafeAt stage index s before old c → IsSafeAt stage later t after new d
+  safe_at (Mark level slot) c d both = both.0
+  safe_at (Filter slot) c d both = both.1
+  safe_at Select c d both = both.1
+  safe_at (Copy source) c d both = both.1
+  safe_at (Release next slot) c d both = both.1
+  safe_at End c d both = both.1
+
+  -- the collection is the same
+  pub unchanged_safe : (was now : Option Collection) → ((c : Collection) → KeepsBoth index later s t before after old new c c) → now ≡ was → IsSafeIn index s before old was → IsSafeIn later t after new now
+  unchanged_safe None now both same safe = subst (IsSafeIn later t after new) (sym same) tt
+  unchanged_safe (Some c) now both same safe = subst (IsSafeIn later t after new) (sym same) (safe_at c.stage c c (both c) safe)
+
+  -- some keys became live
+  pub marked_safe : (P : List ℕ → Type 0) (was now : Option Collection) → ((c : Collection) (live : LiveKeys) → Marks P c.live live → KeepsBoth index later s t before after old new c (record c { live = live })) → MarksIn P was now
+      → IsSafeIn index s before old was → IsSafeIn later t after new now
+  marked_safe P None now both marks safe = subst (IsSafeIn later t after new) (sym marks) tt
+  marked_safe P (Some c) now both marks safe =
+      subst (IsSafeIn later t after new) (sym marks.1.0) (safe_at c.stage c (record c { live = marks.0 }) (both c marks.0 marks.1.1) safe)
+
+-- no key became live
+unseen : (index : PlaceMap) (store : Store) (parts : List Part) (image : List ℕ) (c : Collection) (live : LiveKeys) → Marks (λ key. ⊥) c.live live
+    → KeepsBoth index index store store parts parts image image c (record c { live = live })
+unseen index store parts image c live marks = marked_unseen index store image parts c live (λ key place is. (λ now. was (key) (place) ((marks key place).0 now), λ before. (marks key place).1 (inl before)))
+  where
+    was : (key : List ℕ) (place : Place) → IsLiveAt c.live key place ⊎ ⊥ → IsLiveAt c.live key place
+    was key place (inl is) = is
+    was key place (inr none) = absurd none
+
+-- an actor that is at something is one that there is
+within_parts : (parts : List Part) (actor : ℕ) → (part_of parts actor ≡ Idle → ⊥) → actor < length parts
+unfolding part_of
+within_parts [] actor some = absurd (some refl)
+within_parts (p ∷ ps) zero some = omega arith
+within_parts (p ∷ ps) (suc actor) some = let rest = within_parts ps actor some in omega (arith, rest)
+
+-- the pins after a container is sealed are those before, and its keys
+pins_more : (kind : Kind) (segments : List Segment) (pins : PinMap) (key : List ℕ)
+    → IsPartKey (Writing (with_pins kind segments pins)) key ↔ (IsPartKey (Writing pins) key ⊎ Contains (map (segment_key kind) segments) key)
+pins_more kind [] pins key = (λ is. inl is, λ is. elim is [ inl was ↦ was | inr none ↦ absurd (contains_none key none) ])
+pins_more kind (x ∷ xs) pins key =
+    let rest = pins_more kind xs (finite.insert pins (segment_key kind x) (pin_by kind x)) key in
+    let one = one_more pins (segment_key kind x) (pin_by kind x) key in (
+      λ is. elim (rest.0 is) [
+        | inl was ↦ elim (one.0 was) [
+          | inl before ↦ inl before
+          | inr same ↦ inr (subst (λ (k : List ℕ). Contains (segment_key kind x ∷ map (segment_key kind) xs) k) (sym same) (contains_head (segment_key kind x) (map (segment_key kind) xs)))
+        ]
+        | inr later ↦ inr (contains_next (segment_key kind x) key (map (segment_key kind) xs) later)
+      ],
+      λ is. elim is [
+        | inl was ↦ rest.1 (inl (one.1 (inl was)))
+        | inr has ↦ elim (contains_first (segment_key kind x) key (map (segment_key kind) xs) has) [
+          | inl same ↦ rest.1 (inl (one.1 (inr same)))
+          | inr later ↦ rest.1 (inr later)
+        ]
+      ],
+    )
+
+-- a key that no segment has is none that is added
+none_added : (kind : Kind) (key : List ℕ) (segments : List Segment) → (Contains (map (segment_key kind) segments) key → ⊥) → AllByRecursion (λ s. segment_key kind s ≢ key) segments
+none_added kind key [] none = tt
+none_added kind key (x ∷ xs) none = (
+  λ same. none (subst (λ (k : List ℕ). Contains (segment_key kind x ∷ map (segment_key kind) xs) k) same (contains_head (segment_key kind x) (map (segment_key kind) xs))),
+  none_added kind key xs (λ later. none (contains_next (segment_key kind x) key (map (segment_key kind) xs) later)),
+)
+
+-- a root that is stored is that of the empty file, or is pinned
+stored_pin : (pins : PinMap) (root : Root) → IsStored pins root → (root.length ≡ 0) ⊎ (has_pin pins (root_key root) (record { level = root.level; length = root.length }) ≡ true)
+stored_pin pins root (inl empty) = inl (ap (λ (r : Root). r.length) empty)
+stored_pin pins root (inr pinned) = inr pinned
+
+-- ---- each step
+
+module _ (among : ByteSet) (s : Store) (stored : Stored) (old new : CoreState) (actor : ℕ) (buf : List ℕ) (at : IsAt (IsIn among) s stored old) where
+  abbrev image : List ℕ
+  image = at.stands.known.0
+
+  abbrev here : old.disk.content ≡ Some image
+  here = at.stands.known.1
+
+  -- the actor's part alone is another
+  abbrev Rested : Type 0
+  Rested = (c : Collection) → KeepsBoth at.index at.index s s old.parts new.parts image image c c
+
+  abbrev Safe : Type 0
+  Safe = IsSafeIn at.index s old.parts image old.collection → IsSafeIn at.index s new.parts image new.collection
+
+  by_parts : (parts : List Part) → new.parts ≡ parts → ((c : Collection) → KeepsBoth at.index at.index s s old.parts parts image image c c) → Rested
+  by_parts parts is both c = subst (λ (p : List Part). KeepsBoth at.index at.index s s old.parts p image image c c) (sym is) (both c)
+
+  pub still_rested : new.parts ≡ old.parts → Rested
+  still_rested is = by_parts old.parts is (λ c. same_both at.index s old.parts image c)
+
+  there : (part : Part) → part_of old.parts actor ≡ part → (part ≡ Idle → ⊥) → actor < length old.parts
+  there part is some = within_parts old.parts actor (λ idle. some (sym is ∙ idle))
+
+  pub begin_rested : (answer : Result Answer Refusal) → BeginRow actor answer old new → Rested
+  begin_rested (Ok answers.Begun) row = by_parts (with_part old.parts actor (Writing finite.empty)) row.1 (λ c. began at.index s image old.parts c actor)
+  begin_rested (Err refusal) row = still_rested row.1
+  begin_rested answer row = absurd row
+
+  pub abort_rested : (answer : Result Answer Refusal) → AbortRow actor answer old new → Rested
+  abort_rested (Ok answers.Aborted) row = by_parts (with_part old.parts actor Idle) row.1 (λ c. ended at.index s image old.parts c actor)
+  abort_rested (Err refusal) row = still_rested row.1
+  abort_rested answer row = absurd row
+
+  pub open_rested : (name : List ℕ) (answer : Result Answer Refusal) → OpenRow name actor answer old new → Rested
+  open_rested name (Ok (answers.Opened count)) row =
+      let opens = row.opens in
+      let reader : Reader = record { root = opens.root; cursor = opens.ahead } in
+      let named : Named = record { sequence = opens.begins.has_root.sequence; root = opens.root } in
+      let found : finite.get (names_of s) name ≡ Some named = subst (λ (names : NameMap). finite.get names name ≡ Some named) at.represents.names_are.names_are opens.begins.has_root.found in
+      by_parts (with_part old.parts actor (readers.reading opens.root opens.ahead)) opens.parts_are (λ c. opened at.index s image old.parts c actor reader name named found refl)
+  open_rested name (Err refusal) row = still_rested row.1
+  open_rested name answer row = absurd row
+
+  goes_rested : (before after : List Top) → readers.GoesOn actor old.parts new.parts before after → Rested
+  goes_rested before after goes =
+      let within = there (readers.reading goes.root before) goes.part_is (λ is. cc) in
+      by_parts (with_part old.parts actor (readers.reading goes.root after)) goes.parts_are
+      (λ c. read_on at.index s image old.parts c actor (record { root = goes.root; cursor = before }) (record { root = goes.root; cursor = after }) (omega (arith, within, at.many)) goes.part_is refl)
+
+  stuck_rested : (refusal : Refusal) → readers.IsReadRefusal old.known old.breaks old.disk new.disk actor old.parts new.parts refusal → Rested
+  stuck_rested (refusals.WrongPart kind) cause = still_rested cause.same
+  stuck_rested refusal cause = goes_rested cause.was cause.rest cause.goes_on
+
+  pub read_rested : (answer : Result Answer Refusal) → ReadRow actor answer buf old new → Rested
+  read_rested (Ok (answers.Bytes count)) row = goes_rested row.next.was row.next.rest row.next.goes_on
+  read_rested (Ok answers.End) row = goes_rested row.next.was row.next.rest row.next.goes_on
+  read_rested (Err refusal) row = stuck_rested refusal row.cause
+  read_rested answer row = absurd row
+
+  pub drop_rested : (answer : Result Answer Refusal) → EndRow actor answer old new → Rested
+  drop_rested (Ok answers.Dropped) row = by_parts (with_part old.parts actor Idle) row.parts_are (λ c. ended at.index s image old.parts c actor)
+  drop_rested (Err (refusals.WrongPart kind)) row = still_rested row.same
+  drop_rested answer row = absurd row
+
+  pub stat_rested : (answer : Result Answer Refusal) → StatRow answer old new → Rested
+  stat_rested (Ok answer) row = still_rested row.1
+  stat_rested (Err refusal) row = absurd row
+
+  pub list_rested : (answer : Result Answer Refusal) → ListRow answer old new → Rested
+  list_rested (Ok (answers.Listed listed)) row = still_rested row.1
+  list_rested (Err refusals.Memory) row = still_rested row
+  list_rested answer row = absurd row
+
+  -- ---- a claim
+
+  none_marked : (c : Collection) (live : LiveKeys) → Marks (λ key. ⊥) c.live live → new.parts ≡ old.parts → KeepsBoth at.index at.index s s old.parts new.parts image image c (record c { live = live })
+  none_marked c live marks same =
+      subst (λ (p : List Part). KeepsBoth at.index at.index s s old.parts p image image c (record c { live = live })) (sym same) (unseen at.index s old.parts image c live marks)
+
+  -- what holds of the collection where the core's invariant holds of the new parts
+  abbrev SafeHere : Type 0
+  SafeHere = CoreInvariant at.index s stored.files new.parts image → IsStoreOf s stored.files image → Safe
+
+  claimed_here : (seg : KindSegment) (answer : Result Answer Refusal) → ClaimRow seg actor answer old new → Collects (asked.Claim seg) answer old new → SafeHere
+  claimed_here seg (Ok answers.Held) row collects core holds =
+      let may = row.claimed.may in
+      let key : List ℕ = segment_key seg.kind seg.segment in
+      let more : List Part = with_part old.parts actor (Writing (finite.insert may.pins key (pin_of seg))) in
+      let within = there (Writing may.pins) may.writing (λ is. cc) in
+      marked_safe at.index at.index s s old.parts new.parts image image (IsKeptKey (asked.Claim seg) (Ok answers.Held)) old.collection new.collection
+      (λ c live marks. subst (λ (p : List Part). KeepsBoth at.index at.index s s old.parts p image image c (record c { live = live })) (sym row.claimed.parts_are)
+      (claimed_key at.index s image stored.files old.parts c live actor may.pins key (pin_of seg) (omega (arith, within, at.many)) within may.writing marks
+      (subst (λ (p : List Part). CoreInvariant at.index s stored.files p image) row.claimed.parts_are core) holds)) collects
+  claimed_here seg (Ok answers.Absent) row collects core holds =
+      marked_safe at.index at.index s s old.parts new.parts image image (IsKeptKey (asked.Claim seg) (Ok answers.Absent)) old.collection new.collection
+      (λ c live marks. none_marked c live marks row.claimed.parts_are) collects
+  claimed_here seg (Err refusal) row collects core holds =
+      marked_safe at.index at.index s s old.parts new.parts image image (IsKeptKey (asked.Claim seg) (Err refusal)) old.collection new.collection
+      (λ c live marks. none_marked c live marks row.1) collects
+  claimed_here seg answer row collects core holds = absurd row
+
+  pub claim_safe : (seg : KindSegment) (answer : Result Answer Refusal) → ClaimRow seg actor answer old new → Rests answer old new → Collects (asked.Claim seg) answer old new → IsSafeFor at.index s stored new
+  claim_safe seg answer row effect collects after told core holds =
+      let same : image ≡ after = one_list image after (sym here ∙ sym effect.disk.only.content_is ∙ told) in
+      subst (λ (bytes : List ℕ). IsSafeIn at.index s new.parts bytes new.collection) same
+      (claimed_here seg answer row collects (subst (CoreInvariant at.index s stored.files new.parts) (sym same) core) (subst (IsStoreOf s stored.files) (sym same) holds) (at.safe image here))
+
+  -- ---- a seal
+
+  -- one that is refused changes the image alone
+  pub unsealed_safe : (filled : Contents) (refusal : Refusal) → SealRow filled actor (Err refusal) old new → Collects (asked.Seal filled) (Err refusal) old new → (after : List ℕ) → KeepsCopies (HasKey at.index) s image s after
+      → IsSafeIn at.index s new.parts after new.collection
+  unsealed_safe filled refusal row collects after keeps =
+      marked_safe at.index at.index s s old.parts new.parts image after (IsKeptKey (asked.Seal filled) (Err refusal)) old.collection new.collection
+      (λ c live marks. both_on at.index at.index at.index s s s old.parts old.parts new.parts image after after c c (record c { live = live }) (kept at.index s image after old.parts c keeps)
+      (subst (λ (p : List Part). KeepsBoth at.index at.index s s old.parts p after after c (record c { live = live })) (sym row.1) (unseen at.index s old.parts after c live marks))) collects (at.safe image here)
+
+  pub sealed_safe_in : (filled : Contents) (id : ℕ) → SealRow filled actor (Ok (answers.Sealed id)) old new → SealsOne filled (Ok (answers.Sealed id)) old new → Collects (asked.Seal filled) (Ok (answers.Sealed id)) old new
+      → (then : PlaceMap) → new.known ≡ Some then → (after : List ℕ) → CoreInvariant then (with_sealed (next_id old) filled.kind filled.segments s) stored.files new.parts after
+      → IsStoreOf (with_sealed (next_id old) filled.kind filled.segments s) stored.files after → KeepsCopies (HasKey at.index) s image (with_sealed (next_id old) filled.kind filled.segments s) after
+      → IsSafeIn then (with_sealed (next_id old) filled.kind filled.segments s) new.parts after new.collection
+  sealed_safe_in filled id row effect collects then then_is after core holds keeps =
+      let may = row.may in
+      let t : Store = with_sealed (next_id old) filled.kind filled.segments s in
+      let reserve = (at.invariant image here).reserve_holds in
+      let more : PinMap = with_pins filled.kind filled.segments may.pins in
+      let within = there (Writing may.pins) may.writing (λ is. cc) in
+      let here_core = subst (λ (p : List Part). CoreInvariant then t stored.files p after) row.parts_are core in
+      marked_safe at.index then s t old.parts new.parts image after (IsKeptKey (asked.Seal filled) (Ok (answers.Sealed id))) old.collection new.collection
+      (λ c live marks. subst (λ (p : List Part). KeepsBoth at.index then s t old.parts p image after c (record c { live = live })) (sym row.parts_are)
+      (sealed_safe s (next_id old) filled (effect.made.can.store_has s at.represents at.valid reserve) at.index then (effect.made.keeps_keys at.index at.index_known then then_is)
+      (λ key none. effect.made.keeps_others at.index at.index_known then then_is key (none_added filled.kind key filled.segments none)) core.index_is_newest
+      image after stored.files old.parts c live actor may.pins more (omega (arith, within, at.many)) within may.writing marks (pins_more filled.kind filled.segments may.pins) keeps here_core holds)) collects (at.safe image here)
+
+  -- ---- a name
+
+  pub committed_safe : (name : List ℕ) (root : Root) → CommitRow name root actor (Ok (answers.Committed (suc old.tables.journal.last))) old new → new.known ≡ old.known → new.collection ≡ old.collection
+      → (then : PlaceMap) → new.known ≡ Some then → (after : List ℕ) → KeepsCopies (HasKey at.index) s image (with_change name (Put root) s) after
+      → IsSafeIn then (with_change name (Put root) s) new.parts after new.collection
+  committed_safe name root row index collects then then_is after keeps =
+      let may = row.0 in
+      let t : Store = with_change name (Put root) s in
+      let within = there (Writing may.pins) may.writing (λ is. cc) in
+      let same : at.index ≡ then = one_map_at at.index then (sym at.index_known ∙ sym index ∙ then_is) in
+      subst (λ (m : PlaceMap). IsSafeIn m t new.parts after new.collection) same
+      (unchanged_safe at.index at.index s t old.parts new.parts image after old.collection new.collection
+      (λ c. subst (λ (p : List Part). KeepsBoth at.index at.index s t old.parts p image after c c) (sym row.2)
+      (committed at.index s image after old.parts c name at.valid.follow root actor may.pins (omega (arith, within, at.many)) may.writing (stored_pin may.pins root may.stored) keeps)) collects (at.safe image here))
+
+  pub deleted_safe : (name : List ℕ) → new.parts ≡ old.parts → new.known ≡ old.known → new.collection ≡ old.collection
+      → (then : PlaceMap) → new.known ≡ Some then → (after : List ℕ) → KeepsCopies (HasKey at.index) s image (with_change name Delete s) after
+      → IsSafeIn then (with_change name Delete s) new.parts after new.collection
+  deleted_safe name parts index collects then then_is after keeps =
+      let t : Store = with_change name Delete s in
+      let same : at.index ≡ then = one_map_at at.index then (sym at.index_known ∙ sym index ∙ then_is) in
+      subst (λ (m : PlaceMap). IsSafeIn m t new.parts after new.collection) same
+      (unchanged_safe at.index at.index s t old.parts new.parts image after old.collection new.collection
+      (λ c. subst (λ (p : List Part). KeepsBoth at.index at.index s t old.parts p image after c c) (sym parts) (deleted at.index s image after old.parts c name at.valid.follow keeps)) collects (at.safe image here))
+
+  -- ---- a collection begins
+
+  pub start_parts : (percent : ℕ) (answer : Result Answer Refusal) → StartRow percent answer old new → new.parts ≡ old.parts
+  start_parts percent (Ok (answers.Started snapshot)) row = row.1
+  start_parts percent (Err (refusals.Collecting phase)) row = row.2
+  start_parts percent (Err refusals.Memory) row = row.2
+  start_parts percent answer row = absurd row
+
+  begun_here : (percent : ℕ) (answer : Result Answer Refusal) → StartRow percent answer old new → IsStoreOf s stored.files image → Safe
+  begun_here percent (Ok (answers.Started snapshot)) row holds safe =
+      let begun = row.0 in
+      let represents : Represents s (Some at.index) old.tables = subst (λ (known : Option PlaceMap). Represents s known old.tables) at.index_known at.represents in
+      subst (λ (c : Option Collection). IsSafeIn at.index s new.parts image c) (sym begun.runs)
+      (subst (λ (p : List Part). IsSafe at.index s p image begun.collection) (sym row.1)
+      (start_safe at.index s old.parts image stored.files (at.invariant image here) holds old.tables begun.collection represents begun.next_is begun.stage_is begun.live))
+  begun_here percent (Err (refusals.Collecting phase)) row holds safe =
+      unchanged_safe at.index at.index s s old.parts new.parts image image old.collection new.collection (still_rested row.2) row.1 safe
+  begun_here percent (Err refusals.Memory) row holds safe = unchanged_safe at.index at.index s s old.parts new.parts image image old.collection new.collection (still_rested row.2) row.1 safe
+  begun_here percent answer row holds safe = absurd row
+
+  pub begun_safe : (percent : ℕ) (answer : Result Answer Refusal) → StartRow percent answer old new → Rests answer old new → IsSafeFor at.index s stored new
+  begun_safe percent answer row effect after told core holds =
+      let same : image ≡ after = one_list image after (sym here ∙ sym effect.disk.only.content_is ∙ told) in
+      subst (λ (bytes : List ℕ). IsSafeIn at.index s new.parts bytes new.collection) same (begun_here percent answer row (subst (IsStoreOf s stored.files) (sym same) holds) (at.safe image here))

@@ -1,0 +1,6 @@
+use Rattle.std.proofs.Common.{◌≡◌, map, take}
+use Rattle.store_core.proofs.Marks.{entry_key}
+use Rattle.store_core.proofs.marking.keys_of.Given as goal
+
+abbrev pub invariant-loop-entry : goal.invariant-loop-entry
+invariant-loop-entry l = l.keys.items ≡ map (entry_key l.filled.kind) (take l.entry-index l.entry-items)

@@ -34,6 +34,8 @@ kept_seals asked.EndRead answer kind = refl
 kept_seals (asked.Delete name) answer kind = absurd kind
 kept_seals asked.ListNames answer kind = refl
 kept_seals asked.Stat answer kind = refl
+kept_seals (asked.GcStart percent) answer kind = refl
+kept_seals asked.GcStep answer kind = refl
 
 -- one that was refused changes nothing
 refused_changes : (step : StepValue) (refusal : Refusal) → changes_by step (Err refusal) ≡ []
@@ -48,6 +50,8 @@ refused_changes asked.EndRead refusal = refl
 refused_changes (asked.Delete name) refusal = refl
 refused_changes asked.ListNames refusal = refl
 refused_changes asked.Stat refusal = refl
+refused_changes (asked.GcStart percent) refusal = refl
+refused_changes asked.GcStep refusal = refl
 
 module _ (name given : List ℕ) where
   same_change : (n : List ℕ) (root : Root) → n ≡ name → root ≡ root_of given → ChangeName n (Put root) ∷ [] ≡ ChangeName name (Put (root_of given)) ∷ []

@@ -42,6 +42,7 @@ use Rattle.backup_engine.specs.PlainMap.{Room, Refuses, room_of}
 use Rattle.backup_engine.specs.Promise.{DifferBy, EndsBy, IsLeftWith, HoldsTwin}
 use Rattle.backup_engine.specs.Running.{IsAskedFor, IsPutStep}
 use Rattle.backup_engine.proofs.PutChanges.{running_step}
+use Rattle.backup_engine.proofs.NoGcSteps.{asked_no_gc}
 use Rattle.backup_engine.proofs.PutEnds.{refused_with}
 
 -- ---- how a put may be refused
@@ -203,17 +204,17 @@ module _ (among : ByteSet) (distinct : HasNoCollisions (IsIn among)) (name given
       let steps = running_step old new f.event runs step.made in
       let row = subst (λ (a : Result Answer Refusal). Row f.event.step f.event.actor a f.event.buf old new) is steps.made.row in
       let twin = step_twin among s m old new distinct at name given key why f.event.step f.event.actor f.event.buf f.bytes put.asked_for row may in
-      let next = file_step among distinct f s m old new step at stays in
-      let after : List ℕ = next.is_at.stands.known.0 in
-      let told = next.is_at.stands.known.1 in
-      let holds = (next.is_at.stands.each after (new.disk.as_read after told)).holds in (
-        next.store,
+      let next = file_step among distinct f s m old new (asked_no_gc name given f.event.step f.bytes put.asked_for) step at stays in
+      let after : List ℕ = next.next.is_at.stands.known.0 in
+      let told = next.next.is_at.stands.known.1 in
+      let holds = (next.next.is_at.stands.each after (new.disk.as_read after told)).holds in (
+        next.next.store,
         (
           after,
           told,
           (
-            subst (λ (x : Stored). IsStoreOf next.store x.files after) (same_files (Clash key why) is) holds,
-            twin_left among s m old new distinct at name given key why next.store after (next.copies at.index at.stands.known.0 after at.index_known at.stands.known.1 told) twin,
+            subst (λ (x : Stored). IsStoreOf next.next.store x.files after) (same_files (Clash key why) is) holds,
+            twin_left among s m old new distinct at name given key why next.next.store after (next.copies at.index at.stands.known.0 after at.index_known at.stands.known.1 told) twin,
           ),
         ),
       )

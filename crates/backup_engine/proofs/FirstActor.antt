@@ -17,7 +17,7 @@ use Rattle.refusals.specs.declared.refusal.Refusal.TheVariants as refusals
 use Rattle.refusals.specs.declared.refusal.PartKind.TheVariants as kinds
 use Rattle.store_model.specs.Image.{Store, IsValidFor}
 use Rattle.store_model.specs.Slots.{last_id}
-use Rattle.store_state.specs.Tables.{Represents, OfEach}
+use Rattle.store_state.specs.Tables.{Represents, Runs, OfEach}
 use Rattle.store_state.specs.declared.tables.Tables.{Tables}
 use Rattle.ingest_steps.specs.Writers.{IsWrongPart}
 use Rattle.store_core.specs.declared.stop.Stop.{Stop}
@@ -61,6 +61,14 @@ module _ (old new : CoreState) where
     store_has = λ store represents valid reserve.
         ap (λ (t : Tables). t.held.last_id) rested.kept.tables_are
         ∙ ids.store_has store (kept_represents rested.kept store represents) (subst (λ (n : ℕ). IsValidFor n store) rested.size_is valid) reserve;
+  }
+
+  pub kept_indexed : Rested → Runs old.disk.size old.known old.tables → Runs new.disk.size new.known new.tables
+  kept_indexed rested was = record {
+    store = was.store;
+    represents = represents_still rested.kept was.store was.represents;
+    valid = subst (λ (n : ℕ). IsValidFor n was.store) (sym rested.size_is) was.valid;
+    reserve_holds = was.reserve_holds;
   }
 
   -- the first actor's part

@@ -3,6 +3,7 @@ use Rattle.std.proofs.Common.{◌≡◌, ℕ, List, [], ◌∷◌, max, Option, 
 use Rattle.dd_disk.specs.View.{DiskView}
 use Rattle.dd_disk.specs.Shows.{Shows}
 use Rattle.container_meta.specs.Spelling.{HeaderValue}
+use Rattle.store_model.specs.Image.{IsValidFor}
 use Rattle.store_model.specs.Slots.{last_id, ids_of}
 use Rattle.store_core.specs.declared.stop.Stop.{Stop}
 use Rattle.store_core.specs.Opening.{IsNew}
@@ -22,12 +23,13 @@ last_of_ids (Some h ∷ cs) = ap (max h.id) (last_of_ids cs)
 same_last : (a b : List (Option HeaderValue)) → ids_of a ≡ ids_of b → last_id a ≡ last_id b
 same_last a b same = sym (last_of_ids a) ∙ ap greatest same ∙ last_of_ids b
 
-pub fresh : (v : DiskView) (c : CoreState) → IsNew (Shows v c.disk) v.size c → IsRunning c → IsFresh c
-fresh v c new running = record {
+pub fresh : (v : DiskView) (c : CoreState) → IsNew (Shows v c.disk) v.size c → c.disk.size ≡ v.size → IsRunning c → IsFresh c
+fresh v c new size running = record {
   up = subst (λ (stop : Option Stop). UnlessStopped stop (IsUp c)) new.stop_is running;
   runs = new.stop_is;
   idle = new.parts_are;
   told = new.told;
+  indexed = record { store = new.store; represents = new.represents; valid = subst (λ (n : ℕ). IsValidFor n new.store) (sym size) new.valid; reserve_holds = new.reserve };
   ids = record {
     store_has = λ store represents valid reserve.
         new.last_id_is ∙ same_last new.store.held store.held (sym new.represents.slots_hold.ids_are ∙ represents.slots_hold.ids_are);

@@ -30,6 +30,7 @@ pub mod Lists
 pub mod ListsFormat
 pub mod NameLines
 pub mod NamesKept
+pub mod NoGcSteps
 pub mod NotDone
 pub mod NotOpened
 pub mod Numbers

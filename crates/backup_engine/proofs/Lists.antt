@@ -7,7 +7,7 @@ use Rattle.plain_machine.specs.Machine.{opened}
 use Rattle.plain_machine.specs.Runs.{IsPassedFrom, Replied}
 use Rattle.plain_machine.specs.Through.{IsOfSome}
 use Rattle.refusals.specs.declared.refusal.Refusal.{Refusal}
-use Rattle.refusals.specs.declared.refusal.Refusal.TheVariants.{Memory, NoFile, BadName, TooMany, TooLong, Full, Clash, WrongPart, DiskRead, DiskWrite, Stopped, Corrupt, Missing, Numbers, NotAStore, Version, Damaged, Unpinned, AlreadyStore, WrongSize}
+use Rattle.refusals.specs.declared.refusal.Refusal.TheVariants.{Memory, NoFile, BadName, TooMany, TooLong, Full, Clash, WrongPart, Collecting, NotCollecting, DiskRead, DiskWrite, Stopped, Corrupt, Missing, Numbers, NotAStore, Version, Damaged, Unpinned, AlreadyStore, WrongSize}
 use Rattle.reply_text.specs.declared.ending.Ending.{Ending}
 use Rattle.reply_text.specs.declared.ending.Ending.TheVariants.{Words, Source, Sink, Line, Script, Refused}
 use Rattle.reply_text.specs.Table.{status_of_refusal}
@@ -294,6 +294,8 @@ refused TooLong = λ is. cc
 refused (Full free) = λ is. cc
 refused (Clash key at) = λ is. cc
 refused (WrongPart part) = λ is. cc
+refused (Collecting phase) = λ is. cc
+refused NotCollecting = λ is. cc
 refused DiskRead = λ is. cc
 refused DiskWrite = λ is. cc
 refused (Stopped at) = λ is. cc

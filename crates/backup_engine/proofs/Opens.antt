@@ -33,8 +33,8 @@ use Rattle.backup_engine.proofs.WholeMade.{read_runs}
 
 -- a core that was opened is fresh
 pub opened_fresh : (D : Type 0) (view : D → DiskView) (v : DiskView) (c : CoreState) → OpensCore D view v c → IsRunning c → IsFresh c
-opened_fresh D view v c (inl is) running = fresh v c is.opened running
-opened_fresh D view v c (inr is) running = fresh (view is.0) c is.1.1.opened running
+opened_fresh D view v c (inl is) running = fresh v c is.opened is.reads.only.later.size_is running
+opened_fresh D view v c (inr is) running = fresh (view is.0) c is.1.1.opened is.1.1.reads.only.later.size_is running
 
 -- ---- no core was opened
 

@@ -17,13 +17,14 @@ use Rattle.refusals.specs.declared.refusal.Refusal.{Refusal}
 use Rattle.refusals.specs.declared.refusal.Refusal.TheVariants.{Memory, DiskWrite, Damaged}
 use Rattle.store_model.specs.Image.{Store, IsValidFor}
 use Rattle.store_model.specs.Slots.{free_slots, first_free, with_slot}
-use Rattle.store_model.specs.Steps.{StoreChange, SealContainer, ChangeName, CanChangeName, changed, with_change}
+use Rattle.store_model.specs.Steps.{StoreChange, SealContainer, ChangeName, FreeContainer, CanChangeName, changed, with_change}
 use Rattle.store_state.specs.declared.tables.Tables.{Tables}
 use Rattle.store_state.specs.Tables.{Represents}
 use Rattle.store_core.specs.declared.stop.Stop.{Stop}
 use Rattle.store_core.specs.Core.{CoreStep, Steps, StepsOr, StopsAfter, Row, Effect, Rests, SealsOne, NamesOne, IndexesAll, Makes, KeepsTables}
-use Rattle.store_core.specs.Runs.{ChangesTo, CoreRun, FileEvent, events_of}
+use Rattle.store_core.specs.Runs.{ChangesTo, CoreRun, FileEvent, IsNoGcStep, events_of}
 use Rattle.store_core.specs.State.{CoreState, Event}
+use Rattle.backup_engine.proofs.NoGcSteps.{asked_no_gc}
 use Rattle.backup_engine.specs.Running.{PutRun, EndsPut, IsPutStep, IsAskedFor, IsNoCommit, IsOk, IsDoneBefore, IsLastPut, seal_by, seals_of}
 
 -- ---- the steps but the last one, and the last one
@@ -74,6 +75,8 @@ last_is P commits asked.EndRead answer last = absurd last
 last_is P commits (asked.Delete name) answer last = absurd last
 last_is P commits asked.ListNames answer last = absurd last
 last_is P commits asked.Stat answer last = absurd last
+last_is P commits (asked.GcStart percent) answer last = absurd last
+last_is P commits asked.GcStep answer last = absurd last
 
 -- the commit seals nothing, and neither does a step that is refused
 pub put_seals : (step : StepValue) (answer : Result Answer Refusal) → IsLastPut step answer → seal_by step answer ≡ []
@@ -91,6 +94,8 @@ refused_seals asked.EndRead refusal = refl
 refused_seals (asked.Delete name) refusal = refl
 refused_seals asked.ListNames refusal = refl
 refused_seals asked.Stat refusal = refl
+refused_seals (asked.GcStart percent) refusal = refl
+refused_seals asked.GcStep refusal = refl
 
 alone : (f : FileEvent) → seal_by f.event.step f.event.answer ≡ [] → seals_of (f ∷ []) ≡ []
 alone f none = ap (λ (changes : List StoreChange). changes ++ []) none
@@ -163,6 +168,7 @@ pub record IsOn (s : Store) (c : CoreState) : Type 0 where
 abbrev pub IsSeal : StoreChange → Type 0
 IsSeal (SealContainer id kind segments) = Unit {0}
 IsSeal (ChangeName name change) = ⊥
+IsSeal (FreeContainer slot) = ⊥
 
 -- the core is on the store to which these seals lead from another one
 pub record SealedTo (changes : List StoreChange) (s : Store) (c : CoreState) : Type 0 where
@@ -247,6 +253,8 @@ module _ (s : Store) (old new : CoreState) (on : IsOn s old) (runs : new.stop �
   by_step name bytes put actor buf (asked.Delete n) (Ok answer) asks other ok row effect = absurd asks
   by_step name bytes put actor buf asked.ListNames (Ok answer) asks other ok row effect = absurd asks
   by_step name bytes put actor buf asked.Stat (Ok answer) asks other ok row effect = absurd asks
+  by_step name bytes put actor buf (asked.GcStart percent) (Ok answer) asks other ok row effect = absurd asks
+  by_step name bytes put actor buf asked.GcStep (Ok answer) asks other ok row effect = absurd asks
 
 -- what is done stops no core
 done_runs : (step : StepValue) (answer : Result Answer Refusal) (count : ℕ) (stop : Option Stop) → IsOk answer → StopsAfter step answer count stop → stop ≡ None
@@ -327,18 +335,20 @@ module _ (s : Store) (old new : CoreState) (on : IsOn s old) where
   unsealed filled actor buf (Damaged at why) row effect = absurd (let none : None ≡ Some on.told.0 = sym row.0.2 ∙ on.told.1 in cc)
   unsealed filled actor buf refusal row effect = kept refusal effect.kept effect.disk.later
 
-  step_refused : (step : StepValue) (actor : ℕ) (buf : List ℕ) (refusal : Refusal) → Row step actor (Err refusal) buf old new → Effect step (Err refusal) old new → AreUnless refusal s new
-  step_refused asked.Begin actor buf refusal row effect = kept refusal effect.tables effect.disk.only.later
-  step_refused (asked.Claim seg) actor buf refusal row effect = kept refusal effect.tables effect.disk.only.later
-  step_refused (asked.Seal filled) actor buf refusal row effect = unsealed filled actor buf refusal row effect
-  step_refused (asked.Commit n root) actor buf refusal row effect = kept refusal effect.kept effect.disk.later
-  step_refused asked.Abort actor buf refusal row effect = kept refusal effect.tables effect.disk.only.later
-  step_refused (asked.OpenRead n) actor buf refusal row effect = kept refusal effect.tables effect.disk.only.later
-  step_refused asked.ReadNext actor buf refusal row effect = kept refusal effect.tables effect.disk.only.later
-  step_refused asked.EndRead actor buf refusal row effect = kept refusal effect.tables effect.disk.only.later
-  step_refused (asked.Delete n) actor buf refusal row effect = kept refusal effect.kept effect.disk.later
-  step_refused asked.ListNames actor buf refusal row effect = kept refusal effect.tables effect.disk.only.later
-  step_refused asked.Stat actor buf refusal row effect = kept refusal effect.tables effect.disk.only.later
+  step_refused : (step : StepValue) → IsNoGcStep step → (actor : ℕ) (buf : List ℕ) (refusal : Refusal) → Row step actor (Err refusal) buf old new → Effect step (Err refusal) old new → AreUnless refusal s new
+  step_refused asked.Begin no_gc actor buf refusal row effect = kept refusal effect.tables effect.disk.only.later
+  step_refused (asked.Claim seg) no_gc actor buf refusal row effect = kept refusal effect.tables effect.disk.only.later
+  step_refused (asked.Seal filled) no_gc actor buf refusal row effect = unsealed filled actor buf refusal row effect
+  step_refused (asked.Commit n root) no_gc actor buf refusal row effect = kept refusal effect.kept effect.disk.later
+  step_refused asked.Abort no_gc actor buf refusal row effect = kept refusal effect.tables effect.disk.only.later
+  step_refused (asked.OpenRead n) no_gc actor buf refusal row effect = kept refusal effect.tables effect.disk.only.later
+  step_refused asked.ReadNext no_gc actor buf refusal row effect = kept refusal effect.tables effect.disk.only.later
+  step_refused asked.EndRead no_gc actor buf refusal row effect = kept refusal effect.tables effect.disk.only.later
+  step_refused (asked.Delete n) no_gc actor buf refusal row effect = kept refusal effect.kept effect.disk.later
+  step_refused asked.ListNames no_gc actor buf refusal row effect = kept refusal effect.tables effect.disk.only.later
+  step_refused (asked.GcStart percent) no_gc actor buf refusal row effect = kept refusal effect.tables effect.disk.only.later
+  step_refused asked.GcStep no_gc actor buf refusal row effect = absurd no_gc
+  step_refused asked.Stat no_gc actor buf refusal row effect = kept refusal effect.tables effect.disk.only.later
 
   was_put : (name : List ℕ) (root : Root) (answer : Answer) → NamesOne name (Put root) (Ok answer) old new → IsPutAt name s new
   was_put name root answer effect =
@@ -363,6 +373,8 @@ module _ (s : Store) (old new : CoreState) (on : IsOn s old) where
   put_last name bytes put (asked.Delete n) answer asks last effect = absurd last
   put_last name bytes put asked.ListNames answer asks last effect = absurd last
   put_last name bytes put asked.Stat answer asks last effect = absurd last
+  put_last name bytes put (asked.GcStart percent) answer asks last effect = absurd last
+  put_last name bytes put asked.GcStep answer asks last effect = absurd last
 
 module _ (C : Type 0) (state : C → CoreState) (name bytes : List ℕ) (s : Store) where
   ends_at : (result : Result Unit Refusal) (mid new : C) → IsOn s (state mid) → EndsBy C state name bytes result mid new → EndsAt name result s (state new)
@@ -373,7 +385,7 @@ module _ (C : Type 0) (state : C → CoreState) (name bytes : List ℕ) (s : Sto
   ends_at (Err refusal) mid new on (inr last) =
       let e = last.f.event in
       let steps = running_step (state mid) (state new) e on.runs last.made in
-      step_refused s (state mid) (state new) on e.step e.actor e.buf refusal (subst (λ (answer : Result Answer Refusal). Row e.step e.actor answer e.buf (state mid) (state new)) last.answer_is steps.made.row)
+      step_refused s (state mid) (state new) on e.step (asked_no_gc name bytes e.step last.f.bytes last.put_step.asked_for) e.actor e.buf refusal (subst (λ (answer : Result Answer Refusal). Row e.step e.actor answer e.buf (state mid) (state new)) last.answer_is steps.made.row)
       (subst (λ (answer : Result Answer Refusal). Effect e.step answer (state mid) (state new)) last.answer_is steps.made.effect)
 
 -- From a store that a core is on, the steps seal containers; the store that they lead to can take the name, or is that of the

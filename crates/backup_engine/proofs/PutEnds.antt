@@ -36,6 +36,8 @@ puts_none asked.EndRead answer bytes m kind = (refl, refl)
 puts_none (asked.Delete name) answer bytes m kind = absurd kind
 puts_none asked.ListNames answer bytes m kind = (refl, refl)
 puts_none asked.Stat answer bytes m kind = (refl, refl)
+puts_none (asked.GcStart percent) answer bytes m kind = (refl, refl)
+puts_none asked.GcStep answer bytes m kind = (refl, refl)
 
 pub none_with : (step : StepValue) (answer : Result Answer Refusal) (bytes : List ℕ) (m : Stored) → IsNoCommit step → stored_with step answer bytes m ≡ m
 none_with step answer bytes m kind = (puts_none step answer bytes m kind).0
@@ -56,6 +58,8 @@ refused_with asked.EndRead refusal bytes m = refl
 refused_with (asked.Delete name) refusal bytes m = refl
 refused_with asked.ListNames refusal bytes m = refl
 refused_with asked.Stat refusal bytes m = refl
+refused_with (asked.GcStart percent) refusal bytes m = refl
+refused_with asked.GcStep refusal bytes m = refl
 
 module _ (S : List ℕ → Type 0) (name given : List ℕ) (m : Stored) where
   abbrev after : Stored

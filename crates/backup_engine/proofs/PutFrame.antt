@@ -182,6 +182,8 @@ module _ (first : Store) (base : List ℕ) where
     step_held name bytes put (asked.Delete n) (Ok answer) asks other ok effect = absurd asks
     step_held name bytes put asked.ListNames (Ok answer) asks other ok effect = absurd asks
     step_held name bytes put asked.Stat (Ok answer) asks other ok effect = absurd asks
+    step_held name bytes put (asked.GcStart percent) (Ok answer) asks other ok effect = absurd asks
+    step_held name bytes put asked.GcStep (Ok answer) asks other ok effect = absurd asks
 
   module _ (name bytes : List ℕ) (start : DiskView) where
     framed_step : (f : FileEvent) (old new : CoreState) → IsFramed first base start old → CoreStep old f.event new → IsWayStep name bytes f → IsFramed first base start new
@@ -263,6 +265,8 @@ module _ (first : Store) (base : List ℕ) (right : Encodes base first) (reserve
     put_open ending may bytes put (asked.Delete n) answer asks last effect = absurd last
     put_open ending may bytes put asked.ListNames answer asks last effect = absurd last
     put_open ending may bytes put asked.Stat answer asks last effect = absurd last
+    put_open ending may bytes put (asked.GcStart percent) answer asks last effect = absurd last
+    put_open ending may bytes put asked.GcStep answer asks last effect = absurd last
 
     -- a commit that was refused wrote nothing, but where a write failed
     uncommitted : (n : List ℕ) (root : Root) (refusal : Refusal) → n ≡ name → NamesOne n (Put root) (Err refusal) old new → EndsSo (Some (Refused refusal))
@@ -282,6 +286,8 @@ module _ (first : Store) (base : List ℕ) (right : Encodes base first) (reserve
     refused_open bytes put refusal (asked.Delete n) asks effect = absurd asks
     refused_open bytes put refusal asked.ListNames asks effect = absurd asks
     refused_open bytes put refusal asked.Stat asks effect = absurd asks
+    refused_open bytes put refusal (asked.GcStart percent) asks effect = absurd asks
+    refused_open bytes put refusal asked.GcStep asks effect = absurd asks
 
     -- and what was left before
     since_start : (ending : Option Ending) → EndsSo ending → Leaves (KeepsOpen name ending base) start new.disk

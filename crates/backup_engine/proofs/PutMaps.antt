@@ -18,15 +18,15 @@ use Rattle.store_model.specs.Slots.{free_slots}
 use Rattle.store_model.specs.Standing.{IsStoreOf, IsSegmentOf}
 use Rattle.store_model.specs.Collisions as collisions
 use Rattle.disk_format.specs.Cells.Change.{Put}
-use Rattle.store_model.specs.Steps.{with_change}
+use Rattle.store_model.specs.Steps.{StoreChange, with_change}
 use Rattle.store_model.proofs.Once.{store_once}
 use Rattle.store_model.specs.Trees.{root_of}
 use Rattle.store_state.specs.Tables.{Represents}
 use Rattle.store_core.specs.Core.{IndexesAll}
-use Rattle.store_core.specs.Runs.{FileRun, IsAt, IsOnTheWay, Reaches, stored_after}
+use Rattle.store_core.specs.Runs.{ChangesTo, FileRun, IsAt, IsOnTheWay, Reaches, stored_after}
 use Rattle.store_core.specs.State.{CoreState}
 use Rattle.store_core.proofs.Crashes.{last_at, leaves, ends_with_all}
-use Rattle.store_core.proofs.KeepingFiles.{keeps_files}
+use Rattle.store_core.proofs.AnySteps.{changes_told, keeps_files}
 use Rattle.backup_engine.specs.Adding.{Adds, AddsTo, AddsOnce}
 use Rattle.backup_engine.specs.Line.{Ingest}
 use Rattle.backup_engine.specs.AnyDisk.{ReadsSince, room_in}
@@ -38,6 +38,7 @@ use Rattle.backup_engine.proofs.Added.{adds_to, put_in}
 use Rattle.backup_engine.proofs.WholeCall.{leaves_more, leaves_of}
 use Rattle.backup_engine.proofs.Called.{Called, Starts, settled, starts}
 use Rattle.backup_engine.proofs.Clashes.{IsRight, RefusesBut, ends_by, not_unlike}
+use Rattle.backup_engine.proofs.NoGcSteps.{puts_no_gc}
 use Rattle.backup_engine.proofs.PutEnds.{CanBe, CanTryBy, Left, LeftMeanwhile, maps_after, left_at_end, left_on_the_way}
 use Rattle.backup_engine.proofs.RightPuts.{file_run}
 use Rattle.backup_engine.proofs.PutStops.{RunsOn, refused_on, done_can, done_on, run_later, run_tries}
@@ -142,12 +143,13 @@ module _ (C : Type 0) (state : C → CoreState) (v w : DiskView) (old new : C) (
   adds runs store right =
       let first = start.store in
       let end = reached runs in
+      let others = puts_no_gc name given ran.steps ran.each in
       let left : List ℕ = end.is_at.stands.known.0 in
       let here = end.is_at.stands.known.1 in
       let holds = (stands_content (collisions.Stands S end.store (stored_after ran.steps m).files) (state new).disk end.is_at.stands left here).holds in
       let once : AddsOnce given (seals_of ran.steps) first = ran.adds.store_has first start.is_at.represents start.is_at.valid start.stands.holds.reserve start.whole in
       subst (λ (s : Store). AddsTo given (put_in name given put) s w.content) (store_once image first store start.stands.holds.right right)
-      (adds_to name given ran.steps put first end.store w.content ran.each ran.ends end.chain once (left, was.last.only.content_is ∙ here, holds.right))
+      (adds_to name given ran.steps put first end.store w.content ran.each ran.ends (subst (λ (changes : List StoreChange). ChangesTo changes first end.store) (changes_told ran.steps end.changes others end.changes_are) end.chain) once (left, was.last.only.content_is ∙ here, holds.right))
 
 -- ---- a put that was refused
 
@@ -167,7 +169,7 @@ module _ (C : Type 0) (state : C → CoreState) (v w : DiskView) (old new : C) (
     at_end other =
         let end = reached C state v w old new was name given (Err refusal) ran among m image told distinct all is (runs_on other).runs in (
           end.store,
-          (subst (λ (stored : Stored). IsAt (IsIn among) end.store stored (state new)) (maps_after (IsIn among) name given m ran.steps (Err refusal) ran.each ran.ends) end.is_at, end.whole first.whole),
+          (subst (λ (stored : Stored). IsAt (IsIn among) end.store stored (state new)) (maps_after (IsIn among) name given m ran.steps (Err refusal) ran.each ran.ends) end.is_at, end.whole (puts_no_gc name given ran.steps ran.each) first.whole),
         )
 
     -- what is so of that store

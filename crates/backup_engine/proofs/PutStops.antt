@@ -25,6 +25,7 @@ use Rattle.backup_engine.specs.Line.{Ingest}
 use Rattle.backup_engine.specs.PlainMap.{CanBeDone}
 use Rattle.backup_engine.specs.Running.{IsAskedFor, IsPutStep, IsLastPut, IsOk, IsDoneBefore, EndsPut}
 use Rattle.backup_engine.proofs.Clashes.{IsRight, memory_right, refused_right}
+use Rattle.backup_engine.proofs.NoGcSteps.{asked_no_gc}
 use Rattle.backup_engine.proofs.PutEnds.{CanTry, CanTryBy, none_with}
 
 -- ---- what stops a core
@@ -77,9 +78,9 @@ module _ (C : Type 0) (state : C → CoreState) (among : ByteSet) (name given : 
       subst (λ (c : C). RunsOn given m refusal (state c)) (sym run.1.1) (last_runs f refusal s m old run.0 other runs at run.1.0 each.0 ends)
   refused_on (f ∷ g ∷ fs) refusal s m old new other runs at run each ends =
       let mid = goes_on (state old) (state run.0) f.event runs run.1.0.made ends.0 in
-      let next = file_step among distinct f s m (state old) (state run.0) run.1.0 at mid in
+      let next = file_step among distinct f s m (state old) (state run.0) (asked_no_gc name given f.event.step f.bytes each.0.asked_for) run.1.0 at mid in
       subst (λ (x : Stored). RunsOn given x refusal (state new)) (none_with f.event.step f.event.answer f.bytes m ends.0.0)
-      (refused_on (g ∷ fs) refusal next.store (stored_by f m) run.0 new other mid next.is_at run.1.1 each.1 ends.1)
+      (refused_on (g ∷ fs) refusal next.next.store (stored_by f m) run.0 new other mid next.next.is_at run.1.1 each.1 ends.1)
 
   -- ---- a put that comes to a write which fails
 

@@ -21,11 +21,12 @@ use Rattle.store_state.specs.Settled.{IsSettled}
 use Rattle.store_core.specs.declared.stop.Stop.{Stop}
 use Rattle.store_core.specs.Core.{StepsOr}
 use Rattle.store_core.specs.Keeping.{kept_by, kept_of}
-use Rattle.store_core.specs.Runs.{CoreRun, FileEvent, FileStep, FileRun, IsAt, IsGivenRight, IsRightCommit, IsRootOf, events_of}
+use Rattle.store_core.specs.Runs.{AreNoGcSteps, CoreRun, FileEvent, FileStep, FileRun, IsAt, IsGivenRight, IsRightCommit, IsRootOf, events_of}
 use Rattle.store_core.specs.State.{CoreState}
-use Rattle.store_core.proofs.KeepingFiles.{keeps_files}
+use Rattle.store_core.proofs.AnySteps.{keeps_files}
 use Rattle.store_core.proofs.KeepingSegments.{keeps_segments}
 use Rattle.backup_engine.specs.Running.{AreWhole, IsAskedFor, IsPutStep, IsWholeAt}
+use Rattle.backup_engine.proofs.NoGcSteps.{asked_no_gc, no_gc_then}
 use Rattle.backup_engine.proofs.RightRoots.{right_root}
 
 -- ---- what a step is given
@@ -75,11 +76,11 @@ module _ (C : Type 0) (state : C → CoreState) (among : ByteSet) (name given : 
   abbrev S : List ℕ → Type 0
   S = IsIn among
 
-  module _ (done : List FileEvent) (old : C) (before : FileRun C state S done first old) where
+  module _ (done : List FileEvent) (old : C) (before : FileRun C state S done first old) (others : AreNoGcSteps (events_of done)) where
     -- what they kept is held, so the root of the file is right
     may_commit : (state old).stop ≡ None → length given ≤ MOST_FILE → (root : Root) → IsWholeAt given (kept_of done) (asked.Commit name root) → root ≡ root_of given → IsRootOf root given (state old)
     may_commit runs few root whole is =
-        right_root given few (kept_of done) (state old) (keeps_segments C state among done s m first old distinct at settled before runs) whole root
+        right_root given few (kept_of done) (state old) (keeps_segments C state among done s m first old distinct at settled before others runs) whole root
         (keeps_files C state among done s m first old distinct at before runs).is_at.stands.known is
 
     right_step : (step : StepValue) (answer : Result Answer Refusal) (bytes : List ℕ) → (state old).stop ≡ None → IsAskedFor name given step bytes → IsWholeAt given (kept_of done) step → IsGivenRight S step answer bytes (state old)
@@ -95,16 +96,16 @@ module _ (C : Type 0) (state : C → CoreState) (among : ByteSet) (name given : 
     step_given None f new runs put whole steps = right_step f.event.step f.event.answer f.bytes runs put.asked_for whole
     step_given (Some stop) f new runs put whole steps = stopped_step among name given all (state old) f.event.step f.event.answer f.bytes stop.at steps.answer_is put.asked_for
 
-  run_after : (done fs : List FileEvent) (old new : C) → FileRun C state S done first old → CoreRun C state (events_of fs) old new → AllByRecursion (IsPutStep name given) fs → AreWhole given (kept_of done) fs
+  run_after : (done fs : List FileEvent) (old new : C) → FileRun C state S done first old → AreNoGcSteps (events_of done) → CoreRun C state (events_of fs) old new → AllByRecursion (IsPutStep name given) fs → AreWhole given (kept_of done) fs
       → FileRun C state S fs old new
-  run_after done [] old new before run each whole = run
-  run_after done (f ∷ fs) old new before run each whole =
+  run_after done [] old new before others run each whole = run
+  run_after done (f ∷ fs) old new before others run each whole =
       let mid : C = run.0 in
       let step : FileStep S f (state old) (state mid) =
-      record { asked = each.0.is_step; given = step_given done old before (state old).stop f mid refl each.0 whole.0 run.1.0; made = run.1.0 } in
+      record { asked = each.0.is_step; given = step_given done old before others (state old).stop f mid refl each.0 whole.0 run.1.0; made = run.1.0 } in
       let rest = subst (λ (kept : List KindSegment). AreWhole given kept fs) (sym (kept_then done f)) whole.1 in
-      (mid, (step, run_after (done ++ f ∷ []) fs mid new (run_then C state S done f first old mid before step) run.1.1 each.1 rest))
+      (mid, (step, run_after (done ++ f ∷ []) fs mid new (run_then C state S done f first old mid before step) (no_gc_then done f others (asked_no_gc name given f.event.step f.bytes each.0.asked_for)) run.1.1 each.1 rest))
 
   -- Each step is given what is right.
   pub file_run : (fs : List FileEvent) (new : C) → CoreRun C state (events_of fs) first new → AllByRecursion (IsPutStep name given) fs → AreWhole given [] fs → FileRun C state S fs first new
-  file_run fs new run each whole = run_after [] fs first new refl run each whole
+  file_run fs new run each whole = run_after [] fs first new refl tt run each whole

@@ -16,9 +16,9 @@ use Rattle.store_model.specs.Slots.{Copy, HasKey, IsPartialIndexOf, first_free, 
 use Rattle.store_model.specs.Steps.{CanSeal, SealContainer, with_sealed}
 use Rattle.store_model.proofs.NewestSealed.{entry_copy, newest_of_entries}
 use Rattle.store_model.proofs.Valid.{last_sealed}
-use Rattle.store_state.specs.Tables.{OfEach, Represents}
+use Rattle.store_state.specs.Tables.{OfEach, Represents, Runs}
 use Rattle.store_core.specs.Core.{Makes, next_id}
-use Rattle.store_core.specs.State.{CoreState, IsUp}
+use Rattle.store_core.specs.State.{CoreState}
 use Rattle.store_core.proofs.Sealing.{to_entries}
 use Rattle.backup_engine.specs.Putting.{length_in}
 use Rattle.backup_engine.proofs.WayLists.{all_both}
@@ -52,9 +52,9 @@ same_last held other same = last_by_ids held ∙ ap last_of_ids same ∙ sym (la
 
 -- ---- the index
 
-module _ (old new : CoreState) (kind : Kind) (segments : List Segment) (made : Makes (SealContainer (next_id old) kind segments) old new) (up : IsUp old) (places : PlaceMap) (known : old.known ≡ Some places) where
+module _ (old new : CoreState) (kind : Kind) (segments : List Segment) (made : Makes (SealContainer (next_id old) kind segments) old new) (indexed : Runs old.disk.size old.known old.tables) (places : PlaceMap) (known : old.known ≡ Some places) where
   abbrev store : Store
-  store = up.runs.store
+  store = indexed.store
 
   abbrev after : Store
   after = with_sealed (next_id old) kind segments store
@@ -63,10 +63,10 @@ module _ (old new : CoreState) (kind : Kind) (segments : List Segment) (made : M
   header = header_of (next_id old) kind segments
 
   can : CanSeal (next_id old) kind segments store
-  can = made.can.store_has store up.runs.represents up.runs.valid up.runs.reserve_holds
+  can = made.can.store_has store indexed.represents indexed.valid indexed.reserve_holds
 
   represents : Represents after new.known new.tables
-  represents = made.represents.store_has store up.runs.represents up.runs.valid up.runs.reserve_holds
+  represents = made.represents.store_has store indexed.represents indexed.valid indexed.reserve_holds
 
   pub now_told : (now : PlaceMap) × (new.known ≡ Some now)
   now_told = made.tells places known

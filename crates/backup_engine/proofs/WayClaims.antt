@@ -23,7 +23,7 @@ use Rattle.store_core.specs.Runs.{FileEvent}
 use Rattle.store_core.specs.State.{CoreState, IsRunning}
 use Rattle.backup_engine.specs.Putting.{Way, AreKept, AreNew, length_in}
 use Rattle.backup_engine.specs.Running.{IsPutStep}
-use Rattle.backup_engine.proofs.FirstActor.{Rested, by_first, steps_of, kept_ids, first_part, up_of}
+use Rattle.backup_engine.proofs.FirstActor.{Rested, by_first, steps_of, kept_ids, kept_indexed, first_part, up_of}
 use Rattle.backup_engine.proofs.KeptPieces.{pinned_next}
 use Rattle.backup_engine.proofs.WayLists.{all_on}
 use Rattle.backup_engine.proofs.Ways.{Stays, IsStepOn, file_event, put_step, rests, way_on}
@@ -81,6 +81,7 @@ module _ (C : Type 0) (state : C → CoreState) (files : List ℕ → Type 0) (o
               ∙ ap (λ (p : PinMap). Writing (finite.insert p (key_of_seg seg) (pin_of seg))) same;
           places = w.places;
           known = rested.kept.index_is ∙ w.known;
+          indexed = kept_indexed (state old) (state new) rested w.indexed;
           ids = kept_ids (state old) (state new) rested w.ids;
           kept = keeps_one (kept_of w.steps) seg w.pins w.places w.kept (ap (option_map (λ (p : Place). p.length)) (claimed.looked_up.found w.places w.known) ∙ ap (λ (n : ℕ). Some n) claimed.looked_up.length_is);
           fresh = w.fresh;
@@ -111,6 +112,7 @@ module _ (C : Type 0) (state : C → CoreState) (files : List ℕ → Type 0) (o
           writing = ap (λ (parts : List Part). part_of parts 0) claimed.parts_are ∙ w.writing;
           places = w.places;
           known = rested.kept.index_is ∙ w.known;
+          indexed = kept_indexed (state old) (state new) rested w.indexed;
           ids = kept_ids (state old) (state new) rested w.ids;
           kept = subst (λ (l : List KindSegment). AreKept l w.pins w.places) (sym (append-nil (kept_of w.steps))) w.kept;
           fresh = λ kind. also kind w.places (w.fresh kind) none;

@@ -100,7 +100,7 @@ module _ (C : Type 0) (state : C → CoreState) (files : List ℕ → Type 0) (o
   -- a name that is put leaves the index
   index_put : Makes (ChangeName name (Put (root_of file))) (state old) (state new) → (store : Store) → Represents store (state new).known (state new).tables → IsPartialIndexOf store.held w.places
   index_put made store represents key place found =
-      let runs = w.up.runs in
+      let runs = w.indexed in
       let told = made.tells w.places w.known in
       let put = made.represents.store_has runs.store runs.represents runs.valid runs.reserve_holds in
       let has = made.keeps_keys w.places w.known told.0 told.1 key (place, found) in

@@ -91,10 +91,10 @@ module _ (C : Type 0) (state : C → CoreState) (files : List ℕ → Type 0) (o
       -- ---- the index
 
       abbrev now : PlaceMap
-      now = (now_told (state old) (state new) filled.kind filled.segments made_next w.up w.places w.known).0
+      now = (now_told (state old) (state new) filled.kind filled.segments made_next w.indexed w.places w.known).0
 
       others : (key : List ℕ) → AllByRecursion (λ s. segment_key filled.kind s ≢ key) filled.segments → finite.get now key ≡ finite.get w.places key
-      others = sealed_others (state old) (state new) filled.kind filled.segments made_next w.up w.places w.known
+      others = sealed_others (state old) (state new) filled.kind filled.segments made_next w.indexed w.places w.known
 
       not_there : (place : Option Place) → place ≡ None → (n : ℕ) → option_map (λ (p : Place). p.length) place ≡ Some n → ⊥
       not_there None none n some = absurd cc
@@ -116,7 +116,7 @@ module _ (C : Type 0) (state : C → CoreState) (files : List ℕ → Type 0) (o
         long = all_on (λ x. length_in now (key_of_seg x) ≡ Some (length x.segment.bytes)) (kept_of w.steps) (map (of_kind filled.kind) filled.segments)
             (all_then (λ x. length_in w.places (key_of_seg x) ≡ Some (length x.segment.bytes)) (λ x. length_in now (key_of_seg x) ≡ Some (length x.segment.bytes)) (kept_of w.steps) long_still w.kept.long)
             (all_map (λ x. length_in now (key_of_seg x) ≡ Some (length x.segment.bytes)) (of_kind filled.kind) filled.segments
-            (sealed_long (state old) (state new) filled.kind filled.segments made_next w.up w.places w.known));
+            (sealed_long (state old) (state new) filled.kind filled.segments made_next w.indexed w.places w.known));
         pinned = pinned_all filled.kind filled.segments (kept_of w.steps) w.pins w.kept.pinned;
       }
 
@@ -144,8 +144,9 @@ module _ (C : Type 0) (state : C → CoreState) (files : List ℕ → Type 0) (o
               writing = first_part (state old) (state new) (Writing (with_pins filled.kind filled.segments may.pins)) w.up steps.made.row.parts_are
                   ∙ ap (λ (p : PinMap). Writing (with_pins filled.kind filled.segments p)) same;
               places = now;
-              known = (now_told (state old) (state new) filled.kind filled.segments made_next w.up w.places w.known).1;
-              ids = sealed_ids (state old) (state new) filled.kind filled.segments made_next w.up w.places w.known (steps.made.row.last_is ∙ id_is);
+              known = (now_told (state old) (state new) filled.kind filled.segments made_next w.indexed w.places w.known).1;
+              indexed = made_next.runs_indexed w.indexed;
+              ids = sealed_ids (state old) (state new) filled.kind filled.segments made_next w.indexed w.places w.known (steps.made.row.last_is ∙ id_is);
               kept = keeps_all;
               fresh = still_new;
             } in

@@ -18,7 +18,7 @@ use Rattle.refusals.specs.declared.refusal.Refusal.TheVariants.{Memory}
 use Rattle.store_model.specs.Image.{Store, IsValidFor}
 use Rattle.store_model.specs.Slots.{free_slots, last_id}
 use Rattle.store_model.specs.Steps.{StoreChange}
-use Rattle.store_state.specs.Tables.{Represents, OfEach}
+use Rattle.store_state.specs.Tables.{Represents, Runs, OfEach}
 use Rattle.store_core.specs.Core.{IndexesAll, OfEachIndexed, CoreStep}
 use Rattle.store_core.specs.Keeping.{kept_by, kept_of}
 use Rattle.store_core.specs.Runs.{ChangesTo, CoreRun, FileEvent, events_of}
@@ -27,7 +27,7 @@ use Rattle.store_core.proofs.Stepping.{step_later}
 use Rattle.backup_engine.specs.Adding.{AddsOnce}
 use Rattle.backup_engine.specs.Putting.{Way, AreKept, AreNew, SealsSo}
 use Rattle.backup_engine.specs.Running.{IsFresh, IsPutStep, IsAskedFor, IsDoneBefore, IsWholeAt, EndsPut, PutRun, seal_by, seals_of}
-use Rattle.backup_engine.proofs.FirstActor.{Rested, by_first, steps_of, represents_still, kept_ids, first_part, up_of, begun, begin_rests, begin_runs}
+use Rattle.backup_engine.proofs.FirstActor.{Rested, by_first, steps_of, represents_still, kept_ids, kept_indexed, first_part, up_of, begun, begin_rests, begin_runs}
 use Rattle.backup_engine.proofs.WayLists.{all_on, kept_on, seals_on, seals_then, chain_on, adds_on, whole_on, whole_all, ends_on, ends_here, files_on}
 
 -- a step by which a file is stored
@@ -61,6 +61,7 @@ pub record Stays (all : List KindSegment) (opens : Kind → List Segment) (c : C
   pub writing : part_of c.parts 0 ≡ Writing pins
   pub places : PlaceMap
   pub known : c.known ≡ Some places
+  pub indexed : Runs c.disk.size c.known c.tables
   pub ids : OfEach c.disk.size c.known c.tables (λ store. c.tables.held.last_id ≡ last_id store.held)
   pub kept : AreKept all pins places
   pub fresh : (kind : Kind) → AreNew places kind (opens kind)
@@ -119,6 +120,7 @@ module _ (C : Type 0) (state : C → CoreState) (files : List ℕ → Type 0) wh
         writing = first_part (state old) (state new) (Writing finite.empty) fresh.up (begun (state old) (state new) buf fresh answer steps.made.row);
         places = fresh.told.0;
         known = rested.kept.index_is ∙ fresh.told.1;
+        indexed = kept_indexed (state old) (state new) rested fresh.indexed;
         ids = kept_ids (state old) (state new) rested fresh.ids;
         kept = record { long = tt; pinned = tt };
         fresh = λ kind. tt;
@@ -154,6 +156,7 @@ module _ (C : Type 0) (state : C → CoreState) (files : List ℕ → Type 0) wh
           writing = stays.writing;
           places = stays.places;
           known = stays.known;
+          indexed = stays.indexed;
           ids = stays.ids;
           kept = subst (λ (l : List KindSegment). AreKept l stays.pins stays.places) (sym (kept_on w.steps f)) stays.kept;
           fresh = stays.fresh;
@@ -177,6 +180,7 @@ module _ (C : Type 0) (state : C → CoreState) (files : List ℕ → Type 0) wh
           writing = w.writing;
           places = w.places;
           known = w.known;
+          indexed = w.indexed;
           ids = w.ids;
           kept = w.kept;
           fresh = λ kind. fewer kind w.places (w.fresh kind);

@@ -11,7 +11,7 @@ use Rattle.reply_text.specs.declared.ending.Ending.TheVariants.{Sink, Refused}
 use Rattle.store_model.specs.Image.{Store, Encodes}
 use Rattle.store_model.specs.Slots.{last_id, newest}
 use Rattle.store_model.specs.Pieces.{HasPieceOf}
-use Rattle.store_model.specs.Steps.{StoreChange, SealContainer, ChangeName, with_sealed, with_change}
+use Rattle.store_model.specs.Steps.{StoreChange, SealContainer, ChangeName, FreeContainer, with_sealed, with_change}
 use Rattle.store_model.specs.Trees.{root_of}
 use Rattle.store_core.specs.Runs.{ChangesTo}
 use Rattle.backup_engine.specs.Line.{CommandLine, Format, Ingest, Restore, Delete}
@@ -25,6 +25,7 @@ AddsOnce given (SealContainer id kind segments ∷ rest) store =
     × AllByRecursion (λ s. HasPieceOf given (record { kind = kind; segment = s }) × (newest 0 store.held (segment_key kind s) ≡ None)) segments
     × AddsOnce given rest (with_sealed id kind segments store)
 AddsOnce given (ChangeName name change ∷ rest) store = ⊥
+AddsOnce given (FreeContainer slot ∷ rest) store = ⊥
 
 -- The content is the store to which these containers lead, with what was put in it then: so all else of the store is as it was.
 pub record AddsTo (given : List ℕ) (put : Store → Store) (store : Store) (content : Option (List ℕ)) : Type 0 where

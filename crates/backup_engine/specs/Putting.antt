@@ -12,7 +12,7 @@ use Rattle.actor_parts.specs.PinMap.{PinMap}
 use Rattle.actor_parts.specs.Segments.{pin_of}
 use Rattle.store_model.specs.Image.{Store, IsValidFor}
 use Rattle.store_model.specs.Slots.{free_slots, last_id}
-use Rattle.store_state.specs.Tables.{Represents, OfEach}
+use Rattle.store_state.specs.Tables.{Represents, Runs, OfEach}
 use Rattle.ingest_steps.specs.Claiming.{key_of_seg}
 use Rattle.store_core.specs.Core.{IndexesAll, OfEachIndexed}
 use Rattle.store_core.specs.Keeping.{kept_of}
@@ -68,6 +68,7 @@ pub record Way (C : Type 0) (state : C → CoreState) (files : List ℕ → Type
   pub writing : part_of (state new).parts 0 ≡ Writing pins
   pub places : PlaceMap
   pub known : (state new).known ≡ Some places
+  pub indexed : Runs (state new).disk.size (state new).known (state new).tables
   pub ids : OfEach (state new).disk.size (state new).known (state new).tables (λ store. (state new).tables.held.last_id ≡ last_id store.held)
   pub kept : AreKept (kept_of steps) pins places
   pub fresh : (kind : Kind) → AreNew places kind (opens kind)

@@ -22,7 +22,7 @@ use Rattle.store_model.specs.Pieces.{Piece, HasPieceOf, IsPieceOf, piece_segment
 use Rattle.store_model.specs.Slots.{last_id}
 use Rattle.store_model.specs.Steps.{StoreChange, SealContainer}
 use Rattle.store_model.specs.Trees.{root_of}
-use Rattle.store_state.specs.Tables.{OfEach}
+use Rattle.store_state.specs.Tables.{Runs, OfEach}
 use Rattle.store_core.specs.Core.{OfEachIndexed, CoreStep}
 use Rattle.store_core.specs.Keeping.{kept_by}
 use Rattle.store_core.specs.Runs.{CoreRun, FileEvent, events_of, opens, given_to}
@@ -40,6 +40,7 @@ pub record IsFresh (c : CoreState) : Type 0 where
   pub runs : c.stop ≡ None
   pub idle : c.parts ≡ replicate ACTORS Idle
   pub told : (places : PlaceMap) × (c.known ≡ Some places)
+  pub indexed : Runs c.disk.size c.known c.tables
   pub ids : OfEach c.disk.size c.known c.tables (λ store. c.tables.held.last_id ≡ last_id store.held)
 
 -- ---- a file is stored

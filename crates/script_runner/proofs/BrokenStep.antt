@@ -18,7 +18,7 @@ use Rattle.store_core.specs.declared.stop.Stop.{Stop}
 use Rattle.store_core.specs.Core as core_step
 use Rattle.store_core.specs.Core.{Effect, Steps, StopsAfter}
 use Rattle.store_core.specs.Frame.{KeepsWritten, commands_in}
-use Rattle.store_core.specs.Runs.{FileEvent, FileRun, FileStep, IsOnTheWay, stored_by, stored_tried, stored_with}
+use Rattle.store_core.specs.Runs.{FileEvent, FileRun, FileStep, IsOnTheWay, stored_by, stored_tried, stored_with, IsNoGcStep}
 use Rattle.store_core.specs.Sound.{IsHarmless, MayClash}
 use Rattle.store_core.specs.State.{CoreState}
 use Rattle.store_core.proofs.CoreRuns.{running_step}
@@ -57,21 +57,23 @@ why_stopped (asked.Seal filled) (Err (refusals.Damaged at why)) count stopped st
 why_stopped step answer count stopped stop is stops harmless = absurd (let both = sym is ∙ stops in cc)
 
 -- the tables stay
-same_tables : (step : StepValue) (old new : CoreState) → Effect step (Err refusals.DiskWrite) old new → new.tables ≡ old.tables
-same_tables (asked.Seal filled) old new effect = effect.kept
-same_tables (asked.Commit name root) old new effect = effect.kept.tables_are
-same_tables (asked.Delete name) old new effect = effect.kept.tables_are
-same_tables asked.ListNames old new effect = effect.tables.tables_are
-same_tables asked.Begin old new effect = effect.tables.tables_are
-same_tables (asked.Claim seg) old new effect = effect.tables.tables_are
-same_tables asked.Abort old new effect = effect.tables.tables_are
-same_tables (asked.OpenRead name) old new effect = effect.tables.tables_are
-same_tables asked.ReadNext old new effect = effect.tables.tables_are
-same_tables asked.EndRead old new effect = effect.tables.tables_are
-same_tables asked.Stat old new effect = effect.tables.tables_are
+same_tables : (step : StepValue) (old new : CoreState) → IsNoGcStep step → Effect step (Err refusals.DiskWrite) old new → new.tables ≡ old.tables
+same_tables (asked.Seal filled) old new other effect = effect.kept
+same_tables (asked.Commit name root) old new other effect = effect.kept.tables_are
+same_tables (asked.Delete name) old new other effect = effect.kept.tables_are
+same_tables asked.ListNames old new other effect = effect.tables.tables_are
+same_tables asked.Begin old new other effect = effect.tables.tables_are
+same_tables (asked.Claim seg) old new other effect = effect.tables.tables_are
+same_tables asked.Abort old new other effect = effect.tables.tables_are
+same_tables (asked.OpenRead name) old new other effect = effect.tables.tables_are
+same_tables asked.ReadNext old new other effect = effect.tables.tables_are
+same_tables asked.EndRead old new other effect = effect.tables.tables_are
+same_tables (asked.GcStart percent) old new other effect = effect.tables.tables_are
+same_tables asked.GcStep old new other effect = absurd other
+same_tables asked.Stat old new other effect = effect.tables.tables_are
 
 module _ (C : Type 0) (state : C → CoreState) (among : ByteSet) (apart : HasNoCollisions (IsIn among)) (m : Machine) (sessions : Sessions) (old new : C)
-    (running : FollowsRunning (IsIn among) m sessions (state old)) (content_is : (state old).disk.content ≡ Some m.content) (f : FileEvent) (step : FileStep (IsIn among) f (state old) (state new)) where
+    (running : FollowsRunning (IsIn among) m sessions (state old)) (content_is : (state old).disk.content ≡ Some m.content) (f : FileEvent) (step : FileStep (IsIn among) f (state old) (state new)) (other : IsNoGcStep f.event.step) where
   abbrev S : List ℕ → Type 0
   S = IsIn among
 
@@ -104,7 +106,7 @@ module _ (C : Type 0) (state : C → CoreState) (among : ByteSet) (apart : HasNo
         ]) (leaves_on_the_way C state among (f ∷ []) store m.stored old new apart running.begins.is_at run)
 
     written : KnownWith (state new).disk.content (KeepsWritten store (commands_in (f.event ∷ [])) m.content)
-    written = (written_stays C state (f.event ∷ []) store m.content old new (at_on S store m.stored (state old) running.begins.is_at running.begins.settled) content_is (new, (step.made, refl))).0
+    written = (written_stays C state (f.event ∷ []) store m.content old new (at_on S store m.stored (state old) running.begins.is_at running.begins.settled) content_is (new, (step.made, refl)) (other, tt)).0
 
     pub broken : Broken S m f store stop (state old) (state new)
     broken = record {
@@ -115,7 +117,7 @@ module _ (C : Type 0) (state : C → CoreState) (among : ByteSet) (apart : HasNo
       of = leaves.now written.0 ((state new).disk.as_read written.0 written.1);
       rest = written.2;
       images = leaves.now;
-      last_is = ap (λ (tables : Tables). tables.journal.last) (same_tables f.event.step (state old) (state new) effect) ∙ running.begins.is_at.last_is;
+      last_is = ap (λ (tables : Tables). tables.journal.last) (same_tables f.event.step (state old) (state new) other effect) ∙ running.begins.is_at.last_is;
       counted = steps.counted_is ∙ ap (λ (answer : Result Answer Refusal). core_step.counted answer (state old).acknowledged) why.0;
       rose = refused_faults (state old) (state new) f.event.step refusals.DiskWrite effect;
       leaves = leaves;

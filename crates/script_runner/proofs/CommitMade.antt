@@ -112,7 +112,7 @@ module _ (C : Type 0) (state : C → CoreState) (among : ByteSet) (distinct : Ha
     steps = running_step (state old) (state new) f.event at.running.runs step
 
     leads : Stepped S m sessions f store (state old) (state new)
-    leads = stepped C state among distinct m sessions old new at.running at.content_is f (commit_step (Ok (answers.Committed sequence)) step) steps.stops
+    leads = stepped C state among distinct m sessions old new at.running at.content_is f (commit_step (Ok (answers.Committed sequence)) step) tt steps.stops
 
     can : CanChangeName name (Put (root_of whole.file)) store
     can = leads.changes.0.0

@@ -136,7 +136,7 @@ module _ (C : Type 0) (state : C → CoreState) (among : ByteSet) (distinct : Ha
 
     module _ (stays : (state new).stop ≡ None) where
       leads : Stepped S m sessions f store (state old) (state new)
-      leads = stepped C state among distinct m sessions old new at.running at.content_is f file_step stays
+      leads = stepped C state among distinct m sessions old new at.running at.content_is f file_step tt stays
 
       own : FollowsPart (part_in m actor) (Some t) (part_of (state new).parts actor) (state new)
       own =
@@ -176,7 +176,7 @@ module _ (C : Type 0) (state : C → CoreState) (among : ByteSet) (distinct : Ha
     -- a write failed, and the store is stopped
     module _ (stop : Stop) (stopped : (state new).stop ≡ Some stop) where
       broke : Broken S m f store stop (state old) (state new)
-      broke = broken C state among distinct m sessions old new at.running at.content_is f file_step stop stopped
+      broke = broken C state among distinct m sessions old new at.running at.content_is f file_step tt stop stopped
 
       is_write : refusal ≡ refusals.DiskWrite
       is_write = same_refusal refusal refusals.DiskWrite broke.refusal_is

@@ -60,6 +60,8 @@ module _ (old new : CoreState) where
   effect_faults asked.EndRead answer effect = effect.disk.faults_are
   effect_faults (asked.Delete name) answer effect = effect.disk.faults_are
   effect_faults asked.ListNames answer effect = effect.disk.faults_are
+  effect_faults (asked.GcStart percent) answer effect = effect.disk.faults_are
+  effect_faults asked.GcStep answer effect = effect.faults_are
   effect_faults asked.Stat answer effect = effect.disk.faults_are
 
   step_faults : (e : Event) (stop : Option Stop) → StepsOr stop e old new → CountsFault (ending blames e.answer) old.disk.faults new.disk.faults

@@ -10,9 +10,10 @@ use Rattle.store_model.specs.Image.{Store}
 use Rattle.store_model.specs.Slots.{first_free, free_slots, last_id, with_slot}
 use Rattle.store_state.specs.declared.tables.Tables.{Tables}
 use Rattle.store_core.specs.Core.{Effect, KeepsTables, Row, StopsAfter}
-use Rattle.store_core.specs.Runs.{ChangesTo, changes_by}
+use Rattle.store_core.specs.Runs.{ChangesTo, changes_by, IsNoGcStep}
 use Rattle.store_core.specs.State.{CoreState}
 use Rattle.store_core.proofs.RunningOn.{seal_kept}
+use Rattle.store_state.specs.declared.slot_table.SlotTable.{SlotTable}
 
 -- a container with a greater id in the first slot that was closed
 last_with : (h : HeaderValue) (held : List (Option HeaderValue)) → 1 ≤ free_slots held → last_id held < h.id → last_id (with_slot (first_free held) h held) ≡ h.id
@@ -29,23 +30,25 @@ module _ (s t : Store) (old new : CoreState) (stays : new.stop ≡ None) (was : 
   still : KeepsTables old new → t ≡ s → Is
   still kept same = ap (λ (tables : Tables). tables.held.last_id) kept.tables_are ∙ was ∙ ap (λ (store : Store). last_id store.held) (sym same)
 
-  pub last_on : (actor : ℕ) (buf : List ℕ) (step : StepValue) (answer : Result Answer Refusal) → Row step actor answer buf old new → Effect step answer old new → StopsAfter step answer old.acknowledged new.stop
+  pub last_on : (actor : ℕ) (buf : List ℕ) (step : StepValue) (answer : Result Answer Refusal) → IsNoGcStep step → Row step actor answer buf old new → Effect step answer old new → StopsAfter step answer old.acknowledged new.stop
       → ChangesTo (changes_by step answer) s t → Is
-  last_on actor buf asked.Begin answer row effect stops chain = still effect.tables chain
-  last_on actor buf (asked.Claim seg) answer row effect stops chain = still effect.tables chain
-  last_on actor buf (asked.Seal filled) (Ok (answers.Sealed id)) row effect stops chain =
+  last_on actor buf asked.Begin answer other row effect stops chain = still effect.tables chain
+  last_on actor buf (asked.Claim seg) answer other row effect stops chain = still effect.tables chain
+  last_on actor buf (asked.Seal filled) (Ok (answers.Sealed id)) other row effect stops chain =
       row.last_is ∙ sym (last_with (header_of id filled.kind filled.segments) s.held (omega (arith, chain.0.slot)) chain.0.new_id) ∙ ap (λ (store : Store). last_id store.held) (sym chain.1)
-  last_on actor buf (asked.Seal filled) (Ok answer) row effect stops chain = absurd row
-  last_on actor buf (asked.Seal filled) (Err refusal) row effect stops chain = still (seal_kept old new stays filled refusal old.acknowledged stops effect.kept) chain
-  last_on actor buf (asked.Commit name root) (Ok (answers.Committed sequence)) row effect stops chain = row.3 ∙ was ∙ ap (λ (store : Store). last_id store.held) (sym chain.1)
-  last_on actor buf (asked.Commit name root) (Ok answer) row effect stops chain = absurd row
-  last_on actor buf (asked.Commit name root) (Err refusal) row effect stops chain = still effect.kept chain
-  last_on actor buf (asked.Delete name) (Ok (answers.Deleted sequence)) row effect stops chain = row.3 ∙ was ∙ ap (λ (store : Store). last_id store.held) (sym chain.1)
-  last_on actor buf (asked.Delete name) (Ok answer) row effect stops chain = absurd row
-  last_on actor buf (asked.Delete name) (Err refusal) row effect stops chain = still effect.kept chain
-  last_on actor buf asked.ListNames answer row effect stops chain = still effect.tables chain
-  last_on actor buf asked.Abort answer row effect stops chain = still effect.tables chain
-  last_on actor buf (asked.OpenRead name) answer row effect stops chain = still effect.tables chain
-  last_on actor buf asked.ReadNext answer row effect stops chain = still effect.tables chain
-  last_on actor buf asked.EndRead answer row effect stops chain = still effect.tables chain
-  last_on actor buf asked.Stat answer row effect stops chain = still effect.tables chain
+  last_on actor buf (asked.Seal filled) (Ok answer) other row effect stops chain = absurd row
+  last_on actor buf (asked.Seal filled) (Err refusal) other row effect stops chain = still (seal_kept old new stays filled refusal old.acknowledged stops effect.kept) chain
+  last_on actor buf (asked.Commit name root) (Ok (answers.Committed sequence)) other row effect stops chain = ap (λ (t : SlotTable). t.last_id) row.3 ∙ was ∙ ap (λ (store : Store). last_id store.held) (sym chain.1)
+  last_on actor buf (asked.Commit name root) (Ok answer) other row effect stops chain = absurd row
+  last_on actor buf (asked.Commit name root) (Err refusal) other row effect stops chain = still effect.kept chain
+  last_on actor buf (asked.Delete name) (Ok (answers.Deleted sequence)) other row effect stops chain = ap (λ (t : SlotTable). t.last_id) row.3 ∙ was ∙ ap (λ (store : Store). last_id store.held) (sym chain.1)
+  last_on actor buf (asked.Delete name) (Ok answer) other row effect stops chain = absurd row
+  last_on actor buf (asked.Delete name) (Err refusal) other row effect stops chain = still effect.kept chain
+  last_on actor buf asked.ListNames answer other row effect stops chain = still effect.tables chain
+  last_on actor buf asked.Abort answer other row effect stops chain = still effect.tables chain
+  last_on actor buf (asked.OpenRead name) answer other row effect stops chain = still effect.tables chain
+  last_on actor buf asked.ReadNext answer other row effect stops chain = still effect.tables chain
+  last_on actor buf asked.EndRead answer other row effect stops chain = still effect.tables chain
+  last_on actor buf (asked.GcStart percent) answer other row effect stops chain = still effect.tables chain
+  last_on actor buf asked.GcStep answer other row effect stops chain = absurd other
+  last_on actor buf asked.Stat answer other row effect stops chain = still effect.tables chain

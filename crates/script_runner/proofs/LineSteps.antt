@@ -1,4 +1,5 @@
 -- A line but `reopen` makes steps of the core, or none.
+use Rattle.store_core.proofs.KeepingSegments.{all_on}
 use Rattle.std.proofs.Common.{◌≡◌, ◌≢◌, ◌⊎◌, inl, inr, ℕ, ◌+◌, ◌≤◌, List, [], ◌∷◌, ◌++◌, Option, Some, None, Result, Ok, Err, refl, ap, subst, arith}
 use Rattle.actor_parts.specs.declared.step.Answer.{Answer}
 use Rattle.actor_parts.specs.declared.step.Answer.TheVariants as answers
@@ -16,15 +17,15 @@ use Rattle.script_lines.specs.ReplyValue as replies
 use Rattle.script_lines.specs.ReplyValue.{ReplyValue}
 use Rattle.store_core.specs.Core.{CoreStep}
 use Rattle.store_core.specs.Frame.{commands_in, commands_of}
-use Rattle.store_core.specs.Runs.{CoreRun}
+use Rattle.store_core.specs.Runs.{CoreRun, AreNoGcSteps, IsNoGcStep}
 use Rattle.store_core.specs.State.{CoreState, Event}
 use Rattle.session_turns.specs.Turns.{Asks, Feeds, IsPaused, IsRefusedTurn, TakesTurn, TurnRun, TurnsStopped}
 use Rattle.script_runner.specs.Frame.{commands_of_line}
 use Rattle.script_runner.specs.Acts.{Acts, ActsOrNot, DoesStep, RefusesPut, RefusesStep, RunnerState, RunsLine, counted}
 
--- steps of a core, one after the other, of which so many at most give a name a root or take it away
+-- steps of a core, one after the other, none of a collection, of which so many at most give a name a root or take it away
 abbrev pub MakesSteps : (C : Type 0) → (C → CoreState) → ℕ → C → C → Type 0
-MakesSteps C state n old new = (events : List Event) × (CoreRun C state events old new × (commands_in events ≤ n))
+MakesSteps C state n old new = (events : List Event) × (CoreRun C state events old new × (commands_in events ≤ n) × AreNoGcSteps events)
 
 pub commands-append : (first rest : List Event) → commands_in (first ++ rest) ≡ commands_in first + commands_in rest
 commands-append [] rest = omega arith
@@ -41,31 +42,31 @@ module _ (C : Type 0) (state : C → CoreState) where
   run_on (e ∷ es) rest old mid new one other = (one.0, (one.1.0, run_on es rest one.0 mid new one.1.1 other))
 
   none : (n : ℕ) (old new : C) → new ≡ old → Makes n old new
-  none n old new same = ([], (same, omega arith))
+  none n old new same = ([], (same, omega arith, tt))
 
-  single : (n : ℕ) (old new : C) (e : Event) → commands_of e.step ≤ n → CoreStep (state old) e (state new) → Makes n old new
-  single n old new e few step = (e ∷ [], ((new, (step, refl)), omega (arith, few)))
+  single : (n : ℕ) (old new : C) (e : Event) → IsNoGcStep e.step → commands_of e.step ≤ n → CoreStep (state old) e (state new) → Makes n old new
+  single n old new e other few step = (e ∷ [], ((new, (step, refl)), omega (arith, few), (other, tt)))
 
   both : (n m most : ℕ) (old mid new : C) → n + m ≤ most → Makes n old mid → Makes m mid new → Makes most old new
   both n m most old mid new few one other =
-      (one.0 ++ other.0, (run_on one.0 other.0 old mid new one.1.0 other.1.0, omega (arith, few, commands-append one.0 other.0, one.1.1, other.1.1)))
+      (one.0 ++ other.0, (run_on one.0 other.0 old mid new one.1.0 other.1.0, omega (arith, few, commands-append one.0 other.0, one.1.1, other.1.1), all_on (λ e. IsNoGcStep e.step) one.0 other.0 one.1.2 other.1.2))
 
-  pub does : (n actor : ℕ) (step : StepValue) (answer : Answer) (old new : C) → commands_of step ≤ n → DoesStep actor step answer (state old) (state new) → Makes n old new
-  does n actor step answer old new few is = single n old new (record { actor = actor; step = step; answer = Ok answer; buf = is.0 }) few is.1
+  pub does : (n actor : ℕ) (step : StepValue) (answer : Answer) (old new : C) → IsNoGcStep step → commands_of step ≤ n → DoesStep actor step answer (state old) (state new) → Makes n old new
+  does n actor step answer old new other few is = single n old new (record { actor = actor; step = step; answer = Ok answer; buf = is.0 }) other few is.1
 
-  refuses : (n actor : ℕ) (step : StepValue) (refusal : Refusal) (old new : C) → commands_of step ≤ n → RefusesStep actor step refusal (state old) (state new) → Makes n old new
-  refuses n actor step refusal old new few is = single n old new (record { actor = actor; step = step; answer = Err refusal; buf = is.0 }) few is.1
+  refuses : (n actor : ℕ) (step : StepValue) (refusal : Refusal) (old new : C) → IsNoGcStep step → commands_of step ≤ n → RefusesStep actor step refusal (state old) (state new) → Makes n old new
+  refuses n actor step refusal old new other few is = single n old new (record { actor = actor; step = step; answer = Err refusal; buf = is.0 }) other few is.1
 
   -- a step that was refused, or before it there was no memory
-  refuses_or : (n actor : ℕ) (step : StepValue) (refusal : Refusal) (old new : C) → commands_of step ≤ n → ((refusal ≡ Memory) × (new ≡ old)) ⊎ RefusesStep actor step refusal (state old) (state new) → Makes n old new
-  refuses_or n actor step refusal old new few (inl memory) = none n old new memory.1
-  refuses_or n actor step refusal old new few (inr is) = refuses n actor step refusal old new few is
+  refuses_or : (n actor : ℕ) (step : StepValue) (refusal : Refusal) (old new : C) → IsNoGcStep step → commands_of step ≤ n → ((refusal ≡ Memory) × (new ≡ old)) ⊎ RefusesStep actor step refusal (state old) (state new) → Makes n old new
+  refuses_or n actor step refusal old new other few (inl memory) = none n old new memory.1
+  refuses_or n actor step refusal old new other few (inr is) = refuses n actor step refusal old new other few is
 
   -- ---- turns
 
   asks : (actor : ℕ) (due : Due) (s : SessionState) (answer : Result Answer Refusal) (old new : C) → Asks actor due s answer (state old) (state new) → Makes 0 old new
-  asks actor Claim s answer old new is = single 0 old new (record { actor = actor; step = asked.Claim is.0; answer = answer; buf = is.1 }) (omega arith) is.3
-  asks actor (Seal kind) s answer old new is = single 0 old new (record { actor = actor; step = asked.Seal (open_of s kind); answer = answer; buf = is.0 }) (omega arith) is.3
+  asks actor Claim s answer old new is = single 0 old new (record { actor = actor; step = asked.Claim is.0; answer = answer; buf = is.1 }) tt (omega arith) is.3
+  asks actor (Seal kind) s answer old new is = single 0 old new (record { actor = actor; step = asked.Seal (open_of s kind); answer = answer; buf = is.0 }) tt (omega arith) is.3
   asks actor Nothing s answer old new is = absurd is
 
   turns : (actor : ℕ) (given : List Answer) (s t : SessionState) (old new : C) → TurnRun C state actor given s t old new → Makes 0 old new
@@ -93,13 +94,13 @@ module _ (C : Type 0) (state : C → CoreState) where
   feeds actor (Err refusal) bytes s t old new (inr refused) = turns actor refused.0 s t old new refused.1
 
   put_refused : (actor : ℕ) (name : List ℕ) (refusal : Refusal) (s t : SessionState) (old new : C) → RefusesPut C state actor name refusal s t old new → Makes 1 old new
-  put_refused actor name refusal s t old new (inl stops) = let made = stopped actor refusal s t old new stops in (made.0, (made.1.0, omega (arith, made.1.1)))
+  put_refused actor name refusal s t old new (inl stops) = let made = stopped actor refusal s t old new stops in (made.0, (made.1.0, omega (arith, made.1.1), made.1.2))
   put_refused actor name refusal s t old new (inr tried) =
-      both 0 1 1 old tried.1 new (omega arith) (turns actor tried.0 s t old tried.1 tried.2) (refuses_or 1 actor (asked.Commit name tried.3.0) refusal tried.1 new (omega arith) tried.3.2)
+      both 0 1 1 old tried.1 new (omega arith) (turns actor tried.0 s t old tried.1 tried.2) (refuses_or 1 actor (asked.Commit name tried.3.0) refusal tried.1 new tt (omega arith) tried.3.2)
 
   acts : (line : lines.LineValue) (reply : ReplyValue) (r s : RunnerState C) → Acts C state line reply r s → Makes (commands_of_line line) r.core s.core
-  acts (lines.Begin a) (replies.Begun b) r s is = let begins = is.1.0 in does 0 a asked.Begin begins.0 r.core s.core (omega arith) begins.2
-  acts (lines.Begin a) (replies.Refused refusal) r s is = refuses_or 0 a asked.Begin refusal r.core s.core (omega arith) is.0.0
+  acts (lines.Begin a) (replies.Begun b) r s is = let begins = is.1.0 in does 0 a asked.Begin begins.0 r.core s.core tt (omega arith) begins.2
+  acts (lines.Begin a) (replies.Refused refusal) r s is = refuses_or 0 a asked.Begin refusal r.core s.core tt (omega arith) is.0.0
   acts (lines.Push a digits) (replies.Pushed b count) r s is = let pushes = is.1.0 in feeds a (Ok tt) (pushed_bytes digits) pushes.0 pushes.1 r.core s.core pushes.3
   acts (lines.Push a digits) (replies.Refused refusal) r s is = let pushes = is.0 in feeds a (Err refusal) (pushed_bytes digits) pushes.0 pushes.1 r.core s.core pushes.3
   acts (lines.Finish a) (replies.Finished b count) r s is = let ends = is.1.0 in none 0 r.core s.core ends.6
@@ -109,24 +110,24 @@ module _ (C : Type 0) (state : C → CoreState) where
   acts (lines.Commit a name) (replies.Committed b sequence) r s is =
       let commits = is.1 in
       let puts = commits.2 in
-      both 0 1 1 r.core puts.mid s.core (omega arith) (turns a puts.answers_are commits.0 puts.ready r.core puts.mid puts.turns) (does 1 a (asked.Commit name puts.root) puts.answer puts.mid s.core (omega arith) puts.put)
+      both 0 1 1 r.core puts.mid s.core (omega arith) (turns a puts.answers_are commits.0 puts.ready r.core puts.mid puts.turns) (does 1 a (asked.Commit name puts.root) puts.answer puts.mid s.core tt (omega arith) puts.put)
   acts (lines.Commit a name) (replies.Refused refusal) r s is = let refused = is.0 in put_refused a name refusal refused.0 refused.1 r.core s.core refused.3
-  acts (lines.Abort a) (replies.Aborted b) r s is = let aborts = is.1.0 in does 0 a asked.Abort aborts.0.0 r.core s.core (omega arith) aborts.0.1
-  acts (lines.Abort a) (replies.Refused refusal) r s is = let aborts = is.0 in refuses 0 a asked.Abort refusal r.core s.core (omega arith) aborts.0
-  acts (lines.Read a name) (replies.Reading b count) r s is = let opens = is.1 in does 0 a (asked.OpenRead name) (answers.Opened count) r.core s.core (omega arith) opens.0
-  acts (lines.Read a name) (replies.Refused refusal) r s is = refuses 0 a (asked.OpenRead name) refusal r.core s.core (omega arith) is.0
+  acts (lines.Abort a) (replies.Aborted b) r s is = let aborts = is.1.0 in does 0 a asked.Abort aborts.0.0 r.core s.core tt (omega arith) aborts.0.1
+  acts (lines.Abort a) (replies.Refused refusal) r s is = let aborts = is.0 in refuses 0 a asked.Abort refusal r.core s.core tt (omega arith) aborts.0
+  acts (lines.Read a name) (replies.Reading b count) r s is = let opens = is.1 in does 0 a (asked.OpenRead name) (answers.Opened count) r.core s.core tt (omega arith) opens.0
+  acts (lines.Read a name) (replies.Refused refusal) r s is = refuses 0 a (asked.OpenRead name) refusal r.core s.core tt (omega arith) is.0
   acts (lines.Next a) (replies.Bytes b bytes) r s is =
       let given = is.1.1.1.1 in
-      single 0 r.core s.core (record { actor = a; step = asked.ReadNext; answer = Ok (answers.Bytes is.1.0); buf = is.1.1.0 }) (omega arith) given.0
-  acts (lines.Next a) (replies.End b) r s is = let ends = is.1.1 in single 0 r.core s.core (record { actor = a; step = asked.ReadNext; answer = Ok answers.End; buf = is.1.0 }) (omega arith) ends.0
-  acts (lines.Next a) (replies.Refused refusal) r s is = let refused = is.1 in single 0 r.core s.core (record { actor = a; step = asked.ReadNext; answer = Err refusal; buf = is.0 }) (omega arith) refused.0
-  acts (lines.Drop a) (replies.Dropped b) r s is = let drops = is.1.0 in does 0 a asked.EndRead drops.0 r.core s.core (omega arith) drops.1
-  acts (lines.Drop a) (replies.Refused refusal) r s is = refuses 0 a asked.EndRead refusal r.core s.core (omega arith) is.0
-  acts (lines.Delete name) (replies.Deleted sequence) r s is = does 1 0 (asked.Delete name) is.0.answer r.core s.core (omega arith) is.0.deleted
-  acts (lines.Delete name) (replies.Refused refusal) r s is = refuses_or 1 0 (asked.Delete name) refusal r.core s.core (omega arith) is.0
-  acts lines.ListNames (replies.Listed files) r s is = does 0 0 asked.ListNames (answers.Listed files) r.core s.core (omega arith) is.0
-  acts lines.ListNames (replies.Refused refusal) r s is = refuses 0 0 asked.ListNames refusal r.core s.core (omega arith) is.0
-  acts lines.Stat (replies.Stat holdings) r s is = does 0 0 asked.Stat (counted holdings) r.core s.core (omega arith) is.0
+      single 0 r.core s.core (record { actor = a; step = asked.ReadNext; answer = Ok (answers.Bytes is.1.0); buf = is.1.1.0 }) tt (omega arith) given.0
+  acts (lines.Next a) (replies.End b) r s is = let ends = is.1.1 in single 0 r.core s.core (record { actor = a; step = asked.ReadNext; answer = Ok answers.End; buf = is.1.0 }) tt (omega arith) ends.0
+  acts (lines.Next a) (replies.Refused refusal) r s is = let refused = is.1 in single 0 r.core s.core (record { actor = a; step = asked.ReadNext; answer = Err refusal; buf = is.0 }) tt (omega arith) refused.0
+  acts (lines.Drop a) (replies.Dropped b) r s is = let drops = is.1.0 in does 0 a asked.EndRead drops.0 r.core s.core tt (omega arith) drops.1
+  acts (lines.Drop a) (replies.Refused refusal) r s is = refuses 0 a asked.EndRead refusal r.core s.core tt (omega arith) is.0
+  acts (lines.Delete name) (replies.Deleted sequence) r s is = does 1 0 (asked.Delete name) is.0.answer r.core s.core tt (omega arith) is.0.deleted
+  acts (lines.Delete name) (replies.Refused refusal) r s is = refuses_or 1 0 (asked.Delete name) refusal r.core s.core tt (omega arith) is.0
+  acts lines.ListNames (replies.Listed files) r s is = does 0 0 asked.ListNames (answers.Listed files) r.core s.core tt (omega arith) is.0
+  acts lines.ListNames (replies.Refused refusal) r s is = refuses 0 0 asked.ListNames refusal r.core s.core tt (omega arith) is.0
+  acts lines.Stat (replies.Stat holdings) r s is = does 0 0 asked.Stat (counted holdings) r.core s.core tt (omega arith) is.0
   acts line reply r s is = absurd is
 
   or_not : (line : lines.LineValue) (reply : ReplyValue) (r s : RunnerState C) → ActsOrNot C state line reply r s → Makes (commands_of_line line) r.core s.core

@@ -103,7 +103,7 @@ module _ (C : Type 0) (state : C → CoreState) (among : ByteSet) (distinct : Ha
       steps = running_step old new f.event at.running.runs step
 
       leads : Stepped S m r.sessions f store old new
-      leads = stepped C state among distinct m r.sessions r.core s.core at.running at.content_is f (record { asked = tt; given = tt; made = step }) steps.stops
+      leads = stepped C state among distinct m r.sessions r.core s.core at.running at.content_is f (record { asked = tt; given = tt; made = step }) tt steps.stops
 
       can : CanChangeName name Delete store
       can = leads.changes.0.0
@@ -188,20 +188,20 @@ module _ (C : Type 0) (state : C → CoreState) (among : ByteSet) (distinct : Ha
 
       on : new.stop ≡ None → Along
       on stays =
-          let unwritten = not_written C state among distinct m r.sessions r.core s.core at 0 first_below (asked.Delete name) [] buf refusal made row.made.row.1 stays in
+          let unwritten = not_written C state among distinct m r.sessions r.core s.core at 0 first_below (asked.Delete name) [] buf refusal made row.made.row.1 tt stays in
           let cause = cause_of refusal row.made.row.0 unwritten in
-          let rested = name_rested C state among distinct m r.sessions r.core s.core at 0 first_below (asked.Delete name) [] buf refusal made row.made.row.1 stays cause.0
+          let rested = name_rested C state among distinct m r.sessions r.core s.core at 0 first_below (asked.Delete name) [] buf refusal made row.made.row.1 tt stays cause.0
           (names_rested old new (asked.Delete name) name Delete refusal stays row.stops row.made.effect) in
           line_to C state S (lines.Delete name) (replies.Refused refusal) m r s is m (delete_refuses name refusal m m right_part_is cause.1)
           (subst (λ (now : Sessions). Follows S m now new) (sym sessions) (follows_at S m r.sessions new rested))
           (leaves_weaker (IsOf S m.stored) (λ image. IsOfFound S m.state m.stored image ⊎ IsOfFound S m.state m.stored image) old.disk new.disk
           (λ image of. inl (found_running m.state S m.stored image is of))
-          (rested_leaves C state among distinct m r.sessions r.core s.core at 0 first_below (asked.Delete name) [] buf refusal made row.made.row.1 stays))
+          (rested_leaves C state among distinct m r.sessions r.core s.core at 0 first_below (asked.Delete name) [] buf refusal made row.made.row.1 tt stays))
 
       broken : (stop : Stop) → new.stop ≡ Some stop → Along
       broken stop stopped =
           let broke : NameBroken S m r.sessions refusal (without_stored m.stored name) old new =
-          name_broken C state among distinct m r.sessions r.core s.core at 0 first_below (asked.Delete name) [] buf refusal made row.made.row.1 stop stopped refl (without_stored m.stored name) refl refl in
+          name_broken C state among distinct m r.sessions r.core s.core at 0 first_below (asked.Delete name) [] buf refusal made row.made.row.1 tt stop stopped refl (without_stored m.stored name) refl refl in
           let next : Machine = record m { state = Stopped (Some (without_stored m.stored name)); content = broke.image; faults = new.disk.faults } in
           let cause = subst (λ (e : Refusal). IsDeleteRefusal old.tables name e) broke.is_write row.made.row.0 in
           let refuses : RefusesDelete name refusals.DiskWrite m next = (

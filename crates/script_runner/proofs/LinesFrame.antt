@@ -1,4 +1,5 @@
 -- Lines one after the other keep what was written before them.
+use Rattle.store_core.proofs.KeepingSegments.{all_on}
 use Rattle.std.proofs.Common.{◌≡◌, ◌≢◌, inl, inr, ℕ, ◌+◌, ◌≤◌, true, List, [], ◌∷◌, ◌++◌, Some, refl, sym, ◌∙◌, subst, arith}
 use Rattle.disk_format.specs.Layout.{half_cells}
 use Rattle.base_model.specs.Known.{KnownWith}
@@ -17,7 +18,7 @@ use Rattle.store_model.specs.Image.{Store, Encodes, IsValidFor}
 use Rattle.store_model.specs.Steps.{HasCellsFor}
 use Rattle.store_core.specs.Frame.{HadContainer, IsOn, KeepsBytes, KeepsContainers, commands_in}
 use Rattle.store_core.specs.Opening.{IsNew}
-use Rattle.store_core.specs.Runs.{CoreRun}
+use Rattle.store_core.specs.Runs.{CoreRun, AreNoGcSteps, IsNoGcStep}
 use Rattle.store_core.specs.State.{CoreState, Event}
 use Rattle.store_core.proofs.CoreRuns.{run_later}
 use Rattle.store_core.proofs.Frames.{written_stays}
@@ -74,27 +75,27 @@ module _ (C : Type 0) (state : C → CoreState) where
 
   -- Wherever steps have led to this core from, what was written there stays in that one, to which these lines lead.
   abbrev KeepsFrom : List Replied → C → C → Type 0
-  KeepsFrom rs here new = (events : List Event) (s : Store) (base : List ℕ) (old : C) → IsOn s (state old) → (state old).disk.content ≡ Some base → Encodes base s → CoreRun C state events old here
+  KeepsFrom rs here new = (events : List Event) (s : Store) (base : List ℕ) (old : C) → IsOn s (state old) → (state old).disk.content ≡ Some base → Encodes base s → CoreRun C state events old here → AreNoGcSteps events
       → Keeps s (Needs events rs s) base old new
 
   -- no lines
   steps_keep : (here : C) → KeepsFrom [] here here
-  steps_keep here events s base old on told encodes run =
-      keeps_where s (HasCellsFor s (commands_in events)) (Needs events [] s) base old here (λ needs. omega (arith, needs.1)) (written_stays C state events s base old here on told run)
+  steps_keep here events s base old on told encodes run others =
+      keeps_where s (HasCellsFor s (commands_in events)) (Needs events [] s) base old here (λ needs. omega (arith, needs.1)) (written_stays C state events s base old here on told run others)
 
   -- steps, and what follows
   after_steps : (n : ℕ) (rs more : List Replied) (here next new : C) → n + commands_among more ≤ commands_among rs → (NeverReopens rs → NeverReopens more) → MakesSteps C state n here next → KeepsFrom more next new
       → KeepsFrom rs here new
-  after_steps n rs more here next new few fewer makes rest events s base old on told encodes run =
+  after_steps n rs more here next new few fewer makes rest events s base old on told encodes run others =
       keeps_where s (Needs (events ++ makes.0) more s) (Needs events rs s) base old new
       (λ needs. (fewer needs.0, omega (arith, needs.1, few, makes.1.1, commands-append events makes.0)))
-      (rest (events ++ makes.0) s base old on told encodes (run_on C state events makes.0 old here next run makes.1.0))
+      (rest (events ++ makes.0) s base old on told encodes (run_on C state events makes.0 old here next run makes.1.0) (all_on (λ e. IsNoGcStep e.step) events makes.0 others makes.1.2))
 
   -- where nothing but reads follows
   after_reads : (rs : List Replied) (here new : C) → OnlyReads (state here).disk (state new).disk → KeepsFrom rs here new
-  after_reads rs here new reads events s base old on told encodes run =
+  after_reads rs here new reads events s base old on told encodes run others =
       let Also : Type 0 = HasCellsFor s (commands_in events) in
-      let first = written_stays C state events s base old here on told run in
+      let first = written_stays C state events s base old here on told run others in
       let later = run_later C state events old here run in
       keeps_where s Also (Needs events rs s) base old new (λ needs. omega (arith, needs.1)) (
         (first.0.0, reads.content_is ∙ first.0.1, first.0.2),
@@ -105,12 +106,12 @@ module _ (C : Type 0) (state : C → CoreState) where
   -- an opening, and what follows: of the journal nothing is said
   after_opening : (rs more : List Replied) (here mid new : C) → (NeverReopens rs → ⊥) → IsNew (Shows (state here).disk (state mid).disk) (state here).disk.size (state mid) → IsDurable (state mid).disk
       → Reads Done (state here).disk (state mid).disk → KeepsFrom more mid new → KeepsFrom rs here new
-  after_opening rs more here mid new again opened durable reads rest events s base old on told encodes run =
-      let first = keeps_where s (HasCellsFor s (commands_in events)) ⊥ base old here (λ none. absurd none) (written_stays C state events s base old here on told run) in
+  after_opening rs more here mid new again opened durable reads rest events s base old on told encodes run others =
+      let first = keeps_where s (HasCellsFor s (commands_in events)) ⊥ base old here (λ none. absurd none) (written_stays C state events s base old here on told run others) in
       let later = run_later C state events old here run in
       let image : List ℕ = first.0.0 in
       let there = opened_by image (state here).disk (state mid) opened durable reads first.0.1 in
-      let last = keeps_where there.store (Needs [] more there.store) ⊥ image mid new (λ none. absurd none) (rest [] there.store image mid there.on there.told there.encodes refl) in
+      let last = keeps_where there.store (Needs [] more there.store) ⊥ image mid new (λ none. absurd none) (rest [] there.store image mid there.on there.told there.encodes refl tt) in
       let weaker = keeps_on s there.store base image first.0.2 encodes there.encodes in
       let after = leaves_weaker (KeepsContainers there.store image) (KeepsContainers s base) (state mid).disk (state new).disk weaker last.1 in
       let between = reads_leave (KeepsContainers s base) (state here).disk (state mid).disk first.1.now reads.only in
@@ -136,7 +137,7 @@ module _ (C : Type 0) (state : C → CoreState) where
   after_reopen (replies.Opened files) rs more r mid t again last acts runs rest =
       after_opening rs more r.core acts.mid t.core again acts.opened acts.durable acts.reads
       (after_steps 0 more more acts.mid mid.core t.core (omega arith) (λ never. never)
-      (does C state 0 0 asked.Stat (counted acts.holdings) acts.mid mid.core (omega arith) acts.counts) rest)
+      (does C state 0 0 asked.Stat (counted acts.holdings) acts.mid mid.core tt (omega arith) acts.counts) rest)
   after_reopen (replies.Refused refusal) rs more r mid t again last acts runs rest =
       let none : t ≡ mid = subst (λ (rs : List Replied). RunsLines C state rs mid t) (last refl) runs in
       subst (λ (x : RunnerState C). KeepsFrom rs r.core x.core) (sym none) (after_reads rs r.core mid.core (refused_reads refusal r.core mid.core acts.0))
@@ -157,4 +158,4 @@ module _ (C : Type 0) (state : C → CoreState) where
 
   pub lines_keep : LinesKeepWritten C state
   lines_keep rs s base r t on told encodes runs =
-      keeps_where s (Needs [] rs s) (NeedNoCheckpoint rs s) base r.core t.core (λ needs. (needs.0, omega (arith, needs.1))) (all rs r t runs [] s base r.core on told encodes refl)
+      keeps_where s (Needs [] rs s) (NeedNoCheckpoint rs s) base r.core t.core (λ needs. (needs.0, omega (arith, needs.1))) (all rs r t runs [] s base r.core on told encodes refl tt)

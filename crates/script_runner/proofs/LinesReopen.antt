@@ -1,4 +1,5 @@
 -- `reopen` follows the plain machine, whether the store was opened again or not.
+use Rattle.store_core.proofs.SafeSteps.{alone}
 use Rattle.std.proofs.Common.{◌≡◌, ◌⊎◌, inl, inr, ◌≤◌, ◌<◌, ◌-◌, ℕ, false, true, List, length, replicate, Option, None, Ok, Err, refl, sym, ◌∙◌, ap, subst, arith}
 use Rattle.store_model.specs.Collisions.{IsOf}
 use Rattle.std.proofs.lemmas.List.{get_or-replicate, length-replicate}
@@ -40,8 +41,8 @@ use Rattle.store_core.specs.declared.stop.Stop.{Stop}
 use Rattle.store_core.specs.Core.{IndexesAll, Steps}
 use Rattle.store_core.specs.Keeping.{IsHeldIn}
 use Rattle.store_core.specs.Opening.{BeginsAt, IsGivenUp, IsKept}
-use Rattle.store_core.specs.Runs.{IsAt}
-use Rattle.store_core.specs.State.{CoreState, Event, IsUp, UnlessStopped}
+use Rattle.store_core.specs.Runs.{IsAt, IsSafeIn}
+use Rattle.store_core.specs.State.{CoreState, Event, IsUp, UnlessStopped, IsUnderWayIn}
 use Rattle.store_core.proofs.CoreRuns.{running_step}
 use Rattle.store_core.proofs.Crashes.{last_at}
 use Rattle.store_core.proofs.Making.{up_of}
@@ -60,7 +61,8 @@ use Rattle.script_runner.proofs.SameNames.{same_count}
 
 -- ---- tables and index that stay, over a disk that is only read
 
-module _ (old new : CoreState) (reads : OnlyReads old.disk new.disk) (tables_are : new.tables ≡ old.tables) (index_is : new.known ≡ old.known) where
+module _ (old new : CoreState) (reads : OnlyReads old.disk new.disk) (tables_are : new.tables ≡ old.tables) (index_is : new.known ≡ old.known)
+    (collection_is : new.collection ≡ old.collection) where
   as_now : (store : Store) → Represents store old.known old.tables → Represents store new.known new.tables
   as_now store is = subst (λ (known : Option PlaceMap). Represents store known new.tables) (sym index_is) (subst (λ (tables : Tables). Represents store old.known tables) (sym tables_are) is)
 
@@ -83,6 +85,10 @@ module _ (old new : CoreState) (reads : OnlyReads old.disk new.disk) (tables_are
           pins_are_closed = subst (AllByRecursion (HoldsPart (HasKey at.index) store.held image)) (sym parts_are) was.pins_are_closed;
           reserve_holds = was.reserve_holds;
         };
+    many = ap length parts_are ∙ at.many;
+    under_way = subst (λ (t : Tables). IsUnderWayIn t.held new.collection) (sym tables_are) (subst (IsUnderWayIn old.tables.held) (sym collection_is) at.under_way);
+    safe = λ image told. subst (λ (parts : List core_part.Part). IsSafeIn at.index store parts image new.collection) (sym parts_are)
+        (subst (IsSafeIn at.index store old.parts image) (sym collection_is) (at.safe image (sym reads.content_is ∙ told)));
   }
 
   still_begins : (S : List ℕ → Type 0) (stored : Stored) → new.parts ≡ old.parts → BeginsAt S stored old → BeginsAt S stored new
@@ -90,6 +96,7 @@ module _ (old new : CoreState) (reads : OnlyReads old.disk new.disk) (tables_are
     store = begins.store;
     is_at = still_at S begins.store stored parts_are begins.is_at;
     whole = subst (IndexesAll begins.store) (sym index_is) begins.whole;
+    none_runs = collection_is ∙ begins.none_runs;
     last_id_is = ap (λ (tables : Tables). tables.held.last_id) tables_are ∙ begins.last_id_is;
     settled = subst (λ (tables : Tables). IsSettled tables.slots new.disk) (sym tables_are)
         (λ bytes told image there. begins.settled bytes (sym reads.content_is ∙ told) image (reads.images_are image there));
@@ -182,7 +189,7 @@ module _ (C : Type 0) (state : C → CoreState) (S : List ℕ → Type 0) (m : M
     begun = begins_at S found m.content before.disk mid acts.opened acts.durable acts.reads follows.content_is content_found.1.1
 
     begins : BeginsAt S found after
-    begins = still_begins mid after steps.made.effect.disk.only steps.made.effect.tables.tables_are steps.made.effect.tables.index_is S found steps.made.row.1 begun
+    begins = still_begins mid after steps.made.effect.disk.only steps.made.effect.tables.tables_are steps.made.effect.tables.index_is steps.collects S found steps.made.row.1 begun
 
     up : IsUp after
     up = up_of after steps.stops
@@ -210,7 +217,7 @@ module _ (C : Type 0) (state : C → CoreState) (S : List ℕ → Type 0) (m : M
         let at = begun.is_at in
         let stands = at.stands.each m.content (mid.disk.as_read m.content (acts.reads.only.content_is ∙ follows.content_is)) in
         let answer : counted acts.holdings ≡ answers.Stat (finite.len (names_of store)) (entries_in store.held) (bytes_in_slots store.held) (length store.held - free_slots store.held) (free_slots store.held) =
-        steps.made.row.0.store_has store at.represents at.valid stands.holds.reserve in
+        steps.made.row.0.store_has store (alone store mid.known mid.tables at.represents) at.valid stands.holds.reserve in
         acts.files_are ∙ files_told acts.holdings (finite.len (names_of store)) (entries_in store.held) (bytes_in_slots store.held) (length store.held - free_slots store.held) (free_slots store.held) answer
         ∙ same_count store found.files m.content stands.holds
 
@@ -234,9 +241,9 @@ module _ (C : Type 0) (state : C → CoreState) (S : List ℕ → Type 0) (m : M
       runs = kept.stop_is ∙ stands.runs;
       up = up_of after (kept.stop_is ∙ stands.runs)
           (kept_runs before after reads.later.size_is kept (subst (λ (stop : Option Stop). UnlessStopped stop (IsUp before)) (sym stands.runs) stands.up));
-      begins = still_begins before after reads kept.tables_are kept.index_is S m.stored kept.parts_are stands.begins;
+      begins = still_begins before after reads kept.tables_are kept.index_is kept.collection_is S m.stored kept.parts_are stands.begins;
       parts = λ actor below. subst (λ (parts : List core_part.Part). FollowsPart (part_in m actor) (session_of r.sessions actor) (part_of parts actor) after) (sym kept.parts_are)
-          (part_on before after (still_held before after reads kept.tables_are kept.index_is) (still_takes before after reads kept.tables_are kept.index_is) (part_in m actor) (session_of r.sessions actor) (part_of before.parts actor) (stands.parts actor below));
+          (part_on before after (still_held before after reads kept.tables_are kept.index_is kept.collection_is) (still_takes before after reads kept.tables_are kept.index_is kept.collection_is) (part_in m actor) (session_of r.sessions actor) (part_of before.parts actor) (stands.parts actor below));
     }
     kept_by (Stopped other) stands = record {
       stop = stands.stop;
@@ -283,7 +290,7 @@ module _ (C : Type 0) (state : C → CoreState) (S : List ℕ → Type 0) (m : M
   refused_line refusal acts same = elim acts.why [
     | inl memory ↦
         let reads : OnlyReads before.disk after.disk = subst (λ (c : C). OnlyReads before.disk (state c).disk) (sym memory.1) (reads_here before.disk) in
-        let kept : IsKept before after = subst (λ (c : C). IsKept before (state c)) (sym memory.1) (record { tables_are = refl; index_is = refl; parts_are = refl; stop_is = refl; counted = refl; served = λ served. served }) in
+        let kept : IsKept before after = subst (λ (c : C). IsKept before (state c)) (sym memory.1) (record { tables_are = refl; index_is = refl; parts_are = refl; collection_is = refl; stop_is = refl; counted = refl; served = λ served. served }) in
         kept_line reads kept same refusal
         (subst (λ (x : Refusal). plain_refused.RefusesReopen x m (record m { faults = after.disk.faults })) (sym memory.0) (same_machine (ap (λ (c : C). (state c).disk.faults) memory.1)))
     | inr given_up ↦

@@ -27,7 +27,7 @@ use Rattle.plain_machine.specs.Machine.{Machine, Stopped, part_in}
 use Rattle.script_runner.specs.Follows.{Follows, FollowsPart, IsOfFound}
 use Rattle.script_runner.specs.Sessions.{Sessions, session_of}
 use Rattle.script_runner.proofs.BrokenStep.{Broken, IsTried, broken}
-use Rattle.script_runner.proofs.OneStep.{Stepped, stepped}
+use Rattle.script_runner.proofs.OneStep.{Stepped, stepped, IsPlainStep, plain_no_gc}
 use Rattle.script_runner.proofs.PartsOn.{part_on}
 use Rattle.script_runner.proofs.Resting.{counts_none, refused_faults, refused_stored}
 use Rattle.script_runner.proofs.TurnHolds.{right_here}
@@ -52,7 +52,7 @@ pub record NameBroken (S : List ℕ → Type 0) (m : Machine) (sessions : Sessio
 
 module _ (C : Type 0) (state : C → CoreState) (among : ByteSet) (distinct : HasNoCollisions (IsIn among)) (m : Machine) (sessions : Sessions) (old new : C) (at : RunsAt (IsIn among) m sessions (state old))
     (actor : ℕ) (below : actor < ACTORS) (step : StepValue) (bytes buf : List ℕ) (refusal : Refusal) (made : FileStep (IsIn among) (refused_event actor step bytes buf refusal) (state old) (state new))
-    (parts_are : (state new).parts ≡ (state old).parts) where
+    (parts_are : (state new).parts ≡ (state old).parts) (plain : IsPlainStep step) where
   abbrev S : List ℕ → Type 0
   S = IsIn among
 
@@ -67,7 +67,7 @@ module _ (C : Type 0) (state : C → CoreState) (among : ByteSet) (distinct : Ha
 
   module _ (stays : (state new).stop ≡ None) where
     leads : Stepped S m sessions f store (state old) (state new)
-    leads = stepped C state among distinct m sessions old new at.running at.content_is f made stays
+    leads = stepped C state among distinct m sessions old new at.running at.content_is f made plain stays
 
     own : FollowsPart (part_in m actor) (session_of sessions actor) (part_of (state new).parts actor) (state new)
     own =
@@ -97,7 +97,7 @@ module _ (C : Type 0) (state : C → CoreState) (among : ByteSet) (distinct : Ha
   -- a write failed, and the store is stopped
   module _ (stop : Stop) (stopped : (state new).stop ≡ Some stop) (one : commands_of step ≡ 1) (tried : Stored) (tried_is : stored_tried step (Err refusals.DiskWrite) bytes m.stored ≡ tried) (next_is : tried.last ≡ suc m.stored.last) where
     broke : Broken S m f store stop (state old) (state new)
-    broke = broken C state among distinct m sessions old new at.running at.content_is f made stop stopped
+    broke = broken C state among distinct m sessions old new at.running at.content_is f made (plain_no_gc step plain) stop stopped
 
     is_write : refusal ≡ refusals.DiskWrite
     is_write = same_refusal refusal refusals.DiskWrite broke.refusal_is

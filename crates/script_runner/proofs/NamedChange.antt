@@ -1,5 +1,5 @@
 -- What the change of a name makes of the tables, as the account has it.
-use Rattle.std.proofs.Common.{◌≡◌, inl, inr, ◌∙◌, ◌<◌, ◌≤◌, ◌+◌, ◌-◌, ◌^◌, min, Bool, true, false, ℕ, suc, List, [], ◌∷◌, ◌++◌, length, if◌then◌else◌, Ok, sym, ap, subst, arith, length-append}
+use Rattle.std.proofs.Common.{◌≡◌, inl, inr, ◌∙◌, ◌<◌, ◌≤◌, ◌+◌, ◌-◌, ◌^◌, min, Bool, true, false, ℕ, suc, List, [], ◌∷◌, ◌++◌, length, if◌then◌else◌, Ok, sym, ap, subst, arith, length-append, None}
 use Rattle.std.specs.Prelude.{nat_lt}
 use Rattle.std.proofs.lemmas.Bool.{le-ltb, lt-ltb}
 use Rattle.std.specs.FinMap as finite
@@ -37,17 +37,17 @@ module _ (tables : Tables) (t : Account) (records : tables.journal.count ≡ t.r
 module _ (name : List ℕ) (change : Change) (answer : Answer) (between new : CoreState) (effect : NamesOne name change (Ok answer) between new) (up : IsUp between) (t : Account)
     (names : between.tables.names ≡ t.names) (records : between.tables.journal.count ≡ t.records) (generation : between.tables.journal.generation ≡ t.generation) (last : between.tables.journal.last ≡ t.last) where
   -- the store that the tables are of
-  abbrev was : Runs between.disk.size between.known between.tables
+  abbrev was : Runs between.disk.size None between.tables
   was = up.runs
 
   abbrev store : Store
   store = was.store
 
   can : CanChangeName name change store
-  can = (effect.made.can.store_has was.store was.represents was.valid was.reserve_holds).0
+  can = (effect.made.alone.store_has was.store was.represents was.valid was.reserve_holds).can.0
 
   after : RepresentsNames (with_change name change store) new.tables
-  after = (effect.made.represents.store_has was.store was.represents was.valid was.reserve_holds).names_are
+  after = (effect.made.alone.store_has was.store was.represents was.valid was.reserve_holds).represents.names_are
 
   last_is : last_sequence store ≡ t.last
   last_is = sym was.represents.names_are.last_is ∙ last

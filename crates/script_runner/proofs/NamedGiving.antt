@@ -28,6 +28,7 @@ use Rattle.script_lines.specs.ReplyValue as replies
 use Rattle.script_lines.specs.ReplyValue.{ReplyValue}
 use Rattle.store_model.specs.Trees.{root_of}
 use Rattle.store_core.specs.Core.{BeginRow, CommitRow, NamesOne, Steps, StepsOr, counted}
+use Rattle.store_core.specs.Runs.{IsNoGcStep}
 use Rattle.store_core.specs.State.{CoreState, Event, IsRunning, IsUp}
 use Rattle.store_core.proofs.CoreRuns.{running_step}
 use Rattle.store_core.proofs.GivingFiles.{length_on, other_part}
@@ -131,8 +132,8 @@ module _ (C : Type 0) (state : C → CoreState) (t : Account) (r s : RunnerState
         → Steps (record { actor = a; step = step; answer = answer; buf = buf }) old new
     stepped step answer buf made = running_step old new (record { actor = a; step = step; answer = answer; buf = buf }) runs made
 
-    done : (step : StepValue) (answer : Answer) (buf : List ℕ) → StepsOr old.stop (record { actor = a; step = step; answer = Ok answer; buf = buf }) old new → Stands t.stopped new
-    done step answer buf made = runs_on (done_stands old new step a answer buf (stepped step (Ok answer) buf made) here.1)
+    done : (step : StepValue) → IsNoGcStep step → (answer : Answer) (buf : List ℕ) → StepsOr old.stop (record { actor = a; step = step; answer = Ok answer; buf = buf }) old new → Stands t.stopped new
+    done step no_gc answer buf made = runs_on (done_stands old new step no_gc a answer buf (stepped step (Ok answer) buf made) here.1)
 
     -- it gives a file
     gives : (d : Doing) → doing_of t a ≡ d → IsGiving d → Gives a old
@@ -148,7 +149,7 @@ module _ (C : Type 0) (state : C → CoreState) (t : Account) (r s : RunnerState
   begin_told (replies.Begun b) admits acts =
       let begins = acts.1.0 in
       let quiet = quiet_step old new (event asked.Begin (Ok begins.0) begins.2.0) begins.2.1 tt at.running in
-      changes C state (lines.Begin a) (replies.Begun b) t r s at a below quiet (Writing []) (done admits.runs asked.Begin begins.0 begins.2.0 begins.2.1)
+      changes C state (lines.Begin a) (replies.Begun b) t r s at a below quiet (Writing []) (done admits.runs asked.Begin tt begins.0 begins.2.0 begins.2.1)
       (acts.0, idle_taken a (doing_of t a) (taken t r.sessions old at (lines.Begin a) a below refl admits), refl)
       (one_session t r.sessions old at a below s.sessions (Some begins.1) begins.5) (
         begun_part begins.0 (stepped admits.runs asked.Begin (Ok begins.0) begins.2.0 begins.2.1).made.row,
@@ -280,7 +281,7 @@ module _ (C : Type 0) (state : C → CoreState) (t : Account) (r s : RunnerState
       → Told C state (lines.Abort a) (replies.Aborted b) t s
   aborted b answers.Aborted admits same does sessions =
       let row = (stepped admits.runs asked.Abort (Ok answers.Aborted) does.0 does.1).made.row in
-      changes C state (lines.Abort a) (replies.Aborted b) t r s at a below (quiet_step old new (event asked.Abort (Ok answers.Aborted) does.0) does.1 tt at.running) Idle (done admits.runs asked.Abort answers.Aborted does.0 does.1)
+      changes C state (lines.Abort a) (replies.Aborted b) t r s at a below (quiet_step old new (event asked.Abort (Ok answers.Aborted) does.0) does.1 tt at.running) Idle (done admits.runs asked.Abort tt answers.Aborted does.0 does.1)
       (same, abort_taken a (doing_of t a) (taken t r.sessions old at (lines.Abort a) a below refl admits), refl)
       (one_session t r.sessions old at a below s.sessions None sessions) (session_now t r.sessions old at a below s.sessions None sessions, part_now t r.sessions old at a below new core_parts.Idle row.1)
   aborted b answer admits same does sessions = absurd (stepped admits.runs asked.Abort (Ok answer) does.0 does.1).made.row
@@ -416,7 +417,7 @@ module _ (C : Type 0) (state : C → CoreState) (t : Account) (r s : RunnerState
         same_root root (root_of gave.history.given) (sym is_ready.ready ∙ (all_is_kept ready gave.history gave.has is_ready.ended is_ready.done).root) ∙ ap root_of gave.given_is in
         let e : Event = event (asked.Commit name root) (Ok answer) does.0 in
         let steps = running_step (state mid) new e turned.gives.runs does.1 in
-        let stands = runs_on admits.runs (done_stands (state mid) new (asked.Commit name root) a answer does.0 steps turned.gives.told) in
+        let stands = runs_on admits.runs (done_stands (state mid) new (asked.Commit name root) tt a answer does.0 steps turned.gives.told) in
         record {
           next = named mid answer root does.0 turned.quiet turned.gives steps;
           tells = (

@@ -119,7 +119,7 @@ module _ (C : Type 0) (state : C → CoreState) (v : DiskView) (t : Account) (r 
         );
         at = at_opened store s.sessions new quiet.running
             (record {
-              stands = done_stands mid new asked.Stat 0 (counted acts.holdings) acts.counts.0 steps is.told;
+              stands = done_stands mid new asked.Stat tt 0 (counted acts.holdings) acts.counts.0 steps is.told;
               acknowledged = quiet.acknowledged ∙ is.counted;
               names = quiet.tables.names ∙ names;
               records = quiet.tables.records ∙ is.represents.names_are.count;

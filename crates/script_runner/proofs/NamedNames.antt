@@ -91,7 +91,7 @@ module _ (C : Type 0) (state : C → CoreState) (t : Account) (r s : RunnerState
           );
           at = at_still t r.sessions old at (without_name name t) s.sessions new (step_runs old new e made at.running)
               (record {
-                stands = still_runs t r.sessions old at admits.runs new (done_stands old new (asked.Delete name) 0 (answers.Deleted number) buf steps (told t r.sessions old at admits.runs));
+                stands = still_runs t r.sessions old at admits.runs new (done_stands old new (asked.Delete name) tt 0 (answers.Deleted number) buf steps (told t r.sessions old at admits.runs));
                 acknowledged = steps.counted_is ∙ ap one_more at.counts.acknowledged;
                 names = names_now name Delete (answers.Deleted number) old new effect up t at.counts.names at.counts.records at.counts.generation at.counts.last;
                 generation = generation_now name Delete (answers.Deleted number) old new effect up t at.counts.names at.counts.records at.counts.generation at.counts.last;
@@ -120,7 +120,7 @@ module _ (C : Type 0) (state : C → CoreState) (t : Account) (r s : RunnerState
       let e = asks_list (Ok (answers.Listed files)) does.0 in
       let steps = running_step old new e admits.runs does.1 in
       still C state lines.ListNames (replies.Listed files) t r s at 0 first_below (quiet_step old new e does.1 tt at.running) t.stopped
-      (still_runs t r.sessions old at admits.runs new (done_stands old new asked.ListNames 0 (answers.Listed files) does.0 steps (told t r.sessions old at admits.runs)))
+      (still_runs t r.sessions old at admits.runs new (done_stands old new asked.ListNames tt 0 (answers.Listed files) does.0 steps (told t r.sessions old at admits.runs)))
       (steps.made.row.0 ∙ ap (λ (names : NameMap). listing_of names) at.counts.names, refl) sessions (ap (λ (parts : List core_part.Part). part_of parts 0) steps.made.row.1)
 
   not_listed : (refusal : Refusal) → Admits lines.ListNames r.sessions (state r.core) → Lists C state (Err refusal) r.core s.core → s.sessions ≡ r.sessions → Told C state lines.ListNames (replies.Refused refusal) t s

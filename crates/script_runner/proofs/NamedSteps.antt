@@ -23,6 +23,7 @@ use Rattle.ingest_session.specs.History.{History, HasHistory}
 use Rattle.ingest_session.specs.State.{SessionState}
 use Rattle.store_core.specs.declared.stop.Stop.{Stop}
 use Rattle.store_core.specs.Core.{ClaimRow, CoreStep, Effect, IsCount, IsUnclaimed, IsUnsealed, KeepsUnlessBroken, Row, SealRow, Steps, StepsOr, StopsAfter, counted}
+use Rattle.store_core.specs.Runs.{IsNoGcStep}
 use Rattle.store_core.specs.State.{CoreState, Event, IsRunning, IsUp}
 use Rattle.store_core.proofs.CoreRuns.{running_step}
 use Rattle.store_core.proofs.GivingFiles.{length_on, other_part}
@@ -80,15 +81,17 @@ quiet_on actor old mid new first second = record {
   others = λ other differs. second.others other differs ∙ first.others other differs;
 }
 
--- every step but a commit or a delete that is done
+-- every step but a commit or a delete that is done, and those of a collection
 abbrev pub PutsNone : StepValue → Result Answer Refusal → Type 0
 PutsNone (asked.Commit name root) (Ok answer) = ⊥
 PutsNone (asked.Delete name) (Ok answer) = ⊥
+PutsNone asked.GcStep answer = ⊥
 PutsNone step answer = Unit {0}
 
--- no damage is met by a seal: where the map is known none is
+-- no damage is met by a seal, for where the map is known none is; and the step isn't one of a collection
 abbrev pub MeetsNone : StepValue → Refusal → Type 0
 MeetsNone (asked.Seal filled) (refusals.Damaged at_byte why) = ⊥
+MeetsNone asked.GcStep refusal = ⊥
 MeetsNone step refusal = Unit {0}
 
 module _ (old new : CoreState) where
@@ -105,7 +108,7 @@ module _ (old new : CoreState) where
   names_on (asked.Claim seg) answer none effect up = same_names effect.tables.tables_are
   names_on (asked.Seal filled) (Ok answer) none effect up =
       let was = up.runs in
-      let now = (effect.made.represents.store_has was.store was.represents was.valid was.reserve_holds).names_are in
+      let now = (effect.made.alone.store_has was.store was.represents was.valid was.reserve_holds).represents.names_are in
       record {
         names = now.names_are ∙ sym was.represents.names_are.names_are;
         records = now.count ∙ sym was.represents.names_are.count;
@@ -122,6 +125,8 @@ module _ (old new : CoreState) where
   names_on (asked.OpenRead name) answer none effect up = same_names effect.tables.tables_are
   names_on asked.ReadNext answer none effect up = same_names effect.tables.tables_are
   names_on asked.EndRead answer none effect up = same_names effect.tables.tables_are
+  names_on (asked.GcStart percent) answer none effect up = same_names effect.tables.tables_are
+  names_on asked.GcStep answer none effect up = absurd none
   names_on asked.Stat answer none effect up = same_names effect.tables.tables_are
 
   -- a count of files is no commit, and no delete
@@ -165,35 +170,39 @@ module _ (old new : CoreState) where
   same_told : new.known ≡ old.known → IsTold old → IsTold new
   same_told same told = (told.0, same ∙ told.1)
 
-  told_done : (step : StepValue) (answer : Answer) → Effect step (Ok answer) old new → IsTold old → IsTold new
-  told_done asked.Begin answer effect told = same_told effect.tables.index_is told
-  told_done (asked.Claim seg) answer effect told = same_told effect.tables.index_is told
-  told_done (asked.Seal filled) answer effect told = effect.made.tells told.0 told.1
-  told_done (asked.Commit name root) answer effect told = effect.made.tells told.0 told.1
-  told_done (asked.Delete name) answer effect told = effect.made.tells told.0 told.1
-  told_done asked.ListNames answer effect told = same_told effect.tables.index_is told
-  told_done asked.Abort answer effect told = same_told effect.tables.index_is told
-  told_done (asked.OpenRead name) answer effect told = same_told effect.tables.index_is told
-  told_done asked.ReadNext answer effect told = same_told effect.tables.index_is told
-  told_done asked.EndRead answer effect told = same_told effect.tables.index_is told
-  told_done asked.Stat answer effect told = same_told effect.tables.index_is told
+  told_done : (step : StepValue) (answer : Answer) → IsNoGcStep step → Effect step (Ok answer) old new → IsTold old → IsTold new
+  told_done asked.Begin answer no_gc effect told = same_told effect.tables.index_is told
+  told_done (asked.Claim seg) answer no_gc effect told = same_told effect.tables.index_is told
+  told_done (asked.Seal filled) answer no_gc effect told = effect.made.tells told.0 told.1
+  told_done (asked.Commit name root) answer no_gc effect told = effect.made.tells told.0 told.1
+  told_done (asked.Delete name) answer no_gc effect told = effect.made.tells told.0 told.1
+  told_done asked.ListNames answer no_gc effect told = same_told effect.tables.index_is told
+  told_done asked.Abort answer no_gc effect told = same_told effect.tables.index_is told
+  told_done (asked.OpenRead name) answer no_gc effect told = same_told effect.tables.index_is told
+  told_done asked.ReadNext answer no_gc effect told = same_told effect.tables.index_is told
+  told_done asked.EndRead answer no_gc effect told = same_told effect.tables.index_is told
+  told_done (asked.GcStart percent) answer no_gc effect told = same_told effect.tables.index_is told
+  told_done asked.GcStep answer no_gc effect told = absurd no_gc
+  told_done asked.Stat answer no_gc effect told = same_told effect.tables.index_is told
 
   -- a step that is done stops nothing
-  pub done_stands : (step : StepValue) (actor : ℕ) (answer : Answer) (buf : List ℕ) → Steps (record { actor = actor; step = step; answer = Ok answer; buf = buf }) old new → IsTold old → Stands false new
-  done_stands step actor answer buf steps told = (steps.stops, told_done step answer steps.made.effect told)
+  pub done_stands : (step : StepValue) → IsNoGcStep step → (actor : ℕ) (answer : Answer) (buf : List ℕ) → Steps (record { actor = actor; step = step; answer = Ok answer; buf = buf }) old new → IsTold old → Stands false new
+  done_stands step no_gc actor answer buf steps told = (steps.stops, told_done step answer no_gc steps.made.effect told)
 
-  told_refused : (step : StepValue) (refusal : Refusal) → new.stop ≡ None → StopsAfter step (Err refusal) old.acknowledged new.stop → Effect step (Err refusal) old new → IsTold old → IsTold new
-  told_refused asked.Begin refusal stays stops effect told = same_told effect.tables.index_is told
-  told_refused (asked.Claim seg) refusal stays stops effect told = same_told effect.tables.index_is told
-  told_refused (asked.Seal filled) refusal stays stops effect told = same_told (seal_kept old new stays filled refusal old.acknowledged stops effect.kept).index_is told
-  told_refused (asked.Commit name root) refusal stays stops effect told = same_told effect.kept.index_is told
-  told_refused (asked.Delete name) refusal stays stops effect told = same_told effect.kept.index_is told
-  told_refused asked.ListNames refusal stays stops effect told = same_told effect.tables.index_is told
-  told_refused asked.Abort refusal stays stops effect told = same_told effect.tables.index_is told
-  told_refused (asked.OpenRead name) refusal stays stops effect told = same_told effect.tables.index_is told
-  told_refused asked.ReadNext refusal stays stops effect told = same_told effect.tables.index_is told
-  told_refused asked.EndRead refusal stays stops effect told = same_told effect.tables.index_is told
-  told_refused asked.Stat refusal stays stops effect told = same_told effect.tables.index_is told
+  told_refused : (step : StepValue) (refusal : Refusal) → MeetsNone step refusal → new.stop ≡ None → StopsAfter step (Err refusal) old.acknowledged new.stop → Effect step (Err refusal) old new → IsTold old → IsTold new
+  told_refused asked.Begin refusal meets stays stops effect told = same_told effect.tables.index_is told
+  told_refused (asked.Claim seg) refusal meets stays stops effect told = same_told effect.tables.index_is told
+  told_refused (asked.Seal filled) refusal meets stays stops effect told = same_told (seal_kept old new stays filled refusal old.acknowledged stops effect.kept).index_is told
+  told_refused (asked.Commit name root) refusal meets stays stops effect told = same_told effect.kept.index_is told
+  told_refused (asked.Delete name) refusal meets stays stops effect told = same_told effect.kept.index_is told
+  told_refused asked.ListNames refusal meets stays stops effect told = same_told effect.tables.index_is told
+  told_refused asked.Abort refusal meets stays stops effect told = same_told effect.tables.index_is told
+  told_refused (asked.OpenRead name) refusal meets stays stops effect told = same_told effect.tables.index_is told
+  told_refused asked.ReadNext refusal meets stays stops effect told = same_told effect.tables.index_is told
+  told_refused asked.EndRead refusal meets stays stops effect told = same_told effect.tables.index_is told
+  told_refused (asked.GcStart percent) refusal meets stays stops effect told = same_told effect.tables.index_is told
+  told_refused asked.GcStep refusal meets stays stops effect told = absurd meets
+  told_refused asked.Stat refusal meets stays stops effect told = same_told effect.tables.index_is told
 
   -- and one that is refused only where a write or a sync failed
   stands_by : (step : StepValue) (refusal : Refusal) → MeetsNone step refusal → StopsAfter step (Err refusal) old.acknowledged new.stop → new.acknowledged ≡ old.acknowledged → (new.stop ≡ None → IsTold new) → Stands (stops refusal) new
@@ -203,7 +212,7 @@ module _ (old new : CoreState) where
 
   pub refused_stands : (step : StepValue) (actor : ℕ) (refusal : Refusal) (buf : List ℕ) → MeetsNone step refusal → Steps (record { actor = actor; step = step; answer = Err refusal; buf = buf }) old new → IsTold old
       → Stands (stops refusal) new
-  refused_stands step actor refusal buf meets steps told = stands_by step refusal meets steps.stops steps.counted_is (λ stays. told_refused step refusal stays steps.stops steps.made.effect told)
+  refused_stands step actor refusal buf meets steps told = stands_by step refusal meets steps.stops steps.counted_is (λ stays. told_refused step refusal meets stays steps.stops steps.made.effect told)
 
   asks_quiet : (actor : ℕ) (due : Due) (s : SessionState) (answer : Result Answer Refusal) → Asks actor due s answer old new → IsRunning old → Quiet actor old new
   asks_quiet actor Claim s answer asks running = quiet_step (record { actor = actor; step = asked.Claim asks.0; answer = answer; buf = asks.1 }) asks.3 tt running
@@ -302,10 +311,10 @@ module _ (actor : ℕ) (old new : CoreState) (gives : Gives actor old) where
   asks_done : (due : Due) (s : SessionState) (answer : Answer) → Asks actor due s (Ok answer) old new → Quiet actor old new → Gives actor new
   asks_done Claim s answer asks quiet =
       let steps = running_step old new (record { actor = actor; step = asked.Claim asks.0; answer = Ok answer; buf = asks.1 }) gives.runs asks.3 in
-      goes_on quiet (done_stands old new (asked.Claim asks.0) actor answer asks.1 steps gives.told) (claim_writing asks.0 answer steps.made.row)
+      goes_on quiet (done_stands old new (asked.Claim asks.0) tt actor answer asks.1 steps gives.told) (claim_writing asks.0 answer steps.made.row)
   asks_done (Seal kind) s answer asks quiet =
       let steps = running_step old new (record { actor = actor; step = asked.Seal (open_of s kind); answer = Ok answer; buf = asks.0 }) gives.runs asks.3 in
-      goes_on quiet (done_stands old new (asked.Seal (open_of s kind)) actor answer asks.0 steps gives.told) (seal_writing (open_of s kind) answer steps.made.row)
+      goes_on quiet (done_stands old new (asked.Seal (open_of s kind)) tt actor answer asks.0 steps gives.told) (seal_writing (open_of s kind) answer steps.made.row)
   asks_done Nothing s answer asks quiet = absurd asks
 
   asks_refused : (due : Due) (s : SessionState) (refusal : Refusal) → Asks actor due s (Err refusal) old new → IsOfTurn refusal × (Stands (stops refusal) new × IsWriting actor new)

@@ -24,6 +24,7 @@ use Rattle.script_lines.specs.Grammar as lines
 use Rattle.script_lines.specs.ReplyValue as replies
 use Rattle.script_lines.specs.ReplyValue.{ReplyValue}
 use Rattle.store_core.specs.Core.{CoreStep, EndRow, IsCount, ReadRow}
+use Rattle.store_core.specs.Runs.{IsNoGcStep}
 use Rattle.store_core.specs.State.{CoreState, Event, IsUp}
 use Rattle.store_core.proofs.CoreRuns.{running_step}
 use Rattle.store_core.proofs.OwnParts.{same_reader}
@@ -82,10 +83,10 @@ module _ (C : Type 0) (state : C → CoreState) (t : Account) (r s : RunnerState
   event step answer buf = record { actor = a; step = step; answer = answer; buf = buf }
 
   -- a step that is done stops nothing
-  done : (step : StepValue) (answer : Answer) (buf : List ℕ) → (state r.core).stop ≡ None → CoreStep (state r.core) (event step (Ok answer) buf) (state s.core) → Stands t.stopped new
-  done step answer buf runs made =
+  done : (step : StepValue) → IsNoGcStep step → (answer : Answer) (buf : List ℕ) → (state r.core).stop ≡ None → CoreStep (state r.core) (event step (Ok answer) buf) (state s.core) → Stands t.stopped new
+  done step no_gc answer buf runs made =
       still_runs t r.sessions old at runs new
-      (done_stands old new step a answer buf (running_step old new (event step (Ok answer) buf) runs made) (told t r.sessions old at runs))
+      (done_stands old new step no_gc a answer buf (running_step old new (event step (Ok answer) buf) runs made) (told t r.sessions old at runs))
 
   -- and one that is refused only where a write failed
   not_done : (step : StepValue) (refusal : Refusal) (buf : List ℕ) → MeetsNone step refusal → (state r.core).stop ≡ None → CoreStep (state r.core) (event step (Err refusal) buf) (state s.core) → Stands (stops refusal) new
@@ -106,7 +107,7 @@ module _ (C : Type 0) (state : C → CoreState) (t : Account) (r s : RunnerState
         let idle = idle_taken a name (doing_of t a) (taken t r.sessions old at (lines.Read a name) a below refl admits) in
         let all : AreNamed is.root [] is.ahead = subst (λ (tops : List Top). Walked AnyBytes (start_of (top_of is.root)) tops) (sym is.begins.all) (walked_none AnyBytes (start_of (top_of is.root))) in
         changes C state (lines.Read a name) (replies.Reading b count) t r s at a below (quiet_step old new e does.1 tt at.running) (Reading is.root [])
-        (done (asked.OpenRead name) (answers.Opened count) does.0 admits.runs does.1)
+        (done (asked.OpenRead name) tt (answers.Opened count) does.0 admits.runs does.1)
         (same, (idle, (is.root, (subst (λ (names : NameMap). HasRoot names name is.root) at.counts.names is.begins.has_root, is.count_is, refl))))
         (same_sessions t r.sessions old at a below s.sessions sessions)
         (no_session Idle idle sessions (own Idle idle).0, (is.ahead, (part_now t r.sessions old at a below new (reading is.root is.ahead) is.parts_are, all)))
@@ -175,7 +176,7 @@ module _ (C : Type 0) (state : C → CoreState) (t : Account) (r s : RunnerState
         let gives : GivesAll start (segments ++ bytes ∷ []) row.rest = subst (λ (x : List ℕ). GivesAll start (segments ++ x ∷ []) row.rest) (sym bytes_are)
         (all_given (WasRead old.known old.disk new.disk) start row.was row.rest segments count (take count buf) (named on.root row.was row.rest on.part_is on.parts_are) row.given) in
         changes C state (lines.Next a) (replies.Bytes b bytes) t r s at a below (quiet_step old new e made tt at.running) (Reading root (segments ++ bytes ∷ []))
-        (done asked.ReadNext (answers.Bytes count) buf admits.runs made)
+        (done asked.ReadNext tt (answers.Bytes count) buf admits.runs made)
         (same, (root, (segments, (reads.is, (row.rest, gives), refl)))) (same_sessions t r.sessions old at a below s.sessions sessions)
         (goes_on on.root row.was row.rest on.part_is on.parts_are (segments ++ bytes ∷ []) gives)
 
@@ -186,7 +187,7 @@ module _ (C : Type 0) (state : C → CoreState) (t : Account) (r s : RunnerState
         let row = (running_step old new e admits.runs made).made.row.next in
         let on = row.goes_on in
         let all : GivesAll start segments [] = subst (λ (tops : List Top). GivesAll start segments tops) row.given.0 (named on.root row.was row.rest on.part_is on.parts_are) in
-        stays C state (lines.Next a) (replies.End b) t r s at a below (quiet_step old new e made tt at.running) t.stopped (done asked.ReadNext answers.End buf admits.runs made)
+        stays C state (lines.Next a) (replies.End b) t r s at a below (quiet_step old new e made tt at.running) t.stopped (done asked.ReadNext tt answers.End buf admits.runs made)
         (same, (root, (segments, (reads.is, all, reads_are_whole (top_of root) segments all))), refl) (same_sessions t r.sessions old at a below s.sessions sessions)
         (subst (λ (d : Doing). AtPart d (session_of s.sessions a) (part_of new.parts a)) (sym reads.is)
         (goes_on on.root row.was row.rest on.part_is on.parts_are segments (subst (λ (tops : List Top). GivesAll start segments tops) (sym row.given.1) all)))
@@ -250,7 +251,7 @@ module _ (C : Type 0) (state : C → CoreState) (t : Account) (r s : RunnerState
       let e = event asked.EndRead (Ok answers.Dropped) does.0 in
       let reads = drop_taken a (doing_of t a) (taken t r.sessions old at (lines.Drop a) a below refl admits) in
       let row = (running_step old new e admits.runs does.1).made.row in
-      changes C state (lines.Drop a) (replies.Dropped b) t r s at a below (quiet_step old new e does.1 tt at.running) Idle (done asked.EndRead answers.Dropped does.0 admits.runs does.1)
+      changes C state (lines.Drop a) (replies.Dropped b) t r s at a below (quiet_step old new e does.1 tt at.running) Idle (done asked.EndRead tt answers.Dropped does.0 admits.runs does.1)
       (same, (reads.root, (reads.segments, reads.is)), refl) (same_sessions t r.sessions old at a below s.sessions sessions)
       (none_now reads sessions, part_now t r.sessions old at a below new core_parts.Idle row.parts_are)
   dropped b answer admits same does sessions = absurd (running_step old new (event asked.EndRead (Ok answer) does.0) admits.runs does.1).made.row
@@ -277,7 +278,7 @@ module _ (C : Type 0) (state : C → CoreState) (t : Account) (r s : RunnerState
       let steps = running_step old new e admits.runs does.1 in
       let row = steps.made.row in
       still C state lines.Stat (replies.Stat h) t r s at a below (subst (λ (n : ℕ). Quiet n old new) (sym first) (quiet_step old new e does.1 tt at.running)) t.stopped
-      (still_runs t r.sessions old at admits.runs new (done_stands old new asked.Stat 0 (counted h) does.0 steps (told t r.sessions old at admits.runs)))
+      (still_runs t r.sessions old at admits.runs new (done_stands old new asked.Stat tt 0 (counted h) does.0 steps (told t r.sessions old at admits.runs)))
       (count_names h old (up_of old admits.runs at.running) row.0 ∙ ap (λ (names : NameMap). finite.len names) at.counts.names, refl) sessions (ap (λ (parts : List core_part.Part). part_of parts a) row.1)
 
 module _ (C : Type 0) (state : C → CoreState) (t : Account) (r s : RunnerState C) (at : At t r.sessions (state r.core)) where

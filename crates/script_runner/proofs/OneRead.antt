@@ -11,17 +11,17 @@ use Rattle.store_core.specs.State.{CoreState, Event}
 use Rattle.plain_machine.specs.Machine.{Machine}
 use Rattle.script_runner.specs.Follows.{FollowsRunning}
 use Rattle.script_runner.specs.Sessions.{Sessions}
-use Rattle.script_runner.proofs.OneStep.{stepped}
+use Rattle.script_runner.proofs.OneStep.{stepped, IsPlainStep}
 use Rattle.script_runner.proofs.Onward.{Onward}
 
 module _ (C : Type 0) (state : C → CoreState) (among : ByteSet) (distinct : HasNoCollisions (IsIn among)) (m : Machine) (sessions : Sessions) (old new : C) (running : FollowsRunning (IsIn among) m sessions (state old))
     (content_is : (state old).disk.content ≡ Some m.content) (e : Event) (made : CoreStep (state old) e (state new)) where
   -- it changes no files, and the core runs on
-  pub read_on : IsStep e.step → IsGivenRight (IsIn among) e.step e.answer [] (state old) → stored_with e.step e.answer [] m.stored ≡ m.stored
+  pub read_on : IsPlainStep e.step → IsStep e.step → IsGivenRight (IsIn among) e.step e.answer [] (state old) → stored_with e.step e.answer [] m.stored ≡ m.stored
       → Rests e.answer (state old) (state new) → (state new).stop ≡ None → (state new).acknowledged ≡ (state old).acknowledged → Onward (IsIn among) m.stored e.actor (state old) (state new)
-  read_on asked given files rests runs counted =
+  read_on plain asked given files rests runs counted =
       let f : FileEvent = record { event = e; bytes = [] } in
-      let then = stepped C state among distinct m sessions old new running content_is f (record { asked = asked; given = given; made = made }) runs in
+      let then = stepped C state among distinct m sessions old new running content_is f (record { asked = asked; given = given; made = made }) plain runs in
       record {
         runs = runs;
         up = then.up;

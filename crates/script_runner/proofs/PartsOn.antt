@@ -16,23 +16,23 @@ use Rattle.store_model.proofs.SameIndex.{same_copies}
 use Rattle.store_core.specs.Keeping.{IsHeldIn}
 use Rattle.store_core.specs.Runs.{IsAt}
 use Rattle.store_core.specs.State.{CoreState}
-use Rattle.store_core.proofs.KeepingFiles.{Next}
+use Rattle.store_core.proofs.KeepingFiles.{NextOn}
 use Rattle.plain_machine.specs.Machine.{Part, Idle, Writing, Finished, Reading}
 use Rattle.script_runner.specs.Follows.{FollowsPart, Gives, Takes}
 
 -- a file that is taken, where the newest copies stay
-pub takes_on : (S : List ℕ → Type 0) (s : Store) (changes : List StoreChange) (stored later : Stored) (old new : CoreState) → IsAt S s stored old → Next S s changes later old new
+pub takes_on : (S : List ℕ → Type 0) (s : Store) (changes : List StoreChange) (stored later : Stored) (old new : CoreState) → IsAt S s stored old → NextOn S s changes later old new
     → (rest : List (List ℕ)) (ahead : List Top) → Takes rest ahead old → Takes rest ahead new
 takes_on S s changes stored later old new at next rest ahead takes = record {
   counts = takes.counts;
   indexed = λ index is key there. next.keys at.index index at.index_known is key (takes.indexed at.index at.index_known key there);
   segments = λ store image represents told.
       let before = at.stands.known in
-      let then = next.is_at in
+      let then = next.next.is_at in
       segments_on takes.counts s store before.0 image
       (λ key level bytes there has.
       let has_key : HasKey at.index key = takes.indexed at.index at.index_known key there in
-      same_copies next.store store then.index image (then.represents.index_is_newest then.index then.index_known) (represents.index_is_newest then.index then.index_known) key level bytes
+      same_copies next.next.store store then.index image (then.represents.index_is_newest then.index then.index_known) (represents.index_is_newest then.index then.index_known) key level bytes
       (next.keys at.index then.index at.index_known then.index_known key has_key) (next.copies at.index before.0 image at.index_known before.1 told key level bytes has_key has))
       ahead rest (takes.segments s before.0 at.represents before.1);
 }

@@ -31,18 +31,21 @@ abbrev pub IsResting : StepValue → Type 0
 IsResting (asked.Seal filled) = ⊥
 IsResting (asked.Commit name root) = ⊥
 IsResting (asked.Delete name) = ⊥
+IsResting asked.GcStep = ⊥
 IsResting step = Unit {0}
 
 pub resting_changes : (step : StepValue) (answer : Result Answer Refusal) → IsResting step → changes_by step answer ≡ []
 resting_changes (asked.Seal filled) answer rests = absurd rests
 resting_changes (asked.Commit name root) answer rests = absurd rests
 resting_changes (asked.Delete name) answer rests = absurd rests
+resting_changes asked.GcStep answer rests = absurd rests
 resting_changes step answer rests = refl
 
 pub resting_stored : (step : StepValue) (answer : Result Answer Refusal) (bytes : List ℕ) (stored : Stored) → IsResting step → stored_with step answer bytes stored ≡ stored
 resting_stored (asked.Seal filled) answer bytes stored rests = absurd rests
 resting_stored (asked.Commit name root) answer bytes stored rests = absurd rests
 resting_stored (asked.Delete name) answer bytes stored rests = absurd rests
+resting_stored asked.GcStep answer bytes stored rests = absurd rests
 resting_stored step answer bytes stored rests = refl
 
 pub refused_changes : (step : StepValue) (refusal : Refusal) → changes_by step (Err refusal) ≡ []
@@ -71,6 +74,7 @@ module _ (old new : CoreState) where
   rests_of (asked.Seal filled) answer rests effect = absurd rests
   rests_of (asked.Commit name root) answer rests effect = absurd rests
   rests_of (asked.Delete name) answer rests effect = absurd rests
+  rests_of asked.GcStep answer rests effect = absurd rests
   rests_of step answer rests effect = effect
 
   pub rested : (answer : Result Answer Refusal) → Rests answer old new → new.disk.content ≡ old.disk.content
@@ -101,6 +105,8 @@ module _ (old new : CoreState) where
   refused_faults asked.EndRead refusal effect = effect.disk.faults_are
   refused_faults (asked.Delete name) refusal effect = effect.disk.faults_are
   refused_faults asked.ListNames refusal effect = effect.disk.faults_are
+  refused_faults (asked.GcStart percent) refusal effect = effect.disk.faults_are
+  refused_faults asked.GcStep refusal effect = effect.faults_are
   refused_faults asked.Stat refusal effect = effect.disk.faults_are
 
   -- and of any that was done
@@ -115,6 +121,8 @@ module _ (old new : CoreState) where
   done_faults asked.EndRead answer effect = effect.disk.faults_are
   done_faults (asked.Delete name) answer effect = effect.disk.faults_are
   done_faults asked.ListNames answer effect = effect.disk.faults_are
+  done_faults (asked.GcStart percent) answer effect = effect.disk.faults_are
+  done_faults asked.GcStep answer effect = effect.faults_are
   done_faults asked.Stat answer effect = effect.disk.faults_are
 
   -- ---- refused, and not stopped

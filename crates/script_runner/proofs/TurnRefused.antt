@@ -196,7 +196,7 @@ module _ (C : Type 0) (state : C → CoreState) (among : ByteSet) (distinct : Ha
       let row = steps.made.row in
       let effect = steps.made.effect in
       let stays : (state new).stop ≡ None = claim_stays (IsDamage (state old) (state new)) (part_of (state old).parts actor) seg (state old).disk.size (state old).known (Shows (state old).disk (state new).disk) refusal (state old).acknowledged (state new).stop row.0 steps.stops in
-      let leads = stepped C state among distinct m sessions old new at.running at.content_is (f Claim asks) (file_step Claim asks) stays in
+      let leads = stepped C state among distinct m sessions old new at.running at.content_is (f Claim asks) (file_step Claim asks) tt stays in
       let image : List ℕ = leads.content.0 in
       let same : image ≡ m.content = same_some image m.content (sym leads.content.1 ∙ effect.disk.only.content_is ∙ at.content_is) in
       let n : Machine = record m { content = image; faults = (state new).disk.faults } in
@@ -214,7 +214,7 @@ module _ (C : Type 0) (state : C → CoreState) (among : ByteSet) (distinct : Ha
     seal_on stays =
         let steps = seal_steps in
         let row = steps.made.row in
-        let leads = stepped C state among distinct m sessions old new at.running at.content_is (f (Seal kind) asks) (file_step (Seal kind) asks) stays in
+        let leads = stepped C state among distinct m sessions old new at.running at.content_is (f (Seal kind) asks) (file_step (Seal kind) asks) tt stays in
         let image : List ℕ = leads.content.0 in
         let n : Machine = record m { content = image; faults = (state new).disk.faults } in
         let slots = slots_stay S m sessions actor below (state old) (state new) at gives.w t gives.h gives.pins gives.at settled refusal (asked.Seal (open_of t kind)) asks.0 leads stays row.1 in
@@ -227,7 +227,7 @@ module _ (C : Type 0) (state : C → CoreState) (among : ByteSet) (distinct : Ha
     -- a write failed, and the store is stopped
     module _ (stop : Stop) (stopped : (state new).stop ≡ Some stop) where
       broke : Broken S m (f (Seal kind) asks) at.running.begins.store stop (state old) (state new)
-      broke = broken C state among distinct m sessions old new at.running at.content_is (f (Seal kind) asks) (file_step (Seal kind) asks) stop stopped
+      broke = broken C state among distinct m sessions old new at.running at.content_is (f (Seal kind) asks) (file_step (Seal kind) asks) tt stop stopped
 
       abbrev broken_now : Machine
       broken_now = record m { state = Stopped None; content = broke.image; faults = (state new).disk.faults }

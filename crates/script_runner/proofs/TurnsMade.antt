@@ -21,7 +21,7 @@ use Rattle.plain_machine.specs.Turns.{Writer, IsWriter, MachineTurns, MayBe, tol
 use Rattle.script_runner.specs.Follows.{FollowsPart, IsCut}
 use Rattle.script_runner.specs.Sessions.{Sessions, session_of, with_session}
 use Rattle.session_turns.specs.Turns.{Asks, IsPaused, IsTurn, TurnRun}
-use Rattle.script_runner.proofs.OneStep.{stepped}
+use Rattle.script_runner.proofs.OneStep.{stepped, IsPlainStep}
 use Rattle.script_runner.proofs.TurnAsks.{asked_event, asks_step}
 use Rattle.script_runner.proofs.TurnLeaves.{KeepsStored, keeps_here, keeps_on}
 use Rattle.script_runner.proofs.TurnMade.{Turned, after, turn_made}
@@ -115,6 +115,12 @@ pub record TurnsMade (S : List ℕ → Type 0) (m : Machine) (sessions : Session
   -- no more is cut then
   pub cut : (bytes : List ℕ) → IsCut next bytes → IsCut m bytes
 
+-- a turn asks for no step of a collection
+asks_plain : (actor : ℕ) (due : Due) (s : SessionState) (answer : Answer) (old new : CoreState) (asks : Asks actor due s (Ok answer) old new) → IsPlainStep (asked_event actor due s (Ok answer) old new asks).event.step
+asks_plain actor Claim s answer old new asks = tt
+asks_plain actor (Seal kind) s answer old new asks = tt
+asks_plain actor Nothing s answer old new asks = absurd asks
+
 module _ (C : Type 0) (state : C → CoreState) (among : ByteSet) (distinct : HasNoCollisions (IsIn among)) (actor : ℕ) (below : actor < ACTORS) where
   pub one_turn : (m : Machine) (sessions : Sessions) (s t : SessionState) (answer : Answer) (old new : C) → ((bytes : List ℕ) → IsCut m bytes → IsIn among bytes) → RunsAt (IsIn among) m sessions (state old)
       → session_of sessions actor ≡ Some s → IsTurn actor answer s t (state old) (state new) → Turned (IsIn among) m sessions actor answer t (state old) (state new)
@@ -124,7 +130,7 @@ module _ (C : Type 0) (state : C → CoreState) (among : ByteSet) (distinct : Ha
       let g = gives.at in
       let step = asks_step m actor gives.w g.is_writer before gives.h g.has g.given_is g.ended_is (IsIn among) cut (due_in before) (Ok answer) (state old) (state new) turn.asks in
       let leads = stepped C state among distinct m sessions old new at.running at.content_is (asked_event actor (due_in before) before (Ok answer) (state old) (state new) turn.asks) step
-      (asks_stays actor (due_in before) before answer (state old) (state new) at.running.runs turn.asks) in
+      (asks_plain actor (due_in before) before answer (state old) (state new) turn.asks) (asks_stays actor (due_in before) before answer (state old) (state new) at.running.runs turn.asks) in
       turn_made (IsIn among) m sessions actor below (state old) (state new) at gives.w before gives.h gives.pins g turn.settled (due_in before) answer t refl turn.asks turn.fits turn.told (turn.history gives.h g.has) leads
 
   pub turns_made : (answers : List Answer) (m : Machine) (sessions : Sessions) (s t : SessionState) (old new : C) → ((bytes : List ℕ) → IsCut m bytes → IsIn among bytes) → RunsAt (IsIn among) m sessions (state old)

@@ -3,8 +3,8 @@ use actor_parts::Answer;
 use container_meta::digest_of;
 use dd_io::MemSink;
 use namespace::Listing;
-use refusals::{PartKind, Refusal};
-use reply_text::{Ending, listing_text, write_fault};
+use refusals::{PartKind, Phase, Refusal};
+use reply_text::{Ending, listing_text, phase_word, write_fault};
 use std::alloc::{AllocError, Global};
 
 /// What a step answered, with what the buffer then holds.
@@ -42,7 +42,17 @@ fn done_text(alloc: Global, answer: &Answer, buf: &[u8]) -> Result<String, Alloc
         } => format!(in alloc;
             "stat files {files} segments {segments} bytes {bytes} used {used} free {free}"
         ),
+        Answer::Started { snapshot } => format!(in alloc; "collecting {snapshot}"),
+        Answer::Did { phase } => did_text(alloc, phase),
+        Answer::Done { freed, copied } => {
+            format!(in alloc; "collected freed {freed} copied {copied}")
+        }
     }
+}
+
+fn did_text(alloc: Global, phase: &Phase) -> Result<String, AllocError> {
+    let word = std::str::from_utf8(phase_word(phase)).unwrap_or("?");
+    format!(in alloc; "step {word}")
 }
 
 // The lines of a listing, parted by commas.

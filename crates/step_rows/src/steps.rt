@@ -4,7 +4,7 @@ use crate::named::{Named, find, segment};
 use crate::pieces::piece_of;
 use crate::running::Running;
 use crate::words::{Fault, actor_of, words_of};
-use actor_parts::{Actor, Step};
+use actor_parts::{Actor, Percent, Step};
 use dd_disk::Disk;
 use std::alloc::Global;
 use store_core::Core;
@@ -20,6 +20,7 @@ pub(crate) fn answer<D: Disk>(
     let words = words_of(alloc, text)?;
     match words.as_slice() {
         [word] => plain(alloc, core, word, actor_of("0")?),
+        ["gc", percent] => collect(alloc, core, percent),
         ["delete", file] => delete(alloc, core, names, file),
         [word, actor] => plain(alloc, core, word, actor_of(actor)?),
         [word, actor, rest @ ..] => with_words(alloc, core, names, word, actor_of(actor)?, rest),
@@ -41,10 +42,25 @@ fn plain<D: Disk>(
         "drop" => Step::EndRead,
         "stat" => Step::Stat,
         "list" => Step::List,
+        "step" => Step::GcStep,
         "kind" => return Ok(core.kind(alloc, actor)?),
         _ => return Err(Fault::Line),
     };
     Ok(core.make(alloc, actor, step)?)
+}
+
+// Which actor begins a collection, or makes its steps, doesn't matter, and the row names none.
+fn collect<D: Disk>(
+    alloc: Global,
+    core: &mut Running<Core<D, NoSummary>>,
+    percent: &str,
+) -> Result<String, Fault> {
+    let percent = percent
+        .parse::<u64>()
+        .ok()
+        .and_then(Percent::new)
+        .ok_or(Fault::Line)?;
+    Ok(core.make(alloc, actor_of("0")?, Step::GcStart { percent: &percent })?)
 }
 
 // Which actor deletes doesn't matter, and the row names none.

@@ -25,6 +25,8 @@ use Rattle.plain_machine.specs.Refused.{RefusesBytes, RefusesCommit, RefusesDele
 use Rattle.plain_machine.specs.Runs.{MachineRun, Replied, StepBy, StepReopen, StepRunning}
 use Rattle.plain_machine.specs.Turns.{Writer, IsWriter, IsDue, MayBe, MachineTurns, RefusesStep, RefusesTurn}
 use Rattle.plain_machine.proofs.Nodes.{IsNodeIn, no_clash, no_twins, offered_node, sealed_node}
+use Rattle.plain_machine.specs.Collections.{CollectionSteps, RefusesCollectionStep}
+use Rattle.refusals.specs.declared.refusal.Phase.{Phase}
 
 -- ---- what a step leaves
 
@@ -82,7 +84,7 @@ module _ (actor : ℕ) (m : Machine) (w : Writer) (is_writer : IsWriter (part_in
   step_ends (Seal kind) (refusals.Unpinned key) n is =
       inr ((ap (λ (x : Machine). x.faults) is.1.1, ap (λ (x : Machine). x.state) is.1.1), λ distinct. absurd (unpinned_not key is.0 distinct))
   step_ends (Seal kind) (refusals.Full free) n is = inr ((ap (λ (x : Machine). x.faults) is.1.1, ap (λ (x : Machine). x.state) is.1.1), λ distinct. is.0.1.1.1)
-  step_ends (Seal kind) refusals.Numbers n is = inr ((ap (λ (x : Machine). x.faults) is.1.1, ap (λ (x : Machine). x.state) is.1.1), λ distinct. tt)
+  step_ends (Seal kind) refusals.Numbers n is = inr ((ap (λ (x : Machine). x.faults) is.2.1, ap (λ (x : Machine). x.state) is.2.1), λ distinct. tt)
   step_ends (Seal kind) refusals.DiskRead n is = inl is.1
   step_ends (Seal kind) (refusals.Clash key at) n is =
       let x = is.2.1.0 in
@@ -142,6 +144,28 @@ delete_ends name refusals.Numbers m n is = inr (same m n is.3, λ distinct. tt)
 delete_ends name refusals.DiskWrite m n is = inl is.3
 delete_ends name refusal m n is = absurd is
 
+-- ---- a collection
+
+collection_keeps : (phases : List Phase) (m n : Machine) → CollectionSteps phases m n → Keeps m n
+collection_keeps [] m n steps = same m n steps
+collection_keeps (phase ∷ phases) m n steps =
+    then m steps.0 n (ap (λ (x : Machine). x.faults) steps.1.0.others, ap (λ (x : Machine). x.state) steps.1.0.others) (collection_keeps phases steps.0 n steps.1.1)
+
+collection_ends : (Q : Type 0) (refusal : Refusal) (m n : Machine) → RefusesCollectionStep refusal m n → Ends Q (IsLeft refusal) m n
+collection_ends Q refusals.NotCollecting m n is = inr (same m n is.1, λ distinct. tt)
+collection_ends Q refusals.Memory m n is = inr ((ap (λ (x : Machine). x.faults) is.1.1, ap (λ (x : Machine). x.state) is.1.1), λ distinct. tt)
+collection_ends Q refusals.DiskRead m n is = inl is.1
+collection_ends Q refusals.DiskWrite m n is = inl is.1
+collection_ends Q refusal m n is = absurd is
+
+sweep_ends : (Q : Type 0) (refusal : Refusal) (phases : List Phase) (m mid n : Machine) → CollectionSteps phases m mid → RefusesCollectionStep refusal mid n → Ends Q (IsLeft refusal) m n
+sweep_ends Q refusal phases m mid n steps is =
+    let keeps = collection_keeps phases m mid steps in
+    elim (collection_ends Q refusal mid n is) [
+      | inl rose ↦ inl (subst (λ (k : ℕ). Rose k n.faults) keeps.0 rose)
+      | inr kept ↦ inr (then m mid n keeps kept.0, kept.1)
+    ]
+
 on_ends : (line : LineValue) (refusal : Refusal) (m n : Machine) → RefusesOn line refusal m n → Ends (DistinctBy m) (IsLeft refusal) m n
 on_ends (lines.Begin a) refusals.Memory m n is = inr (same m n is, λ distinct. tt)
 on_ends (lines.Push a digits) refusals.Memory m n is =
@@ -161,6 +185,11 @@ on_ends (lines.Read a name) refusals.NoFile m n is = inr (same m n is.2, λ dist
 on_ends (lines.Next a) refusals.DiskRead m n is = inl is.1.0
 on_ends (lines.Delete name) refusal m n is = delete_ends name refusal m n is
 on_ends lines.ListNames refusals.Memory m n is = inr (same m n is, λ distinct. tt)
+on_ends (lines.Gc percent) refusals.Memory m n is = inr (same m n is.1, λ distinct. tt)
+on_ends (lines.Gc percent) (refusals.Collecting phase) m n is = inr (same m n is.1, λ distinct. tt)
+on_ends (lines.Gc percent) refusal m n is = absurd is
+on_ends lines.GcStep refusal m n is = collection_ends (DistinctBy m) refusal m n is
+on_ends lines.Sweep refusal m n is = sweep_ends (DistinctBy m) refusal is.0 m is.1.0 n is.1.1.0 is.1.1.1
 on_ends line refusal m n is = absurd is
 
 refuses_ends : (line : LineValue) (refusal : Refusal) (m n : Machine) → Refuses line refusal m n → Ends (DistinctBy m) (IsLeft refusal) m n
@@ -192,6 +221,14 @@ does_keep (lines.Read a name) (replies.Reading b count) m n is = by m n _ is.1.1
 does_keep (lines.Next a) (replies.Bytes b bytes) m n is = by m n _ is.1.1.1 refl refl
 does_keep (lines.Next a) (replies.End b) m n is = same m n is.2
 does_keep (lines.Drop a) (replies.Dropped b) m n is = by m n _ is.1.1 refl refl
+does_keep (lines.Gc percent) (replies.Collecting snapshot) m n is = by m n _ is.others refl refl
+does_keep (lines.Gc percent) reply m n is = absurd is
+does_keep lines.GcStep (replies.Step phase) m n is = by m n _ is.others refl refl
+does_keep lines.GcStep (replies.Collected freed copied) m n is = by m n _ is.others refl refl
+does_keep lines.GcStep reply m n is = absurd is
+does_keep lines.Sweep (replies.Collected freed copied) m n is =
+    then m is.1.0 n (collection_keeps is.0 m is.1.0 is.1.1.0) (by is.1.0 n _ is.1.1.1.others refl refl)
+does_keep lines.Sweep reply m n is = absurd is
 does_keep (lines.Delete name) (replies.Deleted sequence) m n is = by m n _ is.others refl refl
 does_keep lines.ListNames (replies.Listed files) m n is = same m n is.1
 does_keep lines.Stat (replies.Stat counted) m n is = same m n is.1

@@ -1,2 +1,3 @@
-pub mod Nodes
 pub mod Complete
+pub mod GreatestId
+pub mod Nodes

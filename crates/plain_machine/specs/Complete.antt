@@ -7,7 +7,7 @@ use Rattle.base_model.specs.Fault.{Rose}
 use Rattle.disk_format.specs.declared.numbers.TheConstants.{RESERVE}
 use Rattle.merkle_file.specs.Node.{Contents, spelling}
 use Rattle.refusals.specs.declared.refusal.Refusal.{Refusal}
-use Rattle.refusals.specs.declared.refusal.Refusal.TheVariants.{Memory, NoFile, BadName, TooMany, TooLong, Full, WrongPart, Numbers}
+use Rattle.refusals.specs.declared.refusal.Refusal.TheVariants.{Memory, NoFile, BadName, TooMany, TooLong, Full, WrongPart, Collecting, NotCollecting, Numbers}
 use Rattle.script_lines.specs.Grammar.{LineValue}
 use Rattle.script_lines.specs.Grammar as lines
 use Rattle.script_lines.specs.ReplyValue.{ReplyValue}
@@ -54,6 +54,8 @@ IsLeft TooMany = Unit {0}
 IsLeft TooLong = Unit {0}
 IsLeft (Full free) = free ≤ RESERVE
 IsLeft (WrongPart part) = Unit {0}
+IsLeft (Collecting phase) = Unit {0}
+IsLeft NotCollecting = Unit {0}
 IsLeft Numbers = Unit {0}
 IsLeft refusal = ⊥
 

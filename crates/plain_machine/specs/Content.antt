@@ -1,5 +1,7 @@
 -- What lines show of the disk's content, and what they change of it.
-use Rattle.std.specs.Prelude.{◌≡◌, ◌≢◌, ℕ, suc, ◌-◌, ◌<◌, ◌≤◌, List, length, slice_get, Some, None}
+use Rattle.std.specs.Int.{w32, w64}
+use Rattle.base_model.specs.Numbers.{number_at}
+use Rattle.std.specs.Prelude.{◌≡◌, ◌≢◌, ℕ, suc, ◌-◌, ◌<◌, ◌≤◌, List, length, slice_get, Some, None, max, ◌+◌, ◌==◌, if◌then◌else◌, zero}
 use Rattle.std.specs.FinMap as finite
 use Rattle.std.specs.List.{AllByRecursion}
 use Rattle.sha2.specs.Sha256.{sha256}
@@ -8,7 +10,7 @@ use Rattle.container_meta.specs.declared.kind.Kind.TheVariants.{Tree}
 use Rattle.container_meta.specs.Segments.{Contents, KindSegment, segment_key}
 use Rattle.container_meta.specs.Spelling.{HeaderValue}
 use Rattle.disk_format.specs.Cells.{Change}
-use Rattle.disk_format.specs.declared.numbers.TheConstants.{CELL_BYTES, FIRST_HALF, SLOT_BYTES}
+use Rattle.disk_format.specs.declared.numbers.TheConstants.{CELL_BYTES, FIRST_HALF, SLOT_BYTES, CONTAINER_GATE}
 use Rattle.disk_format.specs.Layout.{cell_at, half_cells, slot_at}
 use Rattle.merkle_file.specs.Node as node
 use Rattle.refusals.specs.declared.refusal.Difference.{Difference}
@@ -18,8 +20,9 @@ use Rattle.store_model.specs.Files.{Files}
 use Rattle.store_model.specs.Image.{Store, Encodes}
 use Rattle.store_model.specs.Indexing.{entries_in, bytes_in_slots}
 use Rattle.store_model.specs.Pieces.{Piece, Node, IsPieceOf, piece_segment}
-use Rattle.store_model.specs.Slots.{Copy, newest, first_free, free_slots, last_id}
-use Rattle.store_model.specs.Steps.{CanChangeName, CanSeal, HasCellsFor, with_change, with_sealed}
+use Rattle.store_model.specs.Slots.{Copy, newest, first_free, free_slots}
+use Rattle.store_model.specs.Freeing.{with_freed}
+use Rattle.store_model.specs.Steps.{CanChangeName, CanFree, CanSeal, HasCellsFor, with_change, with_sealed}
 use Rattle.store_model.specs.Trees.{HasNewest, bytes_at, node_key}
 
 -- P is so of the store that the content is: there is one
@@ -65,6 +68,25 @@ HasTwins file key =
     (n : node.Contents) × (m : node.Contents) × IsPieceOf file (Node n) × IsPieceOf file (Node m) × (n ≢ m)
     × (key ≡ node_key n) × (key ≡ node_key m)
 
+-- ---- ids
+
+-- the id of the container in a slot, 0 where its gate is closed
+abbrev pub id_in : List ℕ → ℕ → ℕ
+id_in content slot = if byte_at (slot_at slot) content == CONTAINER_GATE then number_at w64 (slot_at slot + 8) content else 0
+
+-- the greatest of so many slots, from one on
+unfoldable pub greatest_from : List ℕ → ℕ → ℕ → ℕ
+greatest_from content slot zero = 0
+greatest_from content slot (suc count) = max (id_in content slot) (greatest_from content (slot + 1) count)
+
+-- how many slots there are, as the format cell says
+abbrev pub slots_in : List ℕ → ℕ
+slots_in content = number_at w32 12 content
+
+-- the greatest id of all containers, 0 where there is none
+abbrev pub greatest_id : List ℕ → ℕ
+greatest_id content = greatest_from content 0 (slots_in content)
+
 -- ---- what changes
 
 -- but for the record cells of which P holds, the selectors and halves of the journal are as they were
@@ -85,12 +107,13 @@ pub record SameBut (NoCheckpoint : Type 0) (P : ℕ → ℕ → Type 0) (Q : ℕ
 abbrev pub SameStore : List ℕ → List ℕ → Type 0
 SameStore old new = OfStore old (λ store. SameBut (Unit {0}) (λ half cell. ⊥) (λ slot. ⊥) store.slots old new)
 
--- A container stands in the free slot of least number, under the next id, each of its segments is held, and all else is as it was.
-pub record AddsContainer (id : ℕ) (filled : Contents) (old new : List ℕ) : Type 0 where
+-- A container stands in the free slot of least number, under the id after the last one, each of its segments is held, and all else is as
+-- it was.
+pub record AddsContainer (last id : ℕ) (filled : Contents) (old new : List ℕ) : Type 0 where
   pub store : Store
   pub was : Encodes old store
   pub can : CanSeal id filled.kind filled.segments store
-  pub id_is : id ≡ suc (last_id store.held)
+  pub id_is : id ≡ suc last
   pub now : Encodes new (with_sealed id filled.kind filled.segments store)
   pub held : AllByRecursion (λ s. Holds new (record { kind = filled.kind; segment = s })) filled.segments
   pub rest : SameBut (Unit {0}) (λ half cell. ⊥) (λ slot. slot ≡ first_free store.held) store.slots old new
@@ -103,6 +126,24 @@ pub record AddsRecord (name : List ℕ) (change : Change) (old new : List ℕ) :
   pub can : CanChangeName name change store
   pub now : Encodes new (with_change name change store)
   pub rest : SameBut (HasCellsFor store 1) (λ half cell. (half ≡ store.selector.half) × (cell ≡ length store.records)) (λ slot. ⊥) store.slots old new
+
+-- But for one slot all is as it was, and there but for its gate.
+pub record SameButGate (slot slots : ℕ) (old new : List ℕ) : Type 0 where
+  pub rest : SameBut (Unit {0}) (λ half cell. ⊥) (λ other. other ≡ slot) slots old new
+  pub slot_is : range (slot_at slot + 1) (SLOT_BYTES - 1) new ≡ range (slot_at slot + 1) (SLOT_BYTES - 1) old
+
+-- A container is given back: the gate of its slot is closed, and all else is as it was.
+pub record FreesContainer (old new : List ℕ) : Type 0 where
+  pub store : Store
+  pub was : Encodes old store
+  pub slot : ℕ
+  pub can : CanFree slot store
+  pub now : Encodes new (with_freed slot store)
+  pub rest : SameButGate slot store.slots old new
+
+-- A write of a collection broke off: but for one gate all is as it was.
+abbrev pub BreaksGate : List ℕ → List ℕ → Type 0
+BreaksGate old new = OfStore old (λ store. (slot : ℕ) × SameButGate slot store.slots old new)
 
 -- A write broke off: each container that was there is as it was; and so is each record, where the half had cells for so many more.
 pub record BreaksOff (records : ℕ) (old new : List ℕ) : Type 0 where

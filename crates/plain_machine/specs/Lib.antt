@@ -1,3 +1,4 @@
+pub mod Collections
 pub mod Complete
 pub mod Content
 pub mod Lines

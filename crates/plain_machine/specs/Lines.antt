@@ -17,6 +17,7 @@ use Rattle.segmenter.specs.Segments.{segments_of}
 use Rattle.store_model.specs.Files.{with_stored, without_stored}
 use Rattle.store_model.specs.Standing.{file_listing}
 use Rattle.store_model.specs.Trees.{root_of}
+use Rattle.plain_machine.specs.Collections.{BeginsCollection, EndsCollection, StepsCollection, Sweeps}
 use Rattle.plain_machine.specs.Content.{AddsRecord, Counts, HoldsFile}
 use Rattle.plain_machine.specs.Machine.{Machine, Part, Idle, Writing, Finished, Reading, MayBeFound, opened, one_more, part_in, put_at}
 use Rattle.plain_machine.specs.Refused.{HasNumbers, HasRoomForName}
@@ -125,6 +126,10 @@ Does (lines.Next a) (replies.End b) m n = (b ≡ a) × (part_in m a ≡ Reading 
 Does (lines.Drop a) (replies.Dropped b) m n = (b ≡ a) × Drops a m n
 Does (lines.Delete name) (replies.Deleted sequence) m n = Deletes name sequence m n
 Does lines.ListNames (replies.Listed files) m n = (files ≡ file_listing m.stored.files) × (n ≡ m)
+Does (lines.Gc percent) (replies.Collecting snapshot) m n = BeginsCollection snapshot m n
+Does lines.GcStep (replies.Step phase) m n = StepsCollection phase m n
+Does lines.GcStep (replies.Collected freed copied) m n = EndsCollection freed copied m n
+Does lines.Sweep (replies.Collected freed copied) m n = Sweeps freed copied m n
 Does lines.Stat (replies.Stat counted) m n = Counts counted m.stored.files m.content × (n ≡ m)
 Does line reply m n = ⊥
 

@@ -1,11 +1,12 @@
 -- The plain machine (docs/MODEL.md, 'The plain machine'): names with their files, what each actor is at, and the disk's content.
-use Rattle.std.specs.Prelude.{◌≡◌, ℕ, ◌+◌, ◌-◌, ◌^◌, List, min, replicate, slice_index_or, slice_set, Option, Some, None, ◌⊎◌}
+use Rattle.std.specs.Prelude.{Bool, false, ◌≡◌, ℕ, ◌+◌, ◌-◌, ◌^◌, List, min, replicate, slice_index_or, slice_set, Option, Some, None, ◌⊎◌}
 use Rattle.actor_parts.specs.declared.actor.TheConstants.{ACTORS}
 use Rattle.actor_parts.specs.declared.step.Answer.{Answer}
 use Rattle.refusals.specs.declared.refusal.PartKind.{PartKind}
 use Rattle.refusals.specs.declared.refusal.PartKind.TheVariants as kinds
 use Rattle.store_model.specs.Files.{Stored}
 use Rattle.store_model.specs.Standing.{StandsFor}
+use Rattle.plain_machine.specs.Content.{greatest_id}
 
 -- ---- actors
 
@@ -36,6 +37,11 @@ pub data RunState : Type 0 where
   Running : RunState
   Stopped : (other : Option Stored) → RunState
 
+-- A collection that runs: so many steps of it may come at most before its end, and so many containers were given back.
+pub record Collecting : Type 0 where
+  pub to_come : ℕ
+  pub freed : ℕ
+
 pub record Machine : Type 0 where
   -- names to files, and the last sequence number that was given out
   pub stored : Stored
@@ -47,6 +53,12 @@ pub record Machine : Type 0 where
   -- what reads of the disk give, and how many calls of it failed
   pub content : List ℕ
   pub faults : ℕ
+  -- the greatest id that a container has or had since the opening, 0 where there was none
+  pub last_id : ℕ
+  -- the collection that runs, if one does
+  pub collecting : Option Collecting
+  -- one began since the opening: what no file has may be forgotten
+  pub collected : Bool
 
 abbrev pub part_in : Machine → ℕ → Part
 part_in m actor = slice_index_or m.parts actor Idle
@@ -68,6 +80,9 @@ opened stored content faults = record {
   state = Running;
   content = content;
   faults = faults;
+  last_id = greatest_id content;
+  collecting = None;
+  collected = false;
 }
 
 -- ---- what its files are

@@ -1,5 +1,5 @@
 -- Why a line of a script is refused, and what that leaves.
-use Rattle.std.specs.Prelude.{◌≡◌, ◌⊎◌, ◌≤◌, ◌<◌, ℕ, ◌+◌, ◌-◌, ◌^◌, Bool, true, false, List, ◌∷◌, length, is_some, Option, Some, None}
+use Rattle.std.specs.Prelude.{◌≡◌, ◌⊎◌, ◌≤◌, ◌<◌, ℕ, ◌+◌, ◌-◌, ◌^◌, Bool, true, false, List, ◌∷◌, length, is_some, IsSome, Option, Some, None}
 use Rattle.std.specs.FinMap as finite
 use Rattle.base_model.specs.Fault.{Rose}
 use Rattle.disk_format.specs.Cells.{IsName}
@@ -10,13 +10,14 @@ use Rattle.ingest_session.specs.declared.due.Due.TheVariants.{Nothing}
 use Rattle.refusals.specs.declared.refusal.PartKind.{PartKind}
 use Rattle.refusals.specs.declared.refusal.PartKind.TheVariants as kinds
 use Rattle.refusals.specs.declared.refusal.Refusal.{Refusal}
-use Rattle.refusals.specs.declared.refusal.Refusal.TheVariants.{Memory, NoFile, BadName, TooMany, TooLong, WrongPart, DiskRead, DiskWrite, Numbers, Unpinned}
+use Rattle.refusals.specs.declared.refusal.Refusal.TheVariants.{Memory, NoFile, BadName, TooMany, TooLong, WrongPart, Collecting, DiskRead, DiskWrite, Numbers, Unpinned}
 use Rattle.script_lines.specs.Grammar.{LineValue, pushed_bytes}
 use Rattle.script_lines.specs.Grammar as lines
 use Rattle.store_model.specs.Files.{with_stored, without_stored}
 use Rattle.store_model.specs.Refusals.{root_key}
 use Rattle.store_model.specs.Steps.{CanRise}
 use Rattle.store_model.specs.Trees.{root_of}
+use Rattle.plain_machine.specs.Collections.{RefusesCollectionStep, RefusesSweep}
 use Rattle.plain_machine.specs.Content.{OfStore, BreaksOff, HasTwins}
 use Rattle.plain_machine.specs.Machine.{Machine, Writing, Finished, Reading, Stopped, kind_of, part_in}
 use Rattle.plain_machine.specs.Turns.{IsDue, OnlyFails, RefusesTurn, MachineTurns, Stays}
@@ -36,6 +37,9 @@ actor_of (lines.Next a) = Some a
 actor_of (lines.Drop a) = Some a
 actor_of (lines.Delete name) = None
 actor_of lines.ListNames = None
+actor_of (lines.Gc percent) = None
+actor_of lines.GcStep = None
+actor_of lines.Sweep = None
 actor_of lines.Stat = None
 actor_of lines.Reopen = None
 
@@ -139,6 +143,10 @@ RefusesOn (lines.Next a) DiskRead m n =
     ((bytes : List ℕ) × ((rest : List (List ℕ)) × (part_in m a ≡ Reading (bytes ∷ rest)))) × OnlyFails m n
 RefusesOn (lines.Delete name) refusal m n = RefusesDelete name refusal m n
 RefusesOn lines.ListNames Memory m n = n ≡ m
+RefusesOn (lines.Gc percent) Memory m n = (m.collecting ≡ None) × (n ≡ m)
+RefusesOn (lines.Gc percent) (Collecting phase) m n = IsSome m.collecting × (n ≡ m)
+RefusesOn lines.GcStep refusal m n = RefusesCollectionStep refusal m n
+RefusesOn lines.Sweep refusal m n = RefusesSweep refusal m n
 RefusesOn line refusal m n = ⊥
 
 -- the actor is at something else than the line takes

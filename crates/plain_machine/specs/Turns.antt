@@ -1,7 +1,8 @@
 -- Turns: a claim or a seal that is due for the file that an actor gives (docs/MODEL.md, 'Sessions').
-use Rattle.std.specs.Prelude.{◌≡◌, ℕ, ◌<◌, ◌≤◌, slice_get, Some, None, Bool, true, false, List, [], ◌∷◌, ◌++◌}
+use Rattle.std.specs.FinMap as finite
+use Rattle.std.specs.Prelude.{◌≡◌, ℕ, ◌<◌, ◌≤◌, slice_get, Some, None, Bool, true, false, List, [], ◌∷◌, ◌++◌, ◌≢◌, ◌⊎◌}
 use Rattle.base_model.specs.Fault.{Rose}
-use Rattle.container_meta.specs.Segments.{KindSegment, Segment}
+use Rattle.container_meta.specs.Segments.{KindSegment, Segment, segment_key}
 use Rattle.disk_format.specs.declared.numbers.TheConstants.{LAST_ID, RESERVE}
 use Rattle.actor_parts.specs.declared.step.Answer.{Answer}
 use Rattle.actor_parts.specs.declared.step.Answer.TheVariants as answers
@@ -13,9 +14,11 @@ use Rattle.ingest_session.specs.Moving.{IsOffered}
 use Rattle.ingest_session.specs.State.{SessionState}
 use Rattle.refusals.specs.declared.refusal.Refusal.{Refusal}
 use Rattle.refusals.specs.declared.refusal.Refusal.TheVariants.{DiskRead, DiskWrite, Full, Clash, Numbers, Unpinned}
-use Rattle.store_model.specs.Slots.{free_slots, last_id}
+use Rattle.store_model.specs.Slots.{free_slots}
 use Rattle.plain_machine.specs.Content.{OfStore, Holds, Lacks, AddsContainer, BreaksOff, ClashesWith, HasTwins, SameStore}
 use Rattle.plain_machine.specs.Machine.{Machine, Part, Writing, Finished, Stopped, part_in, put_at}
+use Rattle.store_model.specs.Files.{Files}
+use Rattle.store_model.specs.Pieces.{IsPieceOf, Piece, piece_segment}
 
 -- ---- who has turns
 
@@ -46,12 +49,26 @@ MayBe w file = (more : List ℕ) × ((w.ended ≡ true → more ≡ []) × (file
 
 -- ---- a turn that is made
 
--- what was answered shows of the content, and does to it
-abbrev pub Shows : Due → SessionState → Answer → List ℕ → List ℕ → Type 0
-Shows Claim s answers.Held content now = (seg : KindSegment) × (IsOffered s seg × Holds content seg × (now ≡ content))
-Shows Claim s answers.Absent content now = (seg : KindSegment) × (IsOffered s seg × Lacks content seg × (now ≡ content))
-Shows (Seal kind) s (answers.Sealed id) content now = AddsContainer id (open_of s kind) content now
-Shows due s answer content now = ⊥
+-- no file has a segment of this key
+abbrev pub IsOfNoFile : Files → KindSegment → Type 0
+IsOfNoFile files seg = (name file : List ℕ) (piece : Piece) → finite.get files name ≡ Some file → IsPieceOf file piece
+    → segment_key (piece_segment piece).kind (piece_segment piece).segment ≢ segment_key seg.kind seg.segment
+
+-- no container has the segment's key; or a collection began since the opening, and no file has it
+abbrev pub LacksIn : Machine → KindSegment → Type 0
+LacksIn m seg = Lacks m.content seg ⊎ ((m.collected ≡ true) × IsOfNoFile m.stored.files seg)
+
+-- what was answered shows of the machine, and does to the content
+abbrev pub Shows : Due → SessionState → Answer → Machine → List ℕ → Type 0
+Shows Claim s answers.Held m now = (seg : KindSegment) × (IsOffered s seg × Holds m.content seg × (now ≡ m.content))
+Shows Claim s answers.Absent m now = (seg : KindSegment) × (IsOffered s seg × LacksIn m seg × (now ≡ m.content))
+Shows (Seal kind) s (answers.Sealed id) m now = AddsContainer m.last_id id (open_of s kind) m.content now
+Shows due s answer m now = ⊥
+
+-- the greatest id, after an answer
+abbrev pub last_by : Answer → ℕ → ℕ
+last_by (answers.Sealed id) last = id
+last_by answer last = last
 
 -- One turn of an actor: what was due for it was answered.
 pub record MachineTurn (actor : ℕ) (answer : Answer) (m n : Machine) : Type 0 where
@@ -59,8 +76,8 @@ pub record MachineTurn (actor : ℕ) (answer : Answer) (m n : Machine) : Type 0 
   pub is_writer : IsWriter (part_in m actor) writer
   pub due : Due
   pub is_due : IsDueFor writer.given writer.ended writer.answers due
-  pub shows : Shows due is_due.session answer m.content n.content
-  pub others : n ≡ record (put_at m actor (told (part_in m actor) answer)) { content = n.content }
+  pub shows : Shows due is_due.session answer m n.content
+  pub others : n ≡ record (put_at m actor (told (part_in m actor) answer)) { content = n.content; last_id = last_by answer m.last_id }
 
 -- Any number of turns of an actor, one after the other.
 abbrev pub MachineTurns : ℕ → List Answer → Machine → Machine → Type 0
@@ -78,8 +95,8 @@ abbrev pub OnlyFails : Machine → Machine → Type 0
 OnlyFails m n = Rose m.faults n.faults × (n ≡ record m { faults = n.faults })
 
 -- there is a slot for a container more, and an id
-abbrev pub HasSlot : List ℕ → Type 0
-HasSlot content = OfStore content (λ store. (RESERVE < free_slots store.held) × (last_id store.held < LAST_ID))
+abbrev pub HasSlot : Machine → Type 0
+HasSlot m = OfStore m.content (λ store. RESERVE < free_slots store.held) × (m.last_id < LAST_ID)
 
 -- Why a step that is due is refused, and what that leaves. Want of memory is spoken of with the line. The file may be any that
 -- goes on so.
@@ -91,13 +108,13 @@ RefusesStep Claim s w (Clash key at) m n = ((seg : KindSegment) × (IsOffered s 
 RefusesStep (Seal kind) s w (Full free) m n =
     OfStore m.content (λ store. (free ≡ free_slots store.held) × (free ≤ RESERVE)) × Stays m n
 RefusesStep (Seal kind) s w Numbers m n =
-    OfStore m.content (λ store. (RESERVE < free_slots store.held) × (LAST_ID ≤ last_id store.held)) × Stays m n
-RefusesStep (Seal kind) s w DiskRead m n = HasSlot m.content × Rose m.faults n.faults × SameStore m.content n.content
+    OfStore m.content (λ store. RESERVE < free_slots store.held) × (LAST_ID ≤ m.last_id) × Stays m n
+RefusesStep (Seal kind) s w DiskRead m n = HasSlot m × Rose m.faults n.faults × SameStore m.content n.content
     × (n ≡ record m { content = n.content; faults = n.faults })
-RefusesStep (Seal kind) s w (Clash key at) m n = HasSlot m.content × Stays m n
+RefusesStep (Seal kind) s w (Clash key at) m n = HasSlot m × Stays m n
     × ((index : ℕ) × ((x : Segment) × ((slice_get (open_of s kind).segments index ≡ Some x)
     × ClashesWith (record { kind = kind; segment = x }) m.content key at)))
-RefusesStep (Seal kind) s w DiskWrite m n = HasSlot m.content × Rose m.faults n.faults
+RefusesStep (Seal kind) s w DiskWrite m n = HasSlot m × Rose m.faults n.faults
     × BreaksOff 0 m.content n.content
     × (n ≡ record m { state = Stopped None; content = n.content; faults = n.faults })
 RefusesStep due s w refusal m n = ⊥

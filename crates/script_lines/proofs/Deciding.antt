@@ -7,9 +7,9 @@ use Rattle.std.proofs.lemmas.List.Folds.{list_any-append}
 use Rattle.std.proofs.lemmas.Slice.Eq.{bytes_eq-Decides}
 use Rattle.std.specs.Str.{bytes_eq}
 use Rattle.script_lines.specs.declared.script.TheConstants.{MOST_LINE}
-use Rattle.script_lines.specs.Grammar.{LineValue, Begin, Push, Finish, Turn, Commit, Abort, Read, Next, Drop, Delete, ListNames, Stat, Reopen, IsLine, IsActor, IsHex, IsWord, is_word_byte}
+use Rattle.script_lines.specs.Grammar.{LineValue, Begin, Push, Finish, Turn, Commit, Abort, Read, Next, Drop, Delete, ListNames, Gc, GcStep, Sweep, Stat, Reopen, IsLine, IsActor, IsPercent, IsHex, IsWord, is_word_byte}
 use Rattle.script_lines.specs.Script.{is_line_end, HasNoLineEnd, IsRightLine}
-use Rattle.script_lines.proofs.Numbers.{number_has_no_line_end}
+use Rattle.script_lines.proofs.Numbers.{number_has_no_line_end, percent_has_no_line_end}
 use Rattle.script_lines.proofs.Reading.{line_of, same_line, no_line, no_other_line}
 
 -- ---- no byte of a line is LF
@@ -51,6 +51,9 @@ line_has_none (Next a) line is = two_have_none (codes "next ") line a refl is.0 
 line_has_none (Drop a) line is = two_have_none (codes "drop ") line a refl is.0 is.1
 line_has_none (Delete name) line is = subst HasNoLineEnd (sym is.1) (none_append (codes "delete ") name refl (name_has_none name is.0.each))
 line_has_none ListNames line is = subst HasNoLineEnd (sym is) refl
+line_has_none (Gc percent) line is = subst HasNoLineEnd (sym is.1) (none_append (codes "gc ") (decimal percent) refl (percent_has_no_line_end percent is.0))
+line_has_none GcStep line is = subst HasNoLineEnd (sym is) refl
+line_has_none Sweep line is = subst HasNoLineEnd (sym is) refl
 line_has_none Stat line is = subst HasNoLineEnd (sym is) refl
 line_has_none Reopen line is = subst HasNoLineEnd (sym is) refl
 
@@ -79,6 +82,9 @@ one_line (Next a) line other is too = is.1 ∙ sym too.1
 one_line (Drop a) line other is too = is.1 ∙ sym too.1
 one_line (Delete name) line other is too = is.1 ∙ sym too.1
 one_line ListNames line other is too = is ∙ sym too
+one_line (Gc percent) line other is too = is.1 ∙ sym too.1
+one_line GcStep line other is too = is ∙ sym too
+one_line Sweep line other is too = is ∙ sym too
 one_line Stat line other is too = is ∙ sym too
 one_line Reopen line other is too = is ∙ sym too
 
@@ -123,6 +129,9 @@ same_bytes bytes other =
 actor : (number : ℕ) → IsOrNot (IsActor number)
 actor number = elim (cases_lt number 64) [ inl is ↦ inl is | inr more ↦ inr (λ is. omega arith) ]
 
+percent : (number : ℕ) → IsOrNot (IsPercent number)
+percent number = cases_eq number 0
+
 hex : (digits : List ℕ) → IsOrNot (IsHex digits)
 hex digits = elim (all_three (at_most 2 (length digits)) (cases_eq (length digits % 2) 0) (passes (list_all is_ascii_hexdigit digits))) [
   | inl is ↦ inl (record { some = is.0; even = is.1; each = is.2 })
@@ -147,6 +156,9 @@ line_or_not (Next a) line = both (actor a) (same_bytes line _)
 line_or_not (Drop a) line = both (actor a) (same_bytes line _)
 line_or_not (Delete name) line = both (word name) (same_bytes line _)
 line_or_not ListNames line = same_bytes line _
+line_or_not (Gc p) line = both (percent p) (same_bytes line _)
+line_or_not GcStep line = same_bytes line _
+line_or_not Sweep line = same_bytes line _
 line_or_not Stat line = same_bytes line _
 line_or_not Reopen line = same_bytes line _
 

@@ -1,5 +1,5 @@
 -- The numbers of actors, in decimal.
-use Rattle.std.proofs.Common.{◌≡◌, ℕ, ◌<◌, ◌≤◌, ◌+◌, ◌*◌, ◌/◌, ◌%◌, ◌-◌, ◌≢◌, Bool, true, false, cond, ◌&&◌, ltb, eqb, List, [], ◌∷◌, ◌++◌, decimal, length, IfSome, IfNone, Option, Some, None, ◌⊎◌, inl, inr, refl, sym, ◌∙◌, ap, arith}
+use Rattle.std.proofs.Common.{◌≡◌, ℕ, ◌<◌, ◌≤◌, ◌+◌, ◌*◌, ◌/◌, ◌%◌, ◌-◌, ◌≢◌, Bool, true, false, cond, ◌&&◌, ltb, eqb, List, [], ◌∷◌, ◌++◌, codes, decimal, length, IfSome, IfNone, Option, Some, None, ◌⊎◌, inl, inr, refl, sym, ◌∙◌, ap, arith}
 use Rattle.std.specs.Char.{is_ascii_digit}
 use Rattle.std.specs.Str.{bytes_eq}
 use Rattle.std.specs.Str.Parse.{digits_value}
@@ -7,7 +7,7 @@ use Rattle.std.proofs.lemmas.Bool.{ne_eqb, or_from, cases_lt, ltb-true, lt-ltb, 
 use Rattle.std.proofs.lemmas.Bool.Decides.{nat_tests}
 use Rattle.std.proofs.lemmas.Fmt.{decimal_digit, decimal_step, decimal_is_IsNumeral}
 use Rattle.std.proofs.lemmas.Slice.Eq.{bytes_eq-Decides}
-use Rattle.script_lines.specs.Grammar.{IsActor, HasNoSpace}
+use Rattle.script_lines.specs.Grammar.{IsActor, IsPercent, HasNoSpace}
 use Rattle.script_lines.specs.Script.{HasNoLineEnd}
 
 -- a digit, as its range
@@ -128,3 +128,29 @@ chosen_not false n text small same = λ m actor spelled. let is = same m actor s
 
 pub made_not : (made : Option ℕ) (n : ℕ) (text : List ℕ) → made ≡ cond (ltb n 64) (Some n) None → ((m : ℕ) → IsActor m → text ≡ decimal m → m ≡ n) → IfNone made ((m : ℕ) → IsActor m → text ≡ decimal m → ⊥)
 made_not made n text is same = rw is (chosen_not (ltb n 64) n text (lt-ltb n 64) same)
+
+-- ---- percentages
+
+-- the percentage of a word, where it is one's number
+abbrev pub percent_in : List ℕ → Option ℕ
+percent_in word = cond (bytes_eq word (decimal 0)) (Some 0) None
+
+pub percent_is : (n : ℕ) → IsPercent n → percent_in (decimal n) ≡ Some n
+percent_is n is = rw (is, (bytes_eq-Decides (decimal 0) (decimal 0)).1 refl) refl
+
+pub percent_none : (word : List ℕ) → ((n : ℕ) → IsPercent n → word ≡ decimal n → ⊥) → percent_in word ≡ None
+percent_none word none = chosen_none _ 0 (λ passed. none 0 refl ((bytes_eq-Decides word (decimal 0)).0 passed))
+
+pub percent_has_no_line_end : (n : ℕ) → IsPercent n → HasNoLineEnd (decimal n)
+percent_has_no_line_end n is = number_has_no_line_end n (omega (arith, is))
+
+-- the one percentage so far
+zero_text : codes "0" ≡ decimal 0
+zero_text = sym (one_digit 0 (omega arith))
+
+-- what is made of its word, and of another
+pub percent_made : (made : Option ℕ) (word : List ℕ) → made ≡ Some 0 → true ≡ bytes_eq word (codes "0") → IfSome made (λ p. IsPercent p × (word ≡ decimal p))
+percent_made made word is same = rw is (refl, (bytes_eq-Decides word (codes "0")).0 (sym same) ∙ zero_text)
+
+pub no_percent : (word : List ℕ) → false ≡ bytes_eq word (codes "0") → (n : ℕ) → IsPercent n → word ≡ decimal n → ⊥
+no_percent word other n is spelled = false≢true (other ∙ (bytes_eq-Decides word (codes "0")).1 (spelled ∙ ap decimal is ∙ sym zero_text))

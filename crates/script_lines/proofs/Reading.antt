@@ -5,15 +5,17 @@ use Rattle.std.specs.Str.{bytes_eq}
 use Rattle.std.proofs.lemmas.Bool.{false_from_ne_true}
 use Rattle.std.proofs.lemmas.List.{append_assoc}
 use Rattle.std.proofs.lemmas.Slice.Eq.{bytes_eq-Decides}
-use Rattle.script_lines.specs.Grammar.{LineValue, Begin, Push, Finish, Turn, Commit, Abort, Read, Next, Drop, Delete, ListNames, Stat, Reopen, IsLine, IsActor, HasNoSpace}
+use Rattle.script_lines.specs.Grammar.{LineValue, Begin, Push, Finish, Turn, Commit, Abort, Read, Next, Drop, Delete, ListNames, Gc, GcStep, Sweep, Stat, Reopen, IsLine, IsActor, HasNoSpace}
 use Rattle.script_lines.proofs.Bytes.{before_space, after_space, before-word, after-word, before-all, after-all, grouped}
-use Rattle.script_lines.proofs.Numbers.{number_has_no_space, actor_in, actor_is}
+use Rattle.script_lines.proofs.Numbers.{number_has_no_space, actor_in, actor_is, percent_in, percent_is}
 
 abbrev pub of_one : List ℕ → Option LineValue
 of_one word =
     cond (bytes_eq word (codes "stat")) (Some Stat)
     (cond (bytes_eq word (codes "reopen")) (Some Reopen)
-    (cond (bytes_eq word (codes "list")) (Some ListNames) None))
+    (cond (bytes_eq word (codes "list")) (Some ListNames)
+    (cond (bytes_eq word (codes "step")) (Some GcStep)
+    (cond (bytes_eq word (codes "sweep")) (Some Sweep) None))))
 
 abbrev pub of_two : List ℕ → ℕ → Option LineValue
 of_two word actor =
@@ -36,9 +38,17 @@ of_rest word None rest = None
 of_rest word (Some actor) None = of_two word actor
 of_rest word (Some actor) (Some argument) = of_three word actor argument
 
+-- of what stands after `gc`
+abbrev pub of_percent : Option ℕ → Option LineValue
+of_percent None = None
+of_percent (Some percent) = Some (Gc percent)
+
 abbrev of_words : List ℕ → Option (List ℕ) → Option LineValue
 of_words word None = of_one word
-of_words word (Some rest) = cond (bytes_eq word (codes "delete")) (Some (Delete rest)) (of_rest word (actor_in (before_space rest)) (after_space rest))
+of_words word (Some rest) =
+    cond (bytes_eq word (codes "delete")) (Some (Delete rest))
+    (cond (bytes_eq word (codes "gc")) (of_percent (percent_in rest))
+    (of_rest word (actor_in (before_space rest)) (after_space rest)))
 
 abbrev pub line_of : List ℕ → Option LineValue
 line_of bytes = of_words (before_space bytes) (after_space bytes)
@@ -53,10 +63,14 @@ words word rest none = rw (before-word word rest none, after-word word rest none
 pub after_delete : (name : List ℕ) → line_of (codes "delete " ++ name) ≡ Some (Delete name)
 after_delete name = words (codes "delete") name refl
 
+-- what stands after `gc` is a percentage
+pub after_gc : (number : List ℕ) → line_of (codes "gc " ++ number) ≡ of_percent (percent_in number)
+after_gc number = words (codes "gc") number refl
+
 -- an actor stands after all other words
-module _ (word : List ℕ) (none : HasNoSpace word) (other : bytes_eq word (codes "delete") ≡ false) where
+module _ (word : List ℕ) (none : HasNoSpace word) (no_delete : bytes_eq word (codes "delete") ≡ false) (no_gc : bytes_eq word (codes "gc") ≡ false) where
   words_of : (rest : List ℕ) → line_of (word ++ (32 ∷ rest)) ≡ of_rest word (actor_in (before_space rest)) (after_space rest)
-  words_of rest = words word rest none ∙ rw other refl
+  words_of rest = words word rest none ∙ rw (no_delete, no_gc) refl
 
   pub two_words : (actor : ℕ) → IsActor actor → line_of (word ++ (32 ∷ decimal actor)) ≡ of_two word actor
   two_words actor small =
@@ -77,17 +91,20 @@ module _ (word : List ℕ) (none : HasNoSpace word) (other : bytes_eq word (code
 
 -- a line is what is got back from it
 pub got_back : (value : LineValue) (bytes : List ℕ) → IsLine value bytes → line_of bytes ≡ Some value
-got_back (Begin a) bytes line = ap line_of line.1 ∙ two_words (codes "begin") refl refl a line.0
-got_back (Push a digits) bytes line = ap line_of (line.2 ∙ grouped (codes "push ") (decimal a) digits) ∙ three_words (codes "push") refl refl a digits line.0
-got_back (Finish a) bytes line = ap line_of line.1 ∙ two_words (codes "finish") refl refl a line.0
-got_back (Turn a) bytes line = ap line_of line.1 ∙ two_words (codes "turn") refl refl a line.0
-got_back (Commit a name) bytes line = ap line_of (line.2 ∙ grouped (codes "commit ") (decimal a) name) ∙ three_words (codes "commit") refl refl a name line.0
-got_back (Abort a) bytes line = ap line_of line.1 ∙ two_words (codes "abort") refl refl a line.0
-got_back (Read a name) bytes line = ap line_of (line.2 ∙ grouped (codes "read ") (decimal a) name) ∙ three_words (codes "read") refl refl a name line.0
-got_back (Next a) bytes line = ap line_of line.1 ∙ two_words (codes "next") refl refl a line.0
-got_back (Drop a) bytes line = ap line_of line.1 ∙ two_words (codes "drop") refl refl a line.0
+got_back (Begin a) bytes line = ap line_of line.1 ∙ two_words (codes "begin") refl refl refl a line.0
+got_back (Push a digits) bytes line = ap line_of (line.2 ∙ grouped (codes "push ") (decimal a) digits) ∙ three_words (codes "push") refl refl refl a digits line.0
+got_back (Finish a) bytes line = ap line_of line.1 ∙ two_words (codes "finish") refl refl refl a line.0
+got_back (Turn a) bytes line = ap line_of line.1 ∙ two_words (codes "turn") refl refl refl a line.0
+got_back (Commit a name) bytes line = ap line_of (line.2 ∙ grouped (codes "commit ") (decimal a) name) ∙ three_words (codes "commit") refl refl refl a name line.0
+got_back (Abort a) bytes line = ap line_of line.1 ∙ two_words (codes "abort") refl refl refl a line.0
+got_back (Read a name) bytes line = ap line_of (line.2 ∙ grouped (codes "read ") (decimal a) name) ∙ three_words (codes "read") refl refl refl a name line.0
+got_back (Next a) bytes line = ap line_of line.1 ∙ two_words (codes "next") refl refl refl a line.0
+got_back (Drop a) bytes line = ap line_of line.1 ∙ two_words (codes "drop") refl refl refl a line.0
 got_back (Delete name) bytes line = ap line_of line.1 ∙ after_delete name
 got_back ListNames bytes line = ap line_of line
+got_back (Gc percent) bytes line = ap line_of line.1 ∙ after_gc (decimal percent) ∙ ap of_percent (percent_is percent line.0)
+got_back GcStep bytes line = ap line_of line
+got_back Sweep bytes line = ap line_of line
 got_back Stat bytes line = ap line_of line
 got_back Reopen bytes line = ap line_of line
 
@@ -129,12 +146,12 @@ spelled_three word text actor argument same =
     rw is (simp append_assoc)
 
 -- it is no line, since its argument isn't one that the word takes
-pub no_three : (word text : List ℕ) (actor : ℕ) (argument : List ℕ) (found : LineValue) → HasNoSpace word → bytes_eq word (codes "delete") ≡ false → IsActor actor → true ≡ bytes_eq word text → of_three text actor argument ≡ Some found
+pub no_three : (word text : List ℕ) (actor : ℕ) (argument : List ℕ) (found : LineValue) → HasNoSpace word → bytes_eq word (codes "delete") ≡ false → bytes_eq word (codes "gc") ≡ false → IsActor actor → true ≡ bytes_eq word text → of_three text actor argument ≡ Some found
     → (IsLine found (word ++ (32 ∷ (decimal actor ++ (32 ∷ argument)))) → ⊥) → (value : LineValue) → IsLine value (word ++ (32 ∷ (decimal actor ++ (32 ∷ argument)))) → ⊥
-no_three word text actor argument found none other small same three =
+no_three word text actor argument found none no_delete no_gc small same three =
     let is = (bytes_eq-Decides word text).0 (sym same) in
-    no_other_line _ found (three_words word none other actor argument small ∙ ap (λ (w : List ℕ). of_three w actor argument) is ∙ three)
+    no_other_line _ found (three_words word none no_delete no_gc actor argument small ∙ ap (λ (w : List ℕ). of_three w actor argument) is ∙ three)
 
--- a word that isn't `delete` is told from it
-pub not_delete : (word : List ℕ) → word ≢ codes "delete" → bytes_eq word (codes "delete") ≡ false
-not_delete word other = false_from_ne_true (bytes_eq word (codes "delete")) (λ is. other ((bytes_eq-Decides word (codes "delete")).0 is))
+-- another word is told from this one
+pub not_word : (word text : List ℕ) → word ≢ text → bytes_eq word text ≡ false
+not_word word text other = false_from_ne_true (bytes_eq word text) (λ is. other ((bytes_eq-Decides word text).0 is))

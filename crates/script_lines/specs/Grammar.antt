@@ -19,12 +19,19 @@ pub data LineValue : Type 0 where
   Drop : (actor : ℕ) → LineValue
   Delete : (name : List ℕ) → LineValue
   ListNames : LineValue
+  Gc : (percent : ℕ) → LineValue
+  GcStep : LineValue
+  Sweep : LineValue
   Stat : LineValue
   Reopen : LineValue
 
 -- a number that an actor has
 abbrev pub IsActor : ℕ → Type 0
 IsActor number = number < ACTORS
+
+-- a percentage that a collection may have; only containers of which nothing is live are taken so far
+abbrev pub IsPercent : ℕ → Type 0
+IsPercent percent = percent ≡ 0
 
 -- hexadecimal digits of either case, an even number of them and two at least
 pub record IsHex (digits : List ℕ) : Type 0 where
@@ -54,6 +61,9 @@ IsLine (Next a) bytes = IsActor a × (bytes ≡ codes "next " ++ decimal a)
 IsLine (Drop a) bytes = IsActor a × (bytes ≡ codes "drop " ++ decimal a)
 IsLine (Delete name) bytes = IsWord name × (bytes ≡ codes "delete " ++ name)
 IsLine ListNames bytes = bytes ≡ codes "list"
+IsLine (Gc percent) bytes = IsPercent percent × (bytes ≡ codes "gc " ++ decimal percent)
+IsLine GcStep bytes = bytes ≡ codes "step"
+IsLine Sweep bytes = bytes ≡ codes "sweep"
 IsLine Stat bytes = bytes ≡ codes "stat"
 IsLine Reopen bytes = bytes ≡ codes "reopen"
 

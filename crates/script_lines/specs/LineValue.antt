@@ -1,6 +1,6 @@
 -- What a line that was read says.
 use Rattle.script_lines.specs.declared.line.Line.{Line}
-use Rattle.script_lines.specs.declared.line.Line.TheVariants.{Begin, Push, Finish, Turn, Commit, Abort, Read, Next, Drop, Delete, List, Stat, Reopen}
+use Rattle.script_lines.specs.declared.line.Line.TheVariants.{Begin, Push, Finish, Turn, Commit, Abort, Read, Next, Drop, Delete, List, Gc, Step, Sweep, Stat, Reopen}
 use Rattle.script_lines.specs.Grammar as grammar
 
 abbrev pub line_value : Line → grammar.LineValue
@@ -15,5 +15,8 @@ line_value (Next actor) = grammar.Next actor
 line_value (Drop actor) = grammar.Drop actor
 line_value (Delete name) = grammar.Delete name.now
 line_value List = grammar.ListNames
+line_value (Gc percent) = grammar.Gc percent
+line_value Step = grammar.GcStep
+line_value Sweep = grammar.Sweep
 line_value Stat = grammar.Stat
 line_value Reopen = grammar.Reopen

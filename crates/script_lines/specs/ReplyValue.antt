@@ -1,6 +1,7 @@
 -- What a reply to a line of a script says.
 use Rattle.std.specs.Prelude.{ℕ, List}
 use Rattle.namespace.specs.Listing.{NamedRoot}
+use Rattle.refusals.specs.declared.refusal.Phase.{Phase}
 use Rattle.refusals.specs.declared.refusal.Refusal.{Refusal}
 use Rattle.script_lines.specs.declared.reply.Holdings.{Holdings}
 use Rattle.script_lines.specs.declared.reply.Turned.{Turned}
@@ -20,6 +21,9 @@ pub data ReplyValue : Type 0 where
   Dropped : (actor : ℕ) → ReplyValue
   Deleted : (sequence : ℕ) → ReplyValue
   Listed : (files : List NamedRoot) → ReplyValue
+  Collecting : (snapshot : ℕ) → ReplyValue
+  Step : (phase : Phase) → ReplyValue
+  Collected : (freed copied : ℕ) → ReplyValue
   Stat : (counted : Holdings) → ReplyValue
   Opened : (files : ℕ) → ReplyValue
   Refused : (refusal : Refusal) → ReplyValue
@@ -37,6 +41,9 @@ reply_value (given.End actor) = End actor
 reply_value (given.Dropped actor) = Dropped actor
 reply_value (given.Deleted sequence) = Deleted sequence
 reply_value (given.Listed files) = Listed files.now
+reply_value (given.Collecting snapshot) = Collecting snapshot
+reply_value (given.Step phase) = Step phase
+reply_value (given.Collected freed copied) = Collected freed copied
 reply_value (given.Stat holdings) = Stat holdings
 reply_value (given.Opened files) = Opened files
 reply_value (given.Refused refusal) = Refused refusal

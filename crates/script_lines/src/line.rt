@@ -5,8 +5,8 @@ ghost use Rattle.script_lines.specs.Grammar.{LineValue, IsLine, IsActor, IsWord,
 ghost use Rattle.script_lines.specs.LineValue.{line_value};
 
 use crate::digits::is_hex;
-use crate::words::{read_actor, split_word};
-use actor_parts::Actor;
+use crate::words::{read_actor, read_percent, split_word};
+use actor_parts::{Actor, Percent};
 
 /// A line of a script. Names and digits are lent by the bytes that were read.
 #[derive(Clone, Copy)]
@@ -34,6 +34,12 @@ pub enum Line<'a> {
     Delete(&'a [u8]),
     /// `list`: the names, each with its file's root.
     List,
+    /// `gc P`: a collection begins, which takes containers of which less than that percentage is live, or nothing is.
+    Gc(Percent),
+    /// `step`: the next step of the collection that runs.
+    Step,
+    /// `sweep`: all steps of it that are left.
+    Sweep,
     /// `stat`: what the store holds.
     Stat,
     /// `reopen`: all actors end, and the store is opened again.
@@ -60,6 +66,9 @@ fn line_of_words<'a>(word: &[u8], rest: &'a [u8]) -> Option<Line<'a>>
     if word == b"delete".as_slice() {
         return line_of_delete(rest);
     }
+    if word == b"gc".as_slice() {
+        return line_of_gc(rest);
+    }
     match split_word(rest) {
         Some((number, argument)) => line_of_three(word, read_actor(number)?, argument),
         None => line_of_two(word, read_actor(rest)?),
@@ -78,6 +87,14 @@ fn line_of_delete<'a>(name: &'a [u8]) -> Option<Line<'a>>
     }
 }
 
+// The line of what stands after `gc` and the space after it: no actor is read from it.
+fn line_of_gc<'a>(number: &[u8]) -> Option<Line<'a>>
+    ensures found { IfSome result (λ line. IsLine (line_value line) (codes "gc " ++ number.now)) }
+    ensures none { IfNone result ((value : LineValue) → IsLine value (codes "gc " ++ number.now) → ⊥) }
+{
+    Some(Line::Gc(read_percent(number)?))
+}
+
 fn line_of_one<'a>(word: &[u8]) -> Option<Line<'a>>
     requires { HasNoSpace word.now }
     ensures found { IfSome result (λ line. IsLine (line_value line) word.now) }
@@ -89,6 +106,10 @@ fn line_of_one<'a>(word: &[u8]) -> Option<Line<'a>>
         Some(Line::Reopen)
     } else if word == b"list".as_slice() {
         Some(Line::List)
+    } else if word == b"step".as_slice() {
+        Some(Line::Step)
+    } else if word == b"sweep".as_slice() {
+        Some(Line::Sweep)
     } else {
         None
     }
@@ -96,7 +117,8 @@ fn line_of_one<'a>(word: &[u8]) -> Option<Line<'a>>
 
 fn line_of_two<'a>(word: &[u8], actor: Actor) -> Option<Line<'a>>
     requires word { HasNoSpace word.now }
-    requires other { word.now ≢ codes "delete" }
+    requires no_delete { word.now ≢ codes "delete" }
+    requires no_gc { word.now ≢ codes "gc" }
     requires actor { IsActor actor }
     ensures found { IfSome result (λ line. IsLine (line_value line) (word.now ++ (32 ∷ decimal actor))) }
     ensures none { IfNone result ((value : LineValue) → IsLine value (word.now ++ (32 ∷ decimal actor)) → ⊥) }
@@ -120,7 +142,8 @@ fn line_of_two<'a>(word: &[u8], actor: Actor) -> Option<Line<'a>>
 
 fn line_of_three<'a>(word: &[u8], actor: Actor, argument: &'a [u8]) -> Option<Line<'a>>
     requires word { HasNoSpace word.now }
-    requires other { word.now ≢ codes "delete" }
+    requires no_delete { word.now ≢ codes "delete" }
+    requires no_gc { word.now ≢ codes "gc" }
     requires actor { IsActor actor }
     ensures found { IfSome result (λ line.
         IsLine (line_value line) (word.now ++ (32 ∷ (decimal actor ++ (32 ∷ argument.now))))) }

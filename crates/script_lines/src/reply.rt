@@ -1,14 +1,15 @@
 //! The replies to the lines of a script: docs/FORMAT.md, 'Scripts'.
 ghost use Rattle.std.specs.Prelude.{◌≡◌, ◌++◌, codes, decimal, IfOk, OnOk};
 ghost use Rattle.hex.specs.Hex.{encode_lower};
+ghost use Rattle.reply_text.specs.Text.{phase_text};
 ghost use Rattle.script_lines.specs.ReplyText.{turned_line, stat_line, reply_line};
 ghost use Rattle.script_lines.specs.ReplyValue.{reply_value};
 
 use actor_parts::Actor;
 use itoa::Buffer;
 use namespace::Listing;
-use refusals::Refusal;
-use reply_text::{listing_text, refused_line};
+use refusals::{Phase, Refusal};
+use reply_text::{listing_text, phase_word, refused_line};
 use std::alloc::{AllocError, Global};
 
 /// What a turn did.
@@ -67,6 +68,12 @@ pub enum Reply<'a> {
     /// `file NAME LENGTH LEVEL DIGEST` for each name, each with the LF that ends it, and then `listed COUNT`. The caller lends
     /// the names.
     Listed { files: &'a Listing },
+    /// `collecting SNAPSHOT`: a collection runs, which goes over the containers with an id below this one.
+    Collecting { snapshot: u64 },
+    /// `step PHASE`: its step did this.
+    Step { phase: Phase },
+    /// `collected freed F copied C`: it has ended; so many containers were given back, and so many segments copied.
+    Collected { freed: u64, copied: u64 },
     /// `stat files F segments S bytes B used U free R`.
     Stat { holdings: Holdings },
     /// `opened FILES`: the store is open, and has so many names.
@@ -98,6 +105,9 @@ pub fn print_reply(alloc: Global, reply: &Reply<'_>) -> Result<Vec<u8>, AllocErr
         Reply::Dropped { actor } => actor_line(alloc, b"dropped ", *actor),
         Reply::Deleted { sequence } => count_line(alloc, b"deleted ", *sequence),
         Reply::Listed { files } => listing_text(alloc, files),
+        Reply::Collecting { snapshot } => count_line(alloc, b"collecting ", *snapshot),
+        Reply::Step { phase } => step_line(alloc, phase),
+        Reply::Collected { freed, copied } => collected_line(alloc, *freed, *copied),
         Reply::Stat { holdings } => stat_line(alloc, holdings),
         Reply::Opened { files } => count_line(alloc, b"opened ", *files),
         Reply::Refused { refusal } => refused_line(alloc, refusal),
@@ -168,6 +178,27 @@ fn stat_line(alloc: Global, holdings: &Holdings) -> Result<Vec<u8>, AllocError>
     add_number(&mut line, holdings.used)?;
     line.extend_from_slice(b" free ")?;
     add_number(&mut line, holdings.free)?;
+    line.extend_from_slice(b"\n")?;
+    Ok(line)
+}
+
+fn step_line(alloc: Global, phase: &Phase) -> Result<Vec<u8>, AllocError>
+    ensures { IfOk result (λ line. line.items ≡ codes "step " ++ phase_text phase.now ++ codes "\n") }
+{
+    let mut line = Vec::from_slice(alloc, b"step ")?;
+    line.extend_from_slice(phase_word(phase))?;
+    line.extend_from_slice(b"\n")?;
+    Ok(line)
+}
+
+fn collected_line(alloc: Global, freed: u64, copied: u64) -> Result<Vec<u8>, AllocError>
+    ensures { IfOk result (λ line.
+        line.items ≡ codes "collected freed " ++ decimal freed ++ codes " copied " ++ decimal copied ++ codes "\n") }
+{
+    let mut line = Vec::from_slice(alloc, b"collected freed ")?;
+    add_number(&mut line, freed)?;
+    line.extend_from_slice(b" copied ")?;
+    add_number(&mut line, copied)?;
     line.extend_from_slice(b"\n")?;
     Ok(line)
 }

@@ -1,8 +1,8 @@
 //! The words of a line.
 ghost use Rattle.std.specs.Prelude.{◌≡◌, ◌++◌, ◌∷◌, [], ℕ, decimal, IfSome, IfNone};
-ghost use Rattle.script_lines.specs.Grammar.{HasNoSpace, IsActor};
+ghost use Rattle.script_lines.specs.Grammar.{HasNoSpace, IsActor, IsPercent};
 
-use actor_parts::Actor;
+use actor_parts::{Actor, Percent};
 
 /// What stands before the first space and what stands after it, where there is one.
 pub(crate) fn split_word(bytes: &[u8]) -> Option<(&[u8], &[u8])>
@@ -46,6 +46,18 @@ fn two_digits(tens: u8, ones: u8) -> Option<Actor>
 {
     if tens.is_ascii_digit() && tens != b'0' && ones.is_ascii_digit() {
         Actor::new(10 * u64::from(tens - b'0') + u64::from(ones - b'0'))
+    } else {
+        None
+    }
+}
+
+/// The percentage whose number is the word, in decimal: 0 alone so far.
+pub(crate) fn read_percent(word: &[u8]) -> Option<Percent>
+    ensures found { IfSome result (λ percent. IsPercent percent × (word.now ≡ decimal percent)) }
+    ensures none { IfNone result ((percent : ℕ) → IsPercent percent → word.now ≡ decimal percent → ⊥) }
+{
+    if word == b"0".as_slice() {
+        Percent::new(0)
     } else {
         None
     }

@@ -1,0 +1,94 @@
+-- Collections: what no file, no reader and no writer needs is found step by step, and containers of nothing else are given back
+-- (docs/MODEL.md, 'The plain machine').
+use Rattle.std.specs.Prelude.{◌≡◌, ℕ, suc, ◌+◌, ◌*◌, true, List, [], ◌∷◌, Option, None, Some, IsSome}
+use Rattle.base_model.specs.Fault.{Rose}
+use Rattle.container_meta.specs.declared.kind.Kind.{Kind}
+use Rattle.container_meta.specs.declared.kind.Kind.TheVariants.{Leaf, Tree}
+use Rattle.container_meta.specs.Spelling.{HeaderValue}
+use Rattle.refusals.specs.declared.refusal.Phase.{Phase}
+use Rattle.refusals.specs.declared.refusal.Phase.TheVariants.{Release}
+use Rattle.refusals.specs.declared.refusal.Refusal.{Refusal}
+use Rattle.refusals.specs.declared.refusal.Refusal.TheVariants.{Memory, NotCollecting, DiskRead, DiskWrite}
+use Rattle.plain_machine.specs.Content.{BreaksGate, FreesContainer, OfStore, SameStore}
+use Rattle.plain_machine.specs.Machine.{Machine, Stopped}
+use Rattle.plain_machine.specs.Turns.{Stays}
+
+-- ---- how long one takes at most
+
+abbrev pub containers_in : List (Option HeaderValue) → ℕ
+containers_in [] = 0
+containers_in (None ∷ cs) = containers_in cs
+containers_in (Some h ∷ cs) = suc (containers_in cs)
+
+-- one for a container of nodes
+abbrev pub one_tree : Kind → ℕ
+one_tree Leaf = 0
+one_tree Tree = 1
+
+abbrev pub trees_in : List (Option HeaderValue) → ℕ
+trees_in [] = 0
+trees_in (None ∷ cs) = trees_in cs
+trees_in (Some h ∷ cs) = one_tree h.kind + trees_in cs
+
+-- six steps for each container of nodes, six for each container, and three
+abbrev pub most_steps : List (Option HeaderValue) → ℕ
+most_steps held = 6 * trees_in held + 6 * containers_in held + 3
+
+-- ---- what it does
+
+-- One begins where none ran. Its snapshot is the next id.
+pub record BeginsCollection (snapshot : ℕ) (m n : Machine) : Type 0 where
+  pub none_ran : m.collecting ≡ None
+  pub snapshot_is : snapshot ≡ suc m.last_id
+  pub most : ℕ
+  pub most_is : OfStore m.content (λ store. most ≡ most_steps store.held)
+  pub others : n ≡ record m { collecting = Some (record { to_come = most; freed = 0 }); collected = true }
+
+-- what a step changes: a release gives a container back, and no other step anything
+abbrev pub ChangesBy : Phase → List ℕ → List ℕ → Type 0
+ChangesBy Release old new = FreesContainer old new
+ChangesBy phase old new = SameStore old new
+
+abbrev pub freed_by : Phase → ℕ
+freed_by Release = 1
+freed_by phase = 0
+
+-- A step is made, of those that may come.
+pub record StepsCollection (phase : Phase) (m n : Machine) : Type 0 where
+  pub left : ℕ
+  pub freed : ℕ
+  pub ran : m.collecting ≡ Some (record { to_come = suc left; freed = freed })
+  pub changes : ChangesBy phase m.content n.content
+  pub others : n ≡ record m { content = n.content; collecting = Some (record { to_come = left; freed = freed + freed_by phase }) }
+
+-- steps, one after the other
+abbrev pub CollectionSteps : List Phase → Machine → Machine → Type 0
+CollectionSteps [] m n = n ≡ m
+CollectionSteps (phase ∷ phases) m n = (mid : Machine) × (StepsCollection phase m mid × CollectionSteps phases mid n)
+
+-- It ends, and tells how many containers it gave back. It copies nothing so far.
+pub record EndsCollection (freed copied : ℕ) (m n : Machine) : Type 0 where
+  pub left : ℕ
+  pub ran : m.collecting ≡ Some (record { to_come = left; freed = freed })
+  pub copied_is : copied ≡ 0
+  pub others : n ≡ record m { collecting = None }
+
+-- it goes on to its end
+abbrev pub Sweeps : ℕ → ℕ → Machine → Machine → Type 0
+Sweeps freed copied m n = (phases : List Phase) × ((mid : Machine) × (CollectionSteps phases m mid × EndsCollection freed copied mid n))
+
+-- ---- what is refused
+
+-- Why no step is made. Where a write or a sync failed the store is stopped.
+abbrev pub RefusesCollectionStep : Refusal → Machine → Machine → Type 0
+RefusesCollectionStep NotCollecting m n = (m.collecting ≡ None) × (n ≡ m)
+RefusesCollectionStep Memory m n = IsSome m.collecting × Stays m n
+RefusesCollectionStep DiskRead m n = IsSome m.collecting × Rose m.faults n.faults × SameStore m.content n.content
+    × (n ≡ record m { content = n.content; faults = n.faults })
+RefusesCollectionStep DiskWrite m n = IsSome m.collecting × Rose m.faults n.faults × BreaksGate m.content n.content
+    × (n ≡ record m { state = Stopped None; content = n.content; faults = n.faults })
+RefusesCollectionStep refusal m n = ⊥
+
+-- after steps that were made
+abbrev pub RefusesSweep : Refusal → Machine → Machine → Type 0
+RefusesSweep refusal m n = (phases : List Phase) × ((mid : Machine) × (CollectionSteps phases m mid × RefusesCollectionStep refusal mid n))

@@ -71,7 +71,8 @@ refused_row refusal old new is parts = (is, parts)
 
 -- ---- a step
 
-module _ (actor : ℕ) (buf : List ℕ) (old new : CoreState) (c after : Collection) (ran : old.collection ≡ Some c) (parts : new.parts ≡ old.parts) (served : old.served → new.served) (later : IsLater old.disk new.disk) where
+module _ (actor : ℕ) (buf : List ℕ) (old new : CoreState) (c after : Collection) (ran : old.collection ≡ Some c) (parts : new.parts ≡ old.parts) (served : old.served → new.served) (later : IsLater old.disk new.disk)
+    (tells : (places : PlaceMap) × (new.known ≡ Some places)) where
   touched : (answer : Result Answer Refusal) → Touches c.stage old.tables (ending blames answer) old.disk new.disk → TouchesBy old.collection answer old new.disk
   touched answer touches = subst (λ (o : Option Collection). TouchesBy o answer old new.disk) (sym ran) touches
 
@@ -99,6 +100,7 @@ module _ (actor : ℕ) (buf : List ℕ) (old new : CoreState) (c after : Collect
         faults_are = faults;
         touches = touched (Ok (answers.Did phase)) touches;
         under_way = λ was. subst (IsUnderWayIn new.tables.held) (sym runs) under_way;
+        tells = λ before is. tells;
       };
       served = served;
     }
@@ -113,6 +115,7 @@ module _ (actor : ℕ) (buf : List ℕ) (old new : CoreState) (c after : Collect
         faults_are = faults;
         touches = touched (Err refusal) touches;
         under_way = λ was. subst (IsUnderWayIn new.tables.held) (sym runs) under_way;
+        tells = λ before is. tells;
       };
       served = served;
     }
@@ -141,6 +144,7 @@ module _ (actor : ℕ) (buf : List ℕ) (old new : CoreState) (c after : Collect
           faults_are = faults;
           touches = touched (Ok (answers.Done freed 0)) touches;
           under_way = λ was. subst (IsUnderWayIn new.tables.held) (sym ended) tt;
+          tells = λ before is. tells;
         };
         served = served;
       }
@@ -157,6 +161,7 @@ made_none actor buf old none stop count = record {
     faults_are = refl;
     touches = subst (λ (o : Option Collection). TouchesBy o (Err refusals.NotCollecting) old old.disk) (sym none) (record { only = reads_here old.disk; faults_are = refl });
     under_way = λ was. was;
+    tells = λ before is. (before, is);
   };
   served = λ served. served;
 }

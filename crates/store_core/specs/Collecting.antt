@@ -1,6 +1,7 @@
 -- What steps do to the collection that runs, and what its own steps do to the core (docs/MODEL.md, 'The core').
 use Rattle.std.specs.Prelude.{◌≡◌, ◌↔◌, ◌+◌, ◌-◌, ◌*◌, ◌^◌, ◌≤◌, ℕ, List, [], length, min, map, Contains, Option, Some, None, Result, Ok, Err}
 use Rattle.container_meta.specs.declared.place.Place.{Place}
+use Rattle.container_meta.specs.Places.{PlaceMap}
 use Rattle.container_meta.specs.Segments.{segment_key}
 use Rattle.dd_disk.specs.Ending.{CountsFault, Reads, ending}
 use Rattle.dd_disk.specs.View.{DiskView, IsLater}
@@ -21,6 +22,7 @@ use Rattle.gc_steps.specs.Roots.{IsRoot, Marks}
 use Rattle.gc_steps.specs.Stages.{mark_level}
 use Rattle.gc_steps.specs.Stepping.{IsStepRefusal, Keeps, Moment, StepsTo, TablesAfter, Touches, answer_at, moment, phase_at}
 use Rattle.gc_steps.specs.StepsToCome.{Nears, old_from, steps_to_come, trees_from}
+use Rattle.segment_index.specs.Places.{KnownMap}
 use Rattle.store_state.specs.Refused.{blames}
 use Rattle.gc_steps.specs.UnderWay.{IsUnderWay}
 use Rattle.store_core.specs.State.{CoreState, IsUnderWayIn}
@@ -149,3 +151,5 @@ pub record GcEffect (answer : Result Answer Refusal) (old new : CoreState) : Typ
   pub faults_are : CountsFault (ending blames answer) old.disk.faults new.disk.faults
   pub touches : TouchesBy old.collection answer old new.disk
   pub under_way : IsUnderWayIn old.tables.held old.collection → IsUnderWayIn new.tables.held new.collection
+  -- the map of the index is known still
+  pub tells : KnownMap old.known (λ _. (places : PlaceMap) × (new.known ≡ Some places))

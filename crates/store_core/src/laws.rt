@@ -26,14 +26,14 @@ pub fn a_core_keeps_files<C: HasState>()
     ensures { KeepsFiles C C.state }
 {}
 
-/// Over data without collisions, and of a core that began settled at a store and isn't stopped at the end: the segments that the
-/// steps of a run kept, claimed and held or sealed, are held then, bytes and all, in each image. The function does nothing.
+/// Over data without collisions, and of a core that began settled at a store and isn't stopped at the end, where no step is one of a
+/// collection: the segments that the steps of a run kept, claimed and held or sealed, are held then, bytes and all, in each image. The function does nothing.
 pub fn a_core_keeps_segments<C: HasState>()
     ensures { KeepsSegments C C.state }
 {}
 
-/// Of such a core: what each image held before the steps of a run is held after them, and its disk is settled again. The function
-/// does nothing.
+/// Of such a core: what each image held before the steps of a run is held after them, where none is one of a collection; and its disk
+/// is settled again. The function does nothing.
 pub fn a_core_keeps_what_is_held<C: HasState>()
     ensures held { StaysHeld C C.state }
     ensures settled { StaysSettled C C.state }
@@ -61,7 +61,7 @@ pub fn a_core_survives_crashes<C: HasState>()
     ensures end { EndsWithAll C C.state }
 {}
 
-/// Whatever the disk of a core holds, a run adds records and containers to it: no other byte before the end of the slots
+/// Whatever the disk of a core holds, a run without steps of a collection adds records and containers to it: no other byte before the end of the slots
 /// changes, but those of the journal where a checkpoint is made. At any moment of a run, also where a write fails, what was
 /// written before it stays: the containers, and the journal where its half has a cell for each command. The function does
 /// nothing.

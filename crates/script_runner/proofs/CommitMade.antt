@@ -145,7 +145,7 @@ module _ (C : Type 0) (state : C → CoreState) (among : ByteSet) (distinct : Ha
       };
       recorded = recorded;
       at =
-          runs_on S m (committed m actor name whole.file image) sessions (state old) (state new) f at leads steps.stops at.state_is refl leads.content.1
+          runs_on S m (committed m actor name whole.file image) sessions (state old) (state new) f at leads steps.stops at.state_is refl refl refl refl leads.content.1
           (done_faults (state old) (state new) f.event.step (answers.Committed sequence) steps.made.effect ∙ at.faults_are) (leads.counted ∙ ap one_more at.counted) Idle None refl own below;
       leaves = leads.leaves;
     }

@@ -149,7 +149,7 @@ module _ (C : Type 0) (state : C → CoreState) (among : ByteSet) (distinct : Ha
       rested : blames refusal ≡ NoCall → RunsAt S m sessions (state new)
       rested none =
           subst (λ (now : Sessions). RunsAt S m now (state new)) same_sessions
-          (runs_on S m m sessions (state old) (state new) f at leads stays at.state_is (refused_stored f.event.step refusal file m.stored)
+          (runs_on S m m sessions (state old) (state new) f at leads stays at.state_is (refused_stored f.event.step refusal file m.stored) refl refl refl
           (names_rested (state old) (state new) f.event.step name (Put (root_of file)) refusal stays steps.stops steps.made.effect ∙ at.content_is)
           (counts_none (state old) (state new) refusal none (refused_faults (state old) (state new) f.event.step refusal steps.made.effect) ∙ at.faults_are) (leads.counted ∙ at.counted)
           (part_in m actor) (Some t) (sym (set-get_or m.parts actor _)) own below)

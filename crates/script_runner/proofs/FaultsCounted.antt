@@ -1,4 +1,5 @@
 -- What lines leave of the disk: it is the same one, later, and its count of faults tells what was refused.
+use Rattle.actor_parts.specs.declared.step.Answer.TheVariants as answers
 use Rattle.std.proofs.Common.{◌≡◌, ◌⊎◌, inl, inr, ◌∙◌, ◌+◌, ◌≤◌, ℕ, Bool, true, false, if◌then◌else◌, List, [], ◌∷◌, Option, Some, None, Result, Ok, Err, refl, sym, ap, subst, arith}
 use Rattle.std.specs.Prelude.{◌||◌, nat_lt}
 use Rattle.std.specs.List.{list_any}
@@ -30,10 +31,11 @@ use Rattle.store_core.specs.State.{CoreState, Event}
 use Rattle.store_core.proofs.Stepping.{step_later}
 use Rattle.session_turns.specs.Turns.{Asks, Feeds, IsPaused, IsRefusedTurn, TakesTurn, TurnRun, TurnsStopped}
 use Rattle.plain_machine.specs.Runs.{Replied}
-use Rattle.script_runner.specs.Acts.{Acts, ActsReopen, ActsOrNot, BarsBy, RefusesPut, RefusesStep, RunnerState, RunsLine}
+use Rattle.script_runner.specs.Acts.{Acts, ActsReopen, ActsOrNot, BarsBy, RefusesPut, RefusesStep, RunnerState, RunsLine, CollectionRun, Sweeps}
 use Rattle.script_runner.specs.AnyDisk.{LinesGoOn}
 use Rattle.script_runner.specs.Named.{tells_fault}
 use Rattle.script_runner.specs.Sessions.{Sessions}
+use Rattle.refusals.specs.declared.refusal.Phase.{Phase}
 
 -- The same disk, later, whose count of faults tells how calls ended.
 pub record Went (by : Ending) (old new : DiskView) : Type 0 where
@@ -147,6 +149,15 @@ module _ (C : Type 0) (state : C → CoreState) where
     put_went name refusal s t old new (inr done) =
         went_on (ending_of (blames refusal)) (state old).disk (state done.1).disk (state new).disk (turns_went done.0 s t old done.1 done.2) (refuses_went actor (asked.Commit name done.3.0) refusal done.1 new done.3.2)
 
+  collected_went : (phases : List Phase) (old mid : C) → CollectionRun C state phases old mid → GoesBy Done old mid
+  collected_went [] old mid run = done_here old mid run
+  collected_went (phase ∷ phases) old mid run =
+      went_on Done (state old).disk (state run.0).disk (state mid).disk (step_went (state old) (state run.0) _ run.1.0.1) (collected_went phases run.0 mid run.1.1)
+
+  swept_went : (answer : Result Answer Refusal) (old new : C) → Sweeps C state answer old new → GoesBy (ending blames answer) old new
+  swept_went answer old new sweeps =
+      went_on (ending blames answer) (state old).disk (state sweeps.1.0).disk (state new).disk (collected_went sweeps.0 old sweeps.1.0 sweeps.1.1.0) (step_went (state sweeps.1.0) (state new) _ sweeps.1.1.1.1)
+
   acts_went : (line : LineValue) (reply : ReplyValue) (r s : RunnerState C) → Acts C state line reply r s → GoesBy (ending_in reply) r.core s.core
   acts_went (lines.Begin a) (replies.Begun b) r s acts = step_went (state r.core) (state s.core) _ acts.1.0.2.1
   acts_went (lines.Begin a) (replies.Refused refusal) r s acts = refuses_went a asked.Begin refusal r.core s.core acts.0.0
@@ -177,6 +188,13 @@ module _ (C : Type 0) (state : C → CoreState) where
   acts_went (lines.Delete name) (replies.Refused refusal) r s acts = refuses_went 0 (asked.Delete name) refusal r.core s.core acts.0
   acts_went lines.ListNames (replies.Listed files) r s acts = step_went (state r.core) (state s.core) _ acts.0.1
   acts_went lines.ListNames (replies.Refused refusal) r s acts = step_went (state r.core) (state s.core) _ acts.0.1
+  acts_went (lines.Gc percent) (replies.Collecting snapshot) r s acts = step_went (state r.core) (state s.core) _ acts.0.1
+  acts_went (lines.Gc percent) (replies.Refused refusal) r s acts = step_went (state r.core) (state s.core) _ acts.0.1
+  acts_went lines.GcStep (replies.Step phase) r s acts = step_went (state r.core) (state s.core) _ acts.0.1
+  acts_went lines.GcStep (replies.Collected freed copied) r s acts = step_went (state r.core) (state s.core) _ acts.0.1
+  acts_went lines.GcStep (replies.Refused refusal) r s acts = step_went (state r.core) (state s.core) _ acts.0.1
+  acts_went lines.Sweep (replies.Collected freed copied) r s acts = swept_went (Ok (answers.Done freed copied)) r.core s.core acts.0
+  acts_went lines.Sweep (replies.Refused refusal) r s acts = swept_went (Err refusal) r.core s.core acts.0
   acts_went lines.Stat (replies.Stat holdings) r s acts = step_went (state r.core) (state s.core) _ acts.0.1
   acts_went line reply r s acts = absurd acts
 

@@ -23,6 +23,8 @@ use Rattle.plain_machine.specs.Turns.{Writer, MachineTurns, RefusesStep, Refuses
 use Rattle.script_runner.specs.Acts.{Acts, ActsOrNot, ActsReopen, RunnerState, RunsLine, moment_of, noted_if}
 use Rattle.script_runner.specs.Follows.{Follows, FollowsBy, Notes}
 use Rattle.script_runner.specs.Sessions.{Sessions}
+use Rattle.plain_machine.specs.Collections.{CollectionSteps, RefusesCollectionStep}
+use Rattle.refusals.specs.declared.refusal.Phase.{Phase}
 
 -- ---- the machine's files
 
@@ -41,7 +43,7 @@ step_stored Claim s w (refusals.Clash key at) m n is = ap (λ (x : Machine). x.s
 step_stored Claim s w refusal m n is = absurd is
 step_stored (Seal kind) s w (refusals.Unpinned key) m n is = ap (λ (x : Machine). x.stored) is.1.1
 step_stored (Seal kind) s w (refusals.Full free) m n is = ap (λ (x : Machine). x.stored) is.1.1
-step_stored (Seal kind) s w refusals.Numbers m n is = ap (λ (x : Machine). x.stored) is.1.1
+step_stored (Seal kind) s w refusals.Numbers m n is = ap (λ (x : Machine). x.stored) is.2.1
 step_stored (Seal kind) s w refusals.DiskRead m n is = ap (λ (x : Machine). x.stored) is.3
 step_stored (Seal kind) s w (refusals.Clash key at) m n is = ap (λ (x : Machine). x.stored) is.1.1
 step_stored (Seal kind) s w refusals.DiskWrite m n is = ap (λ (x : Machine). x.stored) is.3
@@ -74,6 +76,18 @@ delete_stored name refusals.Numbers m n is = of_same m n is.3
 delete_stored name refusals.DiskWrite m n is = ap (λ (x : Machine). x.stored) is.5
 delete_stored name refusal m n is = absurd is
 
+-- a step of a collection
+collect_stored : (refusal : Refusal) (m n : Machine) → RefusesCollectionStep refusal m n → n.stored ≡ m.stored
+collect_stored refusals.NotCollecting m n is = of_same m n is.1
+collect_stored refusals.Memory m n is = ap (λ (x : Machine). x.stored) is.1.1
+collect_stored refusals.DiskRead m n is = ap (λ (x : Machine). x.stored) is.3
+collect_stored refusals.DiskWrite m n is = ap (λ (x : Machine). x.stored) is.3
+collect_stored refusal m n is = absurd is
+
+steps_stored : (phases : List Phase) (m n : Machine) → CollectionSteps phases m n → n.stored ≡ m.stored
+steps_stored [] m n is = of_same m n is
+steps_stored (phase ∷ phases) m n is = steps_stored phases is.0 n is.1.1 ∙ ap (λ (x : Machine). x.stored) is.1.0.others
+
 on_stored : (line : LineValue) (refusal : Refusal) (m n : Machine) → RefusesOn line refusal m n → n.stored ≡ m.stored
 on_stored (lines.Begin a) refusals.Memory m n is = of_same m n is
 on_stored (lines.Push a digits) refusals.Memory m n is = ap (λ (x : Machine). x.stored) is.1.1.1.1 ∙ turns_stored a is.0 m is.1.0 is.1.1.0
@@ -89,6 +103,10 @@ on_stored (lines.Read a name) refusals.NoFile m n is = of_same m n is.2
 on_stored (lines.Next a) refusals.DiskRead m n is = ap (λ (x : Machine). x.stored) is.1.1
 on_stored (lines.Delete name) refusal m n is = delete_stored name refusal m n is
 on_stored lines.ListNames refusals.Memory m n is = of_same m n is
+on_stored (lines.Gc percent) refusals.Memory m n is = of_same m n is.1
+on_stored (lines.Gc percent) (refusals.Collecting phase) m n is = of_same m n is.1
+on_stored lines.GcStep refusal m n is = collect_stored refusal m n is
+on_stored lines.Sweep refusal m n is = collect_stored refusal is.1.0 n is.1.1.1 ∙ steps_stored is.0 m is.1.0 is.1.1.0
 on_stored line refusal m n is = absurd is
 
 refuses_stored : (line : LineValue) (refusal : Refusal) (m n : Machine) → Refuses line refusal m n → n.stored ≡ m.stored
@@ -130,6 +148,10 @@ does_number (lines.Next a) (replies.End b) m n is = ap (λ (x : Machine). x.stor
 does_number (lines.Drop a) (replies.Dropped b) m n is = ap (λ (x : Machine). x.stored.last) is.1.1
 does_number (lines.Delete name) (replies.Deleted sequence) m n is = ap (λ (x : Machine). x.stored.last) is.others
 does_number lines.ListNames (replies.Listed files) m n is = ap (λ (x : Machine). x.stored.last) is.1
+does_number (lines.Gc percent) (replies.Collecting snapshot) m n is = ap (λ (x : Machine). x.stored.last) is.others
+does_number lines.GcStep (replies.Step phase) m n is = ap (λ (x : Machine). x.stored.last) is.others
+does_number lines.GcStep (replies.Collected freed copied) m n is = ap (λ (x : Machine). x.stored.last) is.others
+does_number lines.Sweep (replies.Collected freed copied) m n is = ap (λ (x : Machine). x.stored.last) is.1.1.1.others ∙ ap last_of (steps_stored is.0 m is.1.0 is.1.1.0)
 does_number lines.Stat (replies.Stat counted) m n is = ap (λ (x : Machine). x.stored.last) is.1
 does_number line reply m n is = absurd is
 
@@ -213,6 +235,13 @@ module _ (C : Type 0) (state : C → CoreState) (S : List ℕ → Type 0) (m n :
   acts_moments (lines.Delete name) (replies.Refused refusal) acts = acts.2
   acts_moments lines.ListNames (replies.Listed files) acts = acts.2
   acts_moments lines.ListNames (replies.Refused refusal) acts = acts.2
+  acts_moments (lines.Gc percent) (replies.Collecting snapshot) acts = acts.2
+  acts_moments (lines.Gc percent) (replies.Refused refusal) acts = acts.2
+  acts_moments lines.GcStep (replies.Step phase) acts = acts.2
+  acts_moments lines.GcStep (replies.Collected freed copied) acts = acts.2
+  acts_moments lines.GcStep (replies.Refused refusal) acts = acts.2
+  acts_moments lines.Sweep (replies.Collected freed copied) acts = acts.2
+  acts_moments lines.Sweep (replies.Refused refusal) acts = acts.2
   acts_moments lines.Stat (replies.Stat holdings) acts = acts.2
   acts_moments line reply acts = absurd acts
 

@@ -20,7 +20,7 @@ use Rattle.store_core.specs.Frame.{commands_in, commands_of}
 use Rattle.store_core.specs.Runs.{CoreRun, AreNoGcSteps, IsNoGcStep}
 use Rattle.store_core.specs.State.{CoreState, Event}
 use Rattle.session_turns.specs.Turns.{Asks, Feeds, IsPaused, IsRefusedTurn, TakesTurn, TurnRun, TurnsStopped}
-use Rattle.script_runner.specs.Frame.{commands_of_line}
+use Rattle.script_runner.specs.Frame.{IsNoSweep, commands_of_line}
 use Rattle.script_runner.specs.Acts.{Acts, ActsOrNot, DoesStep, RefusesPut, RefusesStep, RunnerState, RunsLine, counted}
 
 -- steps of a core, one after the other, none of a collection, of which so many at most give a name a root or take it away
@@ -98,42 +98,46 @@ module _ (C : Type 0) (state : C → CoreState) where
   put_refused actor name refusal s t old new (inr tried) =
       both 0 1 1 old tried.1 new (omega arith) (turns actor tried.0 s t old tried.1 tried.2) (refuses_or 1 actor (asked.Commit name tried.3.0) refusal tried.1 new tt (omega arith) tried.3.2)
 
-  acts : (line : lines.LineValue) (reply : ReplyValue) (r s : RunnerState C) → Acts C state line reply r s → Makes (commands_of_line line) r.core s.core
-  acts (lines.Begin a) (replies.Begun b) r s is = let begins = is.1.0 in does 0 a asked.Begin begins.0 r.core s.core tt (omega arith) begins.2
-  acts (lines.Begin a) (replies.Refused refusal) r s is = refuses_or 0 a asked.Begin refusal r.core s.core tt (omega arith) is.0.0
-  acts (lines.Push a digits) (replies.Pushed b count) r s is = let pushes = is.1.0 in feeds a (Ok tt) (pushed_bytes digits) pushes.0 pushes.1 r.core s.core pushes.3
-  acts (lines.Push a digits) (replies.Refused refusal) r s is = let pushes = is.0 in feeds a (Err refusal) (pushed_bytes digits) pushes.0 pushes.1 r.core s.core pushes.3
-  acts (lines.Finish a) (replies.Finished b count) r s is = let ends = is.1.0 in none 0 r.core s.core ends.6
-  acts (lines.Finish a) (replies.Refused refusal) r s is = let ends = is.0 in none 0 r.core s.core ends.2
-  acts (lines.Turn a) (replies.Turn b told) r s is = let made = is.1.0 in takes a (Ok made.3.0) made.0 made.1 r.core s.core made.3.2
-  acts (lines.Turn a) (replies.Refused refusal) r s is = let made = is.0 in takes a (Err refusal) made.0 made.1 r.core s.core made.3
-  acts (lines.Commit a name) (replies.Committed b sequence) r s is =
+  acts : (line : lines.LineValue) (reply : ReplyValue) (r s : RunnerState C) → IsNoSweep line → Acts C state line reply r s → Makes (commands_of_line line) r.core s.core
+  acts (lines.Begin a) (replies.Begun b) r s unswept is = let begins = is.1.0 in does 0 a asked.Begin begins.0 r.core s.core tt (omega arith) begins.2
+  acts (lines.Begin a) (replies.Refused refusal) r s unswept is = refuses_or 0 a asked.Begin refusal r.core s.core tt (omega arith) is.0.0
+  acts (lines.Push a digits) (replies.Pushed b count) r s unswept is = let pushes = is.1.0 in feeds a (Ok tt) (pushed_bytes digits) pushes.0 pushes.1 r.core s.core pushes.3
+  acts (lines.Push a digits) (replies.Refused refusal) r s unswept is = let pushes = is.0 in feeds a (Err refusal) (pushed_bytes digits) pushes.0 pushes.1 r.core s.core pushes.3
+  acts (lines.Finish a) (replies.Finished b count) r s unswept is = let ends = is.1.0 in none 0 r.core s.core ends.6
+  acts (lines.Finish a) (replies.Refused refusal) r s unswept is = let ends = is.0 in none 0 r.core s.core ends.2
+  acts (lines.Turn a) (replies.Turn b told) r s unswept is = let made = is.1.0 in takes a (Ok made.3.0) made.0 made.1 r.core s.core made.3.2
+  acts (lines.Turn a) (replies.Refused refusal) r s unswept is = let made = is.0 in takes a (Err refusal) made.0 made.1 r.core s.core made.3
+  acts (lines.Commit a name) (replies.Committed b sequence) r s unswept is =
       let commits = is.1 in
       let puts = commits.2 in
       both 0 1 1 r.core puts.mid s.core (omega arith) (turns a puts.answers_are commits.0 puts.ready r.core puts.mid puts.turns) (does 1 a (asked.Commit name puts.root) puts.answer puts.mid s.core tt (omega arith) puts.put)
-  acts (lines.Commit a name) (replies.Refused refusal) r s is = let refused = is.0 in put_refused a name refusal refused.0 refused.1 r.core s.core refused.3
-  acts (lines.Abort a) (replies.Aborted b) r s is = let aborts = is.1.0 in does 0 a asked.Abort aborts.0.0 r.core s.core tt (omega arith) aborts.0.1
-  acts (lines.Abort a) (replies.Refused refusal) r s is = let aborts = is.0 in refuses 0 a asked.Abort refusal r.core s.core tt (omega arith) aborts.0
-  acts (lines.Read a name) (replies.Reading b count) r s is = let opens = is.1 in does 0 a (asked.OpenRead name) (answers.Opened count) r.core s.core tt (omega arith) opens.0
-  acts (lines.Read a name) (replies.Refused refusal) r s is = refuses 0 a (asked.OpenRead name) refusal r.core s.core tt (omega arith) is.0
-  acts (lines.Next a) (replies.Bytes b bytes) r s is =
+  acts (lines.Commit a name) (replies.Refused refusal) r s unswept is = let refused = is.0 in put_refused a name refusal refused.0 refused.1 r.core s.core refused.3
+  acts (lines.Abort a) (replies.Aborted b) r s unswept is = let aborts = is.1.0 in does 0 a asked.Abort aborts.0.0 r.core s.core tt (omega arith) aborts.0.1
+  acts (lines.Abort a) (replies.Refused refusal) r s unswept is = let aborts = is.0 in refuses 0 a asked.Abort refusal r.core s.core tt (omega arith) aborts.0
+  acts (lines.Read a name) (replies.Reading b count) r s unswept is = let opens = is.1 in does 0 a (asked.OpenRead name) (answers.Opened count) r.core s.core tt (omega arith) opens.0
+  acts (lines.Read a name) (replies.Refused refusal) r s unswept is = refuses 0 a (asked.OpenRead name) refusal r.core s.core tt (omega arith) is.0
+  acts (lines.Next a) (replies.Bytes b bytes) r s unswept is =
       let given = is.1.1.1.1 in
       single 0 r.core s.core (record { actor = a; step = asked.ReadNext; answer = Ok (answers.Bytes is.1.0); buf = is.1.1.0 }) tt (omega arith) given.0
-  acts (lines.Next a) (replies.End b) r s is = let ends = is.1.1 in single 0 r.core s.core (record { actor = a; step = asked.ReadNext; answer = Ok answers.End; buf = is.1.0 }) tt (omega arith) ends.0
-  acts (lines.Next a) (replies.Refused refusal) r s is = let refused = is.1 in single 0 r.core s.core (record { actor = a; step = asked.ReadNext; answer = Err refusal; buf = is.0 }) tt (omega arith) refused.0
-  acts (lines.Drop a) (replies.Dropped b) r s is = let drops = is.1.0 in does 0 a asked.EndRead drops.0 r.core s.core tt (omega arith) drops.1
-  acts (lines.Drop a) (replies.Refused refusal) r s is = refuses 0 a asked.EndRead refusal r.core s.core tt (omega arith) is.0
-  acts (lines.Delete name) (replies.Deleted sequence) r s is = does 1 0 (asked.Delete name) is.0.answer r.core s.core tt (omega arith) is.0.deleted
-  acts (lines.Delete name) (replies.Refused refusal) r s is = refuses_or 1 0 (asked.Delete name) refusal r.core s.core tt (omega arith) is.0
-  acts lines.ListNames (replies.Listed files) r s is = does 0 0 asked.ListNames (answers.Listed files) r.core s.core tt (omega arith) is.0
-  acts lines.ListNames (replies.Refused refusal) r s is = refuses 0 0 asked.ListNames refusal r.core s.core tt (omega arith) is.0
-  acts lines.Stat (replies.Stat holdings) r s is = does 0 0 asked.Stat (counted holdings) r.core s.core tt (omega arith) is.0
-  acts line reply r s is = absurd is
+  acts (lines.Next a) (replies.End b) r s unswept is = let ends = is.1.1 in single 0 r.core s.core (record { actor = a; step = asked.ReadNext; answer = Ok answers.End; buf = is.1.0 }) tt (omega arith) ends.0
+  acts (lines.Next a) (replies.Refused refusal) r s unswept is = let refused = is.1 in single 0 r.core s.core (record { actor = a; step = asked.ReadNext; answer = Err refusal; buf = is.0 }) tt (omega arith) refused.0
+  acts (lines.Drop a) (replies.Dropped b) r s unswept is = let drops = is.1.0 in does 0 a asked.EndRead drops.0 r.core s.core tt (omega arith) drops.1
+  acts (lines.Drop a) (replies.Refused refusal) r s unswept is = refuses 0 a asked.EndRead refusal r.core s.core tt (omega arith) is.0
+  acts (lines.Delete name) (replies.Deleted sequence) r s unswept is = does 1 0 (asked.Delete name) is.0.answer r.core s.core tt (omega arith) is.0.deleted
+  acts (lines.Delete name) (replies.Refused refusal) r s unswept is = refuses_or 1 0 (asked.Delete name) refusal r.core s.core tt (omega arith) is.0
+  acts lines.ListNames (replies.Listed files) r s unswept is = does 0 0 asked.ListNames (answers.Listed files) r.core s.core tt (omega arith) is.0
+  acts lines.ListNames (replies.Refused refusal) r s unswept is = refuses 0 0 asked.ListNames refusal r.core s.core tt (omega arith) is.0
+  acts (lines.Gc percent) (replies.Collecting snapshot) r s unswept is = does 0 0 (asked.GcStart percent) (answers.Started snapshot) r.core s.core tt (omega arith) is.0
+  acts (lines.Gc percent) (replies.Refused refusal) r s unswept is = refuses 0 0 (asked.GcStart percent) refusal r.core s.core tt (omega arith) is.0
+  acts lines.GcStep reply r s unswept is = absurd unswept
+  acts lines.Sweep reply r s unswept is = absurd unswept
+  acts lines.Stat (replies.Stat holdings) r s unswept is = does 0 0 asked.Stat (counted holdings) r.core s.core tt (omega arith) is.0
+  acts line reply r s unswept is = absurd is
 
-  or_not : (line : lines.LineValue) (reply : ReplyValue) (r s : RunnerState C) → ActsOrNot C state line reply r s → Makes (commands_of_line line) r.core s.core
-  or_not line reply r s (inl taken) = acts line reply r s taken.1
-  or_not line reply r s (inr barred) = none (commands_of_line line) r.core s.core (ap (λ (t : RunnerState C). t.core) barred.3)
+  or_not : (line : lines.LineValue) (reply : ReplyValue) (r s : RunnerState C) → IsNoSweep line → ActsOrNot C state line reply r s → Makes (commands_of_line line) r.core s.core
+  or_not line reply r s unswept (inl taken) = acts line reply r s unswept taken.1
+  or_not line reply r s unswept (inr barred) = none (commands_of_line line) r.core s.core (ap (λ (t : RunnerState C). t.core) barred.3)
 
-  pub line_steps : (line : lines.LineValue) (reply : ReplyValue) (r s : RunnerState C) → line ≢ lines.Reopen → RunsLine C state line reply r s → Makes (commands_of_line line) r.core s.core
-  line_steps lines.Reopen reply r s differs runs = absurd (differs refl)
-  line_steps line reply r s differs runs = or_not line reply r s runs
+  pub line_steps : (line : lines.LineValue) (reply : ReplyValue) (r s : RunnerState C) → line ≢ lines.Reopen → IsNoSweep line → RunsLine C state line reply r s → Makes (commands_of_line line) r.core s.core
+  line_steps lines.Reopen reply r s differs unswept runs = absurd (differs refl)
+  line_steps line reply r s differs unswept runs = or_not line reply r s unswept runs

@@ -131,7 +131,7 @@ module _ (C : Type 0) (state : C → CoreState) (among : ByteSet) (distinct : Ha
       at_next : RunsAt S next s.sessions new
       at_next =
           subst (λ (now : Sessions). RunsAt S next now new) (set-get_or r.sessions 0 None ∙ sym sessions)
-          (runs_on S m next r.sessions old new f at leads steps.stops at.state_is refl leads.content.1
+          (runs_on S m next r.sessions old new f at leads steps.stops at.state_is refl refl refl refl leads.content.1
           (done_faults old new f.event.step (answers.Deleted sequence) steps.made.effect ∙ at.faults_are) (leads.counted ∙ ap one_more at.counted)
           (part_in m 0) (session_of r.sessions 0) (sym (set-get_or m.parts 0 _)) own first_below)
 

@@ -9,6 +9,7 @@ use Rattle.script_runner.specs.Acts.{RunnerState, RunsLine}
 use Rattle.script_runner.specs.Follows.{Follows, IsCut, IsOfActor, LinesFollow}
 use Rattle.script_runner.proofs.Along.{GoesAlong}
 use Rattle.script_runner.proofs.LineNotes.{notes}
+use Rattle.script_runner.proofs.LinesCollect.{gc_line, step_line, sweep_line}
 use Rattle.script_runner.proofs.LinesCommit.{commit_line}
 use Rattle.script_runner.proofs.LinesDelete.{delete_line}
 use Rattle.script_runner.proofs.LinesGiving.{abort_line, begin_line, finish_line}
@@ -32,6 +33,9 @@ lines_along C state among (lines.Next a) reply m r s distinct actor cut follows 
 lines_along C state among (lines.Drop a) reply m r s distinct actor cut follows runs = drop_line C state among distinct m r s follows a reply runs
 lines_along C state among (lines.Delete name) reply m r s distinct actor cut follows runs = delete_line C state among distinct m r s follows name reply runs
 lines_along C state among lines.ListNames reply m r s distinct actor cut follows runs = list_line C state among distinct m r s follows reply runs
+lines_along C state among (lines.Gc percent) reply m r s distinct actor cut follows runs = gc_line C state among distinct m r s follows percent reply runs
+lines_along C state among lines.GcStep reply m r s distinct actor cut follows runs = step_line C state among distinct m r s follows reply runs
+lines_along C state among lines.Sweep reply m r s distinct actor cut follows runs = sweep_line C state among distinct m r s follows reply runs
 lines_along C state among lines.Stat reply m r s distinct actor cut follows runs = stat_line C state among distinct m r s follows reply runs
 lines_along C state among lines.Reopen reply m r s distinct actor cut follows runs = reopen_line C state (IsIn among) m r s follows reply runs
 

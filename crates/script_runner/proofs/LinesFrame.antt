@@ -25,7 +25,7 @@ use Rattle.store_core.proofs.Frames.{written_stays}
 use Rattle.store_core.proofs.Opened.{durable_settled}
 use Rattle.plain_machine.specs.Runs.{Replied, ends}
 use Rattle.script_runner.specs.Acts.{ActsReopen, RefusesReopen, RunnerState, RunsLine, counted}
-use Rattle.script_runner.specs.Frame.{IsOnContent, LinesKeepWritten, NeedNoCheckpoint, NeverReopens, OpenedIsOn, commands_among, commands_of_line}
+use Rattle.script_runner.specs.Frame.{IsOnContent, LinesKeepWritten, IsNoSweep, NeedNoCheckpoint, NeverReopens, NeverSweeps, OpenedIsOn, commands_among, commands_of_line}
 use Rattle.script_runner.specs.Scripts.{RunsLines}
 use Rattle.script_runner.proofs.LaterStores.{keeps_on}
 use Rattle.script_runner.proofs.LineSteps.{MakesSteps, commands-append, does, line_steps, run_on}
@@ -144,18 +144,18 @@ module _ (C : Type 0) (state : C → CoreState) where
   after_reopen reply rs more r mid t again last acts runs rest = absurd acts
 
   after_line : (line : LineValue) (reply : ReplyValue) (rs more : List Replied) (r mid t : RunnerState C) → (NeverReopens rs → (line ≢ lines.Reopen) × NeverReopens more)
-      → commands_of_line line + commands_among more ≤ commands_among rs → (ends line reply ≡ true → more ≡ []) → RunsLine C state line reply r mid → RunsLines C state more mid t
+      → commands_of_line line + commands_among more ≤ commands_among rs → (ends line reply ≡ true → more ≡ []) → IsNoSweep line → RunsLine C state line reply r mid → RunsLines C state more mid t
       → KeepsFrom more mid.core t.core → KeepsFrom rs r.core t.core
-  after_line lines.Reopen reply rs more r mid t never few last line runs rest = after_reopen reply rs more r mid t (λ none. (never none).0 refl) last line runs rest
-  after_line line reply rs more r mid t never few last made runs rest =
-      after_steps (commands_of_line line) rs more r.core mid.core t.core few (λ none. (never none).1) (line_steps C state line reply r mid (λ same. cc) made) rest
+  after_line lines.Reopen reply rs more r mid t never few last unswept line runs rest = after_reopen reply rs more r mid t (λ none. (never none).0 refl) last line runs rest
+  after_line line reply rs more r mid t never few last unswept made runs rest =
+      after_steps (commands_of_line line) rs more r.core mid.core t.core few (λ none. (never none).1) (line_steps C state line reply r mid (λ same. cc) unswept made) rest
 
-  all : (rs : List Replied) (r t : RunnerState C) → RunsLines C state rs r t → KeepsFrom rs r.core t.core
-  all [] r t runs = subst (λ (x : RunnerState C). KeepsFrom [] r.core x.core) (sym runs) (steps_keep r.core)
-  all (one ∷ more) r t runs =
+  all : (rs : List Replied) (r t : RunnerState C) → NeverSweeps rs → RunsLines C state rs r t → KeepsFrom rs r.core t.core
+  all [] r t unswept runs = subst (λ (x : RunnerState C). KeepsFrom [] r.core x.core) (sym runs) (steps_keep r.core)
+  all (one ∷ more) r t unswept runs =
       let mid : RunnerState C = runs.1.0 in
-      after_line one.line one.reply (one ∷ more) more r mid t (λ never. never) (omega arith) runs.0 runs.1.1.0 runs.1.1.1 (all more mid t runs.1.1.1)
+      after_line one.line one.reply (one ∷ more) more r mid t (λ never. never) (omega arith) runs.0 unswept.0 runs.1.1.0 runs.1.1.1 (all more mid t unswept.1 runs.1.1.1)
 
   pub lines_keep : LinesKeepWritten C state
-  lines_keep rs s base r t on told encodes runs =
-      keeps_where s (Needs [] rs s) (NeedNoCheckpoint rs s) base r.core t.core (λ needs. (needs.0, omega (arith, needs.1))) (all rs r t runs [] s base r.core on told encodes refl tt)
+  lines_keep rs s base r t unswept on told encodes runs =
+      keeps_where s (Needs [] rs s) (NeedNoCheckpoint rs s) base r.core t.core (λ needs. (needs.0, omega (arith, needs.1))) (all rs r t unswept runs [] s base r.core on told encodes refl tt)

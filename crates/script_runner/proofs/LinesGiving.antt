@@ -179,7 +179,7 @@ module _ (C : Type 0) (state : C → CoreState) (among : ByteSet) (distinct : Ha
       (subst (λ (o : Option SessionState). FollowsPart (part_in m a) o (part_of old.parts a) old) ends.2.0 (each_part S m r.sessions old follows running a))) in
       let gives = gave.2 in
       let has = ends.4 gives.history gives.has in
-      let onward : Onward S m.stored a old new = subst (λ (c : C). Onward S m.stored a old (state c)) (sym core) (stays S m r.sessions a old running) in
+      let onward : Onward S m a old new = subst (λ (c : C). Onward S m a old (state c)) (sym core) (stays S m r.sessions a old running) in
       let part : Part = Finished wrote.0 wrote.1 in
       line_on C state S (lines.Finish a) (replies.Finished b count) m r s a is follows onward (slice_set m.parts a part) m.faults (ap (λ (c : C). (state c).disk.faults) core ∙ follows.faults_are)
       (one_set a Idle part m.parts) (subst (OneSet a None r.sessions) (sym ends.2.1) (one_set a None (Some t) r.sessions))

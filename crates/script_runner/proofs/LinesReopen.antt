@@ -1,6 +1,5 @@
 -- `reopen` follows the plain machine, whether the store was opened again or not.
-use Rattle.store_core.proofs.SafeSteps.{alone}
-use Rattle.std.proofs.Common.{◌≡◌, ◌⊎◌, inl, inr, ◌≤◌, ◌<◌, ◌-◌, ℕ, false, true, List, length, replicate, Option, None, Ok, Err, refl, sym, ◌∙◌, ap, subst, arith}
+use Rattle.std.proofs.Common.{[], ◌≡◌, ◌⊎◌, inl, inr, ◌≤◌, ◌<◌, ◌-◌, ℕ, false, true, List, length, replicate, Option, None, Ok, Err, refl, sym, ◌∙◌, ap, subst, arith, Bool, Some, ◌∷◌}
 use Rattle.store_model.specs.Collisions.{IsOf}
 use Rattle.std.proofs.lemmas.List.{get_or-replicate, length-replicate}
 use Rattle.std.specs.FinMap as finite
@@ -10,7 +9,7 @@ use Rattle.dd_disk.specs.Shows.{Shows}
 use Rattle.dd_disk.specs.View.{CrashLeaves, OnlyReads}
 use Rattle.dd_disk.proofs.Later.{reads_here, reads_leave, reads_on}
 use Rattle.dd_disk.proofs.Shows.{shown_content}
-use Rattle.disk_format.specs.declared.numbers.TheConstants.{RESERVE}
+use Rattle.disk_format.specs.declared.numbers.TheConstants.{RESERVE, LAST_ID}
 use Rattle.container_meta.specs.Places.{PlaceMap}
 use Rattle.container_meta.specs.Segments.{KindSegment}
 use Rattle.merkle_file.specs.declared.top.Top.{Top}
@@ -30,7 +29,7 @@ use Rattle.script_lines.specs.ReplyValue.{ReplyValue}
 use Rattle.store_model.specs.Files.{Stored}
 use Rattle.store_model.specs.Image.{Store, IsValidFor, names_of}
 use Rattle.store_model.specs.Indexing.{entries_in, bytes_in_slots}
-use Rattle.store_model.specs.Slots.{HasKey, free_slots}
+use Rattle.store_model.specs.Slots.{HasKey, free_slots, AreHeaders, last_id}
 use Rattle.store_state.specs.declared.tables.Tables.{Tables}
 use Rattle.store_state.specs.Invariant.{HoldsPart}
 use Rattle.store_state.specs.Refused.{blames}
@@ -48,16 +47,24 @@ use Rattle.store_core.proofs.Crashes.{last_at}
 use Rattle.store_core.proofs.Making.{up_of}
 use Rattle.store_core.proofs.Opened.{begins_at, kept_runs, new_runs}
 use Rattle.store_core.proofs.RunningOn.{step_runs}
-use Rattle.plain_machine.specs.Machine.{Machine, Part, Idle, RunState, Running, Stopped, MayBeFound, opened, part_in}
+use Rattle.plain_machine.specs.Machine.{Collecting, Machine, Part, Idle, RunState, Running, Stopped, MayBeFound, opened, part_in}
 use Rattle.plain_machine.specs.Refused as plain_refused
 use Rattle.plain_machine.specs.Runs.{StepBy, StepReopen}
 use Rattle.script_runner.specs.Acts.{ActsReopen, RefusesReopen, Reopens, RunnerState, counted}
-use Rattle.script_runner.specs.Follows.{Follows, FollowsBy, FollowsPart, IsOfFound, Takes}
+use Rattle.script_runner.specs.Follows.{Follows, FollowsBy, FollowsPart, IsOfFound, Takes, FollowsCollection, FollowsStore, FollowsStoreOf}
 use Rattle.script_runner.specs.Sessions.{Sessions, session_of}
 use Rattle.script_runner.proofs.Along.{GoesAlong}
 use Rattle.script_runner.proofs.Images.{sound}
 use Rattle.script_runner.proofs.PartsOn.{part_on}
 use Rattle.script_runner.proofs.SameNames.{same_count}
+use Rattle.gc_steps.specs.FewSources.{HasFewSources}
+use Rattle.plain_machine.specs.Content.{greatest_id}
+use Rattle.plain_machine.proofs.GreatestId.{greatest_is}
+use Rattle.script_runner.proofs.TurnHolds.{right_here}
+use Rattle.gc_steps.specs.StepsToCome.{steps_to_come}
+use Rattle.store_core.proofs.SafeSteps.{alone}
+use Rattle.container_meta.specs.Spelling.{HeaderValue}
+use Rattle.script_runner.proofs.CollectionOn.{low_id}
 
 -- ---- tables and index that stay, over a disk that is only read
 
@@ -91,18 +98,32 @@ module _ (old new : CoreState) (reads : OnlyReads old.disk new.disk) (tables_are
         (subst (IsSafeIn at.index store old.parts image) (sym collection_is) (at.safe image (sym reads.content_is ∙ told)));
   }
 
-  still_begins : (S : List ℕ → Type 0) (stored : Stored) → new.parts ≡ old.parts → BeginsAt S stored old → BeginsAt S stored new
-  still_begins S stored parts_are begins = record {
+  pub still_follows : (collecting : Option Collecting) → FollowsCollection collecting old → FollowsCollection collecting new
+  still_follows None follows = collection_is ∙ follows
+  still_follows (Some k) follows = record {
+    collection = follows.collection;
+    runs = collection_is ∙ follows.runs;
+    freed_is = follows.freed_is;
+    most = follows.most;
+    few = subst (λ (tables : Tables). HasFewSources follows.most tables.held follows.collection) (sym tables_are) follows.few;
+    nears = subst (λ (tables : Tables). steps_to_come follows.most tables.held follows.collection ≤ k.to_come) (sym tables_are) follows.nears;
+  }
+
+  pub still_begins : (S : List ℕ → Type 0) (stored : Stored) (last : ℕ) (collecting : Option Collecting) (collected : Bool) → new.parts ≡ old.parts → FollowsStore S stored last collecting collected old
+      → FollowsStore S stored last collecting collected new
+  still_begins S stored last collecting collected parts_are begins = record {
     store = begins.store;
     is_at = still_at S begins.store stored parts_are begins.is_at;
-    whole = subst (IndexesAll begins.store) (sym index_is) begins.whole;
-    none_runs = collection_is ∙ begins.none_runs;
+    whole = λ none. subst (IndexesAll begins.store) (sym index_is) (begins.whole none);
+    collects = still_follows collecting begins.collects;
+    low = begins.low;
+    begun = begins.begun;
     last_id_is = ap (λ (tables : Tables). tables.held.last_id) tables_are ∙ begins.last_id_is;
     settled = subst (λ (tables : Tables). IsSettled tables.slots new.disk) (sym tables_are)
         (λ bytes told image there. begins.settled bytes (sym reads.content_is ∙ told) image (reads.images_are image there));
   }
 
-  still_held : (seg : KindSegment) → IsHeldIn seg old → IsHeldIn seg new
+  pub still_held : (seg : KindSegment) → IsHeldIn seg old → IsHeldIn seg new
   still_held seg held = record {
     indexed = λ index is. held.indexed index (sym index_is ∙ is);
     newest = λ store is.
@@ -110,7 +131,7 @@ module _ (old new : CoreState) (reads : OnlyReads old.disk new.disk) (tables_are
         record { known = (was.known.0, reads.content_is ∙ was.known.1); each = λ image there. was.each image (reads.images_are image there) };
   }
 
-  still_takes : (rest : List (List ℕ)) (ahead : List Top) → Takes rest ahead old → Takes rest ahead new
+  pub still_takes : (rest : List (List ℕ)) (ahead : List Top) → Takes rest ahead old → Takes rest ahead new
   still_takes rest ahead takes = record {
     counts = takes.counts;
     indexed = λ index is. takes.indexed index (sym index_is ∙ is);
@@ -132,6 +153,25 @@ found_by S m sessions c (Stopped other) is stands image there = stands.images im
 step_by : (run : RunState) (reply : ReplyValue) (m n : Machine) → StepReopen reply m n → StepBy run lines.Reopen reply m n
 step_by Running reply m n is = is
 step_by (Stopped other) reply m n is = is
+
+-- ids of containers are low
+low_ids : (held : List (Option HeaderValue)) → AreHeaders held → last_id held ≤ LAST_ID
+low_ids [] headers = omega arith
+low_ids (None ∷ cs) headers = low_ids cs headers
+low_ids (Some h ∷ cs) headers = let rest = low_ids cs headers.1 in omega (arith, rest, low_id h.id headers.0.id)
+
+-- a core that was opened just now: no collection began
+pub opened_store : (S : List ℕ → Type 0) (stored : Stored) (image : List ℕ) (c : CoreState) → c.disk.content ≡ Some image → BeginsAt S stored c → FollowsStore S stored (greatest_id image) None false c
+opened_store S stored image c told begins = record {
+  store = begins.store;
+  is_at = begins.is_at;
+  settled = begins.settled;
+  whole = λ none. begins.whole;
+  last_id_is = begins.last_id_is ∙ sym (greatest_is image begins.store (right_here S begins.store stored c begins.is_at image told));
+  collects = begins.none_runs;
+  low = subst (λ (n : ℕ). n ≤ LAST_ID) (sym (greatest_is image begins.store (right_here S begins.store stored c begins.is_at image told))) (low_ids begins.store.held begins.is_at.valid.headers);
+  begun = λ k is. absurd (let wrong = is in cc);
+}
 
 -- ---- idle actors
 
@@ -185,11 +225,12 @@ module _ (C : Type 0) (state : C → CoreState) (S : List ℕ → Type 0) (m : M
     steps : Steps counting mid after
     steps = running_step mid after counting acts.opened.stop_is acts.counts.1
 
-    begun : BeginsAt S found mid
-    begun = begins_at S found m.content before.disk mid acts.opened acts.durable acts.reads follows.content_is content_found.1.1
+    begun : FollowsStoreOf S next mid
+    begun = opened_store S found m.content mid (acts.reads.only.content_is ∙ follows.content_is)
+        (begins_at S found m.content before.disk mid acts.opened acts.durable acts.reads follows.content_is content_found.1.1)
 
-    begins : BeginsAt S found after
-    begins = still_begins mid after steps.made.effect.disk.only steps.made.effect.tables.tables_are steps.made.effect.tables.index_is steps.collects S found steps.made.row.1 begun
+    begins : FollowsStoreOf S next after
+    begins = still_begins mid after steps.made.effect.disk.only steps.made.effect.tables.tables_are steps.made.effect.tables.index_is steps.collects S found next.last_id next.collecting next.collected steps.made.row.1 begun
 
     up : IsUp after
     up = up_of after steps.stops
@@ -241,7 +282,7 @@ module _ (C : Type 0) (state : C → CoreState) (S : List ℕ → Type 0) (m : M
       runs = kept.stop_is ∙ stands.runs;
       up = up_of after (kept.stop_is ∙ stands.runs)
           (kept_runs before after reads.later.size_is kept (subst (λ (stop : Option Stop). UnlessStopped stop (IsUp before)) (sym stands.runs) stands.up));
-      begins = still_begins before after reads kept.tables_are kept.index_is kept.collection_is S m.stored kept.parts_are stands.begins;
+      begins = still_begins before after reads kept.tables_are kept.index_is kept.collection_is S m.stored m.last_id m.collecting m.collected kept.parts_are stands.begins;
       parts = λ actor below. subst (λ (parts : List core_part.Part). FollowsPart (part_in m actor) (session_of r.sessions actor) (part_of parts actor) after) (sym kept.parts_are)
           (part_on before after (still_held before after reads kept.tables_are kept.index_is kept.collection_is) (still_takes before after reads kept.tables_are kept.index_is kept.collection_is) (part_in m actor) (session_of r.sessions actor) (part_of before.parts actor) (stands.parts actor below));
     }

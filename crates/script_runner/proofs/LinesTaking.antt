@@ -98,7 +98,7 @@ module _ (C : Type 0) (state : C → CoreState) (among : ByteSet) (distinct : Ha
   run is = by_running (IsIn among) m r.sessions (state r.core) is follows
 
   -- a step of an actor after which it is at this, in the core, and has no session
-  stepped : (line : lines.LineValue) (reply : ReplyValue) (a : ℕ) → m.state ≡ Running → Onward (IsIn among) m.stored a (state r.core) (state s.core) → (state s.core).disk.faults ≡ (state r.core).disk.faults → s.sessions ≡ r.sessions
+  stepped : (line : lines.LineValue) (reply : ReplyValue) (a : ℕ) → m.state ≡ Running → Onward (IsIn among) m a (state r.core) (state s.core) → (state s.core).disk.faults ≡ (state r.core).disk.faults → s.sessions ≡ r.sessions
       → session_of r.sessions a ≡ None → (part : Part) (core : core_part.Part) → (a < ACTORS → part_of (state s.core).parts a ≡ core) → FollowsPart part None core (state s.core)
       → StepRunning line reply m (at_parts m (slice_set m.parts a part) m.faults) → GoesAlong C state (IsIn among) line reply m r s
   stepped line reply a is onward faults sessions none part core core_is own step =
@@ -108,7 +108,7 @@ module _ (C : Type 0) (state : C → CoreState) (among : ByteSet) (distinct : Ha
       (set_here a Idle part m.parts (omega (arith, below, follows.parts_are))) (ap (λ (now : Sessions). session_of now a) sessions ∙ none) (core_is below) own) step
 
   -- a step that leaves its part
-  pub rested : (line : lines.LineValue) (reply : ReplyValue) (a : ℕ) → m.state ≡ Running → Onward (IsIn among) m.stored a (state r.core) (state s.core) → (state s.core).disk.faults ≡ (state r.core).disk.faults → s.sessions ≡ r.sessions
+  pub rested : (line : lines.LineValue) (reply : ReplyValue) (a : ℕ) → m.state ≡ Running → Onward (IsIn among) m a (state r.core) (state s.core) → (state s.core).disk.faults ≡ (state r.core).disk.faults → s.sessions ≡ r.sessions
       → (state s.core).parts ≡ (state r.core).parts → StepRunning line reply m m → GoesAlong C state (IsIn among) line reply m r s
   rested line reply a is onward faults sessions parts step =
       line_on C state S line reply m r s a is follows onward m.parts m.faults (faults ∙ follows.faults_are)
@@ -211,14 +211,14 @@ module _ (C : Type 0) (state : C → CoreState) (among : ByteSet) (distinct : Ha
         (ahead_at S running.begins.store m.stored old at m.content follows.content_is rest cursor core_reads.takes)
 
     -- what is to come of it
-    taken_here : (ahead : List Top) (rest_now : List (List ℕ)) → Onward (IsIn among) m.stored a (state r.core) (state s.core) → SegmentsAhead core_reads.takes.counts (run is).begins.store.held m.content ahead rest_now → Takes rest_now ahead (state s.core)
+    taken_here : (ahead : List Top) (rest_now : List (List ℕ)) → Onward (IsIn among) m a (state r.core) (state s.core) → SegmentsAhead core_reads.takes.counts (run is).begins.store.held m.content ahead rest_now → Takes rest_now ahead (state s.core)
     taken_here ahead rest_now onward is_ahead =
         let at = (run is).begins.is_at in
         onward.takes rest_now ahead
         (takes_at S (run is).begins.store m.stored old at m.content follows.content_is core_reads.takes.counts (core_reads.takes.indexed at.index at.index_known) rest_now ahead is_ahead)
 
     -- it goes on with what it had
-    reads_on : (line : lines.LineValue) (reply : ReplyValue) (faults : ℕ) → Onward (IsIn among) m.stored a (state r.core) (state s.core) → (state s.core).disk.faults ≡ faults → (core : core_part.Part)
+    reads_on : (line : lines.LineValue) (reply : ReplyValue) (faults : ℕ) → Onward (IsIn among) m a (state r.core) (state s.core) → (state s.core).disk.faults ≡ faults → (core : core_part.Part)
         → part_of (state s.core).parts a ≡ core → FollowsPart (Reading rest) None core (state s.core) → StepRunning line reply m (at_parts m m.parts faults) → GoesAlong C state (IsIn among) line reply m r s
     reads_on line reply faults onward faults_are core core_is own step =
         line_on C state S line reply m r s a is follows onward m.parts faults faults_are

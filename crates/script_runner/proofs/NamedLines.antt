@@ -33,6 +33,7 @@ use Rattle.script_runner.specs.Scripts.{AreOfActors, RunsLines}
 use Rattle.script_runner.specs.Sessions.{Sessions, kind_in, session_of}
 use Rattle.script_runner.proofs.FaultsCounted.{line_went}
 use Rattle.script_runner.proofs.NamedAt.{At, Told, at_opened, at_still, going, part_kind}
+use Rattle.script_runner.proofs.NamedCollect.{gc_told, step_told, sweep_told}
 use Rattle.script_runner.proofs.NamedGiving.{abort_told, begin_told, commit_told, finish_told, push_told, turn_told}
 use Rattle.script_runner.proofs.NamedNames.{delete_told, list_told}
 use Rattle.script_runner.proofs.NamedSteps.{Stands, done_stands, quiet_step}
@@ -177,6 +178,9 @@ module _ (C : Type 0) (state : C → CoreState) (v : DiskView) (t : Account) (r 
   acts_told (lines.Drop a) reply of admits acts = drop_told C state t r s at a (of a refl) reply admits acts
   acts_told (lines.Delete name) reply of admits acts = delete_told C state t r s at name reply admits acts
   acts_told lines.ListNames reply of admits acts = list_told C state t r s at reply admits acts
+  acts_told (lines.Gc percent) reply of admits acts = gc_told C state t r s at percent reply admits acts
+  acts_told lines.GcStep reply of admits acts = step_told C state t r s at reply admits acts
+  acts_told lines.Sweep reply of admits acts = sweep_told C state t r s at reply admits acts
   acts_told lines.Stat reply of admits acts = stat_told C state t r s at reply admits acts
   acts_told lines.Reopen reply of admits acts = absurd acts
 

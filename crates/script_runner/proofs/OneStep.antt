@@ -1,5 +1,5 @@
 -- What one step of a core means to a runner that follows the plain machine.
-use Rattle.std.proofs.Common.{◌≡◌, ◌≢◌, ◌⊎◌, inl, inr, ◌<◌, ℕ, List, [], ◌∷◌, ◌++◌, Option, Some, None, Result, Err, refl, sym, ◌∙◌, subst}
+use Rattle.std.proofs.Common.{Bool, ◌≡◌, ◌≢◌, ◌⊎◌, inl, inr, ◌<◌, ℕ, List, [], ◌∷◌, ◌++◌, Option, Some, None, Result, Err, refl, sym, ◌∙◌, ap, subst, ◌≤◌}
 use Rattle.std.proofs.lemmas.List.{append-nil}
 use Rattle.std.specs.List.{AllByRecursion}
 use Rattle.dd_disk.specs.View.{CrashLeaves}
@@ -23,8 +23,7 @@ use Rattle.store_core.specs.Core as core_step
 use Rattle.store_core.specs.Core.{Steps, StopsAfter}
 use Rattle.store_core.specs.Frame.{AddsBytes}
 use Rattle.store_core.specs.Keeping.{IsHeldIn, kept_by}
-use Rattle.store_core.specs.Opening.{BeginsAt}
-use Rattle.store_core.specs.Runs.{ChangesTo, FileEvent, FileRun, FileStep, IsOnTheWay, changes_by, stored_by, stored_tried, stored_with, IsNoGcStep}
+use Rattle.store_core.specs.Runs.{ChangesTo, FileEvent, FileRun, IsAt, FileStep, IsOnTheWay, changes_by, stored_by, stored_tried, stored_with, IsNoGcStep}
 use Rattle.store_core.specs.State.{CoreState, IsUp, UnlessStopped}
 use Rattle.store_core.proofs.CoreRuns.{core_run, running_step}
 use Rattle.store_core.proofs.Crashes.{leaves_on_the_way}
@@ -35,18 +34,18 @@ use Rattle.store_core.proofs.KeepingSegments.{keeps_segments, stays_held, stays_
 use Rattle.store_core.proofs.Making.{up_of}
 use Rattle.store_core.proofs.RunningOn.{step_runs}
 use Rattle.store_core.proofs.Stepping.{row_one}
-use Rattle.plain_machine.specs.Machine.{Machine, part_in}
-use Rattle.script_runner.specs.Follows.{FollowsPart, FollowsRunning, Takes}
+use Rattle.plain_machine.specs.Machine.{Collecting, Machine, part_in}
+use Rattle.script_runner.specs.Follows.{FollowsCollection, FollowsPart, FollowsStore, FollowsRunning, Takes}
 use Rattle.script_runner.specs.Sessions.{Sessions, session_of}
-use Rattle.script_runner.proofs.LastIds.{last_on}
+use Rattle.script_runner.proofs.CollectionOn.{collection_on, last_on, low_on}
+use Rattle.script_runner.proofs.PlainSteps.{IsPlainStep, last_after, plain_no_gc}
 use Rattle.script_runner.proofs.PartsOn.{part_on, takes_on}
-use Rattle.gc_steps.specs.declared.collection.Collection.{Collection}
-use Rattle.store_core.specs.Collecting.{Collects, IsKeptKey, MarksIn}
+use Rattle.disk_format.specs.declared.numbers.TheConstants.{LAST_ID}
 
 -- Of a core that was at this store of the machine's files, and runs on: it is at the store that the step's changes lead to, and
 -- what other actors are at is as the machine says.
 pub record Stepped (S : List ℕ → Type 0) (m : Machine) (sessions : Sessions) (f : FileEvent) (store : Store) (old new : CoreState) : Type 0 where
-  pub begins : BeginsAt S (stored_by f m.stored) new
+  pub begins : FollowsStore S (stored_by f m.stored) (last_after f.event.answer m.last_id) m.collecting m.collected new
   pub up : IsUp new
   pub changes : ChangesTo (changes_by f.event.step f.event.answer) store begins.store
   pub content : (image : List ℕ) × (new.disk.content ≡ Some image) × AddsBytes store begins.store m.content image
@@ -61,48 +60,21 @@ pub record Stepped (S : List ℕ → Type 0) (m : Machine) (sessions : Sessions)
   pub leaves : CrashLeaves (λ image. IsOf S m.stored image ⊎ IsOf S (stored_by f m.stored) image) old.disk new.disk
   pub last_is : new.tables.journal.last ≡ (stored_by f m.stored).last
 
+-- the same files, id and collection by other names
+pub begins_as : (S : List ℕ → Type 0) (stored later : Stored) (last then : ℕ) (collecting goes : Option Collecting) (collected was : Bool) (c : CoreState) → stored ≡ later → last ≡ then → collecting ≡ goes → collected ≡ was
+    → FollowsStore S stored last collecting collected c → FollowsStore S later then goes was c
+begins_as S stored later last then collecting goes collected was c stored_is last_is goes_is was_is begins = record {
+  store = begins.store;
+  is_at = subst (λ (x : Stored). IsAt S begins.store x c) stored_is begins.is_at;
+  settled = begins.settled;
+  whole = λ none. begins.whole (was_is ∙ none);
+  last_id_is = begins.last_id_is ∙ last_is;
+  low = subst (λ (n : ℕ). n ≤ LAST_ID) last_is begins.low;
+  collects = subst (λ (x : Option Collecting). FollowsCollection x c) goes_is begins.collects;
+  begun = λ k is. sym was_is ∙ begins.begun k (goes_is ∙ is);
+}
+
 -- ---- one step more
-
--- a step of other kinds than those of a collection
-abbrev pub IsPlainStep : StepValue → Type 0
-IsPlainStep (asked.GcStart percent) = ⊥
-IsPlainStep asked.GcStep = ⊥
-IsPlainStep step = Unit {0}
-
-pub plain_no_gc : (step : StepValue) → IsPlainStep step → IsNoGcStep step
-plain_no_gc (asked.GcStart percent) plain = absurd plain
-plain_no_gc asked.GcStep plain = absurd plain
-plain_no_gc asked.Begin plain = tt
-plain_no_gc (asked.Claim seg) plain = tt
-plain_no_gc (asked.Seal filled) plain = tt
-plain_no_gc (asked.Commit name root) plain = tt
-plain_no_gc asked.Abort plain = tt
-plain_no_gc (asked.OpenRead name) plain = tt
-plain_no_gc asked.ReadNext plain = tt
-plain_no_gc asked.EndRead plain = tt
-plain_no_gc (asked.Delete name) plain = tt
-plain_no_gc asked.ListNames plain = tt
-plain_no_gc asked.Stat plain = tt
-
--- where no collection runs, none does after such a step
-none_marked : (P : List ℕ → Type 0) (was now : Option Collection) → was ≡ None → MarksIn P was now → now ≡ None
-none_marked P None now none marks = marks
-none_marked P (Some c) now none marks = absurd (let wrong = none in cc)
-
-plain_none : (step : StepValue) (answer : Result Answer Refusal) (old new : CoreState) → IsPlainStep step → Collects step answer old new → old.collection ≡ None → new.collection ≡ None
-plain_none (asked.GcStart percent) answer old new plain collects none = absurd plain
-plain_none asked.GcStep answer old new plain collects none = absurd plain
-plain_none (asked.Claim seg) answer old new plain collects none = none_marked (IsKeptKey (asked.Claim seg) answer) old.collection new.collection none collects
-plain_none (asked.Seal filled) answer old new plain collects none = none_marked (IsKeptKey (asked.Seal filled) answer) old.collection new.collection none collects
-plain_none asked.Begin answer old new plain collects none = collects ∙ none
-plain_none (asked.Commit name root) answer old new plain collects none = collects ∙ none
-plain_none asked.Abort answer old new plain collects none = collects ∙ none
-plain_none (asked.OpenRead name) answer old new plain collects none = collects ∙ none
-plain_none asked.ReadNext answer old new plain collects none = collects ∙ none
-plain_none asked.EndRead answer old new plain collects none = collects ∙ none
-plain_none (asked.Delete name) answer old new plain collects none = collects ∙ none
-plain_none asked.ListNames answer old new plain collects none = collects ∙ none
-plain_none asked.Stat answer old new plain collects none = collects ∙ none
 
 -- changes lead to one store
 same_end : (changes : List StoreChange) (s t u : Store) → ChangesTo changes s t → ChangesTo changes s u → t ≡ u
@@ -140,14 +112,16 @@ module _ (C : Type 0) (state : C → CoreState) (among : ByteSet) (apart : HasNo
     next : NextOn S store changes_are (stored_by f m.stored) (state old) (state new)
     next = file_step among apart f store m.stored (state old) (state new) no_gc step running.begins.is_at stays
 
-    begins : BeginsAt S (stored_by f m.stored) (state new)
+    begins : FollowsStore S (stored_by f m.stored) (last_after f.event.answer m.last_id) m.collecting m.collected (state new)
     begins = record {
       store = next.next.store;
       is_at = next.next.is_at;
-      whole = next.whole running.begins.whole;
-      none_runs = plain_none f.event.step f.event.answer (state old) (state new) plain steps.collects running.begins.none_runs;
-      last_id_is = last_on store next.next.store (state old) (state new) stays running.begins.last_id_is f.event.actor f.event.buf f.event.step f.event.answer no_gc steps.made.row steps.made.effect steps.stops next.next.chain;
       settled = stays_settled C state among (f ∷ []) store m.stored old new apart running.begins.is_at running.begins.settled run stays;
+      whole = λ none. next.whole (running.begins.whole none);
+      last_id_is = last_on (state old) (state new) S store next.next.store m.stored (stored_by f m.stored) running.begins.is_at next.next.is_at f.event stays no_gc steps ∙ ap (last_after f.event.answer) running.begins.last_id_is;
+      collects = collection_on (state old) (state new) S store next.next.store m.stored (stored_by f m.stored) running.begins.is_at next.next.is_at m.collecting f.event stays plain steps next.next.chain running.begins.collects;
+      low = low_on (state old) (state new) S store next.next.store m.stored (stored_by f m.stored) running.begins.is_at next.next.is_at m.last_id f.event no_gc steps next.next.chain running.begins.low;
+      begun = running.begins.begun;
     }
 
     up : IsUp (state new)

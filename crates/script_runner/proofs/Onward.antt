@@ -14,13 +14,12 @@ use Rattle.script_lines.specs.Grammar.{LineValue}
 use Rattle.script_lines.specs.ReplyValue.{ReplyValue}
 use Rattle.store_model.specs.Files.{Stored}
 use Rattle.store_core.specs.Keeping.{IsHeldIn}
-use Rattle.store_core.specs.Opening.{BeginsAt}
 use Rattle.store_core.specs.State.{CoreState, IsUp}
 use Rattle.store_core.proofs.Crashes.{last_at}
 use Rattle.plain_machine.specs.Machine.{Machine, Part, Idle, RunState, Running, Stopped, MayBeFound, part_in}
 use Rattle.plain_machine.specs.Runs.{StepBy, StepRunning}
 use Rattle.script_runner.specs.Acts.{RunnerState}
-use Rattle.script_runner.specs.Follows.{Follows, FollowsBy, FollowsPart, FollowsRunning, IsOfFound, Takes}
+use Rattle.script_runner.specs.Follows.{Follows, FollowsBy, FollowsPart, FollowsRunning, FollowsStoreOf, IsOfFound, Takes}
 use Rattle.script_runner.specs.Sessions.{Sessions, session_of}
 use Rattle.script_runner.proofs.Along.{GoesAlong}
 use Rattle.script_runner.proofs.Images.{sound}
@@ -28,22 +27,22 @@ use Rattle.script_runner.proofs.Lists.{OneSet}
 use Rattle.script_runner.proofs.PartsOn.{part_on}
 
 -- It runs at the same files. What actors are promised is so still, and at most the part of one actor is another.
-pub record Onward (S : List ℕ → Type 0) (stored : Stored) (actor : ℕ) (old new : CoreState) : Type 0 where
+pub record Onward (S : List ℕ → Type 0) (m : Machine) (actor : ℕ) (old new : CoreState) : Type 0 where
   pub runs : new.stop ≡ None
   pub up : IsUp new
-  pub begins : BeginsAt S stored new
+  pub begins : FollowsStoreOf S m new
   pub held : (seg : KindSegment) → IsHeldIn seg old → IsHeldIn seg new
   pub takes : (rest : List (List ℕ)) (ahead : List Top) → Takes rest ahead old → Takes rest ahead new
   pub others : (other : ℕ) → other ≢ actor → other < ACTORS → part_of new.parts other ≡ part_of old.parts other
   pub content_is : new.disk.content ≡ old.disk.content
   pub counted : new.acknowledged ≡ old.acknowledged
-  pub leaves : CrashLeaves (IsOf S stored) old.disk new.disk
+  pub leaves : CrashLeaves (IsOf S m.stored) old.disk new.disk
 
 -- each image is of the files
-of_files : (S : List ℕ → Type 0) (stored : Stored) (c : CoreState) → BeginsAt S stored c → (image : List ℕ) → c.disk.images image → IsOf S stored image
-of_files S stored c begins image is = (begins.store, (begins.is_at.stands.each image is, last_at S begins.store stored c begins.is_at))
+of_files : (S : List ℕ → Type 0) (m : Machine) (c : CoreState) → FollowsStoreOf S m c → (image : List ℕ) → c.disk.images image → IsOf S m.stored image
+of_files S m c begins image is = (begins.store, (begins.is_at.stands.each image is, last_at S begins.store m.stored c begins.is_at))
 
-pub stays : (S : List ℕ → Type 0) (m : Machine) (sessions : Sessions) (actor : ℕ) (c : CoreState) → FollowsRunning S m sessions c → Onward S m.stored actor c c
+pub stays : (S : List ℕ → Type 0) (m : Machine) (sessions : Sessions) (actor : ℕ) (c : CoreState) → FollowsRunning S m sessions c → Onward S m actor c c
 stays S m sessions actor c running = record {
   runs = running.runs;
   up = running.up;
@@ -53,7 +52,7 @@ stays S m sessions actor c running = record {
   others = λ other differs below. refl;
   content_is = refl;
   counted = refl;
-  leaves = reads_leave (IsOf S m.stored) c.disk c.disk (of_files S m.stored c running.begins) (reads_here c.disk);
+  leaves = reads_leave (IsOf S m.stored) c.disk c.disk (of_files S m c running.begins) (reads_here c.disk);
 }
 
 -- ---- the machine that is followed
@@ -66,7 +65,7 @@ by_running S m sessions c is follows = subst (λ (state : RunState). FollowsBy s
 
 images_found : (by : RunState) (S : List ℕ → Type 0) (m : Machine) (sessions : Sessions) (c : CoreState) → m.state ≡ by → FollowsBy by S m sessions c → (image : List ℕ) → c.disk.images image
     → IsOfFound S m.state m.stored image
-images_found Running S m sessions c is running image there = found_same m.state S m.stored image is (of_files S m.stored c running.begins image there)
+images_found Running S m sessions c is running image there = found_same m.state S m.stored image is (of_files S m c running.begins image there)
 images_found (Stopped other) S m sessions c is stopped image there = stopped.images image there
 
 -- each image is of files that may be found
@@ -86,7 +85,7 @@ part_by c p q s t x y same_part same_session same_core is =
 abbrev pub at_parts : Machine → List Part → ℕ → Machine
 at_parts m parts faults = record m { parts = parts; faults = faults }
 
-module _ (S : List ℕ → Type 0) (m : Machine) (sessions sessions_now : Sessions) (actor : ℕ) (old new : CoreState) (is : m.state ≡ Running) (follows : Follows S m sessions old) (onward : Onward S m.stored actor old new)
+module _ (S : List ℕ → Type 0) (m : Machine) (sessions sessions_now : Sessions) (actor : ℕ) (old new : CoreState) (is : m.state ≡ Running) (follows : Follows S m sessions old) (onward : Onward S m actor old new)
     (parts : List Part) (faults : ℕ) (faults_are : new.disk.faults ≡ faults) (one_part : OneSet actor Idle m.parts parts) (one_session : OneSet actor None sessions sessions_now)
     (own : actor < ACTORS → FollowsPart (slice_index_or parts actor Idle) (session_of sessions_now actor) (part_of new.parts actor) new) where
   each : (other : ℕ) → other < ACTORS → FollowsPart (slice_index_or parts other Idle) (session_of sessions_now other) (part_of new.parts other) new
@@ -115,7 +114,7 @@ module _ (S : List ℕ → Type 0) (m : Machine) (sessions sessions_now : Sessio
 
 -- a line of a runner that does so
 pub line_on : (C : Type 0) (state : C → CoreState) (S : List ℕ → Type 0) (line : LineValue) (reply : ReplyValue) (m : Machine) (r s : RunnerState C) (actor : ℕ) → m.state ≡ Running → Follows S m r.sessions (state r.core)
-    → Onward S m.stored actor (state r.core) (state s.core) → (parts : List Part) (faults : ℕ) → (state s.core).disk.faults ≡ faults → OneSet actor Idle m.parts parts → OneSet actor None r.sessions s.sessions
+    → Onward S m actor (state r.core) (state s.core) → (parts : List Part) (faults : ℕ) → (state s.core).disk.faults ≡ faults → OneSet actor Idle m.parts parts → OneSet actor None r.sessions s.sessions
     → (actor < ACTORS → FollowsPart (slice_index_or parts actor Idle) (session_of s.sessions actor) (part_of (state s.core).parts actor) (state s.core))
     → StepRunning line reply m (at_parts m parts faults) → GoesAlong C state S line reply m r s
 line_on C state S line reply m r s actor is follows onward parts faults faults_are one_part one_session own step =

@@ -18,7 +18,7 @@ use Rattle.plain_machine.specs.Machine.{Machine, Idle, opened, part_in}
 use Rattle.script_runner.specs.Follows.{Follows, FollowsPart}
 use Rattle.script_runner.specs.Opened.{OpenedFollows}
 use Rattle.script_runner.specs.Sessions.{Sessions, session_of}
-use Rattle.script_runner.proofs.LinesReopen.{follows_idle, idle_part}
+use Rattle.script_runner.proofs.LinesReopen.{follows_idle, idle_part, opened_store}
 
 module _ (S : List ℕ → Type 0) (stored : Stored) (image : List ℕ) (v : DiskView) (c : CoreState)
     (new : IsNew (Shows v c.disk) v.size c) (durable : IsDurable c.disk) (reads : Reads Done v c.disk) (told : v.content ≡ Some image)
@@ -45,7 +45,7 @@ module _ (S : List ℕ → Type 0) (stored : Stored) (image : List ℕ) (v : Dis
     stands = record {
       runs = new.stop_is;
       up = up_of c new.stop_is (new_runs (Shows v c.disk) v.size c reads.only.later.size_is new);
-      begins = begins_at S stored image v c new durable reads told is;
+      begins = opened_store S stored image c (reads.only.content_is ∙ told) (begins_at S stored image v c new durable reads told is);
       parts = idle;
     };
   }

@@ -24,6 +24,9 @@ goes_on (lines.Next a) reply other = refl
 goes_on (lines.Drop a) reply other = refl
 goes_on (lines.Delete name) reply other = refl
 goes_on lines.ListNames reply other = refl
+goes_on (lines.Gc percent) reply other = refl
+goes_on lines.GcStep reply other = refl
+goes_on lines.Sweep reply other = refl
 goes_on lines.Stat reply other = refl
 goes_on lines.Reopen reply other = absurd (other refl)
 
@@ -49,6 +52,9 @@ module _ (C : Type 0) (state : C → CoreState) where
       by_line (lines.Drop a) p x = x
       by_line (lines.Delete name) p x = p
       by_line lines.ListNames p x = p
+      by_line (lines.Gc percent) p x = x
+      by_line lines.GcStep p x = x
+      by_line lines.Sweep p x = x
       by_line lines.Stat p x = x
       by_line lines.Reopen p x = p
   plain_reply line (replies.Deleted q) r s plain acts ack = by_line line plain acts
@@ -65,6 +71,9 @@ module _ (C : Type 0) (state : C → CoreState) where
       by_line (lines.Drop a) p x = x
       by_line (lines.Delete name) p x = p
       by_line lines.ListNames p x = p
+      by_line (lines.Gc percent) p x = x
+      by_line lines.GcStep p x = x
+      by_line lines.Sweep p x = x
       by_line lines.Stat p x = x
       by_line lines.Reopen p x = p
   plain_reply line reply r s plain acts ack = ack
@@ -81,6 +90,9 @@ module _ (C : Type 0) (state : C → CoreState) where
   runs_so (lines.Drop a) reply r s other so = so
   runs_so (lines.Delete name) reply r s other so = so
   runs_so lines.ListNames reply r s other so = so
+  runs_so (lines.Gc percent) reply r s other so = so
+  runs_so lines.GcStep reply r s other so = so
+  runs_so lines.Sweep reply r s other so = so
   runs_so lines.Stat reply r s other so = so
   runs_so lines.Reopen reply r s other so = absurd (other refl)
 

@@ -18,7 +18,7 @@ use Rattle.actor_parts.specs.StepValue as asked
 use Rattle.actor_parts.specs.StepValue.{StepValue}
 use Rattle.actor_parts.proofs.Apart.{apart}
 use Rattle.store_model.specs.Image.{Store, Encodes}
-use Rattle.store_model.specs.Slots.{first_free, last_id, with_slot}
+use Rattle.store_model.specs.Slots.{first_free, with_slot}
 use Rattle.store_model.specs.Steps.{with_sealed}
 use Rattle.ingest_steps.specs.Claiming.{key_of_seg}
 use Rattle.ingest_steps.specs.Pinning.{with_pins}
@@ -38,16 +38,17 @@ use Rattle.ingest_session.specs.Moving.{IsOffered}
 use Rattle.ingest_session.specs.State.{SessionState}
 use Rattle.ingest_session.specs.Told.{IsAnswerFor, IsSettled, told_by}
 use Rattle.ingest_session.proofs.Members.{IsIn, all_of, one_of}
-use Rattle.plain_machine.specs.Content.{AddsContainer, Holds, Lacks, SameBut}
+use Rattle.plain_machine.specs.Content.{AddsContainer, Holds, SameBut}
 use Rattle.plain_machine.specs.Machine.{Machine, Part, part_in, put_at}
-use Rattle.plain_machine.specs.Turns.{Writer, MachineTurn, MayBe, Shows, told}
+use Rattle.plain_machine.specs.Turns.{LacksIn, Writer, MachineTurn, MayBe, Shows, last_by, told}
 use Rattle.script_runner.specs.Follows.{FollowsPart, Gives, HasPinOf}
 use Rattle.script_runner.specs.Sessions.{Sessions, with_session}
 use Rattle.session_turns.specs.Turns.{Asks}
 use Rattle.script_runner.proofs.OneStep.{Stepped}
+use Rattle.script_runner.proofs.PieceKeys.{lacks_by}
 use Rattle.session_turns.proofs.Told as stays
 use Rattle.script_runner.proofs.TurnAsks.{asked_event, open_piece, seg_piece}
-use Rattle.script_runner.proofs.TurnHolds.{HasLevel, held_here, lacked_here, piece_level, right_here}
+use Rattle.script_runner.proofs.TurnHolds.{HasLevel, held_here, piece_level, right_here}
 use Rattle.script_runner.proofs.TurnKept.{held_kept, item_in, item_is, kept_absent, kept_held, kept_sealed, kept_still, of_kind, one_item, sealed_kept}
 use Rattle.script_runner.proofs.TurnLeaves.{KeepsStored, keeps_step}
 use Rattle.script_runner.proofs.TurnParts.{GivesAt, follows_giving, told_writer, with_answer}
@@ -86,8 +87,8 @@ container_added id filled store old new adds = record {
 -- ---- the turn
 
 -- the machine after an answer
-abbrev pub after : Machine → ℕ → Part → List ℕ → Machine
-after m actor part image = record (put_at m actor part) { content = image }
+abbrev pub after : Machine → ℕ → Part → List ℕ → ℕ → Machine
+after m actor part image last = record (put_at m actor part) { content = image; last_id = last }
 
 -- what a turn was, and where it leads
 pub record Turned (S : List ℕ → Type 0) (m : Machine) (sessions : Sessions) (actor : ℕ) (answer : Answer) (t : SessionState) (old new : CoreState) : Type 0 where
@@ -131,10 +132,10 @@ module _ (S : List ℕ → Type 0) (m : Machine) (sessions : Sessions) (actor : 
 
     -- so it was a turn
     module _ (step : StepValue) (buf : List ℕ) (leads : Leads step answer buf) (step_is : CoreStep old (event step answer buf).event new) (runs : new.stop ≡ None) (stored : stored_by (event step answer buf) m.stored ≡ m.stored) (faults : new.disk.faults ≡ old.disk.faults) (counted : new.acknowledged ≡ old.acknowledged) where
-      turned : (due : Due) → due_in s ≡ due → Shows due s answer m.content leads.content.0 → (more : PinMap) → part_of new.parts actor ≡ core_parts.Writing more → Gives w.given w.ended (w.answers ++ answer ∷ []) t more new
+      turned : (due : Due) → due_in s ≡ due → Shows due s answer m leads.content.0 → (more : PinMap) → part_of new.parts actor ≡ core_parts.Writing more → Gives w.given w.ended (w.answers ++ answer ∷ []) t more new
           → Turned S m sessions actor answer t old new
       turned due due_is shows more writing gives_now = record {
-        next = after m actor (told (part_in m actor) answer) leads.content.0;
+        next = after m actor (told (part_in m actor) answer) leads.content.0 (last_by answer m.last_id);
         turn = record {
           writer = w;
           is_writer = gives.is_writer;
@@ -152,7 +153,7 @@ module _ (S : List ℕ → Type 0) (m : Machine) (sessions : Sessions) (actor : 
           shows = shows;
           others = refl;
         };
-        at = runs_on S m (after m actor (told (part_in m actor) answer) leads.content.0) sessions old new (event step answer buf) at leads runs at.state_is stored leads.content.1 (faults ∙ at.faults_are) (counted ∙ at.counted)
+        at = runs_on S m (after m actor (told (part_in m actor) answer) leads.content.0 (last_by answer m.last_id)) sessions old new (event step answer buf) at leads runs at.state_is stored refl refl refl leads.content.1 (faults ∙ at.faults_are) (counted ∙ at.counted)
             (told (part_in m actor) answer) (Some t) refl
             (subst (λ (core : core_part.Part). FollowsPart (told (part_in m actor) answer) (Some t) core new) (sym writing)
             (follows_giving (told (part_in m actor) answer) t more new (with_answer w answer) (told_writer (part_in m actor) w answer gives.is_writer) gives_now))
@@ -225,7 +226,7 @@ module _ (S : List ℕ → Type 0) (m : Machine) (sessions : Sessions) (actor : 
           let image : List ℕ = leads.content.0 in
           let same : image ≡ m.content = same_some image m.content (sym leads.content.1 ∙ made.made.effect.disk.only.content_is ∙ at.content_is) in
           let begins = at.running.begins in
-          let lacks : Lacks m.content seg = lacked_here S begins.store m.stored old begins.is_at m.content at.content_is begins.whole seg claimed.looked_up in
+          let lacks : LacksIn m seg = lacks_by S begins.store m old begins.is_at at.content_is seg claimed.looked_up begins.whole in
           turned answers.Absent t told_is history (asked.Claim seg) buf leads step made.stops refl made.made.effect.disk.faults_are made.counted_is Claim due
           (seg, (offered, lacks, same))
           pins
@@ -288,7 +289,7 @@ module _ (S : List ℕ → Type 0) (m : Machine) (sessions : Sessions) (actor : 
         subst (λ (k : Kind). Holds image (of_kind k x)) (sym kind_is)
         (held_here S leads.begins.store m.stored new leads.begins.is_at image leads.content.1 (of_kind mine x) (one_held x is) (open_level x is))
 
-    adds : id ≡ suc (last_id store.held) → AddsContainer id (open_of s mine) m.content image
+    adds : id ≡ suc m.last_id → AddsContainer m.last_id id (open_of s mine) m.content image
     adds id_is = record {
       store = store;
       was = right_here S store m.stored old at.running.begins.is_at m.content at.content_is;
@@ -304,7 +305,7 @@ module _ (S : List ℕ → Type 0) (m : Machine) (sessions : Sessions) (actor : 
         let made = running_step old new (event (asked.Seal (open_of s mine)) (answers.Sealed id) buf).event at.running.runs step in
         let row = made.made.row in
         let pins_are : row.may.pins ≡ pins = same_pins row.may.pins pins (sym row.may.writing ∙ gives.writing) in
-        let id_is : id ≡ suc (last_id store.held) = omega (arith, row.id_is, at.running.begins.last_id_is) in
+        let id_is : id ≡ suc m.last_id = omega (arith, row.id_is, at.running.begins.last_id_is) in
         turned (answers.Sealed id) t told_is history (asked.Seal (open_of s mine)) buf leads step made.stops refl made.made.effect.disk.faults_are made.counted_is (Seal mine) due
         (adds id_is)
         sealed_more

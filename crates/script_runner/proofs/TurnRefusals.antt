@@ -123,10 +123,10 @@ module _ (S : List ℕ → Type 0) (distinct : HasNoCollisions S) (m : Machine) 
         seal_twins S distinct file h pins (λ kind x is. kept_piece m actor w gives.is_writer s h gives.has gives.given_is gives.ended_is kind x is file may) data_among gives.pinned s gives.has mine key
         (subst (λ (k : Kind). first_unpinned_of k xs pins ≡ Some key) kind_is (subst (λ (p : PinMap). first_unpinned_of (open_of s mine).kind xs p ≡ Some key) (pins_same more writing) unpinned))
 
-    pub has_slot : ((slot : ℕ) × sealing.HasSlot old.tables slot) → HasSlot m.content
+    pub has_slot : ((slot : ℕ) × sealing.HasSlot old.tables slot) → HasSlot m
     has_slot has =
         let is = (has.1.slot_is old.disk.size old.known).store_has store at.running.begins.is_at.represents at.running.begins.is_at.valid reserve in
-        (store, (right, (is.spare, subst (λ (id : ℕ). id < LAST_ID) at.running.begins.last_id_is has.1.below)))
+        ((store, (right, is.spare)), subst (λ (id : ℕ). id < LAST_ID) at.running.begins.last_id_is has.1.below)
 
     abbrev IsSealCause : Refusal → Type 0
     IsSealCause refusal =
@@ -163,7 +163,8 @@ module _ (S : List ℕ → Type 0) (distinct : HasNoCollisions S) (m : Machine) 
           inl ((store, (right, cause.1.store_has store at.running.begins.is_at.represents at.running.begins.is_at.valid reserve)), stays faults)
       seal_refused refusals.Numbers faults cause harmless unbroken =
           inl (
-            (store, (right, (cause.1.0.store_has store at.running.begins.is_at.represents at.running.begins.is_at.valid reserve, subst (λ (id : ℕ). LAST_ID ≤ id) at.running.begins.last_id_is cause.1.1))),
+            (store, (right, cause.1.0.store_has store at.running.begins.is_at.represents at.running.begins.is_at.valid reserve)),
+            subst (λ (id : ℕ). LAST_ID ≤ id) at.running.begins.last_id_is cause.1.1,
             stays faults,
           )
       seal_refused (refusals.Clash key difference) faults cause harmless unbroken = inl (has_slot cause.1, stays faults, other key difference harmless.is_twin.0 cause.2)

@@ -139,7 +139,7 @@ module _ (S : List ℕ → Type 0) (m : Machine) (sessions : Sessions) (actor : 
 
     rested_at : RunsAt S (rested leads.content.0) now new
     rested_at =
-        runs_on S m (rested leads.content.0) sessions old new (event step buf) at leads stays at.state_is (refused_stored step refusal [] m.stored) leads.content.1 refl (leads.counted ∙ at.counted)
+        runs_on S m (rested leads.content.0) sessions old new (event step buf) at leads stays at.state_is (refused_stored step refusal [] m.stored) refl refl refl leads.content.1 refl (leads.counted ∙ at.counted)
         (part_in m actor) (Some t) (sym (set-get_or m.parts actor Idle)) own below
 
     slots_stay : SameStore m.content leads.content.0

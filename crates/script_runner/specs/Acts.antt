@@ -10,6 +10,7 @@ use Rattle.actor_parts.specs.declared.step.Answer.TheVariants as answers
 use Rattle.actor_parts.specs.StepValue as asked
 use Rattle.actor_parts.specs.StepValue.{StepValue}
 use Rattle.namespace.specs.Listing.{NamedRoot}
+use Rattle.refusals.specs.declared.refusal.Phase.{Phase}
 use Rattle.refusals.specs.declared.refusal.Refusal.{Refusal}
 use Rattle.refusals.specs.declared.refusal.Refusal.TheVariants.{Memory, Stopped, WrongPart}
 use Rattle.script_lines.specs.declared.reply.Holdings.{Holdings}
@@ -217,6 +218,28 @@ abbrev pub Lists : (C : Type 0) → (C → CoreState) → Result (List NamedRoot
 Lists C state (Ok files) old new = DoesStep 0 asked.ListNames (answers.Listed files) (state old) (state new)
 Lists C state (Err refusal) old new = RefusesStep 0 asked.ListNames refusal (state old) (state new)
 
+-- ---- collections
+
+-- one begins, or doesn't; the first actor asks for it, as for its steps: any would do
+abbrev pub Starts : (C : Type 0) → (C → CoreState) → ℕ → Result ℕ Refusal → C → C → Type 0
+Starts C state percent (Ok snapshot) old new = DoesStep 0 (asked.GcStart percent) (answers.Started snapshot) (state old) (state new)
+Starts C state percent (Err refusal) old new = RefusesStep 0 (asked.GcStart percent) refusal (state old) (state new)
+
+-- a step of the one that runs was answered so
+abbrev pub Collects : (C : Type 0) → (C → CoreState) → Result Answer Refusal → C → C → Type 0
+Collects C state answer old new = (buf : List ℕ) × StepOf 0 asked.GcStep answer buf (state old) (state new)
+
+-- steps of it were done, one after the other
+abbrev pub CollectionRun : (C : Type 0) → (C → CoreState) → List Phase → C → C → Type 0
+CollectionRun C state [] old new = new ≡ old
+CollectionRun C state (phase ∷ phases) old new =
+    (mid : C) × (Collects C state (Ok (answers.Did phase)) old mid × CollectionRun C state phases mid new)
+
+-- and then one was answered so
+abbrev pub Sweeps : (C : Type 0) → (C → CoreState) → Result Answer Refusal → C → C → Type 0
+Sweeps C state answer old new =
+    (phases : List Phase) × ((mid : C) × (CollectionRun C state phases old mid × Collects C state answer mid new))
+
 -- ---- an opening
 
 -- the moments, and one more where the number is another: so a commit or a delete that was left open is found
@@ -286,6 +309,13 @@ Acts C state (lines.Delete name) (replies.Deleted sequence) r s =
 Acts C state (lines.Delete name) (replies.Refused refusal) r s = Core C (RefusesDelete C state name refusal) r s
 Acts C state lines.ListNames (replies.Listed files) r s = Core C (Lists C state (Ok files)) r s
 Acts C state lines.ListNames (replies.Refused refusal) r s = Core C (Lists C state (Err refusal)) r s
+Acts C state (lines.Gc percent) (replies.Collecting snapshot) r s = Core C (Starts C state percent (Ok snapshot)) r s
+Acts C state (lines.Gc percent) (replies.Refused refusal) r s = Core C (Starts C state percent (Err refusal)) r s
+Acts C state lines.GcStep (replies.Step phase) r s = Core C (Collects C state (Ok (answers.Did phase))) r s
+Acts C state lines.GcStep (replies.Collected freed copied) r s = Core C (Collects C state (Ok (answers.Done freed copied))) r s
+Acts C state lines.GcStep (replies.Refused refusal) r s = Core C (Collects C state (Err refusal)) r s
+Acts C state lines.Sweep (replies.Collected freed copied) r s = Core C (Sweeps C state (Ok (answers.Done freed copied))) r s
+Acts C state lines.Sweep (replies.Refused refusal) r s = Core C (Sweeps C state (Err refusal)) r s
 Acts C state lines.Stat (replies.Stat holdings) r s = Core C (Counts C state holdings) r s
 Acts C state line reply r s = ⊥
 

@@ -1,7 +1,8 @@
 -- When a runner follows the plain machine, and what its lines do then (docs/MODEL.md, 'Scripts').
-use Rattle.std.specs.Prelude.{◌≡◌, ◌⊎◌, ◌<◌, ℕ, suc, Bool, true, false, List, [], ◌∷◌, ◌++◌, length, Option, Some, None}
+use Rattle.std.specs.Prelude.{◌≡◌, ◌⊎◌, ◌<◌, ◌≤◌, ℕ, suc, Bool, true, false, List, [], ◌∷◌, ◌++◌, length, Option, Some, None}
 use Rattle.std.specs.FinMap as finite
 use Rattle.dd_disk.specs.View.{CrashLeaves}
+use Rattle.disk_format.specs.declared.numbers.TheConstants.{LAST_ID}
 use Rattle.container_meta.specs.declared.kind.Kind.{Kind}
 use Rattle.container_meta.specs.Segments.{Segment, segment_key}
 use Rattle.merkle_file.specs.declared.top.Top.{Top}
@@ -12,6 +13,9 @@ use Rattle.actor_parts.specs.declared.step.Answer.{Answer}
 use Rattle.actor_parts.specs.PinMap.{PinMap}
 use Rattle.actor_parts.specs.Parts as core_parts_of
 use Rattle.actor_parts.specs.Segments.{pin_by}
+use Rattle.gc_steps.specs.FewSources.{HasFewSources}
+use Rattle.gc_steps.specs.StepsToCome.{steps_to_come}
+use Rattle.gc_steps.specs.declared.collection.Collection.{Collection}
 use Rattle.ingest_session.specs.Facts.{IsKept}
 use Rattle.ingest_session.specs.History.{History, HasHistory}
 use Rattle.ingest_session.specs.State.{SessionState}
@@ -24,12 +28,14 @@ use Rattle.segment_index.specs.Places.{KnownMap}
 use Rattle.store_model.specs.Image.{Store}
 use Rattle.store_model.specs.Slots.{HasKey}
 use Rattle.store_model.specs.Standing.{IsSegmentOf}
+use Rattle.store_state.specs.Settled.{IsSettled}
 use Rattle.store_state.specs.Tables.{Represents}
 use Rattle.store_core.specs.declared.stop.Stop.{Stop}
 use Rattle.store_core.specs.Keeping.{IsHeldIn}
-use Rattle.store_core.specs.Opening.{BeginsAt}
+use Rattle.store_core.specs.Core.{IndexesAll}
+use Rattle.store_core.specs.Runs.{IsAt}
 use Rattle.store_core.specs.State.{CoreState, IsUp}
-use Rattle.plain_machine.specs.Machine.{Machine, Part, Idle, Writing, Finished, Reading, RunState, Running, Stopped, MayBeFound, part_in}
+use Rattle.plain_machine.specs.Machine.{Collecting, Machine, Part, Idle, Writing, Finished, Reading, RunState, Running, Stopped, MayBeFound, part_in}
 use Rattle.plain_machine.specs.Refused.{actor_of}
 use Rattle.plain_machine.specs.Runs.{Step}
 use Rattle.plain_machine.specs.Turns.{Writer, IsWriter, MayBe}
@@ -67,13 +73,45 @@ FollowsPart (Finished file answers_are) (Some s) (core_parts.Writing pins) c = G
 FollowsPart (Reading rest) None (core_parts.Reading reader) c = Takes rest reader.cursor c
 FollowsPart part session core c = ⊥
 
+-- ---- the store, and its collection
+
+-- One runs that gave so many containers back, and no more steps of it come.
+pub record FollowsCollecting (k : Collecting) (c : CoreState) : Type 0 where
+  pub collection : Collection
+  pub runs : c.collection ≡ Some collection
+  pub freed_is : collection.freed ≡ k.freed
+  pub most : ℕ
+  pub few : HasFewSources most c.tables.held collection
+  pub nears : steps_to_come most c.tables.held collection ≤ k.to_come
+
+abbrev pub FollowsCollection : Option Collecting → CoreState → Type 0
+FollowsCollection None c = c.collection ≡ None
+FollowsCollection (Some k) c = FollowsCollecting k c
+
+-- The core is at a store of these files, and its disk is settled. The last id is this one; the collection that runs, if one does, is this one;
+-- and where none began since the opening, the index has each key that the store holds.
+pub record FollowsStore (S : List ℕ → Type 0) (stored : Stored) (last : ℕ) (collecting : Option Collecting) (collected : Bool) (c : CoreState)
+    : Type 0 where
+  pub store : Store
+  pub is_at : IsAt S store stored c
+  pub settled : IsSettled c.tables.slots c.disk
+  pub whole : collected ≡ false → IndexesAll store c.known
+  pub last_id_is : c.tables.held.last_id ≡ last
+  pub low : last ≤ LAST_ID
+  pub collects : FollowsCollection collecting c
+  pub begun : (k : Collecting) → collecting ≡ Some k → collected ≡ true
+
+-- those of the machine
+abbrev pub FollowsStoreOf : (List ℕ → Type 0) → Machine → CoreState → Type 0
+FollowsStoreOf S m c = FollowsStore S m.stored m.last_id m.collecting m.collected c
+
 -- ---- the whole
 
 -- It runs: the core is at a store of the machine's files, and each actor is at what the machine says.
 pub record FollowsRunning (S : List ℕ → Type 0) (m : Machine) (sessions : Sessions) (c : CoreState) : Type 0 where
   pub runs : c.stop ≡ None
   pub up : IsUp c
-  pub begins : BeginsAt S m.stored c
+  pub begins : FollowsStoreOf S m c
   pub parts : (actor : ℕ) → actor < ACTORS
       → FollowsPart (part_in m actor) (session_of sessions actor) (core_parts_of.part_of c.parts actor) c
 

@@ -31,6 +31,16 @@ abbrev pub NeverReopens : List Replied → Type 0
 NeverReopens [] = Unit {0}
 NeverReopens (one ∷ more) = (one.line ≢ lines.Reopen) × NeverReopens more
 
+-- none of them makes steps of a collection
+abbrev pub IsNoSweep : LineValue → Type 0
+IsNoSweep lines.GcStep = ⊥
+IsNoSweep lines.Sweep = ⊥
+IsNoSweep line = Unit {0}
+
+abbrev pub NeverSweeps : List Replied → Type 0
+NeverSweeps [] = Unit {0}
+NeverSweeps (one ∷ more) = IsNoSweep one.line × NeverSweeps more
+
 -- The half that counts has a cell for each of the lines that may need one, and the store is not opened again between them: so they need
 -- no checkpoint.
 abbrev pub NeedNoCheckpoint : List Replied → Store → Type 0
@@ -41,11 +51,11 @@ NeedNoCheckpoint rs s = NeverReopens rs × HasCellsFor s (commands_among rs)
 abbrev pub KeepsOver : List Replied → Store → List ℕ → List ℕ → Type 0
 KeepsOver rs s = KeepsBytes s half_cells (NeedNoCheckpoint rs s) (HadContainer s)
 
--- In what reads give, and in what a crash leaves at any moment of lines that are run, what was written before them stays. So it is also
--- where the store is opened again between them, and where writes fail.
+-- In what reads give, and in what a crash leaves at any moment of lines that are run, what was written before them stays, where none of
+-- them makes steps of a collection. So it is also where the store is opened again between them, and where writes fail.
 abbrev pub LinesKeepWritten : (C : Type 0) → (C → CoreState) → Type 0
 LinesKeepWritten C state = (rs : List Replied) (s : Store) (base : List ℕ) (r t : RunnerState C)
-    → IsOn s (state r.core) → (state r.core).disk.content ≡ Some base → Encodes base s → RunsLines C state rs r t
+    → NeverSweeps rs → IsOn s (state r.core) → (state r.core).disk.content ≡ Some base → Encodes base s → RunsLines C state rs r t
     → KnownWith (state t.core).disk.content (KeepsOver rs s base)
     × CrashLeaves (KeepsOver rs s base) (state r.core).disk (state t.core).disk
 

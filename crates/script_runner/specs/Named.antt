@@ -16,7 +16,7 @@ use Rattle.namespace.specs.Names.{HasRoom, IsFull, NameMap}
 use Rattle.refusals.specs.declared.refusal.PartKind.{PartKind}
 use Rattle.refusals.specs.declared.refusal.PartKind.TheVariants as kinds
 use Rattle.refusals.specs.declared.refusal.Refusal.{Refusal}
-use Rattle.refusals.specs.declared.refusal.Refusal.TheVariants.{Memory, NoFile, BadName, TooMany, TooLong, Full, Clash, WrongPart, DiskRead, DiskWrite, Stopped, Corrupt, Missing, Numbers, NotAStore, Version, Damaged, Unpinned, WrongSize}
+use Rattle.refusals.specs.declared.refusal.Refusal.TheVariants.{Collecting, Memory, NotCollecting, NoFile, BadName, TooMany, TooLong, Full, Clash, WrongPart, DiskRead, DiskWrite, Stopped, Corrupt, Missing, Numbers, NotAStore, Version, Damaged, Unpinned, WrongSize}
 use Rattle.script_lines.specs.Grammar.{LineValue, pushed_bytes}
 use Rattle.script_lines.specs.Grammar as lines
 use Rattle.script_lines.specs.ReplyValue.{ReplyValue}
@@ -168,6 +168,10 @@ Agrees (lines.Drop a) (replies.Dropped b) t u =
     (b ≡ a) × ((root : Root) × ((segments : List (List ℕ)) × (doing_of t a ≡ Reading root segments))) × (u ≡ with_doing t a Idle)
 Agrees (lines.Delete name) (replies.Deleted sequence) t u = MayDelete name t × IsNumber sequence t × (u ≡ without_name name t)
 Agrees lines.ListNames (replies.Listed files) t u = (files ≡ listing_of t.names) × (u ≡ t)
+Agrees (lines.Gc percent) (replies.Collecting snapshot) t u = u ≡ t
+Agrees lines.GcStep (replies.Step phase) t u = u ≡ t
+Agrees lines.GcStep (replies.Collected freed copied) t u = (copied ≡ 0) × (u ≡ t)
+Agrees lines.Sweep (replies.Collected freed copied) t u = (copied ≡ 0) × (u ≡ t)
 Agrees lines.Stat (replies.Stat counted) t u = (counted.files ≡ finite.len t.names) × (u ≡ t)
 Agrees line reply t u = ⊥
 
@@ -206,6 +210,17 @@ IsOfNext next (Missing key) = key ≡ top_key next
 IsOfNext next (Damaged at why) = Unit {0}
 IsOfNext next refusal = ⊥
 
+-- what a step of a collection may be refused by: that goes by what the disk holds or does
+abbrev pub IsOfCollection : Refusal → Type 0
+IsOfCollection NotCollecting = Unit {0}
+IsOfCollection Memory = Unit {0}
+IsOfCollection DiskRead = Unit {0}
+IsOfCollection DiskWrite = Unit {0}
+IsOfCollection (Corrupt slot offset count want got) = Unit {0}
+IsOfCollection (Missing key) = Unit {0}
+IsOfCollection (Damaged at why) = Unit {0}
+IsOfCollection refusal = ⊥
+
 -- why a name isn't deleted
 abbrev pub RefusesDelete : List ℕ → Refusal → Account → Type 0
 RefusesDelete name Memory t = Unit {0}
@@ -231,6 +246,10 @@ RefusesOn (lines.Read a name) refusal t = IsNameRefusal t.names name refusal
 RefusesOn (lines.Next a) refusal t = (next : Top) × (IsNext a next t × IsOfNext next refusal)
 RefusesOn (lines.Delete name) refusal t = RefusesDelete name refusal t
 RefusesOn lines.ListNames Memory t = Unit {0}
+RefusesOn (lines.Gc percent) Memory t = Unit {0}
+RefusesOn (lines.Gc percent) (Collecting phase) t = Unit {0}
+RefusesOn lines.GcStep refusal t = IsOfCollection refusal
+RefusesOn lines.Sweep refusal t = IsOfCollection refusal
 RefusesOn line refusal t = ⊥
 
 -- the actor is at something else than the line takes

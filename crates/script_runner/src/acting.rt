@@ -10,6 +10,7 @@ ghost use Rattle.script_runner.specs.Runner.{ActsWith, IsPlain, IsRunnable, Make
 ghost use Rattle.script_runner.specs.Sessions.{Sessions, has_ended, session_of};
 
 use crate::admitting::admit;
+use crate::collecting::{begin_collection, step_collection, sweep};
 use crate::giving::{abort, begin, commit, finish, push, turn};
 use crate::naming::{delete, list};
 use crate::sessions::Sessions;
@@ -75,6 +76,12 @@ fn act<C: HasState>(
             end_read(core, actor, buf)?;
             Ok(Reply::Dropped { actor })
         }
+        Line::Gc(percent) => {
+            let snapshot = begin_collection(core, percent, buf)?;
+            Ok(Reply::Collecting { snapshot })
+        }
+        Line::Step => step_collection(core, buf),
+        Line::Sweep => sweep(core, buf),
         Line::Stat => Ok(Reply::Stat {
             holdings: count(core, buf),
         }),

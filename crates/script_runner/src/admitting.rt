@@ -25,7 +25,13 @@ fn actor_of(line: &Line<'_>) -> Option<Actor>
         Line::Read(actor, _) => Some(*actor),
         Line::Next(actor) => Some(*actor),
         Line::Drop(actor) => Some(*actor),
-        Line::Delete(_) | Line::List | Line::Stat | Line::Reopen => None,
+        Line::Delete(_)
+        | Line::List
+        | Line::Gc(_)
+        | Line::Step
+        | Line::Sweep
+        | Line::Stat
+        | Line::Reopen => None,
     }
 }
 

@@ -3,6 +3,7 @@
 
 mod acting;
 mod admitting;
+mod collecting;
 mod giving;
 mod laws;
 mod naming;

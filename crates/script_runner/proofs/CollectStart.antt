@@ -1,0 +1,194 @@
+-- A collection that begins, or doesn't, as the machine says.
+use Rattle.std.proofs.Common.{◌≡◌, inl, inr, ◌<◌, ◌≤◌, ℕ, List, [], ◌∷◌, Bool, true, false, Option, Some, None, Result, Ok, Err, refl, sym, ◌∙◌, ap, subst, arith}
+use Rattle.dd_disk.proofs.Later.{leaves_weaker}
+use Rattle.actor_parts.specs.declared.actor.TheConstants.{ACTORS}
+use Rattle.actor_parts.specs.declared.part.Part as core_part
+use Rattle.actor_parts.specs.declared.step.Answer.{Answer}
+use Rattle.actor_parts.specs.declared.step.Answer.TheVariants as answers
+use Rattle.actor_parts.specs.Parts.{part_of}
+use Rattle.actor_parts.specs.StepValue as asked
+use Rattle.refusals.specs.declared.refusal.Refusal.{Refusal}
+use Rattle.refusals.specs.declared.refusal.Refusal.TheVariants as refusals
+use Rattle.gc_steps.specs.FewSources.{HasFewSources}
+use Rattle.gc_steps.specs.StepsToCome.{old_from, steps_to_come}
+use Rattle.gc_steps.proofs.FewSources.{few_begun}
+use Rattle.store_model.specs.Collisions.{HasNoCollisions, ByteSet, IsIn, IsOf}
+use Rattle.store_model.specs.Image.{Store}
+use Rattle.store_state.specs.declared.slot_table.SlotTable.{SlotTable}
+use Rattle.store_state.specs.declared.tables.Tables.{Tables}
+use Rattle.store_core.specs.declared.stop.Stop.{Stop}
+use Rattle.store_core.specs.Collecting.{Begins, StartRow}
+use Rattle.store_core.specs.Core.{CoreStep, Rests, Steps}
+use Rattle.store_core.specs.Runs.{FileEvent, FileRun, FileStep, IsOnTheWay}
+use Rattle.store_core.specs.State.{CoreState, IsUp, UnlessStopped}
+use Rattle.store_core.proofs.CoreRuns.{running_step}
+use Rattle.store_core.proofs.Crashes.{leaves_on_the_way}
+use Rattle.store_core.proofs.KeepingFiles.{NextOn, file_step}
+use Rattle.store_core.proofs.KeepingSegments.{stays_held, stays_settled}
+use Rattle.store_core.proofs.Making.{up_of}
+use Rattle.store_core.proofs.RunningOn.{step_runs}
+use Rattle.store_core.proofs.Stepping.{step_later}
+use Rattle.plain_machine.specs.Collections.{BeginsCollection, most_steps}
+use Rattle.plain_machine.specs.Machine.{Collecting, Machine, part_in}
+use Rattle.script_runner.specs.Follows.{FollowsCollecting, FollowsCollection, FollowsPart}
+use Rattle.script_runner.specs.Sessions.{Sessions, session_of}
+use Rattle.script_runner.proofs.CollectStep.{none_collecting}
+use Rattle.script_runner.proofs.LinesReopen.{still_follows}
+use Rattle.script_runner.proofs.MostSteps.{steps_most}
+use Rattle.script_runner.proofs.PartsOn.{part_on, takes_on}
+use Rattle.script_runner.proofs.TurnHolds.{right_here}
+use Rattle.script_runner.proofs.TurnLeaves.{KeepsStored}
+use Rattle.script_runner.proofs.TurnRunning.{RunsAt}
+
+abbrev pub start_event : ℕ → Result Answer Refusal → List ℕ → FileEvent
+start_event percent answer buf = record { event = record { actor = 0; step = asked.GcStart percent; answer = answer; buf = buf }; bytes = [] }
+
+parts_still : (percent : ℕ) (old new : CoreState) (answer : Result Answer Refusal) → StartRow percent answer old new → new.parts ≡ old.parts
+parts_still percent old new (Ok (answers.Started snapshot)) row = row.1
+parts_still percent old new (Err (refusals.Collecting phase)) row = row.2
+parts_still percent old new (Err refusals.Memory) row = row.2
+parts_still percent old new answer row = absurd row
+
+module _ (C : Type 0) (state : C → CoreState) (among : ByteSet) (apart : HasNoCollisions (IsIn among)) (m : Machine) (sessions : Sessions) (old new : C) (at : RunsAt (IsIn among) m sessions (state old))
+    (percent : ℕ) (answer : Result Answer Refusal) (buf : List ℕ) (made : CoreStep (state old) (start_event percent answer buf).event (state new)) where
+  abbrev S : List ℕ → Type 0
+  S = IsIn among
+
+  abbrev f : FileEvent
+  f = start_event percent answer buf
+
+  abbrev store : Store
+  store = at.running.begins.store
+
+  step : FileStep S f (state old) (state new)
+  step = record { asked = tt; given = tt; made = made }
+
+  abbrev run : FileRun C state S (f ∷ []) old new
+  run = (new, (step, refl))
+
+  pub steps : Steps f.event (state old) (state new)
+  steps = running_step (state old) (state new) f.event at.running.runs made
+
+  abbrev row : StartRow percent answer (state old) (state new)
+  row = steps.made.row
+
+  abbrev rests : Rests answer (state old) (state new)
+  rests = steps.made.effect
+
+  pub keeps : KeepsStored S m.stored (state old).disk (state new).disk
+  keeps = record {
+    later = (step_later (state old) (state new) f.event (state old).stop made).clock_is;
+    leaves = leaves_weaker (IsOnTheWay S (f ∷ []) m.stored) (IsOf S m.stored) (state old).disk (state new).disk
+        (λ image way. elim way [
+          | inl before ↦ before
+          | inr after ↦ elim after [ inl tried ↦ tried | inr done ↦ done ]
+        ]) (leaves_on_the_way C state among (f ∷ []) store m.stored old new apart at.running.begins.is_at run);
+  }
+
+  same_slots : (state new).tables.held ≡ (state old).tables.held
+  same_slots = ap (λ (t : Tables). t.held) rests.tables.tables_are
+
+  module _ (stays : (state new).stop ≡ None) where
+    next : NextOn S store [] m.stored (state old) (state new)
+    next = file_step among apart f store m.stored (state old) (state new) tt step at.running.begins.is_at stays
+
+    each : (actor : ℕ) → actor < ACTORS → FollowsPart (part_in m actor) (session_of sessions actor) (part_of (state new).parts actor) (state new)
+    each actor below =
+        subst (λ (parts : List core_part.Part). FollowsPart (part_in m actor) (session_of sessions actor) (part_of parts actor) (state new)) (sym (parts_still percent (state old) (state new) answer row))
+        (part_on (state old) (state new)
+        (λ seg. stays_held C state among (f ∷ []) store m.stored seg old new apart at.running.begins.is_at at.running.begins.settled run (tt, tt) stays)
+        (takes_on S store [] m.stored m.stored (state old) (state new) at.running.begins.is_at next)
+        (part_in m actor) (session_of sessions actor) (part_of (state old).parts actor) (at.running.parts actor below))
+
+    abbrev then : Option Collecting → Bool → Machine
+    then collecting collected = record m { collecting = collecting; collected = collected }
+
+    runs_then : (collecting : Option Collecting) (collected : Bool) → (state new).disk.faults ≡ (state old).disk.faults → (state new).acknowledged ≡ (state old).acknowledged → FollowsCollection collecting (state new)
+        → ((k : Collecting) → collecting ≡ Some k → collected ≡ true) → (collected ≡ false → m.collected ≡ false) → RunsAt S (then collecting collected) sessions (state new)
+    runs_then collecting collected faults counted collects begun before = record {
+      state_is = at.state_is;
+      content_is = rests.disk.only.content_is ∙ at.content_is;
+      faults_are = faults ∙ at.faults_are;
+      counted = counted ∙ at.counted;
+      sessions_are = at.sessions_are;
+      parts_are = at.parts_are;
+      running = record {
+        runs = stays;
+        up = up_of (state new) stays (step_runs (state old) (state new) f.event made (subst (λ (stop : Option Stop). UnlessStopped stop (IsUp (state old))) (sym at.running.runs) at.running.up));
+        begins = record {
+          store = next.next.store;
+          is_at = next.next.is_at;
+          settled = stays_settled C state among (f ∷ []) store m.stored old new apart at.running.begins.is_at at.running.begins.settled run stays;
+          whole = λ none. next.whole (at.running.begins.whole (before none));
+          last_id_is = ap (λ (t : SlotTable). t.last_id) same_slots ∙ at.running.begins.last_id_is;
+          low = at.running.begins.low;
+          collects = collects;
+          begun = begun;
+        };
+        parts = each;
+      };
+    }
+
+module _ (C : Type 0) (state : C → CoreState) (among : ByteSet) (apart : HasNoCollisions (IsIn among)) (m : Machine) (sessions : Sessions) (old new : C) (at : RunsAt (IsIn among) m sessions (state old)) (percent : ℕ) (buf : List ℕ) where
+  module _ (snapshot : ℕ) (made : CoreStep (state old) (start_event percent (Ok (answers.Started snapshot)) buf).event (state new)) where
+    abbrev started : Result Answer Refusal
+    started = Ok (answers.Started snapshot)
+
+    abbrev made_so : Steps (start_event percent started buf).event (state old) (state new)
+    made_so = steps C state among apart m sessions old new at percent started buf made
+
+    abbrev begun : Begins percent snapshot (state old) (state new)
+    begun = made_so.made.row.0
+
+    abbrev held : Store
+    held = at.running.begins.store
+
+    abbrev most : ℕ
+    most = old_from begun.collection.snapshot (state old).tables.held 0
+
+    abbrev slots_same : (state new).tables.held ≡ (state old).tables.held
+    slots_same = same_slots C state among apart m sessions old new at percent started buf made
+
+    now : FollowsCollecting (record { to_come = most_steps held.held; freed = 0 }) (state new)
+    now = record {
+      collection = begun.collection;
+      runs = begun.runs;
+      freed_is = begun.nothing_yet.2;
+      most = most;
+      few = subst (λ (t : SlotTable). HasFewSources most t begun.collection) (sym slots_same) (few_begun (state old).tables.held begun.collection begun.nothing_yet.1);
+      nears = subst (λ (t : SlotTable). steps_to_come most t begun.collection ≤ most_steps held.held) (sym slots_same)
+          (omega (arith, begun.steps most, steps_most begun.collection.snapshot held.held (state old).tables.held at.running.begins.is_at.represents.slots_hold));
+    }
+
+    -- where it leads
+    pub record Started : Type 0 where
+      pub next : Machine
+      pub is : BeginsCollection snapshot m next
+      pub at_next : RunsAt (IsIn among) next sessions (state new)
+
+    pub started_step : Started
+    started_step = record {
+      next = record m { collecting = Some (record { to_come = most_steps held.held; freed = 0 }); collected = true };
+      is = record {
+        none_ran = none_collecting m (state old) begun.none_ran at.running.begins.collects;
+        snapshot_is = omega (arith, begun.snapshot_is, begun.next_is, at.running.begins.last_id_is, at.running.begins.low);
+        most = most_steps held.held;
+        most_is = (held, (right_here (IsIn among) held m.stored (state old) at.running.begins.is_at m.content at.content_is, refl));
+        others = refl;
+      };
+      at_next = runs_then C state among apart m sessions old new at percent started buf made made_so.stops (Some (record { to_come = most_steps held.held; freed = 0 })) true made_so.made.effect.disk.faults_are made_so.counted_is now
+          (λ k is. refl) (λ wrong. absurd (let no : true ≡ false = wrong in cc));
+    }
+
+  -- it was refused, and the collection that runs stays, if one does
+  pub unstarted_memory : (made : CoreStep (state old) (start_event percent (Err refusals.Memory) buf).event (state new)) → RunsAt (IsIn among) m sessions (state new)
+  unstarted_memory made =
+      let so = steps C state among apart m sessions old new at percent (Err refusals.Memory) buf made in
+      runs_then C state among apart m sessions old new at percent (Err refusals.Memory) buf made so.stops m.collecting m.collected so.made.effect.disk.faults_are so.counted_is
+      (still_follows (state old) (state new) so.made.effect.disk.only so.made.effect.tables.tables_are so.made.effect.tables.index_is so.made.row.1 m.collecting at.running.begins.collects) at.running.begins.begun (λ none. none)
+
+  pub unstarted_running : (phase : _) (made : CoreStep (state old) (start_event percent (Err (refusals.Collecting phase)) buf).event (state new)) → RunsAt (IsIn among) m sessions (state new)
+  unstarted_running phase made =
+      let so = steps C state among apart m sessions old new at percent (Err (refusals.Collecting phase)) buf made in
+      runs_then C state among apart m sessions old new at percent (Err (refusals.Collecting phase)) buf made so.stops m.collecting m.collected so.made.effect.disk.faults_are so.counted_is
+      (still_follows (state old) (state new) so.made.effect.disk.only so.made.effect.tables.tables_are so.made.effect.tables.index_is so.made.row.1 m.collecting at.running.begins.collects) at.running.begins.begun (λ none. none)

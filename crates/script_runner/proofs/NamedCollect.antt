@@ -1,0 +1,239 @@
+-- Lines of a collection leave what is named, on any disk.
+use Rattle.std.proofs.Common.{◌≡◌, inl, inr, ℕ, List, [], ◌∷◌, length, false, None, Result, Ok, Err, refl, sym, ◌∙◌, ap, subst, arith}
+use Rattle.actor_parts.specs.declared.part.Part as core_part
+use Rattle.actor_parts.specs.declared.step.Answer.{Answer}
+use Rattle.actor_parts.specs.declared.step.Answer.TheVariants as answers
+use Rattle.actor_parts.specs.Parts.{part_of}
+use Rattle.actor_parts.specs.StepValue as asked
+use Rattle.dd_disk.specs.View.{DiskView}
+use Rattle.gc_enumerate.specs.declared.fault.ScanFault.{ScanFault}
+use Rattle.gc_enumerate.specs.declared.fault.ScanFault.TheVariants as faults
+use Rattle.gc_steps.specs.Entries.{IsHeaderRefusal}
+use Rattle.gc_steps.specs.Scanning.{step_refusal}
+use Rattle.gc_steps.specs.Stepping.{IsStepRefusal, Moment, TablesAfter}
+use Rattle.gc_steps.specs.declared.collection.Stage.{Stage}
+use Rattle.gc_steps.specs.declared.collection.Stage.TheVariants.{Mark, Filter, Select, Copy, Release, End}
+use Rattle.refusals.specs.declared.refusal.Phase.{Phase}
+use Rattle.refusals.specs.declared.refusal.Refusal.{Refusal}
+use Rattle.refusals.specs.declared.refusal.Refusal.TheVariants as refusals
+use Rattle.script_lines.specs.Grammar as lines
+use Rattle.script_lines.specs.ReplyValue as replies
+use Rattle.script_lines.specs.ReplyValue.{ReplyValue}
+use Rattle.store_state.specs.declared.tables.Tables.{Tables}
+use Rattle.store_core.specs.Collecting.{GcRow, at_moment}
+use Rattle.store_core.specs.Core.{CoreStep, Steps, StopsAfter}
+use Rattle.store_core.specs.State.{CoreState, Event, IsRunning}
+use Rattle.store_core.proofs.CoreRuns.{running_step}
+use Rattle.store_core.proofs.RunningOn.{step_runs}
+use Rattle.script_runner.specs.Acts.{Acts, Admits, CollectionRun, Collects, RunnerState, Starts, Sweeps}
+use Rattle.script_runner.specs.Named.{Account, IsOfCollection, stops}
+use Rattle.script_runner.proofs.CollectStep.{counts_still, parts_still}
+use Rattle.script_runner.proofs.NamedAt.{At, Told, no_actor, refuses, still, still_runs, told}
+use Rattle.script_runner.proofs.NamedSteps.{IsTold, Quiet, SameNames, Stands, done_stands, quiet_here, quiet_on, quiet_step, refused_stands}
+
+-- ---- what a step may be refused by
+
+of_header : (old new : DiskView) (slot : ℕ) (refusal : Refusal) → IsHeaderRefusal old new slot refusal → IsOfCollection refusal
+of_header old new slot refusals.Memory cause = tt
+of_header old new slot refusals.DiskRead cause = tt
+of_header old new slot (refusals.Damaged at_byte why) cause = tt
+of_header old new slot refusal cause = absurd cause
+
+of_scan : (fault : ScanFault) (refusal : Refusal) → refusal ≡ step_refusal fault → IsOfCollection refusal
+of_scan faults.Memory refusal is = subst IsOfCollection (sym is) tt
+of_scan faults.DiskRead refusal is = subst IsOfCollection (sym is) tt
+of_scan (faults.Damaged at_byte why) refusal is = subst IsOfCollection (sym is) tt
+of_scan (faults.Corrupt place offset count want got) refusal is = subst IsOfCollection (sym is) tt
+of_scan (faults.Missing key) refusal is = subst IsOfCollection (sym is) tt
+
+of_stage : (old : Moment) (new : DiskView) (stage : Stage) (refusal : Refusal) → IsStepRefusal stage old new refusal → IsOfCollection refusal
+of_stage old new (Mark level slot) refusal (inl cause) = of_header old.disk new slot refusal cause
+of_stage old new (Mark level slot) refusal (inr stopped) = of_scan stopped.fault refusal stopped.refusal_is
+of_stage old new (Filter slot) refusals.Memory cause = tt
+of_stage old new (Filter slot) refusals.DiskRead cause = tt
+of_stage old new (Filter slot) (refusals.Damaged at_byte why) cause = tt
+of_stage old new (Filter slot) refusal cause = absurd cause
+of_stage old new Select refusal cause = subst IsOfCollection (sym cause) tt
+of_stage old new (Copy source) refusals.DiskWrite cause = tt
+of_stage old new (Copy source) refusals.Memory cause = tt
+of_stage old new (Copy source) refusals.DiskRead cause = tt
+of_stage old new (Copy source) (refusals.Damaged at_byte why) cause = tt
+of_stage old new (Copy source) refusal cause = absurd cause.2
+of_stage old new (Release next slot) refusal cause = subst IsOfCollection (sym cause) tt
+of_stage old new End refusal cause = absurd cause
+
+of_collection : (old new : CoreState) (refusal : Refusal) → GcRow (Err refusal) old new → IsOfCollection refusal
+of_collection old new refusals.NotCollecting row = tt
+of_collection old new refusal row = of_stage (at_moment old row.0.before) new.disk row.0.before.stage refusal row.0.cause
+
+-- ---- a step of a collection
+
+abbrev gc_event : Result Answer Refusal → List ℕ → Event
+gc_event answer buf = record { actor = 0; step = asked.GcStep; answer = answer; buf = buf }
+
+module _ (old new : CoreState) where
+  same_names : new.tables ≡ old.tables → SameNames old.tables new.tables
+  same_names same = subst (λ (tables : Tables). SameNames old.tables tables) (sym same) (record { names = refl; records = refl; generation = refl; last = refl })
+
+  names_after : (stage : Stage) → TablesAfter stage old.tables new.tables → SameNames old.tables new.tables
+  names_after (Mark level slot) same = same_names same
+  names_after (Filter slot) same = same_names same
+  names_after Select same = same_names same
+  names_after (Copy source) same = same_names same
+  names_after (Release next slot) freed = record {
+    names = ap (λ (t : Tables). t.names) freed.others_stay;
+    records = ap (λ (t : Tables). t.journal.count) freed.others_stay;
+    generation = ap (λ (t : Tables). t.journal.generation) freed.others_stay;
+    last = ap (λ (t : Tables). t.journal.last) freed.others_stay;
+  }
+  names_after End same = same_names same
+
+  names_still : (answer : Result Answer Refusal) → GcRow answer old new → SameNames old.tables new.tables
+  names_still (Ok (answers.Did phase)) row = names_after row.0.before.stage row.0.tables
+  names_still (Ok (answers.Done freed copied)) row = same_names row.0.tables_are
+  names_still (Err refusals.NotCollecting) row = same_names row.0.tables_are
+  names_still (Err refusal) row = same_names row.0.tables_are
+  names_still answer row = absurd row
+
+  module _ (answer : Result Answer Refusal) (buf : List ℕ) (steps : Steps (gc_event answer buf) old new) where
+    gc_quiet : CoreStep old (gc_event answer buf) new → IsRunning old → Quiet 0 old new
+    gc_quiet made running = record {
+      running = step_runs old new (gc_event answer buf) made running;
+      tables = names_still answer steps.made.row;
+      acknowledged = steps.counted_is ∙ counts_still old new answer old.acknowledged steps.made.row;
+      many = ap length (parts_still old new answer steps.made.row);
+      others = λ other differs. ap (λ (parts : List core_part.Part). part_of parts other) (parts_still old new answer steps.made.row);
+    }
+
+    gc_tells : IsTold old → IsTold new
+    gc_tells known = steps.made.effect.tells known.0 known.1
+
+  gc_stands : (refusal : Refusal) → StopsAfter asked.GcStep (Err refusal) old.acknowledged new.stop → new.acknowledged ≡ old.acknowledged → IsTold new → Stands (stops refusal) new
+  gc_stands refusals.DiskWrite after counted_is known = (record { refusal = refusals.DiskWrite; at = old.acknowledged }, (after, sym counted_is))
+  gc_stands refusal after counted_is known = (after, known)
+
+-- steps of one that were made, one after the other
+record Swept (old mid : CoreState) : Type 0 where
+  pub quiet : Quiet 0 old mid
+  pub runs : mid.stop ≡ None
+  pub known : IsTold mid
+  pub parts : mid.parts ≡ old.parts
+
+module _ (C : Type 0) (state : C → CoreState) where
+  swept : (phases : List Phase) (old mid : C) → CollectionRun C state phases old mid → IsRunning (state old) → (state old).stop ≡ None → IsTold (state old) → Swept (state old) (state mid)
+  swept [] old mid run running runs known =
+      subst (λ (c : C). Swept (state old) (state c)) (sym run) (record { quiet = quiet_here 0 (state old) running; runs = runs; known = known; parts = refl })
+  swept (phase ∷ phases) old mid run running runs known =
+      let one = run.1.0 in
+      let answer : Result Answer Refusal = Ok (answers.Did phase) in
+      let steps = running_step (state old) (state run.0) (gc_event answer one.0) runs one.1 in
+      let quiet = gc_quiet (state old) (state run.0) answer one.0 steps one.1 running in
+      let rest = swept phases run.0 mid run.1.1 quiet.running steps.stops (gc_tells (state old) (state run.0) answer one.0 steps known) in
+      record {
+        quiet = quiet_on 0 (state old) (state run.0) (state mid) quiet rest.quiet;
+        runs = rest.runs;
+        known = rest.known;
+        parts = rest.parts ∙ parts_still (state old) (state run.0) answer steps.made.row;
+      }
+
+-- ---- lines
+
+module _ (C : Type 0) (state : C → CoreState) (t : Account) (r s : RunnerState C) (at : At t r.sessions (state r.core)) where
+  abbrev old : CoreState
+  old = state r.core
+
+  abbrev new : CoreState
+  new = state s.core
+
+  first_part : new.parts ≡ old.parts → part_of new.parts 0 ≡ part_of old.parts 0
+  first_part same = ap (λ (parts : List core_part.Part). part_of parts 0) same
+
+  -- ---- gc
+
+  not_started : (percent : ℕ) (refusal : Refusal) → Admits (lines.Gc percent) r.sessions (state r.core) → Starts C state percent (Err refusal) r.core s.core → s.sessions ≡ r.sessions
+      → Told C state (lines.Gc percent) (replies.Refused refusal) t s
+  not_started percent refusals.Memory admits starts sessions =
+      let e : Event = record { actor = 0; step = asked.GcStart percent; answer = Err refusals.Memory; buf = starts.0 } in
+      let steps = running_step old new e admits.runs starts.1 in
+      still C state (lines.Gc percent) (replies.Refused refusals.Memory) t r s at 0 (omega arith) (quiet_step old new e starts.1 tt at.running) false
+      (refused_stands old new (asked.GcStart percent) 0 refusals.Memory starts.0 tt steps (told t r.sessions old at admits.runs))
+      (refuses (lines.Gc percent) refusals.Memory t (no_actor (lines.Gc percent) t refl) tt, refl) sessions (first_part steps.made.row.2)
+  not_started percent (refusals.Collecting phase) admits starts sessions =
+      let e : Event = record { actor = 0; step = asked.GcStart percent; answer = Err (refusals.Collecting phase); buf = starts.0 } in
+      let steps = running_step old new e admits.runs starts.1 in
+      still C state (lines.Gc percent) (replies.Refused (refusals.Collecting phase)) t r s at 0 (omega arith) (quiet_step old new e starts.1 tt at.running) false
+      (refused_stands old new (asked.GcStart percent) 0 (refusals.Collecting phase) starts.0 tt steps (told t r.sessions old at admits.runs))
+      (refuses (lines.Gc percent) (refusals.Collecting phase) t (no_actor (lines.Gc percent) t refl) tt, refl) sessions (first_part steps.made.row.2)
+  not_started percent refusal admits starts sessions =
+      absurd (running_step old new (let e : Event = record { actor = 0; step = asked.GcStart percent; answer = Err refusal; buf = starts.0 } in e) admits.runs starts.1).made.row
+
+  pub gc_told : (percent : ℕ) (reply : ReplyValue) → Admits (lines.Gc percent) r.sessions (state r.core) → Acts C state (lines.Gc percent) reply r s → Told C state (lines.Gc percent) reply t s
+  gc_told percent (replies.Collecting snapshot) admits acts =
+      let e : Event = record { actor = 0; step = asked.GcStart percent; answer = Ok (answers.Started snapshot); buf = acts.0.0 } in
+      let steps = running_step old new e admits.runs acts.0.1 in
+      still C state (lines.Gc percent) (replies.Collecting snapshot) t r s at 0 (omega arith) (quiet_step old new e acts.0.1 tt at.running) t.stopped
+      (still_runs t r.sessions old at admits.runs new (done_stands old new (asked.GcStart percent) tt 0 (answers.Started snapshot) acts.0.0 steps (told t r.sessions old at admits.runs)))
+      refl acts.1 (first_part steps.made.row.1)
+  gc_told percent (replies.Refused refusal) admits acts = not_started percent refusal admits acts.0 acts.1
+  gc_told percent reply admits acts = absurd acts
+
+  -- ---- step
+
+  pub step_told : (reply : ReplyValue) → Admits lines.GcStep r.sessions (state r.core) → Acts C state lines.GcStep reply r s → Told C state lines.GcStep reply t s
+  step_told (replies.Step phase) admits acts =
+      let answer : Result Answer Refusal = Ok (answers.Did phase) in
+      let steps = running_step old new (gc_event answer acts.0.0) admits.runs acts.0.1 in
+      still C state lines.GcStep (replies.Step phase) t r s at 0 (omega arith) (gc_quiet old new answer acts.0.0 steps acts.0.1 at.running) t.stopped
+      (still_runs t r.sessions old at admits.runs new (steps.stops, gc_tells old new answer acts.0.0 steps (told t r.sessions old at admits.runs))) refl acts.1
+      (first_part (parts_still old new answer steps.made.row))
+  step_told (replies.Collected freed copied) admits acts =
+      let answer : Result Answer Refusal = Ok (answers.Done freed copied) in
+      let steps = running_step old new (gc_event answer acts.0.0) admits.runs acts.0.1 in
+      still C state lines.GcStep (replies.Collected freed copied) t r s at 0 (omega arith) (gc_quiet old new answer acts.0.0 steps acts.0.1 at.running) t.stopped
+      (still_runs t r.sessions old at admits.runs new (steps.stops, gc_tells old new answer acts.0.0 steps (told t r.sessions old at admits.runs))) (steps.made.row.0.copied_is, refl) acts.1
+      (first_part (parts_still old new answer steps.made.row))
+  step_told (replies.Refused refusal) admits acts =
+      let answer : Result Answer Refusal = Err refusal in
+      let steps = running_step old new (gc_event answer acts.0.0) admits.runs acts.0.1 in
+      still C state lines.GcStep (replies.Refused refusal) t r s at 0 (omega arith) (gc_quiet old new answer acts.0.0 steps acts.0.1 at.running) (stops refusal)
+      (gc_stands old new refusal steps.stops steps.counted_is (gc_tells old new answer acts.0.0 steps (told t r.sessions old at admits.runs)))
+      (refuses lines.GcStep refusal t (no_actor lines.GcStep t refl) (of_collection old new refusal steps.made.row), refl) acts.1 (first_part (parts_still old new answer steps.made.row))
+  step_told reply admits acts = absurd acts
+
+  -- ---- sweep
+
+  module _ (answer : Result Answer Refusal) (admits : Admits lines.Sweep r.sessions (state r.core)) (sweeps : Sweeps C state answer r.core s.core) where
+    abbrev mid : C
+    mid = sweeps.1.0
+
+    abbrev last : Collects C state answer mid s.core
+    last = sweeps.1.1.1
+
+    first : Swept old (state mid)
+    first = swept C state sweeps.0 r.core mid sweeps.1.1.0 at.running admits.runs (told t r.sessions old at admits.runs)
+
+    last_steps : Steps (gc_event answer last.0) (state mid) new
+    last_steps = running_step (state mid) new (gc_event answer last.0) first.runs last.1
+
+    all_quiet : Quiet 0 old new
+    all_quiet = quiet_on 0 old (state mid) new first.quiet (gc_quiet (state mid) new answer last.0 last_steps last.1 first.quiet.running)
+
+    still_known : IsTold new
+    still_known = gc_tells (state mid) new answer last.0 last_steps first.known
+
+    same_parts : part_of new.parts 0 ≡ part_of old.parts 0
+    same_parts = first_part (parts_still (state mid) new answer last_steps.made.row ∙ first.parts)
+
+  pub sweep_told : (reply : ReplyValue) → Admits lines.Sweep r.sessions (state r.core) → Acts C state lines.Sweep reply r s → Told C state lines.Sweep reply t s
+  sweep_told (replies.Collected freed copied) admits acts =
+      let answer : Result Answer Refusal = Ok (answers.Done freed copied) in
+      let steps = last_steps answer admits acts.0 in
+      still C state lines.Sweep (replies.Collected freed copied) t r s at 0 (omega arith) (all_quiet answer admits acts.0) t.stopped
+      (still_runs t r.sessions old at admits.runs new (steps.stops, still_known answer admits acts.0)) (steps.made.row.0.copied_is, refl) acts.1 (same_parts answer admits acts.0)
+  sweep_told (replies.Refused refusal) admits acts =
+      let answer : Result Answer Refusal = Err refusal in
+      let steps = last_steps answer admits acts.0 in
+      still C state lines.Sweep (replies.Refused refusal) t r s at 0 (omega arith) (all_quiet answer admits acts.0) (stops refusal)
+      (gc_stands (state (mid answer admits acts.0)) new refusal steps.stops steps.counted_is (still_known answer admits acts.0))
+      (refuses lines.Sweep refusal t (no_actor lines.Sweep t refl) (of_collection (state (mid answer admits acts.0)) new refusal steps.made.row), refl) acts.1 (same_parts answer admits acts.0)
+  sweep_told reply admits acts = absurd acts

@@ -24,7 +24,7 @@ use Rattle.script_lines.specs.ReplyValue as replies
 use Rattle.script_lines.specs.ReplyValue.{ReplyValue}
 use Rattle.script_runner.specs.Acts.{RefusesReopen, RunnerState, RunsLine}
 use Rattle.script_runner.specs.AnyDisk.{LinesGiveWhatIsNamed, LinesGoOn}
-use Rattle.script_runner.specs.Frame.{IsOnContent, LinesKeepWritten, OpenedIsOn}
+use Rattle.script_runner.specs.Frame.{IsOnContent, LinesKeepWritten, NeverSweeps, OpenedIsOn}
 use Rattle.script_runner.specs.Named.{Account, AllTell, CountFaults, GiveWhatIsNamed, Tells, WasOpened, WasShown, opened}
 use Rattle.script_runner.specs.Opened.{OpenedFollows}
 use Rattle.script_runner.specs.Scripts.{RunsLines, ScriptsFollow}
@@ -104,8 +104,8 @@ module _ (v w : DiskView) (refusal : Refusal) (only : OnlyReads v w) (counted : 
       caused = caused_by refusal cause;
       wrote = wrote_none refusal;
       frame = record {
-        content = λ old told. (old, only.content_is ∙ told, inl refl);
-        crash = λ old told. reads_leave v w only _;
+        content = λ unswept old told. (old, only.content_is ∙ told, inl refl);
+        crash = λ unswept old told. reads_leave v w only _;
       };
       named = inl ((refusal, refl), refl);
       disk_faults = counted;
@@ -221,7 +221,7 @@ module _ (D : Type 0) (view : D → DiskView) (C : Type 0) (state : C → CoreSt
 
   -- ---- what was written stays
 
-  module _ (base : List ℕ) (told : v.content ≡ Some base) where
+  module _ (unswept : NeverSweeps run.rs) (base : List ℕ) (told : v.content ≡ Some base) where
     stands : IsOnContent base (state r.core)
     stands = is_on base before r.core called.opened called.durable called.first told
 
@@ -229,14 +229,14 @@ module _ (D : Type 0) (view : D → DiskView) (C : Type 0) (state : C → CoreSt
     kept_all image written = inr (record { store = stands.store; right = stands.encodes; reserve = stands.on.reserve; written = written })
 
     abbrev kept_lines : KnownWith last.content (KeepsOver run.rs stands.store base) × CrashLeaves (KeepsOver run.rs stands.store base) found last
-    kept_lines = keep run.rs stands.store base r s stands.on stands.told stands.encodes run.runs
+    kept_lines = keep run.rs stands.store base r s unswept stands.on stands.told stands.encodes run.runs
 
     crashed : LeavesMeanwhile (KeepsAll run.rs base) v w
     crashed = leaves_more (KeepsOver run.rs stands.store base) (KeepsAll run.rs base) v w kept_all (leaves_of C state v w r.core s.core called (KeepsOver run.rs stands.store base) later kept_lines.1)
 
   others : LinesKeepOthers run.rs v w
   others = record {
-    content = λ base told. let there = (kept_lines base told).0 in (there.0, called.last.only.content_is ∙ there.1, kept_all base told there.0 there.2);
+    content = λ unswept base told. let there = (kept_lines unswept base told).0 in (there.0, called.last.only.content_is ∙ there.1, kept_all unswept base told there.0 there.2);
     crash = crashed;
   }
 
@@ -363,7 +363,7 @@ module _ (loans loans_now : List ℕ) (v w : DiskView) where
     stops = is.stops;
     caused = ends_so (IsRunRefusal rs lent lent_now source source_now) (IsRunRefusal rs v w source source_now) (λ refusal. not_opened refusal rs source source_now) ending rs source source_now sink sink_now is.caused;
     wrote = is.wrote;
-    frame = record { content = is.frame.content; crash = λ old told. let leaves = is.frame.crash old told in record { now = leaves.now; since = leaves.since } };
+    frame = record { content = is.frame.content; crash = λ unswept old told. let leaves = is.frame.crash unswept old told in record { now = leaves.now; since = leaves.since } };
     named = named_or (WasShown lent lent_now) (WasShown v w) shown_unlent (WasOpened lent lent_now) (WasOpened v w) (λ store. shows loans loans_now v w (λ image. Encodes image store)) ending rs is.named;
     disk_faults = is.disk_faults;
     source_faults = is.source_faults;

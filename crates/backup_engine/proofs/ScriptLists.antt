@@ -5,7 +5,7 @@ use Rattle.std.proofs.lemmas.Slice.Zip.{AllZip-long}
 use Rattle.std.specs.List.{AllByRecursion, flat_map}
 use Rattle.actor_parts.specs.declared.actor.TheConstants.{ACTORS}
 use Rattle.plain_machine.specs.Runs.{Replied, ends}
-use Rattle.script_lines.specs.Grammar.{LineValue, IsLine, Begin, Push, Finish, Turn, Commit, Abort, Read, Next, Drop, Delete, ListNames, Stat, Reopen}
+use Rattle.script_lines.specs.Grammar.{LineValue, IsLine, Begin, Push, Finish, Turn, Commit, Abort, Read, Next, Drop, Delete, ListNames, Stat, Reopen, Gc, GcStep, Sweep}
 use Rattle.refusals.specs.declared.refusal.Refusal.{Refusal}
 use Rattle.reply_text.specs.declared.ending.Ending.{Ending}
 use Rattle.script_lines.specs.ReplyText.{reply_line}
@@ -82,6 +82,9 @@ of_actor (Next a) bytes is = λ actor. same_actor a actor is.0
 of_actor (Drop a) bytes is = λ actor. same_actor a actor is.0
 of_actor (Delete name) bytes is = λ actor none. absurd cc
 of_actor ListNames bytes is = λ actor none. absurd cc
+of_actor (Gc percent) bytes is = λ actor none. absurd cc
+of_actor GcStep bytes is = λ actor none. absurd cc
+of_actor Sweep bytes is = λ actor none. absurd cc
 of_actor Stat bytes is = λ actor none. absurd cc
 of_actor Reopen bytes is = λ actor none. absurd cc
 

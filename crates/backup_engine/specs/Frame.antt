@@ -17,7 +17,7 @@ use Rattle.ingest_steps.specs.Naming.{StandsStill}
 use Rattle.reply_text.specs.declared.ending.Ending.{Ending}
 use Rattle.plain_machine.specs.Content.{SameJournal}
 use Rattle.plain_machine.specs.Runs.{Replied}
-use Rattle.script_runner.specs.Frame.{KeepsOver}
+use Rattle.script_runner.specs.Frame.{KeepsOver, NeverSweeps}
 use Rattle.backup_engine.specs.Line.{CommandLine, Format, Ingest, Restore, Delete}
 use Rattle.backup_engine.specs.Line as table
 use Rattle.backup_engine.specs.Promise.{LeavesMeanwhile, MayChange}
@@ -83,6 +83,7 @@ pub record KeepsStore (rs : List Replied) (old new : List ℕ) : Type 0 where
 abbrev pub KeepsAll : List Replied → List ℕ → List ℕ → Type 0
 KeepsAll rs old new = (new ≡ old) ⊎ KeepsStore rs old new
 
+-- So it is where none of them makes steps of a collection.
 pub record LinesKeepOthers (rs : List Replied) (disk disk_now : DiskView) : Type 0 where
-  pub content : Known disk.content (λ old. KnownWith disk_now.content (KeepsAll rs old))
-  pub crash : Known disk.content (λ old. LeavesMeanwhile (KeepsAll rs old) disk disk_now)
+  pub content : NeverSweeps rs → Known disk.content (λ old. KnownWith disk_now.content (KeepsAll rs old))
+  pub crash : NeverSweeps rs → Known disk.content (λ old. LeavesMeanwhile (KeepsAll rs old) disk disk_now)

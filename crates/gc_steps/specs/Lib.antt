@@ -13,6 +13,7 @@ pub mod Safety
 pub mod Scanning
 pub mod Stages
 pub mod Stepping
+pub mod Sparing
 pub mod StepsToCome
 pub mod SweepIsSafe
 pub mod UnderWay

@@ -1,6 +1,6 @@
 -- Collections: what no file, no reader and no writer needs is found step by step, and containers of nothing else are given back
 -- (docs/MODEL.md, 'The plain machine').
-use Rattle.std.specs.Prelude.{◌≡◌, ℕ, suc, ◌+◌, ◌*◌, true, List, [], ◌∷◌, Option, None, Some, IsSome}
+use Rattle.std.specs.Prelude.{◌≡◌, ℕ, suc, ◌+◌, ◌*◌, Bool, true, slice_get, List, [], ◌∷◌, Option, None, Some, IsSome}
 use Rattle.base_model.specs.Fault.{Rose}
 use Rattle.container_meta.specs.declared.kind.Kind.{Kind}
 use Rattle.container_meta.specs.declared.kind.Kind.TheVariants.{Leaf, Tree}
@@ -9,8 +9,11 @@ use Rattle.refusals.specs.declared.refusal.Phase.{Phase}
 use Rattle.refusals.specs.declared.refusal.Phase.TheVariants.{Release}
 use Rattle.refusals.specs.declared.refusal.Refusal.{Refusal}
 use Rattle.refusals.specs.declared.refusal.Refusal.TheVariants.{Memory, NotCollecting, DiskRead, DiskWrite}
+use Rattle.store_model.specs.Files.{Files}
+use Rattle.store_model.specs.Reserve.{IsReachable}
+use Rattle.store_model.specs.Slots.{Copy, newest}
 use Rattle.plain_machine.specs.Content.{BreaksGate, FreesContainer, OfStore, SameStore}
-use Rattle.plain_machine.specs.Machine.{Machine, Stopped}
+use Rattle.plain_machine.specs.Machine.{Machine, Stopped, are_idle}
 use Rattle.plain_machine.specs.Turns.{Stays}
 
 -- ---- how long one takes at most
@@ -36,18 +39,23 @@ most_steps held = 6 * trees_in held + 6 * containers_in held + 3
 
 -- ---- what it does
 
+-- each container holds the newest copy of a key of which P holds
+abbrev pub EachHolds : (List ℕ → Type 0) → List (Option HeaderValue) → Type 0
+EachHolds P held = (slot : ℕ) (h : HeaderValue) → slice_get held slot ≡ Some (Some h) → (key : List ℕ)
+    × ((copy : Copy) × (P key × (newest 0 held key ≡ Some copy) × (copy.place.slot ≡ slot)))
+
 -- One begins where none ran. Its snapshot is the next id.
 pub record BeginsCollection (snapshot : ℕ) (m n : Machine) : Type 0 where
   pub none_ran : m.collecting ≡ None
   pub snapshot_is : snapshot ≡ suc m.last_id
   pub most : ℕ
   pub most_is : OfStore m.content (λ store. most ≡ most_steps store.held)
-  pub others : n ≡ record m { collecting = Some (record { to_come = most; freed = 0 }); collected = true }
+  pub others : n ≡ record m { collecting = Some (record { to_come = most; freed = 0; alone = are_idle m.parts }); collected = true }
 
--- what a step changes: a release gives a container back, and no other step anything
-abbrev pub ChangesBy : Phase → List ℕ → List ℕ → Type 0
-ChangesBy Release old new = FreesContainer old new
-ChangesBy phase old new = SameStore old new
+-- what a step changes: a release gives a container back that no file needs, and no other step anything
+abbrev pub ChangesBy : Phase → Files → List ℕ → List ℕ → Type 0
+ChangesBy Release files old new = FreesContainer (IsReachable files) old new
+ChangesBy phase files old new = SameStore old new
 
 abbrev pub freed_by : Phase → ℕ
 freed_by Release = 1
@@ -57,20 +65,27 @@ freed_by phase = 0
 pub record StepsCollection (phase : Phase) (m n : Machine) : Type 0 where
   pub left : ℕ
   pub freed : ℕ
-  pub ran : m.collecting ≡ Some (record { to_come = suc left; freed = freed })
-  pub changes : ChangesBy phase m.content n.content
-  pub others : n ≡ record m { content = n.content; collecting = Some (record { to_come = left; freed = freed + freed_by phase }) }
+  pub alone : Bool
+  pub ran : m.collecting ≡ Some (record { to_come = suc left; freed = freed; alone = alone })
+  pub changes : ChangesBy phase m.stored.files m.content n.content
+  pub others : n ≡ record m {
+    content = n.content;
+    collecting = Some (record { to_come = left; freed = freed + freed_by phase; alone = alone });
+  }
 
 -- steps, one after the other
 abbrev pub CollectionSteps : List Phase → Machine → Machine → Type 0
 CollectionSteps [] m n = n ≡ m
 CollectionSteps (phase ∷ phases) m n = (mid : Machine) × (StepsCollection phase m mid × CollectionSteps phases mid n)
 
--- It ends, and tells how many containers it gave back. It copies nothing so far.
+-- It ends, and tells how many containers it gave back. It copies nothing so far. Of one that ran alone each container that is left holds
+-- the newest copy of a key of a file: so just those that no file needs were given back.
 pub record EndsCollection (freed copied : ℕ) (m n : Machine) : Type 0 where
   pub left : ℕ
-  pub ran : m.collecting ≡ Some (record { to_come = left; freed = freed })
+  pub alone : Bool
+  pub ran : m.collecting ≡ Some (record { to_come = left; freed = freed; alone = alone })
   pub copied_is : copied ≡ 0
+  pub none_spare : alone ≡ true → OfStore m.content (λ store. EachHolds (IsReachable m.stored.files) store.held)
   pub others : n ≡ record m { collecting = None }
 
 -- it goes on to its end

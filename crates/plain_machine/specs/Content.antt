@@ -20,9 +20,10 @@ use Rattle.store_model.specs.Files.{Files}
 use Rattle.store_model.specs.Image.{Store, Encodes}
 use Rattle.store_model.specs.Indexing.{entries_in, bytes_in_slots}
 use Rattle.store_model.specs.Pieces.{Piece, Node, IsPieceOf, piece_segment}
+use Rattle.store_model.specs.Reserve.{IsSpare}
 use Rattle.store_model.specs.Slots.{Copy, newest, first_free, free_slots}
 use Rattle.store_model.specs.Freeing.{with_freed}
-use Rattle.store_model.specs.Steps.{CanChangeName, CanFree, CanSeal, HasCellsFor, with_change, with_sealed}
+use Rattle.store_model.specs.Steps.{CanChangeName, CanSeal, HasCellsFor, with_change, with_sealed}
 use Rattle.store_model.specs.Trees.{HasNewest, bytes_at, node_key}
 
 -- P is so of the store that the content is: there is one
@@ -132,12 +133,12 @@ pub record SameButGate (slot slots : ℕ) (old new : List ℕ) : Type 0 where
   pub rest : SameBut (Unit {0}) (λ half cell. ⊥) (λ other. other ≡ slot) slots old new
   pub slot_is : range (slot_at slot + 1) (SLOT_BYTES - 1) new ≡ range (slot_at slot + 1) (SLOT_BYTES - 1) old
 
--- A container is given back: the gate of its slot is closed, and all else is as it was.
-pub record FreesContainer (old new : List ℕ) : Type 0 where
+-- A container is given back that holds the newest copy of no key of which P holds: the gate of its slot is closed, and all else is as it was.
+pub record FreesContainer (P : List ℕ → Type 0) (old new : List ℕ) : Type 0 where
   pub store : Store
   pub was : Encodes old store
   pub slot : ℕ
-  pub can : CanFree slot store
+  pub spare : IsSpare P store.held slot
   pub now : Encodes new (with_freed slot store)
   pub rest : SameButGate slot store.slots old new
 

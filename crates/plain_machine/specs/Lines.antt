@@ -19,7 +19,7 @@ use Rattle.store_model.specs.Standing.{file_listing}
 use Rattle.store_model.specs.Trees.{root_of}
 use Rattle.plain_machine.specs.Collections.{BeginsCollection, EndsCollection, StepsCollection, Sweeps}
 use Rattle.plain_machine.specs.Content.{AddsRecord, Counts, HoldsFile}
-use Rattle.plain_machine.specs.Machine.{Machine, Part, Idle, Writing, Finished, Reading, MayBeFound, opened, one_more, part_in, put_at}
+use Rattle.plain_machine.specs.Machine.{Machine, Part, Idle, Writing, Finished, Reading, MayBeFound, disturbed, opened, one_more, part_in, put_at}
 use Rattle.plain_machine.specs.Refused.{HasNumbers, HasRoomForName}
 use Rattle.plain_machine.specs.Turns.{Writer, IsWriter, IsDue, MachineTurn, MachineTurns}
 
@@ -76,6 +76,7 @@ pub record Commits (actor : ℕ) (name : List ℕ) (sequence : ℕ) (m n : Machi
     stored = with_stored mid.stored name file;
     acknowledged = one_more mid.acknowledged;
     content = n.content;
+    collecting = disturbed mid.collecting;
   }
 
 -- It is given up.
@@ -109,6 +110,7 @@ pub record Deletes (name : List ℕ) (sequence : ℕ) (m n : Machine) : Type 0 w
     stored = without_stored m.stored name;
     acknowledged = one_more m.acknowledged;
     content = n.content;
+    collecting = disturbed m.collecting;
   }
 
 -- ---- all lines of a store that runs, but `reopen`

@@ -1,5 +1,5 @@
 -- The plain machine (docs/MODEL.md, 'The plain machine'): names with their files, what each actor is at, and the disk's content.
-use Rattle.std.specs.Prelude.{Bool, false, ◌≡◌, ℕ, ◌+◌, ◌-◌, ◌^◌, List, min, replicate, slice_index_or, slice_set, Option, Some, None, ◌⊎◌}
+use Rattle.std.specs.Prelude.{Bool, true, false, ◌&&◌, ◌≡◌, ℕ, ◌+◌, ◌-◌, ◌^◌, List, [], ◌∷◌, min, replicate, slice_index_or, slice_set, Option, Some, None, ◌⊎◌}
 use Rattle.actor_parts.specs.declared.actor.TheConstants.{ACTORS}
 use Rattle.actor_parts.specs.declared.step.Answer.{Answer}
 use Rattle.refusals.specs.declared.refusal.PartKind.{PartKind}
@@ -29,6 +29,14 @@ kind_of (Reading rest) = kinds.Reading
 abbrev pub all_idle : List Part
 all_idle = replicate ACTORS Idle
 
+abbrev pub is_idle : Part → Bool
+is_idle Idle = true
+is_idle part = false
+
+abbrev pub are_idle : List Part → Bool
+are_idle [] = true
+are_idle (part ∷ parts) = is_idle part && are_idle parts
+
 -- ---- the machine
 
 -- It runs; or it is stopped by a write or a sync that failed. `reopen` then finds the files of before or, after a commit or a delete,
@@ -41,6 +49,13 @@ pub data RunState : Type 0 where
 pub record Collecting : Type 0 where
   pub to_come : ℕ
   pub freed : ℕ
+  -- no actor was at anything when it began, and since then none has had a turn, and no name has changed
+  pub alone : Bool
+
+-- the same, once something else was done beside it
+abbrev pub disturbed : Option Collecting → Option Collecting
+disturbed None = None
+disturbed (Some k) = Some (record k { alone = false })
 
 pub record Machine : Type 0 where
   -- names to files, and the last sequence number that was given out

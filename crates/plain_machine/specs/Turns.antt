@@ -16,7 +16,7 @@ use Rattle.refusals.specs.declared.refusal.Refusal.{Refusal}
 use Rattle.refusals.specs.declared.refusal.Refusal.TheVariants.{DiskRead, DiskWrite, Full, Clash, Numbers, Unpinned}
 use Rattle.store_model.specs.Slots.{free_slots}
 use Rattle.plain_machine.specs.Content.{OfStore, Holds, Lacks, AddsContainer, BreaksOff, ClashesWith, HasTwins, SameStore}
-use Rattle.plain_machine.specs.Machine.{Machine, Part, Writing, Finished, Stopped, part_in, put_at}
+use Rattle.plain_machine.specs.Machine.{Machine, Part, Writing, Finished, Stopped, disturbed, part_in, put_at}
 use Rattle.store_model.specs.Files.{Files}
 use Rattle.store_model.specs.Pieces.{IsPieceOf, Piece, piece_segment}
 
@@ -77,7 +77,11 @@ pub record MachineTurn (actor : ℕ) (answer : Answer) (m n : Machine) : Type 0 
   pub due : Due
   pub is_due : IsDueFor writer.given writer.ended writer.answers due
   pub shows : Shows due is_due.session answer m n.content
-  pub others : n ≡ record (put_at m actor (told (part_in m actor) answer)) { content = n.content; last_id = last_by answer m.last_id }
+  pub others : n ≡ record (put_at m actor (told (part_in m actor) answer)) {
+    content = n.content;
+    last_id = last_by answer m.last_id;
+    collecting = disturbed m.collecting;
+  }
 
 -- Any number of turns of an actor, one after the other.
 abbrev pub MachineTurns : ℕ → List Answer → Machine → Machine → Type 0

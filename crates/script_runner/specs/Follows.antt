@@ -4,6 +4,7 @@ use Rattle.std.specs.FinMap as finite
 use Rattle.dd_disk.specs.View.{CrashLeaves}
 use Rattle.disk_format.specs.declared.numbers.TheConstants.{LAST_ID}
 use Rattle.container_meta.specs.declared.kind.Kind.{Kind}
+use Rattle.container_meta.specs.Places.{PlaceMap}
 use Rattle.container_meta.specs.Segments.{Segment, segment_key}
 use Rattle.merkle_file.specs.declared.top.Top.{Top}
 use Rattle.actor_parts.specs.declared.actor.TheConstants.{ACTORS}
@@ -14,6 +15,7 @@ use Rattle.actor_parts.specs.PinMap.{PinMap}
 use Rattle.actor_parts.specs.Parts as core_parts_of
 use Rattle.actor_parts.specs.Segments.{pin_by}
 use Rattle.gc_steps.specs.FewSources.{HasFewSources}
+use Rattle.gc_steps.specs.Sparing.{Spares}
 use Rattle.gc_steps.specs.StepsToCome.{steps_to_come}
 use Rattle.gc_steps.specs.declared.collection.Collection.{Collection}
 use Rattle.ingest_session.specs.Facts.{IsKept}
@@ -23,9 +25,10 @@ use Rattle.read_steps.specs.Walking.{SegmentsAhead}
 use Rattle.script_lines.specs.Grammar.{LineValue}
 use Rattle.script_lines.specs.ReplyValue.{ReplyValue}
 use Rattle.store_model.specs.Collisions.{HasNoCollisions, ByteSet, IsIn, IsOf}
-use Rattle.store_model.specs.Files.{Stored}
+use Rattle.store_model.specs.Files.{Files, Stored}
 use Rattle.segment_index.specs.Places.{KnownMap}
 use Rattle.store_model.specs.Image.{Store}
+use Rattle.store_model.specs.Reserve.{IsReachable}
 use Rattle.store_model.specs.Slots.{HasKey}
 use Rattle.store_model.specs.Standing.{IsSegmentOf}
 use Rattle.store_state.specs.Settled.{IsSettled}
@@ -88,6 +91,12 @@ abbrev pub FollowsCollection : Option Collecting → CoreState → Type 0
 FollowsCollection None c = c.collection ≡ None
 FollowsCollection (Some k) c = FollowsCollecting k c
 
+-- Of one that runs alone: only keys that files need are live, and it spares the containers that hold copies of these.
+abbrev pub SparesAlone : Files → Store → Option Collecting → CoreState → Type 0
+SparesAlone files store None c = Unit {0}
+SparesAlone files store (Some k) c = k.alone ≡ true → (index : PlaceMap) (collection : Collection) → c.known ≡ Some index
+    → c.collection ≡ Some collection → Spares (IsReachable files) index store.held collection
+
 -- The core is at a store of these files, and its disk is settled. The last id is this one; the collection that runs, if one does, is this one;
 -- and where none began since the opening, the index has each key that the store holds.
 pub record FollowsStore (S : List ℕ → Type 0) (stored : Stored) (last : ℕ) (collecting : Option Collecting) (collected : Bool) (c : CoreState)
@@ -99,6 +108,7 @@ pub record FollowsStore (S : List ℕ → Type 0) (stored : Stored) (last : ℕ)
   pub last_id_is : c.tables.held.last_id ≡ last
   pub low : last ≤ LAST_ID
   pub collects : FollowsCollection collecting c
+  pub spares : SparesAlone stored.files store collecting c
   pub begun : (k : Collecting) → collecting ≡ Some k → collected ≡ true
 
 -- those of the machine

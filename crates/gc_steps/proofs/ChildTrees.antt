@@ -23,7 +23,7 @@ first_same : (a b : ℕ) (xs ys : List ℕ) → a ∷ xs ≡ b ∷ ys → a ≡ 
 first_same a b xs ys same = cc
 
 -- no key of a segment is that of a node
-leaf_apart : (segment : List ℕ) (n : Contents) → leaf_key segment ≡ node_key n → ⊥
+pub leaf_apart : (segment : List ℕ) (n : Contents) → leaf_key segment ≡ node_key n → ⊥
 leaf_apart segment n same = let wrong = first_same 0 1 (sha256 segment) (node_digest n) same in omega (arith, wrong)
 
 -- A tree is that of a node over some trees.

@@ -33,7 +33,7 @@ use Rattle.gc_steps.specs.Stages.{first_from, is_old_slot, is_tree, is_tree_slot
 
 -- ---- no container has come after it
 
-id_below : (held : List (Option HeaderValue)) (slot : ℕ) (h : HeaderValue) → slice_get held slot ≡ Some (Some h) → h.id ≤ last_id held
+pub id_below : (held : List (Option HeaderValue)) (slot : ℕ) (h : HeaderValue) → slice_get held slot ≡ Some (Some h) → h.id ≤ last_id held
 id_below [] slot h there = absurd cc
 id_below (None ∷ cs) zero h there = absurd (let wrong : None ≡ Some h = some_same None (Some h) there in cc)
 id_below (Some g ∷ cs) zero h there =
@@ -129,6 +129,14 @@ not_none id some = by_test (id == 0) refl
     by_test true is = absurd (omega (arith, eqb-true id 0 is, some))
 
 module _ (held : List (Option HeaderValue)) (image : List ℕ) (t : SlotTable) (snapshot : ℕ) (holds : HoldSlots 0 held image) (slots : RepresentsSlots held t) where
+  -- a container that came before the collection
+  pub old_there : (slot : ℕ) (h : HeaderValue) → slice_get held slot ≡ Some (Some h) → h.id < snapshot → is_old_slot snapshot t slot ≡ true
+  old_there slot h there old =
+      let right : IsHeader h = (slot_held slot held (Some h) image holds there).0 in
+      let some : 1 ≤ h.id = leb-true 1 h.id (first_true (nat_le 1 h.id) _ right.id) in
+      ap (λ (n : ℕ). not (n == 0) && nat_lt n snapshot) (ap (λ (ids : List ℕ). get_or ids slot 0) slots.ids_are ∙ id_there held slot h there)
+      ∙ both (not (h.id == 0)) (nat_lt h.id snapshot) (not_none h.id some) (lt-ltb h.id snapshot old)
+
   pub tree_there : (slot id : ℕ) → id < snapshot → HasTree held slot id → is_tree_slot snapshot t slot ≡ true
   tree_there slot id old is =
       both (is_old_slot snapshot t slot) (is_tree (slice_get t.counts.items slot))

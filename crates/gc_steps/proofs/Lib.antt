@@ -4,6 +4,7 @@ pub mod ClaimedPin
 pub mod Faulted
 pub mod FewSources
 pub mod FewerRoots
+pub mod FileKeys
 pub mod FirstStage
 pub mod FoundNodes
 pub mod FreshMarks
@@ -35,6 +36,8 @@ pub mod Scanned
 pub mod Scans
 pub mod Sealed
 pub mod SealedPins
+pub mod Sparing
+pub mod SparingStages
 pub mod Started
 pub mod StepSafe
 pub mod Swept

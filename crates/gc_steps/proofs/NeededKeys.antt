@@ -50,7 +50,7 @@ pub record HasRootOf (root : Root) (t : Tree (List ℕ)) : Type 0 where
   pub has : HasRootKey root (root_key root)
   pub root_is : IsRootOf (root_key root) t
 
-has_root : (t : Tree (List ℕ)) (root : Root) (key : List ℕ) → AllByRecursion IsTree (trees_in t) → top_of root ≡ tree.root_of of_segment t → Contains (tree_keys t) key → HasRootOf root t
+pub has_root : (t : Tree (List ℕ)) (root : Root) (key : List ℕ) → AllByRecursion IsTree (trees_in t) → top_of root ≡ tree.root_of of_segment t → Contains (tree_keys t) key → HasRootOf root t
 has_root tree.Empty root key right top there = absurd (contains_none key there)
 has_root (tree.Leaf segment) root key right top there = record {
   right = right.0;

@@ -44,7 +44,7 @@ not_zero n above = by_test (n == 0) refl
 
 -- ---- the index has the key of a tree's root
 
-root_there : (t : Tree (List ℕ)) (key : List ℕ) → IsRootOf key t → (top : List ℕ) × (key ≡ top) × Contains (tree_keys t) top
+pub root_there : (t : Tree (List ℕ)) (key : List ℕ) → IsRootOf key t → (top : List ℕ) × (key ≡ top) × Contains (tree_keys t) top
 root_there tree.Empty key is = absurd is
 root_there (tree.Leaf segment) key is = (leaf_key segment, is, in_head (leaf_key segment) [])
 root_there (tree.Node level ts) key is = (node_key (contents_of level ts), is, in_head (node_key (contents_of level ts)) (keys_below ts))

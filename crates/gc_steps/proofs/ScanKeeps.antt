@@ -5,6 +5,7 @@ use Rattle.std.specs.List.{All, AllByRecursion, Contains, flat_map}
 use Rattle.std.proofs.lemmas.List.Elements.{All-contains, All-from_recursion, All-take, All-weaker, recursion_from_All}
 use Rattle.actor_parts.specs.declared.part.Part.{Part}
 use Rattle.container_meta.specs.declared.entry.Entry.{Entry}
+use Rattle.container_meta.specs.declared.place.Place.{Place}
 use Rattle.container_meta.specs.Format.{is_level}
 use Rattle.container_meta.specs.Places.{PlaceMap}
 use Rattle.container_meta.specs.Spelling.{HeaderValue, IsHeader}
@@ -46,10 +47,10 @@ level_of_tree : (t : Tree (List ℕ)) (n : Contents) → IsTreeOf t n → level_
 level_of_tree t n is = ap level_of is.tree_is ∙ ap (λ (m : Contents). m.level) is.node_is
 
 -- A key that became live: a child of a node of the level that was live.
-record IsNewKey (index : PlaceMap) (live : LiveKeys) (held : List (Option HeaderValue)) (image : List ℕ) (level : ℕ) (key : List ℕ) : Type 0 where
-  parent : Contents
-  was_live : IsLiveNode index live held image level parent
-  child : Contains (child_keys parent) key
+pub record IsNewKey (index : PlaceMap) (live : LiveKeys) (held : List (Option HeaderValue)) (image : List ℕ) (level : ℕ) (key : List ℕ) : Type 0 where
+  pub parent : Contents
+  pub was_live : IsLiveNode index live held image level parent
+  pub child : Contains (child_keys parent) key
 
 -- ---- marks stay closed
 
@@ -141,11 +142,10 @@ first_ones f (x ∷ xs) ys key there = elim (contains_first (f x) key (map f xs)
   | inr later ↦ contains_next (f x) key (map f (xs ++ ys)) (first_ones f xs ys key later)
 ]
 
-module _ (index : PlaceMap) (store : Store) (files : Files) (parts : List Part) (image : List ℕ) (holds : IsStoreOf store files image) (partial : IsPartialIndexOf store.held index)
-    (old new : DiskView) (content : old.content ≡ Some image) (level slot : ℕ) (h : HeaderValue) (right : IsHeader h) (before after : Collection)
-    (closed : MarksAreClosed index store parts image before) (was : before.stage ≡ Mark level slot) (same : after.snapshot ≡ before.snapshot) where
+module _ (index : PlaceMap) (store : Store) (files : Files) (image : List ℕ) (holds : IsStoreOf store files image) (partial : IsPartialIndexOf store.held index)
+    (old new : DiskView) (content : old.content ≡ Some image) (level slot : ℕ) (h : HeaderValue) (right : IsHeader h) (live : LiveKeys) where
   abbrev scan : Scan
-  scan = scan_for (Some index) before.live slot level h
+  scan = scan_for (Some index) live slot level h
 
   abbrev HasRule : Entry → Type 0
   HasRule e = is_level h.kind e.level ≡ true
@@ -153,16 +153,36 @@ module _ (index : PlaceMap) (store : Store) (files : Files) (parts : List Part) 
   rules : AllByRecursion HasRule h.entries
   rules = have_levels h.kind h.kind [] h.entries refl right.entries
 
-  new_key : (es : List Entry) (nodes : List Contents) (key : List ℕ) → AllByRecursion HasRule es → HaveNodes scan (ShowsAt old new) es nodes → Contains (flat_map child_keys nodes) key
-      → IsNewKey index before.live store.held image level key
-  new_key es nodes key all have child =
+  key_of_node : (es : List Entry) (nodes : List Contents) (key : List ℕ) → AllByRecursion HasRule es → HaveNodes scan (ShowsAt old new) es nodes → Contains (flat_map child_keys nodes) key
+      → IsNewKey index live store.held image level key
+  key_of_node es nodes key all have child =
       let found = child_found HasRule scan (ShowsAt old new) key es nodes all have child in
       record {
         parent = found.node;
-        was_live = scanned_node index store files image holds partial old new content level slot h before.live found.entry found.node found.rule found.to_scan found.node_is;
+        was_live = scanned_node index store files image holds partial old new content level slot h live found.entry found.node found.rule found.to_scan found.node_is;
         child = found.child;
       }
 
+  -- of all entries
+  pub new_key : (after : LiveKeys) (scanned : ScansEntries (Some index) old new slot level h live after) (key : List ℕ) (place : Place) → IsAmong key place scanned.marks.found
+      → IsNewKey index live store.held image level key
+  new_key after scanned key place among =
+      key_of_node h.entries scanned.marks.finds.nodes key rules scanned.marks.finds.nodes_are
+      (subst (λ (keys : List (List ℕ)). Contains keys key) scanned.marks.finds.keys_are (among_keys key place scanned.marks.found among))
+
+  -- of some
+  pub some_key : (after : LiveKeys) (scanned : ScansSome (Some index) old new slot level h live after) (key : List ℕ) (place : Place) → IsAmong key place scanned.marks.0
+      → IsNewKey index live store.held image level key
+  some_key after scanned key place among =
+      let some : Contains (keys_of (scanned.marks.0 ++ scanned.marks.1.0)) key = first_ones _ scanned.marks.0 scanned.marks.1.0 key (among_keys key place scanned.marks.0 among) in
+      let all : Contains (keys_of scanned.found) key = subst (λ found. Contains (keys_of found) key) (sym scanned.marks.1.1.0) some in
+      key_of_node (take scanned.count h.entries) scanned.finds.nodes key
+      (recursion_from_All HasRule (take scanned.count h.entries) (All-take HasRule scanned.count h.entries (All-from_recursion HasRule h.entries rules))) scanned.finds.nodes_are
+      (subst (λ (keys : List (List ℕ)). Contains keys key) scanned.finds.keys_are all)
+
+module _ (index : PlaceMap) (store : Store) (files : Files) (parts : List Part) (image : List ℕ) (holds : IsStoreOf store files image) (partial : IsPartialIndexOf store.held index)
+    (old new : DiskView) (content : old.content ≡ Some image) (level slot : ℕ) (h : HeaderValue) (right : IsHeader h) (before after : Collection)
+    (closed : MarksAreClosed index store parts image before) (was : before.stage ≡ Mark level slot) (same : after.snapshot ≡ before.snapshot) where
   -- where all became live
   module _ (scanned : ScansEntries (Some index) old new slot level h before.live after.live) where
     was_or_new : (key : List ℕ) → IsLive index after.live key → IsLive index before.live key ⊎ IsNewKey index before.live store.held image level key
@@ -170,9 +190,7 @@ module _ (index : PlaceMap) (store : Store) (files : Files) (parts : List Part) 
       where
         by_case : IsLiveAt before.live key is.0 ⊎ IsAmong key is.0 scanned.marks.found → IsLive index before.live key ⊎ IsNewKey index before.live store.held image level key
         by_case (inl earlier) = inl (is.0, (is.1.0, earlier))
-        by_case (inr among) =
-            inr (new_key h.entries scanned.marks.finds.nodes key rules scanned.marks.finds.nodes_are
-            (subst (λ (keys : List (List ℕ)). Contains keys key) scanned.marks.finds.keys_are (among_keys key is.0 scanned.marks.found among)))
+        by_case (inr among) = inr (new_key index store files image holds partial old new content level slot h right before.live after.live scanned key is.0 among)
 
     scanned_closed : slice_get store.held slot ≡ Some (Some h) → ((n : Contents) (copy : Copy) → HoldsNode store.held image n copy → IsPassed after n.level copy → PassesOne level slot before n copy)
         → MarksAreClosed index store parts image after
@@ -193,12 +211,7 @@ module _ (index : PlaceMap) (store : Store) (files : Files) (parts : List Part) 
       where
         by_case : IsLiveAt before.live key is.0 ⊎ IsAmong key is.0 scanned.marks.0 → IsLive index before.live key ⊎ IsNewKey index before.live store.held image level key
         by_case (inl earlier) = inl (is.0, (is.1.0, earlier))
-        by_case (inr among) =
-            let some : Contains (keys_of (scanned.marks.0 ++ scanned.marks.1.0)) key = first_ones _ scanned.marks.0 scanned.marks.1.0 key (among_keys key is.0 scanned.marks.0 among) in
-            let all : Contains (keys_of scanned.found) key = subst (λ found. Contains (keys_of found) key) (sym scanned.marks.1.1.0) some in
-            inr (new_key (take scanned.count h.entries) scanned.finds.nodes key
-            (recursion_from_All HasRule (take scanned.count h.entries) (All-take HasRule scanned.count h.entries (All-from_recursion HasRule h.entries rules))) scanned.finds.nodes_are
-            (subst (λ (keys : List (List ℕ)). Contains keys key) scanned.finds.keys_are all))
+        by_case (inr among) = inr (some_key index store files image holds partial old new content level slot h right before.live after.live scanned key is.0 among)
 
     passed_before : (l : ℕ) (copy : Copy) → IsPassed after l copy → IsPassed before l copy
     passed_before l copy (inl is) = inl (subst (λ (s : Stage). WasScanned s l copy.place.slot) stage_stays is)

@@ -97,14 +97,14 @@ place_same a =
 -- ---- the copies of a container leave the index
 
 module _ (live : LiveKeys) (index : PlaceMap) (kind : Kind) (slot : ℕ) where
-  copy_is : (e : Entry) → is_copy index kind slot e ≡ true → finite.get index (entry_key kind e) ≡ Some (place_of slot e)
+  pub copy_is : (e : Entry) → is_copy index kind slot e ≡ true → finite.get index (entry_key kind e) ≡ Some (place_of slot e)
   copy_is e is = by_found (finite.get index (entry_key kind e)) is
     where
       by_found : (found : Option Place) → is_place_found found (place_of slot e) ≡ true → found ≡ Some (place_of slot e)
       by_found None none = absurd cc
       by_found (Some place) same = ap Some (same_place place (place_of slot e) same)
 
-  is_copy_at : (e : Entry) → finite.get index (entry_key kind e) ≡ Some (place_of slot e) → is_copy index kind slot e ≡ true
+  pub is_copy_at : (e : Entry) → finite.get index (entry_key kind e) ≡ Some (place_of slot e) → is_copy index kind slot e ≡ true
   is_copy_at e is = ap (λ (found : Option Place). is_place_found found (place_of slot e)) is ∙ place_same (place_of slot e)
 
   -- a live key is none of those of dead copies

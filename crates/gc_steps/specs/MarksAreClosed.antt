@@ -32,10 +32,10 @@ abbrev pub NewAreLive : PlaceMap → LiveKeys → ℕ → List (Option HeaderVal
 NewAreLive index live snapshot held = (slot : ℕ) (h : HeaderValue) → slice_get held slot ≡ Some (Some h) → snapshot ≤ h.id
     → All (λ e. IsLive index live (entry_key h.kind e)) h.entries
 
--- The roots of names and readers and all pins are live. The tree of each live key is held whole, so that marking meets no child that the index
--- lacks. A key may be marked that the index lacks: a claim or a seal marks after its checks and before its write, and takes back what a refusal
--- leaves. A live node that was passed has live children: above the level that is being marked each one, in this level each in a slot before
--- the next, and each in a container that came after the collection began. All that such a container holds is live.
+-- The roots of names and readers and all pins are live. The tree of each live key is held whole, so that marking meets no child that the
+-- index lacks. A key may be marked that the index lacks: a claim or a seal marks before it writes, and takes back what a refusal leaves. A
+-- live node that was passed has live children: above the level that is being marked each one, in this level each in a slot before the
+-- next, and each in a container that came after the collection began. All that such a container holds is live.
 pub record MarksAreClosed (index : PlaceMap) (store : Store) (parts : List Part) (image : List ℕ) (c : Collection) : Type 0 where
   pub roots_are_live : (key : List ℕ) → IsRoot (names_of store) parts key → IsLive index c.live key
   pub live_is_whole : (key : List ℕ) → IsLive index c.live key → IsWhole index store.held image key

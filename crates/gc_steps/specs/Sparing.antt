@@ -22,8 +22,8 @@ IsSpared index c slot h = HasLiveCopy index c.live h.kind slot h.entries
 abbrev pub IsToBeTaken : List ℕ → ℕ → ℕ → Type 0
 IsToBeTaken sources from id = (i : ℕ) × ((from ≤ i) × (i < length sources) × (get_or sources i 0 ≡ id))
 
--- A container that was there when the collection began, at a stage: once it was recorded it is selected, or holds a live copy; then it is still
--- to be taken, or about to be given back, or holds one; and at the end it does.
+-- A container that was there when the collection began, at a stage: once it was recorded it is selected, or holds a live copy; then it is
+-- still to be taken, or about to be given back, or holds one; and at the end it does.
 abbrev pub IsSparedAt : Stage → PlaceMap → Collection → ℕ → HeaderValue → Type 0
 IsSparedAt (Mark level at) index c slot h = Unit {0}
 IsSparedAt (Filter at) index c slot h =

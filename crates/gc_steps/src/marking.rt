@@ -42,8 +42,8 @@ fn scan_lent<D: Disk, X: Index>(
     requires room { MOST_SEGMENT ≤ length buf.old }
     ensures marks { OnOk result (ScansEntries (X.places index.old (D.view disk.old).content) (D.view disk.old) (D.view disk.new) slot level
         (view meta.now) live.old live.new) }
-    ensures some { result ≡ Err OutOfMemory → ScansSome (X.places index.old (D.view disk.old).content) (D.view disk.old) (D.view disk.new)
-        slot level (view meta.now) live.old live.new }
+    ensures some { result ≡ Err OutOfMemory → ScansSome (X.places index.old (D.view disk.old).content) (D.view disk.old)
+        (D.view disk.new) slot level (view meta.now) live.old live.new }
     ensures kept { IfErr result (λ fault. UnlessMemory fault (live.new ≡ live.old)) }
     ensures refused { IfErr result (IsEntriesFault (X.places index.old (D.view disk.old).content) (D.view disk.old)
         (D.view disk.new) slot level (view meta.now) live.old) }

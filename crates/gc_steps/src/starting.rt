@@ -129,7 +129,8 @@ fn mark_parts(alloc: Global, live: &mut Live, parts: &Parts) -> Result<(), Alloc
 
 // What is live as a collection begins.
 fn first_live(alloc: Global, names: &Names, parts: &Parts) -> Result<Live, AllocError>
-    ensures live { IfOk result (λ live. (key : List ℕ) (place : PlaceValue) → IsLiveAt live key place ↔ IsRoot names.now parts.now key) }
+    ensures live { IfOk result (λ live. (key : List ℕ) (place : PlaceValue) → IsLiveAt live key place
+        ↔ IsRoot names.now parts.now key) }
 {
     let mut live = Live::new(alloc);
     mark_names(alloc, &mut live, names)?;

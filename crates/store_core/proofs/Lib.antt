@@ -1,4 +1,5 @@
 pub mod AnySteps
+pub mod Bounded
 pub mod CheckedReads
 pub mod Committing
 pub mod CoreRuns

@@ -41,7 +41,7 @@ module _ (old new : CoreState) where
       subst (λ (size : ℕ). Runs size None new.tables) (sym later.size_is) (subst (λ (tables : Tables). Runs old.disk.size None tables) (sym same) runs)
 
   -- the tables are as they were, also where a change of the index broke off
-  tables_kept : (refusal : Refusal) → KeepsUnlessBroken refusal old new → new.tables ≡ old.tables
+  pub tables_kept : (refusal : Refusal) → KeepsUnlessBroken refusal old new → new.tables ≡ old.tables
   tables_kept refusals.DiskWrite kept = kept
   tables_kept (refusals.Damaged at_byte why) kept = kept
   tables_kept refusal kept = kept.tables_are
@@ -96,12 +96,12 @@ marked_on P t None now marks under_way = subst (IsUnderWayIn t) (sym marks) tt
 marked_on P t (Some c) now marks under_way = subst (IsUnderWayIn t) (sym marks.1.0) (live_on t c marks.0 under_way)
 
 -- the closed slot of least number is one
-first_within : (held : List (Option HeaderValue)) → 1 ≤ free_slots held → first_free held < length held
+pub first_within : (held : List (Option HeaderValue)) → 1 ≤ free_slots held → first_free held < length held
 first_within [] some = absurd (omega (arith, some))
 first_within (None ∷ cs) some = omega arith
 first_within (Some h ∷ cs) some = let rest = first_within cs some in omega (arith, rest)
 
-first_closed : (held : List (Option HeaderValue)) → 1 ≤ free_slots held → slice_get held (first_free held) ≡ Some None
+pub first_closed : (held : List (Option HeaderValue)) → 1 ≤ free_slots held → slice_get held (first_free held) ≡ Some None
 first_closed [] some = absurd (omega (arith, some))
 first_closed (None ∷ cs) some = refl
 first_closed (Some h ∷ cs) some = first_closed cs some
@@ -149,12 +149,12 @@ module _ (old new : CoreState) where
   begun_on percent (Err refusals.Memory) row kept under_way = kept_on kept row.1 under_way
   begun_on percent answer row kept under_way = absurd row
 
-  commit_held : (name : List ℕ) (root : Root) (actor : ℕ) (answer : Result Answer Refusal) → CommitRow name root actor answer old new → NamesOne name (Put root) answer old new → new.tables.held ≡ old.tables.held
+  pub commit_held : (name : List ℕ) (root : Root) (actor : ℕ) (answer : Result Answer Refusal) → CommitRow name root actor answer old new → NamesOne name (Put root) answer old new → new.tables.held ≡ old.tables.held
   commit_held name root actor (Ok (answers.Committed sequence)) row effect = row.3
   commit_held name root actor (Err refusal) row effect = ap (λ (t : Tables). t.held) effect.kept.tables_are
   commit_held name root actor answer row effect = absurd row
 
-  delete_held : (name : List ℕ) (answer : Result Answer Refusal) → DeleteRow name answer old new → NamesOne name Delete answer old new → new.tables.held ≡ old.tables.held
+  pub delete_held : (name : List ℕ) (answer : Result Answer Refusal) → DeleteRow name answer old new → NamesOne name Delete answer old new → new.tables.held ≡ old.tables.held
   delete_held name (Ok (answers.Deleted sequence)) row effect = row.3
   delete_held name (Err refusal) row effect = ap (λ (t : Tables). t.held) effect.kept.tables_are
   delete_held name answer row effect = absurd row

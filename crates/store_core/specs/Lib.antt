@@ -1,3 +1,4 @@
+pub mod Bounds
 pub mod Collecting
 pub mod Core
 pub mod Frame

@@ -1,4 +1,5 @@
 //! Laws of steps of a core, one after the other (docs/MODEL.md, 'The core').
+ghost use Rattle.store_core.specs.Bounds.{BoundsSteps};
 ghost use Rattle.store_core.specs.Frame.{AddsAlone, WrittenStays};
 ghost use Rattle.store_core.specs.Keeping.{KeepsSegments, StaysHeld, StaysSettled};
 ghost use Rattle.store_core.specs.Opening.{IsNewAt};
@@ -18,6 +19,12 @@ pub fn an_opened_core_is_at<D: Disk, C: HasState>()
 /// A core that runs runs on, or is stopped, whatever steps are made. The function does nothing.
 pub fn a_core_runs_on<C: HasState>()
     ensures { RunsOn C C.state }
+{}
+
+/// Whatever the disk of a core holds and whatever others do: of a collection that began and has not ended so many steps at most were made.
+/// The function does nothing.
+pub fn a_core_bounds_collections<C: HasState>()
+    ensures { BoundsSteps C C.state }
 {}
 
 /// Over data without collisions, a core that began at a store and isn't stopped has made exactly the commits, the deletes and

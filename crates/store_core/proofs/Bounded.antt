@@ -1,0 +1,268 @@
+-- How many steps a collection takes.
+use Rattle.std.proofs.Common.{◌≡◌, inl, inr, ◌≤◌, ℕ, ◌+◌, ◌*◌, Bool, true, false, List, [], ◌∷◌, length, Option, Some, None, Result, Ok, Err, refl, sym, ◌∙◌, ap, subst, arith}
+use Rattle.std.specs.Prelude.{if◌then◌else◌, nat_lt}
+use Rattle.actor_parts.specs.declared.step.Answer.{Answer}
+use Rattle.actor_parts.specs.declared.step.Answer.TheVariants as answers
+use Rattle.actor_parts.specs.StepValue as asked
+use Rattle.actor_parts.specs.StepValue.{StepValue}
+use Rattle.container_meta.specs.Segments.{Contents}
+use Rattle.container_meta.specs.Spelling.{header_of}
+use Rattle.gc_enumerate.specs.Live.{LiveKeys}
+use Rattle.gc_steps.specs.declared.collection.Collection.{Collection}
+use Rattle.gc_steps.specs.declared.collection.Stage.{Stage}
+use Rattle.gc_steps.specs.declared.collection.Stage.TheVariants.{Copy, End, Filter, Mark, Release, Select}
+use Rattle.gc_steps.specs.declared.phase.StepDone.TheVariants.{Did}
+use Rattle.gc_steps.specs.FewSources.{IsToChoose}
+use Rattle.gc_steps.specs.Stages.{sweep_from}
+use Rattle.gc_steps.specs.Stepping.{Keeps, StepsTo}
+use Rattle.gc_steps.specs.StepsToCome.{Nears, old_from, steps_to_come, trees_from}
+use Rattle.gc_steps.specs.UnderWay.{IsUnderWay}
+use Rattle.gc_steps.proofs.NoNearer.{as_many}
+use Rattle.refusals.specs.declared.refusal.Refusal.{Refusal}
+use Rattle.refusals.specs.declared.refusal.Refusal.TheVariants as refusals
+use Rattle.store_model.specs.Slots.{first_free}
+use Rattle.store_state.specs.Tables.{IsFirstFree}
+use Rattle.store_state.specs.declared.slot_table.SlotTable.{SlotTable}
+use Rattle.store_state.specs.declared.tables.Tables.{Tables}
+use Rattle.store_core.specs.declared.stop.Stop.{Stop}
+use Rattle.store_core.specs.Bounds.{BoundsSteps, IsNoEnd, NoneEnds, made_by, made_in, starts}
+use Rattle.store_core.specs.Collecting.{Begins, Collects, GcRow, GoesOn, IsKeptKey, MarksIn, StartRow, at_moment}
+use Rattle.store_core.specs.Core.{Effect, KeepsTables, Row, Steps, StepsOr, next_id}
+use Rattle.store_core.specs.Runs.{CoreRun}
+use Rattle.store_core.specs.State.{CoreState, Event, IsRunning, IsUnderWayIn, IsUp, UnlessStopped}
+use Rattle.store_core.proofs.CoreRuns.{running_step}
+use Rattle.store_core.proofs.RunningOn.{commit_held, delete_held, first_closed, first_within, step_runs, tables_kept}
+
+same_some : (a b : Collection) (o : Option Collection) → o ≡ Some a → o ≡ Some b → a ≡ b
+same_some a b o one two = let both : Some a ≡ Some b = sym one ∙ two in cc
+
+-- no step that was refused was made
+refused_none : (step : StepValue) (refusal : Refusal) → made_by step (Err refusal) ≡ 0
+refused_none asked.GcStep refusal = refl
+refused_none asked.Begin refusal = refl
+refused_none (asked.Claim seg) refusal = refl
+refused_none (asked.Seal filled) refusal = refl
+refused_none (asked.Commit name root) refusal = refl
+refused_none asked.Abort refusal = refl
+refused_none (asked.OpenRead name) refusal = refl
+refused_none asked.ReadNext refusal = refl
+refused_none asked.EndRead refusal = refl
+refused_none (asked.Delete name) refusal = refl
+refused_none asked.ListNames refusal = refl
+refused_none (asked.GcStart percent) refusal = refl
+refused_none asked.Stat refusal = refl
+
+-- What a step leaves of a collection that runs: it chose no fewer sources, and chose them once; and that step and those that then come are no
+-- more than those that came before it.
+record Leaves (step : StepValue) (answer : Result Answer Refusal) (b : Collection) (old new : CoreState) : Type 0 where
+  a : Collection
+  runs : new.collection ≡ Some a
+  more : length b.sources.items ≤ length a.sources.items
+  unchosen : IsToChoose a.stage → a.sources.items ≡ []
+  nears : (chosen : ℕ) → length a.sources.items ≤ chosen
+      → made_by step answer + steps_to_come chosen new.tables.held a ≤ steps_to_come chosen old.tables.held b
+
+module _ (old new : CoreState) (b : Collection) (ran : old.collection ≡ Some b) (unchosen : IsToChoose b.stage → b.sources.items ≡ []) where
+  -- but for its live keys it is as it was, and as many steps come
+  unchanged : (step : StepValue) (answer : Result Answer Refusal) → made_by step answer ≡ 0 → (live : LiveKeys) → new.collection ≡ Some (record b { live = live })
+      → ((chosen : ℕ) → steps_to_come chosen new.tables.held b ≡ steps_to_come chosen old.tables.held b) → Leaves step answer b old new
+  unchanged step answer none live runs still = record {
+    a = record b { live = live };
+    runs = runs;
+    more = omega arith;
+    unchosen = unchosen;
+    nears = λ chosen few. omega (arith, none, still chosen);
+  }
+
+  same_steps : new.tables.held ≡ old.tables.held → (chosen : ℕ) → steps_to_come chosen new.tables.held b ≡ steps_to_come chosen old.tables.held b
+  same_steps same chosen = ap (λ (t : SlotTable). steps_to_come chosen t b) same
+
+  -- ---- a step of another kind
+
+  kept : (step : StepValue) (answer : Result Answer Refusal) → made_by step answer ≡ 0 → new.tables.held ≡ old.tables.held → new.collection ≡ old.collection → Leaves step answer b old new
+  kept step answer none held same = unchanged step answer none b.live (same ∙ ran) (same_steps held)
+
+  marked : (step : StepValue) (answer : Result Answer Refusal) (P : List ℕ → Type 0) → made_by step answer ≡ 0 → MarksIn P old.collection new.collection
+      → ((chosen : ℕ) → steps_to_come chosen new.tables.held b ≡ steps_to_come chosen old.tables.held b) → Leaves step answer b old new
+  marked step answer P none marks still =
+      let so = subst (λ (o : Option Collection). MarksIn P o new.collection) ran marks in
+      unchanged step answer none so.0 so.1.0 still
+
+  module _ (up : IsUp old) where
+    under : IsUnderWay old.tables.held b
+    under = subst (IsUnderWayIn old.tables.held) ran up.under_way
+
+    -- a container that is sealed
+    sealed_steps : (filled : Contents) (id actor : ℕ) (buf : List ℕ) → Row (asked.Seal filled) actor (Ok (answers.Sealed id)) buf old new → Effect (asked.Seal filled) (Ok (answers.Sealed id)) old new
+        → (chosen : ℕ) → steps_to_come chosen new.tables.held b ≡ steps_to_come chosen old.tables.held b
+    sealed_steps filled id actor buf row effect chosen =
+        let s = up.runs.store in
+        let now = effect.made.alone.store_has s up.runs.represents up.runs.valid up.runs.reserve_holds in
+        let first : IsFirstFree (first_free s.held) s.held = record {
+          first = refl;
+          within = first_within s.held (omega (arith, up.runs.reserve_holds));
+          closed = first_closed s.held (omega (arith, up.runs.reserve_holds));
+        } in
+        as_many s.held old.tables.held new.tables.held b (first_free s.held) (header_of (next_id old) filled.kind filled.segments) chosen first up.runs.represents.slots_hold now.represents.slots_hold (omega arith) under
+
+    seal_leaves : (filled : Contents) (answer : Result Answer Refusal) (actor : ℕ) (buf : List ℕ) → Row (asked.Seal filled) actor answer buf old new → Effect (asked.Seal filled) answer old new
+        → Collects (asked.Seal filled) answer old new → Leaves (asked.Seal filled) answer b old new
+    seal_leaves filled (Ok (answers.Sealed id)) actor buf row effect collects =
+        marked (asked.Seal filled) (Ok (answers.Sealed id)) (IsKeptKey (asked.Seal filled) (Ok (answers.Sealed id))) refl collects (sealed_steps filled id actor buf row effect)
+    seal_leaves filled (Err refusal) actor buf row effect collects =
+        marked (asked.Seal filled) (Err refusal) (IsKeptKey (asked.Seal filled) (Err refusal)) refl collects (same_steps (ap (λ (t : Tables). t.held) (tables_kept old new refusal effect.kept)))
+    seal_leaves filled answer actor buf row effect collects = absurd row
+
+  start_leaves : (percent : ℕ) (answer : Result Answer Refusal) → StartRow percent answer old new → KeepsTables old new → Leaves (asked.GcStart percent) answer b old new
+  start_leaves percent (Ok (answers.Started snapshot)) row tables = absurd (let wrong : None ≡ Some b = sym row.0.none_ran ∙ ran in cc)
+  start_leaves percent (Err (refusals.Collecting phase)) row tables = kept (asked.GcStart percent) (Err (refusals.Collecting phase)) refl (ap (λ (t : Tables). t.held) tables.tables_are) row.1
+  start_leaves percent (Err refusals.Memory) row tables = absurd (let wrong : None ≡ Some b = sym row.0 ∙ ran in cc)
+  start_leaves percent answer row tables = absurd row
+
+  -- ---- its own
+
+  abbrev Goes : Collection → Stage → Type 0
+  Goes a stage = StepsTo stage (at_moment old b) (at_moment new a)
+
+  -- no fewer sources; and none before they are chosen
+  record Chosen (a : Collection) : Type 0 where
+    more : length b.sources.items ≤ length a.sources.items
+    none : IsToChoose a.stage → a.sources.items ≡ []
+
+  no_choice : (sources : List ℕ) (source : ℕ) → IsToChoose (sweep_from sources source) → ⊥
+  no_choice sources source = by_test (nat_lt source (length sources))
+    where
+      by_test : (t : Bool) → IsToChoose (if t then Copy source else End) → ⊥
+      by_test true early = early
+      by_test false early = early
+
+  same_sources : (a : Collection) → a.sources.items ≡ b.sources.items → (IsToChoose a.stage → b.sources.items ≡ []) → Chosen a
+  same_sources a same none = record { more = omega (arith, ap length same); none = λ early. same ∙ none early }
+
+  never : (a : Collection) (stage : Stage) → a.stage ≡ stage → (IsToChoose stage → ⊥) → IsToChoose a.stage → b.sources.items ≡ []
+  never a stage is none early = absurd (none (subst IsToChoose is early))
+
+  chosen_by : (a : Collection) (stage : Stage) → b.stage ≡ stage → Goes a stage → Chosen a
+  chosen_by a (Mark level slot) is goes =
+      same_sources a (ap (λ (x : Collection). x.sources.items) goes.0.collection_is) (λ early. unchosen (subst IsToChoose (sym is) tt))
+  chosen_by a (Filter slot) is goes =
+      same_sources a (ap (λ (x : Collection). x.sources.items) goes.0.collection_is) (λ early. unchosen (subst IsToChoose (sym is) tt))
+  chosen_by a Select is goes = record {
+    more = let none : length b.sources.items ≡ 0 = ap length (unchosen (subst IsToChoose (sym is) tt)) in omega (arith, none);
+    none = λ early. absurd (no_choice a.sources.items 0 (subst IsToChoose (ap (λ (x : Collection). x.stage) goes.0.collection_is) early));
+  }
+  chosen_by a (Copy source) is goes = elim goes.taken [
+    | inl up ↦ same_sources a (ap (λ (x : Collection). x.sources.items) up.collection_is)
+        (never a (sweep_from b.sources.items (source + 1)) (ap (λ (x : Collection). x.stage) up.collection_is) (no_choice b.sources.items (source + 1)))
+    | inr out ↦ same_sources a (ap (λ (x : Collection). x.sources.items) out.collection_is)
+        (never a (Release (source + 1) goes.slot) (ap (λ (x : Collection). x.stage) out.collection_is) (λ early. early))
+  ]
+  chosen_by a (Release next slot) is goes =
+      same_sources a (ap (λ (x : Collection). x.sources.items) goes.0)
+      (never a (sweep_from b.sources.items next) (ap (λ (x : Collection). x.stage) goes.0) (no_choice b.sources.items next))
+  chosen_by a End is goes = same_sources a (ap (λ (x : Collection). x.sources.items) goes.0) (never a End (ap (λ (x : Collection). x.stage) goes.0 ∙ is) (λ early. early))
+
+  did_leaves : (phase : _) → GoesOn phase old new → Leaves asked.GcStep (Ok (answers.Did phase)) b old new
+  did_leaves phase goes = by_before goes.before (same_some goes.before b old.collection goes.ran ran) goes.steps goes.nearer
+    where
+      by_before : (before : Collection) → before ≡ b → StepsTo before.stage (at_moment old before) (at_moment new goes.after)
+          → ((chosen : ℕ) → length goes.after.sources.items ≤ chosen → Nears (Did phase) (steps_to_come chosen old.tables.held before) (steps_to_come chosen new.tables.held goes.after))
+          → Leaves asked.GcStep (Ok (answers.Did phase)) b old new
+      by_before before same steps nearer =
+          let so : Goes goes.after b.stage = subst (λ (x : Collection). StepsTo x.stage (at_moment old x) (at_moment new goes.after)) same steps in
+          let near = subst (λ (x : Collection). (chosen : ℕ) → length goes.after.sources.items ≤ chosen → Nears (Did phase) (steps_to_come chosen old.tables.held x) (steps_to_come chosen new.tables.held goes.after)) same nearer in
+          let chosen = chosen_by goes.after b.stage refl so in
+          record {
+            a = goes.after;
+            runs = goes.runs;
+            more = chosen.more;
+            unchosen = chosen.none;
+            nears = λ many few. let fewer = near many few in omega (arith, fewer);
+          }
+
+  -- what is refused leaves it, but for its live keys
+  refused_live : (stage : Stage) (refusal : Refusal) (a : Collection) → Keeps stage (at_moment old b) (at_moment new a) refusal → (live : LiveKeys) × (a ≡ record b { live = live })
+  refused_live (Mark level slot) refusals.Memory a (inl same, known) = (b.live, same)
+  refused_live (Mark level slot) refusals.Memory a (inr only, known) = (a.live, only.collection_is)
+  refused_live (Mark level slot) refusal a keeps = (b.live, keeps.0)
+  refused_live (Filter slot) refusal a keeps = (b.live, keeps.0)
+  refused_live Select refusal a keeps = (b.live, keeps.0)
+  refused_live (Copy source) refusal a keeps = (b.live, keeps.0)
+  refused_live (Release next slot) refusal a keeps = (b.live, keeps)
+  refused_live End refusal a keeps = (b.live, keeps.0)
+
+  gc_leaves : (answer : Result Answer Refusal) → IsNoEnd answer → GcRow answer old new → Leaves asked.GcStep answer b old new
+  gc_leaves (Ok (answers.Did phase)) goes_on row = did_leaves phase row.0
+  gc_leaves (Ok (answers.Done freed copied)) goes_on row = absurd goes_on
+  gc_leaves (Err refusals.NotCollecting) goes_on row = absurd (let wrong : None ≡ Some b = sym row.0.none_ran ∙ ran in cc)
+  gc_leaves (Err refusal) goes_on row =
+      let same = same_some row.0.before b old.collection row.0.ran ran in
+      let live = refused_live b.stage refusal row.0.after (subst (λ (x : Collection). Keeps x.stage (at_moment old x) (at_moment new row.0.after) refusal) same row.0.kept) in
+      unchanged asked.GcStep (Err refusal) refl live.0 (row.0.runs ∙ ap Some live.1) (same_steps (ap (λ (t : Tables). t.held) row.0.tables_are))
+  gc_leaves answer goes_on row = absurd row
+
+  -- ---- any step
+
+  step_leaves : (actor : ℕ) (buf : List ℕ) (step : StepValue) (answer : Result Answer Refusal) → IsUp old → IsNoEnd answer → Row step actor answer buf old new → Effect step answer old new → Collects step answer old new
+      → Leaves step answer b old new
+  step_leaves actor buf asked.Begin answer up goes_on row effect collects = kept asked.Begin answer refl (ap (λ (t : Tables). t.held) effect.tables.tables_are) collects
+  step_leaves actor buf (asked.Claim seg) answer up goes_on row effect collects =
+      marked (asked.Claim seg) answer (IsKeptKey (asked.Claim seg) answer) refl collects (same_steps (ap (λ (t : Tables). t.held) effect.tables.tables_are))
+  step_leaves actor buf (asked.Seal filled) answer up goes_on row effect collects = seal_leaves up filled answer actor buf row effect collects
+  step_leaves actor buf (asked.Commit name root) answer up goes_on row effect collects = kept (asked.Commit name root) answer refl (commit_held old new name root actor answer row effect) collects
+  step_leaves actor buf asked.Abort answer up goes_on row effect collects = kept asked.Abort answer refl (ap (λ (t : Tables). t.held) effect.tables.tables_are) collects
+  step_leaves actor buf (asked.OpenRead name) answer up goes_on row effect collects = kept (asked.OpenRead name) answer refl (ap (λ (t : Tables). t.held) effect.tables.tables_are) collects
+  step_leaves actor buf asked.ReadNext answer up goes_on row effect collects = kept asked.ReadNext answer refl (ap (λ (t : Tables). t.held) effect.tables.tables_are) collects
+  step_leaves actor buf asked.EndRead answer up goes_on row effect collects = kept asked.EndRead answer refl (ap (λ (t : Tables). t.held) effect.tables.tables_are) collects
+  step_leaves actor buf (asked.Delete name) answer up goes_on row effect collects = kept (asked.Delete name) answer refl (delete_held old new name answer row effect) collects
+  step_leaves actor buf asked.ListNames answer up goes_on row effect collects = kept asked.ListNames answer refl (ap (λ (t : Tables). t.held) effect.tables.tables_are) collects
+  step_leaves actor buf (asked.GcStart percent) answer up goes_on row effect collects = start_leaves percent answer row effect.tables
+  step_leaves actor buf asked.GcStep answer up goes_on row effect collects = gc_leaves answer goes_on row
+  step_leaves actor buf asked.Stat answer up goes_on row effect collects = kept asked.Stat answer refl (ap (λ (t : Tables). t.held) effect.tables.tables_are) collects
+
+  event_leaves : (e : Event) (stop : Option Stop) → StepsOr stop e old new → UnlessStopped stop (IsUp old) → IsNoEnd e.answer → Leaves e.step e.answer b old new
+  event_leaves e None steps up goes_on = step_leaves e.actor e.buf e.step e.answer up goes_on steps.made.row steps.made.effect steps.collects
+  event_leaves e (Some stop) steps up goes_on =
+      kept e.step e.answer (ap (made_by e.step) steps.answer_is ∙ refused_none e.step (refusals.Stopped stop.at)) (ap (λ (t : Tables). t.held) steps.same.tables_are) steps.same.collection_is
+
+-- ---- steps, one after the other
+
+module _ (C : Type 0) (state : C → CoreState) where
+  record Bounded (events : List Event) (b c : Collection) (mid new : C) : Type 0 where
+    more : length b.sources.items ≤ length c.sources.items
+    few : made_in events + steps_to_come (length c.sources.items) (state new).tables.held c ≤ steps_to_come (length c.sources.items) (state mid).tables.held b
+
+  bounded : (events : List Event) (mid new : C) (b c : Collection) → IsRunning (state mid) → CoreRun C state events mid new → NoneEnds events → (state mid).collection ≡ Some b → (state new).collection ≡ Some c
+      → (IsToChoose b.stage → b.sources.items ≡ []) → Bounded events b c mid new
+  bounded [] mid new b c up run ends ran runs unchosen =
+      let same : b ≡ c = same_some b c (state mid).collection ran (sym (ap (λ (x : C). (state x).collection) run) ∙ runs) in
+      record {
+        more = omega (arith, ap (λ (x : Collection). length x.sources.items) same);
+        few =
+            let tables : (state new).tables.held ≡ (state mid).tables.held = ap (λ (x : C). (state x).tables.held) run in
+            let steps : steps_to_come (length c.sources.items) (state new).tables.held c ≡ steps_to_come (length c.sources.items) (state mid).tables.held b =
+            ap (λ (t : SlotTable). steps_to_come (length c.sources.items) t c) tables ∙ ap (steps_to_come (length c.sources.items) (state mid).tables.held) (sym same) in
+            omega (arith, steps);
+      }
+  bounded (e ∷ es) mid new b c up run ends ran runs unchosen =
+      let next : C = run.0 in
+      let one = event_leaves (state mid) (state next) b ran unchosen e (state mid).stop run.1.0 up ends.0 in
+      let rest = bounded es next new one.a c (step_runs (state mid) (state next) e run.1.0 up) run.1.1 ends.1 one.runs runs one.unchosen in
+      record {
+        more = omega (arith, one.more, rest.more);
+        few = let fewer = one.nears (length c.sources.items) rest.more in omega (arith, fewer, rest.few);
+      }
+
+  pub bounds_steps : BoundsSteps C state
+  bounds_steps actor percent snapshot buf events old mid new c up runs began run ends is =
+      let steps : Steps (starts actor percent snapshot buf) (state old) (state mid) = running_step (state old) (state mid) (starts actor percent snapshot buf) runs began in
+      let begins : Begins percent snapshot (state old) (state mid) = steps.made.row.0 in
+      let held : (state mid).tables.held ≡ (state old).tables.held = ap (λ (t : Tables). t.held) steps.made.effect.tables.tables_are in
+      let all = bounded events mid new begins.collection c (step_runs (state old) (state mid) (starts actor percent snapshot buf) began up) run ends begins.runs is (λ early. begins.nothing_yet.1) in
+      let first = begins.steps (length c.sources.items) in
+      let at : steps_to_come (length c.sources.items) (state mid).tables.held begins.collection ≡ steps_to_come (length c.sources.items) (state old).tables.held begins.collection =
+      ap (λ (t : SlotTable). steps_to_come (length c.sources.items) t begins.collection) held in
+      let t : SlotTable = (state old).tables.held in
+      let counted : 6 * trees_from snapshot t 0 + old_from snapshot t 0 ≡ 6 * trees_from begins.collection.snapshot t 0 + old_from begins.collection.snapshot t 0 =
+      ap (λ (n : ℕ). 6 * trees_from n t 0 + old_from n t 0) begins.snapshot_is in
+      omega (arith, all.few, first, at, counted)

@@ -20,4 +20,5 @@ pub mod OwnParts
 pub mod RunningOn
 pub mod SafeSteps
 pub mod Sealing
+pub mod SparedRest
 pub mod Stepping

@@ -9,6 +9,7 @@ pub mod CollectionOn
 pub mod Coming
 pub mod CommitMade
 pub mod CommitRefused
+pub mod Disturbing
 pub mod FaultsCounted
 pub mod Harmless
 pub mod Images
@@ -52,6 +53,7 @@ pub mod SameNames
 pub mod ScriptsFollow
 pub mod Sends
 pub mod SessionLists
+pub mod SparesLive
 pub mod Sweeping
 pub mod TurnAsks
 pub mod TurnClashes

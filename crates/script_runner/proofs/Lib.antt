@@ -3,6 +3,7 @@ pub mod BrokenStep
 pub mod CollectBytes
 pub mod CollectCauses
 pub mod CollectParts
+pub mod CollectSpares
 pub mod CollectStart
 pub mod CollectStep
 pub mod CollectionOn
@@ -12,6 +13,7 @@ pub mod CommitRefused
 pub mod Disturbing
 pub mod FaultsCounted
 pub mod Harmless
+pub mod IdleParts
 pub mod Images
 pub mod LaterStores
 pub mod LineNotes

@@ -9,11 +9,16 @@ use Rattle.actor_parts.specs.Parts.{part_of}
 use Rattle.actor_parts.specs.StepValue as asked
 use Rattle.refusals.specs.declared.refusal.Refusal.{Refusal}
 use Rattle.refusals.specs.declared.refusal.Refusal.TheVariants as refusals
+use Rattle.container_meta.specs.Places.{PlaceMap}
+use Rattle.gc_steps.specs.declared.collection.Collection.{Collection}
 use Rattle.gc_steps.specs.FewSources.{HasFewSources}
+use Rattle.gc_steps.specs.Roots.{IsRoot}
+use Rattle.gc_steps.specs.Sparing.{Spares}
 use Rattle.gc_steps.specs.StepsToCome.{old_from, steps_to_come}
 use Rattle.gc_steps.proofs.FewSources.{few_begun}
 use Rattle.store_model.specs.Collisions.{HasNoCollisions, ByteSet, IsIn, IsOf}
-use Rattle.store_model.specs.Image.{Store}
+use Rattle.store_model.specs.Image.{Store, names_of}
+use Rattle.store_model.specs.Reserve.{IsReachable}
 use Rattle.store_state.specs.declared.slot_table.SlotTable.{SlotTable}
 use Rattle.store_state.specs.declared.tables.Tables.{Tables}
 use Rattle.store_core.specs.declared.stop.Stop.{Stop}
@@ -29,14 +34,16 @@ use Rattle.store_core.proofs.Making.{up_of}
 use Rattle.store_core.proofs.RunningOn.{step_runs}
 use Rattle.store_core.proofs.Stepping.{step_later}
 use Rattle.plain_machine.specs.Collections.{BeginsCollection, most_steps}
-use Rattle.plain_machine.specs.Machine.{Collecting, Machine, part_in}
-use Rattle.script_runner.specs.Follows.{FollowsCollecting, FollowsCollection, FollowsPart}
+use Rattle.plain_machine.specs.Machine.{Collecting, Machine, are_idle, part_in}
+use Rattle.script_runner.specs.Follows.{FollowsCollecting, FollowsCollection, FollowsPart, SparesAlone}
 use Rattle.script_runner.specs.Sessions.{Sessions, session_of}
-use Rattle.script_runner.proofs.CollectStep.{none_collecting}
+use Rattle.script_runner.proofs.CollectStep.{none_collecting, same_some}
+use Rattle.script_runner.proofs.IdleParts.{none_at, roots_reachable}
 use Rattle.script_runner.proofs.LinesReopen.{still_follows}
 use Rattle.script_runner.proofs.MostSteps.{steps_most}
 use Rattle.script_runner.proofs.PartsOn.{part_on, takes_on}
-use Rattle.script_runner.proofs.TurnHolds.{right_here}
+use Rattle.script_runner.proofs.SparesLive.{same_live, spares_still}
+use Rattle.script_runner.proofs.TurnHolds.{right_here, store_here}
 use Rattle.script_runner.proofs.TurnLeaves.{KeepsStored}
 use Rattle.script_runner.proofs.TurnRunning.{RunsAt}
 
@@ -104,8 +111,8 @@ module _ (C : Type 0) (state : C → CoreState) (among : ByteSet) (apart : HasNo
     then collecting collected = record m { collecting = collecting; collected = collected }
 
     runs_then : (collecting : Option Collecting) (collected : Bool) → (state new).disk.faults ≡ (state old).disk.faults → (state new).acknowledged ≡ (state old).acknowledged → FollowsCollection collecting (state new)
-        → ((k : Collecting) → collecting ≡ Some k → collected ≡ true) → (collected ≡ false → m.collected ≡ false) → RunsAt S (then collecting collected) sessions (state new)
-    runs_then collecting collected faults counted collects begun before = record {
+        → SparesAlone m.stored.files store collecting (state new) → ((k : Collecting) → collecting ≡ Some k → collected ≡ true) → (collected ≡ false → m.collected ≡ false) → RunsAt S (then collecting collected) sessions (state new)
+    runs_then collecting collected faults counted collects spares begun before = record {
       state_is = at.state_is;
       content_is = rests.disk.only.content_is ∙ at.content_is;
       faults_are = faults ∙ at.faults_are;
@@ -123,6 +130,7 @@ module _ (C : Type 0) (state : C → CoreState) (among : ByteSet) (apart : HasNo
           last_id_is = ap (λ (t : SlotTable). t.last_id) same_slots ∙ at.running.begins.last_id_is;
           low = at.running.begins.low;
           collects = collects;
+          spares = subst (λ (s : Store). SparesAlone m.stored.files s collecting (state new)) (sym next.next.chain) spares;
           begun = begun;
         };
         parts = each;
@@ -149,7 +157,10 @@ module _ (C : Type 0) (state : C → CoreState) (among : ByteSet) (apart : HasNo
     abbrev slots_same : (state new).tables.held ≡ (state old).tables.held
     slots_same = same_slots C state among apart m sessions old new at percent started buf made
 
-    now : FollowsCollecting (record { to_come = most_steps held.held; freed = 0 }) (state new)
+    abbrev begins_so : Collecting
+    begins_so = record { to_come = most_steps held.held; freed = 0; alone = are_idle m.parts }
+
+    now : FollowsCollecting begins_so (state new)
     now = record {
       collection = begun.collection;
       runs = begun.runs;
@@ -160,6 +171,21 @@ module _ (C : Type 0) (state : C → CoreState) (among : ByteSet) (apart : HasNo
           (omega (arith, begun.steps most, steps_most begun.collection.snapshot held.held (state old).tables.held at.running.begins.is_at.represents.slots_hold));
     }
 
+    -- it runs alone
+    abbrev Needs : List ℕ → Type 0
+    Needs = IsReachable m.stored.files
+
+    roots_needed : are_idle m.parts ≡ true → (key : List ℕ) → IsRoot (names_of held) (state old).parts key → Needs key
+    roots_needed idle =
+        roots_reachable held m.stored.files m.content (state old) (store_here (IsIn among) held m.stored (state old) at.running.begins.is_at m.content at.content_is) (none_at (IsIn among) m sessions (state old) at.running idle)
+
+    later_begun : ((key : List ℕ) → IsRoot (names_of held) (state old).parts key → Needs key) → (index : PlaceMap) → (state new).known ≡ Some index → Spares Needs index held.held begun.collection
+    later_begun roots index known = ?later_begun
+
+    spares_begun : SparesAlone m.stored.files held (Some begins_so) (state new)
+    spares_begun = λ idle index collection known runs.
+        subst (λ (c : Collection). Spares Needs index held.held c) (same_some begun.collection collection (state new).collection begun.runs runs) (later_begun (roots_needed idle) index known)
+
     -- where it leads
     pub record Started : Type 0 where
       pub next : Machine
@@ -168,7 +194,7 @@ module _ (C : Type 0) (state : C → CoreState) (among : ByteSet) (apart : HasNo
 
     pub started_step : Started
     started_step = record {
-      next = record m { collecting = Some (record { to_come = most_steps held.held; freed = 0 }); collected = true };
+      next = record m { collecting = Some begins_so; collected = true };
       is = record {
         none_ran = none_collecting m (state old) begun.none_ran at.running.begins.collects;
         snapshot_is = omega (arith, begun.snapshot_is, begun.next_is, at.running.begins.last_id_is, at.running.begins.low);
@@ -176,7 +202,7 @@ module _ (C : Type 0) (state : C → CoreState) (among : ByteSet) (apart : HasNo
         most_is = (held, (right_here (IsIn among) held m.stored (state old) at.running.begins.is_at m.content at.content_is, refl));
         others = refl;
       };
-      at_next = runs_then C state among apart m sessions old new at percent started buf made made_so.stops (Some (record { to_come = most_steps held.held; freed = 0 })) true made_so.made.effect.disk.faults_are made_so.counted_is now
+      at_next = runs_then C state among apart m sessions old new at percent started buf made made_so.stops (Some begins_so) true made_so.made.effect.disk.faults_are made_so.counted_is now spares_begun
           (λ k is. refl) (λ wrong. absurd (let no : true ≡ false = wrong in cc));
     }
 
@@ -185,10 +211,12 @@ module _ (C : Type 0) (state : C → CoreState) (among : ByteSet) (apart : HasNo
   unstarted_memory made =
       let so = steps C state among apart m sessions old new at percent (Err refusals.Memory) buf made in
       runs_then C state among apart m sessions old new at percent (Err refusals.Memory) buf made so.stops m.collecting m.collected so.made.effect.disk.faults_are so.counted_is
-      (still_follows (state old) (state new) so.made.effect.disk.only so.made.effect.tables.tables_are so.made.effect.tables.index_is so.made.row.1 m.collecting at.running.begins.collects) at.running.begins.begun (λ none. none)
+      (still_follows (state old) (state new) so.made.effect.disk.only so.made.effect.tables.tables_are so.made.effect.tables.index_is so.made.row.1 m.collecting at.running.begins.collects)
+      (spares_still (state old) (state new) m.stored.files at.running.begins.store so.made.effect.tables.index_is (same_live (state old).collection (state new).collection so.made.row.1) m.collecting at.running.begins.spares) at.running.begins.begun (λ none. none)
 
   pub unstarted_running : (phase : _) (made : CoreStep (state old) (start_event percent (Err (refusals.Collecting phase)) buf).event (state new)) → RunsAt (IsIn among) m sessions (state new)
   unstarted_running phase made =
       let so = steps C state among apart m sessions old new at percent (Err (refusals.Collecting phase)) buf made in
       runs_then C state among apart m sessions old new at percent (Err (refusals.Collecting phase)) buf made so.stops m.collecting m.collected so.made.effect.disk.faults_are so.counted_is
-      (still_follows (state old) (state new) so.made.effect.disk.only so.made.effect.tables.tables_are so.made.effect.tables.index_is so.made.row.1 m.collecting at.running.begins.collects) at.running.begins.begun (λ none. none)
+      (still_follows (state old) (state new) so.made.effect.disk.only so.made.effect.tables.tables_are so.made.effect.tables.index_is so.made.row.1 m.collecting at.running.begins.collects)
+      (spares_still (state old) (state new) m.stored.files at.running.begins.store so.made.effect.tables.index_is (same_live (state old).collection (state new).collection so.made.row.1) m.collecting at.running.begins.spares) at.running.begins.begun (λ none. none)

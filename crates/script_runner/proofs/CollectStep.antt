@@ -18,13 +18,16 @@ use Rattle.refusals.specs.declared.refusal.Refusal.TheVariants as refusals
 use Rattle.gc_steps.specs.declared.collection.Collection.{Collection}
 use Rattle.gc_steps.specs.declared.collection.Stage.{Stage}
 use Rattle.gc_steps.specs.declared.collection.Stage.TheVariants.{Mark, Filter, Select, Copy, Release, End}
+use Rattle.gc_steps.specs.Sparing.{Spares}
 use Rattle.gc_steps.specs.Stepping.{Keeps, StepsTo, TablesAfter, Touches, answer_at, moment, phase_at}
 use Rattle.gc_steps.specs.UnderWay.{IsUnderWay}
 use Rattle.gc_steps.proofs.UnderWay.{at_stage}
 use Rattle.gc_steps.proofs.StepSafe.{IsStoreAfter, LeavesSafe, step_safe}
 use Rattle.store_model.specs.Collisions.{HasNoCollisions, ByteSet, IsIn, IsOf}
 use Rattle.store_model.specs.Image.{Encodes, Store}
+use Rattle.store_model.specs.Reserve.{IsReachable}
 use Rattle.store_model.specs.Steps.{StoreChange}
+use Rattle.store_model.proofs.Once.{store_once}
 use Rattle.store_state.specs.Refused.{blames}
 use Rattle.store_state.specs.Invariant.{CoreInvariant}
 use Rattle.store_state.specs.Settled.{IsSettled}
@@ -43,15 +46,16 @@ use Rattle.store_core.proofs.Leading.{Leads}
 use Rattle.store_core.proofs.Making.{up_of}
 use Rattle.store_core.proofs.RunningOn.{step_runs}
 use Rattle.store_core.proofs.Stepping.{step_later}
-use Rattle.plain_machine.specs.Collections.{ChangesBy, EndsCollection, RefusesCollectionStep, StepsCollection, freed_by}
-use Rattle.plain_machine.specs.Content.{BreaksGate, FreesContainer, SameButGate, SameStore}
+use Rattle.plain_machine.specs.Collections.{ChangesBy, EachHolds, EndsCollection, RefusesCollectionStep, StepsCollection, freed_by}
+use Rattle.plain_machine.specs.Content.{BreaksGate, FreesContainer, OfStore, SameButGate, SameStore}
 use Rattle.plain_machine.specs.Machine.{Collecting, Machine, Stopped, part_in}
-use Rattle.script_runner.specs.Follows.{Follows, FollowsCollecting, FollowsCollection, FollowsPart, IsOfFound}
+use Rattle.script_runner.specs.Follows.{Follows, FollowsCollecting, FollowsCollection, FollowsPart, IsOfFound, SparesAlone}
 use Rattle.script_runner.specs.Sessions.{Sessions, session_of}
 use Rattle.script_runner.proofs.CollectBytes.{GivesNothing, breaks_gate, but_gate_none, gate_broke, gate_changed, nothing_changes, same_before}
 use Rattle.script_runner.proofs.CollectCauses.{IsCauseAt, IsCollectCause, cause_at, freed_on, collect_cause, phase_is}
 use Rattle.script_runner.proofs.CollectionOn.{by_collection, same_come}
 use Rattle.script_runner.proofs.CollectParts.{gc_event, part_still}
+use Rattle.script_runner.proofs.CollectSpares.{IsRestCause, MarksSome, gives_spare, rest_index, rest_marks}
 use Rattle.script_runner.proofs.Harmless.{is_harmless}
 use Rattle.script_runner.proofs.MostSteps.{many_ids}
 use Rattle.script_runner.proofs.PlainSteps.{GoesUnchanged}
@@ -85,8 +89,11 @@ none_collecting m c none follows = by_machine m.collecting refl follows
 pub is_collecting : (o : Option Collecting) (k : Collecting) → o ≡ Some k → IsSome o
 is_collecting o k is = subst IsSome (sym is) refl
 
-same_some : (a b : Collection) (o : Option Collection) → o ≡ Some a → o ≡ Some b → a ≡ b
+pub same_some : (a b : Collection) (o : Option Collection) → o ≡ Some a → o ≡ Some b → a ≡ b
 same_some a b o one two = let both : Some a ≡ Some b = sym one ∙ two in cc
+
+same_index : (a b : PlaceMap) (o : Option PlaceMap) → o ≡ Some a → o ≡ Some b → a ≡ b
+same_index a b o one two = let both : Some a ≡ Some b = sym one ∙ two in cc
 
 -- ---- what rows say
 
@@ -213,8 +220,8 @@ module _ (C : Type 0) (state : C → CoreState) (among : ByteSet) (apart : HasNo
     then content faults collecting = record m { content = content; faults = faults; collecting = collecting }
 
     runs_then : (content : List ℕ) (faults : ℕ) (collecting : Option Collecting) → (state new).disk.content ≡ Some content → (state new).disk.faults ≡ faults → FollowsCollection collecting (state new)
-        → ((k : Collecting) → collecting ≡ Some k → m.collected ≡ true) → (m.collected ≡ false → IndexesAll leads.next.store (state new).known) → RunsAt S (then content faults collecting) sessions (state new)
-    runs_then content faults collecting content_is faults_are collects begun whole = record {
+        → SparesAlone m.stored.files leads.next.store collecting (state new) → ((k : Collecting) → collecting ≡ Some k → m.collected ≡ true) → (m.collected ≡ false → IndexesAll leads.next.store (state new).known) → RunsAt S (then content faults collecting) sessions (state new)
+    runs_then content faults collecting content_is faults_are collects spares begun whole = record {
       state_is = at.state_is;
       content_is = content_is;
       faults_are = faults_are;
@@ -232,6 +239,7 @@ module _ (C : Type 0) (state : C → CoreState) (among : ByteSet) (apart : HasNo
           last_id_is = last_still (state old) (state new) answer row ∙ at.running.begins.last_id_is;
           low = at.running.begins.low;
           collects = collects;
+          spares = spares;
           begun = begun;
         };
         parts = each;
@@ -244,9 +252,9 @@ module _ (C : Type 0) (state : C → CoreState) (among : ByteSet) (apart : HasNo
       begun_is = at.running.begins.begun has.collecting has.is
 
       runs_on : (content : List ℕ) (faults : ℕ) (collecting : Option Collecting) → (state new).disk.content ≡ Some content → (state new).disk.faults ≡ faults → FollowsCollection collecting (state new)
-          → RunsAt S (then content faults collecting) sessions (state new)
-      runs_on content faults collecting content_is faults_are collects =
-          runs_then content faults collecting content_is faults_are collects (λ k is. begun_is) (λ none. absurd (let wrong : true ≡ false = sym begun_is ∙ none in cc))
+          → SparesAlone m.stored.files leads.next.store collecting (state new) → RunsAt S (then content faults collecting) sessions (state new)
+      runs_on content faults collecting content_is faults_are collects spares =
+          runs_then content faults collecting content_is faults_are collects spares (λ k is. begun_is) (λ none. absurd (let wrong : true ≡ false = sym begun_is ∙ none in cc))
 
   -- ---- what a stage leaves of the bytes
 
@@ -297,7 +305,10 @@ module _ (C : Type 0) (state : C → CoreState) (among : ByteSet) (apart : HasNo
     abbrev left : ℕ
     left = has.collecting.to_come - 1
 
-    now : FollowsCollecting (record { to_come = left; freed = has.collecting.freed + freed_by phase }) (state new)
+    abbrev goes_so : Collecting
+    goes_so = record { to_come = left; freed = has.collecting.freed + freed_by phase; alone = has.collecting.alone }
+
+    now : FollowsCollecting goes_so (state new)
     now = record {
       collection = goes.after;
       runs = goes.runs;
@@ -310,52 +321,85 @@ module _ (C : Type 0) (state : C → CoreState) (among : ByteSet) (apart : HasNo
       nears = omega (arith, fewer, ap (left_by has.follows.most (state new).tables.held) goes.runs);
     }
 
-    ran : m.collecting ≡ Some (record { to_come = suc left; freed = has.collecting.freed })
-    ran = has.is ∙ ap (λ (n : ℕ). let k : Collecting = record { to_come = n; freed = has.collecting.freed } in Some k) (let e : has.collecting.to_come ≡ suc left = omega (arith, fewer) in e)
+    ran : m.collecting ≡ Some (record { to_come = suc left; freed = has.collecting.freed; alone = has.collecting.alone })
+    ran = has.is ∙ ap (λ (n : ℕ). let k : Collecting = record { to_come = n; freed = has.collecting.freed; alone = has.collecting.alone } in Some k) (let e : has.collecting.to_come ≡ suc left = omega (arith, fewer) in e)
 
     abbrev touches : Touches goes.before.stage (state old).tables Done (state old).disk (state new).disk
     touches = touched C state among apart m sessions old new at did buf made goes.before goes.ran
 
+    -- ---- what it leaves
+
+    abbrev begins : IsAt (IsIn among) at.running.begins.store m.stored (state old)
+    begins = at.running.begins.is_at
+
+    invariant : CoreInvariant begins.index at.running.begins.store m.stored.files (state old).parts m.content
+    invariant = begins.invariant m.content at.content_is
+
+    leaves : LeavesSafe goes.before.stage begins.index at.running.begins.store m.stored.files (state old).parts m.content image_now among (state new).tables (state new).known (state new).disk goes.after
+    leaves =
+        step_safe begins.index at.running.begins.store m.stored.files (state old).parts m.content image_now among (state old).tables (state new).tables (state new).known (state old).disk (state new).disk goes.before goes.after
+        invariant (omega (arith, begins.many)) (subst (λ (known : Option PlaceMap). Represents at.running.begins.store known (state old).tables) begins.index_known begins.represents) begins.valid at.content_is
+        (told C state among apart m sessions old new at did buf made) begins.stands (under C state among apart m sessions old new at did buf made goes.before goes.ran)
+        (subst (IsSafeIn begins.index at.running.begins.store (state old).parts m.content) goes.ran (begins.safe m.content at.content_is))
+        (subst (λ (known : Option PlaceMap). StepsTo goes.before.stage (moment (state old).tables known (state old).disk goes.before) (at_moment (state new) goes.after)) begins.index_known goes.steps) goes.tables touches
+
+    encodes_now : Encodes image_now leaves.store_now
+    encodes_now = (leaves.stands.each image_now ((state new).disk.as_read image_now (told C state among apart m sessions old new at did buf made))).holds.right
+
     -- a container is given back
-    freed : (next slot : ℕ) → goes.before.stage ≡ Release next slot → FreesContainer m.content image_now
+    freed : (next slot : ℕ) → goes.before.stage ≡ Release next slot → FreesContainer (IsReachable m.stored.files) m.content image_now
     freed next slot is = by_store leaves.store_is
       where
-        begins : IsAt (IsIn among) at.running.begins.store m.stored (state old)
-        begins = at.running.begins.is_at
-
-        invariant : CoreInvariant begins.index at.running.begins.store m.stored.files (state old).parts m.content
-        invariant = begins.invariant m.content at.content_is
-
-        leaves : LeavesSafe goes.before.stage begins.index at.running.begins.store m.stored.files (state old).parts m.content image_now among (state new).tables (state new).known (state new).disk goes.after
-        leaves =
-            step_safe begins.index at.running.begins.store m.stored.files (state old).parts m.content image_now among (state old).tables (state new).tables (state new).known (state old).disk (state new).disk goes.before goes.after
-            invariant (omega (arith, begins.many)) (subst (λ (known : Option PlaceMap). Represents at.running.begins.store known (state old).tables) begins.index_known begins.represents) begins.valid at.content_is
-            (told C state among apart m sessions old new at did buf made) begins.stands (under C state among apart m sessions old new at did buf made goes.before goes.ran)
-            (subst (IsSafeIn begins.index at.running.begins.store (state old).parts m.content) goes.ran (begins.safe m.content at.content_is))
-            (subst (λ (known : Option PlaceMap). StepsTo goes.before.stage (moment (state old).tables known (state old).disk goes.before) (at_moment (state new) goes.after)) begins.index_known goes.steps) goes.tables touches
-
-        by_store : IsStoreAfter goes.before.stage begins.index at.running.begins.store leaves.store_now → FreesContainer m.content image_now
+        by_store : IsStoreAfter goes.before.stage begins.index at.running.begins.store leaves.store_now → FreesContainer (IsReachable m.stored.files) m.content image_now
         by_store (inl stays) = absurd (stays.0 next slot is)
         by_store (inr frees) =
             let within = within_held at.running.begins.store.held frees.slot frees.header frees.there in
-            let encodes : Encodes image_now leaves.store_now = (leaves.stands.each image_now ((state new).disk.as_read image_now (told C state among apart m sessions old new at did buf made))).holds.right in
             record {
               store = at.running.begins.store;
               was = right C state among apart m sessions old new at did buf made;
               slot = frees.slot;
-              can = (frees.header, frees.there);
-              now = subst (Encodes image_now) frees.now_is encodes;
+              spare = gives_spare begins.index at.running.begins.store m.stored.files (state old).parts m.content invariant frees.slot frees.none frees.header frees.there;
+              now = subst (Encodes image_now) frees.now_is encodes_now;
               rest = gate_changed at.running.begins.store.slots (state old).tables (state old).disk (state new).disk m.content image_now at.content_is (told C state among apart m sessions old new at did buf made)
                   begins.valid.size_is frees.next frees.slot (omega (arith, within, begins.valid.many))
                   (subst (λ (stage : Stage). Touches stage (state old).tables Done (state old).disk (state new).disk) frees.stage_is touches);
             }
+
+    -- ---- where it runs alone
+
+    abbrev Needs : List ℕ → Type 0
+    Needs = IsReachable m.stored.files
+
+    abbrev led_to : Store
+    led_to = (leads C state among apart m sessions old new at did buf made (steps C state among apart m sessions old new at did buf made).stops).next.store
+
+    -- the store is that which the step leaves
+    led_is : leaves.store_now ≡ led_to
+    led_is =
+        store_once image_now leaves.store_now led_to encodes_now
+        (right_here (IsIn among) led_to m.stored (state new) (leads C state among apart m sessions old new at did buf made (steps C state among apart m sessions old new at did buf made).stops).next.is_at image_now
+        (told C state among apart m sessions old new at did buf made))
+
+    spared : has.collecting.alone ≡ true → Spares Needs begins.index at.running.begins.store.held goes.before
+    spared alone =
+        let spares = subst (λ (o : Option Collecting). SparesAlone m.stored.files at.running.begins.store o (state old)) has.is at.running.begins.spares in
+        spares alone begins.index goes.before begins.index_known goes.ran
+
+    later_step : Spares Needs begins.index at.running.begins.store.held goes.before → Spares Needs leaves.later leaves.store_now.held goes.after
+    later_step spares = ?later_step
+
+    spares_now : SparesAlone m.stored.files led_to (Some goes_so) (state new)
+    spares_now = λ alone index collection known runs.
+        subst (λ (s : Store). Spares Needs index s.held collection) led_is
+        (subst (λ (i : PlaceMap). Spares Needs i leaves.store_now.held collection) (same_index leaves.later index (state new).known leaves.known_is known)
+        (subst (λ (c : Collection). Spares Needs leaves.later leaves.store_now.held c) (same_some goes.after collection (state new).collection goes.runs runs) (later_step (spared alone))))
 
     nothing : (stage : Stage) → goes.before.stage ≡ stage → GivesNothing stage → SameStore m.content image_now
     nothing stage is none =
         same_so C state among apart m sessions old new at did buf made goes.before goes.ran stage Done none
         (subst (λ (x : Stage). Touches x (state old).tables Done (state old).disk (state new).disk) is touches)
 
-    changes_by : (stage : Stage) → goes.before.stage ≡ stage → ChangesBy (phase_at stage) m.content image_now
+    changes_by : (stage : Stage) → goes.before.stage ≡ stage → ChangesBy (phase_at stage) m.stored.files m.content image_now
     changes_by (Mark level slot) is = nothing (Mark level slot) is tt
     changes_by (Filter slot) is = nothing (Filter slot) is tt
     changes_by Select is = nothing Select is tt
@@ -365,17 +409,18 @@ module _ (C : Type 0) (state : C → CoreState) (among : ByteSet) (apart : HasNo
 
     pub did_step : Collected (StepsCollection phase m)
     did_step = record {
-      next = record m { content = image_now; collecting = Some (record { to_come = left; freed = has.collecting.freed + freed_by phase }) };
+      next = record m { content = image_now; collecting = Some goes_so };
       is = record {
         left = left;
         freed = has.collecting.freed;
+        alone = has.collecting.alone;
         ran = ran;
-        changes = subst (λ (p : Phase). ChangesBy p m.content image_now) (phase_is goes.before.stage goes.before.freed phase goes.phase_is) (changes_by goes.before.stage refl);
+        changes = subst (λ (p : Phase). ChangesBy p m.stored.files m.content image_now) (phase_is goes.before.stage goes.before.freed phase goes.phase_is) (changes_by goes.before.stage refl);
         others = refl;
       };
       at = runs_on C state among apart m sessions old new at did buf made (steps C state among apart m sessions old new at did buf made).stops has image_now m.faults
-          (Some (record { to_come = left; freed = has.collecting.freed + freed_by phase })) (told C state among apart m sessions old new at did buf made)
-          ((steps C state among apart m sessions old new at did buf made).made.effect.faults_are ∙ at.faults_are) now;
+          (Some goes_so) (told C state among apart m sessions old new at did buf made)
+          ((steps C state among apart m sessions old new at did buf made).made.effect.faults_are ∙ at.faults_are) now spares_now;
       stored_is = refl;
     }
 
@@ -402,17 +447,31 @@ module _ (C : Type 0) (state : C → CoreState) (among : ByteSet) (apart : HasNo
         (touched C state among apart m sessions old new at done buf made ended.before ended.ran)).only.content_is
         ∙ at.content_is
 
+    abbrev ended_at : IsAt (IsIn among) at.running.begins.store m.stored (state old)
+    ended_at = at.running.begins.is_at
+
+    later_ended : Spares (IsReachable m.stored.files) ended_at.index at.running.begins.store.held ended.before → EachHolds (IsReachable m.stored.files) at.running.begins.store.held
+    later_ended spares = ?later_ended
+
+    -- where it ran alone, each container that is left is needed
+    none_spare : has_ended.collecting.alone ≡ true → OfStore m.content (λ store. EachHolds (IsReachable m.stored.files) store.held)
+    none_spare alone =
+        let spares = subst (λ (o : Option Collecting). SparesAlone m.stored.files at.running.begins.store o (state old)) has_ended.is at.running.begins.spares in
+        (at.running.begins.store, (right C state among apart m sessions old new at done buf made, later_ended (spares alone ended_at.index ended.before ended_at.index_known ended.ran)))
+
     pub ended_step : Collected (EndsCollection freed copied m)
     ended_step = record {
       next = record m { collecting = None };
       is = record {
         left = has_ended.collecting.to_come;
-        ran = has_ended.is ∙ ap (λ (n : ℕ). let k : Collecting = record { to_come = has_ended.collecting.to_come; freed = n } in Some k) freed_same;
+        alone = has_ended.collecting.alone;
+        ran = has_ended.is ∙ ap (λ (n : ℕ). let k : Collecting = record { to_come = has_ended.collecting.to_come; freed = n; alone = has_ended.collecting.alone } in Some k) freed_same;
         copied_is = ended.copied_is;
+        none_spare = none_spare;
         others = refl;
       };
       at = runs_on C state among apart m sessions old new at done buf made (steps C state among apart m sessions old new at done buf made).stops has_ended m.content m.faults None content_same
-          ((steps C state among apart m sessions old new at done buf made).made.effect.faults_are ∙ at.faults_are) ended.ended;
+          ((steps C state among apart m sessions old new at done buf made).made.effect.faults_are ∙ at.faults_are) ended.ended tt;
       stored_is = refl;
     }
 
@@ -448,7 +507,8 @@ module _ (C : Type 0) (state : C → CoreState) (among : ByteSet) (apart : HasNo
       at = runs_then C state among apart m sessions old new at no buf made runs_still m.content m.faults m.collecting
           ((subst (λ (o : Option Collection). TouchesBy o no (state old) (state new).disk) none.none_ran (steps C state among apart m sessions old new at no buf made).made.effect.touches).only.content_is ∙ at.content_is)
           ((steps C state among apart m sessions old new at no buf made).made.effect.faults_are ∙ at.faults_are)
-          (subst (λ (o : Option Collecting). FollowsCollection o (state new)) (sym none_is) none.none_runs) at.running.begins.begun indexed;
+          (subst (λ (o : Option Collecting). FollowsCollection o (state new)) (sym none_is) none.none_runs)
+          (subst (λ (o : Option Collecting). SparesAlone m.stored.files led.next.store o (state new)) (sym none_is) tt) at.running.begins.begun indexed;
       stored_is = refl;
     }
 
@@ -501,11 +561,44 @@ module _ (C : Type 0) (state : C → CoreState) (among : ByteSet) (apart : HasNo
         by_stage (Release next slot) is at_stage = absurd (other at_stage)
         by_stage End is at_stage = nothing_so End is tt
 
-    rested : (state new).stop ≡ None → (faults : ℕ) → (state new).disk.faults ≡ faults → Follows (IsIn among) (record m { content = image_then; faults = faults }) sessions (state new)
-    rested stays faults faults_are =
+    -- ---- where it runs alone
+
+    abbrev begins_then : IsAt (IsIn among) at.running.begins.store m.stored (state old)
+    begins_then = at.running.begins.is_at
+
+    abbrev SparesAt : Collection → Type 0
+    SparesAt c = Spares (IsReachable m.stored.files) begins_then.index at.running.begins.store.held c
+
+    later_refused : MarksSome (state old) (state new) row.before row.after → SparesAt row.before → SparesAt row.after
+    later_refused marks spares = ?later_refused
+
+    spares_after : SparesAt row.before → SparesAt row.after
+    spares_after spares = elim (rest_marks (state old) (state new) refusal row) [
+      | inl same ↦ subst SparesAt (sym same) spares
+      | inr marks ↦ later_refused marks spares
+    ]
+
+    index_then : IsRestCause refusal → (state new).known ≡ (state old).known
+    index_then rests =
+        rest_index (state old) (state new) refusal row rests (cause_at (at_moment (state old) row.before) (state new).disk row.before.stage refusal row.cause)
+
+    spares_rested : IsRestCause refusal → SparesAlone m.stored.files at.running.begins.store m.collecting (state new)
+    spares_rested rests =
+        subst (λ (o : Option Collecting). SparesAlone m.stored.files at.running.begins.store o (state new)) (sym has_some.is)
+        (λ alone index collection known runs.
+        let before = subst (λ (o : Option Collecting). SparesAlone m.stored.files at.running.begins.store o (state old)) has_some.is at.running.begins.spares in
+        subst (λ (i : PlaceMap). Spares (IsReachable m.stored.files) i at.running.begins.store.held collection)
+        (same_index begins_then.index index (state new).known (index_then rests ∙ begins_then.index_known) known)
+        (subst SparesAt (same_some row.after collection (state new).collection row.runs runs) (spares_after (before alone begins_then.index row.before begins_then.index_known row.ran))))
+
+    rested : IsRestCause refusal → (state new).stop ≡ None → (faults : ℕ) → (state new).disk.faults ≡ faults → Follows (IsIn among) (record m { content = image_then; faults = faults }) sessions (state new)
+    rested rests stays faults faults_are =
+        let led = leads C state among apart m sessions old new at err buf made stays in
+        let same : led.next.store ≡ at.running.begins.store = subst (λ (changes : List StoreChange). ChangesTo changes at.running.begins.store led.next.store) led.changes_are led.next.chain in
         follows_at (IsIn among) (record m { content = image_then; faults = faults }) sessions (state new)
         (runs_on C state among apart m sessions old new at err buf made stays has_some image_then faults m.collecting told_then faults_are
-        (by_collection (state old) (state new) m.collecting (same_come (state old) (state new) (ap (λ (t : Tables). t.held) row.tables_are)) (kept_unchanged (state old) (state new) refusal row) at.running.begins.collects))
+        (by_collection (state old) (state new) m.collecting (same_come (state old) (state new) (ap (λ (t : Tables). t.held) row.tables_are)) (kept_unchanged (state old) (state new) refusal row) at.running.begins.collects)
+        (subst (λ (s : Store). SparesAlone m.stored.files s m.collecting (state new)) (sym same) (spares_rested rests)))
 
     abbrev slots : ℕ
     slots = at.running.begins.store.slots
@@ -586,7 +679,7 @@ module _ (C : Type 0) (state : C → CoreState) (among : ByteSet) (apart : HasNo
       record {
         next = record m { content = image_then refusals.Memory made s.made.row.0 };
         is = (is_collecting m.collecting has.collecting has.is, (same_so_far refusals.Memory made s.made.row.0 (λ is. let wrong = is in cc), refl));
-        follows = rested refusals.Memory made s.made.row.0 s.stops m.faults (s.made.effect.faults_are ∙ at.faults_are);
+        follows = rested refusals.Memory made s.made.row.0 tt s.stops m.faults (s.made.effect.faults_are ∙ at.faults_are);
       }
   refused_step refusals.DiskRead made =
       let s = steps C state among apart m sessions old new at (Err refusals.DiskRead) buf made in
@@ -599,7 +692,7 @@ module _ (C : Type 0) (state : C → CoreState) (among : ByteSet) (apart : HasNo
           same_so_far refusals.DiskRead made s.made.row.0 (λ is. let wrong = is in cc),
           refl,
         );
-        follows = rested refusals.DiskRead made s.made.row.0 s.stops (state new).disk.faults refl;
+        follows = rested refusals.DiskRead made s.made.row.0 tt s.stops (state new).disk.faults refl;
       }
   refused_step refusals.DiskWrite made =
       let s = steps C state among apart m sessions old new at (Err refusals.DiskWrite) buf made in

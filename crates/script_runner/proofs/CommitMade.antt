@@ -33,7 +33,7 @@ use Rattle.store_core.specs.State.{CoreState}
 use Rattle.store_core.proofs.CoreRuns.{running_step}
 use Rattle.store_core.proofs.Crashes.{last_at}
 use Rattle.plain_machine.specs.Content.{AddsRecord, SameBut}
-use Rattle.plain_machine.specs.Machine.{Machine, Idle, one_more, put_at}
+use Rattle.plain_machine.specs.Machine.{Machine, Idle, disturbed, one_more, put_at}
 use Rattle.plain_machine.specs.Refused.{HasNumbers, HasRoomForName}
 use Rattle.script_runner.specs.Follows.{FollowsPart}
 use Rattle.script_runner.specs.Sessions.{Sessions, with_session}
@@ -73,7 +73,7 @@ commit_event actor name file buf answer = record { event = record { actor = acto
 -- ---- the machine then
 
 abbrev pub committed : Machine → ℕ → List ℕ → List ℕ → List ℕ → Machine
-committed m actor name file image = record (put_at m actor Idle) { stored = with_stored m.stored name file; acknowledged = one_more m.acknowledged; content = image }
+committed m actor name file image = record (put_at m actor Idle) { stored = with_stored m.stored name file; acknowledged = one_more m.acknowledged; content = image; collecting = disturbed m.collecting }
 
 pub record CommitMade (S : List ℕ → Type 0) (m : Machine) (sessions : Sessions) (actor : ℕ) (name file : List ℕ) (old new : CoreState) : Type 0 where
   pub image : List ℕ

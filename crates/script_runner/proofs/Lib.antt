@@ -3,14 +3,17 @@ pub mod BrokenStep
 pub mod CollectBytes
 pub mod CollectCauses
 pub mod CollectParts
+pub mod CollectSpares
 pub mod CollectStart
 pub mod CollectStep
 pub mod CollectionOn
 pub mod Coming
 pub mod CommitMade
 pub mod CommitRefused
+pub mod Disturbing
 pub mod FaultsCounted
 pub mod Harmless
+pub mod IdleParts
 pub mod Images
 pub mod LaterStores
 pub mod LineNotes
@@ -52,6 +55,7 @@ pub mod SameNames
 pub mod ScriptsFollow
 pub mod Sends
 pub mod SessionLists
+pub mod SparesLive
 pub mod Sweeping
 pub mod TurnAsks
 pub mod TurnClashes

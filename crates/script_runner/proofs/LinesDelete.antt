@@ -33,7 +33,7 @@ use Rattle.store_core.specs.State.{CoreState, Event}
 use Rattle.store_core.proofs.CoreRuns.{running_step}
 use Rattle.store_core.proofs.Crashes.{last_at}
 use Rattle.plain_machine.specs.Content.{AddsRecord}
-use Rattle.plain_machine.specs.Machine.{Machine, Running, Stopped, one_more, part_in}
+use Rattle.plain_machine.specs.Machine.{Machine, Running, Stopped, disturbed, one_more, part_in}
 use Rattle.plain_machine.specs.Refused.{IsAtRightPart, Refuses, RefusesDelete}
 use Rattle.script_runner.specs.Acts.{Acts, ActsOrNot, Admits, DoesStep, RunnerState}
 use Rattle.script_runner.specs.Follows.{Follows, FollowsPart, IsOfFound}
@@ -112,7 +112,7 @@ module _ (C : Type 0) (state : C → CoreState) (among : ByteSet) (distinct : Ha
       image = leads.content.0
 
       abbrev next : Machine
-      next = record m { stored = without_stored m.stored name; acknowledged = one_more m.acknowledged; content = image }
+      next = record m { stored = without_stored m.stored name; acknowledged = one_more m.acknowledged; content = image; collecting = disturbed m.collecting }
 
       recorded : AddsRecord name Delete m.content image
       recorded = record {

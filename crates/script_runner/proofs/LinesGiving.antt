@@ -122,7 +122,7 @@ module _ (C : Type 0) (state : C → CoreState) (among : ByteSet) (distinct : Ha
       let running = run is in
       let e : Event = record { actor = a; step = asked.Begin; answer = Ok answers.Begun; buf = does.0 } in
       let steps = running_step old new e (run is).runs does.1 in
-      let onward = read_on C state among distinct m r.sessions r.core s.core running follows.content_is e does.1 tt tt tt refl steps.made.effect steps.stops steps.counted_is in
+      let onward = read_on C state among distinct m r.sessions r.core s.core running follows.content_is e does.1 tt tt tt refl refl steps.made.effect steps.stops steps.counted_is in
       line_on C state S (lines.Begin a) (replies.Begun b) m r s a is follows onward (slice_set m.parts a (Writing [] [])) m.faults (steps.made.effect.disk.faults_are ∙ follows.faults_are)
       (one_set a Idle (Writing [] []) m.parts) (subst (OneSet a None r.sessions) (sym sessions) (one_set a None (Some t) r.sessions))
       (λ below. part_by new (slice_index_or (slice_set m.parts a (Writing [] [])) a Idle) (Writing [] []) (session_of s.sessions a) (Some t) (part_of new.parts a) (core_parts.Writing finite.empty)
@@ -225,7 +225,7 @@ module _ (C : Type 0) (state : C → CoreState) (among : ByteSet) (distinct : Ha
       let running = run is in
       let e : Event = record { actor = a; step = asked.Abort; answer = Ok answers.Aborted; buf = does.0 } in
       let steps = running_step old new e (run is).runs does.1 in
-      let onward = read_on C state among distinct m r.sessions r.core s.core running follows.content_is e does.1 tt tt tt refl steps.made.effect steps.stops steps.counted_is in
+      let onward = read_on C state among distinct m r.sessions r.core s.core running follows.content_is e does.1 tt tt tt refl refl steps.made.effect steps.stops steps.counted_is in
       line_on C state S (lines.Abort a) (replies.Aborted b) m r s a is follows onward (slice_set m.parts a Idle) m.faults (steps.made.effect.disk.faults_are ∙ follows.faults_are)
       (one_set a Idle Idle m.parts) (subst (OneSet a None r.sessions) (sym sessions) (one_set a None None r.sessions))
       (λ below. part_by new (slice_index_or (slice_set m.parts a Idle) a Idle) Idle (session_of s.sessions a) None (part_of new.parts a) core_parts.Idle

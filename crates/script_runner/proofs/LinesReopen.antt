@@ -65,6 +65,7 @@ use Rattle.gc_steps.specs.StepsToCome.{steps_to_come}
 use Rattle.store_core.proofs.SafeSteps.{alone}
 use Rattle.container_meta.specs.Spelling.{HeaderValue}
 use Rattle.script_runner.proofs.CollectionOn.{low_id}
+use Rattle.script_runner.proofs.SparesLive.{same_live, spares_still}
 
 -- ---- tables and index that stay, over a disk that is only read
 
@@ -116,6 +117,7 @@ module _ (old new : CoreState) (reads : OnlyReads old.disk new.disk) (tables_are
     is_at = still_at S begins.store stored parts_are begins.is_at;
     whole = λ none. subst (IndexesAll begins.store) (sym index_is) (begins.whole none);
     collects = still_follows collecting begins.collects;
+    spares = spares_still old new stored.files begins.store index_is (same_live old.collection new.collection collection_is) collecting begins.spares;
     low = begins.low;
     begun = begins.begun;
     last_id_is = ap (λ (tables : Tables). tables.held.last_id) tables_are ∙ begins.last_id_is;
@@ -169,6 +171,7 @@ opened_store S stored image c told begins = record {
   whole = λ none. begins.whole;
   last_id_is = begins.last_id_is ∙ sym (greatest_is image begins.store (right_here S begins.store stored c begins.is_at image told));
   collects = begins.none_runs;
+  spares = tt;
   low = subst (λ (n : ℕ). n ≤ LAST_ID) (sym (greatest_is image begins.store (right_here S begins.store stored c begins.is_at image told))) (low_ids begins.store.held begins.is_at.valid.headers);
   begun = λ k is. absurd (let wrong = is in cc);
 }

@@ -49,7 +49,7 @@ module _ (C : Type 0) (state : C → CoreState) (among : ByteSet) (distinct : Ha
       let running = by_running (IsIn among) m r.sessions (state r.core) is follows in
       let e : Event = record { actor = 0; step = asked.Stat; answer = Ok (counted h); buf = does.0 } in
       let steps = running_step (state r.core) (state s.core) e running.runs does.1 in
-      let onward = read_on C state among distinct m r.sessions r.core s.core running follows.content_is e does.1 tt tt tt refl steps.made.effect steps.stops steps.counted_is in
+      let onward = read_on C state among distinct m r.sessions r.core s.core running follows.content_is e does.1 tt tt tt refl refl steps.made.effect steps.stops steps.counted_is in
       let at = running.begins.is_at in
       let store = running.begins.store in
       let stands = at.stands.each m.content ((state r.core).disk.as_read m.content follows.content_is) in
@@ -82,7 +82,7 @@ module _ (C : Type 0) (state : C → CoreState) (among : ByteSet) (distinct : Ha
       let running = by_running (IsIn among) m r.sessions (state r.core) is follows in
       let e : Event = record { actor = 0; step = asked.ListNames; answer = Ok (answers.Listed files); buf = does.0 } in
       let steps = running_step (state r.core) (state s.core) e running.runs does.1 in
-      let onward = read_on C state among distinct m r.sessions r.core s.core running follows.content_is e does.1 tt tt tt refl steps.made.effect steps.stops steps.counted_is in
+      let onward = read_on C state among distinct m r.sessions r.core s.core running follows.content_is e does.1 tt tt tt refl refl steps.made.effect steps.stops steps.counted_is in
       let f : FileEvent = record { event = e; bytes = [] } in
       rested C state among distinct m r s follows lines.ListNames (replies.Listed files) 0 is onward steps.made.effect.disk.faults_are sessions steps.made.row.1 (
         finds_files C state among [] f running.begins.store m.stored r.core r.core s.core distinct running.begins.is_at refl (record { asked = tt; given = tt; made = does.1 }),
@@ -95,7 +95,7 @@ module _ (C : Type 0) (state : C → CoreState) (among : ByteSet) (distinct : Ha
       let running = by_running (IsIn among) m r.sessions (state r.core) is follows in
       let e : Event = record { actor = 0; step = asked.ListNames; answer = Err refusals.Memory; buf = does.0 } in
       let steps = running_step (state r.core) (state s.core) e running.runs does.1 in
-      let onward = read_on C state among distinct m r.sessions r.core s.core running follows.content_is e does.1 tt tt tt refl steps.made.effect steps.stops steps.counted_is in
+      let onward = read_on C state among distinct m r.sessions r.core s.core running follows.content_is e does.1 tt tt tt refl refl steps.made.effect steps.stops steps.counted_is in
       rested C state among distinct m r s follows lines.ListNames (replies.Refused refusals.Memory) 0 is onward steps.made.effect.disk.faults_are sessions steps.made.row
       (right_part (IsIn among) m r.sessions (state r.core) follows running lines.ListNames admits, refl)
   not_listed refusal is admits does sessions =

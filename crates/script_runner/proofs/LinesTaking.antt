@@ -140,7 +140,7 @@ module _ (C : Type 0) (state : C → CoreState) (among : ByteSet) (distinct : Ha
         let at = running.begins.is_at in
         let e : Event = record { actor = a; step = asked.OpenRead name; answer = Ok (answers.Opened count); buf = does.0 } in
         let steps = running_step old new e (run is).runs does.1 in
-        let onward = read_on C state among distinct m r.sessions r.core s.core running follows.content_is e does.1 tt tt tt refl steps.made.effect steps.stops steps.counted_is in
+        let onward = read_on C state among distinct m r.sessions r.core s.core running follows.content_is e does.1 tt tt tt refl refl steps.made.effect steps.stops steps.counted_is in
         let file = steps.made.row.file running.begins.store m.stored.files m.content at.represents.names_are.names_are (at.stands.each m.content (old.disk.as_read m.content follows.content_is)).holds in
         let bytes = file.file.bytes in
         let finds = found e refl does.1 in
@@ -160,7 +160,7 @@ module _ (C : Type 0) (state : C → CoreState) (among : ByteSet) (distinct : Ha
     unopened refusal refuses runs faults step =
         let steps = (opening refusal refuses).1 in
         let e : Event = record { actor = a; step = asked.OpenRead name; answer = Err refusal; buf = refuses.0 } in
-        let onward = read_on C state among distinct m r.sessions r.core s.core (run is) follows.content_is e refuses.1 tt tt tt refl steps.made.effect runs steps.counted_is in
+        let onward = read_on C state among distinct m r.sessions r.core s.core (run is) follows.content_is e refuses.1 tt tt tt refl refl steps.made.effect runs steps.counted_is in
         rested (lines.Read a name) (replies.Refused refusal) a is onward faults sessions steps.made.row.1 step
 
     right : IsAtRightPart (lines.Read a name) m
@@ -233,7 +233,7 @@ module _ (C : Type 0) (state : C → CoreState) (among : ByteSet) (distinct : Ha
         let running = run is in
         let e : Event = record { actor = a; step = asked.ReadNext; answer = Ok (answers.Bytes count); buf = buf } in
         let steps = running_step old new e (run is).runs made in
-        let onward = read_on C state among distinct m r.sessions r.core s.core running follows.content_is e made tt tt tt refl steps.made.effect steps.stops steps.counted_is in
+        let onward = read_on C state among distinct m r.sessions r.core s.core running follows.content_is e made tt tt tt refl refl steps.made.effect steps.stops steps.counted_is in
         let held = held_by (Ok (Some count)) buf steps.made.row.held in
         let others = held.given.others in
         let core : core_part.Part = reading held.goes_on.root held.rest in
@@ -249,7 +249,7 @@ module _ (C : Type 0) (state : C → CoreState) (among : ByteSet) (distinct : Ha
         let running = run is in
         let e : Event = record { actor = a; step = asked.ReadNext; answer = Ok answers.End; buf = buf } in
         let steps = running_step old new e (run is).runs made in
-        let onward = read_on C state among distinct m r.sessions r.core s.core running follows.content_is e made tt tt tt refl steps.made.effect steps.stops steps.counted_is in
+        let onward = read_on C state among distinct m r.sessions r.core s.core running follows.content_is e made tt tt tt refl refl steps.made.effect steps.stops steps.counted_is in
         let held = held_by (Ok None) buf steps.made.row.held in
         let row = steps.made.row.next in
         let core : core_part.Part = reading row.goes_on.root row.rest in
@@ -265,7 +265,7 @@ module _ (C : Type 0) (state : C → CoreState) (among : ByteSet) (distinct : Ha
         let running = run is in
         let e : Event = record { actor = a; step = asked.ReadNext; answer = Err refusals.DiskRead; buf = buf } in
         let steps = running_step old new e (run is).runs made in
-        let onward = read_on C state among distinct m r.sessions r.core s.core running follows.content_is e made tt tt tt refl steps.made.effect steps.stops steps.counted_is in
+        let onward = read_on C state among distinct m r.sessions r.core s.core running follows.content_is e made tt tt tt refl refl steps.made.effect steps.stops steps.counted_is in
         let held = held_by (Err refusals.DiskRead) buf steps.made.row.held in
         let core : core_part.Part = reading held.goes_on.root held.rest in
         let core_is : part_of new.parts a ≡ core = ap (λ (parts : List core_part.Part). part_of parts a) held.goes_on.parts_are ∙ apart.same old.parts a core below_parts in
@@ -311,7 +311,7 @@ module _ (C : Type 0) (state : C → CoreState) (among : ByteSet) (distinct : Ha
         let running = run is in
         let e : Event = record { actor = a; step = asked.EndRead; answer = Ok answers.Dropped; buf = does.0 } in
         let steps = running_step old new e (run is).runs does.1 in
-        let onward = read_on C state among distinct m r.sessions r.core s.core running follows.content_is e does.1 tt tt tt refl steps.made.effect steps.stops steps.counted_is in
+        let onward = read_on C state among distinct m r.sessions r.core s.core running follows.content_is e does.1 tt tt tt refl refl steps.made.effect steps.stops steps.counted_is in
         stepped (lines.Drop a) (replies.Dropped b) a is onward steps.made.effect.disk.faults_are sessions (core_reads a is rest reads sessions).none Idle core_parts.Idle
         (λ below. ap (λ (parts : List core_part.Part). part_of parts a) steps.made.row.parts_are ∙ apart.same old.parts a core_parts.Idle (omega (arith, below, running.up.many))) tt
         (same, ((rest, reads), refl))

@@ -28,7 +28,7 @@ use Rattle.script_runner.specs.Follows.{Follows, FollowsPart, IsOfFound}
 use Rattle.script_runner.specs.Sessions.{Sessions, session_of}
 use Rattle.script_runner.proofs.BrokenStep.{Broken, IsTried, broken}
 use Rattle.script_runner.proofs.OneStep.{Stepped, stepped}
-use Rattle.script_runner.proofs.PlainSteps.{IsPlainStep, plain_no_gc}
+use Rattle.script_runner.proofs.PlainSteps.{IsPlainStep, plain_no_gc, refused_collecting}
 use Rattle.script_runner.proofs.PartsOn.{part_on}
 use Rattle.script_runner.proofs.Resting.{counts_none, refused_faults, refused_stored}
 use Rattle.script_runner.proofs.TurnHolds.{right_here}
@@ -79,7 +79,7 @@ module _ (C : Type 0) (state : C → CoreState) (among : ByteSet) (distinct : Ha
     pub name_rested : blames refusal ≡ NoCall → (state new).disk.content ≡ (state old).disk.content → RunsAt S m sessions (state new)
     name_rested none content =
         subst (λ (now : Sessions). RunsAt S m now (state new)) (set-get_or sessions actor None)
-        (runs_on S m m sessions (state old) (state new) f at leads stays at.state_is (refused_stored step refusal bytes m.stored) refl refl refl
+        (runs_on S m m sessions (state old) (state new) f at leads stays at.state_is (refused_stored step refusal bytes m.stored) refl (refused_collecting step refusal m.collecting) refl
         (content ∙ at.content_is) (counts_none (state old) (state new) refusal none (refused_faults (state old) (state new) step refusal steps.made.effect) ∙ at.faults_are) (leads.counted ∙ at.counted)
         (part_in m actor) (session_of sessions actor) (sym (set-get_or m.parts actor _)) own below)
 

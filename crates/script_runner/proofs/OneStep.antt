@@ -35,17 +35,18 @@ use Rattle.store_core.proofs.Making.{up_of}
 use Rattle.store_core.proofs.RunningOn.{step_runs}
 use Rattle.store_core.proofs.Stepping.{row_one}
 use Rattle.plain_machine.specs.Machine.{Collecting, Machine, part_in}
-use Rattle.script_runner.specs.Follows.{FollowsCollection, FollowsPart, FollowsStore, FollowsRunning, Takes}
+use Rattle.script_runner.specs.Follows.{FollowsCollection, FollowsPart, FollowsStore, FollowsRunning, SparesAlone, Takes}
 use Rattle.script_runner.specs.Sessions.{Sessions, session_of}
 use Rattle.script_runner.proofs.CollectionOn.{collection_on, last_on, low_on}
-use Rattle.script_runner.proofs.PlainSteps.{IsPlainStep, last_after, plain_no_gc}
+use Rattle.script_runner.proofs.Disturbing.{begun_after, follows_after, spares_on}
+use Rattle.script_runner.proofs.PlainSteps.{IsPlainStep, collecting_after, last_after, plain_no_gc}
 use Rattle.script_runner.proofs.PartsOn.{part_on, takes_on}
 use Rattle.disk_format.specs.declared.numbers.TheConstants.{LAST_ID}
 
 -- Of a core that was at this store of the machine's files, and runs on: it is at the store that the step's changes lead to, and
 -- what other actors are at is as the machine says.
 pub record Stepped (S : List ℕ → Type 0) (m : Machine) (sessions : Sessions) (f : FileEvent) (store : Store) (old new : CoreState) : Type 0 where
-  pub begins : FollowsStore S (stored_by f m.stored) (last_after f.event.answer m.last_id) m.collecting m.collected new
+  pub begins : FollowsStore S (stored_by f m.stored) (last_after f.event.answer m.last_id) (collecting_after f.event.step f.event.answer m.collecting) m.collected new
   pub up : IsUp new
   pub changes : ChangesTo (changes_by f.event.step f.event.answer) store begins.store
   pub content : (image : List ℕ) × (new.disk.content ≡ Some image) × AddsBytes store begins.store m.content image
@@ -71,6 +72,8 @@ begins_as S stored later last then collecting goes collected was c stored_is las
   last_id_is = begins.last_id_is ∙ last_is;
   low = subst (λ (n : ℕ). n ≤ LAST_ID) last_is begins.low;
   collects = subst (λ (x : Option Collecting). FollowsCollection x c) goes_is begins.collects;
+  spares = subst (λ (x : Option Collecting). SparesAlone later.files begins.store x c) goes_is
+      (subst (λ (x : Stored). SparesAlone x.files begins.store collecting c) stored_is begins.spares);
   begun = λ k is. sym was_is ∙ begins.begun k (goes_is ∙ is);
 }
 
@@ -112,16 +115,18 @@ module _ (C : Type 0) (state : C → CoreState) (among : ByteSet) (apart : HasNo
     next : NextOn S store changes_are (stored_by f m.stored) (state old) (state new)
     next = file_step among apart f store m.stored (state old) (state new) no_gc step running.begins.is_at stays
 
-    begins : FollowsStore S (stored_by f m.stored) (last_after f.event.answer m.last_id) m.collecting m.collected (state new)
+    begins : FollowsStore S (stored_by f m.stored) (last_after f.event.answer m.last_id) (collecting_after f.event.step f.event.answer m.collecting) m.collected (state new)
     begins = record {
       store = next.next.store;
       is_at = next.next.is_at;
       settled = stays_settled C state among (f ∷ []) store m.stored old new apart running.begins.is_at running.begins.settled run stays;
       whole = λ none. next.whole (running.begins.whole none);
       last_id_is = last_on (state old) (state new) S store next.next.store m.stored (stored_by f m.stored) running.begins.is_at next.next.is_at f.event stays no_gc steps ∙ ap (last_after f.event.answer) running.begins.last_id_is;
-      collects = collection_on (state old) (state new) S store next.next.store m.stored (stored_by f m.stored) running.begins.is_at next.next.is_at m.collecting f.event stays plain steps next.next.chain running.begins.collects;
+      collects = follows_after f.event.step f.event.answer m.collecting (state new)
+          (collection_on (state old) (state new) S store next.next.store m.stored (stored_by f m.stored) running.begins.is_at next.next.is_at m.collecting f.event stays plain steps next.next.chain running.begins.collects);
+      spares = spares_on (state old) (state new) store next.next.store m.stored f.bytes m.collecting f.event stays plain steps next.next.chain running.begins.spares;
       low = low_on (state old) (state new) S store next.next.store m.stored (stored_by f m.stored) running.begins.is_at next.next.is_at m.last_id f.event no_gc steps next.next.chain running.begins.low;
-      begun = running.begins.begun;
+      begun = begun_after f.event.step f.event.answer m.collecting m.collected running.begins.begun;
     }
 
     up : IsUp (state new)

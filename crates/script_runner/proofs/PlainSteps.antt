@@ -1,5 +1,5 @@
 -- Steps that neither begin a collection nor are one of it: what becomes of the table of slots, the last id and the collection that runs.
-use Rattle.std.proofs.Common.{◌≡◌, ℕ, List, Option, Some, None, Result, Ok, Err, ap}
+use Rattle.std.proofs.Common.{◌≡◌, ℕ, List, Option, Some, None, Result, Ok, Err, refl, ap}
 use Rattle.actor_parts.specs.declared.step.Answer.{Answer}
 use Rattle.actor_parts.specs.declared.step.Answer.TheVariants as answers
 use Rattle.actor_parts.specs.StepValue as asked
@@ -13,6 +13,7 @@ use Rattle.store_core.specs.Core.{Effect, KeepsTables, Row, StopsAfter}
 use Rattle.store_core.specs.Runs.{IsNoGcStep}
 use Rattle.store_core.specs.State.{CoreState}
 use Rattle.store_core.proofs.RunningOn.{seal_kept}
+use Rattle.plain_machine.specs.Machine.{Collecting, disturbed}
 use Rattle.plain_machine.specs.Turns.{last_by}
 
 abbrev pub IsPlainStep : StepValue → Type 0
@@ -39,6 +40,22 @@ plain_no_gc asked.Stat plain = tt
 abbrev pub last_after : Result Answer Refusal → ℕ → ℕ
 last_after (Ok answer) last = last_by answer last
 last_after (Err refusal) last = last
+
+-- the machine's collection, after a step: a claim, a seal, a commit or a delete that was done disturbs it
+abbrev pub collecting_after : StepValue → Result Answer Refusal → Option Collecting → Option Collecting
+collecting_after (asked.Claim seg) (Ok answer) collecting = disturbed collecting
+collecting_after (asked.Seal filled) (Ok answer) collecting = disturbed collecting
+collecting_after (asked.Commit name root) (Ok answer) collecting = disturbed collecting
+collecting_after (asked.Delete name) (Ok answer) collecting = disturbed collecting
+collecting_after step answer collecting = collecting
+
+-- what is refused disturbs none
+pub refused_collecting : (step : StepValue) (refusal : Refusal) (collecting : Option Collecting) → collecting_after step (Err refusal) collecting ≡ collecting
+refused_collecting (asked.Claim seg) refusal collecting = refl
+refused_collecting (asked.Seal filled) refusal collecting = refl
+refused_collecting (asked.Commit name root) refusal collecting = refl
+refused_collecting (asked.Delete name) refusal collecting = refl
+refused_collecting step refusal collecting = refl
 
 -- ---- the table of slots
 

@@ -50,6 +50,7 @@ use Rattle.session_turns.specs.Turns.{Asks, IsRefusedTurn}
 use Rattle.script_runner.proofs.BrokenStep.{Broken, IsTried, broken}
 use Rattle.script_runner.proofs.Harmless.{is_harmless}
 use Rattle.script_runner.proofs.OneStep.{Stepped, stepped}
+use Rattle.script_runner.proofs.PlainSteps.{refused_collecting}
 use Rattle.script_runner.proofs.Resting.{refused_changes, refused_faults, refused_stored, same_store}
 use Rattle.script_runner.proofs.TurnAsks.{asked_event, asks_step}
 use Rattle.script_runner.proofs.TurnHolds.{right_here}
@@ -139,7 +140,7 @@ module _ (S : List ℕ → Type 0) (m : Machine) (sessions : Sessions) (actor : 
 
     rested_at : RunsAt S (rested leads.content.0) now new
     rested_at =
-        runs_on S m (rested leads.content.0) sessions old new (event step buf) at leads stays at.state_is (refused_stored step refusal [] m.stored) refl refl refl leads.content.1 refl (leads.counted ∙ at.counted)
+        runs_on S m (rested leads.content.0) sessions old new (event step buf) at leads stays at.state_is (refused_stored step refusal [] m.stored) refl (refused_collecting step refusal m.collecting) refl leads.content.1 refl (leads.counted ∙ at.counted)
         (part_in m actor) (Some t) (sym (set-get_or m.parts actor Idle)) own below
 
     slots_stay : SameStore m.content leads.content.0

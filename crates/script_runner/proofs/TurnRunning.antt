@@ -12,7 +12,7 @@ use Rattle.plain_machine.specs.Turns.{Stays}
 use Rattle.script_runner.specs.Follows.{Follows, FollowsBy, FollowsPart, FollowsRunning}
 use Rattle.script_runner.specs.Sessions.{Sessions, session_of, with_session}
 use Rattle.script_runner.proofs.OneStep.{Stepped, begins_as}
-use Rattle.script_runner.proofs.PlainSteps.{last_after}
+use Rattle.script_runner.proofs.PlainSteps.{collecting_after, last_after}
 use Rattle.script_runner.proofs.Resting.{adds_none}
 use Rattle.script_runner.proofs.TurnHolds.{right_here}
 use Rattle.script_runner.proofs.TurnParts.{part_other, part_put, parts_as_many, session_other, session_put, sessions_as_many}
@@ -65,7 +65,7 @@ part_as p q s t a b c part session core follows =
 
 -- What the machine is then may have changed by other ways, too.
 module _ (S : List ℕ → Type 0) (m n : Machine) (sessions : Sessions) (old new : CoreState) (f : FileEvent) (at : RunsAt S m sessions old) (stepped : Stepped S m sessions f at.running.begins.store old new) (runs : new.stop ≡ None)
-    (state_is : n.state ≡ Running) (stored_is : stored_by f m.stored ≡ n.stored) (last_is : last_after f.event.answer m.last_id ≡ n.last_id) (collecting_is : m.collecting ≡ n.collecting) (collected_is : m.collected ≡ n.collected) (content_is : new.disk.content ≡ Some n.content) (faults_are : new.disk.faults ≡ n.faults) (counted : new.acknowledged ≡ n.acknowledged)
+    (state_is : n.state ≡ Running) (stored_is : stored_by f m.stored ≡ n.stored) (last_is : last_after f.event.answer m.last_id ≡ n.last_id) (collecting_is : collecting_after f.event.step f.event.answer m.collecting ≡ n.collecting) (collected_is : m.collected ≡ n.collected) (content_is : new.disk.content ≡ Some n.content) (faults_are : new.disk.faults ≡ n.faults) (counted : new.acknowledged ≡ n.acknowledged)
     (part : Part) (session : Option SessionState) (parts_are : n.parts ≡ slice_set m.parts f.event.actor part) (own : FollowsPart part session (part_of new.parts f.event.actor) new) (below : f.event.actor < ACTORS) where
   abbrev actor : ℕ
   actor = f.event.actor
@@ -111,7 +111,7 @@ module _ (S : List ℕ → Type 0) (m n : Machine) (sessions : Sessions) (old ne
     running = record {
       runs = runs;
       up = stepped.up;
-      begins = begins_as S (stored_by f m.stored) n.stored (last_after f.event.answer m.last_id) n.last_id m.collecting n.collecting m.collected n.collected new stored_is last_is collecting_is collected_is stepped.begins;
+      begins = begins_as S (stored_by f m.stored) n.stored (last_after f.event.answer m.last_id) n.last_id (collecting_after f.event.step f.event.answer m.collecting) n.collecting m.collected n.collected new stored_is last_is collecting_is collected_is stepped.begins;
       parts = each_follows;
     };
   }

@@ -1,0 +1,138 @@
+-- What becomes of a collection that runs alone over a step that is none of it: it does so still where the step disturbs nothing.
+use Rattle.std.proofs.Common.{Bool, true, ◌≡◌, ◌⊎◌, inl, inr, ◌∙◌, ℕ, List, [], Option, Some, None, Result, Ok, Err, refl, sym, subst, ap}
+use Rattle.actor_parts.specs.declared.step.Answer.{Answer}
+use Rattle.actor_parts.specs.StepValue as asked
+use Rattle.actor_parts.specs.StepValue.{StepValue}
+use Rattle.refusals.specs.declared.refusal.Refusal.{Refusal}
+use Rattle.store_model.specs.Files.{Stored}
+use Rattle.store_model.specs.Image.{Store}
+use Rattle.store_model.specs.Steps.{StoreChange}
+use Rattle.store_core.specs.Collecting.{Collects, IsKeptKey}
+use Rattle.store_core.specs.Core.{Effect, KeepsTables, Steps, StopsAfter}
+use Rattle.store_core.specs.Runs.{ChangesTo, changes_by, stored_with}
+use Rattle.store_core.specs.State.{CoreState, Event}
+use Rattle.store_core.proofs.RunningOn.{seal_kept}
+use Rattle.plain_machine.specs.Machine.{Collecting, disturbed}
+use Rattle.script_runner.specs.Follows.{FollowsCollection, SparesAlone}
+use Rattle.script_runner.proofs.PlainSteps.{IsPlainStep, collecting_after}
+use Rattle.script_runner.proofs.SparesLive.{GoesAsLive, follows_disturbed, none_marked, same_live, spares_disturbed, spares_still}
+
+-- it disturbs no collection
+abbrev pub IsQuiet : StepValue → Result Answer Refusal → Type 0
+IsQuiet (asked.Claim seg) (Ok answer) = ⊥
+IsQuiet (asked.Seal filled) (Ok answer) = ⊥
+IsQuiet (asked.Commit name root) (Ok answer) = ⊥
+IsQuiet (asked.Delete name) (Ok answer) = ⊥
+IsQuiet step answer = Unit {0}
+
+-- the collection after a step is the same, or disturbed
+pub quiet_or : (step : StepValue) (answer : Result Answer Refusal) (collecting : Option Collecting) → IsQuiet step answer ⊎ (collecting_after step answer collecting ≡ disturbed collecting)
+quiet_or (asked.Claim seg) (Ok answer) collecting = inr refl
+quiet_or (asked.Seal filled) (Ok answer) collecting = inr refl
+quiet_or (asked.Commit name root) (Ok answer) collecting = inr refl
+quiet_or (asked.Delete name) (Ok answer) collecting = inr refl
+quiet_or step answer collecting = inl tt
+
+quiet_same : (step : StepValue) (answer : Result Answer Refusal) (collecting : Option Collecting) → IsQuiet step answer → collecting_after step answer collecting ≡ collecting
+quiet_same (asked.Claim seg) (Ok answer) collecting quiet = absurd quiet
+quiet_same (asked.Seal filled) (Ok answer) collecting quiet = absurd quiet
+quiet_same (asked.Commit name root) (Ok answer) collecting quiet = absurd quiet
+quiet_same (asked.Delete name) (Ok answer) collecting quiet = absurd quiet
+quiet_same step answer collecting quiet = refl
+
+quiet_changes : (step : StepValue) (answer : Result Answer Refusal) → IsQuiet step answer → changes_by step answer ≡ []
+quiet_changes (asked.Claim seg) (Ok answer) quiet = absurd quiet
+quiet_changes (asked.Seal filled) (Ok answer) quiet = absurd quiet
+quiet_changes (asked.Commit name root) (Ok answer) quiet = absurd quiet
+quiet_changes (asked.Delete name) (Ok answer) quiet = absurd quiet
+quiet_changes step answer quiet = refl
+
+quiet_stored : (step : StepValue) (answer : Result Answer Refusal) (bytes : List ℕ) (stored : Stored) → IsQuiet step answer → stored_with step answer bytes stored ≡ stored
+quiet_stored (asked.Claim seg) (Ok answer) bytes stored quiet = absurd quiet
+quiet_stored (asked.Seal filled) (Ok answer) bytes stored quiet = absurd quiet
+quiet_stored (asked.Commit name root) (Ok answer) bytes stored quiet = absurd quiet
+quiet_stored (asked.Delete name) (Ok answer) bytes stored quiet = absurd quiet
+quiet_stored step answer bytes stored quiet = refl
+
+module _ (old new : CoreState) where
+  quiet_keeps : (step : StepValue) (answer : Result Answer Refusal) → IsPlainStep step → IsQuiet step answer → new.stop ≡ None → Effect step answer old new → StopsAfter step answer old.acknowledged new.stop
+      → KeepsTables old new
+  quiet_keeps (asked.Claim seg) answer plain quiet stays effect stops = effect.tables
+  quiet_keeps (asked.Seal filled) (Ok answer) plain quiet stays effect stops = absurd quiet
+  quiet_keeps (asked.Seal filled) (Err refusal) plain quiet stays effect stops = seal_kept old new stays filled refusal old.acknowledged stops effect.kept
+  quiet_keeps (asked.Commit name root) (Ok answer) plain quiet stays effect stops = absurd quiet
+  quiet_keeps (asked.Commit name root) (Err refusal) plain quiet stays effect stops = effect.kept
+  quiet_keeps (asked.Delete name) (Ok answer) plain quiet stays effect stops = absurd quiet
+  quiet_keeps (asked.Delete name) (Err refusal) plain quiet stays effect stops = effect.kept
+  quiet_keeps (asked.GcStart percent) answer plain quiet stays effect stops = absurd plain
+  quiet_keeps asked.GcStep answer plain quiet stays effect stops = absurd plain
+  quiet_keeps asked.Begin answer plain quiet stays effect stops = effect.tables
+  quiet_keeps asked.Abort answer plain quiet stays effect stops = effect.tables
+  quiet_keeps (asked.OpenRead name) answer plain quiet stays effect stops = effect.tables
+  quiet_keeps asked.ReadNext answer plain quiet stays effect stops = effect.tables
+  quiet_keeps asked.EndRead answer plain quiet stays effect stops = effect.tables
+  quiet_keeps asked.ListNames answer plain quiet stays effect stops = effect.tables
+  quiet_keeps asked.Stat answer plain quiet stays effect stops = effect.tables
+
+  abbrev Same : Type 0
+  Same = GoesAsLive old.collection new.collection
+
+  same : new.collection ≡ old.collection → Same
+  same is = same_live old.collection new.collection is
+
+  quiet_live : (step : StepValue) (answer : Result Answer Refusal) → IsPlainStep step → IsQuiet step answer → Collects step answer old new → Same
+  quiet_live (asked.Claim seg) (Ok answer) plain quiet collects = absurd quiet
+  quiet_live (asked.Claim seg) (Err refusal) plain quiet collects = none_marked (IsKeptKey (asked.Claim seg) (Err refusal)) old.collection new.collection (λ key wrong. wrong) collects
+  quiet_live (asked.Seal filled) (Ok answer) plain quiet collects = absurd quiet
+  quiet_live (asked.Seal filled) (Err refusal) plain quiet collects = none_marked (IsKeptKey (asked.Seal filled) (Err refusal)) old.collection new.collection (λ key wrong. wrong) collects
+  quiet_live (asked.GcStart percent) answer plain quiet collects = absurd plain
+  quiet_live asked.GcStep answer plain quiet collects = absurd plain
+  quiet_live (asked.Commit name root) answer plain quiet collects = same collects
+  quiet_live (asked.Delete name) answer plain quiet collects = same collects
+  quiet_live asked.Begin answer plain quiet collects = same collects
+  quiet_live asked.Abort answer plain quiet collects = same collects
+  quiet_live (asked.OpenRead name) answer plain quiet collects = same collects
+  quiet_live asked.ReadNext answer plain quiet collects = same collects
+  quiet_live asked.EndRead answer plain quiet collects = same collects
+  quiet_live asked.ListNames answer plain quiet collects = same collects
+  quiet_live asked.Stat answer plain quiet collects = same collects
+
+  -- ---- any step
+
+  module _ (store after : Store) (stored : Stored) (bytes : List ℕ) (collecting : Option Collecting) (e : Event) (stays : new.stop ≡ None) (plain : IsPlainStep e.step) (steps : Steps e old new)
+      (chain : ChangesTo (changes_by e.step e.answer) store after) where
+    abbrev later : Stored
+    later = stored_with e.step e.answer bytes stored
+
+    quietly : IsQuiet e.step e.answer → SparesAlone stored.files store collecting old → SparesAlone later.files after (collecting_after e.step e.answer collecting) new
+    quietly quiet spares =
+        let same_store : after ≡ store = subst (λ (changes : List StoreChange). ChangesTo changes store after) (quiet_changes e.step e.answer quiet) chain in
+        subst (λ (o : Option Collecting). SparesAlone later.files after o new) (sym (quiet_same e.step e.answer collecting quiet))
+        (subst (λ (s : Stored). SparesAlone s.files after collecting new) (sym (quiet_stored e.step e.answer bytes stored quiet))
+        (subst (λ (s : Store). SparesAlone stored.files s collecting new) (sym same_store)
+        (spares_still old new stored.files store (quiet_keeps e.step e.answer plain quiet stays steps.made.effect steps.stops).index_is (quiet_live e.step e.answer plain quiet steps.collects) collecting spares)))
+
+    pub spares_on : SparesAlone stored.files store collecting old → SparesAlone later.files after (collecting_after e.step e.answer collecting) new
+    spares_on spares = elim (quiet_or e.step e.answer collecting) [
+      | inl quiet ↦ quietly quiet spares
+      | inr is ↦ subst (λ (o : Option Collecting). SparesAlone later.files after o new) (sym is) (spares_disturbed later.files after collecting new)
+    ]
+
+-- what the machine says of it is so still
+pub follows_after : (step : StepValue) (answer : Result Answer Refusal) (collecting : Option Collecting) (c : CoreState) → FollowsCollection collecting c → FollowsCollection (collecting_after step answer collecting) c
+follows_after step answer collecting c follows = elim (quiet_or step answer collecting) [
+  | inl quiet ↦ subst (λ (o : Option Collecting). FollowsCollection o c) (sym (quiet_same step answer collecting quiet)) follows
+  | inr is ↦ subst (λ (o : Option Collecting). FollowsCollection o c) (sym is) (follows_disturbed collecting c follows)
+]
+
+-- one that runs ran before
+disturbed_begun : (o : Option Collecting) (collected : Bool) → ((k : Collecting) → o ≡ Some k → collected ≡ true) → (k : Collecting) → disturbed o ≡ Some k → collected ≡ true
+disturbed_begun None collected begun k is = absurd (let wrong = is in cc)
+disturbed_begun (Some j) collected begun k is = begun j refl
+
+pub begun_after : (step : StepValue) (answer : Result Answer Refusal) (o : Option Collecting) (collected : Bool) → ((k : Collecting) → o ≡ Some k → collected ≡ true) → (k : Collecting) → collecting_after step answer o ≡ Some k
+    → collected ≡ true
+begun_after step answer o collected begun k is = elim (quiet_or step answer o) [
+  | inl quiet ↦ begun k (sym (quiet_same step answer o quiet) ∙ is)
+  | inr same ↦ disturbed_begun o collected begun k (sym same ∙ is)
+]

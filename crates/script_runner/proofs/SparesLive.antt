@@ -1,0 +1,115 @@
+-- A collection spares the same containers where the same keys are live.
+use Rattle.std.proofs.Common.{ℕ, ◌≡◌, inl, inr, List, [], ◌∷◌, Option, Some, None, refl, sym, ◌∙◌, subst}
+use Rattle.container_meta.specs.declared.entry.Entry.{Entry}
+use Rattle.container_meta.specs.declared.kind.Kind.{Kind}
+use Rattle.container_meta.specs.declared.place.Place.{Place}
+use Rattle.container_meta.specs.Places.{PlaceMap}
+use Rattle.container_meta.specs.Spelling.{HeaderValue}
+use Rattle.gc_enumerate.specs.Live.{IsLiveAt, LiveKeys}
+use Rattle.gc_steps.specs.declared.collection.Collection.{Collection}
+use Rattle.gc_steps.specs.declared.collection.Stage.{Stage}
+use Rattle.gc_steps.specs.declared.collection.Stage.TheVariants.{Mark, Filter, Select, Copy, Release, End}
+use Rattle.gc_steps.specs.Entries.{HasLiveCopy}
+use Rattle.gc_steps.specs.Sparing.{IsSpared, IsSparedAt, Spares}
+use Rattle.store_model.specs.Files.{Files}
+use Rattle.store_model.specs.Image.{Store}
+use Rattle.store_model.specs.Indexing.{entry_key}
+use Rattle.store_model.specs.Reserve.{IsReachable}
+use Rattle.store_model.specs.Slots.{place_of}
+use Rattle.store_core.specs.Collecting.{MarksIn}
+use Rattle.store_core.specs.State.{CoreState}
+use Rattle.plain_machine.specs.Machine.{Collecting, disturbed}
+use Rattle.script_runner.specs.Follows.{FollowsCollection, SparesAlone}
+
+-- ---- by which keys are live
+
+-- each key that is live in the one is live in the other
+abbrev pub IsLiveIn : LiveKeys → LiveKeys → Type 0
+IsLiveIn live also = (key : List ℕ) (place : Place) → IsLiveAt live key place → IsLiveAt also key place
+
+module _ (index : PlaceMap) (c : Collection) (live : LiveKeys) (more : IsLiveIn c.live live) where
+  abbrev d : Collection
+  d = record c { live = live }
+
+  live_copy : (kind : Kind) (slot : ℕ) (es : List Entry) → HasLiveCopy index c.live kind slot es → HasLiveCopy index live kind slot es
+  live_copy kind slot [] has = absurd has
+  live_copy kind slot (e ∷ es) (inl here) = inl (here.0, more (entry_key kind e) (place_of slot e) here.1)
+  live_copy kind slot (e ∷ es) (inr there) = inr (live_copy kind slot es there)
+
+  still : (slot : ℕ) (h : HeaderValue) → IsSpared index c slot h → IsSpared index d slot h
+  still slot h is = live_copy h.kind slot h.entries is
+
+  spared_at : (stage : Stage) (slot : ℕ) (h : HeaderValue) → IsSparedAt stage index c slot h → IsSparedAt stage index d slot h
+  spared_at (Mark level at) slot h is = tt
+  spared_at (Filter at) slot h is = λ before. elim (is before) [ inl chosen ↦ inl chosen | inr copy ↦ inr (still slot h copy) ]
+  spared_at Select slot h (inl chosen) = inl chosen
+  spared_at Select slot h (inr copy) = inr (still slot h copy)
+  spared_at (Copy source) slot h (inl taken) = inl taken
+  spared_at (Copy source) slot h (inr copy) = inr (still slot h copy)
+  spared_at (Release next at) slot h (inl here) = inl here
+  spared_at (Release next at) slot h (inr (inl taken)) = inr (inl taken)
+  spared_at (Release next at) slot h (inr (inr copy)) = inr (inr (still slot h copy))
+  spared_at End slot h is = still slot h is
+
+  pub spares_live : (P : List ℕ → Type 0) (held : List (Option HeaderValue)) → IsLiveIn live c.live → Spares P index held c → Spares P index held d
+  spares_live P held back spares = record {
+    within = λ key place is. spares.within key place (back key place is);
+    all_old = spares.all_old;
+    spared = λ slot h there. spared_at c.stage slot h (spares.spared slot h there);
+  }
+
+-- ---- the collection of a core
+
+-- none began and none ended, and the same keys are live
+abbrev pub GoesAsLive : Option Collection → Option Collection → Type 0
+GoesAsLive None now = now ≡ None
+GoesAsLive (Some c) now = (live : LiveKeys) × ((now ≡ Some (record c { live = live })) × (IsLiveIn c.live live × IsLiveIn live c.live))
+
+pub same_live : (was now : Option Collection) → now ≡ was → GoesAsLive was now
+same_live None now same = same
+same_live (Some c) now same = (c.live, (same, ((λ key place is. is), (λ key place is. is))))
+
+-- where no key was marked
+pub none_marked : (P : List ℕ → Type 0) (was now : Option Collection) → ((key : List ℕ) → P key → ⊥) → MarksIn P was now → GoesAsLive was now
+none_marked P None now none marks = marks
+none_marked P (Some c) now none marks = (
+  marks.0,
+  (
+    marks.1.0,
+    (
+      (λ key place is. (marks.1.1 key place).1 (inl is)),
+      (λ key place is. elim ((marks.1.1 key place).0 is) [ inl was ↦ was | inr wrong ↦ absurd (none key wrong) ]),
+    ),
+  ),
+)
+
+module _ (old new : CoreState) (files : Files) (store : Store) (index_is : new.known ≡ old.known) (goes : GoesAsLive old.collection new.collection) where
+  by_running : (was : Option Collection) → old.collection ≡ was → GoesAsLive was new.collection
+      → ((index : PlaceMap) (c : Collection) → old.known ≡ Some index → old.collection ≡ Some c → Spares (IsReachable files) index store.held c)
+      → (index : PlaceMap) (c : Collection) → new.known ≡ Some index → new.collection ≡ Some c → Spares (IsReachable files) index store.held c
+  by_running None is none before index c known runs = absurd (let wrong : None ≡ Some c = sym none ∙ runs in cc)
+  by_running (Some b) is on before index c known runs =
+      let same : record b { live = on.0 } ≡ c = let both : Some (record b { live = on.0 }) ≡ Some c = sym on.1.0 ∙ runs in cc in
+      subst (λ (x : Collection). Spares (IsReachable files) index store.held x) same
+      (spares_live index b on.0 on.1.1.0 (IsReachable files) store.held on.1.1.1 (before index b (sym index_is ∙ known) is))
+
+  pub spares_still : (collecting : Option Collecting) → SparesAlone files store collecting old → SparesAlone files store collecting new
+  spares_still None spares = tt
+  spares_still (Some k) spares = λ alone. by_running old.collection refl goes (spares alone)
+
+-- ---- one that was disturbed
+
+pub spares_disturbed : (files : Files) (store : Store) (collecting : Option Collecting) (c : CoreState) → SparesAlone files store (disturbed collecting) c
+spares_disturbed files store None c = tt
+spares_disturbed files store (Some k) c = λ wrong. absurd (let no = wrong in cc)
+
+pub follows_disturbed : (collecting : Option Collecting) (c : CoreState) → FollowsCollection collecting c → FollowsCollection (disturbed collecting) c
+follows_disturbed None c follows = follows
+follows_disturbed (Some k) c follows = record {
+  collection = follows.collection;
+  runs = follows.runs;
+  freed_is = follows.freed_is;
+  most = follows.most;
+  few = follows.few;
+  nears = follows.nears;
+}

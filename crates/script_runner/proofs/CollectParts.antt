@@ -80,7 +80,7 @@ module _ (S : List ℕ → Type 0) (s : Store) (stored : Stored) (c : CoreState)
 -- ---- trees
 
 -- a tree has the key of its root
-pub root_within : (t : Tree (List ℕ)) (key : List ℕ) → IsRootOf key t → Contains (tree_keys t) key
+root_within : (t : Tree (List ℕ)) (key : List ℕ) → IsRootOf key t → Contains (tree_keys t) key
 root_within Empty key is = absurd is
 root_within (Leaf segment) key is = (0, omega arith, sym is)
 root_within (Node level ts) key is = (0, omega arith, sym is)

@@ -1,10 +1,5 @@
--- What a step of a collection that is refused leaves of it, and why a container that is given back is spare.
-use Rattle.std.proofs.Common.{◌≡◌, ◌⊎◌, inl, inr, ℕ, List, Option, Some, None, refl, sym, ◌∙◌, ap}
-use Rattle.std.specs.Prelude.{option_map, slice_get}
-use Rattle.container_meta.specs.declared.place.Place.{Place}
-use Rattle.container_meta.specs.Places.{PlaceMap}
-use Rattle.container_meta.specs.Spelling.{HeaderValue}
-use Rattle.actor_parts.specs.declared.part.Part.{Part}
+-- What a step of a collection that is refused leaves of it.
+use Rattle.std.proofs.Common.{◌≡◌, ◌⊎◌, inl, inr, ℕ, refl}
 use Rattle.refusals.specs.declared.refusal.Refusal.{Refusal}
 use Rattle.refusals.specs.declared.refusal.Refusal.TheVariants as refusals
 use Rattle.gc_steps.specs.declared.collection.Collection.{Collection}
@@ -12,12 +7,6 @@ use Rattle.gc_steps.specs.declared.collection.Stage.{Stage}
 use Rattle.gc_steps.specs.declared.collection.Stage.TheVariants.{Mark, Filter, Select, Copy as CopyStage, Release, End}
 use Rattle.gc_steps.specs.Marking.{MarksOnly}
 use Rattle.gc_steps.specs.Stepping.{Keeps}
-use Rattle.gc_steps.specs.SweepIsSafe.{HasNoEntryIn}
-use Rattle.store_model.specs.Files.{Files}
-use Rattle.store_model.specs.Image.{Store}
-use Rattle.store_model.specs.Reserve.{HoldsNone, IsReachable, IsSpare}
-use Rattle.store_model.specs.Slots.{Copy, newest}
-use Rattle.store_state.specs.Invariant.{CoreInvariant}
 use Rattle.store_core.specs.Collecting.{IsNotMade, at_moment}
 use Rattle.store_core.specs.State.{CoreState}
 use Rattle.script_runner.proofs.CollectCauses.{IsCauseAt}
@@ -71,19 +60,3 @@ module _ (old new : CoreState) where
 
   pub rest_marks : (refusal : Refusal) (row : IsNotMade refusal old new) → (row.after ≡ row.before) ⊎ MarksSome old new row.before row.after
   rest_marks refusal row = kept_or_marked row.before.stage refusal row.before row.after refl row.kept
-
--- ---- a container that is given back
-
--- where the index has no entry in the slot, and has the keys of the files
-module _ (index : PlaceMap) (store : Store) (files : Files) (parts : List Part) (image : List ℕ) (core : CoreInvariant index store files parts image) (slot : ℕ) (none : HasNoEntryIn index slot) where
-  place_is : (found : Option Copy) (copy : Copy) (place : Place) → found ≡ Some copy → option_map (λ c. c.place) found ≡ Some place → place ≡ copy.place
-  place_is found copy place is at = let both : Some place ≡ Some copy.place = sym at ∙ ap (option_map (λ (c : Copy). c.place)) is in cc
-
-  needs_none : HoldsNone (IsReachable files) store.held slot
-  needs_none key copy reachable is same =
-      let has = core.files_are_indexed key reachable in
-      let at : has.0 ≡ copy.place = place_is (newest 0 store.held key) copy has.0 is (core.index_is_newest key has.0 has.1) in
-      none key has.0 has.1 (ap (λ (p : Place). p.slot) at ∙ same)
-
-  pub gives_spare : (h : HeaderValue) → slice_get store.held slot ≡ Some (Some h) → IsSpare (IsReachable files) store.held slot
-  gives_spare h there = record { header = h; holds = there; none = needs_none }

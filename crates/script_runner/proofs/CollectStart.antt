@@ -16,6 +16,8 @@ use Rattle.gc_steps.specs.Roots.{IsRoot}
 use Rattle.gc_steps.specs.Sparing.{Spares}
 use Rattle.gc_steps.specs.StepsToCome.{old_from, steps_to_come}
 use Rattle.gc_steps.proofs.FewSources.{few_begun}
+use Rattle.gc_steps.proofs.Sparing as sparing
+use Rattle.namespace.specs.Names.{NameMap}
 use Rattle.store_model.specs.Collisions.{HasNoCollisions, ByteSet, IsIn, IsOf}
 use Rattle.store_model.specs.Image.{Store, names_of}
 use Rattle.store_model.specs.Reserve.{IsReachable}
@@ -179,12 +181,15 @@ module _ (C : Type 0) (state : C → CoreState) (among : ByteSet) (apart : HasNo
     roots_needed idle =
         roots_reachable held m.stored.files m.content (state old) (store_here (IsIn among) held m.stored (state old) at.running.begins.is_at m.content at.content_is) (none_at (IsIn among) m sessions (state old) at.running idle)
 
-    later_begun : ((key : List ℕ) → IsRoot (names_of held) (state old).parts key → Needs key) → (index : PlaceMap) → (state new).known ≡ Some index → Spares Needs index held.held begun.collection
-    later_begun roots index known = ?later_begun
+    needed_alone : ((key : List ℕ) → IsRoot (names_of held) (state old).parts key → Needs key) → (index : PlaceMap) → (state new).known ≡ Some index → Spares Needs index held.held begun.collection
+    needed_alone roots index known =
+        sparing.spares_begun Needs index held m.content (state old).tables.held begun.collection (right_here (IsIn among) held m.stored (state old) at.running.begins.is_at m.content at.content_is).slots_are
+        at.running.begins.is_at.represents.slots_hold begun.stage_is (omega (arith, begun.next_is, at.running.begins.last_id_is, at.running.begins.low))
+        (λ key place is. roots key (subst (λ (names : NameMap). IsRoot names (state old).parts key) at.running.begins.is_at.represents.names_are.names_are ((begun.live key place).0 is)))
 
     spares_begun : SparesAlone m.stored.files held (Some begins_so) (state new)
     spares_begun = λ idle index collection known runs.
-        subst (λ (c : Collection). Spares Needs index held.held c) (same_some begun.collection collection (state new).collection begun.runs runs) (later_begun (roots_needed idle) index known)
+        subst (λ (c : Collection). Spares Needs index held.held c) (same_some begun.collection collection (state new).collection begun.runs runs) (needed_alone (roots_needed idle) index known)
 
     -- where it leads
     pub record Started : Type 0 where

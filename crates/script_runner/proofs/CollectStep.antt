@@ -22,6 +22,8 @@ use Rattle.gc_steps.specs.Sparing.{Spares}
 use Rattle.gc_steps.specs.Stepping.{Keeps, StepsTo, TablesAfter, Touches, answer_at, moment, phase_at}
 use Rattle.gc_steps.specs.UnderWay.{IsUnderWay}
 use Rattle.gc_steps.proofs.UnderWay.{at_stage}
+use Rattle.gc_steps.proofs.Sparing as sparing
+use Rattle.gc_steps.specs.Marking.{MarksOnly}
 use Rattle.gc_steps.proofs.StepSafe.{IsStoreAfter, LeavesSafe, step_safe}
 use Rattle.store_model.specs.Collisions.{HasNoCollisions, ByteSet, IsIn, IsOf}
 use Rattle.store_model.specs.Image.{Encodes, Store}
@@ -55,7 +57,8 @@ use Rattle.script_runner.proofs.CollectBytes.{GivesNothing, breaks_gate, but_gat
 use Rattle.script_runner.proofs.CollectCauses.{IsCauseAt, IsCollectCause, cause_at, freed_on, collect_cause, phase_is}
 use Rattle.script_runner.proofs.CollectionOn.{by_collection, same_come}
 use Rattle.script_runner.proofs.CollectParts.{gc_event, part_still}
-use Rattle.script_runner.proofs.CollectSpares.{IsRestCause, MarksSome, gives_spare, rest_index, rest_marks}
+use Rattle.script_runner.proofs.CollectNeeds.{needs_closed, needs_here, told_here}
+use Rattle.script_runner.proofs.CollectSpares.{IsRestCause, MarksSome, rest_index, rest_marks}
 use Rattle.script_runner.proofs.Harmless.{is_harmless}
 use Rattle.script_runner.proofs.MostSteps.{many_ids}
 use Rattle.script_runner.proofs.PlainSteps.{GoesUnchanged}
@@ -358,7 +361,7 @@ module _ (C : Type 0) (state : C → CoreState) (among : ByteSet) (apart : HasNo
               store = at.running.begins.store;
               was = right C state among apart m sessions old new at did buf made;
               slot = frees.slot;
-              spare = gives_spare begins.index at.running.begins.store m.stored.files (state old).parts m.content invariant frees.slot frees.none frees.header frees.there;
+              spare = sparing.ready_is_spare begins.index at.running.begins.store m.stored.files frees.slot frees.header frees.there invariant.index_is_newest invariant.files_are_indexed frees.none;
               now = subst (Encodes image_now) frees.now_is encodes_now;
               rest = gate_changed at.running.begins.store.slots (state old).tables (state old).disk (state new).disk m.content image_now at.content_is (told C state among apart m sessions old new at did buf made)
                   begins.valid.size_is frees.next frees.slot (omega (arith, within, begins.valid.many))
@@ -385,14 +388,19 @@ module _ (C : Type 0) (state : C → CoreState) (among : ByteSet) (apart : HasNo
         let spares = subst (λ (o : Option Collecting). SparesAlone m.stored.files at.running.begins.store o (state old)) has.is at.running.begins.spares in
         spares alone begins.index goes.before begins.index_known goes.ran
 
-    later_step : Spares Needs begins.index at.running.begins.store.held goes.before → Spares Needs leaves.later leaves.store_now.held goes.after
-    later_step spares = ?later_step
+    spares_step : Spares Needs begins.index at.running.begins.store.held goes.before → Spares Needs leaves.later leaves.store_now.held goes.after
+    spares_step spares =
+        sparing.spares_step Needs begins.index at.running.begins.store m.stored.files m.content (state old).tables (state new).known (state old).disk (state new).disk goes.before goes.after
+        (needs_here (IsIn among) at.running.begins.store m.stored (state old) begins m.content at.content_is) (told_here (IsIn among) at.running.begins.store m.stored (state old) begins) at.content_is (needs_closed (IsIn among) at.running.begins.store m.stored (state old) begins m.content at.content_is) spares (state new).tables
+        (under C state among apart m sessions old new at did buf made goes.before goes.ran)
+        (subst (λ (known : Option PlaceMap). StepsTo goes.before.stage (moment (state old).tables known (state old).disk goes.before) (at_moment (state new) goes.after)) begins.index_known goes.steps)
+        leaves.later leaves.known_is leaves.store_now leaves.store_is
 
     spares_now : SparesAlone m.stored.files led_to (Some goes_so) (state new)
     spares_now = λ alone index collection known runs.
         subst (λ (s : Store). Spares Needs index s.held collection) led_is
         (subst (λ (i : PlaceMap). Spares Needs i leaves.store_now.held collection) (same_index leaves.later index (state new).known leaves.known_is known)
-        (subst (λ (c : Collection). Spares Needs leaves.later leaves.store_now.held c) (same_some goes.after collection (state new).collection goes.runs runs) (later_step (spared alone))))
+        (subst (λ (c : Collection). Spares Needs leaves.later leaves.store_now.held c) (same_some goes.after collection (state new).collection goes.runs runs) (spares_step (spared alone))))
 
     nothing : (stage : Stage) → goes.before.stage ≡ stage → GivesNothing stage → SameStore m.content image_now
     nothing stage is none =
@@ -450,14 +458,14 @@ module _ (C : Type 0) (state : C → CoreState) (among : ByteSet) (apart : HasNo
     abbrev ended_at : IsAt (IsIn among) at.running.begins.store m.stored (state old)
     ended_at = at.running.begins.is_at
 
-    later_ended : Spares (IsReachable m.stored.files) ended_at.index at.running.begins.store.held ended.before → EachHolds (IsReachable m.stored.files) at.running.begins.store.held
-    later_ended spares = ?later_ended
+    spares_ended : Spares (IsReachable m.stored.files) ended_at.index at.running.begins.store.held ended.before → EachHolds (IsReachable m.stored.files) at.running.begins.store.held
+    spares_ended spares = sparing.spares_ended (IsReachable m.stored.files) ended_at.index at.running.begins.store ended.before ((told_here (IsIn among) at.running.begins.store m.stored (state old) ended_at).index_is_newest ended_at.index refl) ended.at_end spares
 
     -- where it ran alone, each container that is left is needed
     none_spare : has_ended.collecting.alone ≡ true → OfStore m.content (λ store. EachHolds (IsReachable m.stored.files) store.held)
     none_spare alone =
         let spares = subst (λ (o : Option Collecting). SparesAlone m.stored.files at.running.begins.store o (state old)) has_ended.is at.running.begins.spares in
-        (at.running.begins.store, (right C state among apart m sessions old new at done buf made, later_ended (spares alone ended_at.index ended.before ended_at.index_known ended.ran)))
+        (at.running.begins.store, (right C state among apart m sessions old new at done buf made, spares_ended (spares alone ended_at.index ended.before ended_at.index_known ended.ran)))
 
     pub ended_step : Collected (EndsCollection freed copied m)
     ended_step = record {
@@ -569,13 +577,16 @@ module _ (C : Type 0) (state : C → CoreState) (among : ByteSet) (apart : HasNo
     abbrev SparesAt : Collection → Type 0
     SparesAt c = Spares (IsReachable m.stored.files) begins_then.index at.running.begins.store.held c
 
-    later_refused : MarksSome (state old) (state new) row.before row.after → SparesAt row.before → SparesAt row.after
-    later_refused marks spares = ?later_refused
+    marked_spares : MarksSome (state old) (state new) row.before row.after → SparesAt row.before → SparesAt row.after
+    marked_spares marks spares =
+        sparing.some_spares (IsReachable m.stored.files) begins_then.index at.running.begins.store m.stored.files m.content (state old).tables (state new).known (state old).disk (state new).disk row.before row.after
+        (needs_here (IsIn among) at.running.begins.store m.stored (state old) begins_then m.content at.content_is) (told_here (IsIn among) at.running.begins.store m.stored (state old) begins_then) at.content_is (needs_closed (IsIn among) at.running.begins.store m.stored (state old) begins_then m.content at.content_is) spares marks.level marks.slot marks.stage_is
+        (subst (λ (known : Option PlaceMap). MarksOnly known (state old).disk (state new).disk marks.level marks.slot row.before row.after) begins_then.index_known marks.only)
 
     spares_after : SparesAt row.before → SparesAt row.after
     spares_after spares = elim (rest_marks (state old) (state new) refusal row) [
       | inl same ↦ subst SparesAt (sym same) spares
-      | inr marks ↦ later_refused marks spares
+      | inr marks ↦ marked_spares marks spares
     ]
 
     index_then : IsRestCause refusal → (state new).known ≡ (state old).known

@@ -1,5 +1,5 @@
 -- What becomes of a collection that runs alone over a step that is none of it: it does so still where the step disturbs nothing.
-use Rattle.std.proofs.Common.{Bool, true, ◌≡◌, ◌⊎◌, inl, inr, ◌∙◌, ℕ, List, [], Option, Some, None, Result, Ok, Err, refl, sym, subst, ap}
+use Rattle.std.proofs.Common.{Bool, true, ◌≡◌, ◌⊎◌, inl, inr, ◌∙◌, ℕ, List, [], Option, Some, None, Result, Ok, Err, refl, sym, subst}
 use Rattle.actor_parts.specs.declared.step.Answer.{Answer}
 use Rattle.actor_parts.specs.StepValue as asked
 use Rattle.actor_parts.specs.StepValue.{StepValue}

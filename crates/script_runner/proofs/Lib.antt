@@ -2,6 +2,7 @@ pub mod Along
 pub mod BrokenStep
 pub mod CollectBytes
 pub mod CollectCauses
+pub mod CollectNeeds
 pub mod CollectParts
 pub mod CollectSpares
 pub mod CollectStart

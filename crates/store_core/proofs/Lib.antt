@@ -20,5 +20,4 @@ pub mod OwnParts
 pub mod RunningOn
 pub mod SafeSteps
 pub mod Sealing
-pub mod SparedRest
 pub mod Stepping

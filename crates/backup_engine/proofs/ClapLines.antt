@@ -107,6 +107,10 @@ module _ (words : List Text) (texts : AreTexts words) where
   unfolding clap_on_literals
   delete_line = named (codes "delete") words refl refl ∙ one_answers (codes "delete")
 
+  collect_line : clap_line (codes "collect" ∷ words) ≡ line_by (codes "collect") words
+  unfolding clap_on_literals
+  collect_line = named (codes "collect") words refl refl ∙ one_answers (codes "collect")
+
   list_line : clap_line (codes "list" ∷ words) ≡ line_by (codes "list") words
   unfolding clap_on_literals
   list_line = named (codes "list") words refl refl ∙ none_taken (codes "list") (Some (Single table.List)) words texts
@@ -124,17 +128,18 @@ record IsNoName (word : Text) : Type 0 where
   ingest : (bytes_eq (codes "ingest") word ≡ false) × (bytes_eq word (codes "ingest") ≡ false)
   restore : (bytes_eq (codes "restore") word ≡ false) × (bytes_eq word (codes "restore") ≡ false)
   delete : (bytes_eq (codes "delete") word ≡ false) × (bytes_eq word (codes "delete") ≡ false)
+  collect : (bytes_eq (codes "collect") word ≡ false) × (bytes_eq word (codes "collect") ≡ false)
 
 not_met : (word : Text) → IsNoName word → subcommand_met names idle word ≡ None
 not_met word other =
-    rw (other.format.0, other.ingest.0, other.restore.0, other.delete.0, other.list.0, other.run.0) refl
+    rw (other.format.0, other.ingest.0, other.restore.0, other.delete.0, other.collect.0, other.list.0, other.run.0) refl
 
 no_line : (word : Text) (words : List Text) → IsNoName word → line_by word words ≡ None
 no_line word words other = rw (other.run.1, other.list.1) (go (argument_of words))
   where
     go : (argument : Option Text) → option_map Single (option_and_then (command_of word) argument) ≡ None
     go None = refl
-    go (Some a) = rw (other.format.1, other.ingest.1, other.restore.1, other.delete.1) refl
+    go (Some a) = rw (other.format.1, other.ingest.1, other.restore.1, other.delete.1, other.collect.1) refl
 
 separator_first : (words : List Text) (answer : Option TableLine) → unless (fault_of table_app (codes "--" ∷ words)) answer ≡ None
 unfolding clap_on_literals
@@ -188,14 +193,18 @@ first_line word words text texts = elim (is_name (codes "run") word) [
           | inl is ↦ at_name (codes "restore") is (restore_line words texts)
           | inr restore ↦ elim (is_name (codes "delete") word) [
             | inl is ↦ at_name (codes "delete") is (delete_line words texts)
-            | inr delete ↦ unnamed word words (look_of word text) (record {
-              run = run;
-              list = list;
-              format = format;
-              ingest = ingest;
-              restore = restore;
-              delete = delete;
-            })
+            | inr delete ↦ elim (is_name (codes "collect") word) [
+              | inl is ↦ at_name (codes "collect") is (collect_line words texts)
+              | inr collect ↦ unnamed word words (look_of word text) (record {
+                run = run;
+                list = list;
+                format = format;
+                ingest = ingest;
+                restore = restore;
+                delete = delete;
+                collect = collect;
+              })
+            ]
           ]
         ]
       ]

@@ -87,8 +87,8 @@ module _ (S : List ℕ → Type 0) (name : List ℕ) (sequence : ℕ) (m : Store
   leaves found d may of = subst (λ (x : Stored). IsOf S x d) (after found may) of
 
   pub done_map : (ending : Option Ending) (sink sink_now : SinkView) → IsDone ending → WroteReply (deleted_line name) ending sink sink_now → KeepsMap S (Delete name) [] ending m v w sink sink_now
-  done_map None sink sink_now done wrote = keeps_map S (lines.Delete name) (replies.Deleted sequence) m image v w one told (Delete name) None sink sink_now deletes.there wrote deletes.there adds leaves
-  done_map (Some Sink) sink sink_now done wrote = keeps_map S (lines.Delete name) (replies.Deleted sequence) m image v w one told (Delete name) (Some Sink) sink sink_now deletes.there wrote deletes.there adds leaves
+  done_map None sink sink_now done wrote = keeps_map S (lines.Delete name) (replies.Deleted sequence) m image v w one told (Delete name) None sink sink_now deletes.there wrote deletes.there adds (λ store right. tt) leaves
+  done_map (Some Sink) sink sink_now done wrote = keeps_map S (lines.Delete name) (replies.Deleted sequence) m image v w one told (Delete name) (Some Sink) sink sink_now deletes.there wrote deletes.there adds (λ store right. tt) leaves
   done_map (Some ending) sink sink_now done wrote = absurd done
 
 -- ---- it was refused
@@ -125,7 +125,7 @@ module _ (S : List ℕ → Type 0) (name : List ℕ) (refusal : Refusal) (m : St
 
   undone : (r : Refusal) (sink : SinkView) → ¬ (r ≡ DiskWrite) → Same → EndsBy (Delete name) [] m w.content (Some (Refused r)) → Kept r sink
   undone r sink other same by_map =
-      keeps_map S (lines.Delete name) (replies.Refused refusal) m image v w one told (Delete name) (Some (Refused r)) sink sink by_map refl tt (added_so r (same_content same))
+      keeps_map S (lines.Delete name) (replies.Refused refusal) m image v w one told (Delete name) (Some (Refused r)) sink sink by_map refl tt (added_so r (same_content same)) (λ store right. tt)
       (λ found d may of. left_so r d (subst (λ (x : Stored). IsOf S x d) (same_found same found may) of))
 
   may_delete : (name_is : IsName name) (there : is_some (finite.get m.files name) ≡ true) → MayDelete name (room_of (Delete name) m is.0)
@@ -152,7 +152,7 @@ module _ (S : List ℕ → Type 0) (name : List ℕ) (refusal : Refusal) (m : St
       undone Numbers sink (λ no. cc) why.3
       (left_with S m image w.content (λ store. MayDelete name (room_of (Delete name) m store) × LacksNumbers (room_of (Delete name) m store)) (same_content why.3) is (may_delete why.0 why.1, lacks_numbers why.2))
   by_refusal DiskWrite sink why =
-      keeps_map S (lines.Delete name) (replies.Refused refusal) m image v w one told (Delete name) (Some (Refused DiskWrite)) sink sink tt refl tt (λ store right. tt)
+      keeps_map S (lines.Delete name) (replies.Refused refusal) m image v w one told (Delete name) (Some (Refused DiskWrite)) sink sink tt refl tt (λ store right. tt) (λ store right. tt)
       (λ found d may of. may_be_gone found d why.1 one.last why.5 may of)
   by_refusal r sink why = absurd why
 

@@ -3,6 +3,15 @@ pub mod Called
 pub mod ClapLines
 pub mod ClapWords
 pub mod Clashes
+pub mod CollectBegun
+pub mod CollectCauses
+pub mod CollectFaults
+pub mod CollectFrame
+pub mod CollectKept
+pub mod CollectLines
+pub mod CollectMap
+pub mod CollectSteps
+pub mod CollectsKept
 pub mod Commanded
 pub mod Committed
 pub mod DeleteKept

@@ -62,9 +62,9 @@ module _ (S : List ℕ → Type 0) (files : List NamedRoot) (m : Stored) (image 
 
   pub listed_keeps : (ending : Option Ending) (sink sink_now : SinkView) → IsDone ending → WroteReply (listing_text files) ending sink sink_now → KeepsMap S table.List [] ending m v w sink sink_now
   listed_keeps None sink sink_now done wrote =
-      keeps_map S lines.ListNames (replies.Listed files) m image v w one told table.List None sink sink_now tt (wrote_files None sink sink_now wrote) tt adds leaves
+      keeps_map S lines.ListNames (replies.Listed files) m image v w one told table.List None sink sink_now tt (wrote_files None sink sink_now wrote) tt adds (λ store right. tt) leaves
   listed_keeps (Some Sink) sink sink_now done wrote =
-      keeps_map S lines.ListNames (replies.Listed files) m image v w one told table.List (Some Sink) sink sink_now tt (wrote_files (Some Sink) sink sink_now wrote) tt adds leaves
+      keeps_map S lines.ListNames (replies.Listed files) m image v w one told table.List (Some Sink) sink sink_now tt (wrote_files (Some Sink) sink sink_now wrote) tt adds (λ store right. tt) leaves
   listed_keeps (Some ending) sink sink_now done wrote = absurd done
 
 -- they are the files of the map, which stays

@@ -16,7 +16,7 @@ use Rattle.store_model.specs.Files.{Stored, no_files}
 use Rattle.store_model.specs.Image.{empty_store}
 use Rattle.store_model.specs.Standing.{IsFormatted}
 use Rattle.backup_engine.specs.AnyDisk.{Formats}
-use Rattle.backup_engine.specs.Line.{CommandLine, Format, Ingest, Restore, Delete, TableLine, Single, Run}
+use Rattle.backup_engine.specs.Line.{CommandLine, Format, Ingest, Restore, Delete, Collect, TableLine, Single, Run}
 use Rattle.backup_engine.specs.Line as table
 use Rattle.backup_engine.specs.Lines.{RunsBy}
 use Rattle.backup_engine.specs.PlainMap.{map_after}
@@ -85,6 +85,7 @@ module _ (S : List ℕ → Type 0) (c : Call) (m : Stored) (v w : DiskView) wher
   command_leaves (Restore name) keeps = whole_leaves (Restore name) keeps
   command_leaves (Delete name) keeps = whole_leaves (Delete name) keeps
   command_leaves table.List keeps = whole_leaves table.List keeps
+  command_leaves (Collect percent) keeps = whole_leaves (Collect percent) keeps
 
 -- the maps after a call, from those that have P
 abbrev pub After : (Stored → Type 0) → Option TableLine → Call → Stored → Type 0
@@ -205,6 +206,7 @@ module _ (D : Type 0) (view : D → DiskView) (among : ByteSet) (apart : HasNoCo
   answers_line (Some (Single (Restore name))) c m v w image given told opens does = does.whole image told among m apart given.given opens
   answers_line (Some (Single (Delete name))) c m v w image given told opens does = does.whole image told among m apart given.given opens
   answers_line (Some (Single table.List)) c m v w image given told opens does = does.whole image told among m apart given.given opens
+  answers_line (Some (Single (Collect percent))) c m v w image given told opens does = does.whole image told among m apart given.given opens
   answers_line (Some Run) c m v w image given told opens does = does.lines image told among m apart (λ start. given.cut m start v.faults) opens
 
   -- the map that a call finds in the content

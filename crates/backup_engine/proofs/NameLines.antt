@@ -26,13 +26,13 @@ use Rattle.backup_engine.specs.TopCall.{ending_in}
 use Rattle.backup_engine.proofs.Saying.{line_then}
 
 -- a line with no actor
-no_actor : (line : LineValue) → actor_of line ≡ None → IsOfActor line
+pub no_actor : (line : LineValue) → actor_of line ≡ None → IsOfActor line
 no_actor line none actor is = absurd (let both = sym none ∙ is in cc)
 
 pub one_actor : (line : LineValue) → actor_of line ≡ None → (reply : _) (rs : List Replied) → rs ≡ said line reply ∷ [] → AreOfActors rs
 one_actor line none reply rs are = subst AreOfActors (sym are) (no_actor line none, tt)
 
-no_line : (rs : List Replied) → rs ≡ [] → AreOfActors rs
+pub no_line : (rs : List Replied) → rs ≡ [] → AreOfActors rs
 no_line rs none = subst AreOfActors (sym none) tt
 
 pub delete_actors : (name : List ℕ) (ending : Option Ending) (sink sink_now : SinkView) (rs : List Replied) → IsDelete name ending sink sink_now rs → AreOfActors rs

@@ -18,7 +18,7 @@ use Rattle.store_state.specs.Refused.{fails}
 use Rattle.recovery.specs.Opening.{IsOpenRefusal, Opens}
 use Rattle.store_core.specs.Opening.{IsGivenUp, IsNotRead}
 use Rattle.store_core.specs.State.{CoreState}
-use Rattle.backup_engine.specs.Line.{CommandLine, Format, Ingest, Restore, Delete}
+use Rattle.backup_engine.specs.Line.{CommandLine, Format, Ingest, Restore, Delete, Collect}
 use Rattle.backup_engine.specs.Line as table
 use Rattle.backup_engine.specs.Promise.{EndsBy, IsLeftWith}
 use Rattle.backup_engine.specs.AnyDisk.{Holds, IsCaused, Took, WroteOnAny, EndsDurable}
@@ -42,6 +42,7 @@ no_memory (Ingest name) given S m old content told is = left_with S m old conten
 no_memory (Restore name) given S m old content told is = left_with S m old content (λ store. Unit {0}) told is tt
 no_memory (Delete name) given S m old content told is = left_with S m old content (λ store. Unit {0}) told is tt
 no_memory table.List given S m old content told is = left_with S m old content (λ store. Unit {0}) told is tt
+no_memory (Collect percent) given S m old content told is = left_with S m old content (λ store. Unit {0}) told is tt
 
 -- and whatever the command is
 memory_answers : (command : CommandLine) (given : List ℕ) (v w : DiskView) (sink : SinkView) → OnlyReads v w → AnswersEach command given (Some (Refused Memory)) v w sink sink
@@ -81,6 +82,13 @@ list_failed given S m old content told is Memory fails = left_with S m old conte
 list_failed given S m old content told is DiskRead fails = left_with S m old content (λ store. Unit {0}) told is tt
 list_failed given S m old content told is DiskWrite fails = left_with S m old content (λ store. Unit {0}) told is tt
 list_failed given S m old content told is refusal fails = absurd (false_not_true fails)
+
+collect_failed : (percent : ℕ) (given : List ℕ) (S : List ℕ → Type 0) (m : Stored) (old : List ℕ) (content : Option (List ℕ)) → content ≡ Some old → IsOf S m old → (refusal : Refusal) → IsTrue (fails refusal)
+    → EndsBy (Collect percent) given m content (Some (Refused refusal))
+collect_failed percent given S m old content told is Memory fails = left_with S m old content (λ store. Unit {0}) told is tt
+collect_failed percent given S m old content told is DiskRead fails = left_with S m old content (λ store. Unit {0}) told is tt
+collect_failed percent given S m old content told is DiskWrite fails = tt
+collect_failed percent given S m old content told is refusal fails = absurd (false_not_true fails)
 
 -- ---- a store that was not opened
 
@@ -123,6 +131,12 @@ module _ (v w : DiskView) (refusal : Refusal) (is : IsUnopened v w refusal) (sin
   list_answers old known among m distinct right stands = record {
     by_map = list_failed [] (IsIn among) m old w.content (is.reads.only.content_is ∙ known) stands refusal (map_fails v w refusal is (IsIn among) m old known stands);
     wrote = wrote_nothing table.List [] m (Refused refusal) sink (not_sink refusal);
+  }
+
+  collect_answers : (percent : ℕ) → AnswersEach (Collect percent) [] (Some (Refused refusal)) v w sink sink
+  collect_answers percent old known among m distinct right stands = record {
+    by_map = collect_failed percent [] (IsIn among) m old w.content (is.reads.only.content_is ∙ known) stands refusal (map_fails v w refusal is (IsIn among) m old known stands);
+    wrote = wrote_nothing (Collect percent) [] m (Refused refusal) sink (not_sink refusal);
   }
 
 ingest_caused : (v w : DiskView) (name given : List ℕ) (source : SourceView) (sink : SinkView) (refusal : Refusal) → IsOpenRefusal (Shows v w) v.size refusal
@@ -189,6 +203,13 @@ list_caused v w source sink DiskRead cause = tt
 list_caused v w source sink DiskWrite cause = tt
 list_caused v w source sink refusal cause = cause
 
+collect_caused : (v w : DiskView) (percent : ℕ) (source : SourceView) (sink : SinkView) (refusal : Refusal) → IsOpenRefusal (Shows v w) v.size refusal
+    → IsCaused (Collect percent) [] v w source source sink sink (Some (Refused refusal))
+collect_caused v w percent source sink Memory cause = tt
+collect_caused v w percent source sink DiskRead cause = tt
+collect_caused v w percent source sink DiskWrite cause = tt
+collect_caused v w percent source sink refusal cause = inl cause
+
 pub unopened_delete : (v w : DiskView) (refusal : Refusal) → IsUnopened v w refusal → (name : List ℕ) (source : SourceView) (sink : SinkView)
     → Keeps (Delete name) [] (Some (Refused refusal)) v w source source sink sink
 unopened_delete v w refusal is name source sink = record {
@@ -225,6 +246,24 @@ unopened_list v w refusal is source sink = record {
   untouched = tt;
 }
 
+pub unopened_collect : (v w : DiskView) (refusal : Refusal) → IsUnopened v w refusal → (percent : ℕ) (source : SourceView) (sink : SinkView)
+    → Keeps (Collect percent) [] (Some (Refused refusal)) v w source source sink sink
+unopened_collect v w refusal is percent source sink = record {
+  map = reads_map (Collect percent) [] (Refused refusal) v w sink sink is.reads.only (not_sink refusal) (collect_answers v w refusal is sink percent);
+  any = record {
+    took = (refl, refl);
+    caused = collect_caused v w percent source sink refusal is.cause;
+    wrote = refl;
+    faults_are = is.reads.faults_are;
+    durable = tt;
+    source_faults = λ other. refl;
+    sink_faults = λ other. refl;
+  };
+  frame = reads_frame (Collect percent) (Some (Refused refusal)) v w is.reads.only;
+  blank = tt;
+  untouched = tt;
+}
+
 -- ---- no memory before the disk was called
 
 left_blank : (command : CommandLine) (v w : DiskView) → OnlyReads v w → IsLeftBlank command v w
@@ -233,6 +272,7 @@ left_blank (Ingest name) v w reads = tt
 left_blank (Restore name) v w reads = tt
 left_blank (Delete name) v w reads = tt
 left_blank table.List v w reads = tt
+left_blank (Collect percent) v w reads = tt
 
 memory_untouched : (command : CommandLine) (v w : DiskView) → OnlyReads v w → IsUntouched command (Some (Refused Memory)) v w
 memory_untouched (Format slots) v w reads = (reads.content_is, λ old known. reads.images_are)
@@ -240,6 +280,7 @@ memory_untouched (Ingest name) v w reads = tt
 memory_untouched (Restore name) v w reads = tt
 memory_untouched (Delete name) v w reads = tt
 memory_untouched table.List v w reads = tt
+memory_untouched (Collect percent) v w reads = tt
 
 memory_wrote : (command : CommandLine) (given : List ℕ) (v w : DiskView) (sink : SinkView) → WroteOnAny command given (Some (Refused Memory)) v w sink sink
 memory_wrote (Format slots) given v w sink = refl
@@ -247,6 +288,7 @@ memory_wrote (Ingest name) given v w sink = refl
 memory_wrote (Restore name) given v w sink = inl refl
 memory_wrote (Delete name) given v w sink = refl
 memory_wrote table.List given v w sink = refl
+memory_wrote (Collect percent) given v w sink = refl
 
 memory_durable : (command : CommandLine) (w : DiskView) → EndsDurable command (Some (Refused Memory)) w
 memory_durable (Format slots) w = tt
@@ -254,6 +296,7 @@ memory_durable (Ingest name) w = tt
 memory_durable (Restore name) w = tt
 memory_durable (Delete name) w = tt
 memory_durable table.List w = tt
+memory_durable (Collect percent) w = tt
 
 -- There was no memory, and the disk was read at most.
 pub without_memory : (command : CommandLine) (given : List ℕ) (v w : DiskView) (source source_now : SourceView) (sink : SinkView) → Reads NoFault v w → Took command given (Some (Refused Memory)) source source_now → source_now.faults ≡ source.faults

@@ -130,6 +130,7 @@ module _ (C : Type 0) (state : C → CoreState) (v w : DiskView) (old new : C) (
     by_map = by_map;
     wrote = wrote;
     added = λ first known store right. adds store (subst (λ (bytes : List ℕ). Encodes bytes store) (one_image first image (sym known ∙ told)) right);
+    gave_back = λ first known store right. tt;
     left = inl ((content_left.0, content_left.1, at_end content_left.0 content_left.2), λ c there. at_end c (images_left c there));
     crash = leaves_more (LeftMeanwhile S name given m put) (MayBeMeanwhile S (Ingest name) given m ending) v w between left_meanwhile;
   }

@@ -13,10 +13,10 @@ use Rattle.store_model.specs.Files.{Stored}
 use Rattle.store_model.specs.Image.{Store, Encodes}
 use Rattle.store_model.specs.Standing.{IsSegmentOf}
 use Rattle.backup_engine.specs.Adding.{Adds}
-use Rattle.backup_engine.specs.Line.{CommandLine, Format, Ingest, Restore, Delete}
+use Rattle.backup_engine.specs.Line.{CommandLine, Format, Ingest, Restore, Delete, Collect}
 use Rattle.backup_engine.specs.Line as table
 use Rattle.backup_engine.specs.Promise as promise
-use Rattle.backup_engine.specs.Promise.{EndsBy, WroteFile, IsLeftAs, LeavesMeanwhile, SinceStart, NothingWritten, KeepsMap, KeepsEachMap}
+use Rattle.backup_engine.specs.Promise.{EndsBy, GivesBack, WroteFile, IsLeftAs, LeavesMeanwhile, SinceStart, NothingWritten, KeepsMap, KeepsEachMap}
 use Rattle.backup_engine.specs.Frame.{KeepsRest, KeepsOthers}
 use Rattle.backup_engine.specs.TopCall.{IsSameDisk}
 
@@ -28,6 +28,7 @@ kept (Ingest name) ending old = inl refl
 kept (Restore name) ending old = refl
 kept (Delete name) ending old = inl refl
 kept table.List ending old = refl
+kept (Collect percent) ending old = inl refl
 
 -- of a disk of which all is as it was there was no more than reads
 pub same_reads : (v w : DiskView) → IsSameDisk v w → OnlyReads v w
@@ -91,9 +92,23 @@ added_none (Delete name) given Sink store old content not told right = absurd (n
 added_none (Delete name) given (Refused DiskWrite) store old content not told right = tt
 added_none (Delete name) given ending store old content not told right = (old, told, right)
 added_none table.List given ending store old content not told right = (old, told, right)
+added_none (Collect percent) given ending store old content not told right = tt
 added_none (Ingest name) given Sink store old content not told right = absurd (not refl)
 added_none (Ingest name) given (Refused DiskWrite) store old content not told right = tt
 added_none (Ingest name) given ending store old content not told right = record { changes = []; after = store; chain = refl; once = tt; content_is = (old, told, right) }
+
+-- and gives nothing back
+pub gave_none : (command : CommandLine) (ending : Ending) (store : Store) (old : List ℕ) (content : Option (List ℕ)) (sink sink_now : SinkView) → ¬ (ending ≡ Sink) → content ≡ Some old → Encodes old store
+    → GivesBack command (Some ending) store old content sink sink_now
+gave_none (Collect percent) Sink store old content sink sink_now not told right = absurd (not refl)
+gave_none (Collect percent) (Refused DiskWrite) store old content sink sink_now not told right = tt
+gave_none (Collect percent) ending store old content sink sink_now not told right =
+    (0, (old, told, record { slots = []; many = refl; after = store; chain = refl; right = right; stays = λ slot h is. (is, refl) }))
+gave_none (Format slots) ending store old content sink sink_now not told right = tt
+gave_none (Ingest name) ending store old content sink sink_now not told right = tt
+gave_none (Restore name) ending store old content sink sink_now not told right = tt
+gave_none (Delete name) ending store old content sink sink_now not told right = tt
+gave_none table.List ending store old content sink sink_now not told right = tt
 
 -- what was not done, and only read
 pub reads_map : (command : CommandLine) (given : List ℕ) (ending : Ending) (v w : DiskView) (sink sink_now : SinkView) → OnlyReads v w → ¬ (ending ≡ Sink) → AnswersEach command given (Some ending) v w sink sink_now
@@ -104,6 +119,7 @@ reads_map command given ending v w sink sink_now reads not answers old known amo
       by_map = answer.by_map;
       wrote = answer.wrote;
       added = λ first told store right. added_none command given ending store first w.content not (reads.content_is ∙ told) right;
+      gave_back = λ first told store right. gave_none command ending store first w.content sink sink_now not (reads.content_is ∙ told) right;
       left = inr (record { not_done = (ending, refl, not); content = reads.content_is; images = reads.images_are });
       crash = reads_leave v w reads _;
     }
@@ -126,6 +142,7 @@ reads_restore name given ending v w sink sink_now reads durable answers old know
       by_map = answer.by_map;
       wrote = answer.wrote;
       added = λ first first_is store right. tt;
+      gave_back = λ first first_is store right. tt;
       left = inl ((old, told, left), λ c image. subst (λ (b : List ℕ). IsLeftAs (IsIn among) (Restore name) given m ending b) (sym (durable old told c image)) left);
       crash = reads_leave v w reads _;
     }
@@ -153,3 +170,5 @@ wrote_nothing (Delete name) given m Sink sink not = absurd (not refl)
 wrote_nothing (Delete name) given m ending sink not = refl
 wrote_nothing table.List given m Sink sink not = absurd (not refl)
 wrote_nothing table.List given m ending sink not = refl
+wrote_nothing (Collect percent) given m Sink sink not = absurd (not refl)
+wrote_nothing (Collect percent) given m ending sink not = (0, refl)

@@ -8,10 +8,10 @@ use Rattle.refusals.specs.declared.refusal.Refusal.TheVariants.{Memory}
 use Rattle.reply_text.specs.declared.ending.Ending.TheVariants.{Words, Refused}
 use Rattle.reply_text.specs.Table.{status_of}
 use Rattle.script_lines.specs.Reader.{ReadsTellScripts}
-use Rattle.backup_engine.specs.Line.{TableLine, Single, Run, Format, Ingest, Restore, Delete}
+use Rattle.backup_engine.specs.Line.{TableLine, Single, Run, Format, Ingest, Restore, Delete, Collect}
 use Rattle.backup_engine.specs.Line as table
 use Rattle.backup_engine.specs.Seen.{Seen}
-use Rattle.backup_engine.specs.Singles.{IsDelete, IsIngest, IsListing, IsRestore}
+use Rattle.backup_engine.specs.Singles.{IsCollect, IsDelete, IsIngest, IsListing, IsRestore}
 use Rattle.backup_engine.specs.TopCall.{IsSameDisk, Does, Promise, IsNoted, AreNoted, status_by}
 use Rattle.backup_engine.proofs.NotDone.{not_begun}
 use Rattle.backup_engine.proofs.Opens.{does_without_memory, runs_without_memory}
@@ -77,6 +77,8 @@ memory_does D view (Some (Single (Delete name))) v source sink laws =
     ([], ([], does_without_memory D view v source sink (Delete name) [] (not_begun (Delete name) [] v source sink (refl, refl)) (unbegun_speaks (IsDelete name (Some (Refused Memory)) sink sink) v sink (inl (refl, refl), refl))))
 memory_does D view (Some (Single table.List)) v source sink laws =
     ([], ([], does_without_memory D view v source sink table.List [] (not_begun table.List [] v source sink (refl, refl)) (unbegun_speaks (IsListing (Some (Refused Memory)) sink sink) v sink (inl (refl, inl refl), refl))))
+memory_does D view (Some (Single (Collect percent))) v source sink laws =
+    ([], ([], does_without_memory D view v source sink (Collect percent) [] (not_begun (Collect percent) [] v source sink (refl, refl)) (unbegun_speaks (IsCollect percent (Some (Refused Memory)) sink sink) v sink (inl (refl, inl refl), refl))))
 memory_does D view (Some Run) v source sink laws = ([], ([], runs_without_memory D view v source sink (no_memory_kept v source sink laws)))
 
 pub memory_promise : (D : Type 0) (view : D → DiskView) (line : Option TableLine) (status : ℕ) (v : DiskView) (source : SourceView) (sink notes notes_now : SinkView) → ReadsTellScripts → status ≡ status_of (Refused Memory) → IsNoted notes notes_now (Refused Memory)

@@ -15,14 +15,15 @@ use Rattle.journal_cells.specs.declared.fault.CellFault.{CellFault}
 use Rattle.recovery.specs.Opening.{IsOpenRefusal, IsSized, BreaksFormat, BreaksJournal, BreaksSlots, HasWrongSize}
 use Rattle.recovery.specs.Slots.{IsDamagedSlot}
 use Rattle.read_steps.specs.Walking.{WasRead, IsNextRefusal, IsTopRefusal, IsCopyRefusal, top_key}
-use Rattle.backup_engine.specs.AnyDisk.{Holds, HasAdded, ReadsSince, GivesBack, IsDeleted, IsStuck, IsRefused, IsStored, IsCaused, WroteOnAny, EndsDurable}
+use Rattle.backup_engine.specs.AnyDisk.{Holds, HasAdded, HasGivenBack, ReadsSince, GivesBack, IsDeleted, IsStuck, IsRefused, IsStored, IsCaused, IsUncollected, SaysFreed, ShownSince, WroteOnAny, EndsDurable}
 use Rattle.backup_engine.specs.Frame.{KeepsOthers}
-use Rattle.backup_engine.specs.Line.{CommandLine, Ingest, Restore, Delete}
+use Rattle.backup_engine.specs.Line.{CommandLine, Ingest, Restore, Delete, Collect}
 use Rattle.backup_engine.specs.Line as table
 use Rattle.store_model.specs.Collisions.{ByteSet, IsIn}
 use Rattle.backup_engine.specs.Promise.{KeepsEachMap, IsLeftAs, Stands, NothingWritten}
 use Rattle.backup_engine.specs.TopCall.{Keeps}
 use Rattle.backup_engine.proofs.UnlikeNodes.{found, unlike_so}
+use Rattle.backup_engine.proofs.CollectFaults.{bad_header_so, unmarked_so}
 
 module _ (loans loans_now : List ℕ) (v w : DiskView) where
   abbrev v' : DiskView
@@ -254,6 +255,43 @@ module _ (loans loans_now : List ℕ) (v w : DiskView) where
     list_wrote (Some Sink) is = (holds is.0, is.1)
     list_wrote (Some ending) is = is
 
+    given_back_so : (freed : ℕ) → HasGivenBack freed lent lent_now → HasGivenBack freed v w
+    given_back_so freed is = record { holds = holds is.holds; slots = is.slots; many = is.many; after = is.after; chain = is.chain }
+
+    says_freed : (ending : Option Ending) → SaysFreed ending lent lent_now sink sink_now → SaysFreed ending v w sink sink_now
+    says_freed ending is = (is.0, (given_back_so is.0 is.1.0, is.1.1))
+
+    shown_since : (P : List ℕ → Type 0) → ShownSince lent lent_now P → ShownSince v w P
+    shown_since P is = record { parts = is.parts; returned = is.returned; known = is.known; shows = is.shows }
+
+    uncollected : (is : Holds lent lent_now) (refusal : Refusal) → IsUncollected is refusal → IsUncollected (holds is) refusal
+    uncollected is refusal (inl bad) = inl (bad_header_so lent lent_now v w shown_since refusal bad)
+    uncollected is refusal (inr (index, (all, unmarked))) = inr (index, (all, unmarked_so lent lent_now v w shown_since index refusal unmarked))
+
+    collect_refused : (percent : ℕ) (refusal : Refusal) → IsRefused (Collect percent) given lent lent_now source source_now sink sink_now refusal → IsRefused (Collect percent) given v w source source_now sink sink_now refusal
+    collect_refused percent DiskRead is = is
+    collect_refused percent DiskWrite is = is
+    collect_refused percent refusal (inl is) = inl (opens refusal is)
+    collect_refused percent refusal (inr is) = inr (holds is.0, uncollected is.0 refusal is.1)
+
+    collect_caused : (percent : ℕ) (ending : Option Ending) → IsCaused (Collect percent) given lent lent_now source source_now sink sink_now ending → IsCaused (Collect percent) given v w source source_now sink sink_now ending
+    collect_caused percent None is = is
+    collect_caused percent (Some Source) is = (is.0, added given is.1, is.2)
+    collect_caused percent (Some Sink) is = is
+    collect_caused percent (Some (Refused Memory)) is = is
+    collect_caused percent (Some (Refused refusal)) is = collect_refused percent refusal is
+    collect_caused percent (Some ending) is = absurd is
+
+    collect_wrote : (percent : ℕ) (ending : Option Ending) → WroteOnAny (Collect percent) given ending lent lent_now sink sink_now → WroteOnAny (Collect percent) given ending v w sink sink_now
+    collect_wrote percent None is = says_freed None is
+    collect_wrote percent (Some Sink) is = says_freed (Some Sink) is
+    collect_wrote percent (Some ending) is = is
+
+    collect_durable : (percent : ℕ) (ending : Option Ending) → EndsDurable (Collect percent) ending lent_now → EndsDurable (Collect percent) ending w
+    collect_durable percent None is = is
+    collect_durable percent (Some Sink) is = is
+    collect_durable percent (Some ending) is = tt
+
     kept_left : (command : CommandLine) (ending : Option Ending) (among : ByteSet) (m : Stored) → Stands (IsLeftAs (IsIn among) command given m ending) lent_now ⊎ NothingWritten ending lent lent_now
         → Stands (IsLeftAs (IsIn among) command given m ending) w ⊎ NothingWritten ending v w
     kept_left command ending among m (inl is) = inl is
@@ -262,7 +300,7 @@ module _ (loans loans_now : List ℕ) (v w : DiskView) where
     map_kept : (command : CommandLine) (ending : Option Ending) → KeepsEachMap command given ending lent lent_now sink sink_now → KeepsEachMap command given ending v w sink sink_now
     map_kept command ending each = λ old told among m apart segments is.
         let kept = each old told among m apart segments is in
-        record { by_map = kept.by_map; wrote = kept.wrote; added = kept.added; left = kept_left command ending among m kept.left; crash = record { now = kept.crash.now; since = kept.crash.since } }
+        record { by_map = kept.by_map; wrote = kept.wrote; added = kept.added; gave_back = kept.gave_back; left = kept_left command ending among m kept.left; crash = record { now = kept.crash.now; since = kept.crash.since } }
 
     frame_kept : (command : CommandLine) (ending : Option Ending) → KeepsOthers command ending lent lent_now → KeepsOthers command ending v w
     frame_kept command ending is = record { content = is.content; crash = λ old told. let leaves = is.crash old told in record { now = leaves.now; since = leaves.since } }
@@ -331,6 +369,23 @@ module _ (loans loans_now : List ℕ) (v w : DiskView) where
         sink_faults = is.any.sink_faults;
       };
       frame = frame_kept table.List ending is.frame;
+      blank = is.blank;
+      untouched = is.untouched;
+    }
+
+    pub collect_kept : (percent : ℕ) (ending : Option Ending) → Keeps (Collect percent) given ending lent lent_now source source_now sink sink_now → Keeps (Collect percent) given ending v w source source_now sink sink_now
+    collect_kept percent ending is = record {
+      map = map_kept (Collect percent) ending is.map;
+      any = record {
+        took = is.any.took;
+        caused = collect_caused percent ending is.any.caused;
+        wrote = collect_wrote percent ending is.any.wrote;
+        faults_are = is.any.faults_are;
+        durable = collect_durable percent ending is.any.durable;
+        source_faults = is.any.source_faults;
+        sink_faults = is.any.sink_faults;
+      };
+      frame = frame_kept (Collect percent) ending is.frame;
       blank = is.blank;
       untouched = is.untouched;
     }

@@ -14,7 +14,7 @@ use Rattle.store_model.specs.Pieces.{HasPieceOf}
 use Rattle.store_model.specs.Steps.{StoreChange, SealContainer, ChangeName, FreeContainer, with_sealed, with_change}
 use Rattle.store_model.specs.Trees.{root_of}
 use Rattle.store_core.specs.Runs.{ChangesTo}
-use Rattle.backup_engine.specs.Line.{CommandLine, Format, Ingest, Restore, Delete}
+use Rattle.backup_engine.specs.Line.{CommandLine, Format, Ingest, Restore, Delete, Collect}
 use Rattle.backup_engine.specs.Line as table
 
 -- Containers are added, each under the next id, with pieces of the file that no container before it holds.
@@ -41,7 +41,7 @@ IsStore store content = KnownWith content (λ image. Encodes image store)
 
 -- What a command adds to the store that the content was: an `ingest` some pieces, and its name where it was done, but perhaps
 -- for its reply; a `delete` that was done a record of it, and nothing else. Of a write or a sync of these that failed it says nothing.
--- A `list` leaves the store.
+-- A `list` leaves the store. What a `collect` gives back is said beside its reply (Collected.antt).
 abbrev pub Adds : CommandLine → List ℕ → Option Ending → Store → Option (List ℕ) → Type 0
 Adds (Format slots) given ending store content = Unit {0}
 Adds (Ingest name) given None store content = AddsTo given (with_change name (Put (root_of given))) store content
@@ -54,3 +54,4 @@ Adds (Delete name) given (Some Sink) store content = IsStore (with_change name G
 Adds (Delete name) given (Some (Refused DiskWrite)) store content = Unit {0}
 Adds (Delete name) given (Some ending) store content = IsStore store content
 Adds table.List given ending store content = IsStore store content
+Adds (Collect percent) given ending store content = Unit {0}

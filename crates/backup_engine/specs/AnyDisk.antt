@@ -5,8 +5,10 @@ use Rattle.std.specs.List.{AllByRecursion, concat}
 use Rattle.base_model.specs.Bytes.{byte_at}
 use Rattle.base_model.specs.Fault.{Rose}
 use Rattle.base_model.specs.Known.{Known, KnownWith, Appended}
+use Rattle.container_log.specs.Faults.{IsDamage}
+use Rattle.container_log.specs.Parts.{header_bytes}
 use Rattle.disk_format.specs.declared.numbers.TheConstants.{FORMAT_GATE, RESERVE}
-use Rattle.disk_format.specs.Layout.{IsSlotCount, size_of}
+use Rattle.disk_format.specs.Layout.{IsSlotCount, size_of, slot_at}
 use Rattle.namespace.specs.Listing.{listing_of}
 use Rattle.disk_format.specs.Cells.{Root}
 use Rattle.disk_format.specs.Cells.Change.{Put, Delete as Gone}
@@ -17,30 +19,39 @@ use Rattle.dd_disk.specs.Ending as device
 use Rattle.dd_disk.specs.Shows.{Part, HasPart, Shows}
 use Rattle.dd_io.specs.Flow.{SourceView, SinkView, AppendedPart}
 use Rattle.container_meta.specs.Places.{PlaceMap}
+use Rattle.container_meta.specs.Spelling.{HeaderValue, IsHeader}
 use Rattle.container_meta.specs.declared.kind.Kind.TheVariants.{Tree}
+use Rattle.container_meta.specs.declared.place.Place.{Place}
+use Rattle.gc_enumerate.specs.Live.{LiveKeys}
+use Rattle.gc_enumerate.specs.Scanning.{IsScanFault}
+use Rattle.gc_enumerate.specs.declared.fault.ScanFault.{ScanFault}
+use Rattle.gc_steps.specs.Marking.{scan_for}
+use Rattle.gc_steps.specs.Scanning.{step_refusal}
 use Rattle.merkle_file.specs.declared.top.Top.{Top}
 use Rattle.merkle_file.specs.Node.{Contents, node_digest, spelling}
 use Rattle.merkle_file.specs.Walk.{start_of}
 use Rattle.refusals.specs.declared.refusal.Refusal.{Refusal}
-use Rattle.refusals.specs.declared.refusal.Refusal.TheVariants.{Memory, DiskRead, DiskWrite}
+use Rattle.refusals.specs.declared.refusal.Refusal.TheVariants.{Memory, DiskRead, DiskWrite, Damaged}
 use Rattle.reply_text.specs.declared.ending.Ending.{Ending}
 use Rattle.reply_text.specs.declared.ending.Ending.TheVariants.{Words, Source, Sink, Line, Script, Refused}
 use Rattle.reply_text.specs.Text.{formatted_line, stored_line, deleted_line, listing_text}
 use Rattle.store_model.specs.Image.{Store, Encodes, names_of, last_sequence}
 use Rattle.store_model.specs.Pieces.{Node, IsPieceOf}
-use Rattle.store_model.specs.Slots.{Copy, IsIndexOf, free_slots, newest}
+use Rattle.store_model.specs.Slots.{Copy, HoldsSlot, IsIndexOf, free_slots, newest}
 use Rattle.store_model.specs.Standing.{HasJournal, IsFormatted}
 use Rattle.store_model.specs.Steps.{StoreChange, with_change}
-use Rattle.store_model.specs.Trees.{node_key, root_of}
+use Rattle.store_model.specs.Trees.{bytes_at, node_key, root_of}
 use Rattle.store_state.specs.Comparing.{IsNodeRefusal}
 use Rattle.store_state.specs.Refused.{blames}
+use Rattle.store_state.specs.Settled.{IsSettled}
 use Rattle.recovery.specs.Opening.{IsOpenRefusal}
 use Rattle.recovery.specs.Formatting.{IsFormatRefusal}
 use Rattle.read_steps.specs.Opening.{HasRoot, top_of}
 use Rattle.read_steps.specs.Walking.{GivesAll, IsNextRefusal}
 use Rattle.store_core.specs.Runs.{ChangesTo}
 use Rattle.backup_engine.specs.Adding.{AddsOnce}
-use Rattle.backup_engine.specs.Line.{CommandLine, Format, Ingest, Restore, Delete, name_of}
+use Rattle.backup_engine.specs.Collected.{collected_line, frees}
+use Rattle.backup_engine.specs.Line.{CommandLine, Format, Ingest, Restore, Delete, Collect, name_of}
 use Rattle.backup_engine.specs.Line as table
 use Rattle.backup_engine.specs.PlainMap.{HasNumbers, Room, room, RefusesIngest, RefusesRestore, RefusesDelete, MayDelete, HasAll}
 use Rattle.backup_engine.specs.Promise.{WroteReply}
@@ -117,6 +128,53 @@ IsStuck {name} {ending} {disk} {disk_now} given refusal =
     (index : PlaceMap) × IsIndexOf given.holds.store.held index
     × IsNextRefusal (Some index) (λ at why image. ⊥) disk disk_now given.ahead refusal
 
+-- ---- a collection
+
+-- By the tables of the core the containers of some slots were given back, one after the other, so many, each of which stood there in its
+-- turn.
+pub record HasGivenBack (freed : ℕ) (disk disk_now : DiskView) : Type 0 where
+  pub holds : Holds disk disk_now
+  pub slots : List ℕ
+  pub many : freed ≡ length slots
+  pub after : Store
+  pub chain : ChangesTo (frees slots) holds.store after
+
+-- Reads since a moment returned parts by which each image of the disk's size that has them has P; where the disk tells its content
+-- now, the content has P.
+pub record ShownSince (disk disk_now : DiskView) (P : List ℕ → Type 0) : Type 0 where
+  pub parts : List Part
+  pub returned : AllByRecursion (λ part. disk_now.read_returned disk.clock part.at part.bytes) parts
+  pub known : Known disk_now.content P
+  pub shows : (image : List ℕ) → length image ≡ disk.size → AllByRecursion (HasPart image) parts → P image
+
+abbrev pub ShownThere : DiskView → DiskView → Place → List ℕ → Type 0
+ShownThere disk disk_now place bytes = ShownSince disk disk_now (λ image. bytes_at place image ≡ bytes)
+
+-- in the place of a container's header is what breaks its form
+abbrev pub HasBadHeader : DiskView → DiskView → Refusal → Type 0
+HasBadHeader disk disk_now (Damaged at why) =
+    (slot : ℕ) × ((at ≡ slot_at slot) × IsDamage (λ bytes. ShownSince disk disk_now (λ image. header_bytes slot image ≡ bytes)) why)
+HasBadHeader disk disk_now refusal = ⊥
+
+-- Marking stopped in a container, by one of its entries: what is there is not the node of its digest, or no node, or the index has no
+-- place for a child of it.
+pub record IsUnmarked (index : PlaceMap) (disk disk_now : DiskView) (refusal : Refusal) : Type 0 where
+  pub slot : ℕ
+  pub level : ℕ
+  pub header : HeaderValue
+  pub right : IsHeader header
+  pub shown : ShownSince disk disk_now (λ image. HoldsSlot image slot (Some header))
+  pub live : LiveKeys
+  pub fault : ScanFault
+  pub refusal_is : refusal ≡ step_refusal fault
+  pub cause : IsScanFault (scan_for (Some index) live slot level header) (ShownThere disk disk_now) (λ at why. ⊥) header.entries fault
+
+-- Why a collection of the store that the disk holds went no further. The index, while it marks, is that of the store.
+abbrev pub IsUncollected : {disk disk_now : DiskView} → Holds disk disk_now → Refusal → Type 0
+IsUncollected {disk} {disk_now} holds refusal =
+    HasBadHeader disk disk_now refusal
+    ⊎ ((index : PlaceMap) × (IsIndexOf holds.store.held index × IsUnmarked index disk disk_now refusal))
+
 -- ---- causes
 
 -- Why a command is refused. A call of the disk that failed is told by its count of faults.
@@ -144,6 +202,10 @@ IsRefused (Delete name) given disk disk_now source source_now sink sink_now refu
 IsRefused table.List given disk disk_now source source_now sink sink_now DiskRead = Unit {0}
 IsRefused table.List given disk disk_now source source_now sink sink_now DiskWrite = Unit {0}
 IsRefused table.List given disk disk_now source source_now sink sink_now refusal = IsOpenRefusal (Shows disk disk_now) disk.size refusal
+IsRefused (Collect percent) given disk disk_now source source_now sink sink_now DiskRead = Unit {0}
+IsRefused (Collect percent) given disk disk_now source source_now sink sink_now DiskWrite = Unit {0}
+IsRefused (Collect percent) given disk disk_now source source_now sink sink_now refusal =
+    IsOpenRefusal (Shows disk disk_now) disk.size refusal ⊎ ((holds : Holds disk disk_now) × IsUncollected holds refusal)
 
 -- An `ingest` that was done: each piece of the file is held, the name has room, and its record had its numbers. The disk's journal is
 -- now that with the name, whatever its containers hold, where no record was open after the store's own.
@@ -169,6 +231,7 @@ IsDone (Ingest name) given disk disk_now = IsStored name given disk disk_now
 IsDone (Restore name) given disk disk_now = Unit {0}
 IsDone (Delete name) given disk disk_now = IsDeleted name disk disk_now
 IsDone table.List given disk disk_now = Unit {0}
+IsDone (Collect percent) given disk disk_now = Unit {0}
 
 abbrev pub IsCaused : CommandLine → List ℕ → DiskView → DiskView → SourceView → SourceView → SinkView → SinkView → Option Ending → Type 0
 IsCaused command given disk disk_now source source_now sink sink_now None = IsDone command given disk disk_now
@@ -190,6 +253,11 @@ abbrev pub ListsNames : Option Ending → DiskView → DiskView → SinkView →
 ListsNames ending disk disk_now sink sink_now =
     (holds : Holds disk disk_now) × WroteReply (listing_text (listing_of (names_of holds.store))) ending sink sink_now
 
+-- It was said how many containers were given back.
+abbrev pub SaysFreed : Option Ending → DiskView → DiskView → SinkView → SinkView → Type 0
+SaysFreed ending disk disk_now sink sink_now =
+    (freed : ℕ) × (HasGivenBack freed disk disk_now × WroteReply (collected_line freed) ending sink sink_now)
+
 abbrev pub WroteOnAny : CommandLine → List ℕ → Option Ending → DiskView → DiskView → SinkView → SinkView → Type 0
 WroteOnAny (Format slots) given ending disk disk_now sink sink_now = WroteReply (formatted_line slots) ending sink sink_now
 WroteOnAny (Ingest name) given ending disk disk_now sink sink_now = WroteReply (stored_line name (root_of given)) ending sink sink_now
@@ -201,6 +269,9 @@ WroteOnAny (Delete name) given ending disk disk_now sink sink_now = WroteReply (
 WroteOnAny table.List given None disk disk_now sink sink_now = ListsNames None disk disk_now sink sink_now
 WroteOnAny table.List given (Some Sink) disk disk_now sink sink_now = ListsNames (Some Sink) disk disk_now sink sink_now
 WroteOnAny table.List given (Some ending) disk disk_now sink sink_now = sink_now.written ≡ sink.written
+WroteOnAny (Collect percent) given None disk disk_now sink sink_now = SaysFreed None disk disk_now sink sink_now
+WroteOnAny (Collect percent) given (Some Sink) disk disk_now sink sink_now = SaysFreed (Some Sink) disk disk_now sink sink_now
+WroteOnAny (Collect percent) given (Some ending) disk disk_now sink sink_now = sink_now.written ≡ sink.written
 
 -- it was read to its end, where the command was done, but perhaps for its reply
 abbrev pub IsReadToEnd : Option Ending → SourceView → Type 0
@@ -215,6 +286,7 @@ Took (Ingest name) given ending source source_now = Known source.left (λ all. (
 Took (Restore name) given ending source source_now = (given ≡ []) × (source_now.left ≡ source.left)
 Took (Delete name) given ending source source_now = (given ≡ []) × (source_now.left ≡ source.left)
 Took table.List given ending source source_now = (given ≡ []) × (source_now.left ≡ source.left)
+Took (Collect percent) given ending source source_now = (given ≡ []) × (source_now.left ≡ source.left)
 
 -- ---- all of it
 
@@ -225,10 +297,17 @@ disk_ending (Some (Refused refusal)) = ending_of (blames refusal)
 disk_ending (Some Sink) = Done
 disk_ending (Some ending) = ending_of NoCall
 
--- a command that writes, and was done, ends with all of it on the disk
+-- all before the end of the slots is on the disk
+abbrev pub IsSettledDisk : DiskView → Type 0
+IsSettledDisk disk_now = (slots : ℕ) → disk_now.size ≡ size_of slots → IsSettled slots disk_now
+
+-- A command that writes, and was done, ends with all of it on the disk. A collection may leave what lies after the slots.
 abbrev pub EndsDurable : CommandLine → Option Ending → DiskView → Type 0
 EndsDurable (Restore name) ending disk_now = Unit {0}
 EndsDurable table.List ending disk_now = Unit {0}
+EndsDurable (Collect percent) None disk_now = IsSettledDisk disk_now
+EndsDurable (Collect percent) (Some Sink) disk_now = IsSettledDisk disk_now
+EndsDurable (Collect percent) (Some ending) disk_now = Unit {0}
 EndsDurable command None disk_now = IsDurable disk_now
 EndsDurable command (Some Sink) disk_now = IsDurable disk_now
 EndsDurable command (Some ending) disk_now = Unit {0}

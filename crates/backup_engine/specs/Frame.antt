@@ -1,5 +1,6 @@
 -- What commands never change, whatever the disk holds (docs/MODEL.md, 'The promise').
-use Rattle.std.specs.Prelude.{◌≡◌, ◌⊎◌, ℕ, ◌-◌, ◌≤◌, ◌<◌, List, length, Option}
+use Rattle.std.specs.Prelude.{◌≡◌, ◌⊎◌, ℕ, ◌+◌, ◌-◌, ◌≤◌, ◌<◌, List, length, Option}
+use Rattle.std.specs.List.{AllByRecursion}
 use Rattle.base_model.specs.Bytes.{range, byte_at}
 use Rattle.base_model.specs.Frames.{SameOutside}
 use Rattle.base_model.specs.Known.{Known, KnownWith}
@@ -9,16 +10,18 @@ use Rattle.disk_format.specs.Cells.{Root}
 use Rattle.disk_format.specs.Cells.Change.{Put, Delete as Gone}
 use Rattle.disk_format.specs.Layout.{half_cells, cell_at, slot_at}
 use Rattle.journal_cells.specs.Checkpoints.{SameButHalf}
+use Rattle.store_model.specs.Freeing.{HasNoGate}
 use Rattle.store_model.specs.Image.{Store, Encodes}
 use Rattle.store_model.specs.Slots.{free_slots}
 use Rattle.store_model.specs.Standing.{HasJournal}
 use Rattle.store_model.specs.Steps.{HasCellsFor, with_change}
+use Rattle.store_core.specs.Frame.{HadContainer}
 use Rattle.ingest_steps.specs.Naming.{StandsStill}
 use Rattle.reply_text.specs.declared.ending.Ending.{Ending}
 use Rattle.plain_machine.specs.Content.{SameJournal}
 use Rattle.plain_machine.specs.Runs.{Replied}
 use Rattle.script_runner.specs.Frame.{KeepsOver, NeverSweeps}
-use Rattle.backup_engine.specs.Line.{CommandLine, Format, Ingest, Restore, Delete}
+use Rattle.backup_engine.specs.Line.{CommandLine, Format, Ingest, Restore, Delete, Collect}
 use Rattle.backup_engine.specs.Line as table
 use Rattle.backup_engine.specs.Promise.{LeavesMeanwhile, MayChange}
 
@@ -56,6 +59,21 @@ pub record KeepsButRecord (name : List ℕ) (ending : Option Ending) (old new : 
   pub same : SameButRecordOf store old new
   pub names : HasJournal store old → StandsStill HasJournal store new ⊎ HasJournal (with_change name Gone store) new
 
+-- all before the end of a store's slots is as it was, but the gates of these
+pub record SameButGatesOf (store : Store) (slots : List ℕ) (old new : List ℕ) : Type 0 where
+  pub size_is : length new ≡ length old
+  pub same : (at count : ℕ) → at + count ≤ slot_at store.slots → HasNoGate slots at count → range at count new ≡ range at count old
+
+-- The content held a store that is opened. But the gates of some slots, each of which had a container, all before the end of the slots is as
+-- it was: so the format cell, the journal, and all that slots have behind their gates.
+pub record KeepsButGates (old new : List ℕ) : Type 0 where
+  pub store : Store
+  pub right : Encodes old store
+  pub reserve : RESERVE ≤ free_slots store.held
+  pub slots : List ℕ
+  pub had : AllByRecursion (HadContainer store) slots
+  pub same : SameButGatesOf store slots old new
+
 -- What a command leaves of any content. Of a disk with no store a `format` says itself what it leaves.
 abbrev pub KeepsRest : CommandLine → Option Ending → List ℕ → List ℕ → Type 0
 KeepsRest (Format slots) ending old new = byte_at 0 old ≡ FORMAT_GATE → new ≡ old
@@ -63,6 +81,7 @@ KeepsRest (Ingest name) ending old new = (new ≡ old) ⊎ KeepsOpen name ending
 KeepsRest (Restore name) ending old new = new ≡ old
 KeepsRest (Delete name) ending old new = (new ≡ old) ⊎ KeepsButRecord name ending old new
 KeepsRest table.List ending old new = new ≡ old
+KeepsRest (Collect percent) ending old new = (new ≡ old) ⊎ KeepsButGates old new
 
 -- And so it is of what a crash leaves at any moment, but for what one might have left before.
 pub record KeepsOthers (command : CommandLine) (ending : Option Ending) (disk disk_now : DiskView) : Type 0 where

@@ -1,5 +1,7 @@
 pub mod Adding
 pub mod AnyDisk
+pub mod Collected
+pub mod Collecting
 pub mod Frame
 pub mod Giving
 pub mod Line

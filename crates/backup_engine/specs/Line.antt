@@ -14,6 +14,7 @@ pub data CommandLine : Type 0 where
   Restore : (name : ListOf ℕ) → CommandLine
   Delete : (name : ListOf ℕ) → CommandLine
   List : CommandLine
+  Collect : (percent : ℕ) → CommandLine
 
 -- a line of the table: one command, or the script that the source has
 pub data TableLine : Type 0 where
@@ -27,6 +28,7 @@ name_of (Ingest name) = name
 name_of (Restore name) = name
 name_of (Delete name) = name
 name_of List = []
+name_of (Collect percent) = []
 
 -- `--` and each longer word that begins with a dash; a dash alone is a word like others
 abbrev pub is_dashed : ListOf ℕ → Bool
@@ -66,12 +68,17 @@ slots_of word =
     if is_number word && nat_le LEAST_SLOTS (digits_value 10 word) && nat_le (digits_value 10 word) MOST_SLOTS
     then Some (digits_value 10 word) else None
 
+-- the percentage that a word stands for: 0 alone so far, since only containers of which nothing is live are taken
+abbrev pub percent_of : ListOf ℕ → Option ℕ
+percent_of word = if bytes_eq word (codes "0") then Some 0 else None
+
 abbrev pub command_of : ListOf ℕ → ListOf ℕ → Option CommandLine
 command_of command argument =
     if bytes_eq command (codes "format") then option_map Format (slots_of argument)
     else if bytes_eq command (codes "ingest") then Some (Ingest argument)
     else if bytes_eq command (codes "restore") then Some (Restore argument)
     else if bytes_eq command (codes "delete") then Some (Delete argument)
+    else if bytes_eq command (codes "collect") then option_map Collect (percent_of argument)
     else None
 
 -- a last separator is passed over

@@ -2,7 +2,7 @@
 use Rattle.std.specs.Prelude.{ℕ, Option, Some, None}
 use Rattle.disk_format.specs.Layout.{IsSlotCount, size_of}
 use Rattle.backup_engine.specs.declared.words.Command.{Command}
-use Rattle.backup_engine.specs.declared.words.Command.TheVariants.{Format, Ingest, Restore, Delete, List}
+use Rattle.backup_engine.specs.declared.words.Command.TheVariants.{Format, Ingest, Restore, Delete, List, Collect}
 use Rattle.backup_engine.specs.declared.words.Line.{Line}
 use Rattle.backup_engine.specs.declared.words.Line.TheVariants.{Single, Run}
 use Rattle.backup_engine.specs.Line as table
@@ -13,6 +13,7 @@ command_value (Ingest name) = table.Ingest name.now
 command_value (Restore name) = table.Restore name.now
 command_value (Delete name) = table.Delete name.now
 command_value List = table.List
+command_value (Collect percent) = table.Collect percent
 
 abbrev pub line_value : Line → table.TableLine
 line_value (Single command) = table.Single (command_value command)
@@ -25,6 +26,7 @@ IsRightCommand (Ingest name) = Unit {0}
 IsRightCommand (Restore name) = Unit {0}
 IsRightCommand (Delete name) = Unit {0}
 IsRightCommand List = Unit {0}
+IsRightCommand (Collect percent) = Unit {0}
 
 abbrev pub IsRightLine : Line → Type 0
 IsRightLine (Single command) = IsRightCommand command

@@ -14,7 +14,7 @@ use Rattle.store_model.specs.Slots.{newest, free_slots, last_id}
 use Rattle.merkle_file.specs.Node.{Contents}
 use Rattle.store_model.specs.Pieces.{Piece, Node, IsPieceOf, piece_key, piece_bytes}
 use Rattle.store_model.specs.Trees.{node_key}
-use Rattle.backup_engine.specs.Line.{CommandLine, Format, Ingest, Restore, Delete, name_of}
+use Rattle.backup_engine.specs.Line.{CommandLine, Format, Ingest, Restore, Delete, Collect, name_of}
 use Rattle.backup_engine.specs.Line as table
 
 -- The map after a command that is done: names to byte lists, and the last sequence number. `given` is what the source gave.
@@ -24,6 +24,7 @@ map_after (Ingest name) given m = with_stored m name given
 map_after (Restore name) given m = m
 map_after (Delete name) given m = without_stored m name
 map_after table.List given m = m
+map_after (Collect percent) given m = m
 
 -- What is so of a command that is done. A disk that stands for a map has a store, so `format` is never done there.
 abbrev pub CanBeDone : CommandLine → List ℕ → Stored → Type 0
@@ -32,6 +33,7 @@ CanBeDone (Ingest name) given m = IsName name × (length given ≤ MOST_FILE)
 CanBeDone (Restore name) given m = is_some (finite.get m.files name) ≡ true
 CanBeDone (Delete name) given m = is_some (finite.get m.files name) ≡ true
 CanBeDone table.List given m = Unit {0}
+CanBeDone (Collect percent) given m = Unit {0}
 
 -- What refusals go by: whether the name has a file, how many names have one, the last sequence number; and of the disk its
 -- size, how many slots are free, the last container id, how many records the half of the journal has that counts, its generation, and
@@ -154,3 +156,5 @@ Refuses (Delete name) given room DiskWrite = Unit {0}
 Refuses (Delete name) given room refusal = RefusesDelete name room refusal
 Refuses table.List given room DiskWrite = Unit {0}
 Refuses table.List given room refusal = ⊥
+Refuses (Collect percent) given room DiskWrite = Unit {0}
+Refuses (Collect percent) given room refusal = ⊥

@@ -21,7 +21,8 @@ use Rattle.store_model.specs.Standing.{IsStoreOf, IsSegmentOf, file_listing}
 use Rattle.store_model.specs.Trees.{bytes_at, node_key, root_of}
 use Rattle.store_state.specs.Comparing.{FirstDifference}
 use Rattle.backup_engine.specs.Adding.{Adds}
-use Rattle.backup_engine.specs.Line.{CommandLine, Format, Ingest, Restore, Delete}
+use Rattle.backup_engine.specs.Collected.{Collected, collected_line}
+use Rattle.backup_engine.specs.Line.{CommandLine, Format, Ingest, Restore, Delete, Collect}
 use Rattle.backup_engine.specs.Line as table
 use Rattle.backup_engine.specs.PlainMap.{map_after, CanBeDone, Refuses, room_of}
 
@@ -64,6 +65,7 @@ EndsBy command given m content (Some Source) = (name : List ℕ) × (command ≡
 EndsBy command given m content (Some Sink) = CanBeDone command given m
 EndsBy (Ingest name) given m content (Some (Refused DiskWrite)) = Unit {0}
 EndsBy (Delete name) given m content (Some (Refused DiskWrite)) = Unit {0}
+EndsBy (Collect percent) given m content (Some (Refused DiskWrite)) = Unit {0}
 EndsBy (Ingest name) given m content (Some (Refused (Clash key at))) =
     (store : Store) × KnownWith content (λ image. IsStoreOf store m.files image × HoldsTwin given store image key at)
 EndsBy command given m content (Some (Refused (Clash key at))) = ⊥
@@ -90,6 +92,21 @@ Wrote (Ingest name) given m ending sink sink_now = WroteReply (stored_line name 
 Wrote (Restore name) given m ending sink sink_now = WroteFile (finite.get m.files name) ending sink sink_now
 Wrote (Delete name) given m ending sink sink_now = WroteReply (deleted_line name) ending sink sink_now
 Wrote table.List given m ending sink sink_now = WroteReply (listing_text (file_listing m.files)) ending sink sink_now
+Wrote (Collect percent) given m ending sink sink_now = (freed : ℕ) × WroteReply (collected_line freed) ending sink sink_now
+
+-- ---- what a collection gave back
+
+-- A `collect` that was done, but perhaps for its reply, gave back as many containers as its reply says. One that was refused may have
+-- given back some; of a write or a sync that failed this says nothing (what is left of the files is said below, and of the bytes in
+-- Frame.antt).
+abbrev pub GivesBack : CommandLine → Option Ending → Store → List ℕ → Option (List ℕ) → SinkView → SinkView → Type 0
+GivesBack (Collect percent) None store old content sink sink_now =
+    (freed : ℕ) × (KnownWith content (Collected freed store old) × WroteReply (collected_line freed) None sink sink_now)
+GivesBack (Collect percent) (Some Sink) store old content sink sink_now =
+    (freed : ℕ) × (KnownWith content (Collected freed store old) × WroteReply (collected_line freed) (Some Sink) sink sink_now)
+GivesBack (Collect percent) (Some (Refused DiskWrite)) store old content sink sink_now = Unit {0}
+GivesBack (Collect percent) (Some ending) store old content sink sink_now = (freed : ℕ) × KnownWith content (Collected freed store old)
+GivesBack command ending store old content sink sink_now = Unit {0}
 
 -- ---- what is left
 
@@ -140,6 +157,8 @@ pub record KeepsMap (S : List ℕ → Type 0) (command : CommandLine) (given : L
   pub by_map : EndsBy command given m disk_now.content ending
   pub wrote : Wrote command given m ending sink sink_now
   pub added : Known disk.content (λ old. (store : Store) → Encodes old store → Adds command given ending store disk_now.content)
+  pub gave_back : Known disk.content (λ old. (store : Store) → Encodes old store
+      → GivesBack command ending store old disk_now.content sink sink_now)
   pub left : Stands (IsLeftAs S command given m ending) disk_now ⊎ NothingWritten ending disk disk_now
   pub crash : LeavesMeanwhile (MayBeMeanwhile S command given m ending) disk disk_now
 

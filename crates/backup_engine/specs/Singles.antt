@@ -1,5 +1,5 @@
--- Single commands as lines of a script: `ingest` and `restore` are lines of the first actor, `delete` and `list` are one line each; they
--- only print in another way (docs/MODEL.md, 'From the machine to `backup`').
+-- Single commands as lines of a script: `ingest` and `restore` are lines of the first actor, `delete` and `list` are one line each,
+-- `collect` is two; they only print in another way (docs/MODEL.md, 'From the machine to `backup`').
 use Rattle.std.specs.Prelude.{◌≡◌, ◌⊎◌, ◌≤◌, ℕ, ◌+◌, ◌*◌, List, [], ◌∷◌, ◌++◌, length, Option, Some, None}
 use Rattle.std.specs.List.{concat}
 use Rattle.base_model.specs.Known.{Appended, Known}
@@ -19,7 +19,8 @@ use Rattle.script_lines.specs.Grammar as lines
 use Rattle.script_lines.specs.ReplyValue.{ReplyValue}
 use Rattle.script_lines.specs.ReplyValue as replies
 use Rattle.session_turns.specs.declared.turns.TheConstants.{MOST_PIECE}
-use Rattle.backup_engine.specs.Line.{CommandLine, Format, Ingest, Restore, Delete}
+use Rattle.backup_engine.specs.Collected.{collected_line}
+use Rattle.backup_engine.specs.Line.{CommandLine, Format, Ingest, Restore, Delete, Collect}
 use Rattle.backup_engine.specs.Line as table
 use Rattle.backup_engine.specs.Lines.{RunsEachMap}
 use Rattle.backup_engine.specs.Promise.{WroteReply}
@@ -154,6 +155,30 @@ IsListing (Some (Refused refusal)) sink sink_now rs =
     ⊎ IsOne lines.ListNames (replies.Refused refusal) rs) × (sink_now.written ≡ sink.written)
 IsListing (Some ending) sink sink_now rs = ⊥
 
+-- ---- a collection
+
+-- one began
+abbrev pub collecting : ℕ → ℕ → Replied
+collecting percent snapshot = said (lines.Gc percent) (replies.Collecting snapshot)
+
+-- it began, went on to its end, and gave so many containers back
+abbrev pub Sweeps : ℕ → ℕ → List Replied → Type 0
+Sweeps percent freed rs =
+    (snapshot : ℕ) × (rs ≡ collecting percent snapshot ∷ said lines.Sweep (replies.Collected freed 0) ∷ [])
+
+-- The lines of a `collect`, and what was written: how many containers were given back. Where there was no memory for that, where a line was
+-- refused, or none was run, nothing was.
+abbrev pub IsCollect : ℕ → Option Ending → SinkView → SinkView → List Replied → Type 0
+IsCollect percent None sink sink_now rs =
+    (freed : ℕ) × (Sweeps percent freed rs × WroteReply (collected_line freed) None sink sink_now)
+IsCollect percent (Some Sink) sink sink_now rs =
+    (freed : ℕ) × (Sweeps percent freed rs × WroteReply (collected_line freed) (Some Sink) sink sink_now)
+IsCollect percent (Some (Refused refusal)) sink sink_now rs =
+    (((refusal ≡ Memory) × ((rs ≡ []) ⊎ ((freed : ℕ) × Sweeps percent freed rs)))
+    ⊎ IsOne (lines.Gc percent) (replies.Refused refusal) rs
+    ⊎ ((snapshot : ℕ) × (rs ≡ collecting percent snapshot ∷ refused lines.Sweep refusal ∷ []))) × (sink_now.written ≡ sink.written)
+IsCollect percent (Some ending) sink sink_now rs = ⊥
+
 -- ---- all of them
 
 -- the store was not read, for its cause, so no line was run, and nothing was written to the sink
@@ -182,3 +207,5 @@ SpeaksAs (Delete name) given ending rs disk disk_now source source_now sink sink
     Speaks (IsDelete name ending sink sink_now) ending rs disk disk_now sink sink_now
 SpeaksAs table.List given ending rs disk disk_now source source_now sink sink_now =
     Speaks (IsListing ending sink sink_now) ending rs disk disk_now sink sink_now
+SpeaksAs (Collect percent) given ending rs disk disk_now source source_now sink sink_now =
+    Speaks (IsCollect percent ending sink sink_now) ending rs disk disk_now sink sink_now

@@ -18,7 +18,7 @@ use Rattle.recovery.specs.Formatting.{IsLeftByFormat, IsBlankOrFormatted}
 use Rattle.recovery.specs.Room.{RoomMade, RoomUnmade}
 use Rattle.backup_engine.specs.AnyDisk.{Holds, OnAnyDisk, Took}
 use Rattle.backup_engine.specs.Frame.{KeepsOthers}
-use Rattle.backup_engine.specs.Line.{CommandLine, Format, Ingest, Restore, Delete, TableLine, Single, Run}
+use Rattle.backup_engine.specs.Line.{CommandLine, Format, Ingest, Restore, Delete, Collect, TableLine, Single, Run}
 use Rattle.backup_engine.specs.Line as table
 use Rattle.backup_engine.specs.Promise.{KeepsEachMap, SinceStart}
 use Rattle.backup_engine.specs.Script.{KeepsScript}
@@ -55,6 +55,7 @@ IsLeftBlank (Ingest name) disk disk_now = Unit {0}
 IsLeftBlank (Restore name) disk disk_now = Unit {0}
 IsLeftBlank (Delete name) disk disk_now = Unit {0}
 IsLeftBlank table.List disk disk_now = Unit {0}
+IsLeftBlank (Collect percent) disk disk_now = Unit {0}
 
 -- what was not done, but for a write that failed, changed nothing of it
 abbrev pub IsUntouched : CommandLine → Option Ending → DiskView → DiskView → Type 0

@@ -34,9 +34,9 @@ abbrev pub with_none : App → List ℕ → App
 with_none app name = with_subcommand app (new_app name).top
 
 abbrev pub table_app : App
-table_app = with_none (with_none
+table_app = with_none (with_none (with_one
     (with_one (with_one (with_one (with_one no_commands (codes "format")) (codes "ingest")) (codes "restore")) (codes "delete"))
-    (codes "list")) (codes "run")
+    (codes "collect")) (codes "list")) (codes "run")
 
 -- the line of a command and its argument, where it has one
 abbrev pub line_named : List ℕ → Option (List ℕ) → Option TableLine

@@ -7,6 +7,7 @@ ghost use Rattle.backup_engine.specs.Line.{Single, line_of};
 ghost use Rattle.backup_engine.specs.LineValue.{command_value, line_value, IsRightCommand, IsRightLine, size_made};
 ghost use Rattle.backup_engine.specs.TopCall.{Promise, Does, IsNoted, ending_in};
 
+use crate::collecting::collect;
 use crate::deleting::delete;
 use crate::format::format;
 use crate::ingest::ingest;
@@ -90,9 +91,10 @@ pub fn backup_alone<R, D: Disk + Send, S: Source, K: Sink, Q: Sink>(
 pub fn size_of_format(alloc: Global, words: &[String]) -> Result<Option<u64>, AllocError>
     ensures { IfOk result (λ size. size ≡ size_made (line_of (map string_bytes words.now))) }
 {
-    match read_words(alloc, words)? {
-        Some(Line::Single(Command::Format(slots))) => Ok(Some(size_of(slots))),
-        _ => Ok(None),
+    match read_words(alloc, words) {
+        Ok(Some(Line::Single(Command::Format(slots)))) => Ok(Some(size_of(slots))),
+        Ok(_) => Ok(None),
+        Err(error) => Err(error),
     }
 }
 
@@ -135,6 +137,7 @@ fn run_command<D: Disk, S: Source, K: Sink>(
         Command::Restore(name) => restore(alloc, disk, sink, name),
         Command::Delete(name) => delete(alloc, disk, sink, name),
         Command::List => list(alloc, disk, sink),
+        Command::Collect(percent) => collect(alloc, disk, sink, *percent),
     }
 }
 

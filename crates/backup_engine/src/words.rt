@@ -2,10 +2,11 @@
 ghost use Rattle.std.specs.Prelude.{◌≡◌, false, map, option_map, IfOk, IfSome, string_bytes};
 ghost use Rattle.clap.specs.Words.{app_of, rule_of, subcommand_rows_of};
 ghost use Rattle.disk_format.specs.Layout.{IsSlotCount};
-ghost use Rattle.backup_engine.specs.Line.{line_of, command_of, all_digits, begins_as_number, is_number, slots_of};
+ghost use Rattle.backup_engine.specs.Line.{line_of, command_of, all_digits, begins_as_number, is_number, percent_of, slots_of};
 ghost use Rattle.backup_engine.specs.LineValue.{command_value, line_value, IsRightCommand, IsRightLine};
 ghost use Rattle.backup_engine.specs.Words.{argument_rule, line_matched, line_named, table_app, with_none, with_one};
 
+use actor_parts::Percent;
 use clap::error::ErrorKind;
 use clap::{Arg, ArgAction, ArgMatches};
 use disk_format::is_slot_count;
@@ -23,6 +24,8 @@ pub(crate) enum Command<'a> {
     /// A name.
     Delete(&'a str),
     List,
+    /// A percentage: 0 alone so far.
+    Collect(Percent),
 }
 
 /// A line of the table of commands.
@@ -70,6 +73,7 @@ fn table<'a>(alloc: Global) -> Result<clap::Command<'a>, AllocError>
     let command = with_argument(alloc, command, "ingest")?;
     let command = with_argument(alloc, command, "restore")?;
     let command = with_argument(alloc, command, "delete")?;
+    let command = with_argument(alloc, command, "collect")?;
     let command = without_argument(alloc, command, "list")?;
     without_argument(alloc, command, "run")
 }
@@ -122,7 +126,10 @@ fn named_line<'a>(name: &str, argument: Option<&'a str>) -> Option<Line<'a>>
     match name {
         "run" => Some(Line::Run),
         "list" => Some(Line::Single(Command::List)),
-        _ => Some(Line::Single(read_command(name, argument?)?)),
+        _ => match read_command(name, argument?) {
+            Some(command) => Some(Line::Single(command)),
+            None => None,
+        },
     }
 }
 
@@ -135,6 +142,17 @@ fn read_command<'a>(command: &str, argument: &'a str) -> Option<Command<'a>>
         "ingest" => Some(Command::Ingest(argument)),
         "restore" => Some(Command::Restore(argument)),
         "delete" => Some(Command::Delete(argument)),
+        "collect" => Some(Command::Collect(percentage(argument)?)),
+        _ => None,
+    }
+}
+
+// The percentage that a word stands for, if it does: 0 alone so far.
+fn percentage(word: &str) -> Option<Percent>
+    ensures { result ≡ percent_of word.now }
+{
+    match word {
+        "0" => Percent::new(0),
         _ => None,
     }
 }

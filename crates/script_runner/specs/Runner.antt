@@ -86,6 +86,11 @@ abbrev pub answer_of : Result Reply Refusal → ReplyValue
 answer_of (Ok reply) = reply_value reply
 answer_of (Err refusal) = replies.Refused refusal
 
+-- the reply that a collection has ended
+abbrev pub TellsCollected : ReplyValue → Type 0
+TellsCollected (replies.Collected freed copied) = Unit {0}
+TellsCollected reply = ⊥
+
 -- a line that may be run: of an actor, and of digits that are some bytes, within the limit
 abbrev pub IsRunnable : LineValue → Type 0
 IsRunnable (lines.Push a digits) = IsHex digits × (length digits ≤ 2 * MOST_PIECE)

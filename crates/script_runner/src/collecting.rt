@@ -1,9 +1,10 @@
 //! Lines of a collection.
-ghost use Rattle.std.specs.Prelude.{◌≡◌, ℕ, List, None};
+ghost use Rattle.std.specs.Prelude.{◌≡◌, ℕ, List, None, IfOk};
 ghost use Rattle.script_lines.specs.Grammar as grammar;
+ghost use Rattle.script_lines.specs.ReplyValue.{reply_value};
 ghost use Rattle.store_core.specs.State.{IsRunning};
 ghost use Rattle.script_runner.specs.Acts.{Acts, Starts};
-ghost use Rattle.script_runner.specs.Runner.{answer_of, runner_of};
+ghost use Rattle.script_runner.specs.Runner.{TellsCollected, answer_of, runner_of};
 ghost use Rattle.script_runner.specs.Sessions.{Sessions};
 
 use crate::taking::first;
@@ -13,7 +14,7 @@ use script_lines::Reply;
 use store_core::HasState;
 
 /// Begins a collection, and says from which id on it takes no container.
-pub(crate) fn begin_collection<C: HasState>(
+pub fn begin_collection<C: HasState>(
     core: &mut C,
     percent: Percent,
     buf: &mut SegBuf,
@@ -48,11 +49,12 @@ pub(crate) fn step_collection<C: HasState>(
 }
 
 /// Makes all steps of it that are left, and gives the reply. A step that is refused is the last.
-pub(crate) fn sweep<C: HasState>(core: &mut C, buf: &mut SegBuf) -> Result<Reply<'static>, Refusal>
+pub fn sweep<C: HasState>(core: &mut C, buf: &mut SegBuf) -> Result<Reply<'static>, Refusal>
     requires running { IsRunning (C.state core.old) }
     requires runs { (C.state core.old).stop ≡ None }
     ensures sweeps { (sessions : Sessions) (moments : List ℕ) → Acts C C.state grammar.Sweep (answer_of result)
         (runner_of core.old sessions moments) (runner_of core.new sessions moments) }
+    ensures tells { IfOk result (λ reply. TellsCollected (reply_value reply)) }
     ensures running { IsRunning (C.state core.new) }
 {
     'steps: loop {

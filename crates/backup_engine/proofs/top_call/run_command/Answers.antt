@@ -26,3 +26,8 @@ pub returns-in-List-clause-does : goal.returns-in-List-clause-does
 returns-in-List-clause-does g c =
     let done = c.list.ensures.does (g.S.Source.view c.args.source.now) in
     does_as _ g.D.Disk.view (Single (command_value c.args.command.now)) _ (ap (λ x. Single (command_value x)) c.in-List.is) [] done.0 _ _ _ _ _ _ _ done.1
+
+pub returns-in-Collect-clause-does : goal.returns-in-Collect-clause-does
+returns-in-Collect-clause-does g c =
+    let done = c.collect.ensures.does (g.S.Source.view c.args.source.now) in
+    does_as _ g.D.Disk.view (Single (command_value c.args.command.now)) _ (ap (λ x. Single (command_value x)) c.in-Collect.is) [] done.0 _ _ _ _ _ _ _ done.1

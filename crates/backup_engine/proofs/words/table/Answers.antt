@@ -26,7 +26,8 @@ returns c =
     let ingest_is = c.in_ok-command-2.ensures ∙ ap (λ (a : App). with_one a (codes "ingest")) format_is in
     let restore_is = c.in_ok-command-3.ensures ∙ ap (λ (a : App). with_one a (codes "restore")) ingest_is in
     let delete_is = c.in_ok-command-4.ensures ∙ ap (λ (a : App). with_one a (codes "delete")) restore_is in
-    let list_is = c.in_ok-command-5.ensures ∙ ap (λ (a : App). with_none a (codes "list")) delete_is in
+    let collect_is = c.in_ok-command-5.ensures ∙ ap (λ (a : App). with_one a (codes "collect")) delete_is in
+    let list_is = c.in_ok-command-6.ensures ∙ ap (λ (a : App). with_none a (codes "list")) collect_is in
     IfOk-weaker c.without_argument-2.result _ _
     (λ more h. h ∙ ap (λ (a : App). with_none a (codes "run")) list_is)
     c.without_argument-2.ensures

@@ -1,0 +1,103 @@
+-- The lines that `collect` is, run over a core.
+use Rattle.std.proofs.Common.{◌≡◌, inl, inr, ℕ, List, [], ◌∷◌, Option, None, Some, Result, Ok, Err, refl, sym, ◌∙◌, subst}
+use Rattle.actor_parts.specs.declared.step.Answer.TheVariants as answers
+use Rattle.dd_io.specs.Flow.{SinkView}
+use Rattle.plain_machine.specs.Refused.{actor_of}
+use Rattle.plain_machine.specs.Runs.{Replied}
+use Rattle.refusals.specs.declared.refusal.Refusal.{Refusal}
+use Rattle.reply_text.specs.declared.ending.Ending.{Ending}
+use Rattle.reply_text.specs.declared.ending.Ending.TheVariants.{Sink, Refused}
+use Rattle.script_lines.specs.Grammar.{LineValue}
+use Rattle.script_lines.specs.Grammar as lines
+use Rattle.script_lines.specs.ReplyValue as replies
+use Rattle.script_runner.specs.Acts.{Admits, Starts, Sweeps}
+use Rattle.script_runner.specs.Runner.{Sent}
+use Rattle.script_runner.specs.Scripts.{AreOfActors, RunsLines}
+use Rattle.store_core.specs.State.{CoreState}
+use Rattle.backup_engine.specs.Collected.{collected_line}
+use Rattle.backup_engine.specs.Collecting.{IsStopped, WritesCollected}
+use Rattle.backup_engine.specs.Saying.{RunsSingle, idle, no_sessions}
+use Rattle.backup_engine.specs.Singles.{IsCollect, collecting, refused, said}
+use Rattle.backup_engine.specs.Singles as singles
+use Rattle.backup_engine.specs.TopCall.{ending_in}
+use Rattle.backup_engine.proofs.NameLines.{no_actor, no_line, one_actor}
+use Rattle.backup_engine.proofs.Saying.{line_then}
+
+-- ---- actors
+
+two_actors : (percent : ℕ) (snapshot : ℕ) (last : Replied) → actor_of last.line ≡ None → (rs : List Replied) → rs ≡ collecting percent snapshot ∷ last ∷ [] → AreOfActors rs
+two_actors percent snapshot last none rs are = subst AreOfActors (sym are) (no_actor (lines.Gc percent) refl, (no_actor last.line none, tt))
+
+swept_actors : (percent freed : ℕ) (rs : List Replied) → singles.Sweeps percent freed rs → AreOfActors rs
+swept_actors percent freed rs is = two_actors percent is.0 (said lines.Sweep (replies.Collected freed 0)) refl rs is.1
+
+pub collect_actors : (percent : ℕ) (ending : Option Ending) (sink sink_now : SinkView) (rs : List Replied) → IsCollect percent ending sink sink_now rs → AreOfActors rs
+collect_actors percent None sink sink_now rs is = swept_actors percent is.0 rs is.1.0
+collect_actors percent (Some Sink) sink sink_now rs is = swept_actors percent is.0 rs is.1.0
+collect_actors percent (Some (Refused refusal)) sink sink_now rs (inl (memory, inl none), wrote) = no_line rs none
+collect_actors percent (Some (Refused refusal)) sink sink_now rs (inl (memory, inr swept), wrote) = swept_actors percent swept.0 rs swept.1
+collect_actors percent (Some (Refused refusal)) sink sink_now rs (inr (inl one), wrote) = one_actor (lines.Gc percent) refl (replies.Refused refusal) rs one
+collect_actors percent (Some (Refused refusal)) sink sink_now rs (inr (inr stopped), wrote) = two_actors percent stopped.0 (refused lines.Sweep refusal) refl rs stopped.1
+collect_actors percent (Some ending) sink sink_now rs is = absurd is
+
+-- ---- the lines
+
+module _ (C : Type 0) (state : C → CoreState) (percent : ℕ) where
+  admits : (c : C) (line : LineValue) → (state c).stop ≡ None → actor_of line ≡ None → Admits line no_sessions (state c)
+  admits c line runs none = record { runs = runs; taken = λ actor is. absurd (let both = sym none ∙ is in cc) }
+
+  module _ (old new : C) (runs : (state old).stop ≡ None) where
+    unbegun_line : (refusal : Refusal) → Starts C state percent (Err refusal) old new → RunsLines C state (refused (lines.Gc percent) refusal ∷ []) (idle old) (idle new)
+    unbegun_line refusal start =
+        line_then C state (refused (lines.Gc percent) refusal) [] (idle old) (idle new) (idle new) refl (inl (admits old (lines.Gc percent) runs refl, (start, refl, refl))) refl
+
+    module _ (snapshot : ℕ) (mid : C) (start : Starts C state percent (Ok snapshot) old mid) (on : (state mid).stop ≡ None) where
+      stopped_lines : (refusal : Refusal) → Sweeps C state (Err refusal) mid new → RunsLines C state (collecting percent snapshot ∷ refused lines.Sweep refusal ∷ []) (idle old) (idle new)
+      stopped_lines refusal sweeps =
+          line_then C state (collecting percent snapshot) (refused lines.Sweep refusal ∷ []) (idle old) (idle mid) (idle new) refl (inl (admits old (lines.Gc percent) runs refl, (start, refl, refl)))
+          (line_then C state (refused lines.Sweep refusal) [] (idle mid) (idle new) (idle new) refl (inl (admits mid lines.Sweep on refl, (sweeps, refl, refl))) refl)
+
+      swept_lines : (freed : ℕ) → Sweeps C state (Ok (answers.Done freed 0)) mid new → RunsLines C state (collecting percent snapshot ∷ said lines.Sweep (replies.Collected freed 0) ∷ []) (idle old) (idle new)
+      swept_lines freed sweeps =
+          line_then C state (collecting percent snapshot) (said lines.Sweep (replies.Collected freed 0) ∷ []) (idle old) (idle mid) (idle new) refl (inl (admits old (lines.Gc percent) runs refl, (start, refl, refl)))
+          (line_then C state (said lines.Sweep (replies.Collected freed 0)) [] (idle mid) (idle new) (idle new) refl (inl (admits mid lines.Sweep on refl, (sweeps, refl, refl))) refl)
+
+      abbrev lines_swept : ℕ → List Replied
+      lines_swept freed = collecting percent snapshot ∷ said lines.Sweep (replies.Collected freed 0) ∷ []
+
+      replied : (freed : ℕ) (result : Result Unit Ending) (sink sink_now : SinkView) → Sent (collected_line freed) result sink sink_now → IsCollect percent (ending_in result) sink sink_now (lines_swept freed)
+      replied freed (Ok u) sink sink_now sent = (freed, ((snapshot, refl), sent.0))
+      replied freed (Err Sink) sink sink_now sent = (freed, ((snapshot, refl), sent.0))
+      replied freed (Err ending) sink sink_now sent = absurd sent
+
+      told : (freed : ℕ) (result : Result Unit Ending) (sink sink_now : SinkView) → WritesCollected freed 0 result sink sink_now → IsCollect percent (ending_in result) sink sink_now (lines_swept freed)
+      told freed result sink sink_now (inl sent) = replied freed result sink sink_now sent
+      told freed result sink sink_now (inr (is, same)) =
+          subst (λ (r : Result Unit Ending). IsCollect percent (ending_in r) sink sink_now (lines_swept freed)) (sym is)
+          (inl (refl, inr (freed, (snapshot, refl))), subst (λ (s : SinkView). s.written ≡ sink.written) (sym same) refl)
+
+      pub swept_run : (freed copied : ℕ) → copied ≡ 0 → Sweeps C state (Ok (answers.Done freed copied)) mid new → (result : Result Unit Ending) (sink sink_now : SinkView) → WritesCollected freed copied result sink sink_now
+          → RunsSingle C state (IsCollect percent (ending_in result) sink sink_now) old new
+      swept_run freed copied none sweeps result sink sink_now writes = (
+        lines_swept freed,
+        (
+          told freed result sink sink_now (subst (λ (n : ℕ). WritesCollected freed n result sink sink_now) none writes),
+          (idle new, (refl, swept_lines freed (subst (λ (n : ℕ). Sweeps C state (Ok (answers.Done freed n)) mid new) none sweeps))),
+        ),
+      )
+
+      pub stopped_run : (refusal : Refusal) → Sweeps C state (Err refusal) mid new → (result : Result Unit Ending) (sink sink_now : SinkView) → IsStopped refusal result sink sink_now
+          → RunsSingle C state (IsCollect percent (ending_in result) sink sink_now) old new
+      stopped_run refusal sweeps result sink sink_now (is, same) =
+          subst (λ (r : Result Unit Ending). RunsSingle C state (IsCollect percent (ending_in r) sink sink_now) old new) (sym is) (
+            collecting percent snapshot ∷ refused lines.Sweep refusal ∷ [],
+            ((inr (inr (snapshot, refl)), subst (λ (s : SinkView). s.written ≡ sink.written) (sym same) refl), (idle new, (refl, stopped_lines refusal sweeps))),
+          )
+
+    pub unbegun_run : (refusal : Refusal) → Starts C state percent (Err refusal) old new → (result : Result Unit Ending) (sink sink_now : SinkView) → IsStopped refusal result sink sink_now
+        → RunsSingle C state (IsCollect percent (ending_in result) sink sink_now) old new
+    unbegun_run refusal start result sink sink_now (is, same) =
+        subst (λ (r : Result Unit Ending). RunsSingle C state (IsCollect percent (ending_in r) sink sink_now) old new) (sym is) (
+          refused (lines.Gc percent) refusal ∷ [],
+          ((inr (inl refl), subst (λ (s : SinkView). s.written ≡ sink.written) (sym same) refl), (idle new, (refl, unbegun_line refusal start))),
+        )

@@ -1,0 +1,413 @@
+-- What a `collect` keeps of the map: all of it; and which containers it gives back.
+use Rattle.std.proofs.Common.{◌≡◌, ◌⊎◌, inl, inr, ◌+◌, ◌-◌, ◌<◌, ℕ, zero, suc, List, [], ◌∷◌, ◌++◌, length, Option, None, Some, Result, Ok, Err, refl, sym, ◌∙◌, ap, ap₂, subst, arith, length-append}
+use Rattle.std.specs.Prelude.{IfErr, slice_get}
+use Rattle.std.specs.List.{AllByRecursion}
+use Rattle.std.proofs.lemmas.Bool.{cases_lt}
+use Rattle.base_model.specs.Bytes.{range}
+use Rattle.base_model.specs.Known.{KnownWith}
+use Rattle.base_model.proofs.Ranges.{range-join}
+use Rattle.actor_parts.specs.declared.step.Answer.{Answer}
+use Rattle.actor_parts.specs.declared.step.Answer.TheVariants as answers
+use Rattle.actor_parts.specs.StepValue as asked
+use Rattle.actor_parts.specs.StepValue.{StepValue}
+use Rattle.container_meta.specs.Spelling.{HeaderValue}
+use Rattle.dd_disk.specs.View.{CrashLeaves, DiskView}
+use Rattle.dd_disk.proofs.Later.{leaves_weaker}
+use Rattle.dd_disk.proofs.Shows.{shown_content}
+use Rattle.dd_io.specs.Flow.{SinkView}
+use Rattle.disk_format.specs.Layout.{slot_at}
+use Rattle.disk_format.specs.declared.numbers.TheConstants.{SLOT_BYTES}
+use Rattle.refusals.specs.declared.refusal.Phase.{Phase}
+use Rattle.refusals.specs.declared.refusal.Phase.TheVariants as phase_kinds
+use Rattle.refusals.specs.declared.refusal.Refusal.{Refusal}
+use Rattle.refusals.specs.declared.refusal.Refusal.TheVariants as refusals
+use Rattle.reply_text.specs.declared.ending.Ending.{Ending}
+use Rattle.reply_text.specs.declared.ending.Ending.TheVariants.{Sink, Refused}
+use Rattle.script_runner.specs.Acts.{CollectionRun, Collects, Starts, Sweeps}
+use Rattle.script_runner.proofs.CollectCauses.{IsCollectCause, collect_cause}
+use Rattle.plain_machine.specs.Collections.{freed_by}
+use Rattle.store_model.specs.Collisions.{ByteSet, HasNoCollisions, IsIn, IsOf}
+use Rattle.store_model.specs.Files.{Stored}
+use Rattle.store_model.specs.Freeing.{HasNoGate}
+use Rattle.store_model.specs.Image.{Encodes, Store}
+use Rattle.store_model.specs.Steps.{StoreChange}
+use Rattle.store_model.proofs.Freed.{slot_held}
+use Rattle.store_model.proofs.Once.{store_once}
+use Rattle.store_core.specs.Collecting.{GcRow, IsNotMade, StartRow, at_moment}
+use Rattle.store_core.specs.Core.{CoreStep, Steps, StopsAfter}
+use Rattle.store_core.specs.Runs.{AreChangesBy, AreChangesOf, ChangesTo, FileEvent, FileRun, FileStep, IsOnTheWay, Reaches, stored_after, stored_by, stored_tried}
+use Rattle.store_core.specs.Sound.{IsHarmless}
+use Rattle.store_core.specs.State.{CoreState, Event}
+use Rattle.store_core.proofs.AnySteps.{keeps_files}
+use Rattle.store_core.proofs.CoreRuns.{running_step}
+use Rattle.store_core.proofs.Crashes.{leaves_on_the_way}
+use Rattle.store_core.proofs.Damage.{never_damaged}
+use Rattle.backup_engine.specs.Collected.{Collected, collected_line, frees}
+use Rattle.backup_engine.specs.Line.{Collect}
+use Rattle.backup_engine.specs.Promise.{EndsBy, GivesBack, IsLeftAs, KeepsEachMap, KeepsMap, MayBeMeanwhile, WroteReply}
+use Rattle.backup_engine.specs.Promise as promise
+use Rattle.backup_engine.proofs.Called.{Called, Starts as StartsAt, starts}
+use Rattle.backup_engine.proofs.CollectFrame.{IsBut}
+use Rattle.backup_engine.proofs.CollectKept.{ends, freed_are, left_but, since_old, so_last, start_event}
+use Rattle.backup_engine.proofs.CollectSteps.{frees-append, gc_event, had_first, releases}
+use Rattle.backup_engine.proofs.DeleteMap.{IsDone}
+use Rattle.backup_engine.proofs.NotDone.{left_with, not_sink}
+use Rattle.backup_engine.proofs.Reading.{reads_map, wrote_nothing}
+use Rattle.backup_engine.proofs.WholeCall.{all_reads, leaves_more, leaves_of}
+
+-- ---- steps that change no file
+
+abbrev IsQuiet : StepValue → Type 0
+IsQuiet (asked.GcStart percent) = Unit {0}
+IsQuiet asked.GcStep = Unit {0}
+IsQuiet step = ⊥
+
+abbrev AreQuiet : List FileEvent → Type 0
+AreQuiet steps = AllByRecursion (λ f. IsQuiet f.event.step) steps
+
+still_by : (step : StepValue) (answer : Result Answer Refusal) (buf bytes : List ℕ) (actor : ℕ) (m : Stored) → IsQuiet step
+    → (stored_by (record { event = record { actor = actor; step = step; answer = answer; buf = buf }; bytes = bytes }) m ≡ m) × (stored_tried step answer bytes m ≡ m)
+still_by (asked.GcStart percent) answer buf bytes actor m quiet = (refl, refl)
+still_by asked.GcStep answer buf bytes actor m quiet = (refl, refl)
+still_by step answer buf bytes actor m quiet = absurd quiet
+
+stored_still : (f : FileEvent) (m : Stored) → IsQuiet f.event.step → stored_by f m ≡ m
+stored_still f m quiet = (still_by f.event.step f.event.answer f.event.buf f.bytes f.event.actor m quiet).0
+
+tried_still : (f : FileEvent) (m : Stored) → IsQuiet f.event.step → stored_tried f.event.step f.event.answer f.bytes m ≡ m
+tried_still f m quiet = (still_by f.event.step f.event.answer f.event.buf f.bytes f.event.actor m quiet).1
+
+still_after : (steps : List FileEvent) (m : Stored) → AreQuiet steps → stored_after steps m ≡ m
+still_after [] m quiet = refl
+still_after (f ∷ fs) m quiet = ap (λ (x : Stored). stored_after fs x) (stored_still f m quiet.0) ∙ still_after fs m quiet.1
+
+still_on_the_way : (S : List ℕ → Type 0) (steps : List FileEvent) (m : Stored) (c : List ℕ) → AreQuiet steps → IsOnTheWay S steps m c → IsOf S m c
+still_on_the_way S [] m c quiet is = is
+still_on_the_way S (f ∷ fs) m c quiet is = elim is [
+  | inl before ↦ before
+  | inr more ↦ elim more [
+    | inl tried ↦ subst (λ (x : Stored). IsOf S x c) (tried_still f m quiet.0) tried
+    | inr rest ↦ still_on_the_way S fs m c quiet.1 (subst (λ (x : Stored). IsOnTheWay S fs x c) (stored_still f m quiet.0) rest)
+  ]
+]
+
+-- ---- the steps of a collection, as those of a run
+
+abbrev gc_file : Result Answer Refusal → List ℕ → FileEvent
+gc_file answer buf = record { event = gc_event answer buf; bytes = [] }
+
+abbrev start_file : ℕ → Result Answer Refusal → List ℕ → FileEvent
+start_file percent answer buf = record { event = start_event percent answer buf; bytes = [] }
+
+-- what one changes
+one_changes : (phase : Phase) (changes : List StoreChange) → AreChangesBy asked.GcStep (Ok (answers.Did phase)) changes → (slots : List ℕ) × ((changes ≡ frees slots) × (length slots ≡ freed_by phase))
+one_changes phase_kinds.Release changes are = (are.0 ∷ [], (are.1, refl))
+one_changes phase changes are = ([], (are, refl))
+
+-- steps that are not the last change so many
+pub record DidSteps (C : Type 0) (state : C → CoreState) (S : List ℕ → Type 0) (phases : List Phase) (old new : C) : Type 0 where
+  pub steps : List FileEvent
+  pub run : FileRun C state S steps old new
+  pub quiet : AreQuiet steps
+  pub changes_are : (more : List FileEvent) (changes : List StoreChange) → ((last : List StoreChange) → AreChangesOf more last → last ≡ []) → AreChangesOf (steps ++ more) changes
+      → (slots : List ℕ) × ((changes ≡ frees slots) × (length slots ≡ releases phases))
+
+module _ (C : Type 0) (state : C → CoreState) (S : List ℕ → Type 0) where
+  did_steps : (phases : List Phase) (old new : C) → CollectionRun C state phases old new → DidSteps C state S phases old new
+  did_steps [] old new run = record {
+    steps = [];
+    run = run;
+    quiet = tt;
+    changes_are = λ more changes none are. ([], (none changes are, refl));
+  }
+  did_steps (phase ∷ phases) old new run =
+      let rest = did_steps phases run.0 new run.1.1 in
+      let f : FileEvent = gc_file (Ok (answers.Did phase)) run.1.0.0 in
+      let step : FileStep S f (state old) (state run.0) = record { asked = tt; given = tt; made = run.1.0.1 } in
+      record {
+        steps = f ∷ rest.steps;
+        run = (run.0, (step, rest.run));
+        quiet = (tt, rest.quiet);
+        changes_are = λ more changes none are.
+            let one = one_changes phase are.0 are.3 in
+            let others = rest.changes_are more are.1 none are.4 in
+            (one.0 ++ others.0, (are.2 ∙ ap₂ (λ (a b : List StoreChange). a ++ b) one.1.0 others.1.0 ∙ sym (frees-append one.0 others.0), length-append one.0 others.0 ∙ ap₂ (λ (a b : ℕ). a + b) one.1.1 others.1.1));
+      }
+
+  run_then : (fs : List FileEvent) (f : FileEvent) (old mid new : C) → FileRun C state S fs old mid → FileStep S f (state mid) (state new) → FileRun C state S (fs ++ f ∷ []) old new
+  run_then [] f old mid new run step = subst (λ (c : C). FileRun C state S (f ∷ []) c new) run (new, (step, refl))
+  run_then (one ∷ fs) f old mid new run step = (run.0, (run.1.0, run_then fs f run.0 mid new run.1.1 step))
+
+quiet_then : (fs : List FileEvent) (f : FileEvent) → AreQuiet fs → IsQuiet f.event.step → AreQuiet (fs ++ f ∷ [])
+quiet_then [] f all last = (last, tt)
+quiet_then (one ∷ fs) f all last = (all.0, quiet_then fs f all.1 last)
+
+-- ---- bytes
+
+-- what lies behind the gate of a slot has no gate
+behind_gate : (slot : ℕ) (slots : List ℕ) → HasNoGate slots (slot_at slot + 49664) (SLOT_BYTES - 49664)
+behind_gate slot [] = tt
+behind_gate slot (other ∷ slots) = (
+  elim (cases_lt slot other) [
+    | inl below ↦ inl (omega (arith, below))
+    | inr above ↦ inr (omega (arith, above))
+  ],
+  behind_gate slot slots,
+)
+
+within_length : (held : List (Option HeaderValue)) (slot : ℕ) (h : HeaderValue) → slice_get held slot ≡ Some (Some h) → slot < length held
+within_length held slot h is = within held slot is
+  where
+    within : (held : List (Option HeaderValue)) (slot : ℕ) → slice_get held slot ≡ Some (Some h) → slot < length held
+    within [] slot is = absurd cc
+    within (x ∷ xs) zero is = omega arith
+    within (x ∷ xs) (suc slot) is = let rest = within xs slot is in omega (arith, rest)
+
+-- a slot with a container, before and after
+slot_stays : (s : Store) (base now : List ℕ) (t : Store) → Encodes base s → Encodes now t → IsBut s base now → (slot : ℕ) (h : HeaderValue) → slice_get s.held slot ≡ Some (Some h) → slice_get t.held slot ≡ Some (Some h)
+    → range (slot_at slot) SLOT_BYTES now ≡ range (slot_at slot) SLOT_BYTES base
+slot_stays s base now t was is (slots, (had, but)) slot h first there =
+    let before = slot_held slot s.held (Some h) base was.slots_are first in
+    let after = slot_held slot t.held (Some h) now is.slots_are there in
+    let within = within_length s.held slot h first in
+    let rest = but.same (slot_at slot + 49664) (SLOT_BYTES - 49664) (omega (arith, within, was.many)) (behind_gate slot slots) in
+    let sum : 49664 + (SLOT_BYTES - 49664) ≡ SLOT_BYTES = omega arith in
+    subst (λ (n : ℕ). range (slot_at slot) n now ≡ range (slot_at slot) n base) sum
+    (sym (range-join (slot_at slot) 49664 (SLOT_BYTES - 49664) (slot_at slot + 49664) now refl)
+    ∙ ap₂ (λ (a b : List ℕ). a ++ b) (after.1 ∙ sym before.1) rest
+    ∙ range-join (slot_at slot) 49664 (SLOT_BYTES - 49664) (slot_at slot + 49664) base refl)
+
+-- ---- over a map
+
+module _ (C : Type 0) (state : C → CoreState) (v w : DiskView) (old new : C) (called : Called C state v w old new) (percent : ℕ) where
+  -- ---- none was begun
+
+  unbegun_answer : (S : List ℕ → Type 0) (m : Stored) (image : List ℕ) → w.content ≡ Some image → IsOf S m image → (r : Refusal) → StartRow percent (Err r) (state old) (state new) → EndsBy (Collect percent) [] m w.content (Some (Refused r))
+  unbegun_answer S m image told is refusals.Memory row = left_with S m image w.content (λ store. Unit {0}) told is tt
+  unbegun_answer S m image told is (refusals.Collecting phase) row = absurd (let wrong : None ≡ Some row.0.0 = sym called.opened.collection_is ∙ row.0.1.0 in cc)
+  unbegun_answer S m image told is r row = absurd row
+
+  pub unbegun_map : (refusal : Refusal) → Starts C state percent (Err refusal) old new → (sink : SinkView) → KeepsEachMap (Collect percent) [] (Some (Refused refusal)) v w sink sink
+  unbegun_map refusal start sink =
+      let e : Event = start_event percent (Err refusal) start.0 in
+      let steps : Steps e (state old) (state new) = made e start.1 in
+      let reads = all_reads C state v w old new called steps.made.effect.disk.only in
+      reads_map (Collect percent) [] (Refused refusal) v w sink sink reads (not_sink refusal)
+      (λ image known among m distinct right is. record {
+        by_map = unbegun_answer (IsIn among) m image (reads.content_is ∙ known) is refusal steps.made.row;
+        wrote = wrote_nothing (Collect percent) [] m (Refused refusal) sink (not_sink refusal);
+      })
+    where
+      made : (e : Event) → CoreStep (state old) e (state new) → Steps e (state old) (state new)
+      made e step = running_step (state old) (state new) e called.opened.stop_is step
+
+  -- ---- one was
+
+  module _ (snapshot : ℕ) (mid : C) (start : Starts C state percent (Ok snapshot) old mid) (answer : Result Answer Refusal) (sweeps : Sweeps C state answer mid new) where
+    module _ (among : ByteSet) (m : Stored) (distinct : HasNoCollisions (IsIn among)) (image : List ℕ) (told : v.content ≡ Some image) (is : IsOf (IsIn among) m image) where
+      abbrev S : List ℕ → Type 0
+      S = IsIn among
+
+      abbrev at : StartsAt S m image (state old)
+      at = starts C state v w old new called S m image told is
+
+      abbrev first : FileEvent
+      first = start_file percent (Ok (answers.Started snapshot)) start.0
+
+      abbrev collects : Collects C state answer sweeps.1.0 new
+      collects = sweeps.1.1.1
+
+      abbrev last : FileEvent
+      last = gc_file answer collects.0
+
+      abbrev did : DidSteps C state S sweeps.0 mid sweeps.1.0
+      did = did_steps C state S sweeps.0 mid sweeps.1.0 sweeps.1.1.0
+
+      abbrev before : List FileEvent
+      before = first ∷ did.steps
+
+      abbrev run_before : FileRun C state S before old sweeps.1.0
+      run_before = (mid, (record { asked = tt; given = tt; made = start.1 }, did.run))
+
+      last_step : FileStep S last (state sweeps.1.0) (state new)
+      last_step = record { asked = tt; given = tt; made = collects.1 }
+
+      abbrev steps : List FileEvent
+      steps = first ∷ (did.steps ++ last ∷ [])
+
+      run : FileRun C state S steps old new
+      run = (mid, (run_before.1.0, run_then C state S did.steps last mid sweeps.1.0 new did.run last_step))
+
+      quiet : AreQuiet steps
+      quiet = (tt, quiet_then did.steps last did.quiet tt)
+
+      -- ---- what is left
+
+      crashes : CrashLeaves (IsOf S m) (state old).disk (state new).disk
+      crashes = leaves_weaker (IsOnTheWay S steps m) (IsOf S m) (state old).disk (state new).disk (λ c on. still_on_the_way S steps m c quiet on)
+          (leaves_on_the_way C state among steps at.store m old new distinct at.is_at run)
+
+      pub content_now : (bytes : List ℕ) × ((w.content ≡ Some bytes) × ((state new).disk.content ≡ Some bytes))
+      content_now =
+          let now = (since_old C state v w old new called percent snapshot mid start answer sweeps).tells image at.told in
+          (now.0, (called.last.only.content_is ∙ now.1, now.1))
+
+      pub now_is : (c : List ℕ) → w.images c → IsOf S m c
+      now_is c there = crashes.now c (called.last.only.images_are c there)
+
+      left_so : (ending : Option Ending) (c : List ℕ) → IsOf S m c → IsLeftAs S (Collect percent) [] m ending c
+      left_so None c of = of
+      left_so (Some Sink) c of = of
+      left_so (Some (Refused refusals.DiskWrite)) c of = inl of
+      left_so (Some ending) c of = of
+
+      pub keeps : (ending : Option Ending) (sink sink_now : SinkView) → EndsBy (Collect percent) [] m w.content ending → promise.Wrote (Collect percent) [] m ending sink sink_now
+          → ((store : Store) → Encodes image store → GivesBack (Collect percent) ending store image w.content sink sink_now) → KeepsMap S (Collect percent) [] ending m v w sink sink_now
+      keeps ending sink sink_now by_map wrote gave = record {
+        by_map = by_map;
+        wrote = wrote;
+        added = λ base known store right. tt;
+        gave_back = λ base known store right.
+            subst (λ (bytes : List ℕ). GivesBack (Collect percent) ending store bytes w.content sink sink_now) (sym (one_image base known)) (gave store (subst (λ (bytes : List ℕ). Encodes bytes store) (one_image base known) right));
+        left = inl (
+          (content_now.0, content_now.1.0, left_so ending content_now.0 (now_is content_now.0 (w.as_read content_now.0 content_now.1.0))),
+          λ c there. left_so ending c (now_is c there),
+        );
+        crash = leaves_more (IsOf S m) (MayBeMeanwhile S (Collect percent) [] m ending) v w (λ c of. inl of)
+            (leaves_of C state v w old new called (IsOf S m) (since_old C state v w old new called percent snapshot mid start answer sweeps) crashes);
+      }
+        where
+          one_image : (base : List ℕ) → v.content ≡ Some base → base ≡ image
+          one_image base known = let both : Some base ≡ Some image = sym known ∙ told in cc
+
+      -- ---- what was given back
+
+      changes_so : ((changes : List StoreChange) → AreChangesBy asked.GcStep answer changes → changes ≡ []) → (changes : List StoreChange) → AreChangesOf steps changes → (slots : List ℕ) × ((changes ≡ frees slots) × (length slots ≡ releases sweeps.0))
+      changes_so none changes are =
+          let rest = did.changes_are (last ∷ []) are.1 (λ more have. have.2 ∙ ap₂ (λ (a b : List StoreChange). a ++ b) (none have.0 have.3) have.4) are.4 in
+          (rest.0, (are.2 ∙ ap (λ (a : List StoreChange). a ++ are.1) are.3 ∙ rest.1.0, rest.1.1))
+
+      -- the content, and each container that stays
+      now_collected : (freed : ℕ) (slots : List ℕ) (store after : Store) → freed ≡ length slots → Encodes image store → ChangesTo (frees slots) store after → Encodes content_now.0 after → Collected freed store image content_now.0
+      now_collected freed slots store after many right chain right_now =
+          let opened_same = store_once image called.opened.store store (shown_content v (state old).disk (λ bytes. Encodes bytes called.opened.store) image called.opened.right told) right in
+          let but = subst (λ (s : Store). IsBut s image content_now.0) opened_same (left_but C state v w old new called percent snapshot mid start answer sweeps image told content_now.0 content_now.1.1) in
+          record {
+            slots = slots;
+            many = many;
+            after = after;
+            chain = chain;
+            right = right_now;
+            stays = λ slot h there.
+                let had = had_first slots store after chain slot h there in
+                (had, slot_stays store image content_now.0 after right right_now but slot h had there);
+          }
+
+      module _ (none : (changes : List StoreChange) → AreChangesBy asked.GcStep answer changes → changes ≡ []) (runs : (state new).stop ≡ None) where
+        reaches : Reaches S at.store (state old).known (stored_after steps m) steps (state new)
+        reaches = keeps_files C state among steps at.store m old new distinct at.is_at run runs
+
+        changed_by : (slots : List ℕ) × ((reaches.changes ≡ frees slots) × (length slots ≡ releases sweeps.0))
+        changed_by = changes_so none reaches.changes reaches.changes_are
+
+        chain_from : ChangesTo (frees changed_by.0) at.store reaches.store
+        chain_from = subst (λ (changes : List StoreChange). ChangesTo changes at.store reaches.store) changed_by.1.0 reaches.chain
+
+        pub gave_so : (freed : ℕ) → freed ≡ releases sweeps.0 → (store : Store) → Encodes image store → KnownWith w.content (Collected freed store image)
+        gave_so freed as_many store right =
+            let same = store_once image at.store store at.stands.holds.right right in
+            let right_now = (reaches.is_at.stands.each content_now.0 ((state new).disk.as_read content_now.0 content_now.1.1)).holds.right in (
+              content_now.0,
+              content_now.1.0,
+              now_collected freed changed_by.0 store reaches.store (as_many ∙ sym changed_by.1.1) right (subst (λ (s : Store). ChangesTo (frees changed_by.0) s reaches.store) same chain_from) right_now,
+            )
+
+      -- ---- why it was refused
+
+      module _ (refusal : Refusal) (answer_is : answer ≡ Err refusal) where
+        harmless : IsHarmless ⊥ refusal
+        harmless = so answer answer_is (never_damaged C state among before last at.store m old sweeps.1.0 new distinct at.is_at run_before last_step)
+          where
+            so : (a : Result Answer Refusal) → a ≡ Err refusal → IfErr a (λ r. IsHarmless ⊥ r) → IsHarmless ⊥ refusal
+            so a is known = subst (λ (x : Result Answer Refusal). IfErr x (λ r. IsHarmless ⊥ r)) is known
+
+        row_is : GcRow (Err refusal) (state sweeps.1.0) (state new)
+        row_is = subst (λ (a : Result Answer Refusal). GcRow a (state sweeps.1.0) (state new)) answer_is (ends C state v w old new called percent snapshot mid start answer sweeps).made.row
+
+        collects_on : (r : Refusal) → GcRow (Err r) (state sweeps.1.0) (state new) → IsHarmless ⊥ r → IsCollectCause r
+        collects_on refusals.NotCollecting row none =
+            absurd (let wrong : None ≡ Some (so_last C state v w old new called percent snapshot mid start answer sweeps).collection = sym row.0.none_ran ∙ (so_last C state v w old new called percent snapshot mid start answer sweeps).runs in cc)
+        collects_on r row none = by_row r row.0 none
+          where
+            by_row : (r : Refusal) → IsNotMade r (state sweeps.1.0) (state new) → IsHarmless ⊥ r → IsCollectCause r
+            by_row r made none = collect_cause (at_moment (state sweeps.1.0) made.before) (state new).disk made.before.stage r made.cause none
+
+        by_cause : (r : Refusal) → IsCollectCause r → EndsBy (Collect percent) [] m w.content (Some (Refused r))
+        by_cause refusals.Memory cause = left_with S m content_now.0 w.content (λ store. Unit {0}) content_now.1.0 (now_is content_now.0 (w.as_read content_now.0 content_now.1.0)) tt
+        by_cause refusals.DiskRead cause = left_with S m content_now.0 w.content (λ store. Unit {0}) content_now.1.0 (now_is content_now.0 (w.as_read content_now.0 content_now.1.0)) tt
+        by_cause refusals.DiskWrite cause = tt
+        by_cause r cause = absurd cause
+
+        pub stopped_by_map : EndsBy (Collect percent) [] m w.content (Some (Refused refusal))
+        stopped_by_map = by_cause refusal (collects_on refusal row_is harmless)
+
+  -- ---- by each map
+
+  module _ (snapshot : ℕ) (mid : C) (start : Starts C state percent (Ok snapshot) old mid) where
+    -- a step was refused
+    module _ (refusal : Refusal) (sweeps : Sweeps C state (Err refusal) mid new) where
+      abbrev err : Result Answer Refusal
+      err = Err refusal
+
+      no_changes : (changes : List StoreChange) → AreChangesBy asked.GcStep err changes → changes ≡ []
+      no_changes changes are = are
+
+      runs_or_not : (r : Refusal) → StopsAfter asked.GcStep (Err r) (state sweeps.1.0).acknowledged (state new).stop → (r ≡ refusals.DiskWrite) ⊎ ((state new).stop ≡ None)
+      runs_or_not refusals.DiskWrite stops = inl refl
+      runs_or_not r stops = inr stops
+
+      gave : (among : ByteSet) (m : Stored) (distinct : HasNoCollisions (IsIn among)) (image : List ℕ) (told : v.content ≡ Some image) (is : IsOf (IsIn among) m image) (r : Refusal)
+          → (r ≡ refusals.DiskWrite) ⊎ ((state new).stop ≡ None) → (sink : SinkView) (store : Store) → Encodes image store → GivesBack (Collect percent) (Some (Refused r)) store image w.content sink sink
+      gave among m distinct image told is refusals.DiskWrite how sink store right = tt
+      gave among m distinct image told is r (inl broke) sink store right = absurd (let wrong = broke in cc)
+      gave among m distinct image told is r (inr runs) sink store right =
+          (releases sweeps.0, gave_so snapshot mid start err sweeps among m distinct image told is no_changes runs (releases sweeps.0) refl store right)
+
+      pub stopped_map : (sink : SinkView) → KeepsEachMap (Collect percent) [] (Some (Refused refusal)) v w sink sink
+      stopped_map sink = λ image told among m distinct segments is.
+          keeps snapshot mid start err sweeps among m distinct image told is (Some (Refused refusal)) sink sink (stopped_by_map snapshot mid start err sweeps among m distinct image told is refusal refl)
+          (wrote_nothing (Collect percent) [] m (Refused refusal) sink (not_sink refusal))
+          (gave among m distinct image told is refusal (runs_or_not refusal (ends C state v w old new called percent snapshot mid start err sweeps).stops) sink)
+
+    -- it ended
+    module _ (freed copied : ℕ) (sweeps : Sweeps C state (Ok (answers.Done freed copied)) mid new) where
+      abbrev done : Result Answer Refusal
+      done = Ok (answers.Done freed copied)
+
+      no_more : (changes : List StoreChange) → AreChangesBy asked.GcStep done changes → changes ≡ []
+      no_more changes are = are
+
+      gave_back : (among : ByteSet) (m : Stored) (distinct : HasNoCollisions (IsIn among)) (image : List ℕ) (told : v.content ≡ Some image) (is : IsOf (IsIn among) m image) (store : Store) → Encodes image store
+          → KnownWith w.content (Collected freed store image)
+      gave_back among m distinct image told is store right =
+          gave_so snapshot mid start done sweeps among m distinct image told is no_more (ends C state v w old new called percent snapshot mid start done sweeps).stops freed
+          (freed_are C state v w old new called percent snapshot mid start freed copied sweeps) store right
+
+      done_answer : (among : ByteSet) (m : Stored) (distinct : HasNoCollisions (IsIn among)) (image : List ℕ) (told : v.content ≡ Some image) (is : IsOf (IsIn among) m image) (ending : Option Ending) (sink sink_now : SinkView)
+          → IsDone ending → WroteReply (collected_line freed) ending sink sink_now → KeepsMap (IsIn among) (Collect percent) [] ending m v w sink sink_now
+      done_answer among m distinct image told is None sink sink_now over wrote =
+          keeps snapshot mid start done sweeps among m distinct image told is None sink sink_now tt (freed, wrote) (λ store right. (freed, (gave_back among m distinct image told is store right, wrote)))
+      done_answer among m distinct image told is (Some Sink) sink sink_now over wrote =
+          keeps snapshot mid start done sweeps among m distinct image told is (Some Sink) sink sink_now tt (freed, wrote) (λ store right. (freed, (gave_back among m distinct image told is store right, wrote)))
+      done_answer among m distinct image told is (Some ending) sink sink_now over wrote = absurd over
+
+      pub done_map : (ending : Option Ending) (sink sink_now : SinkView) → IsDone ending → WroteReply (collected_line freed) ending sink sink_now → KeepsEachMap (Collect percent) [] ending v w sink sink_now
+      done_map ending sink sink_now over wrote = λ image told among m distinct segments is. done_answer among m distinct image told is ending sink sink_now over wrote
+
+      -- there was no memory for its reply
+      pub untold_map : (sink : SinkView) → KeepsEachMap (Collect percent) [] (Some (Refused refusals.Memory)) v w sink sink
+      untold_map sink = λ image told among m distinct segments is.
+          let now = content_now snapshot mid start done sweeps among m distinct image told is in
+          keeps snapshot mid start done sweeps among m distinct image told is (Some (Refused refusals.Memory)) sink sink
+          (left_with (IsIn among) m now.0 w.content (λ store. Unit {0}) now.1.0 (now_is snapshot mid start done sweeps among m distinct image told is now.0 (w.as_read now.0 now.1.0)) tt)
+          (wrote_nothing (Collect percent) [] m (Refused refusals.Memory) sink (not_sink refusals.Memory)) (λ store right. (freed, gave_back among m distinct image told is store right))

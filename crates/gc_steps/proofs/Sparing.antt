@@ -19,7 +19,7 @@ use Rattle.merkle_file.specs.Node.{Contents}
 use Rattle.store_model.specs.Files.{Files}
 use Rattle.store_model.specs.Image.{Store}
 use Rattle.store_model.specs.Indexing.{entry_key}
-use Rattle.store_model.specs.Slots.{Copy, DifferentIds, HoldSlots, HoldsSlot, IsPartialIndexOf, IsUnusedId, newest, place_of, without_slot}
+use Rattle.store_model.specs.Slots.{Copy, DifferentIds, HoldSlots, HoldsSlot, IsPartialIndexOf, IsUnusedId, last_id, place_of, without_slot}
 use Rattle.store_model.specs.Standing.{IsStoreOf}
 use Rattle.store_model.specs.Trees.{node_key}
 use Rattle.store_model.proofs.Copies.{some_same}
@@ -43,7 +43,7 @@ use Rattle.gc_steps.specs.Stepping.{StepsTo, moment}
 use Rattle.gc_steps.specs.UnderWay.{IsUnderWay}
 use Rattle.gc_steps.specs.Fresh.{IsAsLive}
 use Rattle.gc_steps.specs.SweepIsSafe.{HasNoEntryIn}
-use Rattle.store_model.specs.Reserve.{IsReachable, IsSpare}
+use Rattle.store_model.specs.Reserve.{HoldsNone, IsReachable, IsSpare}
 use Rattle.store_state.specs.Invariant.{IndexesFiles}
 use Rattle.gc_steps.proofs.Released.{none_held}
 use Rattle.gc_steps.proofs.UnderWay.{at_stage}
@@ -107,7 +107,7 @@ module _ (P : List ℕ → Type 0) (index : PlaceMap) (store : Store) (files : F
 -- ---- as it begins
 
 pub spares_begun : (P : List ℕ → Type 0) (index : PlaceMap) (store : Store) (image : List ℕ) (t : SlotTable) (c : Collection) → HoldSlots 0 store.held image → RepresentsSlots store.held t
-    → c.stage ≡ mark_level c.snapshot t MOST_LEVEL → t.last_id < c.snapshot → IsWithin P c.live → Spares P index store.held c
+    → c.stage ≡ mark_level c.snapshot t MOST_LEVEL → last_id store.held < c.snapshot → IsWithin P c.live → Spares P index store.held c
 spares_begun P index store image t c holds slots stage_is above within = record {
   within = within;
   all_old = old;
@@ -117,7 +117,7 @@ spares_begun P index store image t c holds slots stage_is above within = record 
 }
   where
     old : (slot : ℕ) (h : HeaderValue) → slice_get store.held slot ≡ Some (Some h) → h.id < c.snapshot
-    old slot h there = omega (arith, id_below store.held slot h there, slots.last_id_is, above)
+    old slot h there = omega (arith, id_below store.held slot h there, above)
 
 -- ---- each of its steps
 
@@ -367,19 +367,20 @@ module _ (P : List ℕ → Type 0) (index : PlaceMap) (store : Store) (files : F
 
 -- a container that holds a live copy has the newest copy of a key of which P holds
 module _ (P : List ℕ → Type 0) (index : PlaceMap) (store : Store) (live : LiveKeys) (partial : IsPartialIndexOf store.held index) (within : IsWithin P live) where
-  spared_holds : (kind : Kind) (slot : ℕ) (es : List Entry) → HasLiveCopy index live kind slot es → (key : List ℕ) × ((copy : Copy) × (P key × (newest 0 store.held key ≡ Some copy) × (copy.place.slot ≡ slot)))
-  spared_holds kind slot [] has = absurd has
-  spared_holds kind slot (e ∷ es) (inr rest) = spared_holds kind slot es rest
-  spared_holds kind slot (e ∷ es) (inl has) =
+  spared_holds : (kind : Kind) (slot : ℕ) (es : List Entry) → HasLiveCopy index live kind slot es → HoldsNone P store.held slot → ⊥
+  spared_holds kind slot [] has none = absurd has
+  spared_holds kind slot (e ∷ es) (inr rest) none = spared_holds kind slot es rest none
+  spared_holds kind slot (e ∷ es) (inl has) none =
       let place : Place = place_of slot e in
       let found = finds store index (entry_key kind e) place partial (copy_is live index kind slot e has.0) in
-      (entry_key kind e, (found.0, (within (entry_key kind e) place has.1, found.1, ap (λ (p : Place). p.slot) found.2)))
+      none (entry_key kind e) found.0 (within (entry_key kind e) place has.1) found.1 (ap (λ (p : Place). p.slot) found.2)
 
--- So it is of each container that is left.
+-- So none is left that holds no such copy.
 pub spares_ended : (P : List ℕ → Type 0) (index : PlaceMap) (store : Store) (c : Collection) → IsPartialIndexOf store.held index → c.stage ≡ End → Spares P index store.held c
-    → (slot : ℕ) (h : HeaderValue) → slice_get store.held slot ≡ Some (Some h) → (key : List ℕ) × ((copy : Copy) × (P key × (newest 0 store.held key ≡ Some copy) × (copy.place.slot ≡ slot)))
-spares_ended P index store c partial ended was slot h there =
-    spared_holds P index store c.live partial was.within h.kind slot h.entries (subst (λ (s : Stage). IsSparedAt s index c slot h) ended (was.spared slot h there))
+    → (slot : ℕ) → ¬ (IsSpare P store.held slot)
+spares_ended P index store c partial ended was slot spare =
+    spared_holds P index store c.live partial was.within spare.header.kind slot spare.header.entries
+    (subst (λ (s : Stage). IsSparedAt s index c slot spare.header) ended (was.spared slot spare.header spare.holds)) spare.none
 
 -- ---- what others leave
 

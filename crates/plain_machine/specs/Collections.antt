@@ -1,6 +1,6 @@
 -- Collections: what no file, no reader and no writer needs is found step by step, and containers of nothing else are given back
 -- (docs/MODEL.md, 'The plain machine').
-use Rattle.std.specs.Prelude.{◌≡◌, ℕ, suc, ◌+◌, ◌*◌, Bool, true, slice_get, List, [], ◌∷◌, Option, None, Some, IsSome}
+use Rattle.std.specs.Prelude.{◌≡◌, ℕ, suc, ◌+◌, ◌*◌, Bool, true, List, [], ◌∷◌, Option, None, Some, IsSome}
 use Rattle.base_model.specs.Fault.{Rose}
 use Rattle.container_meta.specs.declared.kind.Kind.{Kind}
 use Rattle.container_meta.specs.declared.kind.Kind.TheVariants.{Leaf, Tree}
@@ -10,8 +10,7 @@ use Rattle.refusals.specs.declared.refusal.Phase.TheVariants.{Release}
 use Rattle.refusals.specs.declared.refusal.Refusal.{Refusal}
 use Rattle.refusals.specs.declared.refusal.Refusal.TheVariants.{Memory, NotCollecting, DiskRead, DiskWrite}
 use Rattle.store_model.specs.Files.{Files}
-use Rattle.store_model.specs.Reserve.{IsReachable}
-use Rattle.store_model.specs.Slots.{Copy, newest}
+use Rattle.store_model.specs.Reserve.{IsReachable, IsSpare}
 use Rattle.plain_machine.specs.Content.{BreaksGate, FreesContainer, OfStore, SameStore}
 use Rattle.plain_machine.specs.Machine.{Machine, Stopped, are_idle}
 use Rattle.plain_machine.specs.Turns.{Stays}
@@ -38,11 +37,6 @@ abbrev pub most_steps : List (Option HeaderValue) → ℕ
 most_steps held = 6 * trees_in held + 6 * containers_in held + 3
 
 -- ---- what it does
-
--- each container holds the newest copy of a key of which P holds
-abbrev pub EachHolds : (List ℕ → Type 0) → List (Option HeaderValue) → Type 0
-EachHolds P held = (slot : ℕ) (h : HeaderValue) → slice_get held slot ≡ Some (Some h) → (key : List ℕ)
-    × ((copy : Copy) × (P key × (newest 0 held key ≡ Some copy) × (copy.place.slot ≡ slot)))
 
 -- One begins where none ran. Its snapshot is the next id.
 pub record BeginsCollection (snapshot : ℕ) (m n : Machine) : Type 0 where
@@ -78,14 +72,14 @@ abbrev pub CollectionSteps : List Phase → Machine → Machine → Type 0
 CollectionSteps [] m n = n ≡ m
 CollectionSteps (phase ∷ phases) m n = (mid : Machine) × (StepsCollection phase m mid × CollectionSteps phases mid n)
 
--- It ends, and tells how many containers it gave back. It copies nothing so far. Of one that ran alone each container that is left holds
--- the newest copy of a key of a file: so just those that no file needs were given back.
+-- It ends, and tells how many containers it gave back. It copies nothing so far. One that ran alone leaves no container that holds the
+-- newest copy of no key that a file needs: so it gave back all of these, and no others.
 pub record EndsCollection (freed copied : ℕ) (m n : Machine) : Type 0 where
   pub left : ℕ
   pub alone : Bool
   pub ran : m.collecting ≡ Some (record { to_come = left; freed = freed; alone = alone })
   pub copied_is : copied ≡ 0
-  pub none_spare : alone ≡ true → OfStore m.content (λ store. EachHolds (IsReachable m.stored.files) store.held)
+  pub none_spare : alone ≡ true → OfStore m.content (λ store. (slot : ℕ) → ¬ (IsSpare (IsReachable m.stored.files) store.held slot))
   pub others : n ≡ record m { collecting = None }
 
 -- it goes on to its end

@@ -184,7 +184,7 @@ module _ (C : Type 0) (state : C → CoreState) (among : ByteSet) (apart : HasNo
     needed_alone : ((key : List ℕ) → IsRoot (names_of held) (state old).parts key → Needs key) → (index : PlaceMap) → (state new).known ≡ Some index → Spares Needs index held.held begun.collection
     needed_alone roots index known =
         sparing.spares_begun Needs index held m.content (state old).tables.held begun.collection (right_here (IsIn among) held m.stored (state old) at.running.begins.is_at m.content at.content_is).slots_are
-        at.running.begins.is_at.represents.slots_hold begun.stage_is (omega (arith, begun.next_is, at.running.begins.last_id_is, at.running.begins.low))
+        at.running.begins.is_at.represents.slots_hold begun.stage_is (omega (arith, begun.next_is, at.running.begins.last_id_is, at.running.begins.low, at.running.begins.is_at.represents.slots_hold.last_id_is))
         (λ key place is. roots key (subst (λ (names : NameMap). IsRoot names (state old).parts key) at.running.begins.is_at.represents.names_are.names_are ((begun.live key place).0 is)))
 
     spares_begun : SparesAlone m.stored.files held (Some begins_so) (state new)

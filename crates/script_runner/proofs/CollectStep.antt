@@ -27,7 +27,7 @@ use Rattle.gc_steps.specs.Marking.{MarksOnly}
 use Rattle.gc_steps.proofs.StepSafe.{IsStoreAfter, LeavesSafe, step_safe}
 use Rattle.store_model.specs.Collisions.{HasNoCollisions, ByteSet, IsIn, IsOf}
 use Rattle.store_model.specs.Image.{Encodes, Store}
-use Rattle.store_model.specs.Reserve.{IsReachable}
+use Rattle.store_model.specs.Reserve.{IsReachable, IsSpare}
 use Rattle.store_model.specs.Steps.{StoreChange}
 use Rattle.store_model.proofs.Once.{store_once}
 use Rattle.store_state.specs.Refused.{blames}
@@ -48,7 +48,7 @@ use Rattle.store_core.proofs.Leading.{Leads}
 use Rattle.store_core.proofs.Making.{up_of}
 use Rattle.store_core.proofs.RunningOn.{step_runs}
 use Rattle.store_core.proofs.Stepping.{step_later}
-use Rattle.plain_machine.specs.Collections.{ChangesBy, EachHolds, EndsCollection, RefusesCollectionStep, StepsCollection, freed_by}
+use Rattle.plain_machine.specs.Collections.{ChangesBy, EndsCollection, RefusesCollectionStep, StepsCollection, freed_by}
 use Rattle.plain_machine.specs.Content.{BreaksGate, FreesContainer, OfStore, SameButGate, SameStore}
 use Rattle.plain_machine.specs.Machine.{Collecting, Machine, Stopped, part_in}
 use Rattle.script_runner.specs.Follows.{Follows, FollowsCollecting, FollowsCollection, FollowsPart, IsOfFound, SparesAlone}
@@ -458,11 +458,11 @@ module _ (C : Type 0) (state : C → CoreState) (among : ByteSet) (apart : HasNo
     abbrev ended_at : IsAt (IsIn among) at.running.begins.store m.stored (state old)
     ended_at = at.running.begins.is_at
 
-    spares_ended : Spares (IsReachable m.stored.files) ended_at.index at.running.begins.store.held ended.before → EachHolds (IsReachable m.stored.files) at.running.begins.store.held
+    spares_ended : Spares (IsReachable m.stored.files) ended_at.index at.running.begins.store.held ended.before → (slot : ℕ) → ¬ (IsSpare (IsReachable m.stored.files) at.running.begins.store.held slot)
     spares_ended spares = sparing.spares_ended (IsReachable m.stored.files) ended_at.index at.running.begins.store ended.before ((told_here (IsIn among) at.running.begins.store m.stored (state old) ended_at).index_is_newest ended_at.index refl) ended.at_end spares
 
     -- where it ran alone, each container that is left is needed
-    none_spare : has_ended.collecting.alone ≡ true → OfStore m.content (λ store. EachHolds (IsReachable m.stored.files) store.held)
+    none_spare : has_ended.collecting.alone ≡ true → OfStore m.content (λ store. (slot : ℕ) → ¬ (IsSpare (IsReachable m.stored.files) store.held slot))
     none_spare alone =
         let spares = subst (λ (o : Option Collecting). SparesAlone m.stored.files at.running.begins.store o (state old)) has_ended.is at.running.begins.spares in
         (at.running.begins.store, (right C state among apart m sessions old new at done buf made, spares_ended (spares alone ended_at.index ended.before ended_at.index_known ended.ran)))

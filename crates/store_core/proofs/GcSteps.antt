@@ -44,7 +44,7 @@ use Rattle.dd_disk.proofs.Moves.{stands_reads}
 -- ---- the store
 
 -- what a step of a stage is called
-phase_is : (stage : Stage) (freed : ℕ) (phase : Phase) → answer_at stage freed ≡ Did phase → phase_at stage ≡ phase
+pub phase_is : (stage : Stage) (freed : ℕ) (phase : Phase) → answer_at stage freed ≡ Did phase → phase_at stage ≡ phase
 phase_is (Mark level slot) freed phase is = cc
 phase_is (Filter slot) freed phase is = cc
 phase_is Select freed phase is = cc

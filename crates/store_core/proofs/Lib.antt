@@ -18,6 +18,8 @@ pub mod Marks
 pub mod Opened
 pub mod OwnParts
 pub mod RunningOn
+pub mod Releasing
 pub mod SafeSteps
 pub mod Sealing
+pub mod SparedRest
 pub mod Stepping

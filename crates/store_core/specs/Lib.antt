@@ -4,6 +4,7 @@ pub mod Core
 pub mod Frame
 pub mod Keeping
 pub mod Opening
+pub mod Releases
 pub mod Runs
 pub mod Sound
 pub mod State

@@ -1,0 +1,211 @@
+-- What the steps of a collection give back, where no other steps come between them.
+use Rattle.std.proofs.Common.{◌≡◌, inl, inr, ℕ, ◌+◌, List, [], ◌∷◌, ◌++◌, length, Option, Some, None, Result, Ok, Err, refl, sym, ◌∙◌, ap, ap₂, subst}
+use Rattle.std.proofs.lemmas.List.{length-append}
+use Rattle.actor_parts.specs.declared.step.Answer.{Answer}
+use Rattle.actor_parts.specs.declared.step.Answer.TheVariants as answers
+use Rattle.actor_parts.specs.StepValue as asked
+use Rattle.actor_parts.specs.StepValue.{StepValue}
+use Rattle.container_meta.specs.Places.{PlaceMap}
+use Rattle.gc_steps.specs.declared.collection.Collection.{Collection}
+use Rattle.gc_steps.specs.declared.collection.Stage.{Stage}
+use Rattle.gc_steps.specs.declared.collection.Stage.TheVariants.{Copy, End, Filter, Mark, Release, Select}
+use Rattle.gc_steps.specs.Sparing.{Spares}
+use Rattle.gc_steps.specs.Stepping.{phase_at}
+use Rattle.gc_steps.proofs.Sparing.{ready_is_spare}
+use Rattle.gc_steps.proofs.StepSafe.{IsStoreAfter}
+use Rattle.refusals.specs.declared.refusal.Phase.{Phase}
+use Rattle.refusals.specs.declared.refusal.Refusal.{Refusal}
+use Rattle.refusals.specs.declared.refusal.Refusal.TheVariants as refusals
+use Rattle.store_model.specs.Collisions.{HasNoCollisions, ByteSet, IsIn}
+use Rattle.store_model.specs.Files.{Stored}
+use Rattle.store_model.specs.Freeing.{with_freed}
+use Rattle.store_model.specs.Image.{Store}
+use Rattle.store_model.specs.Reserve.{IsReachable, IsSpare}
+use Rattle.store_model.specs.Steps.{StoreChange}
+use Rattle.store_core.specs.Bounds.{starts}
+use Rattle.store_core.specs.Collecting.{GcEffect, GcRow, GoesOn, HasEnded, IsNotMade, TouchesBy}
+use Rattle.store_core.specs.Core.{Steps, StopsAfter}
+use Rattle.store_core.specs.Releases.{AreGcSteps, FreesSpare, LeavesNoneSpare, ReleasesSpare, ends_with, released_by}
+use Rattle.store_core.specs.Runs.{AreChangesBy, ChangesTo, FileEvent, FileRun, FileStep, IsAt, stored_by, stored_with}
+use Rattle.store_core.specs.State.{CoreState}
+use Rattle.store_core.proofs.AnySteps.{any_step, with_step}
+use Rattle.store_core.proofs.CoreRuns.{running_step, was_running}
+use Rattle.store_core.proofs.KeepingFiles.{run_running}
+use Rattle.store_core.proofs.SafeSteps.{one_map_at}
+use Rattle.store_model.proofs.Once.{store_once}
+use Rattle.store_state.specs.Invariant.{CoreInvariant}
+use Rattle.store_core.proofs.GcSteps.{phase_is}
+use Rattle.store_core.proofs.Leading.{Leads}
+use Rattle.store_core.proofs.SparedRest.{begun_spares, did_spares, ended_spares, led_to, refused_known, refused_spares}
+
+-- ---- lists of containers that are given back
+
+frees_then : (P : List ℕ → Type 0) (slots more : List ℕ) (s t u : Store) → FreesSpare P slots s t → FreesSpare P more t u → FreesSpare P (slots ++ more) s u
+frees_then P [] more s t u first rest = subst (λ (x : Store). FreesSpare P more x u) first rest
+frees_then P (slot ∷ slots) more s t u first rest = (first.0, frees_then P slots more (with_freed slot s) t u first.1 rest)
+
+-- ---- a step
+
+-- none is given back but at a release
+no_release : (stage : Stage) → ((next slot : ℕ) → stage ≡ Release next slot → ⊥) → released_by (Ok (answers.Did (phase_at stage))) ≡ 0
+no_release (Mark level slot) none = refl
+no_release (Filter slot) none = refl
+no_release Select none = refl
+no_release (Copy source) none = refl
+no_release (Release next slot) none = absurd (none next slot refl)
+no_release End none = refl
+
+-- What a step gave back: one container, or none.
+record Gives (P : List ℕ → Type 0) (answer : Result Answer Refusal) (s t : Store) : Type 0 where
+  slots : List ℕ
+  many : length slots ≡ released_by answer
+  chain : FreesSpare P slots s t
+
+gives_none : (P : List ℕ → Type 0) (answer : Result Answer Refusal) (s t : Store) → released_by answer ≡ 0 → t ≡ s → Gives P answer s t
+gives_none P answer s t none same = record { slots = []; many = sym none; chain = same }
+
+-- the collection that runs, if one does, spares what is needed
+abbrev SparesIn : (List ℕ → Type 0) → PlaceMap → Store → Option Collection → Type 0
+SparesIn P index store None = Unit {0}
+SparesIn P index store (Some c) = Spares P index store.held c
+
+module _ (among : ByteSet) (distinct : HasNoCollisions (IsIn among)) (f : FileEvent) (s : Store) (stored : Stored) (old new : CoreState) (is : f.event.step ≡ asked.GcStep) (step : FileStep (IsIn among) f old new)
+    (at : IsAt (IsIn among) s stored old) (stays : new.stop ≡ None) where
+  abbrev Needs : List ℕ → Type 0
+  Needs = IsReachable stored.files
+
+  leads : Leads (IsIn among) s f (stored_by f stored) old new
+  leads = any_step among distinct f s stored old new step at stays
+
+  abbrev t : Store
+  t = leads.next.store
+
+  after : IsAt (IsIn among) t stored new
+  after = subst (λ (x : Stored). IsAt (IsIn among) t x new) (ap (λ (st : StepValue). stored_with st f.event.answer f.bytes stored) is) leads.next.is_at
+
+  steps : Steps (with_step f asked.GcStep).event old new
+  steps = subst (λ (st : StepValue). Steps (with_step f st).event old new) is (running_step old new f.event (was_running old.stop f.event old new refl step.made stays) step.made)
+
+  same_store : leads.changes ≡ [] → t ≡ s
+  same_store none = subst (λ (changes : List StoreChange). ChangesTo changes s t) none leads.next.chain
+
+  told : AreChangesBy asked.GcStep f.event.answer leads.changes
+  told = subst (λ (st : StepValue). AreChangesBy st f.event.answer leads.changes) is leads.changes_are
+
+  abbrev was : CoreInvariant at.index s stored.files old.parts at.stands.known.0
+  was = at.invariant at.stands.known.0 at.stands.known.1
+
+  -- that was made
+  module _ (phase : Phase) (goes : GoesOn phase old new) (touches : TouchesBy old.collection (Ok (answers.Did phase)) old new.disk) where
+    stage_of : phase_at goes.before.stage ≡ phase
+    stage_of = phase_is goes.before.stage goes.before.freed phase goes.phase_is
+
+    by_store : IsStoreAfter goes.before.stage at.index s t → Gives Needs (Ok (answers.Did phase)) s t
+    by_store (inl same) =
+        gives_none Needs (Ok (answers.Did phase)) s t
+        (ap (λ (p : Phase). released_by (Ok (answers.Did p))) (sym stage_of) ∙ no_release goes.before.stage same.0) same.1
+    by_store (inr frees) = record {
+      slots = frees.slot ∷ [];
+      many = ap (λ (stage : Stage). released_by (Ok (answers.Did (phase_at stage)))) (sym frees.stage_is) ∙ ap (λ (p : Phase). released_by (Ok (answers.Did p))) stage_of;
+      chain = (ready_is_spare at.index s stored.files frees.slot frees.header frees.there was.index_is_newest was.files_are_indexed frees.none, frees.now_is);
+    }
+
+    did_gives : Gives Needs (Ok (answers.Did phase)) s t
+    did_gives = by_store (led_to among s stored old new at t after phase goes touches)
+
+    did_on : SparesIn Needs at.index s old.collection → SparesIn Needs after.index t new.collection
+    did_on spares =
+        subst (SparesIn Needs after.index t) (sym goes.runs)
+        (did_spares among s stored old new at t after phase goes touches after.index after.index_known (subst (SparesIn Needs at.index s) goes.ran spares))
+
+  gives_by : (a : Result Answer Refusal) → AreChangesBy asked.GcStep a leads.changes → GcRow a old new → GcEffect a old new → Gives Needs a s t
+  gives_by (Ok (answers.Did phase)) are row effect = did_gives phase row.0 effect.touches
+  gives_by (Ok (answers.Done freed copied)) are row effect = gives_none Needs (Ok (answers.Done freed copied)) s t refl (same_store are)
+  gives_by (Err refusal) are row effect = gives_none Needs (Err refusal) s t refl (same_store are)
+  gives_by a are row effect = absurd row
+
+  gives : Gives Needs f.event.answer s t
+  gives = gives_by f.event.answer told steps.made.row steps.made.effect
+
+  -- that was refused
+  whole : (refusal : Refusal) → StopsAfter asked.GcStep (Err refusal) old.acknowledged new.stop → refusal ≡ refusals.DiskWrite → ⊥
+  whole refusal stops same = broken (subst (λ (r : Refusal). StopsAfter asked.GcStep (Err r) old.acknowledged new.stop) same stops)
+    where
+      broken : StopsAfter asked.GcStep (Err refusals.DiskWrite) old.acknowledged new.stop → ⊥
+      broken stops = let both = sym stays ∙ stops in cc
+
+  refused_on : (refusal : Refusal) → AreChangesBy asked.GcStep (Err refusal) leads.changes → IsNotMade refusal old new → StopsAfter asked.GcStep (Err refusal) old.acknowledged new.stop
+      → SparesIn Needs at.index s old.collection → SparesIn Needs after.index t new.collection
+  refused_on refusal are row stops spares =
+      subst (SparesIn Needs after.index t) (sym row.runs)
+      (subst (λ (x : Store). Spares Needs after.index x.held row.after) (sym (same_store are))
+      (subst (λ (m : PlaceMap). Spares Needs m s.held row.after) (one_map_at at.index after.index (sym (refused_known among s stored old new at refusal row (whole refusal stops)) ∙ after.index_known))
+      (refused_spares among s stored old new at refusal row (subst (SparesIn Needs at.index s) row.ran spares))))
+
+  spares_by : (a : Result Answer Refusal) → AreChangesBy asked.GcStep a leads.changes → GcRow a old new → GcEffect a old new → StopsAfter asked.GcStep a old.acknowledged new.stop
+      → SparesIn Needs at.index s old.collection → SparesIn Needs after.index t new.collection
+  spares_by (Ok (answers.Did phase)) are row effect stops spares = did_on phase row.0 effect.touches spares
+  spares_by (Ok (answers.Done freed copied)) are row effect stops spares = subst (SparesIn Needs after.index t) (sym row.0.ended) tt
+  spares_by (Err refusals.NotCollecting) are row effect stops spares = subst (SparesIn Needs after.index t) (sym row.0.none_runs) tt
+  spares_by (Err refusal) are row effect stops spares = refused_on refusal are row.0 stops spares
+  spares_by a are row effect stops spares = absurd row
+
+  spares_on : SparesIn Needs at.index s old.collection → SparesIn Needs after.index t new.collection
+  spares_on = spares_by f.event.answer told steps.made.row steps.made.effect steps.stops
+
+-- ---- steps, one after the other
+
+module _ (C : Type 0) (state : C → CoreState) where
+  pub releases_spare : ReleasesSpare C state
+  releases_spare among [] s stored old new distinct at run all stays = record {
+    store = s;
+    is_at = subst (λ (c : C). IsAt (IsIn among) s stored (state c)) (sym run) at;
+    slots = [];
+    many = refl;
+    chain = refl;
+  }
+  releases_spare among (f ∷ fs) s stored old new distinct at run all stays =
+      let on : (state run.0).stop ≡ None = run_running C state among fs run.0 new run.1.1 stays in
+      let one = gives among distinct f s stored (state old) (state run.0) all.0 run.1.0 at on in
+      let next = after among distinct f s stored (state old) (state run.0) all.0 run.1.0 at on in
+      let rest = releases_spare among fs (leads among distinct f s stored (state old) (state run.0) all.0 run.1.0 at on).next.store stored run.0 new distinct next run.1.1 all.1 stays in
+      record {
+        store = rest.store;
+        is_at = rest.is_at;
+        slots = one.slots ++ rest.slots;
+        many = length-append one.slots rest.slots ∙ ap₂ (λ (a b : ℕ). a + b) one.many rest.many;
+        chain = frees_then (IsReachable stored.files) one.slots rest.slots s (leads among distinct f s stored (state old) (state run.0) all.0 run.1.0 at on).next.store rest.store one.chain rest.chain;
+      }
+
+  -- where the steps lead the collection that runs spares what is needed
+  record Spared (S : List ℕ → Type 0) (stored : Stored) (c : C) : Type 0 where
+    store : Store
+    is_at : IsAt S store stored (state c)
+    spares : SparesIn (IsReachable stored.files) is_at.index store (state c).collection
+
+  spared : (among : ByteSet) (steps : List FileEvent) (s : Store) (stored : Stored) (mid new : C) → HasNoCollisions (IsIn among) → (at : IsAt (IsIn among) s stored (state mid))
+      → SparesIn (IsReachable stored.files) at.index s (state mid).collection → FileRun C state (IsIn among) steps mid new → AreGcSteps steps → (state new).stop ≡ None → Spared (IsIn among) stored new
+  spared among [] s stored mid new distinct at spares run all stays =
+      subst (Spared (IsIn among) stored) (sym run) (record { store = s; is_at = at; spares = spares })
+  spared among (f ∷ fs) s stored mid new distinct at spares run all stays =
+      let on : (state run.0).stop ≡ None = run_running C state among fs run.0 new run.1.1 stays in
+      let next = after among distinct f s stored (state mid) (state run.0) all.0 run.1.0 at on in
+      spared among fs (leads among distinct f s stored (state mid) (state run.0) all.0 run.1.0 at on).next.store stored run.0 new distinct next
+      (spares_on among distinct f s stored (state mid) (state run.0) all.0 run.1.0 at on spares) run.1.1 all.1 stays
+
+  pub leaves_none_spare : LeavesNoneSpare C state
+  leaves_none_spare among actor last_actor percent snapshot freed copied buf last_buf steps s t stored old mid new last distinct at idle runs began run all stays ended there slot spare =
+      let first : FileEvent = record { event = starts actor percent snapshot buf; bytes = [] } in
+      let begins : Steps first.event (state old) (state mid) = running_step (state old) (state mid) first.event runs began in
+      let on : (state mid).stop ≡ None = run_running C state among steps mid new run stays in
+      let led = any_step among distinct first s stored (state old) (state mid) (record { asked = tt; given = tt; made = began }) at on in
+      let spares = begun_spares (IsIn among) led.next.store stored (state old) (state mid) led.next.is_at percent snapshot begins.made.row.0 begins.made.effect.tables.tables_are idle in
+      let all_on = spared among steps led.next.store stored mid new distinct led.next.is_at
+      (subst (SparesIn (IsReachable stored.files) led.next.is_at.index led.next.store) (sym begins.made.row.0.runs) (spares led.next.is_at.index begins.made.row.0.collection begins.made.row.0.runs)) run all stays in
+      let ends : Steps (ends_with last_actor freed copied last_buf) (state new) (state last) = running_step (state new) (state last) (ends_with last_actor freed copied last_buf) stays ended in
+      let row : HasEnded freed copied (state new) (state last) = ends.made.row.0 in
+      let image : List ℕ = there.stands.known.0 in
+      let told : (state new).disk.content ≡ Some image = there.stands.known.1 in
+      let same = store_once image all_on.store t (all_on.is_at.stands.each image ((state new).disk.as_read image told)).holds.right (there.stands.each image ((state new).disk.as_read image told)).holds.right in
+      ended_spares among all_on.store stored (state new) (state last) all_on.is_at freed copied row
+      (subst (SparesIn (IsReachable stored.files) all_on.is_at.index all_on.store) row.ran all_on.spares) slot (subst (λ (x : Store). IsSpare (IsReachable stored.files) x.held slot) (sym same) spare)

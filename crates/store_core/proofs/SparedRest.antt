@@ -1,0 +1,160 @@
+-- A collection that runs alone: only keys that files need are live, and it spares just the containers that hold copies of these.
+use Rattle.std.proofs.Common.{◌≡◌, ◌≤◌, inl, inr, ℕ, List, Option, Some, Ok, refl, sym, ◌∙◌, ap, subst, arith, length}
+use Rattle.std.specs.List.{Contains}
+use Rattle.actor_parts.specs.declared.actor.TheConstants.{ACTORS}
+use Rattle.actor_parts.specs.declared.step.Answer.TheVariants as answers
+use Rattle.container_meta.specs.Places.{PlaceMap}
+use Rattle.gc_enumerate.specs.Scanning.{child_keys}
+use Rattle.gc_steps.specs.declared.collection.Collection.{Collection}
+use Rattle.gc_steps.specs.declared.collection.Stage.{Stage}
+use Rattle.gc_steps.specs.declared.collection.Stage.TheVariants.{Copy, End, Filter, Mark, Release, Select}
+use Rattle.gc_steps.specs.LiveTrees.{HoldsNode}
+use Rattle.gc_steps.specs.Roots.{IsActorKey, IsNameKey, IsRoot}
+use Rattle.gc_steps.specs.Stages.{mark_level}
+use Rattle.disk_format.specs.declared.numbers.TheConstants.{MOST_LEVEL}
+use Rattle.gc_steps.specs.Sparing.{IsWithin, Spares}
+use Rattle.gc_steps.specs.Stepping.{IsStepRefusal, Keeps, StepsTo, moment}
+use Rattle.gc_steps.specs.UnderWay.{IsUnderWay}
+use Rattle.gc_steps.proofs.FileKeys.{name_reachable, reachable_closed}
+use Rattle.gc_steps.proofs.Sparing.{some_spares, spares_begun, spares_ended, spares_step}
+use Rattle.gc_steps.proofs.StepSafe.{IsStoreAfter, LeavesSafe, step_safe}
+use Rattle.merkle_file.specs.Node.{Contents}
+use Rattle.namespace.specs.Names.{NameMap}
+use Rattle.refusals.specs.declared.refusal.Phase.{Phase}
+use Rattle.refusals.specs.declared.refusal.Refusal.{Refusal}
+use Rattle.refusals.specs.declared.refusal.Refusal.TheVariants as refusals
+use Rattle.store_model.specs.Collisions.{ByteSet, IsIn}
+use Rattle.store_model.specs.Files.{Stored}
+use Rattle.store_model.specs.Image.{Store, names_of}
+use Rattle.store_model.specs.Reserve.{IsReachable, IsSpare}
+use Rattle.store_model.specs.Slots.{Copy as HeldCopy}
+use Rattle.store_model.specs.Standing.{IsStoreOf}
+use Rattle.store_model.specs.Trees.{node_key}
+use Rattle.store_model.proofs.Copies.{headers_of_right}
+use Rattle.store_model.proofs.Once.{store_once}
+use Rattle.store_model.proofs.Sound.{last_within}
+use Rattle.store_state.specs.Tables.{Represents}
+use Rattle.store_state.specs.declared.tables.Tables.{Tables}
+use Rattle.store_core.specs.Collecting.{Begins, GoesOn, HasEnded, IsNotMade, TouchesBy, at_moment}
+use Rattle.store_core.specs.Runs.{IsAt, IsSafeIn}
+use Rattle.store_core.specs.State.{CoreState, IsUnderWayIn}
+
+same_some : (a b : Collection) (o : Option Collection) → o ≡ Some a → o ≡ Some b → a ≡ b
+same_some a b o one two = let both : Some a ≡ Some b = sym one ∙ two in cc
+
+-- ---- it begins, where no actor is at anything
+
+module _ (S : List ℕ → Type 0) (store : Store) (stored : Stored) (old new : CoreState) (after : IsAt S store stored new) (percent snapshot : ℕ) (begun : Begins percent snapshot old new) (tables : new.tables ≡ old.tables)
+    (idle : (key : List ℕ) → ¬ (IsActorKey old.parts key)) where
+  abbrev image : List ℕ
+  image = after.stands.known.0
+
+  holds : IsStoreOf store stored.files image
+  holds = (after.stands.each image (new.disk.as_read image after.stands.known.1)).holds
+
+  names : old.tables.names ≡ names_of store
+  names = ap (λ (t : Tables). t.names) (sym tables) ∙ after.represents.names_are.names_are
+
+  within : IsWithin (IsReachable stored.files) begun.collection.live
+  within key place is = by_root ((begun.live key place).0 is)
+    where
+      by_root : IsRoot old.tables.names old.parts key → IsReachable stored.files key
+      by_root (inl name) = name_reachable store stored.files image key holds (subst (λ (n : NameMap). IsNameKey n key) names name)
+      by_root (inr actor) = absurd (idle key actor)
+
+  pub begun_spares : (index : PlaceMap) (collection : Collection) → new.collection ≡ Some collection → Spares (IsReachable stored.files) index store.held collection
+  begun_spares index collection runs =
+      subst (Spares (IsReachable stored.files) index store.held) (same_some begun.collection collection new.collection begun.runs runs)
+      (spares_begun (IsReachable stored.files) index store image new.tables.held begun.collection holds.right.slots_are after.represents.slots_hold
+      (subst (λ (t : Tables). begun.collection.stage ≡ mark_level begun.collection.snapshot t.held MOST_LEVEL) (sym tables) begun.stage_is)
+      (omega (arith, begun.next_is, ap (λ (t : Tables). t.held.last_id) tables, after.represents.slots_hold.last_id_is, last_within store.held (headers_of_right image store holds.right))) within)
+
+-- ---- a step
+
+module _ (among : ByteSet) (s : Store) (stored : Stored) (old new : CoreState) (at : IsAt (IsIn among) s stored old) where
+  abbrev content : List ℕ
+  content = at.stands.known.0
+
+  abbrev told : old.disk.content ≡ Some content
+  told = at.stands.known.1
+
+  abbrev stands_for : IsStoreOf s stored.files content
+  stands_for = (at.stands.each content (old.disk.as_read content told)).holds
+
+  abbrev shows : Represents s (Some at.index) old.tables
+  shows = subst (λ (known : Option PlaceMap). Represents s known old.tables) at.index_known at.represents
+
+  closed : (n : Contents) (copy : HeldCopy) → HoldsNode s.held content n copy → IsReachable stored.files (node_key n) → (key : List ℕ) → Contains (child_keys n) key → IsReachable stored.files key
+  closed n copy node needed key child = reachable_closed s stored.files content stands_for n copy node needed key child
+
+  few : length old.parts ≤ ACTORS
+  few = omega (arith, at.many)
+
+  -- that was made
+  module _ (t : Store) (after : IsAt (IsIn among) t stored new) (phase : Phase) (goes : GoesOn phase old new) (touches : TouchesBy old.collection (Ok (answers.Did phase)) old new.disk) where
+    abbrev now : List ℕ
+    now = after.stands.known.0
+
+    abbrev c : Collection
+    c = goes.before
+
+    under : IsUnderWay old.tables.held c
+    under = subst (IsUnderWayIn old.tables.held) goes.ran at.under_way
+
+    steps : StepsTo c.stage (moment old.tables (Some at.index) old.disk c) (at_moment new goes.after)
+    steps = subst (λ (k : Option PlaceMap). StepsTo c.stage (moment old.tables k old.disk c) (at_moment new goes.after)) at.index_known goes.steps
+
+    pub leaves : LeavesSafe c.stage at.index s stored.files old.parts content now among new.tables new.known new.disk goes.after
+    leaves =
+        step_safe at.index s stored.files old.parts content now among old.tables new.tables new.known old.disk new.disk c goes.after (at.invariant content told) few shows at.valid told after.stands.known.1 at.stands under
+        (subst (IsSafeIn at.index s old.parts content) goes.ran (at.safe content told)) steps goes.tables (subst (λ (o : Option Collection). TouchesBy o (Ok (answers.Did phase)) old new.disk) goes.ran touches)
+
+    -- the store that it is at is the one that the stage leads to
+    pub led_to : IsStoreAfter c.stage at.index s t
+    led_to =
+        subst (IsStoreAfter c.stage at.index s)
+        (store_once now leaves.store_now t (leaves.stands.each now (new.disk.as_read now after.stands.known.1)).holds.right (after.stands.each now (new.disk.as_read now after.stands.known.1)).holds.right) leaves.store_is
+
+    pub did_spares : (index : PlaceMap) → new.known ≡ Some index → Spares (IsReachable stored.files) at.index s.held c → Spares (IsReachable stored.files) index t.held goes.after
+    did_spares index known was =
+        spares_step (IsReachable stored.files) at.index s stored.files content old.tables new.known old.disk new.disk c goes.after stands_for shows told closed was new.tables under steps index known t led_to
+
+  -- that was refused
+  module _ (refusal : Refusal) (row : IsNotMade refusal old new) (was : Spares (IsReachable stored.files) at.index s.held row.before) where
+    by_stage : (stage : Stage) → row.before.stage ≡ stage → (r : Refusal) → Keeps stage (moment old.tables (Some at.index) old.disk row.before) (at_moment new row.after) r
+        → Spares (IsReachable stored.files) at.index s.held row.after
+    by_stage (Mark level slot) is refusals.Memory (inl same, known) = subst (Spares (IsReachable stored.files) at.index s.held) (sym same) was
+    by_stage (Mark level slot) is refusals.Memory (inr only, known) =
+        some_spares (IsReachable stored.files) at.index s stored.files content old.tables new.known old.disk new.disk row.before row.after stands_for shows told closed was level slot is only
+    by_stage (Mark level slot) is r keeps = subst (Spares (IsReachable stored.files) at.index s.held) (sym keeps.0) was
+    by_stage (Filter slot) is r keeps = subst (Spares (IsReachable stored.files) at.index s.held) (sym keeps.0) was
+    by_stage Select is r keeps = subst (Spares (IsReachable stored.files) at.index s.held) (sym keeps.0) was
+    by_stage (Copy source) is r keeps = subst (Spares (IsReachable stored.files) at.index s.held) (sym keeps.0) was
+    by_stage (Release next slot) is r keeps = subst (Spares (IsReachable stored.files) at.index s.held) (sym keeps) was
+    by_stage End is r keeps = subst (Spares (IsReachable stored.files) at.index s.held) (sym keeps.0) was
+
+    pub refused_spares : Spares (IsReachable stored.files) at.index s.held row.after
+    refused_spares =
+        by_stage row.before.stage refl refusal (subst (λ (k : Option PlaceMap). Keeps row.before.stage (moment old.tables k old.disk row.before) (at_moment new row.after) refusal) at.index_known row.kept)
+
+  -- and the map of the index stays, where no write failed
+  known_by : (stage : Stage) (r : Refusal) (c d : Collection) → (r ≡ refusals.DiskWrite → ⊥) → IsStepRefusal stage (moment old.tables (Some at.index) old.disk c) new.disk r
+      → Keeps stage (moment old.tables (Some at.index) old.disk c) (at_moment new d) r → new.known ≡ Some at.index
+  known_by (Mark level slot) r c d whole cause keeps = keeps.1
+  known_by (Filter slot) r c d whole cause keeps = keeps.1
+  known_by Select r c d whole cause keeps = keeps.1
+  known_by (Copy source) refusals.DiskWrite c d whole cause keeps = absurd (whole refl)
+  known_by (Copy source) (refusals.Damaged at_byte why) c d whole cause keeps = keeps.1 at.index refl
+  known_by (Copy source) r c d whole cause keeps = keeps.1
+  known_by (Release next slot) r c d whole cause keeps = absurd (whole cause)
+  known_by End r c d whole cause keeps = absurd cause
+
+  pub refused_known : (refusal : Refusal) (row : IsNotMade refusal old new) → (refusal ≡ refusals.DiskWrite → ⊥) → new.known ≡ Some at.index
+  refused_known refusal row whole =
+      known_by row.before.stage refusal row.before row.after whole
+      (subst (λ (k : Option PlaceMap). IsStepRefusal row.before.stage (moment old.tables k old.disk row.before) new.disk refusal) at.index_known row.cause)
+      (subst (λ (k : Option PlaceMap). Keeps row.before.stage (moment old.tables k old.disk row.before) (at_moment new row.after) refusal) at.index_known row.kept)
+
+  -- that ended it
+  pub ended_spares : (freed copied : ℕ) (row : HasEnded freed copied old new) → Spares (IsReachable stored.files) at.index s.held row.before → (slot : ℕ) → ¬ (IsSpare (IsReachable stored.files) s.held slot)
+  ended_spares freed copied row was = spares_ended (IsReachable stored.files) at.index s row.before (shows.index_is_newest at.index refl) row.at_end was

@@ -1,5 +1,5 @@
 -- What a `collect` keeps of the map: all of it; and which containers it gives back.
-use Rattle.std.proofs.Common.{◌≡◌, ◌⊎◌, inl, inr, ◌+◌, ◌-◌, ◌<◌, ℕ, zero, suc, List, [], ◌∷◌, ◌++◌, length, Option, None, Some, Result, Ok, Err, refl, sym, ◌∙◌, ap, ap₂, subst, arith, length-append}
+use Rattle.std.proofs.Common.{◌≡◌, ◌⊎◌, inl, inr, ◌+◌, ◌-◌, ◌<◌, ℕ, zero, suc, List, [], ◌∷◌, ◌++◌, length, replicate, Option, None, Some, Result, Ok, Err, refl, sym, ◌∙◌, ap, ap₂, subst, arith}
 use Rattle.std.specs.Prelude.{IfErr, slice_get}
 use Rattle.std.specs.List.{AllByRecursion}
 use Rattle.std.proofs.lemmas.Bool.{cases_lt}
@@ -27,29 +27,40 @@ use Rattle.script_runner.specs.Acts.{CollectionRun, Collects, Starts, Sweeps}
 use Rattle.script_runner.proofs.CollectCauses.{IsCollectCause, collect_cause}
 use Rattle.plain_machine.specs.Collections.{freed_by}
 use Rattle.store_model.specs.Collisions.{ByteSet, HasNoCollisions, IsIn, IsOf}
-use Rattle.store_model.specs.Files.{Stored}
-use Rattle.store_model.specs.Freeing.{HasNoGate}
+use Rattle.store_model.specs.Files.{Files, Stored}
+use Rattle.store_model.specs.Freeing.{HasNoGate, with_freed}
 use Rattle.store_model.specs.Image.{Encodes, Store}
 use Rattle.store_model.specs.Steps.{StoreChange}
 use Rattle.store_model.proofs.Freed.{slot_held}
 use Rattle.store_model.proofs.Once.{store_once}
 use Rattle.store_core.specs.Collecting.{GcRow, IsNotMade, StartRow, at_moment}
 use Rattle.store_core.specs.Core.{CoreStep, Steps, StopsAfter}
-use Rattle.store_core.specs.Runs.{AreChangesBy, AreChangesOf, ChangesTo, FileEvent, FileRun, FileStep, IsOnTheWay, Reaches, stored_after, stored_by, stored_tried}
+use Rattle.store_core.specs.Runs.{ChangesTo, FileEvent, FileRun, FileStep, IsOnTheWay, stored_after, stored_by, stored_tried}
 use Rattle.store_core.specs.Sound.{IsHarmless}
 use Rattle.store_core.specs.State.{CoreState, Event}
-use Rattle.store_core.proofs.AnySteps.{keeps_files}
+use Rattle.store_core.proofs.AnySteps.{any_step}
+use Rattle.store_core.proofs.KeepingFiles.{run_running}
+use Rattle.store_core.proofs.Leading.{Leads}
+use Rattle.store_core.proofs.Releasing.{leaves_none_spare, releases_spare}
+use Rattle.store_core.specs.Releases.{AreGcSteps, FreesSpare, HasReleased, released_by, released_in}
+use Rattle.gc_steps.specs.Roots.{IsActorKey, IsPartKey}
+use Rattle.gc_steps.proofs.Started.{part_holds}
+use Rattle.actor_parts.specs.declared.actor.TheConstants.{ACTORS}
+use Rattle.actor_parts.specs.declared.part.Part.{Part}
+use Rattle.actor_parts.specs.declared.part.Part.TheVariants.{Idle}
+use Rattle.actor_parts.specs.Parts.{part_of}
+use Rattle.store_model.specs.Reserve.{IsReachable, IsSpare}
 use Rattle.store_core.proofs.CoreRuns.{running_step}
 use Rattle.store_core.proofs.Crashes.{leaves_on_the_way}
 use Rattle.store_core.proofs.Damage.{never_damaged}
-use Rattle.backup_engine.specs.Collected.{Collected, collected_line, frees}
+use Rattle.backup_engine.specs.Collected.{Collected, CollectedAll, collected_line, frees}
 use Rattle.backup_engine.specs.Line.{Collect}
-use Rattle.backup_engine.specs.Promise.{EndsBy, GivesBack, IsLeftAs, KeepsEachMap, KeepsMap, MayBeMeanwhile, WroteReply}
+use Rattle.backup_engine.specs.Promise.{EndsBy, GivesSlotsBack, IsLeftAs, KeepsEachMap, KeepsMap, MayBeMeanwhile, WroteReply}
 use Rattle.backup_engine.specs.Promise as promise
 use Rattle.backup_engine.proofs.Called.{Called, Starts as StartsAt, starts}
 use Rattle.backup_engine.proofs.CollectFrame.{IsBut}
 use Rattle.backup_engine.proofs.CollectKept.{ends, freed_are, left_but, since_old, so_last, start_event}
-use Rattle.backup_engine.proofs.CollectSteps.{frees-append, gc_event, had_first, releases}
+use Rattle.backup_engine.proofs.CollectSteps.{gc_event, had_first, releases}
 use Rattle.backup_engine.proofs.DeleteMap.{IsDone}
 use Rattle.backup_engine.proofs.NotDone.{left_with, not_sink}
 use Rattle.backup_engine.proofs.Reading.{reads_map, wrote_nothing}
@@ -99,27 +110,22 @@ gc_file answer buf = record { event = gc_event answer buf; bytes = [] }
 abbrev start_file : ℕ → Result Answer Refusal → List ℕ → FileEvent
 start_file percent answer buf = record { event = start_event percent answer buf; bytes = [] }
 
--- what one changes
-one_changes : (phase : Phase) (changes : List StoreChange) → AreChangesBy asked.GcStep (Ok (answers.Did phase)) changes → (slots : List ℕ) × ((changes ≡ frees slots) × (length slots ≡ freed_by phase))
-one_changes phase_kinds.Release changes are = (are.0 ∷ [], (are.1, refl))
-one_changes phase changes are = ([], (are, refl))
+-- what one gives back
+one_released : (phase : Phase) → released_by (Ok (answers.Did phase)) ≡ freed_by phase
+one_released phase_kinds.Release = refl
+one_released phase = refl
 
--- steps that are not the last change so many
+-- steps that are not the last
 pub record DidSteps (C : Type 0) (state : C → CoreState) (S : List ℕ → Type 0) (phases : List Phase) (old new : C) : Type 0 where
   pub steps : List FileEvent
   pub run : FileRun C state S steps old new
   pub quiet : AreQuiet steps
-  pub changes_are : (more : List FileEvent) (changes : List StoreChange) → ((last : List StoreChange) → AreChangesOf more last → last ≡ []) → AreChangesOf (steps ++ more) changes
-      → (slots : List ℕ) × ((changes ≡ frees slots) × (length slots ≡ releases phases))
+  pub all : AreGcSteps steps
+  pub released : released_in steps ≡ releases phases
 
 module _ (C : Type 0) (state : C → CoreState) (S : List ℕ → Type 0) where
   did_steps : (phases : List Phase) (old new : C) → CollectionRun C state phases old new → DidSteps C state S phases old new
-  did_steps [] old new run = record {
-    steps = [];
-    run = run;
-    quiet = tt;
-    changes_are = λ more changes none are. ([], (none changes are, refl));
-  }
+  did_steps [] old new run = record { steps = []; run = run; quiet = tt; all = tt; released = refl }
   did_steps (phase ∷ phases) old new run =
       let rest = did_steps phases run.0 new run.1.1 in
       let f : FileEvent = gc_file (Ok (answers.Did phase)) run.1.0.0 in
@@ -128,10 +134,8 @@ module _ (C : Type 0) (state : C → CoreState) (S : List ℕ → Type 0) where
         steps = f ∷ rest.steps;
         run = (run.0, (step, rest.run));
         quiet = (tt, rest.quiet);
-        changes_are = λ more changes none are.
-            let one = one_changes phase are.0 are.3 in
-            let others = rest.changes_are more are.1 none are.4 in
-            (one.0 ++ others.0, (are.2 ∙ ap₂ (λ (a b : List StoreChange). a ++ b) one.1.0 others.1.0 ∙ sym (frees-append one.0 others.0), length-append one.0 others.0 ∙ ap₂ (λ (a b : ℕ). a + b) one.1.1 others.1.1));
+        all = (refl, rest.all);
+        released = ap₂ (λ (a b : ℕ). a + b) (one_released phase) rest.released;
       }
 
   run_then : (fs : List FileEvent) (f : FileEvent) (old mid new : C) → FileRun C state S fs old mid → FileStep S f (state mid) (state new) → FileRun C state S (fs ++ f ∷ []) old new
@@ -141,6 +145,29 @@ module _ (C : Type 0) (state : C → CoreState) (S : List ℕ → Type 0) where
 quiet_then : (fs : List FileEvent) (f : FileEvent) → AreQuiet fs → IsQuiet f.event.step → AreQuiet (fs ++ f ∷ [])
 quiet_then [] f all last = (last, tt)
 quiet_then (one ∷ fs) f all last = (all.0, quiet_then fs f all.1 last)
+
+all_then : (fs : List FileEvent) (f : FileEvent) → AreGcSteps fs → f.event.step ≡ asked.GcStep → AreGcSteps (fs ++ f ∷ [])
+all_then [] f all last = (last, tt)
+all_then (one ∷ fs) f all last = (all.0, all_then fs f all.1 last)
+
+released_then : (fs : List FileEvent) (f : FileEvent) → released_by f.event.answer ≡ 0 → released_in (fs ++ f ∷ []) ≡ released_in fs
+released_then [] f none = omega (arith, none)
+released_then (one ∷ fs) f none = ap (λ (n : ℕ). released_by one.event.answer + n) (released_then fs f none)
+
+-- containers that are given back are changes of a store
+frees_changes : (P : List ℕ → Type 0) (slots : List ℕ) (s t : Store) → FreesSpare P slots s t → ChangesTo (frees slots) s t
+frees_changes P [] s t chain = chain
+frees_changes P (slot ∷ slots) s t chain = ((chain.0.header, chain.0.holds), frees_changes P slots (with_freed slot s) t chain.1)
+
+-- no actor that is idle holds a key
+idle_parts : (key : List ℕ) (n : ℕ) → AllByRecursion (λ part. IsPartKey part key → ⊥) (replicate n Idle)
+idle_parts key zero = tt
+idle_parts key (suc n) = (λ none. none, idle_parts key n)
+
+none_held : (parts : List Part) → parts ≡ replicate ACTORS Idle → (key : List ℕ) → ¬ (IsActorKey parts key)
+none_held parts idle key is =
+    part_holds (λ part. IsPartKey part key → ⊥) (replicate ACTORS Idle) is.0 (λ none. none) (idle_parts key ACTORS)
+    (subst (λ (ps : List Part). IsPartKey (part_of ps is.0) key) idle is.1.1)
 
 -- ---- bytes
 
@@ -235,8 +262,11 @@ module _ (C : Type 0) (state : C → CoreState) (v w : DiskView) (old new : C) (
       abbrev steps : List FileEvent
       steps = first ∷ (did.steps ++ last ∷ [])
 
+      run_on : FileRun C state S (did.steps ++ last ∷ []) mid new
+      run_on = run_then C state S did.steps last mid sweeps.1.0 new did.run last_step
+
       run : FileRun C state S steps old new
-      run = (mid, (run_before.1.0, run_then C state S did.steps last mid sweeps.1.0 new did.run last_step))
+      run = (mid, (run_before.1.0, run_on))
 
       quiet : AreQuiet steps
       quiet = (tt, quiet_then did.steps last did.quiet tt)
@@ -262,13 +292,13 @@ module _ (C : Type 0) (state : C → CoreState) (v w : DiskView) (old new : C) (
       left_so (Some ending) c of = of
 
       pub keeps : (ending : Option Ending) (sink sink_now : SinkView) → EndsBy (Collect percent) [] m w.content ending → promise.Wrote (Collect percent) [] m ending sink sink_now
-          → ((store : Store) → Encodes image store → GivesBack (Collect percent) ending store image w.content sink sink_now) → KeepsMap S (Collect percent) [] ending m v w sink sink_now
+          → ((store : Store) → Encodes image store → GivesSlotsBack (Collect percent) ending m.files store image w.content sink sink_now) → KeepsMap S (Collect percent) [] ending m v w sink sink_now
       keeps ending sink sink_now by_map wrote gave = record {
         by_map = by_map;
         wrote = wrote;
         added = λ base known store right. tt;
         gave_back = λ base known store right.
-            subst (λ (bytes : List ℕ). GivesBack (Collect percent) ending store bytes w.content sink sink_now) (sym (one_image base known)) (gave store (subst (λ (bytes : List ℕ). Encodes bytes store) (one_image base known) right));
+            subst (λ (bytes : List ℕ). GivesSlotsBack (Collect percent) ending m.files store bytes w.content sink sink_now) (sym (one_image base known)) (gave store (subst (λ (bytes : List ℕ). Encodes bytes store) (one_image base known) right));
         left = inl (
           (content_now.0, content_now.1.0, left_so ending content_now.0 (now_is content_now.0 (w.as_read content_now.0 content_now.1.0))),
           λ c there. left_so ending c (now_is c there),
@@ -282,13 +312,12 @@ module _ (C : Type 0) (state : C → CoreState) (v w : DiskView) (old new : C) (
 
       -- ---- what was given back
 
-      changes_so : ((changes : List StoreChange) → AreChangesBy asked.GcStep answer changes → changes ≡ []) → (changes : List StoreChange) → AreChangesOf steps changes → (slots : List ℕ) × ((changes ≡ frees slots) × (length slots ≡ releases sweeps.0))
-      changes_so none changes are =
-          let rest = did.changes_are (last ∷ []) are.1 (λ more have. have.2 ∙ ap₂ (λ (a b : List StoreChange). a ++ b) (none have.0 have.3) have.4) are.4 in
-          (rest.0, (are.2 ∙ ap (λ (a : List StoreChange). a ++ are.1) are.3 ∙ rest.1.0, rest.1.1))
+      abbrev Needs : List ℕ → Type 0
+      Needs = IsReachable m.files
 
       -- the content, and each container that stays
-      now_collected : (freed : ℕ) (slots : List ℕ) (store after : Store) → freed ≡ length slots → Encodes image store → ChangesTo (frees slots) store after → Encodes content_now.0 after → Collected freed store image content_now.0
+      now_collected : (freed : ℕ) (slots : List ℕ) (store after : Store) → freed ≡ length slots → Encodes image store → FreesSpare Needs slots store after → Encodes content_now.0 after
+          → Collected m.files freed store image content_now.0
       now_collected freed slots store after many right chain right_now =
           let opened_same = store_once image called.opened.store store (shown_content v (state old).disk (λ bytes. Encodes bytes called.opened.store) image called.opened.right told) right in
           let but = subst (λ (s : Store). IsBut s image content_now.0) opened_same (left_but C state v w old new called percent snapshot mid start answer sweeps image told content_now.0 content_now.1.1) in
@@ -299,28 +328,74 @@ module _ (C : Type 0) (state : C → CoreState) (v w : DiskView) (old new : C) (
             chain = chain;
             right = right_now;
             stays = λ slot h there.
-                let had = had_first slots store after chain slot h there in
+                let had = had_first slots store after (frees_changes Needs slots store after chain) slot h there in
                 (had, slot_stays store image content_now.0 after right right_now but slot h had there);
           }
 
-      module _ (none : (changes : List StoreChange) → AreChangesBy asked.GcStep answer changes → changes ≡ []) (runs : (state new).stop ≡ None) where
-        reaches : Reaches S at.store (state old).known (stored_after steps m) steps (state new)
-        reaches = keeps_files C state among steps at.store m old new distinct at.is_at run runs
+      module _ (none : released_by answer ≡ 0) (runs : (state new).stop ≡ None) where
+        begins : Steps first.event (state old) (state mid)
+        begins = running_step (state old) (state mid) first.event called.opened.stop_is start.1
 
-        changed_by : (slots : List ℕ) × ((reaches.changes ≡ frees slots) × (length slots ≡ releases sweeps.0))
-        changed_by = changes_so none reaches.changes reaches.changes_are
+        -- the beginning leaves the store
+        led : Leads S at.store first (stored_by first m) (state old) (state mid)
+        led = any_step among distinct first at.store m (state old) (state mid) (record { asked = tt; given = tt; made = start.1 }) at.is_at begins.stops
 
-        chain_from : ChangesTo (frees changed_by.0) at.store reaches.store
-        chain_from = subst (λ (changes : List StoreChange). ChangesTo changes at.store reaches.store) changed_by.1.0 reaches.chain
+        released : HasReleased S m (released_in (did.steps ++ last ∷ [])) led.next.store (state new)
+        released = releases_spare C state among (did.steps ++ last ∷ []) led.next.store m mid new distinct led.next.is_at run_on (all_then did.steps last did.all refl) runs
 
-        pub gave_so : (freed : ℕ) → freed ≡ releases sweeps.0 → (store : Store) → Encodes image store → KnownWith w.content (Collected freed store image)
-        gave_so freed as_many store right =
-            let same = store_once image at.store store at.stands.holds.right right in
-            let right_now = (reaches.is_at.stands.each content_now.0 ((state new).disk.as_read content_now.0 content_now.1.1)).holds.right in (
-              content_now.0,
-              content_now.1.0,
-              now_collected freed changed_by.0 store reaches.store (as_many ∙ sym changed_by.1.1) right (subst (λ (s : Store). ChangesTo (frees changed_by.0) s reaches.store) same chain_from) right_now,
-            )
+        right_after : Encodes content_now.0 released.store
+        right_after = (released.is_at.stands.each content_now.0 ((state new).disk.as_read content_now.0 content_now.1.1)).holds.right
+
+        chain_from : (store : Store) → Encodes image store → FreesSpare Needs released.slots store released.store
+        chain_from store right =
+            subst (λ (s : Store). FreesSpare Needs released.slots s released.store) (subst (λ (changes : List StoreChange). ChangesTo changes at.store led.next.store) led.changes_are led.next.chain ∙ store_once image at.store store at.stands.holds.right right)
+            released.chain
+
+        gave_one : (freed : ℕ) → freed ≡ releases sweeps.0 → (store : Store) → Encodes image store → Collected m.files freed store image content_now.0
+        gave_one freed as_many store right =
+            now_collected freed released.slots store released.store (as_many ∙ sym did.released ∙ sym (released_then did.steps last none) ∙ sym released.many) right (chain_from store right) right_after
+
+        gave_so : (freed : ℕ) → freed ≡ releases sweeps.0 → (store : Store) → Encodes image store → KnownWith w.content (Collected m.files freed store image)
+        gave_so freed as_many store right = (content_now.0, content_now.1.0, gave_one freed as_many store right)
+
+      -- where it came to its end
+      module _ (freed copied : ℕ) (done : answer ≡ Ok (answers.Done freed copied)) (runs : (state new).stop ≡ None) where
+        none_by : released_by answer ≡ 0
+        none_by = ap released_by done
+
+        stays_before : (state sweeps.1.0).stop ≡ None
+        stays_before = run_running C state among (last ∷ []) sweeps.1.0 new (new, (last_step, refl)) runs
+
+        so_far : HasReleased S m (released_in did.steps) (led none_by runs).next.store (state sweeps.1.0)
+        so_far = releases_spare C state among did.steps (led none_by runs).next.store m mid sweeps.1.0 distinct (led none_by runs).next.is_at did.run did.all stays_before
+
+        none_before : (slot : ℕ) → ¬ (IsSpare Needs so_far.store.held slot)
+        none_before =
+            leaves_none_spare C state among 0 0 percent snapshot freed copied start.0 collects.0 did.steps at.store so_far.store m old mid sweeps.1.0 new distinct at.is_at (none_held (state old).parts called.opened.parts_are)
+            called.opened.stop_is start.1 did.run did.all stays_before (subst (λ (a : Result Answer Refusal). CoreStep (state sweeps.1.0) (gc_event a collects.0) (state new)) done collects.1) so_far.is_at
+
+        -- its last step leaves the store
+        last_same : (released none_by runs).store ≡ so_far.store
+        last_same =
+            let end = releases_spare C state among (last ∷ []) so_far.store m sweeps.1.0 new distinct so_far.is_at (new, (last_step, refl)) (refl, tt) runs in
+            let none : length end.slots ≡ 0 = end.many ∙ omega (arith, none_by) in
+            let right_end : Encodes content_now.0 end.store = (end.is_at.stands.each content_now.0 ((state new).disk.as_read content_now.0 content_now.1.1)).holds.right in
+            store_once content_now.0 (released none_by runs).store end.store (right_after none_by runs) right_end ∙ no_slots end.slots so_far.store end.store none end.chain
+          where
+            no_slots : (slots : List ℕ) (s t : Store) → length slots ≡ 0 → FreesSpare Needs slots s t → t ≡ s
+            no_slots [] s t none chain = chain
+            no_slots (slot ∷ slots) s t some chain = absurd (omega (arith, some))
+
+        gave_all : freed ≡ releases sweeps.0 → (store : Store) → Encodes image store → KnownWith w.content (CollectedAll m.files freed store image)
+        unfolding gave_one now_collected
+        gave_all as_many store right = (
+          content_now.0,
+          content_now.1.0,
+          record {
+            collected = gave_one none_by runs freed as_many store right;
+            none_spare = subst (λ (s : Store). (slot : ℕ) → ¬ (IsSpare Needs s.held slot)) (sym last_same) none_before;
+          },
+        )
 
       -- ---- why it was refused
 
@@ -359,19 +434,16 @@ module _ (C : Type 0) (state : C → CoreState) (v w : DiskView) (old new : C) (
       abbrev err : Result Answer Refusal
       err = Err refusal
 
-      no_changes : (changes : List StoreChange) → AreChangesBy asked.GcStep err changes → changes ≡ []
-      no_changes changes are = are
-
       runs_or_not : (r : Refusal) → StopsAfter asked.GcStep (Err r) (state sweeps.1.0).acknowledged (state new).stop → (r ≡ refusals.DiskWrite) ⊎ ((state new).stop ≡ None)
       runs_or_not refusals.DiskWrite stops = inl refl
       runs_or_not r stops = inr stops
 
       gave : (among : ByteSet) (m : Stored) (distinct : HasNoCollisions (IsIn among)) (image : List ℕ) (told : v.content ≡ Some image) (is : IsOf (IsIn among) m image) (r : Refusal)
-          → (r ≡ refusals.DiskWrite) ⊎ ((state new).stop ≡ None) → (sink : SinkView) (store : Store) → Encodes image store → GivesBack (Collect percent) (Some (Refused r)) store image w.content sink sink
+          → (r ≡ refusals.DiskWrite) ⊎ ((state new).stop ≡ None) → (sink : SinkView) (store : Store) → Encodes image store → GivesSlotsBack (Collect percent) (Some (Refused r)) m.files store image w.content sink sink
       gave among m distinct image told is refusals.DiskWrite how sink store right = tt
       gave among m distinct image told is r (inl broke) sink store right = absurd (let wrong = broke in cc)
       gave among m distinct image told is r (inr runs) sink store right =
-          (releases sweeps.0, gave_so snapshot mid start err sweeps among m distinct image told is no_changes runs (releases sweeps.0) refl store right)
+          (releases sweeps.0, gave_so snapshot mid start err sweeps among m distinct image told is refl runs (releases sweeps.0) refl store right)
 
       pub stopped_map : (sink : SinkView) → KeepsEachMap (Collect percent) [] (Some (Refused refusal)) v w sink sink
       stopped_map sink = λ image told among m distinct segments is.
@@ -384,13 +456,10 @@ module _ (C : Type 0) (state : C → CoreState) (v w : DiskView) (old new : C) (
       abbrev done : Result Answer Refusal
       done = Ok (answers.Done freed copied)
 
-      no_more : (changes : List StoreChange) → AreChangesBy asked.GcStep done changes → changes ≡ []
-      no_more changes are = are
-
       gave_back : (among : ByteSet) (m : Stored) (distinct : HasNoCollisions (IsIn among)) (image : List ℕ) (told : v.content ≡ Some image) (is : IsOf (IsIn among) m image) (store : Store) → Encodes image store
-          → KnownWith w.content (Collected freed store image)
+          → KnownWith w.content (CollectedAll m.files freed store image)
       gave_back among m distinct image told is store right =
-          gave_so snapshot mid start done sweeps among m distinct image told is no_more (ends C state v w old new called percent snapshot mid start done sweeps).stops freed
+          gave_all snapshot mid start done sweeps among m distinct image told is freed copied refl (ends C state v w old new called percent snapshot mid start done sweeps).stops
           (freed_are C state v w old new called percent snapshot mid start freed copied sweeps) store right
 
       done_answer : (among : ByteSet) (m : Stored) (distinct : HasNoCollisions (IsIn among)) (image : List ℕ) (told : v.content ≡ Some image) (is : IsOf (IsIn among) m image) (ending : Option Ending) (sink sink_now : SinkView)
@@ -404,10 +473,13 @@ module _ (C : Type 0) (state : C → CoreState) (v w : DiskView) (old new : C) (
       pub done_map : (ending : Option Ending) (sink sink_now : SinkView) → IsDone ending → WroteReply (collected_line freed) ending sink sink_now → KeepsEachMap (Collect percent) [] ending v w sink sink_now
       done_map ending sink sink_now over wrote = λ image told among m distinct segments is. done_answer among m distinct image told is ending sink sink_now over wrote
 
+      some_of : {files : Files} {store : Store} {image : List ℕ} → KnownWith w.content (CollectedAll files freed store image) → KnownWith w.content (Collected files freed store image)
+      some_of all = (all.0, all.1, all.2.collected)
+
       -- there was no memory for its reply
       pub untold_map : (sink : SinkView) → KeepsEachMap (Collect percent) [] (Some (Refused refusals.Memory)) v w sink sink
       untold_map sink = λ image told among m distinct segments is.
           let now = content_now snapshot mid start done sweeps among m distinct image told is in
           keeps snapshot mid start done sweeps among m distinct image told is (Some (Refused refusals.Memory)) sink sink
           (left_with (IsIn among) m now.0 w.content (λ store. Unit {0}) now.1.0 (now_is snapshot mid start done sweeps among m distinct image told is now.0 (w.as_read now.0 now.1.0)) tt)
-          (wrote_nothing (Collect percent) [] m (Refused refusals.Memory) sink (not_sink refusals.Memory)) (λ store right. (freed, gave_back among m distinct image told is store right))
+          (wrote_nothing (Collect percent) [] m (Refused refusals.Memory) sink (not_sink refusals.Memory)) (λ store right. (freed, some_of (gave_back among m distinct image told is store right)))

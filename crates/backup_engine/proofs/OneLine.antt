@@ -23,7 +23,7 @@ use Rattle.backup_engine.specs.Line.{CommandLine}
 use Rattle.backup_engine.specs.Lines.{RunsByMachine, RunsEachMap}
 use Rattle.backup_engine.specs.PlainMap.{CanBeDone}
 use Rattle.backup_engine.specs.Promise as promise
-use Rattle.backup_engine.specs.Promise.{EndsBy, GivesBack, IsLeftAs, KeepsMap, LeavesMeanwhile, MayBeMeanwhile}
+use Rattle.backup_engine.specs.Promise.{EndsBy, GivesSlotsBack, IsLeftAs, KeepsMap, LeavesMeanwhile, MayBeMeanwhile}
 use Rattle.backup_engine.proofs.WholeCall.{leaves_more}
 use Rattle.backup_engine.specs.Singles.{said}
 
@@ -126,7 +126,7 @@ module _ (S : List ℕ → Type 0) (line : LineValue) (reply : ReplyValue) (m : 
     (command : CommandLine) (ending : Option Ending) (sink sink_now : SinkView) where
   pub keeps_map : EndsBy command [] m w.content ending → promise.Wrote command [] m ending sink sink_now → CanBeIf command [] m ending
       → ((store : Store) → Encodes image store → Adds command [] ending store w.content)
-      → ((store : Store) → Encodes image store → GivesBack command ending store image w.content sink sink_now)
+      → ((store : Store) → Encodes image store → GivesSlotsBack command ending m.files store image w.content sink sink_now)
       → ((found : Stored) (d : List ℕ) → MayBeFound one.last.state one.last.stored found → IsOf S found d → IsLeftAs S command [] m ending d)
       → KeepsMap S command [] ending m v w sink sink_now
   keeps_map by_map wrote can adds gave leaves = record {
@@ -134,7 +134,7 @@ module _ (S : List ℕ → Type 0) (line : LineValue) (reply : ReplyValue) (m : 
     wrote = wrote;
     added = λ old known store right. adds store (subst (λ (bytes : List ℕ). Encodes bytes store) (same_content old known) right);
     gave_back = λ old known store right.
-        subst (λ (bytes : List ℕ). GivesBack command ending store bytes w.content sink sink_now) (sym (same_content old known)) (gave store (subst (λ (bytes : List ℕ). Encodes bytes store) (same_content old known) right));
+        subst (λ (bytes : List ℕ). GivesSlotsBack command ending m.files store bytes w.content sink sink_now) (sym (same_content old known)) (gave store (subst (λ (bytes : List ℕ). Encodes bytes store) (same_content old known) right));
     left = inl ((one.last.content, one.content, left one.last.content (w.as_read one.last.content one.content)), left);
     crash = leaves_more (λ d. IsOf S m d ⊎ IsOfSome (IsOf S) (MayBeFound one.last.state one.last.stored) d) (MayBeMeanwhile S command [] m ending) v w between one.crash;
   }

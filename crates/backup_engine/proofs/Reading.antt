@@ -9,14 +9,14 @@ use Rattle.refusals.specs.declared.refusal.Refusal.TheVariants.{DiskWrite}
 use Rattle.reply_text.specs.declared.ending.Ending.{Ending}
 use Rattle.reply_text.specs.declared.ending.Ending.TheVariants.{Sink, Refused}
 use Rattle.store_model.specs.Collisions.{HasNoCollisions, ByteSet, IsIn, IsOf}
-use Rattle.store_model.specs.Files.{Stored}
+use Rattle.store_model.specs.Files.{Files, Stored}
 use Rattle.store_model.specs.Image.{Store, Encodes}
 use Rattle.store_model.specs.Standing.{IsSegmentOf}
 use Rattle.backup_engine.specs.Adding.{Adds}
 use Rattle.backup_engine.specs.Line.{CommandLine, Format, Ingest, Restore, Delete, Collect}
 use Rattle.backup_engine.specs.Line as table
 use Rattle.backup_engine.specs.Promise as promise
-use Rattle.backup_engine.specs.Promise.{EndsBy, GivesBack, WroteFile, IsLeftAs, LeavesMeanwhile, SinceStart, NothingWritten, KeepsMap, KeepsEachMap}
+use Rattle.backup_engine.specs.Promise.{EndsBy, GivesSlotsBack, WroteFile, IsLeftAs, LeavesMeanwhile, SinceStart, NothingWritten, KeepsMap, KeepsEachMap}
 use Rattle.backup_engine.specs.Frame.{KeepsRest, KeepsOthers}
 use Rattle.backup_engine.specs.TopCall.{IsSameDisk}
 
@@ -98,17 +98,17 @@ added_none (Ingest name) given (Refused DiskWrite) store old content not told ri
 added_none (Ingest name) given ending store old content not told right = record { changes = []; after = store; chain = refl; once = tt; content_is = (old, told, right) }
 
 -- and gives nothing back
-pub gave_none : (command : CommandLine) (ending : Ending) (store : Store) (old : List ℕ) (content : Option (List ℕ)) (sink sink_now : SinkView) → ¬ (ending ≡ Sink) → content ≡ Some old → Encodes old store
-    → GivesBack command (Some ending) store old content sink sink_now
-gave_none (Collect percent) Sink store old content sink sink_now not told right = absurd (not refl)
-gave_none (Collect percent) (Refused DiskWrite) store old content sink sink_now not told right = tt
-gave_none (Collect percent) ending store old content sink sink_now not told right =
+pub gave_none : (command : CommandLine) (ending : Ending) (files : Files) (store : Store) (old : List ℕ) (content : Option (List ℕ)) (sink sink_now : SinkView) → ¬ (ending ≡ Sink) → content ≡ Some old → Encodes old store
+    → GivesSlotsBack command (Some ending) files store old content sink sink_now
+gave_none (Collect percent) Sink files store old content sink sink_now not told right = absurd (not refl)
+gave_none (Collect percent) (Refused DiskWrite) files store old content sink sink_now not told right = tt
+gave_none (Collect percent) ending files store old content sink sink_now not told right =
     (0, (old, told, record { slots = []; many = refl; after = store; chain = refl; right = right; stays = λ slot h is. (is, refl) }))
-gave_none (Format slots) ending store old content sink sink_now not told right = tt
-gave_none (Ingest name) ending store old content sink sink_now not told right = tt
-gave_none (Restore name) ending store old content sink sink_now not told right = tt
-gave_none (Delete name) ending store old content sink sink_now not told right = tt
-gave_none table.List ending store old content sink sink_now not told right = tt
+gave_none (Format slots) ending files store old content sink sink_now not told right = tt
+gave_none (Ingest name) ending files store old content sink sink_now not told right = tt
+gave_none (Restore name) ending files store old content sink sink_now not told right = tt
+gave_none (Delete name) ending files store old content sink sink_now not told right = tt
+gave_none table.List ending files store old content sink sink_now not told right = tt
 
 -- what was not done, and only read
 pub reads_map : (command : CommandLine) (given : List ℕ) (ending : Ending) (v w : DiskView) (sink sink_now : SinkView) → OnlyReads v w → ¬ (ending ≡ Sink) → AnswersEach command given (Some ending) v w sink sink_now
@@ -119,7 +119,7 @@ reads_map command given ending v w sink sink_now reads not answers old known amo
       by_map = answer.by_map;
       wrote = answer.wrote;
       added = λ first told store right. added_none command given ending store first w.content not (reads.content_is ∙ told) right;
-      gave_back = λ first told store right. gave_none command ending store first w.content sink sink_now not (reads.content_is ∙ told) right;
+      gave_back = λ first told store right. gave_none command ending m.files store first w.content sink sink_now not (reads.content_is ∙ told) right;
       left = inr (record { not_done = (ending, refl, not); content = reads.content_is; images = reads.images_are });
       crash = reads_leave v w reads _;
     }

@@ -6,8 +6,10 @@ use Rattle.disk_format.specs.declared.numbers.TheConstants.{SLOT_BYTES}
 use Rattle.disk_format.specs.Layout.{slot_at}
 use Rattle.script_lines.specs.ReplyText.{reply_line}
 use Rattle.script_lines.specs.ReplyValue as replies
-use Rattle.store_core.specs.Runs.{ChangesTo}
+use Rattle.store_core.specs.Releases.{FreesSpare}
+use Rattle.store_model.specs.Files.{Files}
 use Rattle.store_model.specs.Image.{Store, Encodes}
+use Rattle.store_model.specs.Reserve.{IsReachable, IsSpare}
 use Rattle.store_model.specs.Steps.{StoreChange, FreeContainer}
 
 -- `collected freed F copied 0`: no segment is copied so far
@@ -19,13 +21,19 @@ abbrev pub frees : List ℕ → List StoreChange
 frees [] = []
 frees (slot ∷ more) = FreeContainer slot ∷ frees more
 
--- The content that was a store is one without some of its containers, each of which stood there in its turn, so many, and all else of the
--- store is as it was. So no container is added: each that is there now was there before, in the same slot, byte for byte.
-pub record Collected (freed : ℕ) (store : Store) (old new : List ℕ) : Type 0 where
+-- The content that was a store is one without some of its containers, so many, each of which held, in its turn, the newest copy of no key
+-- that these files need; and all else of the store is as it was. So no container is added: each that is there now was there before, in the
+-- same slot, byte for byte.
+pub record Collected (files : Files) (freed : ℕ) (store : Store) (old new : List ℕ) : Type 0 where
   pub slots : List ℕ
   pub many : freed ≡ length slots
   pub after : Store
-  pub chain : ChangesTo (frees slots) store after
+  pub chain : FreesSpare (IsReachable files) slots store after
   pub right : Encodes new after
   pub stays : (slot : ℕ) (h : HeaderValue) → slice_get after.held slot ≡ Some (Some h)
       → (slice_get store.held slot ≡ Some (Some h)) × (range (slot_at slot) SLOT_BYTES new ≡ range (slot_at slot) SLOT_BYTES old)
+
+-- And none is left that holds the newest copy of no such key: just those were given back that the files don't need.
+pub record CollectedAll (files : Files) (freed : ℕ) (store : Store) (old new : List ℕ) : Type 0 where
+  pub collected : Collected files freed store old new
+  pub none_spare : (slot : ℕ) → ¬ (IsSpare (IsReachable files) collected.after.held slot)

@@ -13,7 +13,7 @@ use Rattle.reply_text.specs.declared.ending.Ending.{Ending}
 use Rattle.reply_text.specs.declared.ending.Ending.TheVariants.{Words, Source, Sink, Line, Script, Refused}
 use Rattle.reply_text.specs.Text.{stored_line, deleted_line, listing_text}
 use Rattle.store_model.specs.Collisions.{HasNoCollisions, ByteSet, IsIn, IsOf}
-use Rattle.store_model.specs.Files.{Stored}
+use Rattle.store_model.specs.Files.{Files, Stored}
 use Rattle.store_model.specs.Image.{Store, Encodes}
 use Rattle.store_model.specs.Pieces.{Node, IsPieceOf}
 use Rattle.store_model.specs.Slots.{Copy, newest}
@@ -21,7 +21,7 @@ use Rattle.store_model.specs.Standing.{IsStoreOf, IsSegmentOf, file_listing}
 use Rattle.store_model.specs.Trees.{bytes_at, node_key, root_of}
 use Rattle.store_state.specs.Comparing.{FirstDifference}
 use Rattle.backup_engine.specs.Adding.{Adds}
-use Rattle.backup_engine.specs.Collected.{Collected, collected_line}
+use Rattle.backup_engine.specs.Collected.{Collected, CollectedAll, collected_line}
 use Rattle.backup_engine.specs.Line.{CommandLine, Format, Ingest, Restore, Delete, Collect}
 use Rattle.backup_engine.specs.Line as table
 use Rattle.backup_engine.specs.PlainMap.{map_after, CanBeDone, Refuses, room_of}
@@ -96,17 +96,18 @@ Wrote (Collect percent) given m ending sink sink_now = (freed : ℕ) × WroteRep
 
 -- ---- what a collection gave back
 
--- A `collect` that was done, but perhaps for its reply, gave back as many containers as its reply says. One that was refused may have
--- given back some; of a write or a sync that failed this says nothing (what is left of the files is said below, and of the bytes in
--- Frame.antt).
-abbrev pub GivesBack : CommandLine → Option Ending → Store → List ℕ → Option (List ℕ) → SinkView → SinkView → Type 0
-GivesBack (Collect percent) None store old content sink sink_now =
-    (freed : ℕ) × (KnownWith content (Collected freed store old) × WroteReply (collected_line freed) None sink sink_now)
-GivesBack (Collect percent) (Some Sink) store old content sink sink_now =
-    (freed : ℕ) × (KnownWith content (Collected freed store old) × WroteReply (collected_line freed) (Some Sink) sink sink_now)
-GivesBack (Collect percent) (Some (Refused DiskWrite)) store old content sink sink_now = Unit {0}
-GivesBack (Collect percent) (Some ending) store old content sink sink_now = (freed : ℕ) × KnownWith content (Collected freed store old)
-GivesBack command ending store old content sink sink_now = Unit {0}
+-- A `collect` that was done, but perhaps for its reply, gave back just the containers that no file needs, and its reply says how many. One
+-- that was refused may have given back some of them; of a write or a sync that failed this says nothing (what is left of the files is said
+-- below, and of the bytes in Frame.antt).
+abbrev pub GivesSlotsBack : CommandLine → Option Ending → Files → Store → List ℕ → Option (List ℕ) → SinkView → SinkView → Type 0
+GivesSlotsBack (Collect percent) None files store old content sink sink_now =
+    (freed : ℕ) × (KnownWith content (CollectedAll files freed store old) × WroteReply (collected_line freed) None sink sink_now)
+GivesSlotsBack (Collect percent) (Some Sink) files store old content sink sink_now =
+    (freed : ℕ) × (KnownWith content (CollectedAll files freed store old) × WroteReply (collected_line freed) (Some Sink) sink sink_now)
+GivesSlotsBack (Collect percent) (Some (Refused DiskWrite)) files store old content sink sink_now = Unit {0}
+GivesSlotsBack (Collect percent) (Some ending) files store old content sink sink_now =
+    (freed : ℕ) × KnownWith content (Collected files freed store old)
+GivesSlotsBack command ending files store old content sink sink_now = Unit {0}
 
 -- ---- what is left
 
@@ -158,7 +159,7 @@ pub record KeepsMap (S : List ℕ → Type 0) (command : CommandLine) (given : L
   pub wrote : Wrote command given m ending sink sink_now
   pub added : Known disk.content (λ old. (store : Store) → Encodes old store → Adds command given ending store disk_now.content)
   pub gave_back : Known disk.content (λ old. (store : Store) → Encodes old store
-      → GivesBack command ending store old disk_now.content sink sink_now)
+      → GivesSlotsBack command ending m.files store old disk_now.content sink sink_now)
   pub left : Stands (IsLeftAs S command given m ending) disk_now ⊎ NothingWritten ending disk disk_now
   pub crash : LeavesMeanwhile (MayBeMeanwhile S command given m ending) disk disk_now
 

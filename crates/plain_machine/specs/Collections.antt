@@ -1,5 +1,4 @@
--- Collections: what no file, no reader and no writer needs is found step by step, and containers of nothing else are given back
--- (docs/MODEL.md, 'The plain machine').
+-- Collections: containers that no file needs are given back, step by step (docs/MODEL.md, 'The plain machine').
 use Rattle.std.specs.Prelude.{◌≡◌, ℕ, suc, ◌+◌, ◌*◌, Bool, true, List, [], ◌∷◌, Option, None, Some, IsSome}
 use Rattle.base_model.specs.Fault.{Rose}
 use Rattle.container_meta.specs.declared.kind.Kind.{Kind}

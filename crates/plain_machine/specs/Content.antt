@@ -133,7 +133,8 @@ pub record SameButGate (slot slots : ℕ) (old new : List ℕ) : Type 0 where
   pub rest : SameBut (Unit {0}) (λ half cell. ⊥) (λ other. other ≡ slot) slots old new
   pub slot_is : range (slot_at slot + 1) (SLOT_BYTES - 1) new ≡ range (slot_at slot + 1) (SLOT_BYTES - 1) old
 
--- A container is given back that holds the newest copy of no key of which P holds: the gate of its slot is closed, and all else is as it was.
+-- A container is given back that holds the newest copy of no key of which P holds: the gate of its slot is closed, and all else is as it
+-- was.
 pub record FreesContainer (P : List ℕ → Type 0) (old new : List ℕ) : Type 0 where
   pub store : Store
   pub was : Encodes old store

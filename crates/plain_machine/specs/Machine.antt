@@ -49,7 +49,7 @@ pub data RunState : Type 0 where
 pub record Collecting : Type 0 where
   pub to_come : ℕ
   pub freed : ℕ
-  -- no actor was at anything when it began, and since then none has had a turn, and no name has changed
+  -- no actor was at anything when it began, and since then no turn was answered, and no name has changed
   pub alone : Bool
 
 -- the same, once something else was done beside it

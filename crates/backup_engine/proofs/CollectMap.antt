@@ -171,15 +171,15 @@ none_held parts idle key is =
 
 -- ---- bytes
 
--- what lies behind the gate of a slot has no gate
-behind_gate : (slot : ℕ) (slots : List ℕ) → HasNoGate slots (slot_at slot + 49664) (SLOT_BYTES - 49664)
-behind_gate slot [] = tt
-behind_gate slot (other ∷ slots) = (
+-- what lies after the header of a slot has no gate
+after_header : (slot : ℕ) (slots : List ℕ) → HasNoGate slots (slot_at slot + 49664) (SLOT_BYTES - 49664)
+after_header slot [] = tt
+after_header slot (other ∷ slots) = (
   elim (cases_lt slot other) [
     | inl below ↦ inl (omega (arith, below))
     | inr above ↦ inr (omega (arith, above))
   ],
-  behind_gate slot slots,
+  after_header slot slots,
 )
 
 within_length : (held : List (Option HeaderValue)) (slot : ℕ) (h : HeaderValue) → slice_get held slot ≡ Some (Some h) → slot < length held
@@ -197,7 +197,7 @@ slot_stays s base now t was is (slots, (had, but)) slot h first there =
     let before = slot_held slot s.held (Some h) base was.slots_are first in
     let after = slot_held slot t.held (Some h) now is.slots_are there in
     let within = within_length s.held slot h first in
-    let rest = but.same (slot_at slot + 49664) (SLOT_BYTES - 49664) (omega (arith, within, was.many)) (behind_gate slot slots) in
+    let rest = but.same (slot_at slot + 49664) (SLOT_BYTES - 49664) (omega (arith, within, was.many)) (after_header slot slots) in
     let sum : 49664 + (SLOT_BYTES - 49664) ≡ SLOT_BYTES = omega arith in
     subst (λ (n : ℕ). range (slot_at slot) n now ≡ range (slot_at slot) n base) sum
     (sym (range-join (slot_at slot) 49664 (SLOT_BYTES - 49664) (slot_at slot + 49664) now refl)

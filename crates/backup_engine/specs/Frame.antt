@@ -64,8 +64,8 @@ pub record SameButGatesOf (store : Store) (slots : List ℕ) (old new : List ℕ
   pub size_is : length new ≡ length old
   pub same : (at count : ℕ) → at + count ≤ slot_at store.slots → HasNoGate slots at count → range at count new ≡ range at count old
 
--- The content held a store that is opened. But the gates of some slots, each of which had a container, all before the end of the slots is as
--- it was: so the format cell, the journal, and all that slots have behind their gates.
+-- The content held a store that is opened. But the gates of some slots, each of which had a container, all before the end of the slots is
+-- as it was: so the format cell, the journal, and all that slots have after their gates.
 pub record KeepsButGates (old new : List ℕ) : Type 0 where
   pub store : Store
   pub right : Encodes old store

@@ -5,7 +5,7 @@ use Rattle.container_meta.specs.declared.kind.Kind.{Kind}
 use Rattle.container_meta.specs.declared.kind.Kind.TheVariants.{Leaf, Tree}
 use Rattle.container_meta.specs.Spelling.{HeaderValue}
 use Rattle.refusals.specs.declared.refusal.Phase.{Phase}
-use Rattle.refusals.specs.declared.refusal.Phase.TheVariants.{Release}
+use Rattle.refusals.specs.declared.refusal.Phase.TheVariants.{Copy, Release}
 use Rattle.refusals.specs.declared.refusal.Refusal.{Refusal}
 use Rattle.refusals.specs.declared.refusal.Refusal.TheVariants.{Memory, NotCollecting, DiskRead, DiskWrite}
 use Rattle.store_model.specs.Files.{Files}
@@ -43,7 +43,7 @@ pub record BeginsCollection (snapshot : ℕ) (m n : Machine) : Type 0 where
   pub snapshot_is : snapshot ≡ suc m.last_id
   pub most : ℕ
   pub most_is : OfStore m.content (λ store. most ≡ most_steps store.held)
-  pub others : n ≡ record m { collecting = Some (record { to_come = most; freed = 0; alone = are_idle m.parts }); collected = true }
+  pub others : n ≡ record m { collecting = Some (record { to_come = most; freed = 0; alone = are_idle m.parts }) }
 
 -- what a step changes: a release gives a container back that no file needs, and no other step anything
 abbrev pub ChangesBy : Phase → Files → List ℕ → List ℕ → Type 0
@@ -53,6 +53,12 @@ ChangesBy phase files old new = SameStore old new
 abbrev pub freed_by : Phase → ℕ
 freed_by Release = 1
 freed_by phase = 0
+
+-- from the first source on that is taken, keys may be out of the index
+abbrev pub forgets_by : Phase → Bool → Bool
+forgets_by Copy collected = true
+forgets_by Release collected = true
+forgets_by phase collected = collected
 
 -- A step is made, of those that may come.
 pub record StepsCollection (phase : Phase) (m n : Machine) : Type 0 where
@@ -64,6 +70,7 @@ pub record StepsCollection (phase : Phase) (m n : Machine) : Type 0 where
   pub others : n ≡ record m {
     content = n.content;
     collecting = Some (record { to_come = left; freed = freed + freed_by phase; alone = alone });
+    collected = forgets_by phase m.collected;
   }
 
 -- steps, one after the other
@@ -93,7 +100,7 @@ RefusesCollectionStep NotCollecting m n = (m.collecting ≡ None) × (n ≡ m)
 RefusesCollectionStep Memory m n = IsSome m.collecting × Stays m n
 RefusesCollectionStep DiskRead m n = IsSome m.collecting × Rose m.faults n.faults × SameStore m.content n.content
     × (n ≡ record m { content = n.content; faults = n.faults })
-RefusesCollectionStep DiskWrite m n = IsSome m.collecting × Rose m.faults n.faults × BreaksGate m.content n.content
+RefusesCollectionStep DiskWrite m n = IsSome m.collecting × Rose m.faults n.faults × BreaksGate (IsReachable m.stored.files) m.content n.content
     × (n ≡ record m { state = Stopped None; content = n.content; faults = n.faults })
 RefusesCollectionStep refusal m n = ⊥
 

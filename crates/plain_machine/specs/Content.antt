@@ -1,7 +1,7 @@
 -- What lines show of the disk's content, and what they change of it.
 use Rattle.std.specs.Int.{w32, w64}
 use Rattle.base_model.specs.Numbers.{number_at}
-use Rattle.std.specs.Prelude.{◌≡◌, ◌≢◌, ℕ, suc, ◌-◌, ◌<◌, ◌≤◌, List, length, slice_get, Some, None, max, ◌+◌, ◌==◌, if◌then◌else◌, zero}
+use Rattle.std.specs.Prelude.{◌≡◌, ◌≢◌, ◌⊎◌, ℕ, suc, ◌-◌, ◌<◌, ◌≤◌, List, length, slice_get, Some, None, max, ◌+◌, ◌==◌, if◌then◌else◌, zero}
 use Rattle.std.specs.FinMap as finite
 use Rattle.std.specs.List.{AllByRecursion}
 use Rattle.sha2.specs.Sha256.{sha256}
@@ -143,9 +143,11 @@ pub record FreesContainer (P : List ℕ → Type 0) (old new : List ℕ) : Type 
   pub now : Encodes new (with_freed slot store)
   pub rest : SameButGate slot store.slots old new
 
--- A write of a collection broke off: but for one gate all is as it was.
-abbrev pub BreaksGate : List ℕ → List ℕ → Type 0
-BreaksGate old new = OfStore old (λ store. (slot : ℕ) × SameButGate slot store.slots old new)
+-- A write of a collection broke off: all is as it was, but perhaps for the gate of a container that holds the newest copy of no key of which P
+-- holds.
+abbrev pub BreaksGate : (List ℕ → Type 0) → List ℕ → List ℕ → Type 0
+BreaksGate P old new =
+    SameStore old new ⊎ OfStore old (λ store. (slot : ℕ) × (IsSpare P store.held slot × SameButGate slot store.slots old new))
 
 -- A write broke off: each container that was there is as it was; and so is each record, where the half had cells for so many more.
 pub record BreaksOff (records : ℕ) (old new : List ℕ) : Type 0 where

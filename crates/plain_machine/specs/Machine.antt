@@ -72,7 +72,7 @@ pub record Machine : Type 0 where
   pub last_id : ℕ
   -- the collection that runs, if one does
   pub collecting : Option Collecting
-  -- one began since the opening: what no file has may be forgotten
+  -- keys left the index since the opening: what no file has may be forgotten
   pub collected : Bool
 
 abbrev pub part_in : Machine → ℕ → Part

@@ -15,7 +15,7 @@ use Rattle.segment_index.specs.Changes.{SameBefore}
 use Rattle.store_model.specs.Image.{Encodes, Store}
 use Rattle.store_state.specs.Settled.{IsSettled}
 use Rattle.store_state.specs.declared.tables.Tables.{Tables}
-use Rattle.plain_machine.specs.Content.{BreaksGate, SameBut, SameButGate, SameJournal, SameStore}
+use Rattle.plain_machine.specs.Content.{SameBut, SameButGate, SameJournal, SameStore}
 
 -- ---- lists of bytes
 
@@ -113,6 +113,3 @@ module _ (slots : ℕ) (t : Tables) (old new : DiskView) (content image : List �
       | inl before ↦ but_gate_none slots content image (settled content here image before) slot within
       | inr step ↦ but_gate slots slot within content step.0 image (settled content here step.0 step.1) step.2
     ]
-
-  pub breaks_gate : (store : Store) → Encodes content store → slots ≡ store.slots → (slot : ℕ) → SameButGate slot slots content image → BreaksGate content image
-  breaks_gate store right same slot gate = (store, (right, (slot, subst (λ (n : ℕ). SameButGate slot n content image) same gate)))

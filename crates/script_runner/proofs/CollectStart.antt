@@ -1,5 +1,5 @@
 -- A collection that begins, or doesn't, as the machine says.
-use Rattle.std.proofs.Common.{◌≡◌, inl, inr, ◌<◌, ◌≤◌, ℕ, List, [], ◌∷◌, Bool, true, false, Option, Some, None, Result, Ok, Err, refl, sym, ◌∙◌, ap, subst, arith}
+use Rattle.std.proofs.Common.{◌≡◌, inl, inr, ◌<◌, ◌≤◌, ℕ, List, [], ◌∷◌, true, Option, Some, None, Result, Ok, Err, refl, sym, ◌∙◌, ap, subst, arith}
 use Rattle.dd_disk.proofs.Later.{leaves_weaker}
 use Rattle.actor_parts.specs.declared.actor.TheConstants.{ACTORS}
 use Rattle.actor_parts.specs.declared.part.Part as core_part
@@ -109,12 +109,12 @@ module _ (C : Type 0) (state : C → CoreState) (among : ByteSet) (apart : HasNo
         (takes_on S store [] m.stored m.stored (state old) (state new) at.running.begins.is_at next)
         (part_in m actor) (session_of sessions actor) (part_of (state old).parts actor) (at.running.parts actor below))
 
-    abbrev then : Option Collecting → Bool → Machine
-    then collecting collected = record m { collecting = collecting; collected = collected }
+    abbrev then : Option Collecting → Machine
+    then collecting = record m { collecting = collecting }
 
-    runs_then : (collecting : Option Collecting) (collected : Bool) → (state new).disk.faults ≡ (state old).disk.faults → (state new).acknowledged ≡ (state old).acknowledged → FollowsCollection collecting (state new)
-        → SparesAlone m.stored.files store collecting (state new) → ((k : Collecting) → collecting ≡ Some k → collected ≡ true) → (collected ≡ false → m.collected ≡ false) → RunsAt S (then collecting collected) sessions (state new)
-    runs_then collecting collected faults counted collects spares begun before = record {
+    runs_then : (collecting : Option Collecting) → (state new).disk.faults ≡ (state old).disk.faults → (state new).acknowledged ≡ (state old).acknowledged → FollowsCollection collecting (state new)
+        → SparesAlone m.stored.files store collecting (state new) → RunsAt S (then collecting) sessions (state new)
+    runs_then collecting faults counted collects spares = record {
       state_is = at.state_is;
       content_is = rests.disk.only.content_is ∙ at.content_is;
       faults_are = faults ∙ at.faults_are;
@@ -128,12 +128,11 @@ module _ (C : Type 0) (state : C → CoreState) (among : ByteSet) (apart : HasNo
           store = next.next.store;
           is_at = next.next.is_at;
           settled = stays_settled C state among (f ∷ []) store m.stored old new apart at.running.begins.is_at at.running.begins.settled run stays;
-          whole = λ none. next.whole (at.running.begins.whole (before none));
+          whole = λ none. next.whole (at.running.begins.whole none);
           last_id_is = ap (λ (t : SlotTable). t.last_id) same_slots ∙ at.running.begins.last_id_is;
           low = at.running.begins.low;
           collects = collects;
           spares = subst (λ (s : Store). SparesAlone m.stored.files s collecting (state new)) (sym next.next.chain) spares;
-          begun = begun;
         };
         parts = each;
       };
@@ -199,7 +198,7 @@ module _ (C : Type 0) (state : C → CoreState) (among : ByteSet) (apart : HasNo
 
     pub started_step : Started
     started_step = record {
-      next = record m { collecting = Some begins_so; collected = true };
+      next = record m { collecting = Some begins_so };
       is = record {
         none_ran = none_collecting m (state old) begun.none_ran at.running.begins.collects;
         snapshot_is = omega (arith, begun.snapshot_is, begun.next_is, at.running.begins.last_id_is, at.running.begins.low);
@@ -207,21 +206,20 @@ module _ (C : Type 0) (state : C → CoreState) (among : ByteSet) (apart : HasNo
         most_is = (held, (right_here (IsIn among) held m.stored (state old) at.running.begins.is_at m.content at.content_is, refl));
         others = refl;
       };
-      at_next = runs_then C state among apart m sessions old new at percent started buf made made_so.stops (Some begins_so) true made_so.made.effect.disk.faults_are made_so.counted_is now spares_begun
-          (λ k is. refl) (λ wrong. absurd (let no : true ≡ false = wrong in cc));
+      at_next = runs_then C state among apart m sessions old new at percent started buf made made_so.stops (Some begins_so) made_so.made.effect.disk.faults_are made_so.counted_is now spares_begun;
     }
 
   -- it was refused, and the collection that runs stays, if one does
   pub unstarted_memory : (made : CoreStep (state old) (start_event percent (Err refusals.Memory) buf).event (state new)) → RunsAt (IsIn among) m sessions (state new)
   unstarted_memory made =
       let so = steps C state among apart m sessions old new at percent (Err refusals.Memory) buf made in
-      runs_then C state among apart m sessions old new at percent (Err refusals.Memory) buf made so.stops m.collecting m.collected so.made.effect.disk.faults_are so.counted_is
+      runs_then C state among apart m sessions old new at percent (Err refusals.Memory) buf made so.stops m.collecting so.made.effect.disk.faults_are so.counted_is
       (still_follows (state old) (state new) so.made.effect.disk.only so.made.effect.tables.tables_are so.made.effect.tables.index_is so.made.row.1 m.collecting at.running.begins.collects)
-      (spares_still (state old) (state new) m.stored.files at.running.begins.store so.made.effect.tables.index_is (same_live (state old).collection (state new).collection so.made.row.1) m.collecting at.running.begins.spares) at.running.begins.begun (λ none. none)
+      (spares_still (state old) (state new) m.stored.files at.running.begins.store so.made.effect.tables.index_is (same_live (state old).collection (state new).collection so.made.row.1) m.collecting at.running.begins.spares)
 
   pub unstarted_running : (phase : _) (made : CoreStep (state old) (start_event percent (Err (refusals.Collecting phase)) buf).event (state new)) → RunsAt (IsIn among) m sessions (state new)
   unstarted_running phase made =
       let so = steps C state among apart m sessions old new at percent (Err (refusals.Collecting phase)) buf made in
-      runs_then C state among apart m sessions old new at percent (Err (refusals.Collecting phase)) buf made so.stops m.collecting m.collected so.made.effect.disk.faults_are so.counted_is
+      runs_then C state among apart m sessions old new at percent (Err (refusals.Collecting phase)) buf made so.stops m.collecting so.made.effect.disk.faults_are so.counted_is
       (still_follows (state old) (state new) so.made.effect.disk.only so.made.effect.tables.tables_are so.made.effect.tables.index_is so.made.row.1 m.collecting at.running.begins.collects)
-      (spares_still (state old) (state new) m.stored.files at.running.begins.store so.made.effect.tables.index_is (same_live (state old).collection (state new).collection so.made.row.1) m.collecting at.running.begins.spares) at.running.begins.begun (λ none. none)
+      (spares_still (state old) (state new) m.stored.files at.running.begins.store so.made.effect.tables.index_is (same_live (state old).collection (state new).collection so.made.row.1) m.collecting at.running.begins.spares)

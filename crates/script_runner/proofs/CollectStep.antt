@@ -1,5 +1,5 @@
 -- One step of a collection is one of the machine, and the runner follows it.
-use Rattle.std.proofs.Common.{◌≡◌, inl, inr, ◌+◌, ◌-◌, ◌<◌, ℕ, zero, suc, List, [], ◌∷◌, length, true, false, Option, Some, None, Result, Ok, Err, refl, sym, ◌∙◌, ap, subst, arith}
+use Rattle.std.proofs.Common.{◌≡◌, inl, inr, ◌+◌, ◌-◌, ◌<◌, ℕ, zero, suc, Bool, List, [], ◌∷◌, length, true, false, Option, Some, None, Result, Ok, Err, refl, sym, ◌∙◌, ap, subst, arith}
 use Rattle.std.specs.Prelude.{IsSome, slice_get}
 use Rattle.base_model.specs.Fault.{Rose}
 use Rattle.dd_disk.specs.Ending.{Broken, Done, Ending, ending, ending_of}
@@ -21,6 +21,8 @@ use Rattle.gc_steps.specs.declared.collection.Stage.TheVariants.{Mark, Filter, S
 use Rattle.gc_steps.specs.Sparing.{Spares}
 use Rattle.gc_steps.specs.Stepping.{Keeps, StepsTo, TablesAfter, Touches, answer_at, moment, phase_at}
 use Rattle.gc_steps.specs.UnderWay.{IsUnderWay}
+use Rattle.gc_steps.specs.Safety.{IsSafeAt}
+use Rattle.gc_steps.specs.SweepIsSafe.{IsReadySource, ReleasesReady}
 use Rattle.gc_steps.proofs.UnderWay.{at_stage}
 use Rattle.gc_steps.proofs.Sparing as sparing
 use Rattle.gc_steps.specs.Marking.{MarksOnly}
@@ -48,19 +50,18 @@ use Rattle.store_core.proofs.Leading.{Leads}
 use Rattle.store_core.proofs.Making.{up_of}
 use Rattle.store_core.proofs.RunningOn.{step_runs}
 use Rattle.store_core.proofs.Stepping.{step_later}
-use Rattle.plain_machine.specs.Collections.{ChangesBy, EndsCollection, RefusesCollectionStep, StepsCollection, freed_by}
-use Rattle.plain_machine.specs.Content.{BreaksGate, FreesContainer, OfStore, SameButGate, SameStore}
+use Rattle.plain_machine.specs.Collections.{ChangesBy, EndsCollection, RefusesCollectionStep, StepsCollection, forgets_by, freed_by}
+use Rattle.plain_machine.specs.Content.{BreaksGate, FreesContainer, OfStore, SameStore}
 use Rattle.plain_machine.specs.Machine.{Collecting, Machine, Stopped, part_in}
 use Rattle.script_runner.specs.Follows.{Follows, FollowsCollecting, FollowsCollection, FollowsPart, IsOfFound, SparesAlone}
 use Rattle.script_runner.specs.Sessions.{Sessions, session_of}
-use Rattle.script_runner.proofs.CollectBytes.{GivesNothing, breaks_gate, but_gate_none, gate_broke, gate_changed, nothing_changes, same_before}
+use Rattle.script_runner.proofs.CollectBytes.{GivesNothing, gate_broke, gate_changed, nothing_changes, same_before}
 use Rattle.script_runner.proofs.CollectCauses.{IsCauseAt, IsCollectCause, cause_at, freed_on, collect_cause, phase_is}
 use Rattle.script_runner.proofs.CollectionOn.{by_collection, same_come}
 use Rattle.script_runner.proofs.CollectParts.{gc_event, part_still}
 use Rattle.script_runner.proofs.CollectNeeds.{needs_closed, needs_here, told_here}
 use Rattle.script_runner.proofs.CollectSpares.{IsRestCause, MarksSome, rest_index, rest_marks}
 use Rattle.script_runner.proofs.Harmless.{is_harmless}
-use Rattle.script_runner.proofs.MostSteps.{many_ids}
 use Rattle.script_runner.proofs.PlainSteps.{GoesUnchanged}
 use Rattle.script_runner.proofs.Sweeping.{IsFewIn, few_after, few_by, left_by, left_on}
 use Rattle.script_runner.proofs.TurnHolds.{right_here}
@@ -219,12 +220,12 @@ module _ (C : Type 0) (state : C → CoreState) (among : ByteSet) (apart : HasNo
         (part_still S store m.stored (state old) (state new) 0 answer buf at.running.begins.is_at leads settled_now actor below (part_in m actor) (session_of sessions actor) (part_of (state old).parts actor) refl
         (at.running.parts actor below))
 
-    abbrev then : List ℕ → ℕ → Option Collecting → Machine
-    then content faults collecting = record m { content = content; faults = faults; collecting = collecting }
+    abbrev then : List ℕ → ℕ → Option Collecting → Bool → Machine
+    then content faults collecting collected = record m { content = content; faults = faults; collecting = collecting; collected = collected }
 
-    runs_then : (content : List ℕ) (faults : ℕ) (collecting : Option Collecting) → (state new).disk.content ≡ Some content → (state new).disk.faults ≡ faults → FollowsCollection collecting (state new)
-        → SparesAlone m.stored.files leads.next.store collecting (state new) → ((k : Collecting) → collecting ≡ Some k → m.collected ≡ true) → (m.collected ≡ false → IndexesAll leads.next.store (state new).known) → RunsAt S (then content faults collecting) sessions (state new)
-    runs_then content faults collecting content_is faults_are collects spares begun whole = record {
+    runs_then : (content : List ℕ) (faults : ℕ) (collecting : Option Collecting) (collected : Bool) → (state new).disk.content ≡ Some content → (state new).disk.faults ≡ faults → FollowsCollection collecting (state new)
+        → SparesAlone m.stored.files leads.next.store collecting (state new) → (collected ≡ false → IndexesAll leads.next.store (state new).known) → RunsAt S (then content faults collecting collected) sessions (state new)
+    runs_then content faults collecting collected content_is faults_are collects spares whole = record {
       state_is = at.state_is;
       content_is = content_is;
       faults_are = faults_are;
@@ -243,21 +244,10 @@ module _ (C : Type 0) (state : C → CoreState) (among : ByteSet) (apart : HasNo
           low = at.running.begins.low;
           collects = collects;
           spares = spares;
-          begun = begun;
         };
         parts = each;
       };
     }
-
-    -- of a machine in which a collection has begun
-    module _ (has : HasCollecting m (state old)) where
-      begun_is : m.collected ≡ true
-      begun_is = at.running.begins.begun has.collecting has.is
-
-      runs_on : (content : List ℕ) (faults : ℕ) (collecting : Option Collecting) → (state new).disk.content ≡ Some content → (state new).disk.faults ≡ faults → FollowsCollection collecting (state new)
-          → SparesAlone m.stored.files leads.next.store collecting (state new) → RunsAt S (then content faults collecting) sessions (state new)
-      runs_on content faults collecting content_is faults_are collects spares =
-          runs_then content faults collecting content_is faults_are collects spares (λ k is. begun_is) (λ none. absurd (let wrong : true ≡ false = sym begun_is ∙ none in cc))
 
   -- ---- what a stage leaves of the bytes
 
@@ -415,9 +405,39 @@ module _ (C : Type 0) (state : C → CoreState) (among : ByteSet) (apart : HasNo
     changes_by (Release next slot) is = freed next slot is
     changes_by End is = absurd (let wrong = ap (λ (stage : Stage). answer_at stage goes.before.freed) (sym is) ∙ goes.phase_is in cc)
 
+    -- ---- the index
+
+    stays_so : ((next slot : ℕ) → goes.before.stage ≡ Release next slot → ⊥) → led_to ≡ at.running.begins.store
+    stays_so none = sym led_is ∙ by_store leaves.store_is
+      where
+        by_store : IsStoreAfter goes.before.stage begins.index at.running.begins.store leaves.store_now → leaves.store_now ≡ at.running.begins.store
+        by_store (inl same) = same.1
+        by_store (inr frees) = absurd (none frees.next frees.slot frees.stage_is)
+
+    -- where no source is taken or given back, it has all that it had
+    all_stays : (stage : Stage) → goes.before.stage ≡ stage → ((next slot : ℕ) → stage ≡ Release next slot → ⊥) → (state new).known ≡ (state old).known → m.collected ≡ false
+        → IndexesAll led_to (state new).known
+    all_stays stage is none same un =
+        subst (λ (s : Store). IndexesAll s (state new).known) (sym (stays_so (λ next slot release. none next slot (sym is ∙ release))))
+        (subst (IndexesAll at.running.begins.store) (sym same) (at.running.begins.whole un))
+
+    all_by : (stage : Stage) → goes.before.stage ≡ stage → StepsTo stage (at_moment (state old) goes.before) (at_moment (state new) goes.after) → forgets_by (phase_at stage) m.collected ≡ false
+        → IndexesAll led_to (state new).known
+    all_by (Mark level slot) is steps un = all_stays (Mark level slot) is (λ next other wrong. cc) steps.1 un
+    all_by (Filter slot) is steps un = all_stays (Filter slot) is (λ next other wrong. cc) steps.1 un
+    all_by Select is steps un = all_stays Select is (λ next other wrong. cc) steps.1 un
+    all_by (Copy source) is steps un = absurd (let wrong : true ≡ false = un in cc)
+    all_by (Release next slot) is steps un = absurd (let wrong : true ≡ false = un in cc)
+    all_by End is steps un = all_stays End is (λ next other wrong. cc) steps.1 un
+
+    all_now : forgets_by phase m.collected ≡ false → IndexesAll led_to (state new).known
+    all_now un =
+        all_by goes.before.stage refl goes.steps
+        (subst (λ (p : Phase). forgets_by p m.collected ≡ false) (sym (phase_is goes.before.stage goes.before.freed phase goes.phase_is)) un)
+
     pub did_step : Collected (StepsCollection phase m)
     did_step = record {
-      next = record m { content = image_now; collecting = Some goes_so };
+      next = record m { content = image_now; collecting = Some goes_so; collected = forgets_by phase m.collected };
       is = record {
         left = left;
         freed = has.collecting.freed;
@@ -426,9 +446,9 @@ module _ (C : Type 0) (state : C → CoreState) (among : ByteSet) (apart : HasNo
         changes = subst (λ (p : Phase). ChangesBy p m.stored.files m.content image_now) (phase_is goes.before.stage goes.before.freed phase goes.phase_is) (changes_by goes.before.stage refl);
         others = refl;
       };
-      at = runs_on C state among apart m sessions old new at did buf made (steps C state among apart m sessions old new at did buf made).stops has image_now m.faults
-          (Some goes_so) (told C state among apart m sessions old new at did buf made)
-          ((steps C state among apart m sessions old new at did buf made).made.effect.faults_are ∙ at.faults_are) now spares_now;
+      at = runs_then C state among apart m sessions old new at did buf made (steps C state among apart m sessions old new at did buf made).stops image_now m.faults
+          (Some goes_so) (forgets_by phase m.collected) (told C state among apart m sessions old new at did buf made)
+          ((steps C state among apart m sessions old new at did buf made).made.effect.faults_are ∙ at.faults_are) now spares_now all_now;
       stored_is = refl;
     }
 
@@ -467,6 +487,13 @@ module _ (C : Type 0) (state : C → CoreState) (among : ByteSet) (apart : HasNo
         let spares = subst (λ (o : Option Collecting). SparesAlone m.stored.files at.running.begins.store o (state old)) has_ended.is at.running.begins.spares in
         (at.running.begins.store, (right C state among apart m sessions old new at done buf made, spares_ended (spares alone ended_at.index ended.before ended_at.index_known ended.ran)))
 
+    -- the index has all that it had
+    all_still : m.collected ≡ false → IndexesAll (leads C state among apart m sessions old new at done buf made (steps C state among apart m sessions old new at done buf made).stops).next.store (state new).known
+    all_still un =
+        let led = leads C state among apart m sessions old new at done buf made (steps C state among apart m sessions old new at done buf made).stops in
+        let same : led.next.store ≡ at.running.begins.store = subst (λ (changes : List StoreChange). ChangesTo changes at.running.begins.store led.next.store) led.changes_are led.next.chain in
+        subst (λ (s : Store). IndexesAll s (state new).known) (sym same) (subst (IndexesAll at.running.begins.store) (sym ended.index_is) (at.running.begins.whole un))
+
     pub ended_step : Collected (EndsCollection freed copied m)
     ended_step = record {
       next = record m { collecting = None };
@@ -478,8 +505,8 @@ module _ (C : Type 0) (state : C → CoreState) (among : ByteSet) (apart : HasNo
         none_spare = none_spare;
         others = refl;
       };
-      at = runs_on C state among apart m sessions old new at done buf made (steps C state among apart m sessions old new at done buf made).stops has_ended m.content m.faults None content_same
-          ((steps C state among apart m sessions old new at done buf made).made.effect.faults_are ∙ at.faults_are) ended.ended tt;
+      at = runs_then C state among apart m sessions old new at done buf made (steps C state among apart m sessions old new at done buf made).stops m.content m.faults None m.collected content_same
+          ((steps C state among apart m sessions old new at done buf made).made.effect.faults_are ∙ at.faults_are) ended.ended tt all_still;
       stored_is = refl;
     }
 
@@ -512,11 +539,11 @@ module _ (C : Type 0) (state : C → CoreState) (among : ByteSet) (apart : HasNo
     not_collecting = record {
       next = m;
       is = (none_is, refl);
-      at = runs_then C state among apart m sessions old new at no buf made runs_still m.content m.faults m.collecting
+      at = runs_then C state among apart m sessions old new at no buf made runs_still m.content m.faults m.collecting m.collected
           ((subst (λ (o : Option Collection). TouchesBy o no (state old) (state new).disk) none.none_ran (steps C state among apart m sessions old new at no buf made).made.effect.touches).only.content_is ∙ at.content_is)
           ((steps C state among apart m sessions old new at no buf made).made.effect.faults_are ∙ at.faults_are)
           (subst (λ (o : Option Collecting). FollowsCollection o (state new)) (sym none_is) none.none_runs)
-          (subst (λ (o : Option Collecting). SparesAlone m.stored.files led.next.store o (state new)) (sym none_is) tt) at.running.begins.begun indexed;
+          (subst (λ (o : Option Collecting). SparesAlone m.stored.files led.next.store o (state new)) (sym none_is) tt) indexed;
       stored_is = refl;
     }
 
@@ -607,9 +634,10 @@ module _ (C : Type 0) (state : C → CoreState) (among : ByteSet) (apart : HasNo
         let led = leads C state among apart m sessions old new at err buf made stays in
         let same : led.next.store ≡ at.running.begins.store = subst (λ (changes : List StoreChange). ChangesTo changes at.running.begins.store led.next.store) led.changes_are led.next.chain in
         follows_at (IsIn among) (record m { content = image_then; faults = faults }) sessions (state new)
-        (runs_on C state among apart m sessions old new at err buf made stays has_some image_then faults m.collecting told_then faults_are
+        (runs_then C state among apart m sessions old new at err buf made stays image_then faults m.collecting m.collected told_then faults_are
         (by_collection (state old) (state new) m.collecting (same_come (state old) (state new) (ap (λ (t : Tables). t.held) row.tables_are)) (kept_unchanged (state old) (state new) refusal row) at.running.begins.collects)
-        (subst (λ (s : Store). SparesAlone m.stored.files s m.collecting (state new)) (sym same) (spares_rested rests)))
+        (subst (λ (s : Store). SparesAlone m.stored.files s m.collecting (state new)) (sym same) (spares_rested rests))
+        (λ un. subst (λ (s : Store). IndexesAll s (state new).known) (sym same) (subst (IndexesAll at.running.begins.store) (sym (index_then rests)) (at.running.begins.whole un))))
 
     abbrev slots : ℕ
     slots = at.running.begins.store.slots
@@ -618,7 +646,10 @@ module _ (C : Type 0) (state : C → CoreState) (among : ByteSet) (apart : HasNo
     sized_so = at.running.begins.is_at.valid.size_is
 
     -- a write failed
-    broke : (ending_of (blames refusal)) ≡ Broken → BreaksGate m.content image_then
+    abbrev Breaks : Type 0
+    Breaks = BreaksGate (IsReachable m.stored.files) m.content image_then
+
+    broke : (ending_of (blames refusal)) ≡ Broken → Breaks
     broke is = by_stage row.before.stage refl
       where
         here_slots : (state old).tables.slots ≡ slots
@@ -627,30 +658,31 @@ module _ (C : Type 0) (state : C → CoreState) (among : ByteSet) (apart : HasNo
         settled_so : IsSettled slots (state old).disk
         settled_so = subst (λ (n : ℕ). IsSettled n (state old).disk) here_slots at.running.begins.settled
 
-        breaks : (slot : ℕ) → SameButGate slot slots m.content image_then → BreaksGate m.content image_then
-        breaks slot gate =
-            breaks_gate slots (state old).tables (state old).disk (state new).disk m.content image_then at.content_is told_then sized_so at.running.begins.store
-            (right C state among apart m sessions old new at err buf made) refl slot gate
-
-        nothing_so : (stage : Stage) → row.before.stage ≡ stage → GivesNothing stage → BreaksGate m.content image_then
+        nothing_so : (stage : Stage) → row.before.stage ≡ stage → GivesNothing stage → Breaks
         nothing_so stage same gives =
-            breaks 0 (but_gate_none slots m.content image_then
-            (nothing_changes slots (state old).tables (state old).disk (state new).disk m.content image_then at.content_is told_then sized_so stage (ending_of (blames refusal)) gives
+            inl (same_so C state among apart m sessions old new at err buf made row.before row.ran stage (ending_of (blames refusal)) gives
             (subst (λ (x : Stage). Touches x (state old).tables (ending_of (blames refusal)) (state old).disk (state new).disk) same touches_so))
-            0 (omega (arith, at.running.begins.is_at.valid.count.0)))
 
-        released : (next slot : ℕ) → row.before.stage ≡ Release next slot → BreaksGate m.content image_then
+        -- the source that was to be given back is ready
+        ready : (next slot : ℕ) → row.before.stage ≡ Release next slot → IsReadySource begins_then.index at.running.begins.store.held row.before.snapshot next slot
+        ready next slot same =
+            let safe = subst (IsSafeIn begins_then.index at.running.begins.store (state old).parts m.content) row.ran (begins_then.safe m.content at.content_is) in
+            let sweep = subst (λ (stage : Stage). IsSafeAt stage begins_then.index at.running.begins.store (state old).parts m.content row.before) same safe in
+            subst (ReleasesReady begins_then.index at.running.begins.store.held row.before.snapshot) same sweep.releases_ready
+
+        released : (next slot : ℕ) → row.before.stage ≡ Release next slot → Breaks
         released next slot same =
-            let under_so = under C state among apart m sessions old new at err buf made row.before row.ran in
-            let there = at_stage (state old).tables.held row.before (Release next slot) under_so same in
-            let within : slot < length (state old).tables.held.ids.items = there.3.0 in
-            let many : length (state old).tables.held.ids.items ≡ slots =
-            ap length at.running.begins.is_at.represents.slots_hold.ids_are ∙ many_ids at.running.begins.store.held ∙ at.running.begins.is_at.valid.many in
-            breaks slot (gate_broke slots (state old).tables (state old).disk (state new).disk m.content image_then at.content_is told_then sized_so next slot (omega (arith, within, many)) settled_so
-            (subst (λ (e : Ending). Touches (Release next slot) (state old).tables e (state old).disk (state new).disk) is
-            (subst (λ (x : Stage). Touches x (state old).tables (ending_of (blames refusal)) (state old).disk (state new).disk) same touches_so)))
+            let one = ready next slot same in
+            let invariant = begins_then.invariant m.content at.content_is in
+            let within = within_held at.running.begins.store.held slot one.header one.there in
+            inr (at.running.begins.store, (right C state among apart m sessions old new at err buf made, (slot, (
+              sparing.ready_is_spare begins_then.index at.running.begins.store m.stored.files slot one.header one.there invariant.index_is_newest invariant.files_are_indexed one.is_empty,
+              gate_broke slots (state old).tables (state old).disk (state new).disk m.content image_then at.content_is told_then sized_so next slot (omega (arith, within, at.running.begins.is_at.valid.many)) settled_so
+              (subst (λ (e : Ending). Touches (Release next slot) (state old).tables e (state old).disk (state new).disk) is
+              (subst (λ (x : Stage). Touches x (state old).tables (ending_of (blames refusal)) (state old).disk (state new).disk) same touches_so)),
+            ))))
 
-        by_stage : (stage : Stage) → row.before.stage ≡ stage → BreaksGate m.content image_then
+        by_stage : (stage : Stage) → row.before.stage ≡ stage → Breaks
         by_stage (Mark level slot) same = nothing_so (Mark level slot) same tt
         by_stage (Filter slot) same = nothing_so (Filter slot) same tt
         by_stage Select same = nothing_so Select same tt

@@ -1,5 +1,5 @@
 -- What becomes of a collection that runs alone over a step that is none of it: it does so still where the step disturbs nothing.
-use Rattle.std.proofs.Common.{Bool, true, ◌≡◌, ◌⊎◌, inl, inr, ◌∙◌, ℕ, List, [], Option, Some, None, Result, Ok, Err, refl, sym, subst}
+use Rattle.std.proofs.Common.{◌≡◌, ◌⊎◌, inl, inr, ℕ, List, [], Option, None, Result, Ok, Err, refl, sym, subst}
 use Rattle.actor_parts.specs.declared.step.Answer.{Answer}
 use Rattle.actor_parts.specs.StepValue as asked
 use Rattle.actor_parts.specs.StepValue.{StepValue}
@@ -123,16 +123,4 @@ pub follows_after : (step : StepValue) (answer : Result Answer Refusal) (collect
 follows_after step answer collecting c follows = elim (quiet_or step answer collecting) [
   | inl quiet ↦ subst (λ (o : Option Collecting). FollowsCollection o c) (sym (quiet_same step answer collecting quiet)) follows
   | inr is ↦ subst (λ (o : Option Collecting). FollowsCollection o c) (sym is) (follows_disturbed collecting c follows)
-]
-
--- one that runs ran before
-disturbed_begun : (o : Option Collecting) (collected : Bool) → ((k : Collecting) → o ≡ Some k → collected ≡ true) → (k : Collecting) → disturbed o ≡ Some k → collected ≡ true
-disturbed_begun None collected begun k is = absurd (let wrong = is in cc)
-disturbed_begun (Some j) collected begun k is = begun j refl
-
-pub begun_after : (step : StepValue) (answer : Result Answer Refusal) (o : Option Collecting) (collected : Bool) → ((k : Collecting) → o ≡ Some k → collected ≡ true) → (k : Collecting) → collecting_after step answer o ≡ Some k
-    → collected ≡ true
-begun_after step answer o collected begun k is = elim (quiet_or step answer o) [
-  | inl quiet ↦ begun k (sym (quiet_same step answer o quiet) ∙ is)
-  | inr same ↦ disturbed_begun o collected begun k (sym same ∙ is)
 ]

@@ -119,7 +119,6 @@ module _ (old new : CoreState) (reads : OnlyReads old.disk new.disk) (tables_are
     collects = still_follows collecting begins.collects;
     spares = spares_still old new stored.files begins.store index_is (same_live old.collection new.collection collection_is) collecting begins.spares;
     low = begins.low;
-    begun = begins.begun;
     last_id_is = ap (λ (tables : Tables). tables.held.last_id) tables_are ∙ begins.last_id_is;
     settled = subst (λ (tables : Tables). IsSettled tables.slots new.disk) (sym tables_are)
         (λ bytes told image there. begins.settled bytes (sym reads.content_is ∙ told) image (reads.images_are image there));
@@ -173,7 +172,6 @@ opened_store S stored image c told begins = record {
   collects = begins.none_runs;
   spares = tt;
   low = subst (λ (n : ℕ). n ≤ LAST_ID) (sym (greatest_is image begins.store (right_here S begins.store stored c begins.is_at image told))) (low_ids begins.store.held begins.is_at.valid.headers);
-  begun = λ k is. absurd (let wrong = is in cc);
 }
 
 -- ---- idle actors

@@ -36,7 +36,6 @@ module _ (C : Type 0) (state : C → CoreState) (among : ByteSet) (distinct : Ha
           collects = subst (λ (o : Option Collecting). FollowsCollection o (state new)) quiet then.begins.collects;
           spares = subst (λ (o : Option Collecting). SparesAlone m.stored.files then.begins.store o (state new)) quiet
               (subst (λ (stored : Stored). SparesAlone stored.files then.begins.store (collecting_after e.step e.answer m.collecting) (state new)) files then.begins.spares);
-          begun = λ k is. then.begins.begun k (quiet ∙ is);
         };
         held = then.held;
         takes = then.takes;

@@ -38,7 +38,7 @@ use Rattle.plain_machine.specs.Machine.{Collecting, Machine, part_in}
 use Rattle.script_runner.specs.Follows.{FollowsCollection, FollowsPart, FollowsStore, FollowsRunning, SparesAlone, Takes}
 use Rattle.script_runner.specs.Sessions.{Sessions, session_of}
 use Rattle.script_runner.proofs.CollectionOn.{collection_on, last_on, low_on}
-use Rattle.script_runner.proofs.Disturbing.{begun_after, follows_after, spares_on}
+use Rattle.script_runner.proofs.Disturbing.{follows_after, spares_on}
 use Rattle.script_runner.proofs.PlainSteps.{IsPlainStep, collecting_after, last_after, plain_no_gc}
 use Rattle.script_runner.proofs.PartsOn.{part_on, takes_on}
 use Rattle.disk_format.specs.declared.numbers.TheConstants.{LAST_ID}
@@ -74,7 +74,6 @@ begins_as S stored later last then collecting goes collected was c stored_is las
   collects = subst (λ (x : Option Collecting). FollowsCollection x c) goes_is begins.collects;
   spares = subst (λ (x : Option Collecting). SparesAlone later.files begins.store x c) goes_is
       (subst (λ (x : Stored). SparesAlone x.files begins.store collecting c) stored_is begins.spares);
-  begun = λ k is. sym was_is ∙ begins.begun k (goes_is ∙ is);
 }
 
 -- ---- one step more
@@ -126,7 +125,6 @@ module _ (C : Type 0) (state : C → CoreState) (among : ByteSet) (apart : HasNo
           (collection_on (state old) (state new) S store next.next.store m.stored (stored_by f m.stored) running.begins.is_at next.next.is_at m.collecting f.event stays plain steps next.next.chain running.begins.collects);
       spares = spares_on (state old) (state new) store next.next.store m.stored f.bytes m.collecting f.event stays plain steps next.next.chain running.begins.spares;
       low = low_on (state old) (state new) S store next.next.store m.stored (stored_by f m.stored) running.begins.is_at next.next.is_at m.last_id f.event no_gc steps next.next.chain running.begins.low;
-      begun = begun_after f.event.step f.event.answer m.collecting m.collected running.begins.begun;
     }
 
     up : IsUp (state new)

@@ -97,8 +97,8 @@ SparesAlone files store None c = Unit {0}
 SparesAlone files store (Some k) c = k.alone ≡ true → (index : PlaceMap) (collection : Collection) → c.known ≡ Some index
     → c.collection ≡ Some collection → Spares (IsReachable files) index store.held collection
 
--- The core is at a store of these files, and its disk is settled. The last id is this one; the collection that runs, if one does, is this one;
--- and where none began since the opening, the index has each key that the store holds.
+-- The core is at a store of these files, and its disk is settled. The last id is this one; the collection that runs, if one does, is this
+-- one; and where no key left the index since the opening, it has each that the store holds.
 pub record FollowsStore (S : List ℕ → Type 0) (stored : Stored) (last : ℕ) (collecting : Option Collecting) (collected : Bool) (c : CoreState)
     : Type 0 where
   pub store : Store
@@ -109,7 +109,6 @@ pub record FollowsStore (S : List ℕ → Type 0) (stored : Stored) (last : ℕ)
   pub low : last ≤ LAST_ID
   pub collects : FollowsCollection collecting c
   pub spares : SparesAlone stored.files store collecting c
-  pub begun : (k : Collecting) → collecting ≡ Some k → collected ≡ true
 
 -- those of the machine
 abbrev pub FollowsStoreOf : (List ℕ → Type 0) → Machine → CoreState → Type 0

@@ -1,17 +1,17 @@
 -- Collections: containers that no file needs are given back, step by step (docs/MODEL.md, 'The plain machine').
-use Rattle.std.specs.Prelude.{◌≡◌, ℕ, suc, ◌+◌, ◌*◌, Bool, true, List, [], ◌∷◌, Option, None, Some, IsSome}
+use Rattle.std.specs.Prelude.{◌≡◌, ℕ, suc, ◌+◌, ◌*◌, Bool, true, false, List, [], ◌∷◌, Option, None, Some, IsSome}
 use Rattle.base_model.specs.Fault.{Rose}
 use Rattle.container_meta.specs.declared.kind.Kind.{Kind}
 use Rattle.container_meta.specs.declared.kind.Kind.TheVariants.{Leaf, Tree}
 use Rattle.container_meta.specs.Spelling.{HeaderValue}
 use Rattle.refusals.specs.declared.refusal.Phase.{Phase}
-use Rattle.refusals.specs.declared.refusal.Phase.TheVariants.{Copy, Release}
+use Rattle.refusals.specs.declared.refusal.Phase.TheVariants.{Copy, End, Filter, Mark, Release, Select}
 use Rattle.refusals.specs.declared.refusal.Refusal.{Refusal}
 use Rattle.refusals.specs.declared.refusal.Refusal.TheVariants.{Memory, NotCollecting, DiskRead, DiskWrite}
 use Rattle.store_model.specs.Files.{Files}
 use Rattle.store_model.specs.Reserve.{IsReachable, IsSpare}
 use Rattle.plain_machine.specs.Content.{BreaksGate, FreesContainer, OfStore, SameStore}
-use Rattle.plain_machine.specs.Machine.{Machine, Stopped, are_idle}
+use Rattle.plain_machine.specs.Machine.{Collecting, Machine, Marking, Progress, Recording, Stopped, Sweeping, are_idle}
 use Rattle.plain_machine.specs.Turns.{Stays}
 
 -- ---- how long one takes at most
@@ -43,7 +43,7 @@ pub record BeginsCollection (snapshot : ℕ) (m n : Machine) : Type 0 where
   pub snapshot_is : snapshot ≡ suc m.last_id
   pub most : ℕ
   pub most_is : OfStore m.content (λ store. most ≡ most_steps store.held)
-  pub others : n ≡ record m { collecting = Some (record { to_come = most; freed = 0; alone = are_idle m.parts }) }
+  pub others : n ≡ record m { collecting = Some (record { progress = Marking; to_come = most; freed = 0; alone = are_idle m.parts }) }
 
 -- what a step changes: a release gives a container back that no file needs, and no other step anything
 abbrev pub ChangesBy : Phase → Files → List ℕ → List ℕ → Type 0
@@ -60,16 +60,41 @@ forgets_by Copy collected = true
 forgets_by Release collected = true
 forgets_by phase collected = collected
 
+-- How far it is after a step: first come the marks, then the records, then the choice; and then each source is taken, and, where it is ready,
+-- given back. No other step may come.
+abbrev pub GoesTo : Phase → Progress → Progress → Type 0
+GoesTo Mark Marking next = next ≡ Marking
+GoesTo Filter Marking next = next ≡ Recording
+GoesTo Filter Recording next = next ≡ Recording
+GoesTo Select Marking next = next ≡ Sweeping false
+GoesTo Select Recording next = next ≡ Sweeping false
+GoesTo Copy (Sweeping false) next = (ready : Bool) × (next ≡ Sweeping ready)
+GoesTo Release (Sweeping true) next = next ≡ Sweeping false
+GoesTo phase progress next = ⊥
+
+-- its next step may be this one
+abbrev pub MayCome : Phase → Progress → Type 0
+MayCome End progress = progress ≡ Sweeping false
+MayCome phase progress = (next : Progress) × GoesTo phase progress next
+
+-- one runs, whose next step may be this one
+abbrev pub IsCollecting : Phase → Option Collecting → Type 0
+IsCollecting phase None = ⊥
+IsCollecting phase (Some running) = MayCome phase running.progress
+
 -- A step is made, of those that may come.
 pub record StepsCollection (phase : Phase) (m n : Machine) : Type 0 where
+  pub progress : Progress
+  pub next : Progress
+  pub goes : GoesTo phase progress next
   pub left : ℕ
   pub freed : ℕ
   pub alone : Bool
-  pub ran : m.collecting ≡ Some (record { to_come = suc left; freed = freed; alone = alone })
+  pub ran : m.collecting ≡ Some (record { progress = progress; to_come = suc left; freed = freed; alone = alone })
   pub changes : ChangesBy phase m.stored.files m.content n.content
   pub others : n ≡ record m {
     content = n.content;
-    collecting = Some (record { to_come = left; freed = freed + freed_by phase; alone = alone });
+    collecting = Some (record { progress = next; to_come = left; freed = freed + freed_by phase; alone = alone });
     collected = forgets_by phase m.collected;
   }
 
@@ -78,12 +103,12 @@ abbrev pub CollectionSteps : List Phase → Machine → Machine → Type 0
 CollectionSteps [] m n = n ≡ m
 CollectionSteps (phase ∷ phases) m n = (mid : Machine) × (StepsCollection phase m mid × CollectionSteps phases mid n)
 
--- It ends, and tells how many containers it gave back. It copies nothing so far. One that ran alone leaves no container that holds the
--- newest copy of no key that a file needs: so it gave back all of these, and no others.
+-- It ends, where the sources were chosen and none is ready, and tells how many containers it gave back. It copies nothing so far. One that
+-- ran alone leaves no container that holds the newest copy of no key that a file needs: so it gave back all of these, and no others.
 pub record EndsCollection (freed copied : ℕ) (m n : Machine) : Type 0 where
   pub left : ℕ
   pub alone : Bool
-  pub ran : m.collecting ≡ Some (record { to_come = left; freed = freed; alone = alone })
+  pub ran : m.collecting ≡ Some (record { progress = Sweeping false; to_come = left; freed = freed; alone = alone })
   pub copied_is : copied ≡ 0
   pub none_spare : alone ≡ true → OfStore m.content (λ store. (slot : ℕ) → ¬ (IsSpare (IsReachable m.stored.files) store.held slot))
   pub others : n ≡ record m { collecting = None }

@@ -45,8 +45,16 @@ pub data RunState : Type 0 where
   Running : RunState
   Stopped : (other : Option Stored) → RunState
 
--- A collection that runs: so many steps of it may come at most before its end, and so many containers were given back.
+-- How far a collection has come: it marks what is live; or it records how much of each container is; or the sources are chosen, and one of them
+-- is ready to be given back, or none.
+pub data Progress : Type 0 where
+  Marking : Progress
+  Recording : Progress
+  Sweeping : (ready : Bool) → Progress
+
+-- A collection that runs: so far it has come, so many steps of it may come at most before its end, and so many containers were given back.
 pub record Collecting : Type 0 where
+  pub progress : Progress
   pub to_come : ℕ
   pub freed : ℕ
   -- no actor was at anything when it began, and since then no turn was answered, and no name has changed

@@ -17,7 +17,7 @@ use Rattle.store_model.specs.Files.{with_stored, without_stored}
 use Rattle.store_model.specs.Refusals.{root_key}
 use Rattle.store_model.specs.Steps.{CanRise}
 use Rattle.store_model.specs.Trees.{root_of}
-use Rattle.plain_machine.specs.Collections.{RefusesCollectionStep, RefusesSweep}
+use Rattle.plain_machine.specs.Collections.{IsCollecting, RefusesCollectionStep, RefusesSweep}
 use Rattle.plain_machine.specs.Content.{OfStore, BreaksOff, HasTwins}
 use Rattle.plain_machine.specs.Machine.{Machine, Writing, Finished, Reading, Stopped, kind_of, part_in}
 use Rattle.plain_machine.specs.Turns.{IsDue, OnlyFails, RefusesTurn, MachineTurns, Stays}
@@ -144,7 +144,7 @@ RefusesOn (lines.Next a) DiskRead m n =
 RefusesOn (lines.Delete name) refusal m n = RefusesDelete name refusal m n
 RefusesOn lines.ListNames Memory m n = n ≡ m
 RefusesOn (lines.Gc percent) Memory m n = (m.collecting ≡ None) × (n ≡ m)
-RefusesOn (lines.Gc percent) (Collecting phase) m n = IsSome m.collecting × (n ≡ m)
+RefusesOn (lines.Gc percent) (Collecting phase) m n = IsCollecting phase m.collecting × (n ≡ m)
 RefusesOn lines.GcStep refusal m n = RefusesCollectionStep refusal m n
 RefusesOn lines.Sweep refusal m n = RefusesSweep refusal m n
 RefusesOn line refusal m n = ⊥

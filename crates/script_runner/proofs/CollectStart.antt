@@ -17,6 +17,9 @@ use Rattle.gc_steps.specs.Sparing.{Spares}
 use Rattle.gc_steps.specs.StepsToCome.{old_from, steps_to_come}
 use Rattle.gc_steps.proofs.FewSources.{few_begun}
 use Rattle.gc_steps.proofs.Sparing as sparing
+use Rattle.gc_steps.proofs.Safe.{early_level}
+use Rattle.gc_steps.specs.FewSources.{IsToChoose}
+use Rattle.disk_format.specs.declared.numbers.TheConstants.{MOST_LEVEL}
 use Rattle.namespace.specs.Names.{NameMap}
 use Rattle.store_model.specs.Collisions.{HasNoCollisions, ByteSet, IsIn, IsOf}
 use Rattle.store_model.specs.Image.{Store, names_of}
@@ -36,7 +39,7 @@ use Rattle.store_core.proofs.Making.{up_of}
 use Rattle.store_core.proofs.RunningOn.{step_runs}
 use Rattle.store_core.proofs.Stepping.{step_later}
 use Rattle.plain_machine.specs.Collections.{BeginsCollection, most_steps}
-use Rattle.plain_machine.specs.Machine.{Collecting, Machine, are_idle, part_in}
+use Rattle.plain_machine.specs.Machine.{Collecting, Machine, Marking, are_idle, part_in}
 use Rattle.script_runner.specs.Follows.{FollowsCollecting, FollowsCollection, FollowsPart, SparesAlone}
 use Rattle.script_runner.specs.Sessions.{Sessions, session_of}
 use Rattle.script_runner.proofs.CollectStep.{none_collecting, same_some}
@@ -159,12 +162,13 @@ module _ (C : Type 0) (state : C → CoreState) (among : ByteSet) (apart : HasNo
     slots_same = same_slots C state among apart m sessions old new at percent started buf made
 
     abbrev begins_so : Collecting
-    begins_so = record { to_come = most_steps held.held; freed = 0; alone = are_idle m.parts }
+    begins_so = record { progress = Marking; to_come = most_steps held.held; freed = 0; alone = are_idle m.parts }
 
     now : FollowsCollecting begins_so (state new)
     now = record {
       collection = begun.collection;
       runs = begun.runs;
+      progress_is = subst IsToChoose (sym begun.stage_is) (early_level begun.collection.snapshot (state old).tables.held MOST_LEVEL);
       freed_is = begun.nothing_yet.2;
       most = most;
       few = subst (λ (t : SlotTable). HasFewSources most t begun.collection) (sym slots_same) (few_begun (state old).tables.held begun.collection begun.nothing_yet.1);

@@ -21,6 +21,7 @@ use Rattle.gc_steps.specs.declared.collection.Stage.TheVariants.{Mark, Filter, S
 use Rattle.gc_steps.specs.Sparing.{Spares}
 use Rattle.gc_steps.specs.Stepping.{Keeps, StepsTo, TablesAfter, Touches, answer_at, moment, phase_at}
 use Rattle.gc_steps.specs.UnderWay.{IsUnderWay}
+use Rattle.gc_steps.specs.declared.phase.StepDone.TheVariants.{Did}
 use Rattle.gc_steps.specs.Safety.{IsSafeAt}
 use Rattle.gc_steps.specs.SweepIsSafe.{IsReadySource, ReleasesReady}
 use Rattle.gc_steps.proofs.UnderWay.{at_stage}
@@ -50,16 +51,17 @@ use Rattle.store_core.proofs.Leading.{Leads}
 use Rattle.store_core.proofs.Making.{up_of}
 use Rattle.store_core.proofs.RunningOn.{step_runs}
 use Rattle.store_core.proofs.Stepping.{step_later}
-use Rattle.plain_machine.specs.Collections.{ChangesBy, EndsCollection, RefusesCollectionStep, StepsCollection, forgets_by, freed_by}
+use Rattle.plain_machine.specs.Collections.{ChangesBy, EndsCollection, GoesTo, RefusesCollectionStep, StepsCollection, forgets_by, freed_by}
 use Rattle.plain_machine.specs.Content.{BreaksGate, FreesContainer, OfStore, SameStore}
-use Rattle.plain_machine.specs.Machine.{Collecting, Machine, Stopped, part_in}
-use Rattle.script_runner.specs.Follows.{Follows, FollowsCollecting, FollowsCollection, FollowsPart, IsOfFound, SparesAlone}
+use Rattle.plain_machine.specs.Machine.{Collecting, Machine, Progress, Stopped, Sweeping, part_in}
+use Rattle.script_runner.specs.Follows.{Follows, FollowsCollecting, FollowsCollection, FollowsPart, IsAtProgress, IsOfFound, SparesAlone}
 use Rattle.script_runner.specs.Sessions.{Sessions, session_of}
 use Rattle.script_runner.proofs.CollectBytes.{GivesNothing, gate_broke, gate_changed, nothing_changes, same_before}
 use Rattle.script_runner.proofs.CollectCauses.{IsCauseAt, IsCollectCause, cause_at, freed_on, collect_cause, phase_is}
 use Rattle.script_runner.proofs.CollectionOn.{by_collection, same_come}
 use Rattle.script_runner.proofs.CollectParts.{gc_event, part_still}
 use Rattle.script_runner.proofs.CollectNeeds.{needs_closed, needs_here, told_here}
+use Rattle.script_runner.proofs.CollectProgress.{Progresses, at_end, progresses}
 use Rattle.script_runner.proofs.CollectSpares.{IsRestCause, MarksSome, rest_index, rest_marks}
 use Rattle.script_runner.proofs.Harmless.{is_harmless}
 use Rattle.script_runner.proofs.PlainSteps.{GoesUnchanged}
@@ -144,6 +146,15 @@ module _ (old new : CoreState) where
   kept_unchanged refusal row =
       subst (λ (o : Option Collection). GoesUnchanged old new o new.collection) (sym row.ran)
       (subst (λ (o : Option Collection). GoesUnchanged old new (Some row.before) o) (sym row.runs) (kept_live row.before.stage refusal row.before row.after row.kept))
+
+-- a step that did something was not at the end
+no_end : (stage : Stage) (freed : ℕ) (phase : Phase) → answer_at stage freed ≡ Did phase → phase_at stage ≡ phase_at End → ⊥
+no_end (Mark level slot) freed phase is ends = cc
+no_end (Filter slot) freed phase is ends = cc
+no_end Select freed phase is ends = cc
+no_end (Copy source) freed phase is ends = cc
+no_end (Release next slot) freed phase is ends = cc
+no_end End freed phase is ends = let wrong = is in cc
 
 within_held : (held : List (Option HeaderValue)) (slot : ℕ) (h : HeaderValue) → slice_get held slot ≡ Some (Some h) → slot < length held
 within_held [] slot h is = absurd cc
@@ -298,13 +309,23 @@ module _ (C : Type 0) (state : C → CoreState) (among : ByteSet) (apart : HasNo
     abbrev left : ℕ
     left = has.collecting.to_come - 1
 
+    -- how far it has come
+    at_before : IsAtProgress has.collecting.progress goes.before.stage
+    at_before = subst (λ (c : Collection). IsAtProgress has.collecting.progress c.stage) same has.follows.progress_is
+
+    leads_on : Progresses (phase_at goes.before.stage) has.collecting.progress goes.after.stage
+    leads_on =
+        progresses (state old) (state new) goes.before goes.after goes.before.stage has.collecting.progress at_before goes.steps
+        (λ ends. no_end goes.before.stage goes.before.freed phase goes.phase_is ends)
+
     abbrev goes_so : Collecting
-    goes_so = record { to_come = left; freed = has.collecting.freed + freed_by phase; alone = has.collecting.alone }
+    goes_so = record { progress = leads_on.next; to_come = left; freed = has.collecting.freed + freed_by phase; alone = has.collecting.alone }
 
     now : FollowsCollecting goes_so (state new)
     now = record {
       collection = goes.after;
       runs = goes.runs;
+      progress_is = leads_on.is_at;
       freed_is =
           freed_on (at_moment (state old) goes.before) (at_moment (state new) goes.after) goes.before.stage goes.steps
           ∙ ap (λ (p : Phase). goes.before.freed + freed_by p) (phase_is goes.before.stage goes.before.freed phase goes.phase_is)
@@ -314,8 +335,8 @@ module _ (C : Type 0) (state : C → CoreState) (among : ByteSet) (apart : HasNo
       nears = omega (arith, fewer, ap (left_by has.follows.most (state new).tables.held) goes.runs);
     }
 
-    ran : m.collecting ≡ Some (record { to_come = suc left; freed = has.collecting.freed; alone = has.collecting.alone })
-    ran = has.is ∙ ap (λ (n : ℕ). let k : Collecting = record { to_come = n; freed = has.collecting.freed; alone = has.collecting.alone } in Some k) (let e : has.collecting.to_come ≡ suc left = omega (arith, fewer) in e)
+    ran : m.collecting ≡ Some (record { progress = has.collecting.progress; to_come = suc left; freed = has.collecting.freed; alone = has.collecting.alone })
+    ran = has.is ∙ ap (λ (n : ℕ). let k : Collecting = record { progress = has.collecting.progress; to_come = n; freed = has.collecting.freed; alone = has.collecting.alone } in Some k) (let e : has.collecting.to_come ≡ suc left = omega (arith, fewer) in e)
 
     abbrev touches : Touches goes.before.stage (state old).tables Done (state old).disk (state new).disk
     touches = touched C state among apart m sessions old new at did buf made goes.before goes.ran
@@ -439,6 +460,9 @@ module _ (C : Type 0) (state : C → CoreState) (among : ByteSet) (apart : HasNo
     did_step = record {
       next = record m { content = image_now; collecting = Some goes_so; collected = forgets_by phase m.collected };
       is = record {
+        progress = has.collecting.progress;
+        next = leads_on.next;
+        goes = subst (λ (p : Phase). GoesTo p has.collecting.progress leads_on.next) (phase_is goes.before.stage goes.before.freed phase goes.phase_is) leads_on.goes;
         left = left;
         freed = has.collecting.freed;
         alone = has.collecting.alone;
@@ -487,6 +511,11 @@ module _ (C : Type 0) (state : C → CoreState) (among : ByteSet) (apart : HasNo
         let spares = subst (λ (o : Option Collecting). SparesAlone m.stored.files at.running.begins.store o (state old)) has_ended.is at.running.begins.spares in
         (at.running.begins.store, (right C state among apart m sessions old new at done buf made, spares_ended (spares alone ended_at.index ended.before ended_at.index_known ended.ran)))
 
+    ended_at_last : has_ended.collecting.progress ≡ Sweeping false
+    ended_at_last =
+        at_end has_ended.collecting.progress (subst (IsAtProgress has_ended.collecting.progress)
+        (ap (λ (c : Collection). c.stage) (same_some has_ended.follows.collection ended.before (state old).collection has_ended.follows.runs ended.ran) ∙ ended.at_end) has_ended.follows.progress_is)
+
     -- the index has all that it had
     all_still : m.collected ≡ false → IndexesAll (leads C state among apart m sessions old new at done buf made (steps C state among apart m sessions old new at done buf made).stops).next.store (state new).known
     all_still un =
@@ -500,7 +529,9 @@ module _ (C : Type 0) (state : C → CoreState) (among : ByteSet) (apart : HasNo
       is = record {
         left = has_ended.collecting.to_come;
         alone = has_ended.collecting.alone;
-        ran = has_ended.is ∙ ap (λ (n : ℕ). let k : Collecting = record { to_come = has_ended.collecting.to_come; freed = n; alone = has_ended.collecting.alone } in Some k) freed_same;
+        ran = has_ended.is
+            ∙ ap (λ (n : ℕ). let k : Collecting = record { progress = has_ended.collecting.progress; to_come = has_ended.collecting.to_come; freed = n; alone = has_ended.collecting.alone } in Some k) freed_same
+            ∙ ap (λ (p : Progress). let k : Collecting = record { progress = p; to_come = has_ended.collecting.to_come; freed = freed; alone = has_ended.collecting.alone } in Some k) ended_at_last;
         copied_is = ended.copied_is;
         none_spare = none_spare;
         others = refl;

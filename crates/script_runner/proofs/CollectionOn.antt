@@ -86,6 +86,7 @@ module _ (old new : CoreState) where
       record {
         collection = record c { live = is.0 };
         runs = is.1;
+        progress_is = follows.progress_is;
         freed_is = follows.freed_is;
         most = follows.most;
         few = with_live follows.most now c is.0 still.0;

@@ -4,6 +4,7 @@ pub mod CollectBytes
 pub mod CollectCauses
 pub mod CollectNeeds
 pub mod CollectParts
+pub mod CollectProgress
 pub mod CollectSpares
 pub mod CollectStart
 pub mod CollectStep

@@ -10,16 +10,18 @@ use Rattle.script_lines.specs.ReplyValue.{ReplyValue}
 use Rattle.store_model.specs.Collisions.{HasNoCollisions, ByteSet, IsIn}
 use Rattle.store_model.specs.Files.{Stored}
 use Rattle.store_core.specs.State.{CoreState}
-use Rattle.plain_machine.specs.Collections.{CollectionSteps, RefusesCollectionStep, RefusesSweep}
+use Rattle.plain_machine.specs.Collections.{CollectionSteps, IsCollecting, MayCome, RefusesCollectionStep, RefusesSweep}
 use Rattle.plain_machine.specs.Machine.{Machine, Running}
 use Rattle.plain_machine.specs.Refused.{IsAtRightPart, Refuses}
 use Rattle.script_runner.specs.Acts.{Acts, ActsOrNot, Admits, CollectionRun, RunnerState, Starts}
-use Rattle.script_runner.specs.Follows.{Follows}
+use Rattle.script_runner.specs.Follows.{Follows, IsAtProgress}
+use Rattle.script_runner.proofs.CollectProgress.{may_come}
+use Rattle.gc_steps.specs.declared.collection.Collection.{Collection}
 use Rattle.script_runner.specs.Sessions.{Sessions}
 use Rattle.script_runner.proofs.Along.{GoesAlong}
 use Rattle.script_runner.proofs.CollectStart.{started_step, unstarted_memory, unstarted_running}
 use Rattle.script_runner.proofs.CollectStart as start
-use Rattle.script_runner.proofs.CollectStep.{After, did_step, ended_step, is_collecting, none_collecting, refused_step, some_collecting}
+use Rattle.script_runner.proofs.CollectStep.{After, did_step, ended_step, none_collecting, refused_step, same_some, some_collecting}
 use Rattle.script_runner.proofs.CollectStep as collect
 use Rattle.script_runner.proofs.LinesBarred.{right_part, taken_or_not}
 use Rattle.script_runner.proofs.LinesTurn.{line_keeps}
@@ -88,7 +90,8 @@ module _ (C : Type 0) (state : C → CoreState) (among : ByteSet) (distinct : Ha
       let so = start.steps C state among distinct m r.sessions r.core s.core (at is) percent (Err (refusals.Collecting phase)) starts.0 starts.1 in
       let has = some_collecting m (state r.core) so.made.row.0.0 so.made.row.0.1.0 (at is).running.begins.collects in
       line_keeps C state S (lines.Gc percent) (replies.Refused (refusals.Collecting phase)) m r s is m
-      (right_part S m r.sessions (state r.core) follows (at is).running (lines.Gc percent) admits, (is_collecting m.collecting has.collecting has.is, refl)) r.sessions sessions
+      (right_part S m r.sessions (state r.core) follows (at is).running (lines.Gc percent) admits, (subst (IsCollecting phase) (sym has.is) (subst (λ (p : Phase). MayCome p has.collecting.progress) (sym so.made.row.0.1.1) (may_come has.collecting.progress so.made.row.0.0.stage
+      (subst (λ (c : Collection). IsAtProgress has.collecting.progress c.stage) (same_some has.follows.collection so.made.row.0.0 (state r.core).collection has.follows.runs so.made.row.0.1.0) has.follows.progress_is))), refl)) r.sessions sessions
       (follows_at S m r.sessions (state s.core) (unstarted_running C state among distinct m r.sessions r.core s.core (at is) percent starts.0 phase starts.1))
       (start.keeps C state among distinct m r.sessions r.core s.core (at is) percent (Err (refusals.Collecting phase)) starts.0 starts.1)
   not_started percent refusal is admits starts sessions = absurd (start.steps C state among distinct m r.sessions r.core s.core (at is) percent (Err refusal) starts.0 starts.1).made.row

@@ -105,6 +105,7 @@ module _ (old new : CoreState) (reads : OnlyReads old.disk new.disk) (tables_are
     collection = follows.collection;
     runs = collection_is ∙ follows.runs;
     freed_is = follows.freed_is;
+    progress_is = follows.progress_is;
     most = follows.most;
     few = subst (λ (tables : Tables). HasFewSources follows.most tables.held follows.collection) (sym tables_are) follows.few;
     nears = subst (λ (tables : Tables). steps_to_come follows.most tables.held follows.collection ≤ k.to_come) (sym tables_are) follows.nears;

@@ -108,6 +108,7 @@ follows_disturbed None c follows = follows
 follows_disturbed (Some k) c follows = record {
   collection = follows.collection;
   runs = follows.runs;
+  progress_is = follows.progress_is;
   freed_is = follows.freed_is;
   most = follows.most;
   few = follows.few;

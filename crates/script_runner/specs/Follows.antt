@@ -14,10 +14,12 @@ use Rattle.actor_parts.specs.declared.step.Answer.{Answer}
 use Rattle.actor_parts.specs.PinMap.{PinMap}
 use Rattle.actor_parts.specs.Parts as core_parts_of
 use Rattle.actor_parts.specs.Segments.{pin_by}
-use Rattle.gc_steps.specs.FewSources.{HasFewSources}
+use Rattle.gc_steps.specs.FewSources.{HasFewSources, IsToChoose}
 use Rattle.gc_steps.specs.Sparing.{Spares}
 use Rattle.gc_steps.specs.StepsToCome.{steps_to_come}
 use Rattle.gc_steps.specs.declared.collection.Collection.{Collection}
+use Rattle.gc_steps.specs.declared.collection.Stage.{Stage}
+use Rattle.gc_steps.specs.declared.collection.Stage.TheVariants as stages
 use Rattle.ingest_session.specs.Facts.{IsKept}
 use Rattle.ingest_session.specs.History.{History, HasHistory}
 use Rattle.ingest_session.specs.State.{SessionState}
@@ -38,7 +40,7 @@ use Rattle.store_core.specs.Keeping.{IsHeldIn}
 use Rattle.store_core.specs.Core.{IndexesAll}
 use Rattle.store_core.specs.Runs.{IsAt}
 use Rattle.store_core.specs.State.{CoreState, IsUp}
-use Rattle.plain_machine.specs.Machine.{Collecting, Machine, Part, Idle, Writing, Finished, Reading, RunState, Running, Stopped, MayBeFound, part_in}
+use Rattle.plain_machine.specs.Machine.{Collecting, Machine, Marking, Part, Idle, Progress, Recording, Sweeping, Writing, Finished, Reading, RunState, Running, Stopped, MayBeFound, part_in}
 use Rattle.plain_machine.specs.Refused.{actor_of}
 use Rattle.plain_machine.specs.Runs.{Step}
 use Rattle.plain_machine.specs.Turns.{Writer, IsWriter, MayBe}
@@ -78,10 +80,21 @@ FollowsPart part session core c = ⊥
 
 -- ---- the store, and its collection
 
--- One runs that gave so many containers back, and no more steps of it come.
+-- a collection has come so far
+abbrev pub IsAtProgress : Progress → Stage → Type 0
+IsAtProgress Marking stage = IsToChoose stage
+IsAtProgress Recording (stages.Filter slot) = Unit {0}
+IsAtProgress Recording stages.Select = Unit {0}
+IsAtProgress (Sweeping ready) (stages.Copy source) = ready ≡ false
+IsAtProgress (Sweeping ready) (stages.Release next slot) = ready ≡ true
+IsAtProgress (Sweeping ready) stages.End = ready ≡ false
+IsAtProgress progress stage = ⊥
+
+-- One runs that has come so far and gave so many containers back, and no more steps of it come.
 pub record FollowsCollecting (k : Collecting) (c : CoreState) : Type 0 where
   pub collection : Collection
   pub runs : c.collection ≡ Some collection
+  pub progress_is : IsAtProgress k.progress collection.stage
   pub freed_is : collection.freed ≡ k.freed
   pub most : ℕ
   pub few : HasFewSources most c.tables.held collection

@@ -13,7 +13,7 @@ use Rattle.dd_io.specs.Flow.{SourceView, SinkView}
 use Rattle.disk_format.specs.Layout.{size_of, slot_at}
 use Rattle.gc_enumerate.specs.Scanning.{IsScanFault}
 use Rattle.gc_steps.specs.Copying.{IsSourceRefusal, IsTakeRefusal}
-use Rattle.gc_steps.specs.Entries.{IsHeaderRefusal}
+use Rattle.copy_forward.specs.Entries.{IsHeaderRefusal}
 use Rattle.gc_steps.specs.Marking.{StopsScan, scan_for}
 use Rattle.gc_steps.specs.Scanning.{ShowsAt}
 use Rattle.gc_steps.specs.Stepping.{IsStepRefusal, Moment, Touches}

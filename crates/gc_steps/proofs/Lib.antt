@@ -27,7 +27,6 @@ pub mod ReaderNeeds
 pub mod Recorded
 pub mod RefusedSafe
 pub mod Released
-pub mod Removed
 pub mod RootTrees
 pub mod RootsAfter
 pub mod Safe

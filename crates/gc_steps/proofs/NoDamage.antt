@@ -48,7 +48,7 @@ use Rattle.gc_steps.specs.declared.collection.Collection.{Collection}
 use Rattle.gc_steps.specs.declared.collection.Stage.{Stage}
 use Rattle.gc_steps.specs.declared.collection.Stage.TheVariants as stages
 use Rattle.gc_steps.specs.Copying.{IsSourceRefusal, IsTakeRefusal}
-use Rattle.gc_steps.specs.Entries.{IsHeaderRefusal}
+use Rattle.copy_forward.specs.Entries.{IsHeaderRefusal}
 use Rattle.gc_steps.specs.Marking.{IsEntriesFault, IsMarkRefusal, scan_for}
 use Rattle.gc_steps.specs.MarksAreClosed.{MarksAreClosed}
 use Rattle.gc_steps.specs.Scanning.{ShowsAt, step_refusal}

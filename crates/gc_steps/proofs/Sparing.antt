@@ -33,7 +33,7 @@ use Rattle.gc_steps.specs.declared.collection.Collection.{Collection}
 use Rattle.gc_steps.specs.declared.collection.Stage.{Stage}
 use Rattle.gc_steps.specs.declared.collection.Stage.TheVariants.{Mark, Filter, Select, Copy as CopyStage, Release, End}
 use Rattle.gc_steps.specs.Copying.{Empties, GivesUp, Takes}
-use Rattle.gc_steps.specs.Entries.{AreDead, HasLiveCopy, copy_keys, without_keys}
+use Rattle.copy_forward.specs.Entries.{AreDead, HasLiveCopy, copy_keys, without_keys}
 use Rattle.gc_steps.specs.Filtering.{Chooses, Records, recorded}
 use Rattle.gc_steps.specs.LiveTrees.{HoldsNode}
 use Rattle.gc_steps.specs.Marking.{MarksOnly, Scans, ScansEntries, ScansSome}

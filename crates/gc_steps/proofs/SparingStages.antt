@@ -17,7 +17,7 @@ use Rattle.store_state.specs.declared.slot_table.SlotCount.{SlotCount}
 use Rattle.store_state.specs.declared.slot_table.SlotTable.{SlotTable}
 use Rattle.gc_steps.specs.declared.collection.Collection.{Collection}
 use Rattle.gc_steps.specs.declared.collection.Stage.TheVariants.{Copy, End}
-use Rattle.gc_steps.specs.Entries.{HasLiveCopy, SumsLive}
+use Rattle.copy_forward.specs.Entries.{HasLiveCopy, SumsLive}
 use Rattle.gc_steps.specs.Filtering.{recorded, recorded_by}
 use Rattle.gc_steps.specs.Sparing.{IsSpared, IsSparedAt, IsToBeTaken}
 use Rattle.gc_steps.specs.Stages.{filter_at, filter_from, first_slot, is_old_slot, is_tree_slot, mark_at, mark_from, mark_level, mark_on, sweep_from}

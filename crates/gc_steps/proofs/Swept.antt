@@ -1,6 +1,6 @@
 -- What a sweep leaves: keys that are live stay in the index, and a source that was emptied has no entry.
 use Rattle.std.proofs.Common.{◌≡◌, ◌≢◌, ℕ, zero, suc, ◌+◌, ◌<◌, Bool, true, false, List, [], ◌∷◌, get_or, Option, Some, None, find, refl, sym, ◌∙◌, ap, subst, arith}
-use Rattle.std.specs.Prelude.{◌&&◌, ◌==◌, if◌then◌else◌}
+use Rattle.std.specs.Prelude.{if◌then◌else◌}
 use Rattle.std.specs.Cmp.Lexicographic.{slice_cmp, nat_list_cmp_total}
 use Rattle.std.specs.FinMap as finite
 use Rattle.std.specs.List.{slice_get}
@@ -16,10 +16,9 @@ use Rattle.gc_enumerate.specs.Live.{LiveKeys, IsLiveAt}
 use Rattle.store_model.specs.Indexing.{entry_key}
 use Rattle.store_model.specs.Slots.{IsPartialIndexOf, place_of}
 use Rattle.store_model.proofs.Indexing.{tied}
-use Rattle.gc_steps.specs.Entries.{is_place, is_place_found, is_copy, copy_keys, without_keys, AreDead, IsDead}
+use Rattle.copy_forward.specs.Entries.{is_place_found, is_copy, copy_keys, without_keys, AreDead, IsDead}
 use Rattle.actor_parts.specs.declared.part.Part.{Part}
-use Rattle.base_model.proofs.Checks.{both, both_true}
-use Rattle.std.proofs.lemmas.Bool.{eqb-true, eq-eqb}
+use Rattle.copy_forward.proofs.OnePlace.{place_same, same_place}
 use Rattle.std.specs.List.{All}
 use Rattle.store_model.specs.Image.{Store}
 use Rattle.store_model.specs.Slots.{Copy}
@@ -65,34 +64,6 @@ stays_gone ks index key none = by_found (finite.get (without_keys ks index) key)
     by_found : (found : Option Place) → finite.get (without_keys ks index) key ≡ found → finite.get (without_keys ks index) key ≡ None
     by_found None is = is
     by_found (Some place) is = absurd (let wrong : None ≡ Some place = sym none ∙ had_before ks index key place is in cc)
-
--- ---- places
-
-eq_true : (a b : ℕ) → a == b ≡ true → a ≡ b
-eq_true a b same = eqb-true a b same
-
-eq_same : (a b : ℕ) → a ≡ b → a == b ≡ true
-eq_same a b same = eq-eqb a b same
-
-same_place : (a b : Place) → is_place a b ≡ true → a ≡ b
-same_place a b same =
-    let three = both ((a.slot == b.slot) && (a.offset == b.offset) && (a.length == b.length)) (a.level == b.level) same in
-    let two = both ((a.slot == b.slot) && (a.offset == b.offset)) (a.length == b.length) three.0 in
-    let one = both (a.slot == b.slot) (a.offset == b.offset) two.0 in
-    let slots = eq_true a.slot b.slot one.0 in
-    let offsets = eq_true a.offset b.offset one.1 in
-    let lengths = eq_true a.length b.length two.1 in
-    let levels = eq_true a.level b.level three.1 in
-    ap (λ (n : ℕ). (let p : Place = record { slot = n; offset = a.offset; length = a.length; level = a.level } in p)) slots
-    ∙ ap (λ (n : ℕ). (let p : Place = record { slot = b.slot; offset = n; length = a.length; level = a.level } in p)) offsets
-    ∙ ap (λ (n : ℕ). (let p : Place = record { slot = b.slot; offset = b.offset; length = n; level = a.level } in p)) lengths
-    ∙ ap (λ (n : ℕ). (let p : Place = record { slot = b.slot; offset = b.offset; length = b.length; level = n } in p)) levels
-
-place_same : (a : Place) → is_place a a ≡ true
-place_same a =
-    both_true ((a.slot == a.slot) && (a.offset == a.offset) && (a.length == a.length)) (a.level == a.level)
-    (both_true ((a.slot == a.slot) && (a.offset == a.offset)) (a.length == a.length) (both_true (a.slot == a.slot) (a.offset == a.offset) (eq_same a.slot a.slot refl) (eq_same a.offset a.offset refl))
-    (eq_same a.length a.length refl)) (eq_same a.level a.level refl)
 
 -- ---- the copies of a container leave the index
 

@@ -22,7 +22,7 @@ use Rattle.store_state.proofs.Changed.{changes_on, size_on}
 use Rattle.gc_steps.specs.declared.collection.Collection.{Collection}
 use Rattle.gc_steps.specs.declared.collection.Stage.TheVariants.{Release}
 use Rattle.gc_steps.specs.Copying.{LooksThrough, HasFound, Takes}
-use Rattle.gc_steps.specs.Entries.{AreDead, copy_keys, without_keys}
+use Rattle.copy_forward.specs.Entries.{AreDead, copy_keys, without_keys}
 use Rattle.gc_steps.proofs.Swept.{had_before}
 
 -- ---- what was found

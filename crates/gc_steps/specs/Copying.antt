@@ -17,7 +17,7 @@ use Rattle.gc_enumerate.specs.Live.{LiveKeys}
 use Rattle.store_state.specs.Indexing.{Stays}
 use Rattle.gc_steps.specs.declared.collection.Collection.{Collection}
 use Rattle.gc_steps.specs.declared.collection.Stage.TheVariants.{Release}
-use Rattle.gc_steps.specs.Entries.{AreDead, HasLiveCopy, copy_keys, without_keys}
+use Rattle.copy_forward.specs.Entries.{AreDead, HasLiveCopy, copy_keys, without_keys}
 use Rattle.gc_steps.specs.Stages.{sweep_from}
 
 -- a header that breaks the format, or damage of the index, whose map is not known then

@@ -14,7 +14,7 @@ use Rattle.store_model.specs.Slots.{HoldsSlot}
 use Rattle.store_state.specs.declared.slot_table.SlotCount.{SlotCount}
 use Rattle.store_state.specs.declared.slot_table.SlotTable.{SlotTable}
 use Rattle.gc_steps.specs.declared.collection.Collection.{Collection}
-use Rattle.gc_steps.specs.Entries.{SumsLive}
+use Rattle.copy_forward.specs.Entries.{SumsLive}
 use Rattle.gc_steps.specs.Stages.{filter_from, sweep_from}
 
 -- what is recorded of the container of a slot, of which so many bytes are live: its id, its kind and all its bytes are those of the table

@@ -1,5 +1,4 @@
 pub mod Copying
-pub mod Entries
 pub mod FewSources
 pub mod Filtering
 pub mod Fresh

@@ -13,7 +13,7 @@ use Rattle.refusals.specs.declared.refusal.Refusal.TheVariants.{Memory}
 use Rattle.store_model.specs.Slots.{HoldsSlot}
 use Rattle.store_state.specs.declared.slot_table.SlotTable.{SlotTable}
 use Rattle.gc_steps.specs.declared.collection.Collection.{Collection}
-use Rattle.gc_steps.specs.Entries.{IsHeaderRefusal}
+use Rattle.copy_forward.specs.Entries.{IsHeaderRefusal}
 use Rattle.gc_steps.specs.Scanning.{ShowsAt, step_refusal}
 use Rattle.gc_steps.specs.Stages.{mark_from}
 

@@ -8,7 +8,7 @@ use Rattle.gc_select.specs.Selecting.{IsSelectedId}
 use Rattle.gc_steps.specs.declared.collection.Collection.{Collection}
 use Rattle.gc_steps.specs.declared.collection.Stage.{Stage}
 use Rattle.gc_steps.specs.declared.collection.Stage.TheVariants.{Mark, Filter, Select, Copy, Release, End}
-use Rattle.gc_steps.specs.Entries.{HasLiveCopy}
+use Rattle.copy_forward.specs.Entries.{HasLiveCopy}
 
 -- only keys of which P holds are live
 abbrev pub IsWithin : (List ℕ → Type 0) → LiveKeys → Type 0

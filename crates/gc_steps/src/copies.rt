@@ -2,8 +2,8 @@
 ghost use Rattle.std.specs.Prelude.{◌≡◌};
 ghost use Rattle.gc_steps.specs.Scanning.{scan_fault, step_refusal};
 
-use crate::entries::same_place;
 use container_meta::{Key, Place};
+use copy_forward::same_place;
 use dd_disk::Disk;
 use gc_enumerate::{Copies, ScanFault};
 use refusals::Refusal;

@@ -11,9 +11,9 @@ ghost use Rattle.gc_steps.specs.UnderWay.{IsUnderWay};
 ghost use Rattle.gc_steps.specs.declared.collection.Stage.TheVariants.{Copy as CopyStage};
 
 use crate::collection::{Collection, Stage};
-use crate::entries::{add_dead, read_header, remove_keys};
 use crate::slots::sweep_from;
 use container_meta::Key;
+use copy_forward::{add_dead, read_header, remove_keys};
 use dd_disk::Disk;
 use gc_enumerate::Live;
 use refusals::Refusal;

@@ -11,8 +11,8 @@ ghost use Rattle.gc_steps.specs.UnderWay.{IsUnderWay};
 ghost use Rattle.gc_steps.specs.declared.collection.Stage.TheVariants.{Filter, Select};
 
 use crate::collection::Collection;
-use crate::entries::{live_bytes, read_header};
 use crate::slots::{filter_from, sweep_from};
+use copy_forward::{live_bytes, read_header};
 use dd_disk::Disk;
 use gc_select::{ContainerLiveness, select};
 use refusals::Refusal;

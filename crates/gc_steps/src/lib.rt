@@ -5,7 +5,6 @@
 mod collection;
 mod copies;
 mod copying;
-mod entries;
 mod filtering;
 mod fresh;
 mod laws;

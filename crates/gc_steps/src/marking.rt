@@ -17,9 +17,9 @@ ghost use Rattle.gc_steps.specs.declared.collection.Stage.TheVariants.{Mark};
 
 use crate::collection::Collection;
 use crate::copies::{LentCopies, refusal_of};
-use crate::entries::read_header;
 use crate::slots::mark_from;
 use container_meta::Meta;
+use copy_forward::read_header;
 use dd_disk::Disk;
 use gc_enumerate::{Live, ScanFault, scan_container};
 use refusals::Refusal;

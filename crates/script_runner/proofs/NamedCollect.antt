@@ -8,7 +8,7 @@ use Rattle.actor_parts.specs.StepValue as asked
 use Rattle.dd_disk.specs.View.{DiskView}
 use Rattle.gc_enumerate.specs.declared.fault.ScanFault.{ScanFault}
 use Rattle.gc_enumerate.specs.declared.fault.ScanFault.TheVariants as faults
-use Rattle.gc_steps.specs.Entries.{IsHeaderRefusal}
+use Rattle.copy_forward.specs.Entries.{IsHeaderRefusal}
 use Rattle.gc_steps.specs.Scanning.{step_refusal}
 use Rattle.gc_steps.specs.Stepping.{IsStepRefusal, Moment, TablesAfter}
 use Rattle.gc_steps.specs.declared.collection.Stage.{Stage}

@@ -9,7 +9,7 @@ use Rattle.gc_enumerate.specs.Live.{IsLiveAt, LiveKeys}
 use Rattle.gc_steps.specs.declared.collection.Collection.{Collection}
 use Rattle.gc_steps.specs.declared.collection.Stage.{Stage}
 use Rattle.gc_steps.specs.declared.collection.Stage.TheVariants.{Mark, Filter, Select, Copy, Release, End}
-use Rattle.gc_steps.specs.Entries.{HasLiveCopy}
+use Rattle.copy_forward.specs.Entries.{HasLiveCopy}
 use Rattle.gc_steps.specs.Sparing.{IsSpared, IsSparedAt, Spares}
 use Rattle.store_model.specs.Files.{Files}
 use Rattle.store_model.specs.Image.{Store}

@@ -2,7 +2,7 @@ use Rattle.std.proofs.Common.{◌≡◌, true, false, Ok, List, ap, subst, rules
 use Rattle.container_meta.specs.Spelling.{view}
 use Rattle.container_meta.specs.declared.entry.Entry.{Entry}
 use Rattle.dd_disk.proofs.Shows.{until}
-use Rattle.gc_steps.specs.Entries.{HasLiveCopy}
+use Rattle.copy_forward.specs.Entries.{HasLiveCopy}
 use Rattle.gc_steps.proofs.Taken.{all_dead}
 use Rattle.gc_steps.proofs.copying.dead_keys.Goals as goal
 

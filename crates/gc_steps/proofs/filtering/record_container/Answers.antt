@@ -2,7 +2,7 @@ use Rattle.std.proofs.Common.{List, ap, subst, arith, ◌∙◌}
 use Rattle.container_meta.specs.Spelling.{view}
 use Rattle.container_meta.specs.declared.entry.Entry.{Entry}
 use Rattle.dd_disk.proofs.Shows.{until}
-use Rattle.gc_steps.specs.Entries.{SumsLive}
+use Rattle.copy_forward.specs.Entries.{SumsLive}
 use Rattle.gc_steps.proofs.Recorded.{recorded_as}
 use Rattle.gc_steps.proofs.Released.{columns, few_slots, slot_fits}
 use Rattle.gc_steps.specs.declared.collection.Stage.TheVariants.{Filter}

@@ -7,9 +7,9 @@ use Rattle.segment_index.specs.Changes.{Changes}
 use Rattle.store_state.specs.Refused.{blames}
 use Rattle.store_state.proofs.Changed.{changes_on, lifted, size_on}
 use Rattle.store_state.proofs.Indexed.{none_before}
-use Rattle.gc_steps.specs.Entries.{IsRemoveRefusal}
-use Rattle.gc_steps.proofs.Removed.{remove_on}
-use Rattle.gc_steps.proofs.entries.+remove_keys.Goals as goal
+use Rattle.copy_forward.specs.Entries.{IsRemoveRefusal}
+use Rattle.copy_forward.proofs.Removed.{remove_on}
+use Rattle.copy_forward.proofs.entries.+remove_keys.Goals as goal
 
 pub returns-in_err-remove_key-clause-changes : goal.returns-in_err-remove_key-clause-changes
 returns-in_err-remove_key-clause-changes g t c = λ slots size_is.

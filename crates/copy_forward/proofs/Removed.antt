@@ -8,7 +8,7 @@ use Rattle.gc_enumerate.specs.Live.{LiveKeys}
 use Rattle.refusals.specs.declared.refusal.Refusal.{Refusal}
 use Rattle.refusals.specs.declared.refusal.Refusal.TheVariants.{DiskWrite, Damaged}
 use Rattle.store_model.specs.Indexing.{entry_key}
-use Rattle.gc_steps.specs.Entries.{is_copy, copy_keys, AreDead, IsDead, IsRemoveRefusal}
+use Rattle.copy_forward.specs.Entries.{is_copy, copy_keys, AreDead, IsDead, IsRemoveRefusal}
 
 -- the keys of one entry and of others
 copies_more : (index : PlaceMap) (kind : Kind) (slot : ℕ) (e : Entry) (es : List Entry) → copy_keys index kind slot (e ∷ []) ++ copy_keys index kind slot es ≡ copy_keys index kind slot (e ∷ es)

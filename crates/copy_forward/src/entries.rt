@@ -11,8 +11,8 @@ ghost use Rattle.segment_index.specs.Places.{KnownMap};
 ghost use Rattle.store_model.specs.Slots.{HoldsSlot, place_of};
 ghost use Rattle.store_state.specs.Indexing.{Stays};
 ghost use Rattle.store_state.specs.Refused.{blames, fails};
-ghost use Rattle.gc_steps.specs.Entries.{is_place, is_copy as is_copy_in, copy_keys, without_keys, IsLiveCopy, HasLiveCopy, IsDead, AreDead, SumsLive};
-ghost use Rattle.gc_steps.specs.Entries.{IsHeaderRefusal, IsLookUpRefusal, IsScanRefusal, IsRemoveRefusal};
+ghost use Rattle.copy_forward.specs.Entries.{is_place, is_copy as is_copy_in, copy_keys, without_keys, IsLiveCopy, HasLiveCopy, IsDead, AreDead, SumsLive};
+ghost use Rattle.copy_forward.specs.Entries.{IsHeaderRefusal, IsLookUpRefusal, IsScanRefusal, IsRemoveRefusal};
 
 use container_log::{LogFault, read_meta};
 use container_meta::{Entry, Key, Kind, Meta, Place, key_of};
@@ -24,7 +24,7 @@ use std::alloc::Global;
 use store_state::{find, remove_key};
 
 /// The header and entries of the container in a slot.
-pub(crate) fn read_header<D: Disk>(alloc: Global, disk: &mut D, slot: u32) -> Result<Meta, Refusal>
+pub fn read_header<D: Disk>(alloc: Global, disk: &mut D, slot: u32) -> Result<Meta, Refusal>
     requires { slot_at slot + SLOT_BYTES ≤ (D.view disk.old).size }
     ensures right { IfOk result (λ m. IsHeader (view m)) }
     ensures shown { IfOk result (λ m. Shows (D.view disk.old) (D.view disk.new) (λ image. HoldsSlot image slot (Some (view m)))) }
@@ -46,7 +46,7 @@ pub(crate) fn read_header<D: Disk>(alloc: Global, disk: &mut D, slot: u32) -> Re
 }
 
 /// Whether two places are one.
-pub(crate) fn same_place(a: &Place, b: &Place) -> bool
+pub fn same_place(a: &Place, b: &Place) -> bool
     ensures { result ≡ is_place a.now b.now }
 {
     a.slot == b.slot && a.offset == b.offset && a.length == b.length && a.level == b.level
@@ -108,7 +108,7 @@ fn is_live_copy<D: Disk, X: Index>(
 }
 
 /// How many bytes of a container are those of entries that are live, and the copies that the index has.
-pub(crate) fn live_bytes<D: Disk, X: Index>(
+pub fn live_bytes<D: Disk, X: Index>(
     disk: &mut D,
     index: &mut X,
     live: &Live,
@@ -170,7 +170,7 @@ fn add_if_dead<D: Disk, X: Index>(
 }
 
 /// Adds the keys of those entries that are the copies that the index has, unless one of them is live. Whether none is.
-pub(crate) fn add_dead<D: Disk, X: Index>(
+pub fn add_dead<D: Disk, X: Index>(
     disk: &mut D,
     index: &mut X,
     live: &Live,
@@ -200,7 +200,7 @@ pub(crate) fn add_dead<D: Disk, X: Index>(
 
 /// Takes keys out of the index, the first of them first. It takes no memory. After `DiskWrite`, and after `Damaged`, some may
 /// be out.
-pub(crate) fn remove_keys<D: Disk, X: Index>(
+pub fn remove_keys<D: Disk, X: Index>(
     disk: &mut D,
     index: &mut X,
     keys: &[Key],

@@ -1,6 +1,6 @@
 use Rattle.std.proofs.Common.{◌≡◌, true, Ok, ap, rules, ◌∙◌}
-use Rattle.gc_steps.proofs.Removed.{dead_more, keys_more}
-use Rattle.gc_steps.proofs.entries.+add_dead.Goals as goal
+use Rattle.copy_forward.proofs.Removed.{dead_more, keys_more}
+use Rattle.copy_forward.proofs.entries.+add_dead.Goals as goal
 
 pub returns-clause-dead : goal.returns-clause-dead
 returns-clause-dead g t c = λ is m known.

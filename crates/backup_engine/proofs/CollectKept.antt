@@ -1,11 +1,9 @@
 -- What a `collect` keeps, whatever the disk holds.
-use Rattle.std.proofs.Common.{◌≡◌, ◌≢◌, inr, ◌+◌, ◌<◌, ℕ, zero, suc, List, [], ◌∷◌, length, get_or, Option, None, Some, Result, Ok, Err, refl, sym, ◌∙◌, subst, arith}
-use Rattle.std.specs.Prelude.{slice_get}
+use Rattle.std.proofs.Common.{◌≡◌, ◌≢◌, inr, ◌+◌, ◌<◌, ℕ, List, [], get_or, Option, None, Some, Result, Ok, Err, refl, sym, ◌∙◌, subst, arith}
 use Rattle.actor_parts.specs.declared.step.Answer.{Answer}
 use Rattle.actor_parts.specs.declared.step.Answer.TheVariants as answers
 use Rattle.actor_parts.specs.StepValue as asked
 use Rattle.container_meta.specs.Places.{PlaceMap}
-use Rattle.container_meta.specs.Spelling.{HeaderValue}
 use Rattle.dd_disk.specs.Ending.{CountsFault, Done, ending, ending_of}
 use Rattle.dd_disk.specs.View.{CrashLeaves, DiskView, IsLater, OnlyReads}
 use Rattle.dd_disk.proofs.Ended.{counts_on}
@@ -34,6 +32,7 @@ use Rattle.store_core.proofs.CoreRuns.{running_step}
 use Rattle.store_core.proofs.RunningOn.{step_runs}
 use Rattle.store_core.proofs.SafeSteps.{alone}
 use Rattle.backup_engine.specs.AnyDisk.{EndsDurable, HasGivenBack, Holds, IsCaused, IsSettledDisk, OnAnyDisk, WroteOnAny, disk_ending}
+use Rattle.gc_steps.proofs.Sparing.{held_within}
 use Rattle.backup_engine.specs.Collected.{collected_line}
 use Rattle.backup_engine.specs.Frame.{KeepsButGates, KeepsOthers, KeepsRest}
 use Rattle.backup_engine.specs.Line.{Collect}
@@ -47,11 +46,6 @@ use Rattle.backup_engine.proofs.NotDone.{holds}
 use Rattle.backup_engine.proofs.Reading.{reads_frame}
 use Rattle.backup_engine.proofs.Replied.{IsReplied, replied_faults}
 use Rattle.backup_engine.proofs.WholeCall.{all_counted, all_reads, leaves_more, leaves_of, to_end}
-
-within_held : (held : List (Option HeaderValue)) (slot : ℕ) (h : HeaderValue) → slice_get held slot ≡ Some (Some h) → slot < length held
-within_held [] slot h is = absurd cc
-within_held (x ∷ xs) zero h is = omega arith
-within_held (x ∷ xs) (suc slot) h is = let rest = within_held xs slot h is in omega (arith, rest)
 
 abbrev pub start_event : ℕ → Result Answer Refusal → List ℕ → Event
 start_event percent answer buf = record { actor = 0; step = asked.GcStart percent; answer = answer; buf = buf }
@@ -319,7 +313,7 @@ module _ (C : Type 0) (state : C → CoreState) (v w : DiskView) (old new : C) (
           let there = subst (λ (stage : Stage). HasStage at.tables.held c stage) is under in
           let is_some = some_id c.snapshot (get_or c.sources.items source 0) (there.1.old source (omega arith) there.0) in
           let held = header_there so_far.after.held slot (subst (λ (ids : List ℕ). get_or ids slot 0 ≢ 0) so_far.represents.slots_hold.ids_are (λ none. is_some (sym same ∙ none))) in
-          let within = within_held store.held slot held.0 (had_first so_far.slots store so_far.after so_far.chain slot held.0 held.1) in
+          let within = held_within store.held slot held.0 (had_first so_far.slots store so_far.after so_far.chain slot held.0 held.1) in
           omega (arith, within, called.opened.valid.many)
 
       abbrev err : Result Answer Refusal

@@ -1,5 +1,5 @@
 -- What a `collect` keeps of the map: all of it; and which containers it gives back.
-use Rattle.std.proofs.Common.{◌≡◌, ◌⊎◌, inl, inr, ◌+◌, ◌-◌, ◌<◌, ℕ, zero, suc, List, [], ◌∷◌, ◌++◌, length, replicate, Option, None, Some, Result, Ok, Err, refl, sym, ◌∙◌, ap, ap₂, subst, arith}
+use Rattle.std.proofs.Common.{◌≡◌, ◌⊎◌, inl, inr, ◌+◌, ◌-◌, ℕ, zero, suc, List, [], ◌∷◌, ◌++◌, length, replicate, Option, None, Some, Result, Ok, Err, refl, sym, ◌∙◌, ap, ap₂, subst, arith}
 use Rattle.std.specs.Prelude.{IfErr, slice_get}
 use Rattle.std.specs.List.{AllByRecursion}
 use Rattle.std.proofs.lemmas.Bool.{cases_lt}
@@ -44,6 +44,7 @@ use Rattle.store_core.proofs.Leading.{Leads}
 use Rattle.store_core.proofs.Releasing.{leaves_none_spare, releases_spare}
 use Rattle.store_core.specs.Releases.{AreGcSteps, FreesSpare, HasReleased, released_by, released_in}
 use Rattle.gc_steps.specs.Roots.{IsActorKey, IsPartKey}
+use Rattle.gc_steps.proofs.Sparing.{held_within}
 use Rattle.gc_steps.proofs.Started.{part_holds}
 use Rattle.actor_parts.specs.declared.actor.TheConstants.{ACTORS}
 use Rattle.actor_parts.specs.declared.part.Part.{Part}
@@ -182,21 +183,13 @@ after_header slot (other ∷ slots) = (
   after_header slot slots,
 )
 
-within_length : (held : List (Option HeaderValue)) (slot : ℕ) (h : HeaderValue) → slice_get held slot ≡ Some (Some h) → slot < length held
-within_length held slot h is = within held slot is
-  where
-    within : (held : List (Option HeaderValue)) (slot : ℕ) → slice_get held slot ≡ Some (Some h) → slot < length held
-    within [] slot is = absurd cc
-    within (x ∷ xs) zero is = omega arith
-    within (x ∷ xs) (suc slot) is = let rest = within xs slot is in omega (arith, rest)
-
 -- a slot with a container, before and after
 slot_stays : (s : Store) (base now : List ℕ) (t : Store) → Encodes base s → Encodes now t → IsBut s base now → (slot : ℕ) (h : HeaderValue) → slice_get s.held slot ≡ Some (Some h) → slice_get t.held slot ≡ Some (Some h)
     → range (slot_at slot) SLOT_BYTES now ≡ range (slot_at slot) SLOT_BYTES base
 slot_stays s base now t was is (slots, (had, but)) slot h first there =
     let before = slot_held slot s.held (Some h) base was.slots_are first in
     let after = slot_held slot t.held (Some h) now is.slots_are there in
-    let within = within_length s.held slot h first in
+    let within = held_within s.held slot h first in
     let rest = but.same (slot_at slot + 49664) (SLOT_BYTES - 49664) (omega (arith, within, was.many)) (after_header slot slots) in
     let sum : 49664 + (SLOT_BYTES - 49664) ≡ SLOT_BYTES = omega arith in
     subst (λ (n : ℕ). range (slot_at slot) n now ≡ range (slot_at slot) n base) sum

@@ -57,7 +57,7 @@ use Rattle.gc_steps.proofs.Swept.{copy_is, had_before, is_copy_at, live_after}
 
 -- ---- slots
 
-held_within : (held : List (Option HeaderValue)) (slot : ℕ) (h : HeaderValue) → slice_get held slot ≡ Some (Some h) → slot < length held
+pub held_within : (held : List (Option HeaderValue)) (slot : ℕ) (h : HeaderValue) → slice_get held slot ≡ Some (Some h) → slot < length held
 held_within [] slot h is = absurd cc
 held_within (x ∷ xs) zero h is = omega arith
 held_within (x ∷ xs) (suc slot) h is = let rest = held_within xs slot h is in omega (arith, rest)

@@ -156,11 +156,6 @@ no_end (Copy source) freed phase is ends = cc
 no_end (Release next slot) freed phase is ends = cc
 no_end End freed phase is ends = let wrong = is in cc
 
-within_held : (held : List (Option HeaderValue)) (slot : ℕ) (h : HeaderValue) → slice_get held slot ≡ Some (Some h) → slot < length held
-within_held [] slot h is = absurd cc
-within_held (x ∷ xs) zero h is = omega arith
-within_held (x ∷ xs) (suc slot) h is = let rest = within_held xs slot h is in omega (arith, rest)
-
 -- ---- a step
 
 -- where a step led, and what it was
@@ -367,7 +362,7 @@ module _ (C : Type 0) (state : C → CoreState) (among : ByteSet) (apart : HasNo
         by_store : IsStoreAfter goes.before.stage begins.index at.running.begins.store leaves.store_now → FreesContainer (IsReachable m.stored.files) m.content image_now
         by_store (inl stays) = absurd (stays.0 next slot is)
         by_store (inr frees) =
-            let within = within_held at.running.begins.store.held frees.slot frees.header frees.there in
+            let within = sparing.held_within at.running.begins.store.held frees.slot frees.header frees.there in
             record {
               store = at.running.begins.store;
               was = right C state among apart m sessions old new at did buf made;
@@ -705,13 +700,22 @@ module _ (C : Type 0) (state : C → CoreState) (among : ByteSet) (apart : HasNo
         released next slot same =
             let one = ready next slot same in
             let invariant = begins_then.invariant m.content at.content_is in
-            let within = within_held at.running.begins.store.held slot one.header one.there in
-            inr (at.running.begins.store, (right C state among apart m sessions old new at err buf made, (slot, (
-              sparing.ready_is_spare begins_then.index at.running.begins.store m.stored.files slot one.header one.there invariant.index_is_newest invariant.files_are_indexed one.is_empty,
-              gate_broke slots (state old).tables (state old).disk (state new).disk m.content image_then at.content_is told_then sized_so next slot (omega (arith, within, at.running.begins.is_at.valid.many)) settled_so
-              (subst (λ (e : Ending). Touches (Release next slot) (state old).tables e (state old).disk (state new).disk) is
-              (subst (λ (x : Stage). Touches x (state old).tables (ending_of (blames refusal)) (state old).disk (state new).disk) same touches_so)),
-            ))))
+            let within = sparing.held_within at.running.begins.store.held slot one.header one.there in
+            inr (
+              at.running.begins.store,
+              (
+                right C state among apart m sessions old new at err buf made,
+                (
+                  slot,
+                  (
+                    sparing.ready_is_spare begins_then.index at.running.begins.store m.stored.files slot one.header one.there invariant.index_is_newest invariant.files_are_indexed one.is_empty,
+                    gate_broke slots (state old).tables (state old).disk (state new).disk m.content image_then at.content_is told_then sized_so next slot (omega (arith, within, at.running.begins.is_at.valid.many)) settled_so
+                        (subst (λ (e : Ending). Touches (Release next slot) (state old).tables e (state old).disk (state new).disk) is
+                        (subst (λ (x : Stage). Touches x (state old).tables (ending_of (blames refusal)) (state old).disk (state new).disk) same touches_so)),
+                  ),
+                ),
+              ),
+            )
 
         by_stage : (stage : Stage) → row.before.stage ≡ stage → Breaks
         by_stage (Mark level slot) same = nothing_so (Mark level slot) same tt

@@ -89,9 +89,14 @@ module _ (C : Type 0) (state : C → CoreState) (among : ByteSet) (distinct : Ha
   not_started percent (refusals.Collecting phase) is admits starts sessions =
       let so = start.steps C state among distinct m r.sessions r.core s.core (at is) percent (Err (refusals.Collecting phase)) starts.0 starts.1 in
       let has = some_collecting m (state r.core) so.made.row.0.0 so.made.row.0.1.0 (at is).running.begins.collects in
-      line_keeps C state S (lines.Gc percent) (replies.Refused (refusals.Collecting phase)) m r s is m
-      (right_part S m r.sessions (state r.core) follows (at is).running (lines.Gc percent) admits, (subst (IsCollecting phase) (sym has.is) (subst (λ (p : Phase). MayCome p has.collecting.progress) (sym so.made.row.0.1.1) (may_come has.collecting.progress so.made.row.0.0.stage
-      (subst (λ (c : Collection). IsAtProgress has.collecting.progress c.stage) (same_some has.follows.collection so.made.row.0.0 (state r.core).collection has.follows.runs so.made.row.0.1.0) has.follows.progress_is))), refl)) r.sessions sessions
+      line_keeps C state S (lines.Gc percent) (replies.Refused (refusals.Collecting phase)) m r s is m (
+        right_part S m r.sessions (state r.core) follows (at is).running (lines.Gc percent) admits,
+        (
+          subst (IsCollecting phase) (sym has.is) (subst (λ (p : Phase). MayCome p has.collecting.progress) (sym so.made.row.0.1.1) (may_come has.collecting.progress so.made.row.0.0.stage
+              (subst (λ (c : Collection). IsAtProgress has.collecting.progress c.stage) (same_some has.follows.collection so.made.row.0.0 (state r.core).collection has.follows.runs so.made.row.0.1.0) has.follows.progress_is))),
+          refl,
+        ),
+      ) r.sessions sessions
       (follows_at S m r.sessions (state s.core) (unstarted_running C state among distinct m r.sessions r.core s.core (at is) percent starts.0 phase starts.1))
       (start.keeps C state among distinct m r.sessions r.core s.core (at is) percent (Err (refusals.Collecting phase)) starts.0 starts.1)
   not_started percent refusal is admits starts sessions = absurd (start.steps C state among distinct m r.sessions r.core s.core (at is) percent (Err refusal) starts.0 starts.1).made.row

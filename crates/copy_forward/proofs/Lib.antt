@@ -1,2 +1,4 @@
 pub mod OnePlace
+pub mod Planned
+pub mod Refilled
 pub mod Removed

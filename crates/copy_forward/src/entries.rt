@@ -7,7 +7,7 @@ ghost use Rattle.dd_disk.specs.Shows.{Shows};
 ghost use Rattle.disk_format.specs.Layout.{size_of, slot_at};
 ghost use Rattle.disk_format.specs.declared.numbers.TheConstants.{SLOT_BYTES};
 ghost use Rattle.segment_index.specs.Changes.{Changes};
-ghost use Rattle.segment_index.specs.Places.{KnownMap};
+ghost use Rattle.segment_index.specs.Places.{KnownMap, IsPlace};
 ghost use Rattle.store_model.specs.Slots.{HoldsSlot, place_of};
 ghost use Rattle.store_state.specs.Indexing.{Stays};
 ghost use Rattle.store_state.specs.Refused.{blames, fails};
@@ -52,8 +52,8 @@ pub fn same_place(a: &Place, b: &Place) -> bool
     a.slot == b.slot && a.offset == b.offset && a.length == b.length && a.level == b.level
 }
 
-// Where an entry's segment lies.
-fn place_in(slot: u32, entry: &Entry) -> Place
+/// Where an entry's segment lies.
+pub(crate) fn place_in(slot: u32, entry: &Entry) -> Place
     ensures { result ≡ place_of slot entry.now }
 {
     Place {
@@ -64,8 +64,8 @@ fn place_in(slot: u32, entry: &Entry) -> Place
     }
 }
 
-// Whether the index has an entry's segment as the copy of its key.
-fn is_copy<D: Disk, X: Index>(
+/// Whether the index has an entry's segment as the copy of its key.
+pub(crate) fn is_copy<D: Disk, X: Index>(
     disk: &mut D,
     index: &mut X,
     slot: u32,
@@ -75,6 +75,7 @@ fn is_copy<D: Disk, X: Index>(
     requires { X.serves index.old (D.view disk.old).size }
     ensures copy { IfOk result (λ yes. KnownMap (X.places index.old (D.view disk.old).content)
         (λ m. yes ≡ is_copy_in m kind slot entry.now)) }
+    ensures place { result ≡ Ok true → IsPlace (D.view disk.old).size (place_of slot entry.now) }
     ensures map { X.places index.new (D.view disk.new).content ≡ X.places index.old (D.view disk.old).content }
     ensures refused { IfErr result (IsLookUpRefusal (X.places index.old (D.view disk.old).content)) }
     ensures reads { Reads (ending blames result) (D.view disk.old) (D.view disk.new) }

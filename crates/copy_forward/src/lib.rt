@@ -1,7 +1,13 @@
-//! The entries of a container, for a collection: which are live, which are the copies that the index has, and how the live ones
-//! come into a container that is being filled (docs/MODEL.md, 'Collection').
+//! The entries of a container, for a collection: which are live, which are the copies that the index has, and what is planned of
+//! them where live ones are copied (docs/MODEL.md, 'Collection').
 #![tactic(auto)]
 
+mod again;
 mod entries;
+mod plan;
+mod planning;
 
+pub use again::same_again;
 pub use entries::{add_dead, live_bytes, read_header, remove_keys, same_place};
+pub use plan::Plan;
+pub use planning::plan_copies;

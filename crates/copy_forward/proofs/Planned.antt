@@ -1,0 +1,177 @@
+-- How what is planned of one entry after the other is put together.
+use Rattle.std.proofs.Common.{◌≡◌, inl, inr, ℕ, suc, ◌+◌, ◌≤◌, Bool, true, false, List, [], ◌∷◌, ◌++◌, length, drop, zero, refl, sym, ap, subst, ◌∙◌, arith, length-append}
+use Rattle.std.specs.List.{AllByRecursion}
+use Rattle.std.specs.Prelude.{◌<◌, nat_le, nat_lt}
+use Rattle.std.proofs.lemmas.Bool.{le-leb, lt-ltb}
+use Rattle.base_model.proofs.Checks.{both_true}
+use Rattle.disk_format.specs.declared.numbers.TheConstants.{DATA_BYTES, MOST_ENTRIES}
+use Rattle.store_model.proofs.Copies.{length_within}
+use Rattle.container_meta.specs.declared.entry.Entry.{Entry}
+use Rattle.container_meta.specs.declared.kind.Kind.{Kind}
+use Rattle.container_meta.specs.declared.place.Place.{Place}
+use Rattle.container_meta.specs.Segments.{Contents, bytes_in, has_room}
+use Rattle.container_meta.specs.Spelling.{Follow}
+use Rattle.gc_enumerate.specs.Live.{IsLiveAt}
+use Rattle.refusals.specs.declared.refusal.Refusal.{Refusal}
+use Rattle.refusals.specs.declared.refusal.Refusal.TheVariants.{Memory, DiskRead, Damaged, Corrupt}
+use Rattle.segment_index.specs.Places.{KnownMap}
+use Rattle.store_model.specs.Indexing.{entry_key}
+use Rattle.store_model.specs.Slots.{place_of}
+use Rattle.store_state.specs.Comparing.{IsCopyRefusal}
+use Rattle.copy_forward.specs.Entries.{is_copy}
+use Rattle.copy_forward.specs.Planning.{Adds, AddsLive, IsAllowed, IsFull, IsLiveIn, IsLiveRefusal, IsOneRefusal, IsStuck, Planned, Source, planned, Takes, TakesOne}
+
+-- ---- a live copy
+
+pub live_in : (s : Source) (e : Entry) (copy : Bool) (key : List ℕ) (place : Place) → KnownMap s.known (λ m. copy ≡ is_copy m s.kind s.slot e) → copy ≡ true → key ≡ entry_key s.kind e
+    → place ≡ place_of s.slot e → IsLiveAt s.live key place → IsLiveIn s e
+live_in s e copy key place is flag key_is place_is live =
+    (λ m known. sym (is m known) ∙ flag, subst (λ (k : List ℕ). IsLiveAt s.live k (place_of s.slot e)) key_is (subst (IsLiveAt s.live key) place_is live))
+
+-- ---- what more reads show
+
+module _ (S T : (List ℕ → Type 0) → Type 0) (wider : (P : List ℕ → Type 0) → S P → T P) where
+  live_wider : (kind : Kind) (slot : ℕ) (e : Entry) (before after : Contents) → AddsLive kind slot S e before after → AddsLive kind slot T e before after
+  live_wider kind slot e before after (inl had) = inl had
+  live_wider kind slot e before after (inr (lacks, adds)) = inr (
+    lacks,
+    record {
+      bytes = adds.bytes;
+      long = adds.long;
+      there = wider _ adds.there;
+      digest_is = adds.digest_is;
+      after_is = adds.after_is;
+    },
+  )
+
+  pub takes_live : (s : Source) (e : Entry) (before after : Planned) → IsLiveIn s e → AddsLive s.kind s.slot S e before.buffer after.buffer → after.dead ≡ before.dead → TakesOne s T e before after
+  takes_live s e before after live adds dead = inr (inr (live, live_wider s.kind s.slot e before.buffer after.buffer adds, dead))
+
+  one_wider : (s : Source) (e : Entry) (before after : Planned) → TakesOne s S e before after → TakesOne s T e before after
+  one_wider s e before after (inl passed) = inl passed
+  one_wider s e before after (inr (inl dead)) = inr (inl dead)
+  one_wider s e before after (inr (inr (live, adds, dead))) = takes_live s e before after live adds dead
+
+  takes_wider : (s : Source) (es : List Entry) (before after : Planned) (count : ℕ) → Takes s S es before after count → Takes s T es before after count
+  takes_wider s [] before after count none = none
+  takes_wider s (e ∷ es) before after count (inl full) = inl full
+  takes_wider s (e ∷ es) before after count (inr (mid, (rest, (more, one, others)))) =
+      inr (mid, (rest, (more, one_wider s e before mid one, takes_wider s es mid after rest others)))
+
+  copy_wider : (place : Place) (digest : List ℕ) (refusal : Refusal) → IsCopyRefusal S place digest refusal → IsCopyRefusal T place digest refusal
+  copy_wider place digest DiskRead cause = tt
+  copy_wider place digest (Corrupt slot offset count want got) cause =
+      (cause.0, cause.1, cause.2, cause.3, cause.4, record { bytes = cause.5.bytes; long = cause.5.long; digest_is = cause.5.digest_is; there = wider _ cause.5.there })
+  copy_wider place digest _ cause = absurd cause
+
+  pub live_refused : (s : Source) (e : Entry) (buffer : Contents) → IsLiveIn s e → (refusal : Refusal) → IsLiveRefusal s.kind s.slot S e buffer refusal → IsOneRefusal s T e buffer refusal
+  live_refused s e buffer live Memory cause = tt
+  live_refused s e buffer live DiskRead cause = tt
+  live_refused s e buffer live (Corrupt slot offset count want got) cause = (live, (cause.0, copy_wider (place_of s.slot e) e.digest (Corrupt slot offset count want got) cause.1))
+  live_refused s e buffer live _ cause = absurd cause.1
+
+  one_refusal_wider : (s : Source) (e : Entry) (buffer : Contents) (refusal : Refusal) → IsOneRefusal s S e buffer refusal → IsOneRefusal s T e buffer refusal
+  one_refusal_wider s e buffer Memory cause = tt
+  one_refusal_wider s e buffer DiskRead cause = tt
+  one_refusal_wider s e buffer (Damaged at why) cause = cause
+  one_refusal_wider s e buffer (Corrupt slot offset count want got) cause = live_refused s e buffer cause.0 (Corrupt slot offset count want got) cause.1
+  one_refusal_wider s e buffer _ cause = absurd cause.1.1
+
+  stuck_wider : (s : Source) (es : List Entry) (before : Planned) (refusal : Refusal) → IsStuck s S es before refusal → IsStuck s T es before refusal
+  stuck_wider s [] before refusal cause = cause
+  stuck_wider s (e ∷ es) before refusal (inl cause) = inl (one_refusal_wider s e before.buffer refusal cause)
+  stuck_wider s (e ∷ es) before refusal (inr (mid, (one, cause))) = inr (mid, (one_wider s e before mid one, stuck_wider s es mid refusal cause))
+
+-- ---- one entry and others
+
+pub takes_none : (s : Source) (S : (List ℕ → Type 0) → Type 0) (all : List Entry) (before : Planned) → all ≡ [] → Takes s S all before before 0
+takes_none s S all before is = subst (λ (es : List Entry). Takes s S es before before 0) (sym is) (refl, refl)
+
+pub stops_here : (s : Source) (S : (List ℕ → Type 0) → Type 0) (e : Entry) (es all : List Entry) (before after : Planned) → all ≡ e ∷ es → IsFull s e before.buffer → after ≡ before → Takes s S all before after 0
+stops_here s S e es all before after is full same = subst (λ (xs : List Entry). Takes s S xs before after 0) (sym is) (inl (full, same, refl))
+
+pub stuck_here : (s : Source) (S : (List ℕ → Type 0) → Type 0) (e : Entry) (es all : List Entry) (before : Planned) → all ≡ e ∷ es → (refusal : Refusal) → IsOneRefusal s S e before.buffer refusal
+    → IsStuck s S all before refusal
+stuck_here s S e es all before is refusal cause = subst (λ (xs : List Entry). IsStuck s S xs before refusal) (sym is) (inl cause)
+
+module _ (s next : Source) (same : next ≡ s) (S R T : (List ℕ → Type 0) → Type 0) (first : (P : List ℕ → Type 0) → S P → T P) (others : (P : List ℕ → Type 0) → R P → T P)
+    (e : Entry) (es all : List Entry) (all_is : all ≡ e ∷ es) (before mid : Planned) (one : TakesOne s S e before mid) where
+  pub takes_more : (after : Planned) (rest : ℕ) → Takes next R es mid after rest → Takes s T all before after (1 + rest)
+  takes_more after rest takes =
+      let on = takes_wider R T others s es mid after rest (subst (λ (x : Source). Takes x R es mid after rest) same takes) in
+      let count : 1 + rest ≡ suc rest = omega arith in
+      subst (λ (xs : List Entry). Takes s T xs before after (1 + rest)) (sym all_is) (inr (mid, (rest, (count, one_wider S T first s e before mid one, on))))
+
+  pub stuck_more : (refusal : Refusal) → IsStuck next R es mid refusal → IsStuck s T all before refusal
+  stuck_more refusal stuck =
+      let on = stuck_wider R T others s es mid refusal (subst (λ (x : Source). IsStuck x R es mid refusal) same stuck) in
+      subst (λ (xs : List Entry). IsStuck s T xs before refusal) (sym all_is) (inr (mid, (one_wider S T first s e before mid one, on)))
+
+-- ---- what follows of a plan
+
+-- The container that is filled keeps its kind, and loses nothing.
+pub record Grows (before after : Contents) : Type 0 where
+  pub kind_is : after.kind ≡ before.kind
+  pub more : length before.segments ≤ length after.segments
+
+grows_not : (before after : Contents) → after ≡ before → Grows before after
+grows_not before after is = record { kind_is = ap (λ (c : Contents). c.kind) is; more = omega (arith, ap (λ (c : Contents). length c.segments) is) }
+
+grows_on : (a b c : Contents) → Grows a b → Grows b c → Grows a c
+grows_on a b c first second = record { kind_is = second.kind_is ∙ first.kind_is; more = omega (arith, first.more, second.more) }
+
+module _ (s : Source) (S : (List ℕ → Type 0) → Type 0) where
+  adds_grow : (e : Entry) (before after : Contents) → Adds s.slot S e before after → Grows before after
+  adds_grow e before after adds = record {
+    kind_is = ap (λ (c : Contents). c.kind) adds.after_is;
+    more = omega (arith, ap (λ (c : Contents). length c.segments) adds.after_is, length-append before.segments (record { level = e.level; bytes = adds.bytes } ∷ []));
+  }
+
+  one_grows : (e : Entry) (before after : Planned) → TakesOne s S e before after → Grows before.buffer after.buffer
+  one_grows e before after (inl (passed, is)) = grows_not before.buffer after.buffer (ap (λ (p : Planned). p.buffer) is)
+  one_grows e before after (inr (inl (dead, is))) = grows_not before.buffer after.buffer (ap (λ (p : Planned). p.buffer) is)
+  one_grows e before after (inr (inr (live, inl (had, is), dead))) = grows_not before.buffer after.buffer is
+  one_grows e before after (inr (inr (live, inr (lacks, adds), dead))) = adds_grow e before.buffer after.buffer adds
+
+  pub grows : (es : List Entry) (before after : Planned) (count : ℕ) → Takes s S es before after count → Grows before.buffer after.buffer
+  grows [] before after count none = grows_not before.buffer after.buffer (ap (λ (p : Planned). p.buffer) none.0)
+  grows (e ∷ es) before after count (inl full) = grows_not before.buffer after.buffer (ap (λ (p : Planned). p.buffer) full.1)
+  grows (e ∷ es) before after count (inr (mid, (rest, (more, one, others)))) =
+      grows_on before.buffer mid.buffer after.buffer (one_grows e before mid one) (grows es mid after rest others)
+
+-- ---- the entries of a header
+
+pub all_allowed : (kind : Kind) (before es : List Entry) → Follow kind before es → AllByRecursion (IsAllowed kind) es
+all_allowed kind before [] follow = tt
+all_allowed kind before (e ∷ es) follow = (record { length_is = follow.0.length; level_is = follow.0.level }, all_allowed kind (before ++ e ∷ []) es follow.1)
+
+pub allowed_from : (kind : Kind) (n : ℕ) (es : List Entry) → AllByRecursion (IsAllowed kind) es → AllByRecursion (IsAllowed kind) (drop n es)
+allowed_from kind zero es all = all
+allowed_from kind (suc n) [] all = tt
+allowed_from kind (suc n) (e ∷ es) all = allowed_from kind n es all.1
+
+-- ---- a whole plan
+
+-- with what the container had at first
+pub from_first : (s : Source) (S : (List ℕ → Type 0) → Type 0) (es rest : List Entry) (copy buffer : Contents) (dead : List (List ℕ)) (after : Planned) (count : ℕ) → es ≡ rest → copy ≡ buffer → dead ≡ []
+    → Takes s S es (planned copy dead) after count → Takes s S rest (planned buffer []) after count
+from_first s S es rest copy buffer dead after count entries_are same none takes =
+    subst (λ (xs : List Entry). Takes s S xs (planned buffer []) after count) entries_are
+    (subst (λ (c : Contents). Takes s S es (planned c []) after count) same (subst (λ (ks : List (List ℕ)). Takes s S es (planned copy ks) after count) none takes))
+
+-- a container with no segment has room for each
+empty_has_room : (kind : Kind) (e : Entry) (buffer : Contents) → IsAllowed kind e → buffer.segments ≡ [] → has_room buffer e.length ≡ true
+empty_has_room kind e buffer allowed none =
+    let few = (length_within kind e.length allowed.length_is).1 in
+    let no_entries : length buffer.segments ≡ 0 = ap length none in
+    let no_bytes : bytes_in buffer.segments ≡ 0 = ap bytes_in none in
+    both_true (nat_lt (length buffer.segments) MOST_ENTRIES) (nat_le (bytes_in buffer.segments + e.length) DATA_BYTES) (lt-ltb (length buffer.segments) MOST_ENTRIES (omega (arith, no_entries)))
+    (le-leb (bytes_in buffer.segments + e.length) DATA_BYTES (omega (arith, no_bytes, few)))
+
+-- so the first entry is planned
+pub some_planned : (s : Source) (S : (List ℕ → Type 0) → Type 0) (es : List Entry) (before after : Planned) (count : ℕ) → AllByRecursion (IsAllowed s.kind) es → before.buffer.segments ≡ [] → 0 < length es
+    → Takes s S es before after count → 0 < count
+some_planned s S [] before after count allowed none some takes = absurd (omega (arith, some))
+some_planned s S (e ∷ es) before after count allowed none some (inl full) =
+    absurd (let wrong : true ≡ false = sym (empty_has_room s.kind e before.buffer allowed.0 none) ∙ full.0.1.1 in cc)
+some_planned s S (e ∷ es) before after count allowed none some (inr (mid, (rest, (more, one, others)))) = omega (arith, more)

@@ -1,16 +1,17 @@
 -- How what is planned of one entry after the other is put together.
-use Rattle.std.proofs.Common.{◌≡◌, inl, inr, ℕ, suc, ◌+◌, ◌≤◌, Bool, true, false, List, [], ◌∷◌, ◌++◌, length, drop, zero, refl, sym, ap, subst, ◌∙◌, arith, length-append}
-use Rattle.std.specs.List.{AllByRecursion}
-use Rattle.std.specs.Prelude.{◌<◌, nat_le, nat_lt}
-use Rattle.std.proofs.lemmas.Bool.{le-leb, lt-ltb}
-use Rattle.base_model.proofs.Checks.{both_true}
+use Rattle.std.proofs.Common.{◌≡◌, inl, inr, ℕ, suc, ◌+◌, ◌≤◌, Bool, true, false, List, [], ◌∷◌, ◌++◌, length, drop, take, zero, refl, sym, ap, subst, ◌∙◌, arith, length-append}
+use Rattle.std.specs.List.{AllByRecursion, sum_by}
+use Rattle.std.specs.Prelude.{nat_le, nat_lt}
+use Rattle.std.proofs.lemmas.Bool.{le-leb, leb-true, lt-ltb}
+use Rattle.std.proofs.lemmas.List.Sums.{sum_by-append, sum_by-cons, sum_by_push}
+use Rattle.std.proofs.lemmas.List.{length-drop, take-append-drop}
+use Rattle.base_model.proofs.Checks.{both, both_true}
 use Rattle.disk_format.specs.declared.numbers.TheConstants.{DATA_BYTES, MOST_ENTRIES}
-use Rattle.store_model.proofs.Copies.{length_within}
 use Rattle.container_meta.specs.declared.entry.Entry.{Entry}
 use Rattle.container_meta.specs.declared.kind.Kind.{Kind}
 use Rattle.container_meta.specs.declared.place.Place.{Place}
-use Rattle.container_meta.specs.Segments.{Contents, bytes_in, has_room}
-use Rattle.container_meta.specs.Spelling.{Follow}
+use Rattle.container_meta.specs.Segments.{Contents, Segment, bytes_in, has_room}
+use Rattle.container_meta.specs.Spelling.{Follow, HeaderValue, IsHeader, bytes_of}
 use Rattle.gc_enumerate.specs.Live.{IsLiveAt}
 use Rattle.refusals.specs.declared.refusal.Refusal.{Refusal}
 use Rattle.refusals.specs.declared.refusal.Refusal.TheVariants.{Memory, DiskRead, Damaged, Corrupt}
@@ -159,19 +160,56 @@ from_first s S es rest copy buffer dead after count entries_are same none takes 
     subst (λ (xs : List Entry). Takes s S xs (planned buffer []) after count) entries_are
     (subst (λ (c : Contents). Takes s S es (planned c []) after count) same (subst (λ (ks : List (List ℕ)). Takes s S es (planned copy ks) after count) none takes))
 
--- a container with no segment has room for each
-empty_has_room : (kind : Kind) (e : Entry) (buffer : Contents) → IsAllowed kind e → buffer.segments ≡ [] → has_room buffer e.length ≡ true
-empty_has_room kind e buffer allowed none =
-    let few = (length_within kind e.length allowed.length_is).1 in
+-- There is room for these entries' segments, beside what a container has.
+pub record HasRoomFor (es : List Entry) (buffer : Contents) : Type 0 where
+  pub few : length buffer.segments + length es ≤ MOST_ENTRIES
+  pub small : bytes_in buffer.segments + bytes_of es ≤ DATA_BYTES
+
+module _ (s : Source) (S : (List ℕ → Type 0) → Type 0) where
+  has_room_first : (e : Entry) (es : List Entry) (buffer : Contents) → HasRoomFor (e ∷ es) buffer → has_room buffer e.length ≡ true
+  has_room_first e es buffer room =
+      both_true (nat_lt (length buffer.segments) MOST_ENTRIES) (nat_le (bytes_in buffer.segments + e.length) DATA_BYTES) (lt-ltb (length buffer.segments) MOST_ENTRIES (omega (arith, room.few)))
+      (le-leb (bytes_in buffer.segments + e.length) DATA_BYTES (omega (arith, room.small, sum_by-cons (λ (x : Entry). x.length) e es)))
+
+  -- where nothing is added
+  still_room : (e : Entry) (es : List Entry) (before after : Contents) → after ≡ before → HasRoomFor (e ∷ es) before → HasRoomFor es after
+  still_room e es before after is room = subst (HasRoomFor es) (sym is) (record {
+    few = omega (arith, room.few);
+    small = omega (arith, room.small, sum_by-cons (λ (x : Entry). x.length) e es);
+  })
+
+  added_room : (e : Entry) (es : List Entry) (before after : Contents) → Adds s.slot S e before after → HasRoomFor (e ∷ es) before → HasRoomFor es after
+  added_room e es before after adds room =
+      let more : Segment = record { level = e.level; bytes = adds.bytes } in
+      subst (HasRoomFor es) (sym adds.after_is) (record {
+        few = omega (arith, room.few, length-append before.segments (more ∷ []));
+        small = omega (arith, room.small, sum_by-cons (λ (x : Entry). x.length) e es, sum_by_push (λ (x : Segment). length x.bytes) before.segments more, adds.long);
+      })
+
+  room_after : (e : Entry) (es : List Entry) (before after : Planned) → TakesOne s S e before after → HasRoomFor (e ∷ es) before.buffer → HasRoomFor es after.buffer
+  room_after e es before after (inl (passed, is)) room = still_room e es before.buffer after.buffer (ap (λ (p : Planned). p.buffer) is) room
+  room_after e es before after (inr (inl (dead, is))) room = still_room e es before.buffer after.buffer (ap (λ (p : Planned). p.buffer) is) room
+  room_after e es before after (inr (inr (live, inl (had, is), dead))) room = still_room e es before.buffer after.buffer is room
+  room_after e es before after (inr (inr (live, inr (lacks, adds), dead))) room = added_room e es before.buffer after.buffer adds room
+
+  -- so all of them are planned
+  pub all_planned : (es : List Entry) (before after : Planned) (count : ℕ) → HasRoomFor es before.buffer → Takes s S es before after count → count ≡ length es
+  all_planned [] before after count room none = none.1
+  all_planned (e ∷ es) before after count room (inl full) = absurd (let wrong : true ≡ false = sym (has_room_first e es before.buffer room) ∙ full.0.1.1 in cc)
+  all_planned (e ∷ es) before after count room (inr (mid, (rest, (more, one, others)))) =
+      omega (arith, more, all_planned es mid after rest (room_after e es before mid one room) others)
+
+-- a container with no segment has room for those of a header, from one on
+pub room_in_none : (h : HeaderValue) (from : ℕ) (buffer : Contents) → IsHeader h → from ≤ length h.entries → buffer.segments ≡ [] → HasRoomFor (drop from h.entries) buffer
+room_in_none h from buffer right within none =
     let no_entries : length buffer.segments ≡ 0 = ap length none in
     let no_bytes : bytes_in buffer.segments ≡ 0 = ap bytes_in none in
-    both_true (nat_lt (length buffer.segments) MOST_ENTRIES) (nat_le (bytes_in buffer.segments + e.length) DATA_BYTES) (lt-ltb (length buffer.segments) MOST_ENTRIES (omega (arith, no_entries)))
-    (le-leb (bytes_in buffer.segments + e.length) DATA_BYTES (omega (arith, no_bytes, few)))
-
--- so the first entry is planned
-pub some_planned : (s : Source) (S : (List ℕ → Type 0) → Type 0) (es : List Entry) (before after : Planned) (count : ℕ) → AllByRecursion (IsAllowed s.kind) es → before.buffer.segments ≡ [] → 0 < length es
-    → Takes s S es before after count → 0 < count
-some_planned s S [] before after count allowed none some takes = absurd (omega (arith, some))
-some_planned s S (e ∷ es) before after count allowed none some (inl full) =
-    absurd (let wrong : true ≡ false = sym (empty_has_room s.kind e before.buffer allowed.0 none) ∙ full.0.1.1 in cc)
-some_planned s S (e ∷ es) before after count allowed none some (inr (mid, (rest, (more, one, others)))) = omega (arith, more)
+    let length_of : Entry → ℕ = λ e. e.length in
+    let parts : sum_by length_of (take from h.entries ++ drop from h.entries) ≡ sum_by length_of (take from h.entries) + sum_by length_of (drop from h.entries) =
+    sum_by-append length_of (take from h.entries) (drop from h.entries) in
+    let all : bytes_of h.entries ≡ sum_by length_of (take from h.entries) + bytes_of (drop from h.entries) =
+    ap bytes_of (sym (take-append-drop from h.entries)) ∙ parts in
+    record {
+      few = omega (arith, no_entries, length-drop from h.entries, leb-true (length h.entries) MOST_ENTRIES (both (nat_le 1 (length h.entries)) (nat_le (length h.entries) MOST_ENTRIES) right.count).1, within);
+      small = omega (arith, no_bytes, all, right.whole, leb-true h.data_length DATA_BYTES (both (nat_le 1 h.data_length) (nat_le h.data_length DATA_BYTES) right.data_length).1);
+    }

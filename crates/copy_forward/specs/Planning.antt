@@ -1,5 +1,5 @@
 -- What a collection does with the copies of a container that it can't give back as it is (docs/MODEL.md, 'Copying').
-use Rattle.std.specs.Prelude.{◌≡◌, ◌⊎◌, ℕ, suc, ◌+◌, ◌<◌, ◌≤◌, Bool, true, false, List, [], ◌∷◌, ◌++◌, length, drop, Option, None}
+use Rattle.std.specs.Prelude.{◌≡◌, ◌⊎◌, ℕ, suc, ◌+◌, ◌≤◌, Bool, true, false, List, [], ◌∷◌, ◌++◌, length, drop, Option, None}
 use Rattle.sha2.specs.Sha256.{sha256}
 use Rattle.container_meta.specs.declared.entry.Entry.{Entry}
 use Rattle.container_meta.specs.declared.kind.Kind.{Kind}
@@ -96,14 +96,14 @@ Takes s shown (e ∷ es) before after count =
     ⊎ ((mid : Planned) × ((rest : ℕ) × ((count ≡ suc rest) × TakesOne s shown e before mid × Takes s shown es mid after rest)))
 
 -- What is planned of a container from the entry of a number on. The container that is filled keeps what it had; where it had nothing,
--- an entry is planned at least, if there is one.
+-- all entries are planned, since it has room for what a container has.
 pub record IsPlan (s : Source) (shown : (List ℕ → Type 0) → Type 0) (entries : List Entry) (from : ℕ) (buffer : Contents) (plan : Plan)
     : Type 0 where
   pub passed : ℕ
   pub takes : Takes s shown (drop from entries) (planned buffer []) (planned plan.buffer plan.dead.items) passed
   pub next_is : plan.next ≡ from + passed
   pub within : plan.next ≤ length entries
-  pub goes_on : buffer.segments ≡ [] → from < length entries → from < plan.next
+  pub whole : buffer.segments ≡ [] → plan.next ≡ length entries
   pub kind_is : plan.buffer.kind ≡ buffer.kind
   pub copied_is : length plan.buffer.segments ≡ length buffer.segments + plan.copied
 

@@ -1,9 +1,10 @@
 use Rattle.std.proofs.Common.{List, length, drop, ap, sym, subst, refl, [], arith, length-drop}
 use Rattle.std.specs.List.{AllByRecursion}
 use Rattle.container_meta.specs.declared.entry.Entry.{Entry}
+use Rattle.container_meta.specs.Spelling as header
 use Rattle.dd_disk.specs.Shows.{Shows}
 use Rattle.copy_forward.specs.Planning.{IsAllowed, planned, source_of}
-use Rattle.copy_forward.proofs.Planned.{all_allowed, allowed_from, from_first, grows, some_planned}
+use Rattle.copy_forward.proofs.Planned.{all_allowed, all_planned, allowed_from, from_first, grows, room_in_none}
 use Rattle.copy_forward.proofs.planning.plan_copies.Goals as goal
 
 pub plan_rest-requires-clause-allowed : goal.plan_rest-requires-clause-allowed
@@ -38,7 +39,9 @@ returns-clause-plan g c =
       passed = c.in_ok-count.count;
       takes = takes;
       next_is = refl;
-      goes_on = λ none some. (let planned_some = some_planned s shown (drop c.args.from entries) (planned c.args.buffer.now []) after c.in_ok-count.count (allowed_from s.kind c.args.from entries (all_allowed s.kind [] entries c.requires.right.entries)) none (omega (arith, some, length-drop c.args.from entries)) takes in omega (arith, planned_some));
+      whole = λ none.
+          let all = all_planned s shown (drop c.args.from entries) (planned c.args.buffer.now []) after c.in_ok-count.count (room_in_none (header.view c.args.meta.now) c.args.from c.args.buffer.now c.requires.right c.requires.from none) takes in
+          omega (arith, all, length-drop c.args.from entries, c.requires.from);
       within = omega (arith, c.in_ok-count.ensures.within, ap length c.entries_from-entries.ensures, length-drop c.args.from entries, c.requires.from);
       kind_is = grown.kind_is;
       copied_is = omega (arith, grown.more, c.len.ensures, c.len-2.ensures);

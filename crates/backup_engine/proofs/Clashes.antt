@@ -1,5 +1,5 @@
 -- Over a map a put finds no damage, and clashes only where the store holds another node than one of its file.
-use Rattle.std.proofs.Common.{◌≡◌, ℕ, zero, suc, ◌<◌, List, [], ◌∷◌, length, Option, Some, None, option_map, Result, Err, refl, sym, ◌∙◌, ap, subst, arith}
+use Rattle.std.proofs.Common.{◌≡◌, ℕ, zero, suc, ◌<◌, ◌≤◌, List, [], ◌∷◌, length, Option, Some, None, option_map, Result, Err, refl, sym, ◌∙◌, ap, subst, arith}
 use Rattle.std.specs.List.{AllByRecursion}
 use Rattle.sha2.specs.Sha256.{sha256}
 use Rattle.base_model.specs.Known.{KnownWith}
@@ -23,11 +23,13 @@ use Rattle.store_model.specs.Collisions.{HasNoCollisions, ByteSet, IsIn, Stands}
 use Rattle.store_model.specs.Files.{Stored}
 use Rattle.store_model.specs.Image.{Store}
 use Rattle.store_model.specs.Pieces.{Piece, Data, Node, IsPieceOf, HasPieceOf, piece_segment}
-use Rattle.store_model.specs.Slots.{HasKey, Copy, newest}
+use Rattle.disk_format.specs.declared.numbers.TheConstants.{RESERVE}
+use Rattle.store_model.specs.Slots.{HasKey, Copy, free_slots, newest}
 use Rattle.store_model.specs.Standing.{IsStoreOf}
 use Rattle.store_model.specs.Steps.{KeepsCopies}
 use Rattle.store_model.specs.Trees.{bytes_at, node_key}
-use Rattle.store_model.proofs.Copies.{copy_digest}
+use Rattle.store_model.proofs.Copies.{copy_digest, some_same}
+use Rattle.store_model.proofs.Once.{store_once}
 use Rattle.store_model.proofs.Roots.{length_of_copy}
 use Rattle.store_state.specs.Comparing.{FirstDifference, IsUnlike}
 use Rattle.container_meta.specs.Places.{PlaceMap}
@@ -66,7 +68,10 @@ RefusesBut name given room refusal = Refuses (Ingest name) given room refusal
 pub ends_by : (name given : List ℕ) (m : Stored) (content : Option (List ℕ)) (refusal : Refusal) → IsRight given m content refusal
     → IsLeftWith m content (λ store. RefusesBut name given (room_of (Ingest name) m store) refusal) → EndsBy (Ingest name) given m content (Some (Refused refusal))
 ends_by name given m content DiskWrite right left = tt
-ends_by name given m content (Clash key at) right left = right
+ends_by name given m content (Clash key at) right left =
+    let clashing : List ℕ = right.1.0 in
+    let there : IsStoreOf left.0 m.files clashing = subst (IsStoreOf left.0 m.files) (some_same left.1.0 clashing (sym left.1.1 ∙ right.1.1)) left.1.2 in
+    (right.0, right.1, subst (λ (s : Store). RESERVE ≤ free_slots s.held) (store_once clashing left.0 right.0 there.right right.1.2.0.right) left.2)
 ends_by name given m content refusal right left = left
 
 -- another node is a clash, or it was not given

@@ -109,8 +109,8 @@ module _ (S : List ℕ → Type 0) (name : List ℕ) (refusal : Refusal) (m : St
   same_found same found may = subst (λ (n : Machine). MayBeFound n.state n.stored found) same may
 
   -- a store of the content is that of the map
-  of_store : (P : Store → Type 0) → OfStore image P → P is.0
-  of_store P has = subst P (store_once image has.0 is.0 has.1.0 is.1.0.holds.right) has.1.1
+  of_store : (P : Store → Type 0) → OfStore image P → P is.store
+  of_store P has = subst P (store_once image has.0 is.store has.1.0 is.stands.holds.right) has.1.1
 
   left_so : (r : Refusal) (d : List ℕ) → IsOf S m d → IsLeftAs S (Delete name) [] m (Some (Refused r)) d
   left_so DiskWrite d of = inl of
@@ -128,10 +128,10 @@ module _ (S : List ℕ → Type 0) (name : List ℕ) (refusal : Refusal) (m : St
       keeps_map S (lines.Delete name) (replies.Refused refusal) m image v w one told (Delete name) (Some (Refused r)) sink sink by_map refl tt (added_so r (same_content same)) (λ store right. tt)
       (λ found d may of. left_so r d (subst (λ (x : Stored). IsOf S x d) (same_found same found may) of))
 
-  may_delete : (name_is : IsName name) (there : is_some (finite.get m.files name) ≡ true) → MayDelete name (room_of (Delete name) m is.0)
+  may_delete : (name_is : IsName name) (there : is_some (finite.get m.files name) ≡ true) → MayDelete name (room_of (Delete name) m is.store)
   may_delete name_is there = record { named = name_is; knows = there }
 
-  lacks_numbers : machine.LacksNumbers start → LacksNumbers (room_of (Delete name) m is.0)
+  lacks_numbers : machine.LacksNumbers start → LacksNumbers (room_of (Delete name) m is.store)
   lacks_numbers (inl most) = inl most
   lacks_numbers (inr full) = inr (of_store (λ store. (half_cells ≤ length store.records) × (store.selector.generation ≡ 2 ^ 64 - 1)) full)
 

@@ -58,9 +58,9 @@ module _ (old new : CoreState) where
   pub kept_ids : Rested → OfEach old.disk.size old.known old.tables (λ store. old.tables.held.last_id ≡ last_id store.held)
       → OfEach new.disk.size new.known new.tables (λ store. new.tables.held.last_id ≡ last_id store.held)
   kept_ids rested ids = record {
-    store_has = λ store represents valid reserve.
+    store_has = λ store represents valid free.
         ap (λ (t : Tables). t.held.last_id) rested.kept.tables_are
-        ∙ ids.store_has store (kept_represents rested.kept store represents) (subst (λ (n : ℕ). IsValidFor n store) rested.size_is valid) reserve;
+        ∙ ids.store_has store (kept_represents rested.kept store represents) (subst (λ (n : ℕ). IsValidFor n store) rested.size_is valid) free;
   }
 
   pub kept_indexed : Rested → Runs old.disk.size old.known old.tables → Runs new.disk.size new.known new.tables
@@ -68,7 +68,7 @@ module _ (old new : CoreState) where
     store = was.store;
     represents = represents_still rested.kept was.store was.represents;
     valid = subst (λ (n : ℕ). IsValidFor n was.store) (sym rested.size_is) was.valid;
-    reserve_holds = was.reserve_holds;
+    has_free = was.has_free;
   }
 
   -- the first actor's part

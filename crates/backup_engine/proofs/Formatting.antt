@@ -47,7 +47,7 @@ module _ (slots : ℕ) (v w : DiskView) where
 
   -- the map has no clash
   ends_by : (m : Stored) (content : Option (List ℕ)) (refusal : Refusal) → IsLeftWith m content (λ store. Refuses (Format slots) [] (room_of (Format slots) m store) refusal) → EndsBy (Format slots) [] m content (Some (Refused refusal))
-  ends_by m content (Clash key at) left = absurd left.2
+  ends_by m content (Clash key at) left = absurd left.3
   ends_by m content refusal left = left
 
   -- of a disk that has a store it is one of the map's
@@ -73,7 +73,7 @@ module _ (slots : ℕ) (v w : DiskView) where
   refused_by : (refusal : Refusal) (sink : SinkView) → IsFormatRefusal shown v.size slots refusal → OnlyReads v w
       → AnswersEach (Format slots) [] (Some (Refused refusal)) v w sink sink
   refused_by refusal sink wrong reads old known among m distinct right is = record {
-    by_map = ends_by m w.content refusal (is.0, (old, reads.content_is ∙ known, is.1.0.holds), refuses old known m is.0 is.1.0.holds.right refusal wrong);
+    by_map = ends_by m w.content refusal (is.store, (old, reads.content_is ∙ known, is.stands.holds), is.reserve, refuses old known m is.store is.stands.holds.right refusal wrong);
     wrote = refl;
   }
 
@@ -151,8 +151,8 @@ module _ (slots : ℕ) (v w : DiskView) where
         → Keeps (Format slots) [] (Some (Refused refusal)) v w source source sink sink
     refused_keeps refusal sink wrong acts = record {
       map = λ old known among m distinct right is.
-          reads_map (Format slots) [] (Refused refusal) v w sink sink (reads_over refusal wrong acts old known is.0 is.1.0.holds.right) (λ sink_is. cc)
-          (refused_by refusal sink wrong (reads_over refusal wrong acts old known is.0 is.1.0.holds.right)) old known among m distinct right is;
+          reads_map (Format slots) [] (Refused refusal) v w sink sink (reads_over refusal wrong acts old known is.store is.stands.holds.right) (λ sink_is. cc)
+          (refused_by refusal sink wrong (reads_over refusal wrong acts old known is.store is.stands.holds.right)) old known among m distinct right is;
       any = record {
         took = (refl, refl);
         caused = caused refusal source sink wrong;
@@ -171,7 +171,7 @@ module _ (slots : ℕ) (v w : DiskView) where
     pub done_keeps : (ending : Option Ending) (sink sink_now : SinkView) → IsReplied ending sink sink_now → Formats slots v w → IsDurable w → Acts Done v w → WroteReply (formatted_line slots) ending sink sink_now
         → Keeps (Format slots) [] ending v w source source sink sink_now
     done_keeps ending sink sink_now replied formats durable acts wrote = record {
-      map = λ old known among m distinct right is. absurd (shown_content v w _ old formats.closed known (gate_open old is.0 is.1.0.holds.right));
+      map = λ old known among m distinct right is. absurd (shown_content v w _ old formats.closed known (gate_open old is.store is.stands.holds.right));
       any = record {
         took = (refl, refl);
         caused = done_caused ending source sink sink_now replied formats;

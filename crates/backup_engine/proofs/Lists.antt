@@ -278,7 +278,7 @@ module _ (S : List ℕ → Type 0) (image : List ℕ) where
   none_among slot (suc count) = none_among (slot + 1) count
 
   of_empty : (slots : ℕ) → IsFormatted slots image → IsOf S empty_map image
-  of_empty slots formatted = (empty_store slots, (record { holds = formatted; among = none_among 0 slots }, refl))
+  of_empty slots formatted = record { store = empty_store slots; stands = record { holds = formatted.0; among = none_among 0 slots }; reserve = formatted.1; last_is = refl }
 
 pub stands_empty : (D : Type 0) (view : D → DiskView) → StandsEmpty D view
 stands_empty D view among slots old new (bytes, told, u) formats durable =

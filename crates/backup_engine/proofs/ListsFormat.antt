@@ -1,4 +1,4 @@
--- A `format` of a disk that has a store which can be opened, whether it can run or not: it is not done, and changes nothing.
+-- A `format` of a disk that has a store which can be opened, however many slots are closed: it is not done, and changes nothing.
 use Rattle.std.proofs.Common.{◌≡◌, inl, inr, ℕ, List, Option, Some, None, refl, sym, ◌∙◌, ap, subst, arith}
 use Rattle.base_model.specs.Bytes.{byte_at}
 use Rattle.base_model.proofs.Ranges.{byte-range}
@@ -57,7 +57,7 @@ pub formats_nothing : (among : ByteSet) → HasNoCollisions (IsIn among) → (sl
     → v.content ≡ Some image → OpensAs (IsIn among) m image → Keeps (Format slots) c.given c.ending v w c.source c.source_now c.sink c.sink_now
     → FormatsNothing (IsIn among) slots c m v w
 formats_nothing among apart slots c m v w image given told opens keeps =
-    let gate = gate_open image opens.store opens.holds.right in
+    let gate = gate_open image opens.store opens.stands.holds.right in
     let stays = images_stay slots c.given v w c.source c.source_now c.sink c.sink_now image told gate c.ending keeps in
     record {
       nothing = record {

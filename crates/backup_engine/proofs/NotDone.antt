@@ -32,8 +32,8 @@ pub not_sink : (refusal : Refusal) → ¬ (Refused refusal ≡ Sink)
 not_sink refusal is = cc
 
 -- the content is a store of the map's files
-pub left_with : (S : List ℕ → Type 0) (m : Stored) (old : List ℕ) (content : Option (List ℕ)) (P : Store → Type 0) → content ≡ Some old → (is : IsOf S m old) → P is.0 → IsLeftWith m content P
-left_with S m old content P told is holds = (is.0, (old, told, is.1.0.holds), holds)
+pub left_with : (S : List ℕ → Type 0) (m : Stored) (old : List ℕ) (content : Option (List ℕ)) (P : Store → Type 0) → content ≡ Some old → (is : IsOf S m old) → P is.store → IsLeftWith m content P
+left_with S m old content P told is holds = (is.store, (old, told, is.stands.holds), is.reserve, holds)
 
 -- want of memory, whatever the map is
 no_memory : (command : CommandLine) (given : List ℕ) (S : List ℕ → Type 0) (m : Stored) (old : List ℕ) (content : Option (List ℕ)) → content ≡ Some old → IsOf S m old → EndsBy command given m content (Some (Refused Memory))
@@ -104,8 +104,7 @@ IsUnopened v w refusal = IsNotRead refusal v w
 module _ (v w : DiskView) (refusal : Refusal) (is : IsUnopened v w refusal) where
   pub map_fails : (S : List ℕ → Type 0) (m : Stored) (old : List ℕ) → v.content ≡ Some old → IsOf S m old → IsTrue (fails refusal)
   map_fails S m old known stands =
-      let holds = stands.1.0.holds in
-      fails_alone stands.0 refusal holds.reserve (shown_content v w (IsGivenUp refusal) old is.given_up known stands.0 holds.right)
+      fails_alone stands.store refusal stands.reserve (shown_content v w (IsGivenUp refusal) old is.given_up known stands.store stands.stands.holds.right)
 
 module _ (v w : DiskView) (refusal : Refusal) (is : IsUnopened v w refusal) (name : List ℕ) (source : SourceView) (sink : SinkView) where
   ingest_answers : (given : List ℕ) → AnswersEach (Ingest name) given (Some (Refused refusal)) v w sink sink

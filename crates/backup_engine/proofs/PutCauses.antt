@@ -125,7 +125,7 @@ module _ (C : Type 0) (state : C → CoreState) (v w : DiskView) (old new : C) (
     cause_of Memory added are later refuses = tt
     cause_of DiskRead added are later refuses = tt
     cause_of DiskWrite added are later refuses = tt
-    cause_of refusal added are later refuses = inr (added, in_call later refusal added.after (refuses.store_has added.after are.represents are.valid are.reserve are.whole))
+    cause_of refusal added are later refuses = inr (added, in_call later refusal added.after (refuses.store_has added.after are.represents are.valid are.has_free are.whole))
 
     -- a name that can be put has room
     has_place : (after : Store) (root : Root) → CanChangeName name (Put root) after → HasNoRoomForName (room_in (Ingest name) after) → ⊥
@@ -146,7 +146,7 @@ module _ (C : Type 0) (state : C → CoreState) (v w : DiskView) (old new : C) (
         later = run_later C state (events_of run.steps) old new run.ran
 
         abbrev added : HasAdded given v w
-        added = has_added given later (seals_of run.steps) puts.after puts.chain (run.adds.store_has store called.opened.represents (on).valid called.opened.reserve called.opened.whole)
+        added = has_added given later (seals_of run.steps) puts.after puts.chain (run.adds.store_has store called.opened.represents (on).valid (on).has_free called.opened.whole)
 
       stored : (run : PutRun C state name given (Ok tt) old new) → length given ≤ MOST_FILE → HoldsPieces name given (state new) → IsStored name given v w
       stored run few held =
@@ -155,7 +155,7 @@ module _ (C : Type 0) (state : C → CoreState) (v w : DiskView) (old new : C) (
             added = added (Ok tt) run;
             all = record {
               few = few;
-              pieces = held.store_has (with_change name (Put ends.root) (puts (Ok tt) run).after) ends.are.represents ends.are.valid ends.are.reserve;
+              pieces = held.store_has (with_change name (Put ends.root) (puts (Ok tt) run).after) ends.are.represents ends.are.valid ends.are.has_free;
               named = ends.can.named;
               place = has_place (puts (Ok tt) run).after ends.root ends.can;
             };

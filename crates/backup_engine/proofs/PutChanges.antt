@@ -2,7 +2,6 @@
 -- refused.
 use Rattle.std.proofs.Common.{◌≡◌, ◌⊎◌, inl, inr, ℕ, suc, ◌≤◌, List, [], ◌∷◌, ◌++◌, Option, Some, None, Result, Ok, Err, refl, sym, ◌∙◌, ap, subst, arith}
 use Rattle.std.specs.List.{AllByRecursion}
-use Rattle.disk_format.specs.declared.numbers.TheConstants.{RESERVE}
 use Rattle.disk_format.specs.Cells.{Root}
 use Rattle.disk_format.specs.Cells.Change.{Put}
 use Rattle.dd_disk.specs.View.{IsLater, IsDurable}
@@ -16,7 +15,7 @@ use Rattle.actor_parts.specs.StepValue.{StepValue}
 use Rattle.refusals.specs.declared.refusal.Refusal.{Refusal}
 use Rattle.refusals.specs.declared.refusal.Refusal.TheVariants.{Memory, DiskWrite, Damaged}
 use Rattle.store_model.specs.Image.{Store, IsValidFor}
-use Rattle.store_model.specs.Slots.{free_slots, first_free, with_slot}
+use Rattle.store_model.specs.Slots.{HasFree, free_slots, first_free, with_slot}
 use Rattle.store_model.specs.Steps.{StoreChange, SealContainer, ChangeName, FreeContainer, CanChangeName, changed, with_change}
 use Rattle.store_state.specs.declared.tables.Tables.{Tables}
 use Rattle.store_state.specs.Tables.{Represents}
@@ -160,7 +159,7 @@ module _ (C : Type 0) (state : C → CoreState) (name bytes : List ℕ) where
 pub record IsOn (s : Store) (c : CoreState) : Type 0 where
   pub represents : Represents s c.known c.tables
   pub valid : IsValidFor c.disk.size s
-  pub reserve : RESERVE ≤ free_slots s.held
+  pub has_free : HasFree s.held
   pub told : (places : PlaceMap) × (c.known ≡ Some places)
   pub whole : IndexesAll s c.known
   pub runs : c.stop ≡ None
@@ -209,7 +208,7 @@ module _ (s : Store) (old new : CoreState) (on : IsOn s old) (runs : new.stop �
     on = record {
       represents = same_tables s old new effect.tables on.represents;
       valid = subst (λ (size : ℕ). IsValidFor size s) (sym effect.disk.only.later.size_is) on.valid;
-      reserve = on.reserve;
+      has_free = on.has_free;
       told = (on.told.0, effect.tables.index_is ∙ on.told.1);
       whole = subst (IndexesAll s) (sym effect.tables.index_is) on.whole;
       runs = runs;
@@ -218,17 +217,17 @@ module _ (s : Store) (old new : CoreState) (on : IsOn s old) (runs : new.stop �
 
   seals_one : (filled : Contents) (id : ℕ) → Makes (SealContainer id filled.kind filled.segments) old new → SealedTo (SealContainer id filled.kind filled.segments ∷ []) s new
   seals_one filled id made =
-      let can = made.can.store_has s on.represents on.valid on.reserve in
+      let can = made.can.store_has s on.represents on.valid on.has_free in
       record {
         after = changed (SealContainer id filled.kind filled.segments) s;
         chain = (can, refl);
         seals = (tt, tt);
         on = record {
-          represents = made.represents.store_has s on.represents on.valid on.reserve;
-          valid = made.valid.store_has s on.represents on.valid on.reserve;
-          reserve = omega (arith, can.slot, free_with (header_of id filled.kind filled.segments) s.held (omega (arith, can.slot)));
+          represents = made.represents.store_has s on.represents on.valid on.has_free;
+          valid = made.valid.store_has s on.represents on.valid on.has_free;
+          has_free = omega (arith, can.slot, free_with (header_of id filled.kind filled.segments) s.held (omega (arith, can.slot)));
           told = made.tells on.told.0 on.told.1;
-          whole = made.whole.store_has s on.represents on.valid on.reserve on.whole;
+          whole = made.whole.store_has s on.represents on.valid on.has_free on.whole;
           runs = runs;
         };
       }
@@ -289,7 +288,7 @@ module _ (name bytes : List ℕ) where
 pub record AreOf (s : Store) (c : CoreState) : Type 0 where
   pub represents : Represents s c.known c.tables
   pub valid : IsValidFor c.disk.size s
-  pub reserve : RESERVE ≤ free_slots s.held
+  pub has_free : HasFree s.held
   pub whole : IndexesAll s c.known
 
 -- and so they are at the end, but after a write that failed
@@ -319,14 +318,14 @@ unless DiskWrite s c are = tt
 unless refusal s c are = are
 
 are_of : (s : Store) (c : CoreState) → IsOn s c → AreOf s c
-are_of s c on = record { represents = on.represents; valid = on.valid; reserve = on.reserve; whole = on.whole }
+are_of s c on = record { represents = on.represents; valid = on.valid; has_free = on.has_free; whole = on.whole }
 
 module _ (s : Store) (old new : CoreState) (on : IsOn s old) where
   kept : (refusal : Refusal) → KeepsTables old new → IsLater old.disk new.disk → AreUnless refusal s new
   kept refusal tables later = unless refusal s new (record {
     represents = same_tables s old new tables on.represents;
     valid = subst (λ (size : ℕ). IsValidFor size s) (sym later.size_is) on.valid;
-    reserve = on.reserve;
+    has_free = on.has_free;
     whole = subst (IndexesAll s) (sym tables.index_is) on.whole;
   })
 
@@ -355,8 +354,8 @@ module _ (s : Store) (old new : CoreState) (on : IsOn s old) where
       let made = effect.made in
       record {
         root = root;
-        can = (made.can.store_has s on.represents on.valid on.reserve).0;
-        are = record { represents = made.represents.store_has s on.represents on.valid on.reserve; valid = made.valid.store_has s on.represents on.valid on.reserve; reserve = on.reserve; whole = made.whole.store_has s on.represents on.valid on.reserve on.whole };
+        can = (made.can.store_has s on.represents on.valid on.has_free).0;
+        are = record { represents = made.represents.store_has s on.represents on.valid on.has_free; valid = made.valid.store_has s on.represents on.valid on.has_free; has_free = on.has_free; whole = made.whole.store_has s on.represents on.valid on.has_free on.whole };
         durable = effect.durable;
       }
 

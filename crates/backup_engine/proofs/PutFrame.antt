@@ -83,8 +83,8 @@ module _ (first : Store) (base : List ℕ) (t : Store) (old new : CoreState) (on
   by_seal : (filled : Contents) (answer : Result Answer Refusal) → SealsOne filled answer old new → Leaves Slots old.disk new.disk
   by_seal filled answer effect =
       let frame : ChangesSlotAlone slots (first_free t.held) old.disk new.disk =
-      subst (λ (n : ℕ). ChangesSlotAlone n (first_free t.held) old.disk new.disk) tables_slots (effect.moves.frame.store_has t on.represents on.valid on.reserve) in
-      let shut = first_is_shut first base t held.free (some_free t.held (omega (arith, on.reserve))) in
+      subst (λ (n : ℕ). ChangesSlotAlone n (first_free t.held) old.disk new.disk) tables_slots (effect.moves.frame.store_has t on.represents on.valid on.has_free) in
+      let shut = first_is_shut first base t held.free (some_free t.held on.has_free) in
       let left = frame.settled held.settled given known in
       let each = λ (c : List ℕ) (same : SameButSlotOf slots (first_free t.held) given c). slots_sealed slots base given keeps (first_free t.held) c shut same in
       record {

@@ -1,9 +1,9 @@
 -- Over a disk that stands for a map an `ingest` keeps the map.
-use Rattle.std.proofs.Common.{◌≡◌, ◌⊎◌, inl, inr, ℕ, ◌<◌, ◌≤◌, List, length, Option, Some, None, Result, Ok, Err, refl, sym, ◌∙◌, subst}
+use Rattle.std.proofs.Common.{◌≡◌, ◌⊎◌, inl, inr, ℕ, ◌<◌, List, length, Option, Some, None, Result, Ok, Err, refl, sym, ◌∙◌, subst, arith}
 use Rattle.store_model.specs.Files.{Stored}
 use Rattle.std.specs.List.{AllByRecursion}
 use Rattle.base_model.specs.Known.{KnownWith}
-use Rattle.disk_format.specs.declared.numbers.TheConstants.{MOST_FILE, RESERVE}
+use Rattle.disk_format.specs.declared.numbers.TheConstants.{MOST_FILE}
 use Rattle.dd_disk.specs.View.{DiskView, CrashLeaves}
 use Rattle.dd_disk.proofs.Moves.{stands_content}
 use Rattle.dd_io.specs.Flow.{SourceView, SinkView}
@@ -14,7 +14,7 @@ use Rattle.reply_text.specs.declared.ending.Ending.TheVariants.{Source, Sink, Re
 use Rattle.reply_text.specs.Text.{stored_line}
 use Rattle.store_model.specs.Collisions.{HasNoCollisions, ByteSet, IsIn, IsOf}
 use Rattle.store_model.specs.Image.{Store, Encodes, IsValidFor}
-use Rattle.store_model.specs.Slots.{free_slots}
+use Rattle.store_model.specs.Slots.{HasFree}
 use Rattle.store_model.specs.Standing.{IsStoreOf, IsSegmentOf}
 use Rattle.store_model.specs.Collisions as collisions
 use Rattle.disk_format.specs.Cells.Change.{Put}
@@ -57,12 +57,12 @@ by_write refusal = inr (λ is. subst IsWrite (sym is) tt)
 
 -- what the store of a map refuses the map refuses, but for a clash
 refuses_by : (name given : List ℕ) (m : Stored) (content : Option (List ℕ)) (disk : DiskView) (t : Store) (c : CoreState) (refusal : Refusal) → Represents t c.known c.tables → room_in (Ingest name) t ≡ room_of (Ingest name) m t
-    → IsValidFor c.disk.size t → RESERVE ≤ free_slots t.held → IndexesAll t c.known → IsRight given m content refusal → IsPutRefusal name given disk c refusal → RefusesBut name given (room_of (Ingest name) m t) refusal
-refuses_by name given m content disk t c Memory represents same valid reserve whole right is = tt
-refuses_by name given m content disk t c DiskRead represents same valid reserve whole right is = tt
-refuses_by name given m content disk t c DiskWrite represents same valid reserve whole right is = tt
-refuses_by name given m content disk t c (Clash key at) represents same valid reserve whole right is = tt
-refuses_by name given m content disk t c refusal represents same valid reserve whole right is = elim (is.store_has t represents valid reserve whole) [
+    → IsValidFor c.disk.size t → HasFree t.held → IndexesAll t c.known → IsRight given m content refusal → IsPutRefusal name given disk c refusal → RefusesBut name given (room_of (Ingest name) m t) refusal
+refuses_by name given m content disk t c Memory represents same valid free whole right is = tt
+refuses_by name given m content disk t c DiskRead represents same valid free whole right is = tt
+refuses_by name given m content disk t c DiskWrite represents same valid free whole right is = tt
+refuses_by name given m content disk t c (Clash key at) represents same valid free whole right is = tt
+refuses_by name given m content disk t c refusal represents same valid free whole right is = elim (is.store_has t represents valid free whole) [
   | inl refuses ↦ subst (λ (room : Room). RefusesIngest name given room refusal) same refuses
   | inr unlike ↦ not_unlike name given m content t (ReadsSince disk c.disk) (room_of (Ingest name) m t) refusal right unlike
 ]
@@ -148,7 +148,7 @@ module _ (C : Type 0) (state : C → CoreState) (v w : DiskView) (old new : C) (
       let left : List ℕ = end.is_at.stands.known.0 in
       let here = end.is_at.stands.known.1 in
       let holds = (stands_content (collisions.Stands S end.store (stored_after ran.steps m).files) (state new).disk end.is_at.stands left here).holds in
-      let once : AddsOnce given (seals_of ran.steps) first = ran.adds.store_has first start.is_at.represents start.is_at.valid start.stands.holds.reserve start.whole in
+      let once : AddsOnce given (seals_of ran.steps) first = ran.adds.store_has first start.is_at.represents start.is_at.valid (omega (arith, start.is_at.reserve)) start.whole in
       subst (λ (s : Store). AddsTo given (put_in name given put) s w.content) (store_once image first store start.stands.holds.right right)
       (adds_to name given ran.steps put first end.store w.content ran.each ran.ends (subst (λ (changes : List StoreChange). ChangesTo changes first end.store) (changes_told ran.steps end.changes others end.changes_are) end.chain) once (left, was.last.only.content_is ∙ here, holds.right))
 
@@ -174,7 +174,7 @@ module _ (C : Type 0) (state : C → CoreState) (v w : DiskView) (old new : C) (
         )
 
     -- what is so of that store
-    store_left : (P : Store → Type 0) → ¬ (refusal ≡ DiskWrite) → ((t : Store) (left : List ℕ) → IsAt (IsIn among) t m (state new) → IndexesAll t (state new).known → room_in (Ingest name) t ≡ room_of (Ingest name) m t → RESERVE ≤ free_slots t.held → P t)
+    store_left : (P : Store → Type 0) → ¬ (refusal ≡ DiskWrite) → ((t : Store) (left : List ℕ) → IsAt (IsIn among) t m (state new) → IndexesAll t (state new).known → room_in (Ingest name) t ≡ room_of (Ingest name) m t → HasFree t.held → P t)
         → IsLeftWith m w.content P
     store_left P other each =
         let end = at_end other in
@@ -183,7 +183,7 @@ module _ (C : Type 0) (state : C → CoreState) (v w : DiskView) (old new : C) (
         let here = at.stands.known.1 in
         let holds : IsStoreOf end.0 m.files left = (stands_content (collisions.Stands (IsIn among) end.0 m.files) (state new).disk at.stands left here).holds in
         let room = same_room end.0 m left holds (last_at (IsIn among) end.0 m (state new) at) name in
-        (end.0, (left, was.last.only.content_is ∙ here, holds), each end.0 left at end.1.1 room (at.invariant left here).reserve_holds)
+        (end.0, (left, was.last.only.content_is ∙ here, holds), at.reserve, each end.0 left at end.1.1 room (at.invariant left here).has_free)
 
     right : ¬ (refusal ≡ DiskWrite) → IsRight given m w.content refusal
     right other = subst (λ (content : Option (List ℕ)). IsRight given m content refusal) (sym was.last.only.content_is) (runs_on other).right
@@ -193,7 +193,7 @@ module _ (C : Type 0) (state : C → CoreState) (v w : DiskView) (old new : C) (
       | inl write ↦ subst (λ (r : Refusal). EndsBy (Ingest name) given m w.content (Some (Refused r))) (sym write) tt
       | inr other ↦ ends_by name given m w.content refusal (right other)
           (store_left (λ store. RefusesBut name given (room_of (Ingest name) m store) refusal) other
-          (λ t left at whole room reserve. refuses_by name given m w.content (state old).disk t (state new) refusal at.represents room at.valid reserve whole (right other) why))
+          (λ t left at whole room free. refuses_by name given m w.content (state old).disk t (state new) refusal at.represents room at.valid free whole (right other) why))
     ]
 
     not_done : (sink : SinkView) → IsPutRefusal name given (state old).disk (state new) refusal → KeepsMap (IsIn among) (Ingest name) given (Some (Refused refusal)) m v w sink sink
@@ -218,7 +218,7 @@ module _ (C : Type 0) (state : C → CoreState) (v w : DiskView) (old new : C) (
         adds C state v w old new was name given (Err Memory) ran among m image told distinct all is (runs_on C state v w old new was name given Memory ran among m image told distinct all is memory_only).runs
 
     long_left : MOST_FILE < length given → IsLeftWith m w.content (λ store. MOST_FILE < length given)
-    long_left long = store_left C state v w old new was name given Memory ran among m image told distinct all is (λ store. MOST_FILE < length given) memory_only (λ t left at whole room reserve. long)
+    long_left long = store_left C state v w old new was name given Memory ran among m image told distinct all is (λ store. MOST_FILE < length given) memory_only (λ t left at whole room free. long)
 
     stopped_keeps : (ending : Ending) → IsSourceFault source source_now ending → (ending ≡ Refused TooLong → MOST_FILE < length given) → KeepsMap (IsIn among) (Ingest name) given (Some ending) m v w sink sink
     stopped_keeps Source cause long =

@@ -26,7 +26,7 @@ module _ (C : Type 0) (state : C → CoreState) (v w : DiskView) (old new : C) (
   opened_on = record {
     represents = called.opened.represents;
     valid = subst (λ (size : ℕ). IsValidFor size store) (sym called.first.only.later.size_is) called.opened.valid;
-    reserve = called.opened.reserve;
+    has_free = omega (arith, called.opened.reserve);
     told = called.opened.told;
     whole = called.opened.whole;
     runs = called.opened.stop_is;

@@ -40,7 +40,7 @@ use Rattle.backup_engine.specs.Frame.{KeepsAll, LinesKeepOthers}
 use Rattle.backup_engine.specs.Lines.{RunsByMachine, RunsEachMap, RunsNone}
 use Rattle.backup_engine.specs.Promise.{LeavesMeanwhile}
 use Rattle.backup_engine.specs.Script as script
-use Rattle.backup_engine.specs.Script.{CountsLines, FailsAlone, HasLast, IsNotReopened, IsRunRefusal, IsScriptEnd, KeepsScript, WroteReplies}
+use Rattle.backup_engine.specs.Script.{CountsLines, FailsAlone, IsRunRefusal, IsScriptEnd, KeepsScript, WroteReplies}
 use Rattle.backup_engine.specs.ScriptRuns.{EndsReopening, ScriptRun}
 use Rattle.backup_engine.specs.TopCall.{ending_in}
 use Rattle.backup_engine.proofs.WholeCall.{leaves_more, leaves_of}
@@ -226,7 +226,7 @@ module _ (D : Type 0) (view : D → DiskView) (C : Type 0) (state : C → CoreSt
     stands = is_on base before r.core called.opened called.durable called.first told
 
     kept_all : (image : List ℕ) → KeepsOver run.rs stands.store base image → KeepsAll run.rs base image
-    kept_all image written = inr (record { store = stands.store; right = stands.encodes; reserve = stands.on.reserve; written = written })
+    kept_all image written = inr (record { store = stands.store; right = stands.encodes; reserve = stands.reserve; written = written })
 
     abbrev kept_lines : KnownWith last.content (KeepsOver run.rs stands.store base) × CrashLeaves (KeepsOver run.rs stands.store base) found last
     kept_lines = keep run.rs stands.store base r s unswept stands.on stands.told stands.encodes run.runs

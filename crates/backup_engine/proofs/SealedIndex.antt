@@ -63,10 +63,10 @@ module _ (old new : CoreState) (kind : Kind) (segments : List Segment) (made : M
   header = header_of (next_id old) kind segments
 
   can : CanSeal (next_id old) kind segments store
-  can = made.can.store_has store indexed.represents indexed.valid indexed.reserve_holds
+  can = made.can.store_has store indexed.represents indexed.valid indexed.has_free
 
   represents : Represents after new.known new.tables
-  represents = made.represents.store_has store indexed.represents indexed.valid indexed.reserve_holds
+  represents = made.represents.store_has store indexed.represents indexed.valid indexed.has_free
 
   pub now_told : (now : PlaceMap) × (new.known ≡ Some now)
   now_told = made.tells places known
@@ -97,7 +97,7 @@ module _ (old new : CoreState) (kind : Kind) (segments : List Segment) (made : M
   -- the id that was given out is the last of each store
   pub sealed_ids : new.tables.held.last_id ≡ next_id old → OfEach new.disk.size new.known new.tables (λ t. new.tables.held.last_id ≡ last_id t.held)
   sealed_ids is = record {
-    store_has = λ t other valid reserve.
+    store_has = λ t other valid free.
         is ∙ sym (last_sealed (next_id old) kind segments store can)
         ∙ same_last after.held t.held (sym represents.slots_hold.ids_are ∙ other.slots_hold.ids_are);
   }

@@ -30,7 +30,7 @@ given_told (Some bytes) all is = cc
 module _ (C : Type 0) (state : C → CoreState) (name : List ℕ) (source source_now : SourceView) where
   -- for want of memory nothing was asked
   pub nothing_put : (given : List ℕ) (c : C) → PutRun C state name given (Err Memory) c c
-  nothing_put given c = record { steps = []; ran = refl; each = tt; ends = refl; whole = tt; adds = record { store_has = λ store represents valid reserve whole. tt } }
+  nothing_put given c = record { steps = []; ran = refl; each = tt; ends = refl; whole = tt; adds = record { store_has = λ store represents valid free whole. tt } }
 
   heard_sent : (reply : List ℕ) (result : Result Unit Ending) (sink sink_now : SinkView) → source_now.faults ≡ source.faults → Sent reply result sink sink_now → IsHeard result source source_now
   heard_sent reply (Ok u) sink sink_now same sent = same

@@ -95,14 +95,14 @@ module _ (name file : List ℕ) (first : DiskView) (old new : CoreState) (later 
   unlike_refused refusals.DiskWrite unlike = tt
   unlike_refused refusals.Memory unlike = tt
   unlike_refused (refusals.Clash key (Length offered held)) unlike = record {
-    store_has = λ store represents valid reserve whole. let is = clash_by_length store represents key offered held unlike in inl (is.0, is.1, unlike.refused.3);
+    store_has = λ store represents valid free whole. let is = clash_by_length store represents key offered held unlike in inl (is.0, is.1, unlike.refused.3);
   }
   unlike_refused (refusals.Clash key (Byte at mine other)) unlike = record {
-    store_has = λ store represents valid reserve whole.
+    store_has = λ store represents valid free whole.
         inr (unlike_node store represents (refusals.Clash key (Byte at mine other)) unlike unlike.refused.0 unlike.refused.1 unlike.refused.2);
   }
   unlike_refused (refusals.Corrupt slot offset count want got) unlike = record {
-    store_has = λ store represents valid reserve whole.
+    store_has = λ store represents valid free whole.
         inr (unlike_node store represents (refusals.Corrupt slot offset count want got) unlike unlike.refused.0 unlike.refused.1 unlike.refused.2);
   }
   unlike_refused refusal unlike = absurd unlike.refused.2

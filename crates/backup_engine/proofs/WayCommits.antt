@@ -102,7 +102,7 @@ module _ (C : Type 0) (state : C → CoreState) (files : List ℕ → Type 0) (o
   index_put made store represents key place found =
       let runs = w.indexed in
       let told = made.tells w.places w.known in
-      let put = made.represents.store_has runs.store runs.represents runs.valid runs.reserve_holds in
+      let put = made.represents.store_has runs.store runs.represents runs.valid runs.has_free in
       let has = made.keeps_keys w.places w.known told.0 told.1 key (place, found) in
       represents.index_is_newest told.0 told.1 key has.0 has.1 ∙ sym (put.index_is_newest told.0 told.1 key has.0 has.1) ∙ runs.represents.index_is_newest w.places w.known key place found
 
@@ -111,7 +111,7 @@ module _ (C : Type 0) (state : C → CoreState) (files : List ℕ → Type 0) (o
   way_commits answer step =
       let made = (commit_made (Ok answer) step).made.effect.made in (
         with_last C state files opens start old w name file (Ok tt) (commit (Ok answer)) new is step (commit_put (Ok answer)) refl tt whole,
-        record { store_has = λ store represents valid reserve. has_pieces store (index_put made store represents) },
+        record { store_has = λ store represents valid free. has_pieces store (index_put made store represents) },
       )
 
   -- ---- why it is refused
@@ -158,7 +158,7 @@ module _ (C : Type 0) (state : C → CoreState) (files : List ℕ → Type 0) (o
   commit_cause refusals.DiskRead same cause = tt
   commit_cause refusals.DiskWrite same cause = tt
   commit_cause refusals.Numbers same cause = record {
-    store_has = λ store represents valid reserve whole.
+    store_has = λ store represents valid free whole.
         let may = cause.0.may_name in
         inl (inr (
           record { few = few; pieces = pieces same store represents; named = may.named; place = has_place same store represents may.room },
@@ -166,14 +166,14 @@ module _ (C : Type 0) (state : C → CoreState) (files : List ℕ → Type 0) (o
         ));
   }
   commit_cause refusals.BadName same cause = record {
-    store_has = λ store represents valid reserve whole. inl (few, pieces same store represents, cause.1);
+    store_has = λ store represents valid free whole. inl (few, pieces same store represents, cause.1);
   }
   commit_cause refusals.TooMany same cause = record {
-    store_has = λ store represents valid reserve whole. inl (few, pieces same store represents, cause.1.0, no_place same store represents cause.1.1);
+    store_has = λ store represents valid free whole. inl (few, pieces same store represents, cause.1.0, no_place same store represents cause.1.1);
   }
   commit_cause (refusals.WrongPart kind) same cause = absurd (no_other kinds.Writing (part_of (state old).parts 0) (refusals.WrongPart kind) (ap kind_of w.writing) cause)
   commit_cause (refusals.Unpinned key) same cause = record {
-    store_has = λ store represents valid reserve whole.
+    store_has = λ store represents valid free whole.
         inl (root_twins key (subst (λ (p : PinMap). IsNotStored p (root_of file) key) (same_pins cause.0 w.pins (sym cause.1 ∙ w.writing)) cause.3));
   }
   commit_cause refusal same cause = absurd cause.1

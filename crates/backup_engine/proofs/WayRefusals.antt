@@ -69,7 +69,7 @@ module _ (C : Type 0) (state : C → CoreState) (files : List ℕ → Type 0) (o
     claim_cause refusals.DiskRead same kept cause = tt
     claim_cause refusals.DiskWrite same kept cause = tt
     claim_cause (refusals.WrongPart kind) same kept cause = absurd (no_other kinds.Writing (part_of (state old).parts 0) (refusals.WrongPart kind) (ap kind_of w.writing) cause)
-    claim_cause (refusals.Unpinned key) same kept cause = record { store_has = λ store represents valid reserve whole. inl (child_unpinned key cause.0 cause.1 cause.2) }
+    claim_cause (refusals.Unpinned key) same kept cause = record { store_has = λ store represents valid free whole. inl (child_unpinned key cause.0 cause.1 cause.2) }
     claim_cause (refusals.Damaged at why) same kept cause = absurd (let other = sym w.known ∙ cause.1.0 in cc)
     claim_cause refusal same kept cause =
         unlike_refused name file (state start).disk (state old) (state new) (way_later C state files opens start old w) same w.places w.known (kept.index_is ∙ w.known) seg (piece file is) refusal cause.1
@@ -109,20 +109,20 @@ module _ (C : Type 0) (state : C → CoreState) (files : List ℕ → Type 0) (o
       seal_cause refusals.DiskRead kept cause = tt
       seal_cause refusals.DiskWrite kept cause = tt
       seal_cause (refusals.WrongPart kind) kept cause = absurd (no_other kinds.Writing (part_of (state old).parts 0) (refusals.WrongPart kind) (ap kind_of w.writing) cause)
-      seal_cause (refusals.Unpinned key) kept cause = record { store_has = λ store represents valid reserve whole. inl (one_unpinned key cause.0 cause.1 cause.2) }
+      seal_cause (refusals.Unpinned key) kept cause = record { store_has = λ store represents valid free whole. inl (one_unpinned key cause.0 cause.1 cause.2) }
       seal_cause (refusals.Damaged at why) kept cause = absurd (let other = sym w.known ∙ cause.2 in cc)
       seal_cause (refusals.Full free) kept cause = record {
-        store_has = λ store represents valid reserve whole.
+        store_has = λ store represents valid free whole.
             let before = kept_represents (state old) (state new) kept store represents in
-            let so = cause.1.store_has store before (subst (λ (n : ℕ). IsValidFor n store) size_is valid) reserve in
+            let so = cause.1.store_has store before (subst (λ (n : ℕ). IsValidFor n store) size_is valid) free in
             inl (lacks_one store (subst (IndexesAll store) kept.index_is whole), so.0, so.1);
       }
       seal_cause refusals.Numbers kept cause = record {
-        store_has = λ store represents valid reserve whole.
+        store_has = λ store represents valid free whole.
             let before = kept_represents (state old) (state new) kept store represents in
             let sized = subst (λ (n : ℕ). IsValidFor n store) size_is valid in
-            let so = cause.1.0.store_has store before sized reserve in
-            inl (inl (lacks_one store (subst (IndexesAll store) kept.index_is whole), so, omega (arith, last_within store.held valid.headers, w.ids.store_has store before sized reserve, cause.1.1)));
+            let so = cause.1.0.store_has store before sized free in
+            inl (inl (lacks_one store (subst (IndexesAll store) kept.index_is whole), so, omega (arith, last_within store.held valid.headers, w.ids.store_has store before sized free, cause.1.1)));
       }
       seal_cause refusal kept cause = absurd (none_unlike refusal cause.2)
 

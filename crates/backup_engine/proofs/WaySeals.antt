@@ -69,22 +69,22 @@ module _ (C : Type 0) (state : C → CoreState) (files : List ℕ → Type 0) (o
       -- its segments are pieces of the file that were not held
       adds : (file : List ℕ) → files file → AddsFromEach file (SealContainer id filled.kind filled.segments ∷ []) (state old) (state new)
       adds file is = record {
-        store_has = λ s represents valid reserve whole.
-            let can = made.can.store_has s represents valid reserve in
+        store_has = λ s represents valid free whole.
+            let can = made.can.store_has s represents valid free in
             record {
               after = changed (SealContainer id filled.kind filled.segments) s;
               chain = (can, refl);
               once = (
-                id_is ∙ next_of (w.ids.store_has s represents valid reserve),
+                id_is ∙ next_of (w.ids.store_has s represents valid free),
                 all_both (λ x. HasPieceOf file (of_kind filled.kind x)) (λ x. newest 0 s.held (segment_key filled.kind x) ≡ None) filled.segments (pieces file is)
                     (all_then (λ x. finite.get w.places (segment_key filled.kind x) ≡ None) (λ x. newest 0 s.held (segment_key filled.kind x) ≡ None) filled.segments
                     (λ x none. lacks s w.places (segment_key filled.kind x) (whole w.places w.known) none) fresh),
                 tt,
               );
-              represents = made.represents.store_has s represents valid reserve;
-              valid = made.valid.store_has s represents valid reserve;
-              reserve = omega (arith, can.slot, free_sealed id filled.kind filled.segments s can);
-              whole = made.whole.store_has s represents valid reserve whole;
+              represents = made.represents.store_has s represents valid free;
+              valid = made.valid.store_has s represents valid free;
+              has_free = omega (arith, can.slot, free_sealed id filled.kind filled.segments s can);
+              whole = made.whole.store_has s represents valid free whole;
             };
       }
 

@@ -1,7 +1,6 @@
 -- Ways of storing a file: they begin, go on by steps that were done, and end.
-use Rattle.std.proofs.Common.{◌≡◌, ℕ, ◌≤◌, List, [], ◌∷◌, ◌++◌, Some, None, Result, Ok, Err, refl, sym, ◌∙◌, subst}
+use Rattle.std.proofs.Common.{◌≡◌, ℕ, List, [], ◌∷◌, ◌++◌, Some, None, Result, Ok, Err, refl, sym, ◌∙◌, subst}
 use Rattle.std.specs.FinMap as finite
-use Rattle.disk_format.specs.declared.numbers.TheConstants.{RESERVE}
 use Rattle.dd_disk.specs.View.{IsLater}
 use Rattle.dd_disk.proofs.Later.{later_here, later_on}
 use Rattle.container_meta.specs.declared.kind.Kind.{Kind}
@@ -16,7 +15,7 @@ use Rattle.actor_parts.specs.StepValue.{StepValue, IsStep}
 use Rattle.refusals.specs.declared.refusal.Refusal.{Refusal}
 use Rattle.refusals.specs.declared.refusal.Refusal.TheVariants.{Memory}
 use Rattle.store_model.specs.Image.{Store, IsValidFor}
-use Rattle.store_model.specs.Slots.{free_slots, last_id}
+use Rattle.store_model.specs.Slots.{HasFree, last_id}
 use Rattle.store_model.specs.Steps.{StoreChange}
 use Rattle.store_state.specs.Tables.{Represents, Runs, OfEach}
 use Rattle.store_core.specs.Core.{IndexesAll, OfEachIndexed, CoreStep}
@@ -46,7 +45,7 @@ pub record AddsBy (file : List ℕ) (changes : List StoreChange) (s : Store) (c 
   pub once : AddsOnce file changes s
   pub represents : Represents after c.known c.tables
   pub valid : IsValidFor c.disk.size after
-  pub reserve : RESERVE ≤ free_slots after.held
+  pub has_free : HasFree after.held
   pub whole : IndexesAll after c.known
 
 -- so it is from each store that the tables represented, each of whose keys the index had
@@ -69,13 +68,13 @@ pub record Stays (all : List KindSegment) (opens : Kind → List Segment) (c : C
 -- where nothing changes nothing is added
 pub rests : (file : List ℕ) (old new : CoreState) → Rested old new → AddsFromEach file [] old new
 rests file old new rested = record {
-  store_has = λ s represents valid reserve whole. record {
+  store_has = λ s represents valid free whole. record {
     after = s;
     chain = refl;
     once = tt;
     represents = represents_still old new rested.kept s represents;
     valid = subst (λ (n : ℕ). IsValidFor n s) (sym rested.size_is) valid;
-    reserve = reserve;
+    has_free = free;
     whole = subst (IndexesAll s) (sym rested.kept.index_is) whole;
   };
 }
@@ -84,14 +83,14 @@ seals_more : (file : List ℕ) (steps : List FileEvent) (f : FileEvent) (s : Sto
     → SealsSo file (steps ++ f ∷ []) s new
 seals_more file steps f s old new before adds =
     let more : List StoreChange = seal_by f.event.step f.event.answer in
-    let next = adds.store_has before.after before.represents before.valid before.reserve before.whole in
+    let next = adds.store_has before.after before.represents before.valid before.has_free before.whole in
     record {
       after = next.after;
       chain = subst (λ (l : List StoreChange). ChangesTo l s next.after) (sym (seals_on steps f)) (chain_on (seals_of steps) more s before.after next.after before.chain next.chain);
       once = subst (λ (l : List StoreChange). AddsOnce file l s) (sym (seals_on steps f)) (adds_on file (seals_of steps) more s before.after before.chain before.once next.once);
       represents = next.represents;
       valid = next.valid;
-      reserve = next.reserve;
+      has_free = next.has_free;
       whole = next.whole;
     }
 
@@ -111,8 +110,8 @@ module _ (C : Type 0) (state : C → CoreState) (files : List ℕ → Type 0) wh
         each = λ name file is. (put_step name file asked.Begin (Ok answer) buf [] tt tt, tt);
         done = ((tt, tt), tt);
         seals = λ file is. record {
-          store_has = λ s represents valid reserve whole.
-              seals_more file [] f s (state old) (state new) (record { after = s; chain = refl; once = tt; represents = represents; valid = valid; reserve = reserve; whole = whole }) (rests file (state old) (state new) rested);
+          store_has = λ s represents valid free whole.
+              seals_more file [] f s (state old) (state new) (record { after = s; chain = refl; once = tt; represents = represents; valid = valid; has_free = free; whole = whole }) (rests file (state old) (state new) rested);
         };
         up = up_of (state new) runs running;
         runs = runs;
@@ -147,8 +146,8 @@ module _ (C : Type 0) (state : C → CoreState) (files : List ℕ → Type 0) wh
           each = λ name file is. all_on (IsPutStep name file) w.steps (f ∷ []) (w.each name file is) (on.put name file is, tt);
           done = all_on (λ (g : FileEvent). IsDoneBefore g.event) w.steps (f ∷ []) w.done (on.done, tt);
           seals = λ file is. record {
-            store_has = λ s represents valid reserve whole.
-                seals_more file w.steps f s (state old) (state new) ((w.seals file is).store_has s represents valid reserve whole) (on.adds file is);
+            store_has = λ s represents valid free whole.
+                seals_more file w.steps f s (state old) (state new) ((w.seals file is).store_has s represents valid free whole) (on.adds file is);
           };
           up = stays.up;
           runs = stays.runs;
@@ -190,7 +189,7 @@ module _ (C : Type 0) (state : C → CoreState) (files : List ℕ → Type 0) wh
     -- ---- the end
 
     adds_all : (file : List ℕ) → files file → OfEachIndexed (state start).disk.size (state start).known (state start).tables (λ s. AddsOnce file (seals_of w.steps) s)
-    adds_all file is = record { store_has = λ s represents valid reserve whole. ((w.seals file is).store_has s represents valid reserve whole).once }
+    adds_all file is = record { store_has = λ s represents valid free whole. ((w.seals file is).store_has s represents valid free whole).once }
 
     pub way_stops : (name file : List ℕ) → files file → PutRun C state name file (Err Memory) start old
     way_stops name file is = record {

@@ -15,6 +15,7 @@ use Rattle.store_core.specs.State.{CoreState}
 use Rattle.store_model.specs.Collisions.{ByteSet, IsIn, IsOf, OpensAs}
 use Rattle.store_model.specs.Files.{Stored}
 use Rattle.store_model.specs.Image.{Store, Encodes}
+use Rattle.disk_format.specs.declared.numbers.TheConstants.{RESERVE}
 use Rattle.store_model.specs.Slots.{free_slots}
 use Rattle.store_model.proofs.FreedFiles.{opens_of}
 use Rattle.store_model.proofs.Once.{store_once}
@@ -26,7 +27,7 @@ use Rattle.backup_engine.proofs.NotDone.{not_sink}
 use Rattle.backup_engine.proofs.Reading.{reads_leave, wrote_nothing}
 use Rattle.backup_engine.proofs.WholeCall.{leaves_more}
 
--- ---- images of stores that can run can be opened
+-- ---- images that have two closed slots can be opened
 
 more_left : (Is Are : Stored → List ℕ → Type 0) → ((m : Stored) (c : List ℕ) → Is m c → Are m c) → (command : CommandLine) (given : List ℕ) (m : Stored) (ending : Option Ending) (c : List ℕ)
     → IsLeftBy Is command given m ending c → IsLeftBy Are command given m ending c
@@ -49,30 +50,16 @@ stays_left Is command given m e c not is = is
 
 -- ---- two slots or more were closed
 
--- so that the content can run, if it can be opened
+-- so the content is of the map, if it can be opened as that
 abbrev pub RunsIfOpened : DiskView → Type 0
 RunsIfOpened v = (among : ByteSet) (m : Stored) (image : List ℕ) → v.content ≡ Some image → OpensAs (IsIn among) m image → IsOf (IsIn among) m image
 
 pub read_runs : (v : DiskView) (c : CoreState) → IsReadFrom v c → RunsIfOpened v
 read_runs v c read among m image told opens =
     let new = read.opened in
-    let same : new.store ≡ opens.store = store_once image new.store opens.store (shown_content v c.disk (λ bytes. Encodes bytes new.store) image new.right told) opens.holds.right in (
-      opens.store,
-      (
-        record {
-          holds = record {
-            right = opens.holds.right;
-            past = opens.holds.past;
-            copies = opens.holds.copies;
-            nodes = opens.holds.nodes;
-            files_are = opens.holds.files_are;
-            reserve = subst (λ (store : Store). 2 ≤ free_slots store.held) same new.reserve;
-          };
-          among = opens.among;
-        },
-        opens.last_is,
-      ),
-    )
+    let same : new.store ≡ opens.store =
+    store_once image new.store opens.store (shown_content v c.disk (λ bytes. Encodes bytes new.store) image new.right told) opens.stands.holds.right in
+    record { store = opens.store; stands = opens.stands; reserve = subst (λ (store : Store). RESERVE ≤ free_slots store.held) same new.reserve; last_is = opens.last_is }
 
 module _ (command : CommandLine) (given : List ℕ) (ending : Option Ending) (sink sink_now : SinkView) where
   module _ (v w : DiskView) (runs : RunsIfOpened v) (keeps : KeepsEachMap command given ending v w sink sink_now) where
@@ -118,7 +105,7 @@ leaves_on P v mid w later first second = record {
   ];
 }
 
--- the content that is left stands for the map, and can run
+-- the content that is left is of the map, with two closed slots
 pub made_stands : (v mid : DiskView) (made : RoomMade v mid) (old : List ℕ) → v.content ≡ Some old → (among : ByteSet) (m : Stored) → OpensAs (IsIn among) m old → KnownWith mid.content (IsOf (IsIn among) m)
 made_stands v mid made old told among m opens =
     let now = made.content old told in
@@ -170,7 +157,7 @@ fails_not_full store refusal not opens = opens
 
 pub unread_fails : (v w : DiskView) (refusal : Refusal) → IsNotRead refusal v w → IsNotFull refusal → (old : List ℕ) → v.content ≡ Some old → (S : List ℕ → Type 0) (m : Stored) → OpensAs S m old → IsTrue (fails refusal)
 unread_fails v w refusal is not old told S m opens =
-    fails_not_full opens.store refusal not (shown_content v w (IsGivenUp refusal) old is.given_up told opens.store opens.holds.right)
+    fails_not_full opens.store refusal not (shown_content v w (IsGivenUp refusal) old is.given_up told opens.store opens.stands.holds.right)
 
 -- no room was made
 module _ (refusal : Refusal) (v w : DiskView) where

@@ -33,7 +33,7 @@ pub record RunsBy (Is : Stored → List ℕ → Type 0) (rs : List Replied) (m :
   pub moments : List ℕ
   pub through : HoldsThrough Is moments rs (opened m image disk.faults) last run disk disk_now
 
--- the same, of images of stores that can run
+-- the same, of images with two closed slots or more
 abbrev pub RunsByMachine : (List ℕ → Type 0) → List Replied → Stored → List ℕ → DiskView → DiskView → Type 0
 RunsByMachine S rs m image disk disk_now = RunsBy (IsOf S) rs m image disk disk_now
 

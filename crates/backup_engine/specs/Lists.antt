@@ -144,8 +144,8 @@ abbrev pub LeavesPossible : (D : Type 0) → (D → DiskView) → Type 0
 LeavesPossible D view = (among : ByteSet) (m : Stored) (calls : List Call) (old new : D) → BeginsOfMap (IsIn among) calls m (view old)
     → CallRun D view calls old new → Stands (Possible (IsIn among) calls m) (view new)
 
--- A `format` opens no store, and so makes no room. Over one it is not done, and changes nothing; and where the store can run, it answers
--- by the map.
+-- A `format` opens no store, and so makes no room. Over one it is not done, and changes nothing; and where two slots or more are closed,
+-- it answers by the map.
 pub record FormatsNothing (S : List ℕ → Type 0) (slots : ℕ) (c : Call) (m : Stored) (disk disk_now : DiskView) : Type 0 where
   pub nothing : NothingWritten c.ending disk disk_now
   pub crash : (image : List ℕ) → SinceStart disk disk_now image → disk.images image

@@ -16,7 +16,8 @@ use Rattle.store_model.specs.Collisions.{HasNoCollisions, ByteSet, IsIn, IsOf}
 use Rattle.store_model.specs.Files.{Files, Stored}
 use Rattle.store_model.specs.Image.{Store, Encodes}
 use Rattle.store_model.specs.Pieces.{Node, IsPieceOf}
-use Rattle.store_model.specs.Slots.{Copy, newest}
+use Rattle.disk_format.specs.declared.numbers.TheConstants.{RESERVE}
+use Rattle.store_model.specs.Slots.{Copy, free_slots, newest}
 use Rattle.store_model.specs.Standing.{IsStoreOf, IsSegmentOf, file_listing}
 use Rattle.store_model.specs.Trees.{bytes_at, node_key, root_of}
 use Rattle.store_state.specs.Comparing.{FirstDifference}
@@ -35,9 +36,10 @@ MayChange (Some Sink) = Unit {0}
 MayChange (Some (Refused DiskWrite)) = Unit {0}
 MayChange (Some ending) = ⊥
 
--- the files are those of a store that is left, of which P holds
+-- the files are those of a store that is left, with two closed slots or more, of which P holds
 abbrev pub IsLeftWith : Stored → Option (List ℕ) → (Store → Type 0) → Type 0
-IsLeftWith m content P = (store : Store) × KnownWith content (IsStoreOf store m.files) × P store
+IsLeftWith m content P =
+    (store : Store) × KnownWith content (IsStoreOf store m.files) × (RESERVE ≤ free_slots store.held) × P store
 
 -- how the bytes that are offered and those that are held differ: by their lengths, or by the first byte that differs
 abbrev pub DifferBy : Difference → List ℕ → List ℕ → Type 0
@@ -68,6 +70,7 @@ EndsBy (Delete name) given m content (Some (Refused DiskWrite)) = Unit {0}
 EndsBy (Collect percent) given m content (Some (Refused DiskWrite)) = Unit {0}
 EndsBy (Ingest name) given m content (Some (Refused (Clash key at))) =
     (store : Store) × KnownWith content (λ image. IsStoreOf store m.files image × HoldsTwin given store image key at)
+    × (RESERVE ≤ free_slots store.held)
 EndsBy command given m content (Some (Refused (Clash key at))) = ⊥
 EndsBy command given m content (Some (Refused refusal)) =
     IsLeftWith m content (λ store. Refuses command given (room_of command m store) refusal)
@@ -123,7 +126,7 @@ IsLeftBy Is command given m (Some ending) image = Is m image
 abbrev pub MayBeBetween : (Stored → List ℕ → Type 0) → CommandLine → List ℕ → Stored → Option Ending → List ℕ → Type 0
 MayBeBetween Is command given m ending image = Is m image ⊎ (MayChange ending × CanBeDone command given m × Is (map_after command given m) image)
 
--- the same, of images of stores that can run
+-- the same, of images with two closed slots or more
 abbrev pub IsLeftAs : (List ℕ → Type 0) → CommandLine → List ℕ → Stored → Option Ending → List ℕ → Type 0
 IsLeftAs S command given m ending image = IsLeftBy (IsOf S) command given m ending image
 
@@ -150,7 +153,7 @@ pub record NothingWritten (ending : Option Ending) (disk disk_now : DiskView) : 
   pub content : disk_now.content ≡ disk.content
   pub images : (c : List ℕ) → disk_now.images c → disk.images c
 
--- Over a content that is a store of the map m, which can run, the command answers by the map, and leaves it as it was or as it is after
+-- Over a content that is a store of the map m, with two closed slots or more, the command answers by the map, and leaves it as it was or as it is after
 -- the command, at the end and at every moment before, but for what a crash might have left before it. (Where room has to be made first,
 -- it is so from then on; Whole.antt has the call from its beginning.)
 pub record KeepsMap (S : List ℕ → Type 0) (command : CommandLine) (given : List ℕ) (ending : Option Ending) (m : Stored)

@@ -1,8 +1,7 @@
 -- What is so on the way of storing a file (docs/MODEL.md, 'Commands').
-use Rattle.std.specs.Prelude.{◌≡◌, ℕ, ◌≤◌, List, length, option_map, Option, Some, None}
+use Rattle.std.specs.Prelude.{◌≡◌, ℕ, List, length, option_map, Option, Some, None}
 use Rattle.std.specs.FinMap as finite
 use Rattle.std.specs.List.{AllByRecursion}
-use Rattle.disk_format.specs.declared.numbers.TheConstants.{RESERVE}
 use Rattle.container_meta.specs.declared.kind.Kind.{Kind}
 use Rattle.container_meta.specs.Places.{PlaceMap}
 use Rattle.container_meta.specs.Segments.{KindSegment, Segment, segment_key}
@@ -11,7 +10,7 @@ use Rattle.actor_parts.specs.Parts.{part_of}
 use Rattle.actor_parts.specs.PinMap.{PinMap}
 use Rattle.actor_parts.specs.Segments.{pin_of}
 use Rattle.store_model.specs.Image.{Store, IsValidFor}
-use Rattle.store_model.specs.Slots.{free_slots, last_id}
+use Rattle.store_model.specs.Slots.{HasFree, last_id}
 use Rattle.store_state.specs.Tables.{Represents, Runs, OfEach}
 use Rattle.ingest_steps.specs.Claiming.{key_of_seg}
 use Rattle.store_core.specs.Core.{IndexesAll, OfEachIndexed}
@@ -51,7 +50,7 @@ pub record SealsSo (file : List ℕ) (steps : List FileEvent) (s : Store) (c : C
   pub once : AddsOnce file (seals_of steps) s
   pub represents : Represents after c.known c.tables
   pub valid : IsValidFor c.disk.size after
-  pub reserve : RESERVE ≤ free_slots after.held
+  pub has_free : HasFree after.held
   pub whole : IndexesAll after c.known
 
 -- The steps by which a file is stored, so far. It is one of these files, since not all of its bytes may be known. Each step was

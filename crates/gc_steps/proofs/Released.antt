@@ -90,7 +90,7 @@ has_freed old slot held there_is slots last = record {
         store = with_freed slot runs.store;
         represents = after runs.store known none runs.represents;
         valid = valid_freed size slot runs.store runs.valid;
-        reserve_holds = omega (arith, runs.reserve_holds, free_freed slot there.0 runs.store.held there.1);
+        has_free = omega (arith, runs.has_free, free_freed slot there.0 runs.store.held there.1);
       };
 }
   where

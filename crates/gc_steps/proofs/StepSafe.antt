@@ -27,6 +27,7 @@ use Rattle.store_model.proofs.Copies.{headers_of_right, some_same}
 use Rattle.store_model.proofs.FramedTrees.{newest_framed, stands_framed}
 use Rattle.store_model.proofs.Free.{as_many}
 use Rattle.store_model.proofs.Freed.{free_freed, valid_freed}
+use Rattle.store_model.proofs.FreedFiles.{reserve_by, reserve_freed}
 use Rattle.store_state.specs.Invariant.{CoreInvariant}
 use Rattle.store_state.specs.Tables.{Represents}
 use Rattle.store_state.specs.declared.tables.Tables.{Tables}
@@ -56,7 +57,8 @@ use Rattle.gc_steps.proofs.RootTrees.{whole_indexed}
 use Rattle.gc_steps.proofs.Safe.{early_from, marks_safe, restaged, sweep_safe}
 use Rattle.gc_steps.proofs.ScanKeeps.{scan_keeps}
 use Rattle.gc_steps.proofs.Started.{root_whole}
-use Rattle.gc_steps.proofs.Swept.{live_after, partial_after, swept}
+use Rattle.gc_steps.proofs.Released.{none_held}
+use Rattle.gc_steps.proofs.Swept.{had_before, live_after, partial_after, swept}
 use Rattle.gc_steps.proofs.UnderWay.{at_stage}
 
 -- A container of a store is given back, in whose slot the index has no entry.
@@ -161,6 +163,7 @@ core_kept index store files parts image now core keeps = record {
   files_are_indexed = core.files_are_indexed;
   pins_are_closed = parts_kept (HasKey index) (HasKey index) store store image now (λ key level bytes need has. keeps key level bytes has) (λ key has. has) parts core.pins_are_closed;
   reserve_holds = core.reserve_holds;
+  has_free = core.has_free;
 }
 
 -- ---- each stage
@@ -270,6 +273,9 @@ module _ (index : PlaceMap) (store : Store) (files : Files) (parts : List Part) 
       live_has : (key : List ℕ) → IsLive index c.live key → HasKey fewer key
       live_has key is = let on = live_after c.live store index slot h there partial dead key is in (on.0, on.1.0)
 
+      had : (key : List ℕ) → HasKey fewer key → HasKey index key
+      had key has = (has.0, had_before (copy_keys index h.kind slot h.entries) index key has.0 has.1)
+
       fewer_partial : IsPartialIndexOf store.held fewer
       fewer_partial = partial_after c.live store index slot h there partial dead
 
@@ -293,7 +299,8 @@ module _ (index : PlaceMap) (store : Store) (files : Files) (parts : List Part) 
               live_has key (reachable_has index store files parts image holds (IsLive index c.live) safe.roots_are_live safe.live_is_closed key needed);
           pins_are_closed = parts_kept (IsLive index c.live) (HasKey fewer) store store image now (λ key level bytes need has. keeps key level bytes has) live_has parts
               (parts_have index store files parts image holds (IsLive index c.live) safe.roots_are_live safe.live_is_closed few core.pins_are_closed);
-          reserve_holds = core.reserve_holds;
+          reserve_holds = reserve_by (HasKey index) (HasKey fewer) store.held had core.reserve_holds;
+          has_free = core.has_free;
         };
         safe = subst (λ (x : Collection). IsSafe fewer store parts now x) (sym collection_is) (swept store index parts now c source slot h there came_before partial dead safe_now);
         spares = λ key needed. (
@@ -342,7 +349,8 @@ module _ (index : PlaceMap) (store : Store) (files : Files) (parts : List Part) 
       index_is_newest = after.index_is_newest index refl;
       files_are_indexed = core.files_are_indexed;
       pins_are_closed = parts_kept (HasKey index) (HasKey index) store (with_freed slot store) image now copies (λ key has. has) parts core.pins_are_closed;
-      reserve_holds = omega (arith, core.reserve_holds, free_freed slot ready.header store.held ready.there);
+      reserve_holds = reserve_freed (HasKey index) slot store.held (none_held store index slot partial ready.is_empty) core.reserve_holds;
+      has_free = omega (arith, core.has_free, free_freed slot ready.header store.held ready.there);
     };
     safe = subst (λ (x : Collection). IsSafe index (with_freed slot store) parts now x) (sym collection_is)
         (sweep_safe index (with_freed slot store) parts now (record c { stage = sweep_from c.sources.items next; freed = c.freed + 1 }) (λ level other is. sweep_no_mark c.sources.items next level other is)

@@ -94,7 +94,7 @@ runs_emptied size new_size known after_known t keys same removed stays runs = su
     index_is_newest = by_known known runs.represents.index_is_newest removed stays;
   };
   valid = runs.valid;
-  reserve_holds = runs.reserve_holds;
+  has_free = runs.has_free;
 })
   where
     by_known : (k : Option PlaceMap) → KnownMap k (IsPartialIndexOf runs.store.held) → KnownMap k (λ m. after_known ≡ Some (without_keys keys m)) → Stays k after_known

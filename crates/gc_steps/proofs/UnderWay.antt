@@ -241,7 +241,7 @@ module _ (size : ℕ) (known : Option PlaceMap) (before now : Tables) (slot : �
   now_apart : (snapshot : ℕ) → IsDistinct nat_eq (old_ids snapshot now.held.ids.items)
   now_apart snapshot =
       ids_apart snapshot size None now
-      (freed.runs size None (λ index is. absurd cc) (record { store = runs.store; represents = represented; valid = runs.valid; reserve_holds = runs.reserve_holds }))
+      (freed.runs size None (λ index is. absurd cc) (record { store = runs.store; represents = represented; valid = runs.valid; has_free = runs.has_free }))
 
   pub released : (c after : Collection) (source : ℕ) → IsUnderWay before.held c → c.stage ≡ Release source slot
       → after ≡ record c { stage = sweep_from c.sources.items source; freed = c.freed + 1 } → IsUnderWay now.held after

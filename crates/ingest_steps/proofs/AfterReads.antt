@@ -1,6 +1,7 @@
 -- A container that is sealed after reads.
-use Rattle.std.proofs.Common.{◌≡◌, inl, inr, ℕ, List, Option, Some, Result, Ok, Err, OnOk, IfOk, IfErr, IsErrAnd, refl, sym, ◌∙◌, ap, subst}
+use Rattle.std.proofs.Common.{◌≡◌, inl, inr, ℕ, ◌<◌, List, Option, Some, Result, Ok, Err, OnOk, IfOk, IfErr, IsErrAnd, refl, sym, ◌∙◌, ap, subst}
 use Rattle.std.specs.List.{AllByRecursion}
+use Rattle.disk_format.specs.declared.numbers.TheConstants.{RESERVE}
 use Rattle.disk_format.specs.Layout.{slot_at}
 use Rattle.dd_disk.specs.View.{DiskView, IsLater, OnlyReads, SteppedFrom}
 use Rattle.dd_disk.specs.Ending.{Ending, Blame, NoCall, ReadCall, WriteCall, Done, Refused, Unread, Broken, Reads, ending, ending_of}
@@ -19,15 +20,16 @@ use Rattle.refusals.specs.declared.refusal.Refusal.TheVariants.{Memory, DiskWrit
 use Rattle.segment_index.specs.Changes.{SameBefore}
 use Rattle.store_model.specs.Files.{Files}
 use Rattle.store_model.specs.Image.{Store}
-use Rattle.store_model.specs.Slots.{HasKey, IsPartialIndexOf}
-use Rattle.store_model.specs.Collisions.{IsIn, Stands}
+use Rattle.store_model.specs.Slots.{HasKey, IsPartialIndexOf, free_slots}
+use Rattle.store_model.specs.Collisions.{ByteSet, IsIn, Stands}
 use Rattle.store_model.specs.Steps.{FitsHeld}
 use Rattle.store_state.specs.Comparing.{FitSoFar}
 use Rattle.store_state.specs.Indexing.{IsChangeRefusal}
 use Rattle.store_state.specs.Refused.{blames}
 use Rattle.store_state.specs.Settled.{IsSettled, KeepsWhatCounts, Left, Steps}
 use Rattle.store_state.specs.declared.tables.Tables.{Tables}
-use Rattle.ingest_steps.specs.Sealing.{FitBeside, KeepsHeld, SealsIndexed, SealsCompared, HasSealed, HasPlacesOf, WasCompared, IsSealRefusal, KeepsMap, sealing_indexed}
+use Rattle.store_state.specs.Tables.{Represents}
+use Rattle.ingest_steps.specs.Sealing.{FitBeside, KeepsHeld, SealsIndexed, SealsCompared, HasSlot, HasSlotBeside, HasSealed, HasWritten, HasPlacesOf, WasCompared, IsSealRefusal, KeepsMap, sealing_compared, sealing_indexed}
 use Rattle.ingest_steps.proofs.SlotFrame.{first_after, first_reads}
 use Rattle.ingest_steps.proofs.Sealed.{same_content, same_keeps}
 
@@ -59,13 +61,13 @@ map_kept (Err refusal) k l new same refused memory = absurd refused
 
 -- and what was compared was so on the disk of before
 pub compared_and_sealed : (result : Result ℕ Refusal) (t new : Tables) (slot : ℕ) (filled : Contents) (size mid_size : ℕ) (known mid_known : Option PlaceMap) (compared : Type 0) → mid_size ≡ size
-    → mid_known ≡ known → compared → IfOk result (HasSealed t mid_size mid_known slot filled new) → IfOk result (λ id. HasSealed t size known slot filled new id × compared)
-compared_and_sealed (Ok id) t new slot filled size mid_size known mid_known compared same_size same_known has sealed = (
+    → mid_known ≡ known → compared → HasSlot t slot → IfOk result (λ id. (spares : ℕ) → HasSlotBeside spares t slot → HasWritten spares t mid_size mid_known slot filled new id) → IfOk result (λ id. HasSealed t size known slot filled new id × compared)
+compared_and_sealed (Ok id) t new slot filled size mid_size known mid_known compared same_size same_known has slot_is sealed = (
   subst (λ (n : ℕ). HasSealed t n known slot filled new id) same_size
-      (subst (λ (k : Option PlaceMap). HasSealed t mid_size k slot filled new id) same_known sealed),
+      (subst (λ (k : Option PlaceMap). HasSealed t mid_size k slot filled new id) same_known (sealed RESERVE slot_is)),
   has,
 )
-compared_and_sealed (Err e) t new slot filled size mid_size known mid_known compared same_size same_known has sealed = tt
+compared_and_sealed (Err e) t new slot filled size mid_size known mid_known compared same_size same_known has slot_is sealed = tt
 
 pub was_compared : (size : ℕ) (known : Option PlaceMap) (old mid new : DiskView) (filled : Contents) (hads : List (Option Place)) → OnlyReads old mid → IsLater mid new
     → FitSoFar size known (Shows old mid) filled.kind filled.segments hads → WasCompared size known (Shows old new) filled
@@ -106,14 +108,20 @@ module _ (slots : ℕ) (old mid new : DiskView) (reads : Reads Done old mid) whe
 
 module _ (t : Tables) (known : Option PlaceMap) (id : ℕ) (filled : Contents) (e : Ending) (old mid new : DiskView) (reads : Reads Done old mid)
     (held : Shows old mid (λ image. (store : Store) (m : PlaceMap) → known ≡ Some m → IsPartialIndexOf store.held m → AllByRecursion (FitsHeld (HasKey m) filled.kind store image) filled.segments))
-    (later : IsLater mid new) (seals : SealsIndexed t id filled e mid new) where
-  arrives_after : (S : List ℕ → Type 0) (store : Store) (files : Files) (x : Ending) → Arrives (sealing_indexed S id filled store files) x mid new → Arrives (sealing_indexed S id filled store files) x old new
-  arrives_after S store files Done arrives = arrives
-  arrives_after S store files Refused (inl only) = inl (reads_on old mid new reads.only only)
-  arrives_after S store files Refused (inr rests) = inr rests
-  arrives_after S store files Unread (inl only) = inl (reads_on old mid new reads.only only)
-  arrives_after S store files Unread (inr rests) = inr rests
-  arrives_after S store files Broken arrives = arrives
+    (later : IsLater mid new) (seals : SealsIndexed t id filled e mid new)
+    (spare : (among : ByteSet) (store : Store) (files : Files) (given : List ℕ) → Represents store known t → Stands (IsIn among) store files given → RESERVE < free_slots store.held) where
+  module _ (S : List ℕ → Type 0) (store : Store) (files : Files) (more : RESERVE < free_slots store.held) where
+    with_spare : (c : List ℕ) → (sealing_indexed S id filled store files).between c → (sealing_compared S id filled store files).between c
+    with_spare c (inl stands) = inl stands
+    with_spare c (inr stands) = inr (more, stands)
+
+    arrives_after : (x : Ending) → Arrives (sealing_indexed S id filled store files) x mid new → Arrives (sealing_compared S id filled store files) x old new
+    arrives_after Done arrives = record { known = arrives.known; each = λ c image. (more, arrives.each c image) }
+    arrives_after Refused (inl only) = inl (reads_on old mid new reads.only only)
+    arrives_after Refused (inr rests) = inr rests
+    arrives_after Unread (inl only) = inl (reads_on old mid new reads.only only)
+    arrives_after Unread (inr rests) = inr rests
+    arrives_after Broken arrives = record { known = arrives.known; each = λ c image. with_spare c (arrives.each c image) }
 
   pub seals_after : SealsCompared t known id filled e old new
   seals_after = record {
@@ -124,11 +132,12 @@ module _ (t : Tables) (known : Option PlaceMap) (id : ℕ) (filled : Contents) (
         let fit : FitBeside (IsIn among) map filled.kind filled.segments store given =
         inl (distinct, shown_content old mid _ given held content store map known_is (is.index_is_newest map known_is)) in
         let way = sealing_indexed (IsIn among) id filled store files in
+        let more = spare among store files given is (stands.each given (old.as_read given content)) in
         let moved = seals.moves among store known map files given is (reads.only.content_is ∙ content) may indexed fit (stands_reads (Stands (IsIn among) store files) old mid stands reads.only) in
         record {
-          leaves = leaves_on (Stands (IsIn among) store files) way.between way.between old mid new reads.only.later.clock_is
-              (reads_leave (Stands (IsIn among) store files) old mid stands.each reads.only) moved.leaves (λ c has. inl has) (λ c has. has);
-          arrives = arrives_after (IsIn among) store files e moved.arrives;
+          leaves = leaves_on (Stands (IsIn among) store files) way.between (sealing_compared (IsIn among) id filled store files).between old mid new reads.only.later.clock_is
+              (reads_leave (Stands (IsIn among) store files) old mid stands.each reads.only) moved.leaves (λ c has. inl has) (with_spare (IsIn among) store files more);
+          arrives = arrives_after (IsIn among) store files more e moved.arrives;
         };
     holds = λ among store files map given now known_is is content content_now stands distinct may.
         seals.holds among store known map files given now is (reads.only.content_is ∙ content) content_now stands may
@@ -138,7 +147,7 @@ module _ (t : Tables) (known : Option PlaceMap) (id : ℕ) (filled : Contents) (
 -- ---- nothing but reads
 
 module _ (t : Tables) (known : Option PlaceMap) (id : ℕ) (filled : Contents) (old new : DiskView) (reads : OnlyReads old new) where
-  arrives_read : (S : List ℕ → Type 0) (store : Store) (files : Files) (b : Blame) → StandsFor (Stands S store files) old → Arrives (sealing_indexed S id filled store files) (ending_of b) old new
+  arrives_read : (S : List ℕ → Type 0) (store : Store) (files : Files) (b : Blame) → StandsFor (Stands S store files) old → Arrives (sealing_compared S id filled store files) (ending_of b) old new
   arrives_read S store files NoCall stands = inl reads
   arrives_read S store files ReadCall stands = inl reads
   arrives_read S store files WriteCall stands = record { known = stands_now.known; each = λ c image. inl (stands_now.each c image) }
@@ -155,7 +164,7 @@ module _ (t : Tables) (known : Option PlaceMap) (id : ℕ) (filled : Contents) (
   seals_read b = record {
     frame = first_reads known t old new reads;
     moves = λ among store files map known_is is indexed distinct may stands. record {
-      leaves = reads_leave (sealing_indexed (IsIn among) id filled store files).between old new (λ c image. inl (stands.each c image)) reads;
+      leaves = reads_leave (sealing_compared (IsIn among) id filled store files).between old new (λ c image. inl (stands.each c image)) reads;
       arrives = arrives_read (IsIn among) store files b stands;
     };
     holds = λ among store files map given held known_is is content now stands distinct may. holds_read map store given held b content now;

@@ -98,7 +98,7 @@ module _ (name : List ℕ) (change : Change) (t : Tables) (may : MayChange t nam
       store = with_change name change runs.store;
       represents = subst (Represents (with_change name change runs.store) known) (sym tables) (represents_with runs.store known runs.valid.follow runs.represents);
       valid = valid_change size name change runs.store runs.valid (can_change runs.store runs.represents.names_are) right;
-      reserve_holds = runs.reserve_holds;
+      has_free = runs.has_free;
     };
   }
 

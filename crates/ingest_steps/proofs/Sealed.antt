@@ -2,7 +2,7 @@
 use Rattle.std.proofs.Common.{◌≡◌, ◌⊎◌, inl, inr, ℕ, ◌+◌, ◌<◌, ◌≤◌, List, [], ◌∷◌, length, Option, Some, None, refl, sym, ◌∙◌, ap, subst, arith}
 use Rattle.std.specs.List.{AllByRecursion}
 use Rattle.base_model.specs.Frames.{SameOutside}
-use Rattle.disk_format.specs.declared.numbers.TheConstants.{RESERVE, SLOT_BYTES, MOST_SLOTS}
+use Rattle.disk_format.specs.declared.numbers.TheConstants.{SLOT_BYTES, MOST_SLOTS}
 use Rattle.disk_format.specs.Layout.{slot_at}
 use Rattle.dd_disk.specs.View.{DiskView, SteppedFrom}
 use Rattle.dd_disk.specs.Ending.{Ending, Done, Refused, Unread, Broken}
@@ -17,19 +17,18 @@ use Rattle.container_meta.specs.Segments.{Segment, Contents, segment_key}
 use Rattle.container_log.specs.Writing.{Seals, IsSealed}
 use Rattle.store_model.specs.Files.{Files}
 use Rattle.store_model.specs.Image.{Store}
-use Rattle.store_model.specs.Slots.{HasKey, HoldsContainer, newest, last_id, free_slots, first_free}
+use Rattle.store_model.specs.Slots.{AreHeaders, HasFree, HasKey, HoldsContainer, newest, last_id, free_slots, first_free}
 use Rattle.store_model.specs.Collisions.{ByteSet, IsIn, Stands}
-use Rattle.store_model.specs.Steps.{AnyKey, CanSeal, MaySeal, KeepsCopies, with_sealed}
+use Rattle.store_model.specs.Steps.{AnyKey, CanHold, MaySeal, KeepsCopies, with_sealed}
 use Rattle.store_model.specs.Trees.{HasNewest}
 use Rattle.store_model.proofs.FramedTrees.{unsealed}
-use Rattle.store_model.proofs.Free.{as_many}
-use Rattle.store_model.proofs.Free.{first_free_closed}
-use Rattle.store_model.proofs.SealedTrees.{IsNewestOf, all_by_fit, newest_of_none, newest_kept, newest_sealed, sealed}
+use Rattle.store_model.proofs.Free.{as_many, first_free_closed, same_free}
+use Rattle.store_model.proofs.SealedTrees.{IsNewestOf, all_by_fit, newest_of_copy, newest_of_none, newest_kept, newest_sealed, sealed}
 use Rattle.store_model.proofs.Sound.{sound_of_right}
 use Rattle.store_state.specs.declared.tables.Tables.{Tables}
 use Rattle.store_state.specs.Invariant.{IndexesFiles}
 use Rattle.store_state.specs.Tables.{Represents, Runs}
-use Rattle.ingest_steps.specs.Sealing.{IsSlotFor, HasSlot, FitBeside, KeepsHeld, IsSlotOf, SealsContainer, SameButSlotOf, ChangesSlotAlone, sealing}
+use Rattle.ingest_steps.specs.Sealing.{IsSlotFor, HasSlotBeside, FitBeside, KeepsHeld, IsSlotOf, SealsContainer, SameButSlotOf, ChangesSlotAlone, sealing}
 use Rattle.ingest_steps.proofs.SlotFrame.{frame_of}
 
 pub same_content : (a b : List ℕ) → Some a ≡ Some b → a ≡ b
@@ -45,17 +44,23 @@ all_of_none : (P : List ℕ → Type 0) (kind : Kind) (store : Store) (image : L
 all_of_none P kind store image [] none = tt
 all_of_none P kind store image (s ∷ ss) none = (newest_of_none P kind store image image s none.0, all_of_none P kind store image ss none.1)
 
-module _ (S : List ℕ → Type 0) (index : PlaceMap) (id : ℕ) (filled : Contents) (store : Store) (files : Files) (given : List ℕ)
-    (spare : RESERVE < free_slots store.held) (above : last_id store.held < id)
+all_of_copies : (P : List ℕ → Type 0) (kind : Kind) (store : Store) (image : List ℕ) (segments : List Segment)
+    → AllByRecursion (λ s. HasNewest store.held (segment_key kind s) s.level s.bytes image) segments → AllByRecursion (IsNewestOf P kind store image image) segments
+all_of_copies P kind store image [] each = tt
+all_of_copies P kind store image (s ∷ ss) each = (newest_of_copy P kind store image s each.0, all_of_copies P kind store image ss each.1)
+
+module _ {spares : ℕ} (S : List ℕ → Type 0) (index : PlaceMap) (id : ℕ) (filled : Contents) (store : Store) (files : Files) (given : List ℕ)
+    (spare : spares < free_slots store.held) (above : last_id store.held < id)
     (may : AllByRecursion (MaySeal S filled.kind) filled.segments) (fit : FitBeside S index filled.kind filled.segments store given) where
   -- the newest copies of the segments' keys are the segments
   newests : Stands S store files given → AllByRecursion (IsNewestOf (HasKey index) filled.kind store given given) filled.segments
   newests stands = elim fit [
     | inl each ↦ all_by_fit S (HasKey index) filled.kind store files given given each.0 stands filled.segments may each.1
-    | inr none ↦ all_of_none (HasKey index) filled.kind store given filled.segments none
+    | inr (inl none) ↦ all_of_none (HasKey index) filled.kind store given filled.segments none
+    | inr (inr each) ↦ all_of_copies (HasKey index) filled.kind store given filled.segments each
   ]
 
-  can : (c : List ℕ) → HoldsContainer c (first_free store.held) id filled.kind filled.segments → CanSeal id filled.kind filled.segments store
+  can : (c : List ℕ) → HoldsContainer c (first_free store.held) id filled.kind filled.segments → CanHold spares id filled.kind filled.segments store
   can c container = record { slot = spare; new_id = above; right = container.header.0 }
 
   -- once it is written
@@ -74,7 +79,7 @@ module _ (S : List ℕ → Type 0) (index : PlaceMap) (id : ℕ) (filled : Conte
   while : IndexesFiles index files → (d c : List ℕ) → Stands S store files given → Stands S store files d → Seals (first_free store.held) id filled.kind filled.segments given d c
       → Stands S store files c ⊎ Stands S (with_sealed id filled.kind filled.segments store) files c
   while indexed d c stands was (inl (same, still)) =
-      inl (unsealed S store files d c was same (still (first_free_closed d store was.holds.right (omega (arith, was.holds.reserve)))))
+      inl (unsealed S store files d c was same (still (first_free_closed d store was.holds.right (omega (arith, spare)))))
   while indexed d c stands was (inr (same, inl closed)) = inl (unsealed S store files given c stands same closed)
   while indexed d c stands was (inr (same, inr container)) = inr (once indexed c stands (same, container))
 
@@ -114,35 +119,42 @@ module _ (S : List ℕ → Type 0) (index : PlaceMap) (id : ℕ) (filled : Conte
 -- ---- in terms of the tables
 
 -- the slot lies on the disk
-pub slot_fits : (size : ℕ) (known : Option PlaceMap) (t : Tables) (slot : ℕ) → IsSlotFor t slot → Runs size known t → slot_at slot + SLOT_BYTES ≤ size
+pub slot_fits : {spares : ℕ} (size : ℕ) (known : Option PlaceMap) (t : Tables) (slot : ℕ) → IsSlotFor spares t slot → Runs size known t → slot_at slot + SLOT_BYTES ≤ size
 slot_fits size known t slot gives runs =
-    omega (arith, ((gives size known).store_has runs.store runs.represents runs.valid runs.reserve_holds).within, runs.valid.size_is)
+    omega (arith, ((gives size known).store_has runs.store runs.represents runs.valid runs.has_free).within, runs.valid.size_is)
 
-pub slot_within : (size : ℕ) (known : Option PlaceMap) (t : Tables) (slot : ℕ) → IsSlotFor t slot → Runs size known t → slot < t.slots
+pub slot_within : {spares : ℕ} (size : ℕ) (known : Option PlaceMap) (t : Tables) (slot : ℕ) → IsSlotFor spares t slot → Runs size known t → slot < t.slots
 slot_within size known t slot gives runs =
-    omega (arith, ((gives size known).store_has runs.store runs.represents runs.valid runs.reserve_holds).within, runs.represents.slots_are)
+    omega (arith, ((gives size known).store_has runs.store runs.represents runs.valid runs.has_free).within, runs.represents.slots_are)
 
 -- there are at most as many slots as a disk may have
 pub few_slots : (size : ℕ) (known : Option PlaceMap) (t : Tables) → Runs size known t → length t.held.ids.items ≤ MOST_SLOTS
 few_slots size known t runs =
     omega (arith, ap length runs.represents.slots_hold.ids_are, as_many runs.store.held, runs.valid.many, runs.valid.count.1)
 
+-- a slot is free in each store that the tables of a running store represent
+pub free_by : (size : ℕ) (known : Option PlaceMap) (t : Tables) → Runs size known t → (store : Store) (other : Option PlaceMap) → Represents store other t → AreHeaders store.held
+    → HasFree store.held
+free_by size known t runs store other keeps headers =
+    omega (arith, runs.has_free, same_free runs.store.held store.held runs.valid.headers headers (sym runs.represents.slots_hold.ids_are ∙ keeps.slots_hold.ids_are))
+
 -- that of a store that the content stands for
-slot_in : (t : Tables) (slot : ℕ) → HasSlot t slot → (among : ByteSet) (store : Store) (known : Option PlaceMap) (files : Files) (given : List ℕ) → Represents store known t
-    → Stands (IsIn among) store files given → IsSlotOf slot store
-slot_in t slot has among store known files given keeps stands =
-    (has.slot_is (length given) known).store_has store keeps (sound_of_right (length given) given store refl stands.holds.right) stands.holds.reserve
+pub slot_in : {spares : ℕ} (size : ℕ) (one : Option PlaceMap) (t : Tables) (slot : ℕ) → Runs size one t → HasSlotBeside spares t slot → (among : ByteSet) (store : Store) (known : Option PlaceMap) (files : Files) (given : List ℕ)
+    → Represents store known t → Stands (IsIn among) store files given → IsSlotOf spares slot store
+slot_in size one t slot runs has among store known files given keeps stands =
+    let valid = sound_of_right (length given) given store refl stands.holds.right in
+    (has.slot_is (length given) known).store_has store keeps valid (free_by size one t runs store known keeps valid.headers)
 
 -- the container that is written is the one that the store is to have
-pub seals_container : (t : Tables) (slot id : ℕ) (filled : Contents) → HasSlot t slot → id ≡ t.held.last_id + 1 → (e : Ending) (old new : DiskView)
+pub seals_container : {spares : ℕ} (size : ℕ) (one : Option PlaceMap) (t : Tables) (slot id : ℕ) (filled : Contents) → Runs size one t → HasSlotBeside spares t slot → id ≡ t.held.last_id + 1 → (e : Ending) (old new : DiskView)
     → Writes (Seals slot id filled.kind filled.segments) (IsSealed slot id filled.kind filled.segments) e old new → SealsContainer t id filled e old new
-seals_container t slot id filled has next e old new writes = record {
+seals_container size one t slot id filled runs has next e old new writes = record {
   moves = λ among store known index files given keeps content may indexed fit stands.
       let holds : Stands (IsIn among) store files given = stands_content (Stands (IsIn among) store files) old stands given content in
-      let at = slot_in t slot has among store known files given keeps holds in
+      let at = slot_in size one t slot runs has among store known files given keeps holds in
       moves_sealed (IsIn among) index id filled store files given at.spare (omega (arith, next, keeps.slots_hold.last_id_is)) may fit indexed e old new content (of_slot at.first) stands;
   holds = λ among store known index files given held keeps content now holds may fit.
-      let at = slot_in t slot has among store known files given keeps holds in
+      let at = slot_in size one t slot runs has among store known files given keeps holds in
       holds_written (IsIn among) index id filled store files given at.spare (omega (arith, next, keeps.slots_hold.last_id_is)) may fit e old new held content now holds
       (of_slot at.first).written;
 }

@@ -5,7 +5,6 @@ use Rattle.std.specs.List.{AllByRecursion}
 use Rattle.std.proofs.lemmas.Bool.{leb-true}
 use Rattle.std.proofs.lemmas.List.{length-map}
 use Rattle.std.proofs.lemmas.List.Sums.{sum_by-cons}
-use Rattle.disk_format.specs.declared.numbers.TheConstants.{RESERVE}
 use Rattle.disk_format.specs.Layout.{size_of, slot_at}
 use Rattle.dd_disk.specs.View.{DiskView, IsDurable, IsLater, CrashLeaves, SteppedFrom}
 use Rattle.dd_disk.specs.Ending.{Ending, Blame, NoCall, ReadCall, WriteCall, Done, Refused, Unread, Broken, ending_of}
@@ -32,9 +31,9 @@ use Rattle.namespace.specs.Names.{NameMap}
 use Rattle.store_model.specs.Files.{Files}
 use Rattle.store_model.specs.Image.{Store, IsValidFor}
 use Rattle.store_model.specs.Indexing.{with_entries}
-use Rattle.store_model.specs.Slots.{Copy, HasKey, IsPartialIndexOf, free_slots, newest, with_slot}
+use Rattle.store_model.specs.Slots.{Copy, HasFree, HasKey, IsPartialIndexOf, newest, with_slot}
 use Rattle.store_model.specs.Collisions.{IsIn, Stands}
-use Rattle.store_model.specs.Steps.{CanSeal, FitsHeld, with_sealed}
+use Rattle.store_model.specs.Steps.{CanHold, FitsHeld, with_sealed}
 use Rattle.store_model.specs.Trees.{HasNewest, bytes_at}
 use Rattle.store_model.proofs.Copies.{some_same, headers_of_right}
 use Rattle.store_model.proofs.FramedTrees.{newest_framed, stands_framed}
@@ -47,7 +46,7 @@ use Rattle.store_state.specs.declared.tables.Tables.{Tables}
 use Rattle.store_state.specs.Settled.{KeepsWhatCounts, Left, Steps}
 use Rattle.store_state.specs.Tables.{Represents, RepresentsSlots, Runs, count_of}
 use Rattle.store_state.proofs.Changed.{keeps}
-use Rattle.ingest_steps.specs.Sealing.{IsSlotOf, HasSlot, FitBeside, KeepsHeld, SealsContainer, SealsIndexed, HasSealed, ChangesSlotAlone, places_with, sealing, sealing_indexed}
+use Rattle.ingest_steps.specs.Sealing.{IsSlotOf, HasSlotBeside, FitBeside, KeepsHeld, SealsContainer, SealsIndexed, HasWritten, ChangesSlotAlone, places_with, sealing, sealing_indexed}
 use Rattle.ingest_steps.proofs.SlotFrame.{first_changed, first_on}
 
 -- ---- how much a container has
@@ -80,17 +79,17 @@ counts_many size known t runs =
     let held = runs.store.held in
     omega (arith, ap length runs.represents.slots_hold.counts_are, length-map held count_of, ap length runs.represents.slots_hold.ids_are, as_many held)
 
-pub slot_in_table : (size : ℕ) (known : Option PlaceMap) (t : Tables) (slot : ℕ) → HasSlot t slot → Runs size known t → slot < length t.held.ids.items
+pub slot_in_table : {spares : ℕ} (size : ℕ) (known : Option PlaceMap) (t : Tables) (slot : ℕ) → HasSlotBeside spares t slot → Runs size known t → slot < length t.held.ids.items
 slot_in_table size known t slot has runs =
-    omega (arith, ((has.slot_is size known).store_has runs.store runs.represents runs.valid runs.reserve_holds).within, ap length runs.represents.slots_hold.ids_are, as_many runs.store.held, runs.valid.many)
+    omega (arith, ((has.slot_is size known).store_has runs.store runs.represents runs.valid runs.has_free).within, ap length runs.represents.slots_hold.ids_are, as_many runs.store.held, runs.valid.many)
 
-module _ (t new : Tables) (slot id : ℕ) (filled : Contents) (has : HasSlot t slot) (next : id ≡ t.held.last_id + 1) (right : IsHeader (header_of id filled.kind filled.segments))
+module _ {spares : ℕ} (t new : Tables) (slot id : ℕ) (filled : Contents) (has : HasSlotBeside spares t slot) (next : id ≡ t.held.last_id + 1) (right : IsHeader (header_of id filled.kind filled.segments))
     (last : new.held.last_id ≡ id) (slots_are : new.slots ≡ t.slots) (journal_is : new.journal ≡ t.journal) (names_are : new.names ≡ t.names)
     (taken : (held : List (Option HeaderValue)) → RepresentsSlots held t.held → RepresentsSlots (with_slot slot (header_of id filled.kind filled.segments) held) new.held) where
-  can_seal : (store : Store) (known : Option PlaceMap) → Represents store known t → IsSlotOf slot store → CanSeal id filled.kind filled.segments store
+  can_seal : (store : Store) (known : Option PlaceMap) → Represents store known t → IsSlotOf spares slot store → CanHold spares id filled.kind filled.segments store
   can_seal store known is at = record { slot = at.spare; new_id = omega (arith, next, is.slots_hold.last_id_is); right = right }
 
-  indexed : (store : Store) (known : Option PlaceMap) → Represents store known t → IsSlotOf slot store
+  indexed : (store : Store) (known : Option PlaceMap) → Represents store known t → IsSlotOf spares slot store
       → KnownMap (places_with filled slot known) (IsPartialIndexOf (with_sealed id filled.kind filled.segments store).held)
   indexed store known is at = by_known known is.index_is_newest
     where
@@ -101,7 +100,7 @@ module _ (t new : Tables) (slot id : ℕ) (filled : Contents) (has : HasSlot t s
           (ap (λ (i : ℕ). with_entries filled.kind i (entries_from 0 filled.segments) places) (sym at.first) ∙ some_same (with_entries filled.kind slot (entries_from 0 filled.segments) places) m e)
           (partial_sealed id filled.kind filled.segments store (can_seal store known is at) places (newest_is places refl) right)
 
-  represents_sealed : (store : Store) (known : Option PlaceMap) → Represents store known t → IsSlotOf slot store
+  represents_sealed : (store : Store) (known : Option PlaceMap) → Represents store known t → IsSlotOf spares slot store
       → Represents (with_sealed id filled.kind filled.segments store) (places_with filled slot known) new
   represents_sealed store known is at = record {
     slots_are = slots_are ∙ is.slots_are;
@@ -114,26 +113,26 @@ module _ (t new : Tables) (slot id : ℕ) (filled : Contents) (has : HasSlot t s
       told = subst (λ (j : JournalValue). IsTold store.other_open store.selector store.records j new.names j.last) (sym journal_is)
           (subst (λ (n : NameMap). IsTold store.other_open store.selector store.records t.journal n t.journal.last) (sym names_are) is.names_are)
 
-  pub has_sealed : (size : ℕ) (known : Option PlaceMap) → HasSealed t size known slot filled new id
+  pub has_sealed : (size : ℕ) (known : Option PlaceMap) → HasWritten spares t size known slot filled new id
   has_sealed size known = record {
     number = next;
     last_is = last;
-    can = record { store_has = λ store is valid reserve. can_seal store known is (at known store is valid reserve) };
-    represents = record { store_has = λ store is valid reserve. represents_sealed store known is (at known store is valid reserve) };
-    alone = record { store_has = λ store is valid reserve. (can_seal store None is (at None store is valid reserve), represents_sealed store None is (at None store is valid reserve)) };
-    runs = λ map runs.
-        let here = at map runs.store runs.represents runs.valid runs.reserve_holds in
+    can = record { store_has = λ store is valid free. can_seal store known is (at known store is valid free) };
+    represents = record { store_has = λ store is valid free. represents_sealed store known is (at known store is valid free) };
+    alone = record { store_has = λ store is valid free. (can_seal store None is (at None store is valid free), represents_sealed store None is (at None store is valid free)) };
+    runs = λ map left runs.
+        let here = at map runs.store runs.represents runs.valid runs.has_free in
         let can = can_seal runs.store map runs.represents here in
         record {
           store = with_sealed id filled.kind filled.segments runs.store;
           represents = represents_sealed runs.store map runs.represents here;
           valid = valid_sealed id filled.kind filled.segments runs.store can size runs.valid;
-          reserve_holds = omega (arith, free_sealed id filled.kind filled.segments runs.store can, here.spare);
+          has_free = omega (arith, free_sealed id filled.kind filled.segments runs.store can, here.spare, left);
         };
   }
     where
-      at : (map : Option PlaceMap) (store : Store) → Represents store map t → IsValidFor size store → RESERVE ≤ free_slots store.held → IsSlotOf slot store
-      at map store is valid reserve = (has.slot_is size map).store_has store is valid reserve
+      at : (map : Option PlaceMap) (store : Store) → Represents store map t → IsValidFor size store → HasFree store.held → IsSlotOf spares slot store
+      at map store is valid free = (has.slot_is size map).store_has store is valid free
 
 -- ---- the disk, where the index is changed
 
@@ -164,11 +163,21 @@ module _ (store : Store) (slots : ℕ) (slots_are : slots ≡ store.slots) where
       one Leaf fits = λ copy counts e. fits copy counts e
       one Tree fits = λ copy counts e. same_copy (segment_key Tree s) copy e ∙ fits copy counts e
 
+  -- what is held in one is held in the other
+  copies_before : (S : List ℕ → Type 0) (files : Files) (old new : List ℕ) → Stands S store files old → SameBefore (slot_at slots) old new → (kind : Kind) (ss : List Segment)
+      → AllByRecursion (λ s. HasNewest store.held (segment_key kind s) s.level s.bytes old) ss → AllByRecursion (λ s. HasNewest store.held (segment_key kind s) s.level s.bytes new) ss
+  copies_before S files old new stands same kind [] all = tt
+  copies_before S files old new stands same kind (s ∷ ss) all = (
+    newest_framed store old new stands.holds.right (to_slots old new same) (segment_key kind s) s.level s.bytes all.0,
+    copies_before S files old new stands same kind ss all.1,
+  )
+
   fit_before : (S : List ℕ → Type 0) (index : PlaceMap) (files : Files) (old new : List ℕ) → Stands S store files old → SameBefore (slot_at slots) old new → (kind : Kind) (ss : List Segment)
       → FitBeside S index kind ss store old → FitBeside S index kind ss store new
   fit_before S index files old new stands same kind ss fit = elim fit [
     | inl each ↦ inl (each.0, fits_before S files old new stands same (HasKey index) kind ss each.1)
-    | inr none ↦ inr none
+    | inr (inl none) ↦ inr (inl none)
+    | inr (inr copies) ↦ inr (inr (copies_before S files old new stands same kind ss copies))
   ]
 
   module _ (S : List ℕ → Type 0) (files : Files) (e : Ending) (old mid : DiskView) (changes : Changes (slot_at slots) e old mid) (stands : StandsFor (Stands S store files) old) where
@@ -222,7 +231,7 @@ module _ (t : Tables) (id : ℕ) (filled : Contents) (b : Blame) (old new : Disk
 
 -- it was, and then the container was written
 module _ (t : Tables) (id : ℕ) (filled : Contents) (e : Ending) (old mid new : DiskView) (changes : Changes (slot_at t.slots) Done old mid) (seals : SealsContainer t id filled e mid new)
-    (slot : ℕ) (has : HasSlot t slot) (later : IsLater mid new) (alone : ChangesSlotAlone t.slots slot mid new) where
+    {spares : ℕ} (slot : ℕ) (has : HasSlotBeside spares t slot) (later : IsLater mid new) (alone : ChangesSlotAlone t.slots slot mid new) where
   arrives_on : (S : List ℕ → Type 0) (store : Store) (files : Files) (x : Ending) → StandsFor (Stands S store files) mid → Arrives (sealing S id filled store files) x mid new
       → Arrives (sealing_indexed S id filled store files) x old new
   arrives_on S store files Done stands arrives = arrives
@@ -267,9 +276,9 @@ module _ (t : Tables) (id : ℕ) (filled : Contents) (e : Ending) (old mid new :
 
 -- ---- one after the other
 
-pub place_on_disk : (size : ℕ) (known : Option PlaceMap) (t : Tables) (slot : ℕ) → HasSlot t slot → Runs size known t → size_of (slot + 1) ≤ size
+pub place_on_disk : {spares : ℕ} (size : ℕ) (known : Option PlaceMap) (t : Tables) (slot : ℕ) → HasSlotBeside spares t slot → Runs size known t → size_of (slot + 1) ≤ size
 place_on_disk size known t slot has runs =
-    omega (arith, ((has.slot_is size known).store_has runs.store runs.represents runs.valid runs.reserve_holds).within, runs.valid.size_is)
+    omega (arith, ((has.slot_is size known).store_has runs.store runs.represents runs.valid runs.has_free).within, runs.valid.size_is)
 
 pub slots_on_disk : (size : ℕ) (known : Option PlaceMap) (t : Tables) → Runs size known t → size ≡ size_of t.slots
 slots_on_disk size known t runs = runs.valid.size_is ∙ ap size_of (sym runs.represents.slots_are)
@@ -303,10 +312,10 @@ steps_broken slots old mid new refusal is changes acts =
     }
 
 -- what is written into a slot doesn't change the map
-pub map_on : (places : Option (List ℕ) → Option PlaceMap) (owned_from : ℕ → ℕ)
+pub map_on : {spares : ℕ} (places : Option (List ℕ) → Option PlaceMap) (owned_from : ℕ → ℕ)
     → ((a b : List ℕ) → SameFrom (owned_from (length a)) a b → places (Some b) ≡ places (Some a))
     → (serves : ℕ → Type 0) → ((slots : ℕ) → serves (size_of slots) → slot_at slots ≤ owned_from (size_of slots))
-    → (size : ℕ) (known : Option PlaceMap) (t : Tables) (slot : ℕ) → HasSlot t slot → Runs size known t → (old mid new : DiskView) → Changes (slot_at t.slots) Done old mid → old.size ≡ size
+    → (size : ℕ) (known : Option PlaceMap) (t : Tables) (slot : ℕ) → HasSlotBeside spares t slot → Runs size known t → (old mid new : DiskView) → Changes (slot_at t.slots) Done old mid → old.size ≡ size
     → (given : List ℕ) → old.content ≡ Some given → serves mid.size → Known mid.content (λ then. KnownWith new.content (SameButSlot slot then))
     → places new.content ≡ places mid.content
 map_on places owned_from stay serves owns size known t slot has runs old mid new changes size_is given content served wrote =
@@ -315,7 +324,7 @@ map_on places owned_from stay serves owns size known t slot has runs old mid new
     let on_disk : mid.size ≡ size_of t.slots = changes.later.size_is ∙ size_is ∙ slots_on_disk size known t runs in
     let long : length then.0 ≡ size_of t.slots = mid.sized then.0 then.1 ∙ on_disk in
     let owned : slot_at t.slots ≤ owned_from (length then.0) = subst (λ (n : ℕ). slot_at t.slots ≤ owned_from n) (sym long) (owns t.slots (subst serves on_disk served)) in
-    let here = (has.slot_is size known).store_has runs.store runs.represents runs.valid runs.reserve_holds in
+    let here = (has.slot_is size known).store_has runs.store runs.represents runs.valid runs.has_free in
     ap places after.1
     ∙ stay then.0 after.0 (record { size = after.2.size; after = λ p n above. after.2.after p n (omega (arith, above, owned, here.within, runs.represents.slots_are)) })
     ∙ ap places (sym then.1)

@@ -1,19 +1,18 @@
 -- What a seal leaves as it was on a disk: all but its slot and what lies after the slots.
-use Rattle.std.proofs.Common.{inl, inr, ℕ, ◌<◌, ◌≤◌, List, Option, sym, ◌∙◌, subst, arith}
+use Rattle.std.proofs.Common.{inl, inr, ℕ, ◌<◌, List, Option, sym, ◌∙◌, subst, arith}
 use Rattle.base_model.specs.Known.{Known}
 use Rattle.disk_format.specs.Layout.{slot_at}
-use Rattle.disk_format.specs.declared.numbers.TheConstants.{RESERVE}
 use Rattle.dd_disk.specs.View.{DiskView, IsLater, OnlyReads, CrashLeaves, SteppedFrom}
 use Rattle.dd_disk.specs.Ending.{Ending, Done}
 use Rattle.dd_disk.proofs.Later.{later_on, leaves_on, leaves_weaker, reads_leave}
 use Rattle.container_meta.specs.Places.{PlaceMap}
 use Rattle.segment_index.specs.Changes.{SameBefore, Changes}
 use Rattle.store_model.specs.Image.{Store, IsValidFor}
-use Rattle.store_model.specs.Slots.{free_slots, first_free}
+use Rattle.store_model.specs.Slots.{HasFree, first_free}
 use Rattle.store_model.proofs.Free.{some_free}
 use Rattle.store_state.specs.declared.tables.Tables.{Tables}
 use Rattle.store_state.specs.Tables.{Represents}
-use Rattle.ingest_steps.specs.Sealing.{IsSlotOf, HasSlot, SameButSlotOf, ChangesSlotAlone, ChangesFirstFree}
+use Rattle.ingest_steps.specs.Sealing.{IsSlotOf, HasSlotBeside, SameButSlotOf, ChangesSlotAlone, ChangesFirstFree}
 
 module _ (slots slot : ℕ) (within : slot < slots) where
   same_settled : (given c : List ℕ) → SameBefore (slot_at slots) given c → SameButSlotOf slots slot given c
@@ -84,31 +83,31 @@ module _ (slots slot : ℕ) (within : slot < slots) where
 
 -- the first free slot of a store
 module _ (t : Tables) (store : Store) (known : Option PlaceMap) (size : ℕ) where
-  pub first_within : Represents store known t → IsValidFor size store → RESERVE ≤ free_slots store.held → first_free store.held < t.slots
-  first_within is valid reserve = omega (arith, some_free store.held (omega (arith, reserve)), valid.many, is.slots_are)
+  pub first_within : Represents store known t → IsValidFor size store → HasFree store.held → first_free store.held < t.slots
+  first_within is valid free = omega (arith, some_free store.held free, valid.many, is.slots_are)
 
 pub first_reads : (known : Option PlaceMap) (t : Tables) (old new : DiskView) → OnlyReads old new → ChangesFirstFree known t old new
 first_reads known t old new reads = record {
-  store_has = λ store is valid reserve. frame_reads t.slots (first_free store.held) (first_within t store known old.size is valid reserve) old new reads;
+  store_has = λ store is valid free. frame_reads t.slots (first_free store.held) (first_within t store known old.size is valid free) old new reads;
 }
 
 pub first_changed : (known : Option PlaceMap) (t : Tables) (e : Ending) (old new : DiskView) → Changes (slot_at t.slots) e old new → ChangesFirstFree known t old new
 first_changed known t e old new changes = record {
-  store_has = λ store is valid reserve. frame_changed t.slots (first_free store.held) (first_within t store known old.size is valid reserve) e old new changes;
+  store_has = λ store is valid free. frame_changed t.slots (first_free store.held) (first_within t store known old.size is valid free) e old new changes;
 }
 
-pub first_on : (known : Option PlaceMap) (t : Tables) (slot : ℕ) → HasSlot t slot → (old mid new : DiskView) → Changes (slot_at t.slots) Done old mid → IsLater mid new → ChangesSlotAlone t.slots slot mid new
+pub first_on : {spares : ℕ} (known : Option PlaceMap) (t : Tables) (slot : ℕ) → HasSlotBeside spares t slot → (old mid new : DiskView) → Changes (slot_at t.slots) Done old mid → IsLater mid new → ChangesSlotAlone t.slots slot mid new
     → ChangesFirstFree known t old new
-first_on known t slot has old mid new changes later frame = record {
-  store_has = λ store is valid reserve.
-      let at : IsSlotOf slot store = (has.slot_is old.size known).store_has store is valid reserve in
+first_on {spares = spares} known t slot has old mid new changes later frame = record {
+  store_has = λ store is valid free.
+      let at : IsSlotOf spares slot store = (has.slot_is old.size known).store_has store is valid free in
       subst (λ (i : ℕ). ChangesSlotAlone t.slots i old new) at.first
       (frame_on t.slots slot (omega (arith, at.within, is.slots_are)) old mid new later frame changes);
 }
 
 pub first_after : (known : Option PlaceMap) (t : Tables) (old mid new : DiskView) → OnlyReads old mid → IsLater mid new → ChangesFirstFree known t mid new → ChangesFirstFree known t old new
 first_after known t old mid new reads later frame = record {
-  store_has = λ store is valid reserve.
-      frame_after t.slots (first_free store.held) (first_within t store known old.size is valid reserve) old mid new later
-      (frame.store_has store is (subst (λ (size : ℕ). IsValidFor size store) (sym reads.later.size_is) valid) reserve) reads;
+  store_has = λ store is valid free.
+      frame_after t.slots (first_free store.held) (first_within t store known old.size is valid free) old mid new later
+      (frame.store_has store is (subst (λ (size : ℕ). IsValidFor size store) (sym reads.later.size_is) valid) free) reads;
 }

@@ -20,7 +20,7 @@ use Rattle.store_model.specs.Files.{Files}
 use Rattle.store_model.specs.Image.{Store}
 use Rattle.store_model.specs.Indexing.{with_entries}
 use Rattle.store_model.specs.Slots.{HasKey, newest, free_slots, first_free}
-use Rattle.store_model.specs.Steps.{AnyKey, CanSeal, MaySeal, FitsHeld, KeepsCopies, with_sealed}
+use Rattle.store_model.specs.Steps.{AnyKey, CanHold, MaySeal, FitsHeld, KeepsCopies, with_sealed}
 use Rattle.store_model.specs.Trees.{HasNewest}
 use Rattle.store_state.specs.Comparing.{FitSoFar}
 use Rattle.store_state.specs.Invariant.{IndexesFiles}
@@ -30,20 +30,24 @@ use Rattle.store_state.specs.Tables.{Represents, Runs, OfEach}
 
 -- ---- when
 
--- a slot for one more container: the closed one of least number, with two more to spare
-pub record IsSlotOf (slot : ℕ) (store : Store) : Type 0 where
-  pub spare : RESERVE < free_slots store.held
+-- a slot for one more container: the closed one of least number, with so many more to spare
+pub record IsSlotOf (spares slot : ℕ) (store : Store) : Type 0 where
+  pub spare : spares < free_slots store.held
   pub first : slot ≡ first_free store.held
   pub within : slot < store.slots
 
 -- it is that of each store that the tables represent
-abbrev pub IsSlotFor : Tables → ℕ → Type 0
-IsSlotFor t slot = (size : ℕ) (known : Option PlaceMap) → OfEach size known t (IsSlotOf slot)
+abbrev pub IsSlotFor : ℕ → Tables → ℕ → Type 0
+IsSlotFor spares t slot = (size : ℕ) (known : Option PlaceMap) → OfEach size known t (IsSlotOf spares slot)
 
--- a container more may be sealed, in this slot: an id is left
-pub record HasSlot (t : Tables) (slot : ℕ) : Type 0 where
-  pub slot_is : IsSlotFor t slot
+-- a container more may be written, to this slot: an id is left
+pub record HasSlotBeside (spares : ℕ) (t : Tables) (slot : ℕ) : Type 0 where
+  pub slot_is : IsSlotFor spares t slot
   pub below : t.held.last_id < LAST_ID
+
+-- one that an actor fills may be: the slots of the reserve stay
+abbrev pub HasSlot : Tables → ℕ → Type 0
+HasSlot t slot = HasSlotBeside RESERVE t slot
 
 -- Why none may: two slots or fewer are free; or more are, and the ids are at their end.
 abbrev pub IsSlotRefusal : Tables → ℕ → Option PlaceMap → Refusal → Type 0
@@ -79,11 +83,12 @@ sealing S id filled store files =
     one_step (Stands S store files) (Stands S (with_sealed id filled.kind filled.segments store) files)
 
 -- Segments may stand beside what is held. S has no collisions, and each segment fits the newest copy of its key in an image, if the index
--- has one; or there is none of any.
+-- has one; or there is none of any; or each is the newest copy of its key.
 abbrev pub FitBeside : (List ℕ → Type 0) → PlaceMap → Kind → List Segment → Store → List ℕ → Type 0
 FitBeside S index kind segments store image =
     (HasNoCollisions S × AllByRecursion (FitsHeld (HasKey index) kind store image) segments)
     ⊎ AllByRecursion (λ s. newest 0 store.held (segment_key kind s) ≡ None) segments
+    ⊎ AllByRecursion (λ s. HasNewest store.held (segment_key kind s) s.level s.bytes image) segments
 
 -- What becomes of what the content held: where the container was written the newest copy of each key that the index had goes on, and
 -- that of each of the segments is the segment; where it was refused each goes on.
@@ -108,14 +113,14 @@ pub record SealsContainer (t : Tables) (id : ℕ) (filled : Contents) (ending : 
       → AllByRecursion (MaySeal (IsIn among) filled.kind) filled.segments
       → FitBeside (IsIn among) index filled.kind filled.segments store given → KeepsHeld index ending id filled store given held
 
--- the same, where the index is changed first; a refusal may come after that change
+-- from P to Q, where the index is changed first: a refusal may come after that change
+abbrev pub index_first : (List ℕ → Type 0) → (List ℕ → Type 0) → Way
+index_first P Q = record { before = P; between = λ c. P c ⊎ Q c; rest = P; after = Q }
+
+-- the same, where the index is changed first
 abbrev pub sealing_indexed : (List ℕ → Type 0) → ℕ → Contents → Store → Files → Way
-sealing_indexed S id filled store files = record {
-  before = Stands S store files;
-  between = λ c. Stands S store files c ⊎ Stands S (with_sealed id filled.kind filled.segments store) files c;
-  rest = Stands S store files;
-  after = Stands S (with_sealed id filled.kind filled.segments store) files;
-}
+sealing_indexed S id filled store files =
+    index_first (Stands S store files) (Stands S (with_sealed id filled.kind filled.segments store) files)
 
 pub record SealsIndexed (t : Tables) (id : ℕ) (filled : Contents) (ending : Ending) (old new : DiskView) : Type 0 where
   pub frame : (known : Option PlaceMap) → ChangesFirstFree known t old new
@@ -128,6 +133,15 @@ pub record SealsIndexed (t : Tables) (id : ℕ) (filled : Contents) (ending : En
       → AllByRecursion (MaySeal (IsIn among) filled.kind) filled.segments
       → FitBeside (IsIn among) index filled.kind filled.segments store given → KeepsHeld index ending id filled store given held
 
+-- the store with the container, before which there were slots to spare
+abbrev pub StandsSealed : (List ℕ → Type 0) → ℕ → Contents → Store → Files → List ℕ → Type 0
+StandsSealed S id filled store files image =
+    (RESERVE < free_slots store.held) × Stands S (with_sealed id filled.kind filled.segments store) files image
+
+-- the same, in a slot that was answered as one for a container more
+abbrev pub sealing_compared : (List ℕ → Type 0) → ℕ → Contents → Store → Files → Way
+sealing_compared S id filled store files = index_first (Stands S store files) (StandsSealed S id filled store files)
+
 -- A container that was compared is sealed: of each store that the tables represent and whose map the index is, where no two
 -- data segments of S of one digest differ. What it leaves as it was it leaves so on any disk.
 pub record SealsCompared (t : Tables) (known : Option PlaceMap) (id : ℕ) (filled : Contents) (ending : Ending) (old new : DiskView)
@@ -135,7 +149,7 @@ pub record SealsCompared (t : Tables) (known : Option PlaceMap) (id : ℕ) (fill
   pub frame : ChangesFirstFree known t old new
   pub moves : (among : ByteSet) (store : Store) (files : Files) (map : PlaceMap) → known ≡ Some map → Represents store known t
       → IndexesFiles map files → HasNoCollisions (IsIn among) → AllByRecursion (MaySeal (IsIn among) filled.kind) filled.segments
-      → Moves (sealing_indexed (IsIn among) id filled store files) ending old new
+      → Moves (sealing_compared (IsIn among) id filled store files) ending old new
   pub holds : (among : ByteSet) (store : Store) (files : Files) (map : PlaceMap) (given held : List ℕ) → known ≡ Some map
       → Represents store known t → old.content ≡ Some given → new.content ≡ Some held → Stands (IsIn among) store files given
       → HasNoCollisions (IsIn among) → AllByRecursion (MaySeal (IsIn among) filled.kind) filled.segments
@@ -176,14 +190,19 @@ pub record HasPlacesOf (filled : Contents) (slot : ℕ) (before after : Option (
 -- The tables are those of before with a container more, under the next id: of each store that they and the map of the index
 -- were those of, they are those of the store with it. With whatever map they were those of some store, also with none, they are so
 -- with that map and the places of the container.
-pub record HasSealed (old : Tables) (size : ℕ) (known : Option PlaceMap) (slot : ℕ) (filled : Contents) (new : Tables) (id : ℕ)
-    : Type 0 where
+pub record HasWritten (spares : ℕ) (old : Tables) (size : ℕ) (known : Option PlaceMap) (slot : ℕ) (filled : Contents) (new : Tables)
+    (id : ℕ) : Type 0 where
   pub number : id ≡ old.held.last_id + 1
   pub last_is : new.held.last_id ≡ id
-  pub can : OfEach size known old (CanSeal id filled.kind filled.segments)
+  pub can : OfEach size known old (CanHold spares id filled.kind filled.segments)
   pub represents : OfEach size known old
       (λ store. Represents (with_sealed id filled.kind filled.segments store) (places_with filled slot known) new)
   -- of the tables alone, whatever the index has
   pub alone : OfEach size None old
-      (λ store. CanSeal id filled.kind filled.segments store × Represents (with_sealed id filled.kind filled.segments store) None new)
-  pub runs : (map : Option PlaceMap) → Runs size map old → Runs size (places_with filled slot map) new
+      (λ store. CanHold spares id filled.kind filled.segments store × Represents (with_sealed id filled.kind filled.segments store) None new)
+  -- where a slot is left
+  pub runs : (map : Option PlaceMap) → 1 ≤ spares → Runs size map old → Runs size (places_with filled slot map) new
+
+-- so it is of one that an actor fills
+abbrev pub HasSealed : Tables → ℕ → Option PlaceMap → ℕ → Contents → Tables → ℕ → Type 0
+HasSealed old size known slot filled new id = HasWritten RESERVE old size known slot filled new id

@@ -17,7 +17,7 @@ ghost use Rattle.segment_index.specs.Places.{KnownMap};
 ghost use Rattle.store_state.specs.Indexing.{IsChangeRefusal, AreHad};
 ghost use Rattle.store_state.specs.Settled.{Steps};
 ghost use Rattle.store_state.specs.Tables.{Runs};
-ghost use Rattle.ingest_steps.specs.Sealing.{HasSlot, IsSlotRefusal, SealsContainer, SealsIndexed, HasSealed, HasPlacesOf, ChangesSlotAlone, places_with};
+ghost use Rattle.ingest_steps.specs.Sealing.{HasSlot, HasSlotBeside, IsSlotRefusal, SealsContainer, SealsIndexed, HasWritten, HasPlacesOf, ChangesSlotAlone, places_with};
 
 use container_log::seal;
 use container_meta::{OpenContainer, Place};
@@ -70,7 +70,7 @@ fn write_container<D: Disk>(
     }
 }
 
-/// Writes a container under the next id to a slot that `slot_for` answered. `image` is a buffer of `disk_format::SLOT_BYTES`
+/// Writes a container under the next id to the closed slot of least number. `image` is a buffer of `disk_format::SLOT_BYTES`
 /// bytes. The one refusal is `DiskWrite`.
 pub fn seal_container<D: Disk>(
     disk: &mut D,
@@ -81,7 +81,7 @@ pub fn seal_container<D: Disk>(
     image: &mut [u8],
 ) -> Result<(), Refusal>
     requires state { (known : _) × Runs (D.view disk.old).size known tables.now }
-    requires slot { HasSlot tables.now slot }
+    requires slot { (spares : _) × HasSlotBeside spares tables.now slot }
     requires id { id ≡ tables.now.held.last_id + 1 }
     requires there { 1 ≤ length filled.now.segments }
     requires image { length image.old ≡ SLOT_BYTES }
@@ -109,19 +109,20 @@ fn data_bytes(filled: &OpenContainer) -> u32
 // Takes a container that was written into the tables.
 fn take_sealed(tables: &mut Tables, slot: u32, id: u64, filled: &OpenContainer, bytes: u32)
     requires state { (size : _) × (known : _) × Runs size known tables.old }
-    requires slot { HasSlot tables.old slot }
+    requires slot { (spares : _) × HasSlotBeside spares tables.old slot }
     requires id { id ≡ tables.old.held.last_id + 1 }
     requires bytes { bytes ≡ bytes_in filled.now.segments }
     requires right { IsHeader (header_of id filled.now.kind filled.now.segments) }
-    ensures { (size : ℕ) (known : Option PlaceMap) → HasSealed tables.old size known slot filled.now tables.new id }
+    ensures { (spares size : ℕ) (known : Option PlaceMap) → HasSlotBeside spares tables.old slot
+        → HasWritten spares tables.old size known slot filled.now tables.new id }
 {
     tables
         .held
         .take_container(slot, id, filled.kind(), filled.len() as u32, bytes);
 }
 
-/// Puts the places of a container's segments into the index, and writes it under the next id, which is answered, to a slot
-/// that `slot_for` answered. `before` has the places that the keys have, and `image` is a buffer of
+/// Puts the places of a container's segments into the index, and writes it under the next id, which is answered, to the closed
+/// slot of least number. `before` has the places that the keys have, and `image` is a buffer of
 /// `disk_format::SLOT_BYTES` bytes.
 ///
 /// Refusals: `Memory`, which leaves the map as it was; `Damaged`, where the index's own bytes break its form; `DiskWrite`.
@@ -137,13 +138,13 @@ pub fn seal_indexed<D: Disk, X: Index>(
 ) -> Result<u64, Refusal>
     requires serves { X.serves index.old (D.view disk.old).size }
     requires state { Runs (D.view disk.old).size None tables.old }
-    requires slot { HasSlot tables.old slot }
+    requires slot { (spares : _) × HasSlotBeside spares tables.old slot }
     requires there { 1 ≤ length filled.now.segments }
     requires had { AreHad (D.view disk.old).size (X.places index.old (D.view disk.old).content) filled.now.kind
         (entries_from 0 filled.now.segments) before.now }
     requires image { length image.old ≡ SLOT_BYTES }
-    ensures ok { IfOk result (HasSealed tables.old (D.view disk.old).size (X.places index.old
-        (D.view disk.old).content) slot filled.now tables.new) }
+    ensures ok { IfOk result (λ id. (spares : ℕ) → HasSlotBeside spares tables.old slot → HasWritten spares tables.old
+        (D.view disk.old).size (X.places index.old (D.view disk.old).content) slot filled.now tables.new id) }
     ensures map { OnOk result (HasPlacesOf filled.now slot (X.places index.old) (X.places index.new)
         (D.view disk.old).content (D.view disk.new).content) }
     ensures refused { IfErr result (IsChangeRefusal (X.places index.old (D.view disk.old).content)) }

@@ -29,7 +29,7 @@ use Rattle.store_model.specs.Collisions.{ByteSet, IsIn}
 use Rattle.store_model.specs.Slots.{Copy, IsIndexOf, key_set_of, newest}
 use Rattle.store_model.proofs.Counted.{held_keys, indexed_keys, of_index}
 use Rattle.store_model.proofs.Lookups.{partial_of}
-use Rattle.store_model.specs.Standing.{IsFileOf, IsStoreWith}
+use Rattle.store_model.specs.Standing.{IsFileOf, IsStoreOf}
 use Rattle.store_model.specs.Trees.{HoldsTree, file_tree}
 use Rattle.store_model.proofs.Copies.{some_same}
 use Rattle.store_model.proofs.Roots.{root_of_name}
@@ -171,7 +171,7 @@ name_by held image (Some n) file bytes filed is = (n, refl)
 name_by held image None (Some other) bytes filed is = absurd is
 name_by held image None None bytes filed is = absurd (let wrong : None ≡ Some bytes = filed in cc)
 
-module _ (store : Store) (files : Files) (R : Type 0) (image : List ℕ) (holds : IsStoreWith store files image R) where
+module _ (store : Store) (files : Files) (image : List ℕ) (holds : IsStoreOf store files image) where
   file_to_come : (name : List ℕ) (named : Named) → finite.get (names_of store) name ≡ Some named → IsFileToCome store.held image (finite.get files name) named.root
   file_to_come name named found =
       file_by store.held image named (finite.get files name)
@@ -249,14 +249,14 @@ module _ (store : Store) (files : Files) (R : Type 0) (image : List ℕ) (holds 
         (λ later. visited_by es way.1.0 name bytes key named later found filed has way.1.1.2))
 
 -- what was visited is needed
-pub needed_visited : (store : Store) (files : Files) (R : Type 0) (image : List ℕ) (index : PlaceMap) (old new : DiskView) (visited : List Top) → old.content ≡ Some image → IsStoreWith store files image R
+pub needed_visited : (store : Store) (files : Files) (image : List ℕ) (index : PlaceMap) (old new : DiskView) (visited : List Top) → old.content ≡ Some image → IsStoreOf store files image
     → IsIndexOf store.held index → VisitsRoots (WasRead (Some index) old new) (HasPlace (Some index)) (listing_of (names_of store)) visited → (key : List ℕ) → IsVisited visited key → IsReachable files key
-needed_visited store files R image index old new visited told holds newest way key is =
-    needed_by store files R image holds index old new told newest (finite.entries (names_of store)) visited key (entries_found (names_of store)) way is
+needed_visited store files image index old new visited told holds newest way key is =
+    needed_by store files image holds index old new told newest (finite.entries (names_of store)) visited key (entries_found (names_of store)) way is
 
 -- what is needed was visited
-pub visited_needed : (store : Store) (files : Files) (R : Type 0) (image : List ℕ) (index : PlaceMap) (old new : DiskView) (visited : List Top) → old.content ≡ Some image → IsStoreWith store files image R
+pub visited_needed : (store : Store) (files : Files) (image : List ℕ) (index : PlaceMap) (old new : DiskView) (visited : List Top) → old.content ≡ Some image → IsStoreOf store files image
     → IsIndexOf store.held index → VisitsRoots (WasRead (Some index) old new) (HasPlace (Some index)) (listing_of (names_of store)) visited → (key : List ℕ) → IsReachable files key → IsVisited visited key
-visited_needed store files R image index old new visited told holds newest way key (name, (bytes, (filed, has))) =
+visited_needed store files image index old new visited told holds newest way key (name, (bytes, (filed, has))) =
     let named = name_by store.held image (finite.get (names_of store) name) (finite.get files name) bytes filed (holds.files_are name) in
-    visited_by store files R image holds index old new told newest (finite.entries (names_of store)) visited name bytes key named.0 (sym (finite.get-entries (names_of store) name) ∙ named.1) named.1 filed has way
+    visited_by store files image holds index old new told newest (finite.entries (names_of store)) visited name bytes key named.0 (sym (finite.get-entries (names_of store) name) ∙ named.1) named.1 filed has way

@@ -24,11 +24,11 @@ use Rattle.store_model.specs.Collisions.{ByteSet, IsIn, IsOf, OpensAs}
 use Rattle.store_model.specs.Files.{Files, Stored}
 use Rattle.store_model.specs.Freeing.{FreesSome, FreesTo, IsPartlyFreed, SameButGates, with_all_freed}
 use Rattle.store_model.specs.Image.{Store, Encodes, names_of}
-use Rattle.store_model.specs.Reserve.{HasReserve, IsReachable}
+use Rattle.store_model.specs.Reserve.{IsReachable}
 use Rattle.store_model.specs.Slots.{Copy, IsIndexOf, free_slots, key_set_of, newest}
 use Rattle.store_model.proofs.Counted.{indexed_keys, of_index}
 use Rattle.store_model.proofs.Lookups.{partial_of}
-use Rattle.store_model.specs.Standing.{CanBeOpened, IsStoreWith}
+use Rattle.store_model.specs.Standing.{IsStoreOf}
 use Rattle.store_model.proofs.FreedFiles.{freed_stands, partly_opens}
 use Rattle.store_model.proofs.Once.{store_once}
 use Rattle.store_state.specs.declared.open_store.OpenStore.{OpenStore}
@@ -50,24 +50,21 @@ use Rattle.recovery.proofs.Steps.{opens_passed}
 -- ---- files
 
 -- the trees of all names are held
-all_held : (counts : ByteSet) (store : Store) (files : Files) (R : Type 0) (image : List ℕ) (holds : IsStoreWith store files image R)
+all_held : (counts : ByteSet) (store : Store) (files : Files) (image : List ℕ) (holds : IsStoreOf store files image)
     → ((key : List ℕ) (copy : Copy) → newest 0 store.held key ≡ Some copy → IsIn counts key) → (es : List (List ℕ × Named)) → All (λ e. finite.get (names_of store) e.0 ≡ Some e.1) es
     → AllHeld counts store.held image (map named_root es)
-all_held counts store files R image holds count [] all = tt
-all_held counts store files R image holds count (e ∷ es) all = (
-  held_start store files R image holds counts count e.0 e.1 (All-head (λ x. finite.get (names_of store) x.0 ≡ Some x.1) e es all),
-  all_held counts store files R image holds count es (All-tail (λ x. finite.get (names_of store) x.0 ≡ Some x.1) e es all),
+all_held counts store files image holds count [] all = tt
+all_held counts store files image holds count (e ∷ es) all = (
+  held_start store files image holds counts count e.0 e.1 (All-head (λ x. finite.get (names_of store) x.0 ≡ Some x.1) e es all),
+  all_held counts store files image holds count es (All-tail (λ x. finite.get (names_of store) x.0 ≡ Some x.1) e es all),
 )
 
 module _ (store : Store) (among : ByteSet) (stored : Stored) (given : List ℕ) (right : Encodes given store) (opens : OpensAs (IsIn among) stored given) where
-  abbrev reserve : Type 0
-  reserve = HasReserve (IsReachable stored.files) store.held
-
-  can_open : IsStoreWith store stored.files given reserve
-  can_open = subst (λ (s : Store). CanBeOpened s stored.files given) (store_once given opens.store store opens.holds.right right) opens.holds
+  of_store : IsStoreOf store stored.files given
+  of_store = subst (λ (s : Store). IsStoreOf s stored.files given) (store_once given opens.store store opens.stands.holds.right right) opens.stands.holds
 
   names_held : (index : PlaceMap) → IsIndexOf store.held index → AllHeld (key_set_of index) store.held given (listing_of (names_of store))
-  names_held index all = all_held (key_set_of index) store stored.files reserve given can_open (indexed_keys store.held index all) (finite.entries (names_of store)) (entries_found (names_of store))
+  names_held index all = all_held (key_set_of index) store stored.files given of_store (indexed_keys store.held index all) (finite.entries (names_of store)) (entries_found (names_of store))
 
   opens_none : (c : List ℕ) → IsPartlyFreed store [] given c → OpensAs (IsIn among) stored c
   opens_none c part = partly_opens (IsIn among) (IsReachable stored.files) stored store [] given c (λ key is. is) (λ key is. is) opens right tt part
@@ -75,10 +72,10 @@ module _ (store : Store) (among : ByteSet) (stored : Stored) (given : List ℕ) 
   module _ (index : PlaceMap) (newest : IsIndexOf store.held index) (old new : DiskView) (told : old.content ≡ Some given) (visited : List Top)
       (visits : VisitsRoots (WasRead (Some index) old new) (HasPlace (Some index)) (listing_of (names_of store)) visited) where
     fewer : (key : List ℕ) → IsVisited visited key → IsReachable stored.files key
-    fewer = needed_visited store stored.files reserve given index old new visited told can_open newest visits
+    fewer = needed_visited store stored.files given index old new visited told of_store newest visits
 
     needed : (key : List ℕ) → IsReachable stored.files key → IsVisited visited key
-    needed = visited_needed store stored.files reserve given index old new visited told can_open newest visits
+    needed = visited_needed store stored.files given index old new visited told of_store newest visits
 
     opens_some : (freed c : List ℕ) → FreesSome (IsVisited visited) freed store → IsPartlyFreed store freed given c → OpensAs (IsIn among) stored c
     opens_some freed c frees part = partly_opens (IsIn among) (IsVisited visited) stored store freed given c fewer needed opens right frees part

@@ -16,14 +16,14 @@ use Rattle.gc_steps.proofs.FewSources.{few_sealed}
 use Rattle.gc_steps.proofs.NoNearer.{as_many}
 use Rattle.store_model.specs.Files.{Stored}
 use Rattle.store_model.specs.Image.{Store}
-use Rattle.store_model.specs.Slots.{first_free, free_slots, with_slot}
+use Rattle.store_model.specs.Slots.{HasFree, first_free, free_slots, with_slot}
 use Rattle.store_state.specs.Tables.{IsFirstFree, RepresentsSlots}
 use Rattle.store_state.specs.declared.slot_table.SlotTable.{SlotTable}
 use Rattle.store_core.specs.Core.{Effect, Row, Steps, StopsAfter, next_id}
 use Rattle.store_core.specs.Runs.{ChangesTo, IsAt, IsNoGcStep, changes_by}
 use Rattle.store_core.specs.State.{CoreState, Event, IsUnderWayIn}
 use Rattle.store_core.proofs.SafeSteps.{alone}
-use Rattle.disk_format.specs.declared.numbers.TheConstants.{LAST_ID, RESERVE}
+use Rattle.disk_format.specs.declared.numbers.TheConstants.{LAST_ID}
 use Rattle.container_meta.specs.Format.{is_id}
 use Rattle.std.specs.Prelude.{nat_le}
 use Rattle.std.proofs.lemmas.Bool.{leb-true}
@@ -142,14 +142,14 @@ module _ (old new : CoreState) where
     abbrev image : List ℕ
     image = at.stands.known.0
 
-    reserve : RESERVE ≤ free_slots store.held
-    reserve = (at.stands.each image (old.disk.as_read image at.stands.known.1)).holds.reserve
+    free : HasFree store.held
+    free = (at.invariant image at.stands.known.1).has_free
 
     -- no step but a seal answers an id
     last_still : (actor : ℕ) (buf : List ℕ) (step : StepValue) (answer : Answer) (n : ℕ) → IsNoGcStep step → IsUnsealed step (Ok answer) → Row step actor (Ok answer) buf old new → last_by answer n ≡ n
     last_still actor buf (asked.Seal filled) answer n other unsealed row = absurd unsealed
     last_still actor buf asked.GcStep answer n other unsealed row = absurd other
-    last_still actor buf asked.Stat (answers.Sealed id) n other unsealed row = absurd (let wrong = row.0.store_has store (alone store old.known old.tables at.represents) at.valid reserve in cc)
+    last_still actor buf asked.Stat (answers.Sealed id) n other unsealed row = absurd (let wrong = row.0.store_has store (alone store old.known old.tables at.represents) at.valid free in cc)
     last_still actor buf step (answers.Sealed id) n other unsealed row = absurd row
     last_still actor buf step answer n other unsealed row = refl
 

@@ -5,7 +5,7 @@ use Rattle.store_model.specs.Files.{Stored}
 use Rattle.store_model.specs.Standing.{StandsFor}
 use Rattle.store_model.proofs.FreedFiles.{opens_of, stands_of}
 use Rattle.store_core.specs.State.{CoreState}
-use Rattle.store_core.proofs.Crashes.{last_at}
+use Rattle.store_core.proofs.Crashes.{image_at}
 use Rattle.plain_machine.specs.Machine.{Machine, RunState, Running, Stopped, MayBeFound, IsSound}
 use Rattle.script_runner.specs.Follows.{Follows, FollowsBy}
 use Rattle.script_runner.specs.Sessions.{Sessions}
@@ -17,7 +17,7 @@ runs_stands S stored image of = stands_of S stored image (opens_of S stored imag
 sound_by : (S : List ℕ → Type 0) (m : Machine) (sessions : Sessions) (c : CoreState) (run : RunState) → m.state ≡ run → c.disk.content ≡ Some m.content → FollowsBy run S m sessions c → IsSound m
 sound_by S m sessions c Running is content stands =
     let at = stands.begins.is_at in
-    let of : IsOf S m.stored m.content = (stands.begins.store, (at.stands.each m.content (c.disk.as_read m.content content), last_at S stands.begins.store m.stored c at)) in
+    let of : IsOf S m.stored m.content = image_at S stands.begins.store m.stored c at m.content (c.disk.as_read m.content content) in
     (m.stored, (subst (λ (state : RunState). MayBeFound state m.stored m.stored) (sym is) refl, runs_stands S m.stored m.content of))
 sound_by S m sessions c (Stopped other) is content stands =
     let of = stands.content in

@@ -39,9 +39,10 @@ opened_by content v c new durable reads told = record {
   on = record {
     represents = new.represents;
     valid = subst (λ (size : ℕ). IsValidFor size new.store) (sym reads.only.later.size_is) new.valid;
-    reserve = new.reserve;
+    has_free = omega (arith, new.reserve);
     settled = durable_settled c.tables.slots c.disk durable;
   };
+  reserve = new.reserve;
   told = reads.only.content_is ∙ told;
 }
 

@@ -43,7 +43,7 @@ use Rattle.store_core.specs.Opening.{BeginsAt, IsGivenUp, IsKept}
 use Rattle.store_core.specs.Runs.{IsAt, IsSafeIn}
 use Rattle.store_core.specs.State.{CoreState, Event, IsUp, UnlessStopped, IsUnderWayIn}
 use Rattle.store_core.proofs.CoreRuns.{running_step}
-use Rattle.store_core.proofs.Crashes.{last_at}
+use Rattle.store_core.proofs.Crashes.{image_at}
 use Rattle.store_core.proofs.Making.{up_of}
 use Rattle.store_core.proofs.Opened.{begins_at, kept_runs, new_runs}
 use Rattle.store_core.proofs.RunningOn.{step_runs}
@@ -85,6 +85,7 @@ module _ (old new : CoreState) (reads : OnlyReads old.disk new.disk) (tables_are
     valid = subst (λ (size : ℕ). IsValidFor size store) (sym reads.later.size_is) at.valid;
     stands = record { known = (at.stands.known.0, reads.content_is ∙ at.stands.known.1); each = λ image there. at.stands.each image (reads.images_are image there) };
     last_is = ap (λ (tables : Tables). tables.journal.last) tables_are ∙ at.last_is;
+    reserve = at.reserve;
     invariant = λ image told.
         let was = at.invariant image (sym reads.content_is ∙ told) in
         record {
@@ -92,6 +93,7 @@ module _ (old new : CoreState) (reads : OnlyReads old.disk new.disk) (tables_are
           files_are_indexed = was.files_are_indexed;
           pins_are_closed = subst (AllByRecursion (HoldsPart (HasKey at.index) store.held image)) (sym parts_are) was.pins_are_closed;
           reserve_holds = was.reserve_holds;
+          has_free = was.has_free;
         };
     many = ap length parts_are ∙ at.many;
     under_way = subst (λ (t : Tables). IsUnderWayIn t.held new.collection) (sym tables_are) (subst (IsUnderWayIn old.tables.held) (sym collection_is) at.under_way);
@@ -147,7 +149,7 @@ found_by : (S : List ℕ → Type 0) (m : Machine) (sessions : Sessions) (c : Co
     → (image : List ℕ) → c.disk.images image → IsOfFound S m.state m.stored image
 found_by S m sessions c Running is stands image there =
     let at = stands.begins.is_at in
-    let of : IsOf S m.stored image = (stands.begins.store, (at.stands.each image there, last_at S stands.begins.store m.stored c at)) in
+    let of : IsOf S m.stored image = image_at S stands.begins.store m.stored c at image there in
     (m.stored, (subst (λ (state : RunState). MayBeFound state m.stored m.stored) (sym is) refl, of))
 found_by S m sessions c (Stopped other) is stands image there = stands.images image there
 
@@ -260,7 +262,7 @@ module _ (C : Type 0) (state : C → CoreState) (S : List ℕ → Type 0) (m : M
         let at = begun.is_at in
         let stands = at.stands.each m.content (mid.disk.as_read m.content (acts.reads.only.content_is ∙ follows.content_is)) in
         let answer : counted acts.holdings ≡ answers.Stat (finite.len (names_of store)) (entries_in store.held) (bytes_in_slots store.held) (length store.held - free_slots store.held) (free_slots store.held) =
-        steps.made.row.0.store_has store (alone store mid.known mid.tables at.represents) at.valid stands.holds.reserve in
+        steps.made.row.0.store_has store (alone store mid.known mid.tables at.represents) at.valid (omega (arith, at.reserve)) in
         acts.files_are ∙ files_told acts.holdings (finite.len (names_of store)) (entries_in store.held) (bytes_in_slots store.held) (length store.held - free_slots store.held) (free_slots store.held) answer
         ∙ same_count store found.files m.content stands.holds
 
@@ -338,8 +340,8 @@ module _ (C : Type 0) (state : C → CoreState) (S : List ℕ → Type 0) (m : M
         (subst (λ (x : Refusal). plain_refused.RefusesReopen x m (record m { faults = after.disk.faults })) (sym memory.0) (same_machine (ap (λ (c : C). (state c).disk.faults) memory.1)))
     | inr given_up ↦
         let of = content_found.1.1 in
-        let opens : recovery.Opens of.0 (Err refusal) = shown_content before.disk after.disk (IsGivenUp refusal) m.content given_up.1 follows.content_is of.0 of.1.0.holds.right in
-        kept_line given_up.2.only given_up.3 same refusal (refused_by of.0 refusal of.1.0.holds.reserve opens given_up.2.faults_are)
+        let opens : recovery.Opens of.store (Err refusal) = shown_content before.disk after.disk (IsGivenUp refusal) m.content given_up.1 follows.content_is of.store of.stands.holds.right in
+        kept_line given_up.2.only given_up.3 same refusal (refused_by of.store refusal of.reserve opens given_up.2.faults_are)
   ]
 
   -- `reopen` does what the machine does.

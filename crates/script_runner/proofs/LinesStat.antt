@@ -54,7 +54,7 @@ module _ (C : Type 0) (state : C → CoreState) (among : ByteSet) (distinct : Ha
       let store = running.begins.store in
       let stands = at.stands.each m.content ((state r.core).disk.as_read m.content follows.content_is) in
       let answer : counted h ≡ answers.Stat (finite.len (names_of store)) (entries_in store.held) (bytes_in_slots store.held) (length store.held - free_slots store.held) (free_slots store.held) =
-      steps.made.row.0.store_has store (alone store (state r.core).known (state r.core).tables at.represents) at.valid (at.invariant m.content follows.content_is).reserve_holds in
+      steps.made.row.0.store_has store (alone store (state r.core).known (state r.core).tables at.represents) at.valid (at.invariant m.content follows.content_is).has_free in
       rested C state among distinct m r s follows lines.Stat (replies.Stat h) 0 is onward steps.made.effect.disk.faults_are sessions steps.made.row.1 (
         (
           store,

@@ -44,10 +44,10 @@ module _ (name : List ℕ) (change : Change) (answer : Answer) (between new : Co
   store = was.store
 
   can : CanChangeName name change store
-  can = (effect.made.alone.store_has was.store was.represents was.valid was.reserve_holds).can.0
+  can = (effect.made.alone.store_has was.store was.represents was.valid was.has_free).can.0
 
   after : RepresentsNames (with_change name change store) new.tables
-  after = (effect.made.alone.store_has was.store was.represents was.valid was.reserve_holds).represents.names_are
+  after = (effect.made.alone.store_has was.store was.represents was.valid was.has_free).represents.names_are
 
   last_is : last_sequence store ≡ t.last
   last_is = sym was.represents.names_are.last_is ∙ last

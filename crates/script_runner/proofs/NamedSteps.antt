@@ -108,7 +108,7 @@ module _ (old new : CoreState) where
   names_on (asked.Claim seg) answer none effect up = same_names effect.tables.tables_are
   names_on (asked.Seal filled) (Ok answer) none effect up =
       let was = up.runs in
-      let now = (effect.made.alone.store_has was.store was.represents was.valid was.reserve_holds).represents.names_are in
+      let now = (effect.made.alone.store_has was.store was.represents was.valid was.has_free).represents.names_are in
       record {
         names = now.names_are ∙ sym was.represents.names_are.names_are;
         records = now.count ∙ sym was.represents.names_are.count;
@@ -133,7 +133,7 @@ module _ (old new : CoreState) where
   counts_none : (answer : Answer) (count : ℕ) → IsUp old → IsCount answer old → counted (Ok answer) count ≡ count
   counts_none answer count up is =
       let was = up.runs in
-      ap (λ (a : Answer). counted (Ok a) count) (is.store_has was.store was.represents was.valid was.reserve_holds)
+      ap (λ (a : Answer). counted (Ok a) count) (is.store_has was.store was.represents was.valid was.has_free)
 
   counted_on : (step : StepValue) (answer : Result Answer Refusal) (actor : ℕ) (buf : List ℕ) (count : ℕ) → PutsNone step answer → Row step actor answer buf old new → IsUp old → counted answer count ≡ count
   counted_on (asked.Commit name root) (Ok answer) actor buf count none row up = absurd none

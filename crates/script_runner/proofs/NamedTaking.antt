@@ -64,7 +64,7 @@ files_told h files segments bytes used free is = cc
 pub count_names : (h : Holdings) (c : CoreState) → IsUp c → IsCount (counted h) c → h.files ≡ finite.len c.tables.names
 count_names h c up is =
     let was = up.runs in
-    files_told h _ _ _ _ _ (is.store_has was.store was.represents was.valid was.reserve_holds)
+    files_told h _ _ _ _ _ (is.store_has was.store was.represents was.valid was.has_free)
     ∙ ap (λ (names : NameMap). finite.len names) (sym was.represents.names_are.names_are)
 
 -- ---- the lines

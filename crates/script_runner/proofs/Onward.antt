@@ -15,7 +15,7 @@ use Rattle.script_lines.specs.ReplyValue.{ReplyValue}
 use Rattle.store_model.specs.Files.{Stored}
 use Rattle.store_core.specs.Keeping.{IsHeldIn}
 use Rattle.store_core.specs.State.{CoreState, IsUp}
-use Rattle.store_core.proofs.Crashes.{last_at}
+use Rattle.store_core.proofs.Crashes.{image_at}
 use Rattle.plain_machine.specs.Machine.{Machine, Part, Idle, RunState, Running, Stopped, MayBeFound, part_in}
 use Rattle.plain_machine.specs.Runs.{StepBy, StepRunning}
 use Rattle.script_runner.specs.Acts.{RunnerState}
@@ -40,7 +40,7 @@ pub record Onward (S : List ℕ → Type 0) (m : Machine) (actor : ℕ) (old new
 
 -- each image is of the files
 of_files : (S : List ℕ → Type 0) (m : Machine) (c : CoreState) → FollowsStoreOf S m c → (image : List ℕ) → c.disk.images image → IsOf S m.stored image
-of_files S m c begins image is = (begins.store, (begins.is_at.stands.each image is, last_at S begins.store m.stored c begins.is_at))
+of_files S m c begins = image_at S begins.store m.stored c begins.is_at
 
 pub stays : (S : List ℕ → Type 0) (m : Machine) (sessions : Sessions) (actor : ℕ) (c : CoreState) → FollowsRunning S m sessions c → Onward S m actor c c
 stays S m sessions actor c running = record {

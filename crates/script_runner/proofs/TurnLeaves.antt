@@ -8,7 +8,7 @@ use Rattle.store_model.specs.Image.{Store}
 use Rattle.store_core.specs.Core.{CoreStep}
 use Rattle.store_core.specs.Runs.{IsAt}
 use Rattle.store_core.specs.State.{CoreState, Event}
-use Rattle.store_core.proofs.Crashes.{last_at}
+use Rattle.store_core.proofs.Crashes.{image_at}
 use Rattle.store_core.proofs.Stepping.{step_later}
 
 -- At its end, and at each moment between, a crash leaves an image of these files, or one that it might have left before.
@@ -21,7 +21,7 @@ module _ (S : List ℕ → Type 0) (stored : Stored) where
   pub keeps_here : (store : Store) (c : CoreState) → IsAt S store stored c → KeepsStored S stored c.disk c.disk
   keeps_here store c at = record {
     later = omega arith;
-    leaves = reads_leave (IsOf S stored) c.disk c.disk (λ image left. (store, (at.stands.each image left, last_at S store stored c at))) (reads_here c.disk);
+    leaves = reads_leave (IsOf S stored) c.disk c.disk (image_at S store stored c at) (reads_here c.disk);
   }
 
   pub keeps_on : (old mid new : DiskView) → KeepsStored S stored old mid → KeepsStored S stored mid new → KeepsStored S stored old new

@@ -1,7 +1,7 @@
 -- Why a step that a session asked for is refused, and what the machine says of that.
 use Rattle.std.proofs.Common.{◌≡◌, ◌≢◌, ◌⊎◌, inl, inr, ◌∙◌, ◌<◌, ◌≤◌, ℕ, List, Some, refl, sym, ap, subst}
 use Rattle.std.specs.Prelude.{slice_get}
-use Rattle.disk_format.specs.declared.numbers.TheConstants.{LAST_ID, RESERVE}
+use Rattle.disk_format.specs.declared.numbers.TheConstants.{LAST_ID}
 use Rattle.dd_disk.specs.Ending.{CountsFault, ending_of}
 use Rattle.dd_disk.specs.Shows.{Shows}
 use Rattle.container_meta.specs.declared.kind.Kind.{Kind}
@@ -21,7 +21,7 @@ use Rattle.refusals.specs.declared.refusal.Refusal.{Refusal}
 use Rattle.refusals.specs.declared.refusal.Refusal.TheVariants as refusals
 use Rattle.store_model.specs.Collisions.{HasNoCollisions}
 use Rattle.store_model.specs.Image.{Store, Encodes}
-use Rattle.store_model.specs.Slots.{free_slots}
+use Rattle.store_model.specs.Slots.{HasFree}
 use Rattle.store_state.specs.Comparing.{IsFirstUnlike}
 use Rattle.store_state.specs.Refused.{blames}
 use Rattle.ingest_steps.specs.Claiming.{DiffersFrom, IsClaimRefusal}
@@ -66,8 +66,8 @@ module _ (S : List ℕ → Type 0) (distinct : HasNoCollisions S) (m : Machine) 
   abbrev right : Encodes m.content store
   right = right_here S store m.stored old at.running.begins.is_at m.content at.content_is
 
-  abbrev reserve : RESERVE ≤ free_slots store.held
-  reserve = (at.running.begins.is_at.invariant m.content at.content_is).reserve_holds
+  has_free : HasFree store.held
+  has_free = (at.running.begins.is_at.invariant m.content at.content_is).has_free
 
   -- how a step is refused
   abbrev Answers : Due → Refusal → Machine → Type 0
@@ -125,7 +125,7 @@ module _ (S : List ℕ → Type 0) (distinct : HasNoCollisions S) (m : Machine) 
 
     pub has_slot : ((slot : ℕ) × sealing.HasSlot old.tables slot) → HasSlot m
     has_slot has =
-        let is = (has.1.slot_is old.disk.size old.known).store_has store at.running.begins.is_at.represents at.running.begins.is_at.valid reserve in
+        let is = (has.1.slot_is old.disk.size old.known).store_has store at.running.begins.is_at.represents at.running.begins.is_at.valid has_free in
         ((store, (right, is.spare)), subst (λ (id : ℕ). id < LAST_ID) at.running.begins.last_id_is has.1.below)
 
     abbrev IsSealCause : Refusal → Type 0
@@ -160,10 +160,10 @@ module _ (S : List ℕ → Type 0) (distinct : HasNoCollisions S) (m : Machine) 
       seal_refused (refusals.WrongPart kind) faults cause harmless unbroken = absurd (no_other kinds.Writing (part_of old.parts actor) (refusals.WrongPart kind) (ap kind_of gives.writing) cause)
       seal_refused (refusals.Unpinned key) faults cause harmless unbroken = inl (seal_unpinned key cause.0 cause.1 cause.2, stays faults)
       seal_refused (refusals.Full free) faults cause harmless unbroken =
-          inl ((store, (right, cause.1.store_has store at.running.begins.is_at.represents at.running.begins.is_at.valid reserve)), stays faults)
+          inl ((store, (right, cause.1.store_has store at.running.begins.is_at.represents at.running.begins.is_at.valid has_free)), stays faults)
       seal_refused refusals.Numbers faults cause harmless unbroken =
           inl (
-            (store, (right, cause.1.0.store_has store at.running.begins.is_at.represents at.running.begins.is_at.valid reserve)),
+            (store, (right, cause.1.0.store_has store at.running.begins.is_at.represents at.running.begins.is_at.valid has_free)),
             subst (λ (id : ℕ). LAST_ID ≤ id) at.running.begins.last_id_is cause.1.1,
             stays faults,
           )

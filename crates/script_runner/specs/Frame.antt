@@ -1,5 +1,5 @@
 -- What lines leave of the bytes of the disk, whatever its containers hold (docs/MODEL.md, 'Scripts').
-use Rattle.std.specs.Prelude.{◌≡◌, ◌≢◌, ℕ, ◌+◌, List, [], ◌∷◌, Some}
+use Rattle.std.specs.Prelude.{◌≡◌, ◌≢◌, ◌≤◌, ℕ, ◌+◌, List, [], ◌∷◌, Some}
 use Rattle.base_model.specs.Known.{KnownWith}
 use Rattle.dd_disk.specs.Ending.{Done, Reads}
 use Rattle.dd_disk.specs.Shows.{Shows}
@@ -7,7 +7,9 @@ use Rattle.dd_disk.specs.View.{CrashLeaves, DiskView, IsDurable}
 use Rattle.disk_format.specs.Layout.{half_cells}
 use Rattle.script_lines.specs.Grammar as lines
 use Rattle.script_lines.specs.Grammar.{LineValue}
+use Rattle.disk_format.specs.declared.numbers.TheConstants.{RESERVE}
 use Rattle.store_model.specs.Image.{Store, Encodes}
+use Rattle.store_model.specs.Slots.{free_slots}
 use Rattle.store_model.specs.Steps.{HasCellsFor}
 use Rattle.store_core.specs.Frame.{HadContainer, IsOn, KeepsBytes}
 use Rattle.store_core.specs.Opening.{IsNew}
@@ -59,11 +61,12 @@ LinesKeepWritten C state = (rs : List Replied) (s : Store) (base : List ℕ) (r 
     → KnownWith (state t.core).disk.content (KeepsOver rs s base)
     × CrashLeaves (KeepsOver rs s base) (state r.core).disk (state t.core).disk
 
--- The core is on the store of a content, which its disk has.
+-- The core is on the store of a content, which its disk has, and two slots or more are closed.
 pub record IsOnContent (content : List ℕ) (c : CoreState) : Type 0 where
   pub store : Store
   pub encodes : Encodes content store
   pub on : IsOn store c
+  pub reserve : RESERVE ≤ free_slots store.held
   pub told : c.disk.content ≡ Some content
 
 -- So is a core that was opened, whatever the containers hold. It was opened over anything that has a disk, as that was before.

@@ -97,11 +97,11 @@ module _ (old new : CoreState) (b : Collection) (ran : old.collection ≡ Some b
         → (chosen : ℕ) → steps_to_come chosen new.tables.held b ≡ steps_to_come chosen old.tables.held b
     sealed_steps filled id actor buf row effect chosen =
         let s = up.runs.store in
-        let now = effect.made.alone.store_has s up.runs.represents up.runs.valid up.runs.reserve_holds in
+        let now = effect.made.alone.store_has s up.runs.represents up.runs.valid up.runs.has_free in
         let first : IsFirstFree (first_free s.held) s.held = record {
           first = refl;
-          within = first_within s.held (omega (arith, up.runs.reserve_holds));
-          closed = first_closed s.held (omega (arith, up.runs.reserve_holds));
+          within = first_within s.held up.runs.has_free;
+          closed = first_closed s.held up.runs.has_free;
         } in
         as_many s.held old.tables.held new.tables.held b (first_free s.held) (header_of (next_id old) filled.kind filled.segments) chosen first up.runs.represents.slots_hold now.represents.slots_hold (omega arith) under
 

@@ -30,21 +30,21 @@ use Rattle.store_core.proofs.Sealing.{one_map}
 module _ (old new : CoreState) (name : List ℕ) (change : Change) (sequence : ℕ) (named : IsChanged old.tables name change new.tables sequence) (later : IsLater old.disk new.disk) (index : new.known ≡ old.known) where
   pub makes_change : Makes (ChangeName name change) old new
   makes_change = record {
-    can = record { store_has = λ store represents valid reserve. (named.can store represents.names_are, named.right) };
-    represents = record { store_has = λ store represents valid reserve. subst (λ (known : Option PlaceMap). Represents (with_change name change store) known new.tables) (sym index) (named.represents store old.known valid.follow represents) };
-    valid = record { store_has = λ store represents valid reserve. subst (λ (size : ℕ). IsValidFor size (with_change name change store)) (sym later.size_is) (valid_change old.disk.size name change store valid (named.can store represents.names_are) named.right) };
+    can = record { store_has = λ store represents valid free. (named.can store represents.names_are, named.right) };
+    represents = record { store_has = λ store represents valid free. subst (λ (known : Option PlaceMap). Represents (with_change name change store) known new.tables) (sym index) (named.represents store old.known valid.follow represents) };
+    valid = record { store_has = λ store represents valid free. subst (λ (size : ℕ). IsValidFor size (with_change name change store)) (sym later.size_is) (valid_change old.disk.size name change store valid (named.can store represents.names_are) named.right) };
     tells = λ places is. (places, index ∙ is);
     keeps_keys = λ before is after after_is key has. subst (λ (m : PlaceMap). HasKey m key) (one_map before after (sym is ∙ sym index ∙ after_is)) has;
     adds_keys = λ before is after after_is. tt;
     keeps_others = λ before is after after_is key none. ap (λ (m : PlaceMap). finite.get m key) (one_map after before (sym after_is ∙ index ∙ is));
     alone = record {
-      store_has = λ store represents valid reserve. record {
+      store_has = λ store represents valid free. record {
         can = (named.can store represents.names_are, named.right);
         represents = named.represents store None valid.follow represents;
         valid = subst (λ (size : ℕ). IsValidFor size (with_change name change store)) (sym later.size_is) (valid_change old.disk.size name change store valid (named.can store represents.names_are) named.right);
       };
     };
-    whole = record { store_has = λ store represents valid reserve whole. subst (IndexesAll (with_change name change store)) (sym index) whole };
+    whole = record { store_has = λ store represents valid free whole. subst (IndexesAll (with_change name change store)) (sym index) whole };
     runs = λ runs. subst (λ (size : ℕ). Runs size None new.tables) (sym later.size_is) (named.runs old.disk.size None runs);
     runs_indexed = λ runs. subst (λ (size : ℕ). Runs size new.known new.tables) (sym later.size_is) (subst (λ (known : Option PlaceMap). Runs old.disk.size known new.tables) (sym index) (named.runs old.disk.size old.known runs));
   }

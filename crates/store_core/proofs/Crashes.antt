@@ -1,5 +1,5 @@
 -- What a crash leaves at any moment of a run.
-use Rattle.std.proofs.Common.{◌≡◌, ◌⊎◌, inl, inr, ℕ, List, [], ◌∷◌, Option, Some, None, Result, Ok, Err, refl, sym, ◌∙◌, subst, arith, ap, suc}
+use Rattle.std.proofs.Common.{◌≡◌, ◌⊎◌, inl, inr, ℕ, List, [], ◌∷◌, ◌≤◌, Option, Some, None, Result, Ok, Err, refl, sym, ◌∙◌, subst, arith, ap, suc}
 use Rattle.dd_disk.specs.View.{OnlyReads, CrashLeaves, SteppedFrom}
 use Rattle.dd_disk.proofs.Later.{reads_here, reads_leave, leaves_on, leaves_weaker}
 use Rattle.container_meta.specs.Segments.{Contents}
@@ -42,10 +42,20 @@ use Rattle.dd_disk.specs.Ending.{ending, Ending}
 use Rattle.disk_format.specs.Layout.{slot_at}
 use Rattle.store_model.proofs.FramedTrees.{stands_framed}
 use Rattle.store_model.specs.Freeing.{with_freed}
+use Rattle.disk_format.specs.declared.numbers.TheConstants.{RESERVE}
+use Rattle.container_meta.specs.Spelling.{header_of}
+use Rattle.store_model.specs.Slots.{free_slots}
+use Rattle.store_model.proofs.Filled.{free_less}
+use Rattle.ingest_steps.specs.Sealing.{StandsSealed}
+use Rattle.store_core.proofs.GcSteps.{free_more}
 
 -- the last number of the store
 pub last_at : (S : List ℕ → Type 0) (s : Store) (stored : Stored) (c : CoreState) → IsAt S s stored c → last_sequence s ≡ stored.last
 last_at S s stored c at = sym at.represents.names_are.last_is ∙ at.last_is
+
+-- each image of a core that is at a store is of its files
+pub image_at : (S : List ℕ → Type 0) (s : Store) (stored : Stored) (c : CoreState) → IsAt S s stored c → (image : List ℕ) → c.disk.images image → IsOf S stored image
+image_at S s stored c at image left = record { store = s; stands = at.stands.each image left; reserve = at.reserve; last_is = last_at S s stored c at }
 
 -- ---- one step
 
@@ -63,13 +73,17 @@ module _ (among : ByteSet) (s : Store) (stored : Stored) (old new : CoreState) (
   last_more : (name : List ℕ) (change : Change) → last_sequence (with_change name change s) ≡ suc stored.last
   last_more name change = last_changed name change s at.valid.follow ∙ ap suc last_here
 
+  -- an image of these files that has its reserve
+  image_of : (t : Store) (c : List ℕ) → RESERVE ≤ free_slots t.held → last_sequence t ≡ stored.last → Stands S t stored.files c → IsOf S stored c
+  image_of t c reserve last stands = record { store = t; stands = stands; reserve = reserve; last_is = last }
+
   of_old : (c : List ℕ) → old.disk.images c → IsOf S stored c
-  of_old c is = (s, (at.stands.each c is, last_here))
+  of_old = image_at S s stored old at
 
   -- of names that stand still
   of_still : (c : List ℕ) → FilesStandStill S s stored.files c → IsOf S stored c
-  of_still c (inl is) = (with_other is.0 s, (is.1, last_here))
-  of_still c (inr is) = (with_cell s, (is, last_with_cell s at.valid.follow ∙ last_here))
+  of_still c (inl is) = image_of (with_other is.0 s) c at.reserve last_here is.1
+  of_still c (inr is) = image_of (with_cell s) c at.reserve (last_with_cell s at.valid.follow ∙ last_here) is
 
   -- where nothing was written
   by_reads : (step : StepValue) (answer : Result Answer Refusal) → OnlyReads old.disk new.disk → CrashLeaves (Either S step answer bytes stored) old.disk new.disk
@@ -78,8 +92,11 @@ module _ (among : ByteSet) (s : Store) (stored : Stored) (old new : CoreState) (
   by_seal : (filled : Contents) (answer : Result Answer Refusal) → SealsOne filled answer old new → IsStep (asked.Seal filled) → IsGivenRight S (asked.Seal filled) answer bytes old
       → CrashLeaves (Either S (asked.Seal filled) answer bytes stored) old.disk new.disk
   by_seal filled answer effect right given =
-      leaves_weaker (λ c. Stands S s stored.files c ⊎ Stands S (with_sealed (next_id old) filled.kind filled.segments s) stored.files c) (Either S (asked.Seal filled) answer bytes stored) old.disk new.disk
-      (λ c stands. elim stands [ inl is ↦ inl (s, (is, last_here)) | inr is ↦ inl (with_sealed (next_id old) filled.kind filled.segments s, (is, last_here)) ])
+      leaves_weaker (λ c. Stands S s stored.files c ⊎ StandsSealed S (next_id old) filled s stored.files c) (Either S (asked.Seal filled) answer bytes stored) old.disk new.disk
+      (λ c stands. elim stands [
+        | inl is ↦ inl (image_of s c at.reserve last_here is)
+        | inr is ↦ inl (image_of (with_sealed (next_id old) filled.kind filled.segments s) c (omega (arith, is.0, free_less (header_of (next_id old) filled.kind filled.segments) s.held (omega (arith, is.0)))) last_here is.1)
+      ])
       (effect.moves.moves among s stored.files at.index at.index_known at.represents (at.invariant at.stands.known.0 at.stands.known.1).files_are_indexed distinct (may_seal_all S filled.kind filled.segments right.1 given) at.stands).leaves
 
   -- of a commit that came to its first write
@@ -100,7 +117,7 @@ module _ (among : ByteSet) (s : Store) (stored : Stored) (old new : CoreState) (
       leaves_weaker (λ c. FilesStandStill S s stored.files c ⊎ Stands S (with_change name change s) after.files c) (Either S step answer bytes stored) old.disk new.disk
       (λ c stands. elim stands [
         | inl is ↦ inl (of_still c is)
-        | inr is ↦ inr (subst (λ (m : Stored). IsOf S m c) (sym tried) (with_change name change s, (is, last_more name change ∙ sym last)))
+        | inr is ↦ inr (subst (λ (m : Stored). IsOf S m c) (sym tried) (record { store = with_change name change s; stands = is; reserve = at.reserve; last_is = last_more name change ∙ sym last }))
       ]) leaves
 
   by_commit : (name : List ℕ) (root : Root) (answer : Result Answer Refusal) → NamesOne name (Put root) answer old new → IsGivenRight S (asked.Commit name root) answer bytes old
@@ -129,21 +146,21 @@ module _ (among : ByteSet) (s : Store) (stored : Stored) (old new : CoreState) (
   by_delete name (Err refusal) effect = by_reads (asked.Delete name) (Err refusal) effect.disk.ends
 
   -- a step of a collection: each image is of the same files
-  of_same : (t : Store) (c : List ℕ) → last_sequence t ≡ last_sequence s → Stands S t stored.files c → IsOf S stored c
-  of_same t c same is = (t, (is, same ∙ last_here))
+  of_same : (t : Store) (c : List ℕ) → RESERVE ≤ free_slots t.held → last_sequence t ≡ last_sequence s → Stands S t stored.files c → IsOf S stored c
+  of_same t c reserve same is = image_of t c reserve (same ∙ last_here) is
 
   by_changes : (answer : Result Answer Refusal) (e : Ending) → Changes (slot_at s.slots) e old.disk new.disk → CrashLeaves (Either S asked.GcStep answer bytes stored) old.disk new.disk
   by_changes answer e changes =
       leaves_weaker (SteppedFrom (SameBefore (slot_at s.slots)) old.disk) (Either S asked.GcStep answer bytes stored) old.disk new.disk
       (λ c from. elim from [
         | inl was ↦ inl (of_old c was)
-        | inr stepped ↦ inl (of_same s c refl (stands_framed S s stored.files stepped.0 c (at.stands.each stepped.0 stepped.1) stepped.2.before stepped.2.size))
+        | inr stepped ↦ inl (of_same s c at.reserve refl (stands_framed S s stored.files stepped.0 c (at.stands.each stepped.0 stepped.1) stepped.2.before stepped.2.size))
       ]) changes.leaves
 
   by_release : (answer : Result Answer Refusal) (e : Ending) (slot : ℕ) → HasNoEntryIn at.index slot → GivesBack old.tables slot e old.disk new.disk → CrashLeaves (Either S asked.GcStep answer bytes stored) old.disk new.disk
   by_release answer e slot none gives =
       leaves_weaker (λ c. Stands S s stored.files c ⊎ Stands S (with_freed slot s) stored.files c) (Either S asked.GcStep answer bytes stored) old.disk new.disk
-      (λ c stands. elim stands [ inl is ↦ inl (of_same s c refl is) | inr is ↦ inl (of_same (with_freed slot s) c refl is) ])
+      (λ c stands. elim stands [ inl is ↦ inl (of_same s c at.reserve refl is) | inr is ↦ inl (of_same (with_freed slot s) c (omega (arith, at.reserve, free_more slot s.held)) refl is) ])
       (gives.moves among s at.index stored.files (subst (λ (known : Option PlaceMap). Represents s known old.tables) at.index_known at.represents) (at.invariant at.stands.known.0 at.stands.known.1).files_are_indexed none at.stands).leaves
 
   by_stage : (answer : Result Answer Refusal) (c : Collection) (stage : Stage) (e : Ending) → IsSafeAt stage at.index s old.parts at.stands.known.0 c → c.stage ≡ stage → Touches stage old.tables e old.disk new.disk
@@ -215,7 +232,7 @@ module _ (C : Type 0) (state : C → CoreState) (among : ByteSet) (distinct : Ha
 
   pub leaves : (steps : List FileEvent) (s : Store) (stored : Stored) (old new : C) → IsAt In s stored (state old) → FileRun C state In steps old new → CrashLeaves (IsOnTheWay In steps stored) (state old).disk (state new).disk
   leaves [] s stored old new at run =
-      reads_leave (IsOnTheWay In [] stored) (state old).disk (state new).disk (λ c is. (s, (at.stands.each c is, last_at In s stored (state old) at)))
+      reads_leave (IsOnTheWay In [] stored) (state old).disk (state new).disk (image_at In s stored (state old) at)
       (subst (λ (c : C). OnlyReads (state old).disk (state c).disk) (sym run) (reads_here (state old).disk))
   leaves (f ∷ fs) s stored old new at run =
       step_leaves f fs s stored old run.0 new at run.1.0 run.1.1 (λ t there. leaves fs t (stored_by f stored) run.0 new there run.1.1) (state run.0).stop refl
@@ -227,7 +244,7 @@ module _ (C : Type 0) (state : C → CoreState) where
   pub survives_crashes : SurvivesSince C state
   survives_crashes among steps s stored old new distinct at run below image since =
       elim ((leaves C state among distinct steps s stored old new at run).since (state old).disk.clock image (omega arith) since) [
-        | inl was ↦ on_the_way C state among distinct steps stored image (s, (at.stands.each image ((state old).disk.only_now image below was), last_at (IsIn among) s stored (state old) at))
+        | inl was ↦ on_the_way C state among distinct steps stored image (image_at (IsIn among) s stored (state old) at image ((state old).disk.only_now image below was))
         | inr is ↦ is
       ]
 
@@ -347,7 +364,7 @@ module _ (C : Type 0) (state : C → CoreState) (among : ByteSet) (distinct : Ha
 
   ends_all : (steps : List FileEvent) (s : Store) (stored : Stored) (old new : C) → IsAt (IsIn among) s stored (state old) → FileRun C state (IsIn among) steps old new
       → (image : List ℕ) → (state new).disk.images image → Ends steps stored image
-  ends_all [] s stored old new at run image there = inl (s, (at.stands.each image (subst (λ (c : C). (state c).disk.images image) run there), last_at (IsIn among) s stored (state old) at))
+  ends_all [] s stored old new at run image there = inl (image_at (IsIn among) s stored (state old) at image (subst (λ (c : C). (state c).disk.images image) run there))
   ends_all (f ∷ fs) s stored old new at run image there =
       ends_by f fs s stored old run.0 new at run.1.0 run.1.1 image there (λ t mid. ends_all fs t (stored_by f stored) run.0 new mid run.1.1 image there) (state run.0).stop refl
 

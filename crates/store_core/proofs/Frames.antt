@@ -276,7 +276,7 @@ module _ (s : Store) (base : List ℕ) (t : Store) (old new : CoreState) (framed
   place = first_free t.held
 
   some : 1 ≤ free_slots t.held
-  some = omega (arith, framed.on.reserve)
+  some = framed.on.has_free
 
   tables_slots : old.tables.slots ≡ s.slots
   tables_slots = framed.on.represents.slots_are ∙ framed.slots_are
@@ -342,7 +342,7 @@ module _ (s : Store) (base : List ℕ) (t : Store) (old new : CoreState) (framed
 
     by_seal : (filled : Contents) (answer : Result Answer Refusal) → SealsOne filled answer old new → CrashLeaves Written old.disk new.disk
     by_seal filled answer effect =
-        let frame = frame_of (effect.moves.frame.store_has t framed.on.represents framed.on.valid framed.on.reserve) in
+        let frame = frame_of (effect.moves.frame.store_has t framed.on.represents framed.on.valid framed.on.has_free) in
         leaves_weaker (SameButSlotOf s.slots place given) Written old.disk new.disk
         (λ c same. keeps_sealed s base half_cells (HasCellsFor s count) Was given (adds_written given framed.content.2) place c not_place same) (frame.settled settled given known).1
 
@@ -402,7 +402,7 @@ module _ (s : Store) (base : List ℕ) (t : Store) (old new : CoreState) (framed
             on = record {
               represents = represents;
               valid = subst (λ (size : ℕ). IsValidFor size t) (sym later.size_is) framed.on.valid;
-              reserve = framed.on.reserve;
+              has_free = framed.on.has_free;
               settled = subst (λ (n : ℕ). IsSettled n new.disk) (new_slots represents) calm;
             };
             slots_are = framed.slots_are;
@@ -448,9 +448,9 @@ module _ (s : Store) (base : List ℕ) (t : Store) (old new : CoreState) (framed
     seals id filled answer effect id_is calm =
         let change : StoreChange = SealContainer (old.tables.held.last_id + 1) filled.kind filled.segments in
         let h : HeaderValue = header_of (old.tables.held.last_id + 1) filled.kind filled.segments in
-        let can = effect.made.can.store_has t framed.on.represents framed.on.valid framed.on.reserve in
-        let represents = effect.made.represents.store_has t framed.on.represents framed.on.valid framed.on.reserve in
-        let frame = frame_of (effect.moves.frame.store_has t framed.on.represents framed.on.valid framed.on.reserve) in
+        let can = effect.made.can.store_has t framed.on.represents framed.on.valid framed.on.has_free in
+        let represents = effect.made.represents.store_has t framed.on.represents framed.on.valid framed.on.has_free in
+        let frame = frame_of (effect.moves.frame.store_has t framed.on.represents framed.on.valid framed.on.has_free) in
         let left = (frame.settled settled given known).0 in
         let next : Leads s base (change ∷ []) t new = record {
           after = changed change t;
@@ -458,8 +458,8 @@ module _ (s : Store) (base : List ℕ) (t : Store) (old new : CoreState) (framed
           framed = record {
             on = record {
               represents = represents;
-              valid = effect.made.valid.store_has t framed.on.represents framed.on.valid framed.on.reserve;
-              reserve = omega (arith, can.slot, free_less h t.held some);
+              valid = effect.made.valid.store_has t framed.on.represents framed.on.valid framed.on.has_free;
+              has_free = omega (arith, can.slot, free_less h t.held some);
               settled = subst (λ (n : ℕ). IsSettled n new.disk) (framed.on.represents.slots_are ∙ sym represents.slots_are) calm;
             };
             slots_are = framed.slots_are;
@@ -504,7 +504,7 @@ module _ (s : Store) (base : List ℕ) (t : Store) (old new : CoreState) (framed
       names : (answer : Answer) → NamesOne name change (Ok answer) old new → IsSettled old.tables.slots new.disk → Leads s base (ChangeName name change ∷ []) t new
       names answer effect calm =
           let made = effect.made in
-          let represents = made.represents.store_has t framed.on.represents framed.on.valid framed.on.reserve in
+          let represents = made.represents.store_has t framed.on.represents framed.on.valid framed.on.has_free in
           let now = effect.disk.later.tells given known in
           let at_end = λ (c : List ℕ) (from : SteppedFrom (ChangesBytes old.tables name change given) old.disk c). elim from as (λ _. AddsBytes s later_store base c) [
             | inl image ↦ image_more c image
@@ -512,12 +512,12 @@ module _ (s : Store) (base : List ℕ) (t : Store) (old new : CoreState) (framed
           ] in
           record {
             after = later_store;
-            chain = (made.can.store_has t framed.on.represents framed.on.valid framed.on.reserve, refl);
+            chain = (made.can.store_has t framed.on.represents framed.on.valid framed.on.has_free, refl);
             framed = record {
               on = record {
                 represents = represents;
-                valid = made.valid.store_has t framed.on.represents framed.on.valid framed.on.reserve;
-                reserve = framed.on.reserve;
+                valid = made.valid.store_has t framed.on.represents framed.on.valid framed.on.has_free;
+                has_free = framed.on.has_free;
                 settled = subst (λ (n : ℕ). IsSettled n new.disk) (framed.on.represents.slots_are ∙ sym represents.slots_are) calm;
               };
               slots_are = framed.slots_are;
@@ -623,7 +623,7 @@ pub at_on : (S : List ℕ → Type 0) (s : Store) (stored : Stored) (c : CoreSta
 at_on S s stored c at calm = record {
   represents = at.represents;
   valid = at.valid;
-  reserve = (at.invariant at.stands.known.0 at.stands.known.1).reserve_holds;
+  has_free = (at.invariant at.stands.known.0 at.stands.known.1).has_free;
   settled = calm;
 }
 

@@ -1,5 +1,5 @@
 -- A core that was opened runs, and runs can begin at it; one that was not opened again runs on.
-use Rattle.std.proofs.Common.{◌≡◌, ℕ, zero, suc, List, length, Option, None, Some, Result, Ok, Err, IsErr, OnErr, replicate, refl, sym, ◌∙◌, ap, subst, inl, inr}
+use Rattle.std.proofs.Common.{◌≡◌, ℕ, zero, suc, List, length, Option, None, Some, Result, Ok, Err, IsErr, OnErr, replicate, refl, sym, ◌∙◌, ap, subst, inl, inr, arith}
 use Rattle.std.proofs.lemmas.List.{length-replicate}
 use Rattle.std.specs.List.{AllByRecursion}
 use Rattle.dd_disk.specs.Ending.{Done, Reads}
@@ -21,6 +21,7 @@ use Rattle.store_model.specs.Collisions.{IsIn, Stands, IsOf}
 use Rattle.store_model.specs.Files.{Stored}
 use Rattle.store_model.specs.Image.{Store, Encodes, IsValidFor}
 use Rattle.store_model.specs.Slots.{HasKey, last_id}
+use Rattle.store_model.proofs.FreedFiles.{free_reserve}
 use Rattle.store_model.proofs.Lookups.{indexed_by}
 use Rattle.store_model.proofs.Reached.{reached_held}
 use Rattle.store_model.proofs.Once.{store_once}
@@ -58,7 +59,7 @@ new_core shown size o c is same represents serves whole last told parts none sto
 
 pub new_runs : (shown : (List ℕ → Type 0) → Type 0) (size : ℕ) (c : CoreState) → c.disk.size ≡ size → IsNew shown size c → IsRunning c
 new_runs shown size c same is = subst (λ (stop : Option Stop). UnlessStopped stop (IsUp c)) (sym is.stop_is) (record {
-  runs = record { store = is.store; represents = alone is.store c.known c.tables is.represents; valid = subst (λ (n : ℕ). IsValidFor n is.store) (sym same) is.valid; reserve_holds = is.reserve };
+  runs = record { store = is.store; represents = alone is.store c.known c.tables is.represents; valid = subst (λ (n : ℕ). IsValidFor n is.store) (sym same) is.valid; has_free = omega (arith, is.reserve) };
   many = ap length is.parts_are ∙ length-replicate ACTORS Idle;
   served = is.served;
   under_way = subst (IsUnderWayIn c.tables.held) (sym is.collection_is) tt;
@@ -167,34 +168,36 @@ idle_parts P store image (suc n) = (tt, idle_parts P store image n)
 pub begins_at : (S : List ℕ → Type 0) (stored : Stored) (image : List ℕ) (v : DiskView) (c : CoreState) → IsNew (Shows v c.disk) v.size c → IsDurable c.disk → Reads Done v c.disk
     → v.content ≡ Some image → IsOf S stored image → BeginsAt S stored c
 begins_at S stored image v c new durable reads told is =
-    let stands : Stands S is.0 stored.files image = is.1.0 in
-    let same : new.store ≡ is.0 = store_once image new.store is.0 (shown_content v c.disk (λ bytes. Encodes bytes new.store) image new.right told) stands.holds.right in
-    let represents : Represents is.0 c.known c.tables = subst (λ (store : Store). Represents store c.known c.tables) same new.represents in
+    let stands : Stands S is.store stored.files image = is.stands in
+    let same : new.store ≡ is.store = store_once image new.store is.store (shown_content v c.disk (λ bytes. Encodes bytes new.store) image new.right told) stands.holds.right in
+    let represents : Represents is.store c.known c.tables = subst (λ (store : Store). Represents store c.known c.tables) same new.represents in
     let here : c.disk.content ≡ Some image = reads.only.content_is ∙ told in
-    let whole : IndexesAll is.0 c.known = subst (λ (store : Store). IndexesAll store c.known) same new.whole in
+    let whole : IndexesAll is.store c.known = subst (λ (store : Store). IndexesAll store c.known) same new.whole in
     let files_indexed : IndexesFiles new.told.0 stored.files =
-    reached_held (HasKey new.told.0) is.0 stored.files image stands.holds.files_are (indexed_by is.0.held new.told.0 (whole new.told.0 new.told.1)) in
+    reached_held (HasKey new.told.0) is.store stored.files image stands.holds.files_are (indexed_by is.store.held new.told.0 (whole new.told.0 new.told.1)) in
     record {
-      store = is.0;
+      store = is.store;
       is_at = record {
         represents = represents;
         index = new.told.0;
         index_known = new.told.1;
-        valid = subst (λ (size : ℕ). IsValidFor size is.0) (sym reads.only.later.size_is) (subst (λ (store : Store). IsValidFor v.size store) same new.valid);
+        valid = subst (λ (size : ℕ). IsValidFor size is.store) (sym reads.only.later.size_is) (subst (λ (store : Store). IsValidFor v.size store) same new.valid);
         stands = record {
           known = (image, here);
-          each = λ left leaves. subst (λ (bytes : List ℕ). Stands S is.0 stored.files bytes) (sym (durable image here left leaves)) stands;
+          each = λ left leaves. subst (λ (bytes : List ℕ). Stands S is.store stored.files bytes) (sym (durable image here left leaves)) stands;
         };
-        last_is = represents.names_are.last_is ∙ is.1.1;
+        last_is = represents.names_are.last_is ∙ is.last_is;
+        reserve = is.reserve;
         invariant = λ bytes told_here. record {
           index_is_newest = represents.index_is_newest new.told.0 new.told.1;
           files_are_indexed = files_indexed;
-          pins_are_closed = subst (AllByRecursion (HoldsPart (HasKey new.told.0) is.0.held bytes)) (sym new.parts_are) (idle_parts (HasKey new.told.0) is.0 bytes ACTORS);
-          reserve_holds = stands.holds.reserve;
+          pins_are_closed = subst (AllByRecursion (HoldsPart (HasKey new.told.0) is.store.held bytes)) (sym new.parts_are) (idle_parts (HasKey new.told.0) is.store bytes ACTORS);
+          reserve_holds = free_reserve (HasKey new.told.0) is.store.held is.reserve;
+          has_free = omega (arith, is.reserve);
         };
         many = ap length new.parts_are ∙ length-replicate ACTORS Idle;
         under_way = subst (IsUnderWayIn c.tables.held) (sym new.collection_is) tt;
-        safe = λ bytes told_here. subst (IsSafeIn new.told.0 is.0 c.parts bytes) (sym new.collection_is) tt;
+        safe = λ bytes told_here. subst (IsSafeIn new.told.0 is.store c.parts bytes) (sym new.collection_is) tt;
       };
       whole = whole;
       none_runs = new.collection_is;

@@ -112,12 +112,12 @@ sealed_on : (filled : Contents) (id : ℕ) (old new : CoreState) (collection : O
 sealed_on filled id old new None runs made id_is last under_way = tt
 sealed_on filled id old new (Some c) runs made id_is last under_way =
     let s = runs.store in
-    let now = made.alone.store_has s runs.represents runs.valid runs.reserve_holds in
+    let now = made.alone.store_has s runs.represents runs.valid runs.has_free in
     let h : HeaderValue = header_of (next_id old) filled.kind filled.segments in
     let first : IsFirstFree (first_free s.held) s.held = record {
       first = refl;
-      within = first_within s.held (omega (arith, runs.reserve_holds));
-      closed = first_closed s.held (omega (arith, runs.reserve_holds));
+      within = first_within s.held runs.has_free;
+      closed = first_closed s.held runs.has_free;
     } in
     sealed s.held old.tables.held new.tables.held c (first_free s.held) h first runs.represents.slots_hold now.represents.slots_hold (omega (arith, id_is, last)) (omega arith) under_way
 

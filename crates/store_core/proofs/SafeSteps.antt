@@ -62,7 +62,7 @@ runs_alone S s stored c at = record {
   store = s;
   represents = alone s c.known c.tables at.represents;
   valid = at.valid;
-  reserve_holds = (at.invariant at.stands.known.0 at.stands.known.1).reserve_holds;
+  has_free = (at.invariant at.stands.known.0 at.stands.known.1).has_free;
 }
 
 pub one_list : (a b : List ℕ) → Some a ≡ Some b → a ≡ b
@@ -285,13 +285,12 @@ module _ (among : ByteSet) (s : Store) (stored : Stored) (old new : CoreState) (
   sealed_safe_in filled id row effect collects then then_is after core holds keeps =
       let may = row.may in
       let t : Store = with_sealed (next_id old) filled.kind filled.segments s in
-      let reserve = (at.invariant image here).reserve_holds in
       let more : PinMap = with_pins filled.kind filled.segments may.pins in
       let within = there (Writing may.pins) may.writing (λ is. cc) in
       let here_core = subst (λ (p : List Part). CoreInvariant then t stored.files p after) row.parts_are core in
       marked_safe at.index then s t old.parts new.parts image after (IsKeptKey (asked.Seal filled) (Ok (answers.Sealed id))) old.collection new.collection
       (λ c live marks. subst (λ (p : List Part). KeepsBoth at.index then s t old.parts p image after c (record c { live = live })) (sym row.parts_are)
-      (sealed_safe s (next_id old) filled (effect.made.can.store_has s at.represents at.valid reserve) at.index then (effect.made.keeps_keys at.index at.index_known then then_is)
+      (sealed_safe s (next_id old) filled (effect.made.can.store_has s at.represents at.valid (at.invariant image here).has_free) at.index then (effect.made.keeps_keys at.index at.index_known then then_is)
       (λ key none. effect.made.keeps_others at.index at.index_known then then_is key (none_added filled.kind key filled.segments none)) core.index_is_newest
       image after stored.files old.parts c live actor may.pins more (omega (arith, within, at.many)) within may.writing marks (pins_more filled.kind filled.segments may.pins) keeps here_core holds)) collects (at.safe image here)
 

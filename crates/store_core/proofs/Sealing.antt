@@ -1,5 +1,5 @@
 -- What a seal makes of a core.
-use Rattle.std.proofs.Common.{◌≡◌, ◌≢◌, ◌+◌, ℕ, [], ◌∷◌, length, List, Option, Some, None, Ok, Err, refl, sym, ◌∙◌, ap, subst}
+use Rattle.std.proofs.Common.{◌≡◌, ◌≢◌, ◌+◌, ℕ, [], ◌∷◌, length, List, Option, Some, None, Ok, Err, refl, sym, ◌∙◌, ap, subst, arith}
 use Rattle.std.specs.List.{AllByRecursion}
 use Rattle.container_meta.specs.Places.{PlaceMap}
 use Rattle.sha2.specs.Sha256.{sha256}
@@ -54,14 +54,14 @@ module _ (old new : CoreState) (filled : Contents) (slot id : ℕ) (has : HasSlo
 
   pub makes_seal : Makes (SealContainer (next_id old) filled.kind filled.segments) old new
   makes_seal = record {
-    can = record { store_has = λ store represents valid reserve. subst (λ (n : ℕ). CanSeal n filled.kind filled.segments store) id_is (sealed.can.store_has store represents valid reserve) };
+    can = record { store_has = λ store represents valid free. subst (λ (n : ℕ). CanSeal n filled.kind filled.segments store) id_is (sealed.can.store_has store represents valid free) };
     represents = record {
-      store_has = λ store represents valid reserve. subst (λ (k : Option PlaceMap). Represents (with_sealed (next_id old) filled.kind filled.segments store) k new.tables) (sym map_is)
-          (subst (λ (n : ℕ). Represents (with_sealed n filled.kind filled.segments store) (places_with filled slot old.known) new.tables) id_is (sealed.represents.store_has store represents valid reserve));
+      store_has = λ store represents valid free. subst (λ (k : Option PlaceMap). Represents (with_sealed (next_id old) filled.kind filled.segments store) k new.tables) (sym map_is)
+          (subst (λ (n : ℕ). Represents (with_sealed n filled.kind filled.segments store) (places_with filled slot old.known) new.tables) id_is (sealed.represents.store_has store represents valid free));
     };
     valid = record {
-      store_has = λ store represents valid reserve. subst (λ (size : ℕ). IsValidFor size (with_sealed (next_id old) filled.kind filled.segments store)) (sym later.size_is)
-          (valid_sealed (next_id old) filled.kind filled.segments store (subst (λ (n : ℕ). CanSeal n filled.kind filled.segments store) id_is (sealed.can.store_has store represents valid reserve)) old.disk.size valid);
+      store_has = λ store represents valid free. subst (λ (size : ℕ). IsValidFor size (with_sealed (next_id old) filled.kind filled.segments store)) (sym later.size_is)
+          (valid_sealed (next_id old) filled.kind filled.segments store (subst (λ (n : ℕ). CanSeal n filled.kind filled.segments store) id_is (sealed.can.store_has store represents valid free)) old.disk.size valid);
     };
     tells = λ places is. (_, index);
     keeps_keys = λ before is after after_is key had.
@@ -77,17 +77,17 @@ module _ (old new : CoreState) (filled : Contents) (slot id : ℕ) (has : HasSlo
         ∙ put_none filled.kind slot (entries_from 0 filled.segments) m key (none_found filled.kind key (entries_from 0 filled.segments) (to_entries (λ digest. key_of (kind_byte filled.kind) digest ≢ key) 0 filled.segments none))
         ∙ ap (λ (x : PlaceMap). finite.get x key) here;
     whole = record {
-      store_has = λ store represents valid reserve whole after after_is.
-          let can = subst (λ (n : ℕ). CanSeal n filled.kind filled.segments store) id_is (sealed.can.store_has store represents valid reserve) in
-          let first : slot ≡ first_free store.held = ((has.slot_is old.disk.size old.known).store_has store represents valid reserve).first in
+      store_has = λ store represents valid free whole after after_is.
+          let can = subst (λ (n : ℕ). CanSeal n filled.kind filled.segments store) id_is (sealed.can.store_has store represents valid free) in
+          let first : slot ≡ first_free store.held = ((has.slot_is old.disk.size old.known).store_has store represents valid free).first in
           let there : with_entries filled.kind (first_free store.held) (entries_from 0 filled.segments) m ≡ after =
           ap (λ (s : ℕ). with_entries filled.kind s (entries_from 0 filled.segments) m) (sym first) ∙ one_map _ after (sym index ∙ after_is) in
           subst (IsIndexOf (with_sealed (next_id old) filled.kind filled.segments store).held) there
           (index_sealed (next_id old) filled.kind filled.segments store can m (whole m known) can.right);
     };
     alone = record {
-      store_has = λ store represents valid reserve.
-          let is = sealed.alone.store_has store represents valid reserve in
+      store_has = λ store represents valid free.
+          let is = sealed.alone.store_has store represents valid free in
           let can = subst (λ (n : ℕ). CanSeal n filled.kind filled.segments store) id_is is.0 in
           record {
             can = can;
@@ -95,8 +95,8 @@ module _ (old new : CoreState) (filled : Contents) (slot id : ℕ) (has : HasSlo
             valid = subst (λ (size : ℕ). IsValidFor size (with_sealed (next_id old) filled.kind filled.segments store)) (sym later.size_is) (valid_sealed (next_id old) filled.kind filled.segments store can old.disk.size valid);
           };
     };
-    runs = λ runs. subst (λ (size : ℕ). Runs size None new.tables) (sym later.size_is) (sealed.runs None runs);
-    runs_indexed = λ runs. subst (λ (size : ℕ). Runs size new.known new.tables) (sym later.size_is) (subst (λ (k : Option PlaceMap). Runs old.disk.size k new.tables) (sym map_is) (sealed.runs old.known runs));
+    runs = λ runs. subst (λ (size : ℕ). Runs size None new.tables) (sym later.size_is) (sealed.runs None (omega arith) runs);
+    runs_indexed = λ runs. subst (λ (size : ℕ). Runs size new.known new.tables) (sym later.size_is) (subst (λ (k : Option PlaceMap). Runs old.disk.size k new.tables) (sym map_is) (sealed.runs old.known (omega arith) runs));
   }
 
 kept_map : (refusal : Refusal) (old new : CoreState) → new.tables ≡ old.tables → KeepsMap old.known new.known refusal → KeepsUnlessBroken refusal old new

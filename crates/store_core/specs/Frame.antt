@@ -2,7 +2,7 @@
 use Rattle.std.specs.Prelude.{◌≡◌, ℕ, ◌+◌, ◌<◌, ◌≤◌, List, [], ◌∷◌, length, slice_get, None, Some}
 use Rattle.base_model.specs.Bytes.{range}
 use Rattle.base_model.specs.Known.{KnownWith}
-use Rattle.disk_format.specs.declared.numbers.TheConstants.{CELL_BYTES, SLOT_BYTES, FIRST_HALF, RESERVE}
+use Rattle.disk_format.specs.declared.numbers.TheConstants.{CELL_BYTES, SLOT_BYTES, FIRST_HALF}
 use Rattle.disk_format.specs.Layout.{half_cells, cell_at, slot_at}
 use Rattle.dd_disk.specs.View.{CrashLeaves}
 use Rattle.dd_disk.specs.Moves.{StandsFor}
@@ -10,7 +10,7 @@ use Rattle.actor_parts.specs.StepValue as asked
 use Rattle.actor_parts.specs.StepValue.{StepValue}
 use Rattle.container_meta.specs.Spelling.{HeaderValue}
 use Rattle.store_model.specs.Image.{Store, IsValidFor}
-use Rattle.store_model.specs.Slots.{free_slots}
+use Rattle.store_model.specs.Slots.{HasFree}
 use Rattle.store_model.specs.Standing.{HasJournal}
 use Rattle.store_model.specs.Steps.{StoreChange, HasCellsFor}
 use Rattle.store_state.specs.Settled.{IsSettled}
@@ -18,11 +18,11 @@ use Rattle.store_state.specs.Tables.{Represents}
 use Rattle.store_core.specs.Runs.{AreNoGcSteps, FileEvent, CoreRun, ChangesTo, changes_of, events_of}
 use Rattle.store_core.specs.State.{CoreState, Event}
 
--- The tables are those of the store, which has two free slots or more, and the disk is settled.
+-- The tables are those of the store, which has a free slot, and the disk is settled.
 pub record IsOn (store : Store) (c : CoreState) : Type 0 where
   pub represents : Represents store c.known c.tables
   pub valid : IsValidFor c.disk.size store
-  pub reserve : RESERVE ≤ free_slots store.held
+  pub has_free : HasFree store.held
   pub settled : IsSettled c.tables.slots c.disk
 
 -- how many cells of the half some steps may need, one each: those that give a name a root or take it away

@@ -1,8 +1,9 @@
 -- Steps of a core one after the other, by any actors (docs/MODEL.md, 'The core').
-use Rattle.std.specs.Prelude.{Bool, true, false, ◌≡◌, ◌⊎◌, ◌-◌, ◌^◌, ◌<◌, ℕ, List, [], ◌∷◌, ◌++◌, ◌==◌, length, sum_by, take, Option, None, Some, Result, Ok, Err}
+use Rattle.std.specs.Prelude.{Bool, true, false, ◌≡◌, ◌⊎◌, ◌-◌, ◌^◌, ◌<◌, ◌≤◌, ℕ, List, [], ◌∷◌, ◌++◌, ◌==◌, length, sum_by, take, Option, None, Some, Result, Ok, Err}
 use Rattle.std.specs.FinMap as finite
 use Rattle.std.specs.List.{AllByRecursion}
 use Rattle.base_model.specs.Known.{Known}
+use Rattle.disk_format.specs.declared.numbers.TheConstants.{RESERVE}
 use Rattle.disk_format.specs.Cells.{Root}
 use Rattle.disk_format.specs.Cells.Change.{Delete, Put}
 use Rattle.dd_disk.specs.Moves.{StandsFor}
@@ -22,7 +23,7 @@ use Rattle.store_model.specs.Collisions.{HasNoCollisions, ByteSet, IsIn, IsAmong
 use Rattle.store_model.specs.Files.{Stored, with_stored, without_stored}
 use Rattle.store_model.specs.Image.{Store, IsValidFor}
 use Rattle.store_model.specs.Reserve.{AllKeys}
-use Rattle.store_model.specs.Slots.{HasKey}
+use Rattle.store_model.specs.Slots.{HasKey, free_slots}
 use Rattle.segment_index.specs.Places.{KnownMap}
 use Rattle.store_model.specs.Steps.{StoreChange, SealContainer, ChangeName, FreeContainer, CanChange, changed}
 use Rattle.store_model.specs.Trees.{root_of, file_tree, HoldsTree}
@@ -105,8 +106,8 @@ abbrev pub IsSafeIn : PlaceMap → Store → List Part → List ℕ → Option C
 IsSafeIn index store parts image None = Unit {0}
 IsSafeIn index store parts image (Some c) = IsSafe index store parts image c
 
--- Tables and index are those of the store, each image is that store of these files, the number is the last, and the invariants
--- hold.
+-- Tables and index are those of the store, each image is that store of these files, the number is the last, two slots are free, and the
+-- invariants hold.
 pub record IsAt (S : List ℕ → Type 0) (store : Store) (stored : Stored) (c : CoreState) : Type 0 where
   pub represents : Represents store c.known c.tables
   pub index : PlaceMap
@@ -114,6 +115,7 @@ pub record IsAt (S : List ℕ → Type 0) (store : Store) (stored : Stored) (c :
   pub valid : IsValidFor c.disk.size store
   pub stands : StandsFor (Stands S store stored.files) c.disk
   pub last_is : c.tables.journal.last ≡ stored.last
+  pub reserve : RESERVE ≤ free_slots store.held
   pub invariant : Known c.disk.content (CoreInvariant index store stored.files c.parts)
   pub many : length c.parts ≡ ACTORS
   pub under_way : IsUnderWayIn c.tables.held c.collection

@@ -39,7 +39,7 @@ abbrev pub IsUnderWayIn : SlotTable → Option Collection → Type 0
 IsUnderWayIn t None = Unit {0}
 IsUnderWayIn t (Some c) = IsUnderWay t c
 
--- The tables are those of a store that the disk may hold, with two slots or more free; the index serves it; each actor has a
+-- The tables are those of a store that the disk may hold, with a slot free; the index serves it; each actor has a
 -- part; a collection is under way. What the index has is not told: a disk that lies may have shown another header where a
 -- container was given back.
 pub record IsUp (c : CoreState) : Type 0 where

@@ -59,24 +59,26 @@ pub record IsLaidOut (slots : ℕ) (image : List ℕ) : Type 0 where
 
 -- such an image is an empty store
 pub formatted_holds : (slots : ℕ) (image : List ℕ) → IsLaidOut slots image → IsFormatted slots image
-formatted_holds slots image laid = record {
-  right = record {
-    count = laid.count;
-    size = laid.size;
-    format = laid.format;
-    journal = record {
-      selector_is = (record { from_one = omega arith; generation = omega arith; form = refl; half = omega arith; last = omega arith }, laid.selector);
-      older = inl laid.other_selector;
-      records_are = record { few = omega arith; right = tt; stand = tt; ends = λ less. laid.records 0 less };
+formatted_holds slots image laid = (
+  record {
+    right = record {
+      count = laid.count;
+      size = laid.size;
+      format = laid.format;
+      journal = record {
+        selector_is = (record { from_one = omega arith; generation = omega arith; form = refl; half = omega arith; last = omega arith }, laid.selector);
+        older = inl laid.other_selector;
+        records_are = record { few = omega arith; right = tt; stand = tt; ends = λ less. laid.records 0 less };
+      };
+      other = (λ is. absurd (no_truth is), λ is. absurd (laid.other_selector is));
+      many = length-replicate slots None;
+      slots_are = slots_closed 0 slots image (λ one within. laid.containers one (omega arith));
+      different = ids_differ slots;
     };
-    other = (λ is. absurd (no_truth is), λ is. absurd (laid.other_selector is));
-    many = length-replicate slots None;
-    slots_are = slots_closed 0 slots image (λ one within. laid.containers one (omega arith));
-    different = ids_differ slots;
-  };
-  past = λ cell from within. laid.records cell within;
-  copies = no_copies 0 slots image;
-  nodes = no_nodes 0 slots image;
-  files_are = no_files_held (none_held slots) image;
-  reserve = omega (arith, all_free slots, laid.count.0);
-}
+    past = λ cell from within. laid.records cell within;
+    copies = no_copies 0 slots image;
+    nodes = no_nodes 0 slots image;
+    files_are = no_files_held (none_held slots) image;
+  },
+  omega (arith, all_free slots, laid.count.0),
+)

@@ -1,5 +1,5 @@
 -- What a store of files by their trees keeps where an image changes outside of its containers.
-use Rattle.std.proofs.Common.{◌≡◌, ℕ, ◌+◌, ◌≤◌, List, length, Option, Some, None, refl, ◌∙◌, arith}
+use Rattle.std.proofs.Common.{◌≡◌, ℕ, ◌+◌, List, length, Option, Some, None, refl, ◌∙◌, arith}
 use Rattle.std.specs.FinMap as finite
 use Rattle.base_model.specs.Frames.{SameOutside}
 use Rattle.disk_format.specs.declared.numbers.TheConstants.{FIRST_SLOT, SLOT_BYTES}
@@ -11,7 +11,7 @@ use Rattle.merkle_file.specs.Tree.{Tree, Trees}
 use Rattle.merkle_file.specs.Walk.{contents_of}
 use Rattle.namespace.specs.declared.record.Named.{Named}
 use Rattle.store_model.specs.Files.{Files}
-use Rattle.store_model.specs.Slots.{HoldsSlot, HoldSlots, AreHeaders, DifferentIds, free_slots, first_free}
+use Rattle.store_model.specs.Slots.{HoldsSlot, HoldSlots, AreHeaders, DifferentIds, first_free}
 use Rattle.store_model.specs.Image.{Store, Encodes, AreCopies, names_of}
 use Rattle.store_model.specs.Standing.{AreNodes, IsFileOf, AreFilesOf}
 use Rattle.store_model.specs.Collisions.{AreAmong, Stands}
@@ -59,16 +59,15 @@ encodes_on store image new front size held right many slots_are different = reco
 }
 
 pub stands_on : (S : List ℕ → Type 0) (store : Store) (files : Files) (image new : List ℕ) → SameTo FIRST_SLOT image new → (held : List (Option HeaderValue)) → Stands S store files image
-    → Encodes new (record store { held = held }) → AreCopies 0 held new → AreNodes 0 held new → AreAmong S 0 held new → AreFilesOf held (names_of store) new files → 2 ≤ free_slots held
+    → Encodes new (record store { held = held }) → AreCopies 0 held new → AreNodes 0 held new → AreAmong S 0 held new → AreFilesOf held (names_of store) new files
     → Stands S (record store { held = held }) files new
-stands_on S store files image new front held stands right copies nodes among files_are reserve = record {
+stands_on S store files image new front held stands right copies nodes among files_are = record {
   holds = record {
     right = right;
     past = closed_kept image new front store.selector.half (length store.records) stands.holds.right.journal.selector_is.0.half stands.holds.past;
     copies = copies;
     nodes = nodes;
     files_are = files_are;
-    reserve = reserve;
   };
   among = among;
 }
@@ -87,7 +86,6 @@ module _ (S : List ℕ → Type 0) (store : Store) (files : Files) (image new : 
       (so_among S 0 store.held new (so_still (IsAmongThese S) image new 0 store.held (headers right) same (among_so S 0 store.held image stands.among)))
       (λ name. file_on store.held store.held image new (λ key level bytes. newest_still image new store.held key level bytes (headers right) same)
       (finite.get (names_of store) name) (finite.get files name) (stands.holds.files_are name))
-      stands.holds.reserve
 
 -- ---- the first closed slot alone was written to, and is closed
 

@@ -56,6 +56,10 @@ pub zeros_free : (held : List (Option HeaderValue)) → AreHeaders held → coun
 unfolding zeros_in
 zeros_free held right = sym (is_count_by zeros_in is_zero refl (λ x xs. refl) (ids_of held)) ∙ zeros_are_free held right
 
+-- slots of the same ids have as many that are closed
+pub same_free : (held other : List (Option HeaderValue)) → AreHeaders held → AreHeaders other → ids_of held ≡ ids_of other → free_slots held ≡ free_slots other
+same_free held other right also same = sym (zeros_free held right) ∙ ap (count_by is_zero) same ∙ zeros_free other also
+
 -- the first id that is 0 is that of the closed slot of least number
 pub first_zero : (held : List (Option HeaderValue)) → AreHeaders held → position_or_len is_zero (ids_of held) ≡ first_free held
 unfolding first_in

@@ -17,12 +17,12 @@ use Rattle.store_model.specs.Image.{Store, Encodes, AreCopies, names_of, last_se
 use Rattle.store_model.specs.Reserve.{IsReachable, HoldsNone, IsSpare, IsGivable, HasReserve}
 use Rattle.store_model.specs.Slots.{AreHeaders, HoldsSlot, newest, free_slots, first_free, without_slot}
 use Rattle.store_model.specs.Steps.{KeepsCopies}
-use Rattle.store_model.specs.Standing.{AreFilesOf, IsStoreWith, CanBeOpened, StandsFor}
+use Rattle.store_model.specs.Standing.{AreFilesOf, IsStoreOf, CanBeOpened, StandsFor}
 use Rattle.store_model.specs.Trees.{HasNewest}
 use Rattle.store_model.proofs.Copies.{headers_of_right}
 use Rattle.store_model.proofs.Frames.{SameSlot, closed_kept}
 use Rattle.store_model.proofs.Free.{first_closed, some_free}
-use Rattle.store_model.proofs.Freed.{closed_there, encodes_freed, free_freed, same_gate, slot_held, unfreed_same, other_there, there_before, same_before}
+use Rattle.store_model.proofs.Freed.{closed_there, encodes_freed, same_gate, slot_held, unfreed_same, other_there, there_before, same_before}
 use Rattle.store_model.proofs.FreedTrees.{newest_freed, none_after, none_of_fewer, needed_file}
 use Rattle.store_model.proofs.HeldSlots.{SameHeld, AreSo, so_still, copy_still, IsNodeEntry, nodes_so, so_nodes, IsAmongThese, among_so, so_among}
 use Rattle.store_model.proofs.Once.{store_once}
@@ -124,7 +124,7 @@ givable_freed P slot other held none givable = elim (eqb_tells slot other) [
     by_other differ (inr spare) =
         inr (record { header = spare.header; holds = other_there slot other held differ ∙ spare.holds; none = none_after P slot other held none spare.none })
 
-reserve_freed : (P : List ℕ → Type 0) (slot : ℕ) (held : List (Option HeaderValue)) → HoldsNone P held slot → HasReserve P held → HasReserve P (without_slot slot held)
+pub reserve_freed : (P : List ℕ → Type 0) (slot : ℕ) (held : List (Option HeaderValue)) → HoldsNone P held slot → HasReserve P held → HasReserve P (without_slot slot held)
 reserve_freed P slot held none reserve = record {
   first = reserve.first;
   second = reserve.second;
@@ -260,21 +260,20 @@ module _ (S P : List ℕ → Type 0) (files : Files) (s : Store) (freed given no
   files_on are name =
       needed_file P s.held more given now newest_on files name (finite.get (names_of s) name) (finite.get files name) needed refl (are name)
 
-  -- The store of the same files, with whatever reserve there is.
-  holds_on : (R T : Type 0) → IsStoreWith s files given R → T → IsStoreWith later files now T
-  holds_on R T holds reserve = record {
+  -- the store of the same files
+  holds_on : IsStoreOf s files given → IsStoreOf later files now
+  holds_on holds = record {
     right = after;
     past = closed_kept given now (same_before freed given now same) s.selector.half (length s.records) holds.right.journal.selector_is.0.half holds.past;
     copies = so_copies 0 more now (so_on IsCopyEntry (copies_so 0 s.held given holds.copies));
     nodes = so_nodes 0 more now (so_on IsNodeEntry (nodes_so 0 s.held given holds.nodes));
     files_are = files_on holds.files_are;
-    reserve = reserve;
   }
 
   among_on : AreAmong S 0 s.held given → AreAmong S 0 more now
   among_on among = so_among S 0 more now (so_on (IsAmongThese S) (among_so S 0 s.held given among))
 
--- ---- one slot more is closed, whatever reserve there is
+-- ---- one slot more is closed
 
 module _ (S P : List ℕ → Type 0) (files : Files) (s : Store) (slot : ℕ) (h : HeaderValue) (given now : List ℕ) (there : slice_get s.held slot ≡ Some (Some h))
     (same : SameOutside (slot_at slot) 1 given now) (stands : Stands S s files given) where
@@ -293,9 +292,7 @@ module _ (S P : List ℕ → Type 0) (files : Files) (s : Store) (slot : ℕ) (h
     -- closed, it is the store without its container
     pub one_freed_stands : Stands S (with_freed slot s) files now
     one_freed_stands = record {
-      holds =
-          holds_on S P files s (slot ∷ []) given now needed stays_one (same_gate slot given now same) one_encoded (2 ≤ free_slots s.held) (2 ≤ free_slots (without_slot slot s.held)) stands.holds
-          (omega (arith, stands.holds.reserve, free_freed slot h s.held there));
+      holds = holds_on S P files s (slot ∷ []) given now needed stays_one (same_gate slot given now same) one_encoded stands.holds;
       among = among_on S P files s (slot ∷ []) given now needed stays_one (same_gate slot given now same) one_encoded stands.among;
     }
 
@@ -306,14 +303,14 @@ module _ (S P : List ℕ → Type 0) (files : Files) (s : Store) (slot : ℕ) (h
 
 -- an image is opened as the store that it holds
 record OpensStore (S : List ℕ → Type 0) (stored : Stored) (s : Store) (image : List ℕ) : Type 0 where
-  holds : CanBeOpened s stored.files image
-  among : AreAmong S 0 s.held image
+  stands : Stands S s stored.files image
+  opens : CanBeOpened s stored.files
   last_is : last_sequence s ≡ stored.last
 
 opens_store : (S : List ℕ → Type 0) (stored : Stored) (s : Store) (image : List ℕ) → OpensAs S stored image → Encodes image s → OpensStore S stored s image
 opens_store S stored s image opens right =
-    subst (λ (x : Store). OpensStore S stored x image) (store_once image opens.store s opens.holds.right right)
-    (record { holds = opens.holds; among = opens.among; last_is = opens.last_is })
+    subst (λ (x : Store). OpensStore S stored x image) (store_once image opens.store s opens.stands.holds.right right)
+    (record { stands = opens.stands; opens = opens.opens; last_is = opens.last_is })
 
 module _ (S P : List ℕ → Type 0) (stored : Stored) (s : Store) (freed given now : List ℕ) (fewer : (key : List ℕ) → P key → IsReachable stored.files key)
     (needed : (key : List ℕ) → IsReachable stored.files key → P key) (opens : OpensAs S stored given) (right : Encodes given s) (frees : FreesSome P freed s)
@@ -329,31 +326,29 @@ module _ (S P : List ℕ → Type 0) (stored : Stored) (s : Store) (freed given 
 
   -- what reserve is left
   reserve_left : HasReserve P (with_all_freed freed s).held
-  reserve_left = reserve_after P freed s frees (reserve_by (IsReachable stored.files) P s.held fewer opened.holds.reserve)
+  reserve_left = reserve_after P freed s frees (reserve_by (IsReachable stored.files) P s.held fewer opened.opens)
+
+  still_stands : Stands S (record s { held = (with_all_freed freed s).held }) stored.files now
+  still_stands = record {
+    holds = holds_on S P stored.files s freed given now needed (λ key. newest_after P freed s key frees) same encoded opened.stands.holds;
+    among = among_on S P stored.files s freed given now needed (λ key. newest_after P freed s key frees) same encoded opened.stands.among;
+  }
 
   opens_on : OpensAs S stored now
   opens_on = record {
     store = record s { held = (with_all_freed freed s).held };
-    holds =
-        holds_on S P stored.files s freed given now needed (λ key. newest_after P freed s key frees) same encoded (HasReserve (IsReachable stored.files) s.held)
-        (HasReserve (IsReachable stored.files) (with_all_freed freed s).held) opened.holds (reserve_by P (IsReachable stored.files) (with_all_freed freed s).held needed reserve_left);
-    among = among_on S P stored.files s freed given now needed (λ key. newest_after P freed s key frees) same encoded opened.among;
+    stands = still_stands;
+    opens = reserve_by P (IsReachable stored.files) (with_all_freed freed s).held needed reserve_left;
     last_is = opened.last_is;
   }
 
   stands_on : 2 ≤ free_slots (with_all_freed freed s).held → IsOf S stored now
-  stands_on enough = (
-    record s { held = (with_all_freed freed s).held },
-    (
-      record {
-        holds =
-            holds_on S P stored.files s freed given now needed (λ key. newest_after P freed s key frees) same encoded (HasReserve (IsReachable stored.files) s.held)
-            (2 ≤ free_slots (with_all_freed freed s).held) opened.holds enough;
-        among = among_on S P stored.files s freed given now needed (λ key. newest_after P freed s key frees) same encoded opened.among;
-      },
-      opened.last_is,
-    ),
-  )
+  stands_on enough = record {
+    store = record s { held = (with_all_freed freed s).held };
+    stands = still_stands;
+    reserve = enough;
+    last_is = opened.last_is;
+  }
 
 -- Some containers are given back that no file needs: the image is opened as the same files still.
 pub partly_opens : (S P : List ℕ → Type 0) (stored : Stored) (s : Store) (freed given c : List ℕ) → ((key : List ℕ) → P key → IsReachable stored.files key)
@@ -361,7 +356,7 @@ pub partly_opens : (S P : List ℕ → Type 0) (stored : Stored) (s : Store) (fr
 partly_opens S P stored s freed given c fewer needed opens right frees part =
     opens_on S P stored s (take part.count freed) given c fewer needed opens right (frees_first P part.count freed s frees) part.same part.right
 
--- All are that have to be: the store of the same files can run.
+-- All are that have to be: the store of the same files has its reserve.
 pub freed_stands : (S P : List ℕ → Type 0) (stored : Stored) (s t : Store) (freed given now : List ℕ) → ((key : List ℕ) → P key → IsReachable stored.files key)
     → ((key : List ℕ) → IsReachable stored.files key → P key) → OpensAs S stored given → Encodes given s → FreesTo P freed s t → Encodes now t → SameButGates freed given now
     → IsOf S stored now
@@ -373,26 +368,19 @@ freed_stands S P stored s t freed given now fewer needed opens right frees after
     stands_on S P stored s freed given now fewer needed opens right some same later
     (reserve_free P (with_all_freed freed s).held (reserve_left S P stored s freed given now fewer needed opens right some same later) end)
 
--- ---- a store that can run can be opened
+-- ---- a store that has its reserve can be opened
 
 pub opens_of : (S : List ℕ → Type 0) (stored : Stored) (image : List ℕ) → IsOf S stored image → OpensAs S stored image
-opens_of S stored image (store, (stands, last)) = record {
-  store = store;
-  holds = record {
-    right = stands.holds.right;
-    past = stands.holds.past;
-    copies = stands.holds.copies;
-    nodes = stands.holds.nodes;
-    files_are = stands.holds.files_are;
-    reserve = free_reserve (IsReachable stored.files) store.held stands.holds.reserve;
-  };
-  among = stands.among;
-  last_is = last;
+opens_of S stored image is = record {
+  store = is.store;
+  stands = is.stands;
+  opens = free_reserve (IsReachable stored.files) is.store.held is.reserve;
+  last_is = is.last_is;
 }
 
 -- and stands for its files
 pub stands_of : (S : List ℕ → Type 0) (stored : Stored) (image : List ℕ) → OpensAs S stored image → StandsFor stored.files stored.last image
-stands_of S stored image opens = record { store = opens.store; holds = opens.holds; last_is = sym opens.last_is }
+stands_of S stored image opens = record { store = opens.store; holds = opens.stands.holds; opens = opens.opens; last_is = sym opens.last_is }
 
 same_stored : (m n : Stored) → m.files ≡ n.files → m.last ≡ n.last → m ≡ n
 same_stored m n files last = ap (λ (x : Files). (let one : Stored = record { files = x; last = m.last } in one)) files ∙ ap (λ (x : ℕ). (let one : Stored = record { files = n.files; last = x } in one)) last

@@ -19,7 +19,7 @@ use Rattle.container_meta.specs.Spelling.{HeaderValue, IsHeader, header_of}
 use Rattle.store_model.specs.Indexing.{entry_key, with_entries, keys_in, entries_in, bytes_in_slots}
 use Rattle.store_model.specs.Slots.{Copy, AreHeaders, IsIndexOf, IsPartialIndexOf, place_of, copy_in, newer, newest, free_slots, first_free, with_slot}
 use Rattle.store_model.specs.Image.{Store}
-use Rattle.store_model.specs.Steps.{CanSeal, with_sealed}
+use Rattle.store_model.specs.Steps.{CanHold, with_sealed}
 use Rattle.store_model.proofs.Indexing.{tied, entry_of, index_with, partial_with}
 
 -- ---- a map whose keys are among some
@@ -178,7 +178,7 @@ length-entries_from : (offset : ℕ) (segments : List Segment) → length (entri
 length-entries_from offset [] = refl
 length-entries_from offset (s ∷ ss) = ap suc (length-entries_from (offset + length s.bytes) ss)
 
-module _ (id : ℕ) (kind : Kind) (segments : List Segment) (store : Store) (can : CanSeal id kind segments store) where
+module _ {spare : ℕ} (id : ℕ) (kind : Kind) (segments : List Segment) (store : Store) (can : CanHold spare id kind segments store) where
   abbrev new_header : HeaderValue
   new_header = header_of id kind segments
 

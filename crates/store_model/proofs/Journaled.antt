@@ -91,7 +91,6 @@ module _ (S : List ℕ → Type 0) (image new : List ℕ) (store : Store) (files
       copies = copies_kept image new 0 store.held (slots image new store encodes same) (headers image new store encodes same) is.holds.copies;
       nodes = nodes_kept image new 0 store.held (slots image new store encodes same) (headers image new store encodes same) is.holds.nodes;
       files_are = files_are;
-      reserve = is.holds.reserve;
     };
     among = among_kept image new S 0 store.held (slots image new store encodes same) (headers image new store encodes same) is.among;
   }

@@ -16,9 +16,7 @@ use Rattle.segmenter.proofs.SegmentLemmas.{segments_of-none}
 use Rattle.store_model.specs.Files.{Files}
 use Rattle.store_model.specs.Image.{Store, Encodes, names_of, last_sequence}
 use Rattle.store_model.specs.Refusals.{HasRoot}
-use Rattle.store_model.specs.Reserve.{HasReserve, IsReachable}
-use Rattle.store_model.specs.Slots.{free_slots}
-use Rattle.store_model.specs.Standing.{IsFileOf, IsStoreOf, IsStoreWith, StandsFor}
+use Rattle.store_model.specs.Standing.{IsFileOf, IsStoreOf, StandsFor}
 use Rattle.store_model.specs.Trees.{root_of, file_tree, HoldsTree}
 use Rattle.store_model.proofs.Once.{store_once}
 use Rattle.store_model.proofs.Roots.{root_of_name}
@@ -48,15 +46,12 @@ file_agrees held image (Some named) (Some a) None few less one other = absurd ot
 file_agrees held image (Some named) (Some a) (Some b) few less one other =
     ap Some (bytes_agree held image a b few less (sym one.0 ∙ other.0) one.1 other.1)
 
-fitting_agree : (R T : Type 0) (s t : Store) (m n : Files) (image : List ℕ) → AllFit m → AllFit n → IsStoreWith s m image R → IsStoreWith t n image T → m ≡ n
-fitting_agree R T s t m n image few less one other =
+pub fitting_files_agree : (s t : Store) (m n : Files) (image : List ℕ) → AllFit m → AllFit n → IsStoreOf s m image → IsStoreOf t n image → m ≡ n
+fitting_files_agree s t m n image few less one other =
     let same : s ≡ t = store_once image s t one.right other.right in
-    let theirs : IsStoreWith s n image T = subst (λ (x : Store). IsStoreWith x n image T) (sym same) other in
+    let theirs : IsStoreOf s n image = subst (λ (x : Store). IsStoreOf x n image) (sym same) other in
     finite.same_map nat_list_cmp_total (finite.slice_cmp-IsAntisymmetric finite.nat_cmp-IsAntisymmetric) m n
     (λ q. file_agrees s.held image (finite.get (names_of s) q) (finite.get m q) (finite.get n q) (few q) (less q) (one.files_are q) (theirs.files_are q))
-
-pub fitting_files_agree : (s t : Store) (m n : Files) (image : List ℕ) → AllFit m → AllFit n → IsStoreOf s m image → IsStoreOf t n image → m ≡ n
-fitting_files_agree s t m n image few less one other = fitting_agree (2 ≤ free_slots s.held) (2 ≤ free_slots t.held) s t m n image few less one other
 
 pub last_agrees : (m n : Files) (i j : ℕ) (image : List ℕ) → StandsFor m i image → StandsFor n j image → i ≡ j
 last_agrees m n i j image one other =
@@ -84,26 +79,20 @@ root_right : (store : Store) (image name : List ℕ) (named : Named) → Encodes
 root_right store image name named right found =
     root_of_name (length image) store name named.root (sound_of_right (length image) image store refl right) (named.sequence, found)
 
-any_files_fit : (R : Type 0) (store : Store) (files : Files) (image : List ℕ) → IsStoreWith store files image R → AllFit files
-any_files_fit R store files image holds name =
-    file_fits store.held image (finite.get (names_of store) name) (finite.get files name) (λ n found. root_right store image name n holds.right found) (holds.files_are name)
-
 pub files_fit : (store : Store) (files : Files) (image : List ℕ) → IsStoreOf store files image → AllFit files
-files_fit store files image holds = any_files_fit (2 ≤ free_slots store.held) store files image holds
+files_fit store files image holds name =
+    file_fits store.held image (finite.get (names_of store) name) (finite.get files name) (λ n found. root_right store image name n holds.right found) (holds.files_are name)
 
 -- ---- the laws
 
 -- An image is a store of one map of files at most.
-pub any_files_agree : (R T : Type 0) (s t : Store) (m n : Files) (image : List ℕ) → IsStoreWith s m image R → IsStoreWith t n image T → m ≡ n
-any_files_agree R T s t m n image one other = fitting_agree R T s t m n image (any_files_fit R s m image one) (any_files_fit T t n image other) one other
-
 pub files_agree : (s t : Store) (m n : Files) (image : List ℕ) → IsStoreOf s m image → IsStoreOf t n image → m ≡ n
-files_agree s t m n image one other = any_files_agree (2 ≤ free_slots s.held) (2 ≤ free_slots t.held) s t m n image one other
+files_agree s t m n image one other = fitting_files_agree s t m n image (files_fit s m image one) (files_fit t n image other) one other
 
 -- It stands for one map of files and one last sequence number at most.
 pub standing_agrees : (m n : Files) (i j : ℕ) (image : List ℕ) → StandsFor m i image → StandsFor n j image → (m ≡ n) × (i ≡ j)
 standing_agrees m n i j image one other =
-    (any_files_agree (HasReserve (IsReachable m) one.store.held) (HasReserve (IsReachable n) other.store.held) one.store other.store m n image one.holds other.holds, last_agrees m n i j image one other)
+    (files_agree one.store other.store m n image one.holds other.holds, last_agrees m n i j image one other)
 
 -- ---- the file of a name
 

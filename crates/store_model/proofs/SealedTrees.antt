@@ -27,11 +27,11 @@ use Rattle.store_model.specs.Files.{Files}
 use Rattle.store_model.specs.Slots.{HoldsContainer, StandAt, AreHeaders, Copy, newest, last_id, free_slots, first_free}
 use Rattle.store_model.specs.Image.{Store, Encodes, AreCopies, names_of}
 use Rattle.store_model.specs.Standing.{entry_bytes, IsOfKind, AreNodes, IsFileOf}
-use Rattle.store_model.specs.Steps.{with_sealed, CanSeal, MaySeal, FitsHeld}
+use Rattle.store_model.specs.Steps.{with_sealed, CanHold, MaySeal, FitsHeld}
 use Rattle.store_model.specs.Reserve.{IsReachable, tree_keys, keys_below}
 use Rattle.store_model.specs.Trees.{bytes_at, file_tree, leaf_key, node_key, HasNewest, HoldsTree, HoldsTrees}
 use Rattle.store_model.proofs.Copies.{some_same, headers_of_right, copy_digest}
-use Rattle.store_model.proofs.Filled.{length-with_slot, free_less, different_with}
+use Rattle.store_model.proofs.Filled.{length-with_slot, different_with}
 use Rattle.store_model.proofs.FramedTrees.{before_slots, encodes_on, stands_on}
 use Rattle.store_model.proofs.FreedTrees.{in_head, in_tail}
 use Rattle.store_model.proofs.HeldSlots.{SameHeld, others_held, copy_still, found_so, have_levels, HasLevel, levels_so, newest_so, IsNodeEntry, nodes_so, so_nodes, IsAmongThese, among_so, so_among, so_with}
@@ -111,6 +111,18 @@ pub newest_of_none : (P : List ℕ → Type 0) (kind : Kind) (store : Store) (gi
 newest_of_none P Leaf store given image s none = λ copy counts e. absurd (let both = sym none ∙ e in cc)
 newest_of_none P Tree store given image s none = λ copy counts e. absurd (let both = sym none ∙ e in cc)
 
+-- a segment that is the newest copy of its key is that
+pub newest_of_copy : (P : List ℕ → Type 0) (kind : Kind) (store : Store) (image : List ℕ) (s : Segment) → HasNewest store.held (segment_key kind s) s.level s.bytes image
+    → IsNewestOf P kind store image image s
+newest_of_copy P kind store image s has = by_kind kind has
+  where
+    same : (k : Kind) (n : HasNewest store.held (segment_key k s) s.level s.bytes image) (copy : Copy) → newest 0 store.held (segment_key k s) ≡ Some copy → bytes_at copy.place image ≡ s.bytes
+    same k n copy e = ap (λ (c : Copy). bytes_at c.place image) (some_same copy n.copy (sym e ∙ n.copy_is)) ∙ n.bytes_are
+
+    by_kind : (k : Kind) → HasNewest store.held (segment_key k s) s.level s.bytes image → IsNewestOf P k store image image s
+    by_kind Leaf n = λ copy counts e. same Leaf n copy e
+    by_kind Tree n = λ copy counts e. same Tree n copy e
+
 -- and it has its level: 0 of data, that of its bytes of a node
 same_level : (S : List ℕ → Type 0) (kind : Kind) (held : List (Option HeaderValue)) (image : List ℕ) (s : Segment) (copy : Copy) → AreHeaders held → AreNodes 0 held image
     → MaySeal S kind s → is_level kind s.level ≡ true → newest 0 held (segment_key kind s) ≡ Some copy → s.bytes ≡ bytes_at copy.place image → s.level ≡ copy.place.level
@@ -147,16 +159,16 @@ newest_beside id kind segments store key some others =
     other_entries offset [] others = tt
     other_entries offset (s ∷ ss) others = (others.0, other_entries (offset + length s.bytes) ss others.1)
 
-module _ (S P : List ℕ → Type 0) (id : ℕ) (kind : Kind) (segments : List Segment) (store : Store) (files : Files) (given image new : List ℕ)
+module _ {spare : ℕ} (S P : List ℕ → Type 0) (id : ℕ) (kind : Kind) (segments : List Segment) (store : Store) (files : Files) (given image new : List ℕ)
     (before : Stands S store files given) (stands : Stands S store files image)
     (same : SameOutside (slot_at (first_free store.held)) SLOT_BYTES image new)
-    (container : HoldsContainer new (first_free store.held) id kind segments) (can : CanSeal id kind segments store)
+    (container : HoldsContainer new (first_free store.held) id kind segments) (can : CanHold spare id kind segments store)
     (may : AllByRecursion (MaySeal S kind) segments) (newests : AllByRecursion (IsNewestOf P kind store given image) segments) where
   abbrev header : HeaderValue
   header = header_of id kind segments
 
   some : 1 ≤ free_slots store.held
-  some = omega (arith, stands.holds.reserve)
+  some = omega (arith, can.slot)
 
   place : first_free store.held ≡ 0 + first_free store.held
   place = omega arith
@@ -276,12 +288,11 @@ module _ (S P : List ℕ → Type 0) (id : ℕ) (kind : Kind) (segments : List S
   sealed count =
       stands_on S store files image new (before_slots (first_free store.held) image new same) (with_sealed id kind segments store).held stands encodes copies are_nodes are_among
       (λ name. file_alike name (finite.get (names_of store) name) (finite.get files name) count refl (before.holds.files_are name) (stands.holds.files_are name))
-      (omega (arith, free_less header store.held some, can.slot))
 
 -- What one image holds goes on when a container is sealed in it.
-module _ (S P : List ℕ → Type 0) (id : ℕ) (kind : Kind) (segments : List Segment) (store : Store) (files : Files) (image new : List ℕ)
+module _ {spare : ℕ} (S P : List ℕ → Type 0) (id : ℕ) (kind : Kind) (segments : List Segment) (store : Store) (files : Files) (image new : List ℕ)
     (stands : Stands S store files image) (same : SameOutside (slot_at (first_free store.held)) SLOT_BYTES image new)
-    (container : HoldsContainer new (first_free store.held) id kind segments) (can : CanSeal id kind segments store)
+    (container : HoldsContainer new (first_free store.held) id kind segments) (can : CanHold spare id kind segments store)
     (may : AllByRecursion (MaySeal S kind) segments) (newests : AllByRecursion (IsNewestOf P kind store image image) segments) where
   -- the newest copy of a key that counts
   pub newest_kept : (key : List ℕ) (level : ℕ) (bytes : List ℕ) → P key → HasNewest store.held key level bytes image → HasNewest (with_sealed id kind segments store).held key level bytes new

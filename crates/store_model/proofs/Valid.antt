@@ -12,7 +12,7 @@ use Rattle.store_model.specs.Slots.{last_id, free_slots, first_free}
 use Rattle.store_model.specs.Image.{Store, IsValidFor, names_of}
 use Rattle.store_model.specs.Refusals.{HasRoot}
 use Rattle.store_model.specs.Standing.{IsStoreOf}
-use Rattle.store_model.specs.Steps.{CanSeal, with_sealed, CanChangeName, record_of, with_cell, with_change}
+use Rattle.store_model.specs.Steps.{CanHold, with_sealed, CanChangeName, record_of, with_cell, with_change}
 use Rattle.store_model.proofs.Filled.{length-with_slot, free_less, headers_with, last_new, different_with}
 use Rattle.store_model.proofs.Cells.{names_with_cell, last_with_cell, room_with_cell, valid_with_cell}
 use Rattle.store_model.proofs.NameChanges.{record_right, record_rises}
@@ -47,7 +47,7 @@ valid_change size name change store sound can right =
 
 -- ---- a container more
 
-module _ (id : ℕ) (kind : Kind) (segments : List Segment) (store : Store) (can : CanSeal id kind segments store) where
+module _ {spare : ℕ} (id : ℕ) (kind : Kind) (segments : List Segment) (store : Store) (can : CanHold spare id kind segments store) where
   abbrev new_header : HeaderValue
   new_header = header_of id kind segments
 

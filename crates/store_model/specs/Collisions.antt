@@ -1,12 +1,14 @@
 -- Byte lists of which no two have one digest, and images whose data is among them (docs/MODEL.md, 'Files by trees').
-use Rattle.std.specs.Prelude.{◌≡◌, ℕ, ◌+◌, List, [], ◌∷◌, Bool, IsTrue, Option, Some, None}
+use Rattle.std.specs.Prelude.{◌≡◌, ℕ, ◌+◌, ◌≤◌, List, [], ◌∷◌, Bool, IsTrue, Option, Some, None}
 use Rattle.std.specs.List.{AllByRecursion}
 use Rattle.sha2.specs.Sha256.{sha256}
+use Rattle.disk_format.specs.declared.numbers.TheConstants.{RESERVE}
 use Rattle.container_meta.specs.declared.kind.Kind.{Kind}
 use Rattle.container_meta.specs.declared.kind.Kind.TheVariants.{Leaf, Tree}
 use Rattle.container_meta.specs.Spelling.{HeaderValue}
 use Rattle.store_model.specs.Files.{Files, Stored}
 use Rattle.store_model.specs.Image.{Store, last_sequence}
+use Rattle.store_model.specs.Slots.{free_slots}
 use Rattle.store_model.specs.Standing.{CanBeOpened, IsStoreOf, entry_bytes}
 
 -- No collisions: no two different ones of these byte lists have one digest.
@@ -38,13 +40,16 @@ pub record Stands (S : List ℕ → Type 0) (store : Store) (files : Files) (ima
   pub holds : IsStoreOf store files image
   pub among : AreAmong S 0 store.held image
 
--- an image is that of a store of these files that can run, with this last sequence number
-abbrev pub IsOf : (List ℕ → Type 0) → Stored → List ℕ → Type 0
-IsOf S stored image = (store : Store) × (Stands S store stored.files image × (last_sequence store ≡ stored.last))
-
 -- The image can be opened as a store of these files, with this last sequence number; each data segment that it holds is among S.
 pub record OpensAs (S : List ℕ → Type 0) (stored : Stored) (image : List ℕ) : Type 0 where
   pub store : Store
-  pub holds : CanBeOpened store stored.files image
-  pub among : AreAmong S 0 store.held image
+  pub stands : Stands S store stored.files image
+  pub opens : CanBeOpened store stored.files
+  pub last_is : last_sequence store ≡ stored.last
+
+-- It is such a store, and has the slots of the reserve already: it is opened as it is.
+pub record IsOf (S : List ℕ → Type 0) (stored : Stored) (image : List ℕ) : Type 0 where
+  pub store : Store
+  pub stands : Stands S store stored.files image
+  pub reserve : RESERVE ≤ free_slots store.held
   pub last_is : last_sequence store ≡ stored.last

@@ -1,5 +1,5 @@
 -- What the container slots of a disk image hold (docs/MODEL.md, 'Containers').
-use Rattle.std.specs.Prelude.{◌≡◌, ◌≢◌, ℕ, zero, suc, ◌+◌, List, [], ◌∷◌, length, max, nat_lt, if◌then◌else◌, Bool, is_some, Option, Some, None, find, option_map}
+use Rattle.std.specs.Prelude.{◌≡◌, ◌≢◌, ◌≤◌, ℕ, zero, suc, ◌+◌, List, [], ◌∷◌, length, max, nat_lt, if◌then◌else◌, Bool, is_some, Option, Some, None, find, option_map}
 use Rattle.std.specs.Str.{bytes_eq}
 use Rattle.std.specs.FinMap as finite
 use Rattle.base_model.specs.Bytes.{range, byte_at, key_of}
@@ -114,6 +114,10 @@ abbrev pub free_slots : List (Option HeaderValue) → ℕ
 free_slots [] = 0
 free_slots (None ∷ cs) = suc (free_slots cs)
 free_slots (Some h ∷ cs) = free_slots cs
+
+-- one slot is closed at least: what the steps of a running store go by
+abbrev pub HasFree : List (Option HeaderValue) → Type 0
+HasFree held = 1 ≤ free_slots held
 
 -- the closed slot of least number; where none is, how many there are
 abbrev pub first_free : List (Option HeaderValue) → ℕ

@@ -4,6 +4,7 @@ use Rattle.std.specs.FinMap as finite
 use Rattle.std.specs.List.{AllByRecursion}
 use Rattle.base_model.specs.Bytes.{range}
 use Rattle.disk_format.specs.Layout.{data_at}
+use Rattle.disk_format.specs.declared.numbers.TheConstants.{RESERVE}
 use Rattle.container_meta.specs.declared.entry.Entry.{Entry}
 use Rattle.container_meta.specs.declared.kind.Kind.{Kind}
 use Rattle.container_meta.specs.declared.kind.Kind.TheVariants.{Leaf, Tree}
@@ -57,32 +58,29 @@ pub record HasJournal (store : Store) (image : List ℕ) : Type 0 where
   pub past : ClosedFrom store.selector.half (length store.records) image
 
 -- The image holds this store, and is a store of these files: after its records no record is open, and each entry's bytes have its
--- digest and are of its kind. It has a reserve of slots, as Reserve says.
-pub record IsStoreWith (store : Store) (files : Files) (image : List ℕ) (Reserve : Type 0) : Type 0 where
+-- digest and are of its kind. How many slots are closed it doesn't say.
+pub record IsStoreOf (store : Store) (files : Files) (image : List ℕ) : Type 0 where
   pub right : Encodes image store
   pub past : ClosedFrom store.selector.half (length store.records) image
   pub copies : AreCopies 0 store.held image
   pub nodes : AreNodes 0 store.held image
   pub files_are : AreFilesOf store.held (names_of store) image files
-  pub reserve : Reserve
 
--- It can run: two slots or more are closed.
-abbrev pub IsStoreOf : Store → Files → List ℕ → Type 0
-IsStoreOf store files image = IsStoreWith store files image (2 ≤ free_slots store.held)
-
--- It can be opened: two different slots are closed, or have containers that no file needs, so that an opening can close them.
-abbrev pub CanBeOpened : Store → Files → List ℕ → Type 0
-CanBeOpened store files image = IsStoreWith store files image (HasReserve (IsReachable files) store.held)
+-- A store of these files can be opened: two different slots are closed, or have containers that no file needs, so that an
+-- opening can close them.
+abbrev pub CanBeOpened : Store → Files → Type 0
+CanBeOpened store files = HasReserve (IsReachable files) store.held
 
 -- The image is a store of these files that can be opened, with this last sequence number.
 pub record StandsFor (files : Files) (last : ℕ) (image : List ℕ) : Type 0 where
   pub store : Store
-  pub holds : CanBeOpened store files image
+  pub holds : IsStoreOf store files image
+  pub opens : CanBeOpened store files
   pub last_is : last ≡ last_sequence store
 
--- the image is an empty store, as `format` makes it
+-- the image is an empty store, as `format` makes it, with the slots of the reserve
 abbrev pub IsFormatted : ℕ → List ℕ → Type 0
-IsFormatted slots image = IsStoreOf (empty_store slots) no_files image
+IsFormatted slots image = IsStoreOf (empty_store slots) no_files image × (RESERVE ≤ free_slots (empty_store slots).held)
 
 -- some bytes are a segment of a file
 abbrev pub IsSegmentOf : List ℕ → List ℕ → Type 0

@@ -27,11 +27,15 @@ abbrev pub with_sealed : ℕ → Kind → List Segment → Store → Store
 with_sealed id kind segments store =
     record store { held = with_slot (first_free store.held) (header_of id kind segments) store.held }
 
--- There is a slot for it, with two more to spare; its id is above all that are there, and its header is right.
-pub record CanSeal (id : ℕ) (kind : Kind) (segments : List Segment) (store : Store) : Type 0 where
-  pub slot : RESERVE < free_slots store.held
+-- There is a slot for it, with so many more to spare; its id is above all that are there, and its header is right.
+pub record CanHold (spare : ℕ) (id : ℕ) (kind : Kind) (segments : List Segment) (store : Store) : Type 0 where
+  pub slot : spare < free_slots store.held
   pub new_id : last_id store.held < id
   pub right : IsHeader (header_of id kind segments)
+
+-- one that an actor fills leaves the slots of the reserve
+abbrev pub CanSeal : ℕ → Kind → List Segment → Store → Type 0
+CanSeal id kind segments store = CanHold RESERVE id kind segments store
 
 -- a segment that may be sealed: it is of its kind, and, as data, among S
 pub record MaySeal (S : List ℕ → Type 0) (kind : Kind) (s : Segment) : Type 0 where

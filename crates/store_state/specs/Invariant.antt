@@ -1,8 +1,7 @@
 -- What holds of a running store at every moment, in terms of what its disk holds (docs/MODEL.md, 'The running store').
-use Rattle.std.specs.Prelude.{◌≡◌, ℕ, ◌≤◌, List, Option, Some, true}
+use Rattle.std.specs.Prelude.{◌≡◌, ℕ, List, Option, Some, true}
 use Rattle.std.specs.FinMap as finite
 use Rattle.std.specs.List.{AllByRecursion}
-use Rattle.disk_format.specs.declared.numbers.TheConstants.{RESERVE}
 use Rattle.container_meta.specs.Places.{PlaceMap}
 use Rattle.container_meta.specs.Segments.{KindSegment, segment_key}
 use Rattle.container_meta.specs.Spelling.{HeaderValue}
@@ -17,8 +16,8 @@ use Rattle.actor_parts.specs.Segments.{IsStepSegment, pin_of, children_of}
 use Rattle.store_model.specs.Image.{Store}
 use Rattle.store_model.specs.Collisions.{IsIn}
 use Rattle.store_model.specs.Files.{Files}
-use Rattle.store_model.specs.Reserve.{HoldsCounted, IsReachable, key_set, tree_keys}
-use Rattle.store_model.specs.Slots.{HasKey, IsPartialIndexOf, free_slots}
+use Rattle.store_model.specs.Reserve.{HasReserve, HoldsCounted, IsReachable, key_set, tree_keys}
+use Rattle.store_model.specs.Slots.{HasFree, HasKey, IsPartialIndexOf}
 use Rattle.store_model.specs.Trees.{HasNewest}
 
 -- A pin is right: the newest copy of its key, of which P holds, is a segment of that level and length, and its children are pinned, too.
@@ -56,9 +55,11 @@ abbrev pub IndexesFiles : PlaceMap → Files → Type 0
 IndexesFiles index files = (key : List ℕ) → IsReachable files key → HasKey index key
 
 -- Each place that the index has is that of its key's newest copy, and it has each key that is needed: by the files, and by what actors
--- are at. Pins are right and closed, and what is to be read is held; two slots are free.
+-- are at. Pins are right and closed, and what is to be read is held. One slot is free, and a second one, too, or it has a container to
+-- which the index points no more: so the image can always be opened, and two slots are free again once such containers are given back.
 pub record CoreInvariant (index : PlaceMap) (store : Store) (files : Files) (parts : List Part) (image : List ℕ) : Type 0 where
   pub index_is_newest : IsPartialIndexOf store.held index
   pub files_are_indexed : IndexesFiles index files
   pub pins_are_closed : AllByRecursion (HoldsPart (HasKey index) store.held image) parts
-  pub reserve_holds : RESERVE ≤ free_slots store.held
+  pub reserve_holds : HasReserve (HasKey index) store.held
+  pub has_free : HasFree store.held

@@ -1,13 +1,12 @@
 -- Which store the tables of a running store represent (docs/MODEL.md, 'The running store').
 use Rattle.std.specs.Prelude.{◌≡◌, ℕ, ◌<◌, ◌≤◌, List, length, map, slice_get, Option, Some, None}
-use Rattle.disk_format.specs.declared.numbers.TheConstants.{RESERVE}
 use Rattle.container_meta.specs.declared.kind.Kind.TheVariants.{Leaf}
 use Rattle.container_meta.specs.Places.{PlaceMap}
 use Rattle.container_meta.specs.Spelling.{HeaderValue}
 use Rattle.journal_cells.specs.Journal.{IsTold}
 use Rattle.segment_index.specs.Places.{KnownMap}
 use Rattle.store_model.specs.Image.{Store, IsValidFor}
-use Rattle.store_model.specs.Slots.{IsPartialIndexOf, free_slots, first_free, ids_of, last_id}
+use Rattle.store_model.specs.Slots.{HasFree, IsPartialIndexOf, first_free, ids_of, last_id}
 use Rattle.store_state.specs.declared.slot_table.SlotCount.{SlotCount}
 use Rattle.store_state.specs.declared.slot_table.SlotTable.{SlotTable}
 use Rattle.store_state.specs.declared.tables.Tables.{Tables}
@@ -41,13 +40,13 @@ pub record Represents (store : Store) (known : Option PlaceMap) (t : Tables) : T
   pub slots_hold : RepresentsSlots store.held t.held
   pub index_is_newest : KnownMap known (IsPartialIndexOf store.held)
 
--- They are those of some store that a disk of this size may hold, of which two slots or more are free.
+-- They are those of some store that a disk of this size may hold, of which a slot is free.
 pub record Runs (size : ℕ) (known : Option PlaceMap) (t : Tables) : Type 0 where
   pub store : Store
   pub represents : Represents store known t
   pub valid : IsValidFor size store
-  pub reserve_holds : RESERVE ≤ free_slots store.held
+  pub has_free : HasFree store.held
 
 -- P holds of each store that they represent
 pub record OfEach (size : ℕ) (known : Option PlaceMap) (t : Tables) (P : Store → Type 0) : Type 0 where
-  pub store_has : (store : Store) → Represents store known t → IsValidFor size store → RESERVE ≤ free_slots store.held → P store
+  pub store_has : (store : Store) → Represents store known t → IsValidFor size store → HasFree store.held → P store

@@ -1,8 +1,7 @@
 //! A store in memory.
-ghost use Rattle.std.specs.Prelude.{◌≡◌, ◌≤◌, ℕ, List, Option, Some};
-ghost use Rattle.disk_format.specs.declared.numbers.TheConstants.{RESERVE};
+ghost use Rattle.std.specs.Prelude.{◌≡◌, ℕ, List, Option, Some};
 ghost use Rattle.store_model.specs.Image.{Store, IsValidFor};
-ghost use Rattle.store_model.specs.Slots.{IsIndexOf, free_slots};
+ghost use Rattle.store_model.specs.Slots.{HasFree, IsIndexOf};
 ghost use Rattle.store_state.specs.State.{Represents};
 ghost use Rattle.store_state.specs.Tables as running;
 
@@ -28,9 +27,9 @@ impl OpenStore {
     pub fn into_running(self) -> (Tables, StoreIndex)
         // They are those of whatever store was opened.
         ensures represents { (store : Store) → Represents store self → running.Represents store (Some result.1) result.0 }
-        // So where two slots or more are free, that store can run.
+        // So where a slot is free, they are those of a store that runs.
         ensures runs { (size : ℕ) (store : Store) → Represents store self → IsValidFor size store
-            → RESERVE ≤ free_slots store.held → running.Runs size (Some result.1) result.0 }
+            → HasFree store.held → running.Runs size (Some result.1) result.0 }
         // The last id is that of the store.
         ensures ids { result.0.held.last_id ≡ self.containers.last_id }
         // The index has each key that the store holds.

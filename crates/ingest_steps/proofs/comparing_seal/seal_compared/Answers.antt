@@ -1,4 +1,4 @@
-use Rattle.std.proofs.Common.{◌+◌}
+use Rattle.std.proofs.Common.{◌+◌, None}
 use Rattle.base_model.proofs.Outcome.{map_err}
 use Rattle.dd_disk.specs.Ending.{ending}
 use Rattle.dd_disk.specs.Shows.{Shows}
@@ -8,6 +8,7 @@ use Rattle.store_state.specs.Indexing.{IsChangeRefusal}
 use Rattle.store_state.specs.Refused.{blames}
 use Rattle.ingest_steps.specs.Sealing.{IsSealRefusal, HasPlacesOf, WasCompared}
 use Rattle.ingest_steps.proofs.AfterReads.{compared_and_sealed, was_compared, map_on_ok, has_places_before, change_refused, map_kept, steps_after, seals_after, seals_refused_by}
+use Rattle.ingest_steps.proofs.Sealed.{slot_in}
 use Rattle.ingest_steps.proofs.comparing_seal.seal_compared.Goals as goal
 
 pub returns-clause-map : goal.returns-clause-map
@@ -50,6 +51,7 @@ returns-clause-moves g c =
     let old = view c.args.disk.now in
     seals_after c.args.tables.now (g.X.Index.places c.args.index.now old.content) (c.args.tables.now.held.last_id + 1) c.args.filled.now (ending blames c.seal_indexed.result)
     old (view c.compare_all.new.disk) (view c.seal_indexed.new.disk) c.in_ok-before.ensures.reads c.in_ok-before.ensures.held c.seal_indexed.ensures.disk.later c.seal_indexed.ensures.moves
+    (λ among store files given is stands. (slot_in old.size None c.args.tables.now c.args.slot c.requires.state c.requires.slot among store (g.X.Index.places c.args.index.now old.content) files given is stands).spare)
 
 pub returns-in_err-before-clause-moves : goal.returns-in_err-before-clause-moves
 returns-in_err-before-clause-moves g c =
@@ -82,4 +84,4 @@ returns-clause-ok g c =
     compared_and_sealed c.seal_indexed.result c.args.tables.now c.seal_indexed.new.tables c.args.slot filled old.size mid.size known (places c.compare_all.new.index mid.content)
     (WasCompared old.size known (Shows old new) filled) reads.later.size_is c.in_ok-before.ensures.map
     (was_compared old.size known old mid new filled c.in_ok-before.before.items reads c.seal_indexed.ensures.disk.later c.in_ok-before.ensures.fit)
-    c.seal_indexed.ensures.ok
+    c.requires.slot c.seal_indexed.ensures.ok

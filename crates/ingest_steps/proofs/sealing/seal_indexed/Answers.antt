@@ -11,12 +11,12 @@ use Rattle.ingest_steps.proofs.SealedTables.{place_on_disk, slots_on_disk, steps
 use Rattle.ingest_steps.proofs.sealing.seal_indexed.Goals as goal
 
 pub returns-clause-ok : goal.returns-clause-ok
-returns-clause-ok g c = c.take_sealed.ensures _ _
+returns-clause-ok g c = λ spares has. c.take_sealed.ensures spares _ _ has
 
 pub put_entries-requires-clause-slot : goal.put_entries-requires-clause-slot
 put_entries-requires-clause-slot g c =
     let old = g.D.Disk.view c.args.disk.now in
-    place_on_disk old.size None c.args.tables.now c.args.slot c.requires.slot c.requires.state
+    place_on_disk old.size None c.args.tables.now c.args.slot c.requires.slot.1 c.requires.state
 
 pub put_entries-requires-clause-slots : goal.put_entries-requires-clause-slots
 put_entries-requires-clause-slots g c = record { slots = c.args.tables.now.slots; size_is = slots_on_disk (g.D.Disk.view c.args.disk.now).size None c.args.tables.now c.requires.state }
@@ -71,7 +71,7 @@ returns-in_err-seal_container-clause-moves g c =
     passed (λ x. SealsIndexed t id c.args.filled.now x old new) blames c.from_residual-in_err-seal_container.result e c.from_residual-in_err-seal_container.ensures.1
     (seals_on t id c.args.filled.now (ending_of (blames e)) old mid new changes
     (subst (λ (i : ℕ). SealsContainer t i c.args.filled.now (ending_of (blames e)) mid new) c.next_id-id.ensures.next c.in_err-seal_container.ensures.moves)
-    c.args.slot c.requires.slot c.in_err-seal_container.ensures.disk.later c.in_err-seal_container.ensures.frame)
+    c.args.slot c.requires.slot.1 c.in_err-seal_container.ensures.disk.later c.in_err-seal_container.ensures.frame)
 
 pub returns-clause-map : goal.returns-clause-map
 returns-clause-map g c =
@@ -84,7 +84,7 @@ returns-clause-map g c =
     let places = g.X.Index.places index in
     let changes = c.in_ok-put_entries.ensures.changes t.slots (slots_on_disk old.size None t c.requires.state) in
     record {
-      told = λ given content m known_is. map_on places (g.X.Index.owned_from index) (g.met.X.Index.places_stay index) (g.X.Index.serves index) (g.met.X.Index.owns_no_slot index) old.size None t c.args.slot c.requires.slot c.requires.state
+      told = λ given content m known_is. map_on places (g.X.Index.owned_from index) (g.met.X.Index.places_stay index) (g.X.Index.serves index) (g.met.X.Index.owns_no_slot index) old.size None t c.args.slot c.requires.slot.1 c.requires.state
           old mid new changes refl given content c.in_ok-put_entries.ensures.served c.in_ok-seal_container.ensures.same
           ∙ c.in_ok-put_entries.ensures.ok m known_is;
       untold = λ none m known_is.
@@ -110,4 +110,4 @@ returns-clause-moves g c =
     let changes = c.in_ok-put_entries.ensures.changes t.slots (slots_on_disk old.size None t c.requires.state) in
     seals_on t (t.held.last_id + 1) c.args.filled.now Done old mid new changes
     (subst (λ (i : ℕ). SealsContainer t i c.args.filled.now Done mid new) c.next_id-id.ensures.next c.in_ok-seal_container.ensures.moves)
-    c.args.slot c.requires.slot c.in_ok-seal_container.ensures.disk.later c.in_ok-seal_container.ensures.frame
+    c.args.slot c.requires.slot.1 c.in_ok-seal_container.ensures.disk.later c.in_ok-seal_container.ensures.frame

@@ -10,14 +10,14 @@ overflow_cast-len c =
     omega (arith, entries_within (header_of c.args.id filled.kind filled.segments) c.requires.right, length-of_entries 0 filled.segments, c.len.ensures)
 
 pub take_container-requires-clause-slot : goal.take_container-requires-clause-slot
-take_container-requires-clause-slot c = slot_in_table c.requires.state.0 c.requires.state.1 c.args.tables.now c.args.slot c.requires.slot c.requires.state.2
+take_container-requires-clause-slot c = slot_in_table c.requires.state.0 c.requires.state.1 c.args.tables.now c.args.slot c.requires.slot.1 c.requires.state.2
 
 pub take_container-requires-clause-counts : goal.take_container-requires-clause-counts
 take_container-requires-clause-counts c = counts_many c.requires.state.0 c.requires.state.1 c.args.tables.now c.requires.state.2
 
 pub returns : goal.returns
-returns c = λ size known.
+returns c = λ spares size known has.
     let filled = c.args.filled.now in
-    has_sealed c.args.tables.now _ c.args.slot c.args.id filled c.requires.slot c.requires.id c.requires.right
+    has_sealed c.args.tables.now _ c.args.slot c.args.id filled has c.requires.id c.requires.right
     (omega (arith, c.take_container.ensures.last, c.requires.id)) refl refl refl
     (λ held. c.take_container.ensures.holds held (header_of c.args.id filled.kind filled.segments) refl (sym c.kind.ensures) (length-of_entries 0 filled.segments ∙ sym c.len.ensures) (sym c.requires.bytes)) size known

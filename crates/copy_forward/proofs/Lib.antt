@@ -1,4 +1,6 @@
+pub mod Flushed
 pub mod OnePlace
 pub mod Planned
 pub mod Refilled
 pub mod Removed
+pub mod Sourced

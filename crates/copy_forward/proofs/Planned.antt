@@ -20,7 +20,8 @@ use Rattle.store_model.specs.Indexing.{entry_key}
 use Rattle.store_model.specs.Slots.{place_of}
 use Rattle.store_state.specs.Comparing.{IsCopyRefusal}
 use Rattle.copy_forward.specs.Entries.{is_copy}
-use Rattle.copy_forward.specs.Planning.{Adds, AddsLive, IsAllowed, IsFull, IsLiveIn, IsLiveRefusal, IsOneRefusal, IsStuck, Planned, Source, planned, Takes, TakesOne}
+use Rattle.copy_forward.specs.Planning.{Adds, AddsLive, IsAllowed, IsFull, IsLiveIn, IsLiveRefusal, IsOneRefusal, IsPlan, IsPlanRefusal, IsStuck, Planned, Source, planned, Takes, TakesOne}
+use Rattle.copy_forward.specs.declared.plan.Plan.{Plan}
 
 -- ---- a live copy
 
@@ -82,6 +83,23 @@ module _ (S T : (List ℕ → Type 0) → Type 0) (wider : (P : List ℕ → Typ
   stuck_wider s [] before refusal cause = cause
   stuck_wider s (e ∷ es) before refusal (inl cause) = inl (one_refusal_wider s e before.buffer refusal cause)
   stuck_wider s (e ∷ es) before refusal (inr (mid, (one, cause))) = inr (mid, (one_wider s e before mid one, stuck_wider s es mid refusal cause))
+
+  -- a whole plan, and why there is none
+  pub plan_wider : (s : Source) (es : List Entry) (from : ℕ) (buffer : Contents) (plan : Plan) → IsPlan s S es from buffer plan → IsPlan s T es from buffer plan
+  plan_wider s es from buffer plan is = record {
+    passed = is.passed;
+    takes = takes_wider s (drop from es) (planned buffer []) (planned plan.buffer plan.dead.items) is.passed is.takes;
+    next_is = is.next_is;
+    within = is.within;
+    whole = is.whole;
+    ended_is = is.ended_is;
+    kind_is = is.kind_is;
+    copied_is = is.copied_is;
+  }
+
+  pub plan_refused_wider : (s : Source) (es : List Entry) (before : Planned) (refusal : Refusal) → IsPlanRefusal s S es before refusal → IsPlanRefusal s T es before refusal
+  plan_refused_wider s es before Memory cause = tt
+  plan_refused_wider s es before refusal cause = stuck_wider s es before refusal cause
 
 -- ---- one entry and others
 

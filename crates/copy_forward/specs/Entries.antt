@@ -13,6 +13,7 @@ use Rattle.disk_format.specs.Layout.{slot_at}
 use Rattle.gc_enumerate.specs.Live.{LiveKeys, IsLiveAt}
 use Rattle.refusals.specs.declared.refusal.Refusal.{Refusal}
 use Rattle.refusals.specs.declared.refusal.Refusal.TheVariants.{Memory, DiskRead, DiskWrite, Damaged}
+use Rattle.segment_index.specs.Places.{KnownMap}
 use Rattle.store_model.specs.Indexing.{entry_key}
 use Rattle.store_model.specs.Slots.{place_of}
 
@@ -88,3 +89,9 @@ abbrev pub IsRemoveRefusal : Option PlaceMap → Refusal → Type 0
 IsRemoveRefusal known DiskWrite = Unit {0}
 IsRemoveRefusal known (Damaged at why) = known ≡ None
 IsRemoveRefusal known refusal = ⊥
+
+-- What is left of the map after a refusal: it stays; but after a write that failed, and after damage where it isn't known, keys may be out.
+abbrev pub MapStays : Option PlaceMap → Option PlaceMap → Refusal → Type 0
+MapStays known after DiskWrite = Unit {0}
+MapStays known after (Damaged at why) = KnownMap known (λ index. after ≡ Some index)
+MapStays known after refusal = after ≡ known

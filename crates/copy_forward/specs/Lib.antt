@@ -1,2 +1,4 @@
+pub mod Copying
 pub mod Entries
+pub mod Flushing
 pub mod Planning

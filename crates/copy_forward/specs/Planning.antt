@@ -1,5 +1,5 @@
 -- What a collection does with the copies of a container that it can't give back as it is (docs/MODEL.md, 'Copying').
-use Rattle.std.specs.Prelude.{◌≡◌, ◌⊎◌, ℕ, suc, ◌+◌, ◌≤◌, Bool, true, false, List, [], ◌∷◌, ◌++◌, length, drop, Option, None}
+use Rattle.std.specs.Prelude.{◌≡◌, ◌⊎◌, ◌==◌, ℕ, suc, ◌+◌, ◌≤◌, Bool, true, false, List, [], ◌∷◌, ◌++◌, length, drop, Option, None}
 use Rattle.sha2.specs.Sha256.{sha256}
 use Rattle.container_meta.specs.declared.entry.Entry.{Entry}
 use Rattle.container_meta.specs.declared.kind.Kind.{Kind}
@@ -104,6 +104,7 @@ pub record IsPlan (s : Source) (shown : (List ℕ → Type 0) → Type 0) (entri
   pub next_is : plan.next ≡ from + passed
   pub within : plan.next ≤ length entries
   pub whole : buffer.segments ≡ [] → plan.next ≡ length entries
+  pub ended_is : plan.ended ≡ (plan.next == length entries)
   pub kind_is : plan.buffer.kind ≡ buffer.kind
   pub copied_is : length plan.buffer.segments ≡ length buffer.segments + plan.copied
 

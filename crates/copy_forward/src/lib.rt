@@ -3,11 +3,15 @@
 #![tactic(auto)]
 
 mod again;
+mod copying;
 mod entries;
+mod flushing;
 mod plan;
 mod planning;
 
 pub use again::same_again;
+pub use copying::copy_entries;
 pub use entries::{add_dead, live_bytes, read_header, remove_keys, same_place};
+pub use flushing::flush;
 pub use plan::Plan;
 pub use planning::plan_copies;

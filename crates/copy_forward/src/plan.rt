@@ -11,6 +11,8 @@ pub struct Plan {
     pub dead: Vec<Key>,
     /// The number of the entry that is next: there are no more, or it is live and doesn't fit.
     pub next: usize,
+    /// Whether there are no more.
+    pub ended: bool,
     /// How many segments were added.
     pub copied: usize,
 }

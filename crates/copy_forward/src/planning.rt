@@ -214,10 +214,12 @@ pub fn plan_copies<D: Disk, X: Index>(
         alloc, disk, index, live, slot, meta.kind, entries, &mut copy, &mut dead, buf,
     )?;
     let copied = copy.len() - buffer.len();
+    let next = from + count;
     Ok(Plan {
         buffer: copy,
         dead,
-        next: from + count,
+        next,
+        ended: next == meta.entries.len(),
         copied,
     })
 }

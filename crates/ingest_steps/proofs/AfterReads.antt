@@ -5,11 +5,11 @@ use Rattle.disk_format.specs.declared.numbers.TheConstants.{RESERVE}
 use Rattle.disk_format.specs.Layout.{slot_at}
 use Rattle.dd_disk.specs.View.{DiskView, IsLater, OnlyReads, SteppedFrom}
 use Rattle.dd_disk.specs.Ending.{Ending, Blame, NoCall, ReadCall, WriteCall, Done, Refused, Unread, Broken, Reads, ending, ending_of}
-use Rattle.dd_disk.specs.Moves.{Arrives, StandsFor}
+use Rattle.dd_disk.specs.Moves.{Arrives, Moved, StandsFor}
 use Rattle.dd_disk.specs.Shows.{Shows}
 use Rattle.dd_disk.specs.Writes.{Both}
 use Rattle.dd_disk.proofs.Ended.{counts_on}
-use Rattle.dd_disk.proofs.Later.{later_on, leaves_on, reads_leave, reads_on}
+use Rattle.dd_disk.proofs.Later.{later_on, leaves_on, leaves_weaker, reads_leave, reads_on}
 use Rattle.dd_disk.proofs.Moves.{stands_reads}
 use Rattle.dd_disk.proofs.Shows.{shown_content, until}
 use Rattle.container_meta.specs.declared.place.Place.{Place}
@@ -21,7 +21,7 @@ use Rattle.segment_index.specs.Changes.{SameBefore}
 use Rattle.store_model.specs.Files.{Files}
 use Rattle.store_model.specs.Image.{Store}
 use Rattle.store_model.specs.Slots.{HasKey, IsPartialIndexOf, free_slots}
-use Rattle.store_model.specs.Collisions.{ByteSet, IsIn, Stands}
+use Rattle.store_model.specs.Collisions.{HasNoCollisions, ByteSet, IsIn, Stands}
 use Rattle.store_model.specs.Steps.{FitsHeld}
 use Rattle.store_state.specs.Comparing.{FitSoFar}
 use Rattle.store_state.specs.Indexing.{IsChangeRefusal}
@@ -29,7 +29,7 @@ use Rattle.store_state.specs.Refused.{blames}
 use Rattle.store_state.specs.Settled.{IsSettled, KeepsWhatCounts, Left, Steps}
 use Rattle.store_state.specs.declared.tables.Tables.{Tables}
 use Rattle.store_state.specs.Tables.{Represents}
-use Rattle.ingest_steps.specs.Sealing.{FitBeside, KeepsHeld, SealsIndexed, SealsCompared, HasSlot, HasSlotBeside, HasSealed, HasWritten, HasPlacesOf, WasCompared, IsSealRefusal, KeepsMap, sealing_compared, sealing_indexed}
+use Rattle.ingest_steps.specs.Sealing.{FitBeside, KeepsHeld, SealsIndexed, SealsCompared, HasSlot, HasSlotBeside, HasSealed, HasWritten, HasPlacesOf, WasCompared, IsSealRefusal, KeepsMap, index_first, sealing_compared, sealing_indexed}
 use Rattle.ingest_steps.proofs.SlotFrame.{first_after, first_reads}
 use Rattle.ingest_steps.proofs.Sealed.{same_content, same_keeps}
 
@@ -106,71 +106,109 @@ module _ (slots : ℕ) (old mid new : DiskView) (reads : Reads Done old mid) whe
     faults_are = counts_on e old.faults mid.faults new.faults reads.faults_are steps.faults_are;
   }
 
+-- ---- a container that is written after reads
+
+module _ (old mid new : DiskView) (reads : OnlyReads old mid) (P Q : List ℕ → Type 0) where
+  arrives_after : (x : Ending) → Arrives (index_first P Q) x mid new → Arrives (index_first P Q) x old new
+  arrives_after Done arrives = arrives
+  arrives_after Refused (inl only) = inl (reads_on old mid new reads only)
+  arrives_after Refused (inr rests) = inr rests
+  arrives_after Unread (inl only) = inl (reads_on old mid new reads only)
+  arrives_after Unread (inr rests) = inr rests
+  arrives_after Broken arrives = arrives
+
+module _ (t : Tables) (id : ℕ) (filled : Contents) (e : Ending) (old mid new : DiskView) (reads : OnlyReads old mid) (later : IsLater mid new) (seals : SealsIndexed t id filled e mid new) where
+  pub indexed_after : SealsIndexed t id filled e old new
+  indexed_after = record {
+    frame = λ known. first_after known t old mid new reads later (seals.frame known);
+    moves = λ among store known index files given is content may indexed fit stands.
+        let P : List ℕ → Type 0 = Stands (IsIn among) store files in
+        let way = sealing_indexed (IsIn among) id filled store files in
+        let moved = seals.moves among store known index files given is (reads.content_is ∙ content) may indexed fit (stands_reads P old mid stands reads) in
+        record {
+          leaves = leaves_on P way.between way.between old mid new reads.later.clock_is (reads_leave P old mid stands.each reads) moved.leaves (λ c has. inl has) (λ c has. has);
+          arrives = arrives_after old mid new reads P way.after e moved.arrives;
+        };
+    holds = λ among store known index files given held is content now stands may fit. seals.holds among store known index files given held is (reads.content_is ∙ content) now stands may fit;
+  }
+
+-- One that was compared before, in a slot with others to spare.
 module _ (t : Tables) (known : Option PlaceMap) (id : ℕ) (filled : Contents) (e : Ending) (old mid new : DiskView) (reads : Reads Done old mid)
     (held : Shows old mid (λ image. (store : Store) (m : PlaceMap) → known ≡ Some m → IsPartialIndexOf store.held m → AllByRecursion (FitsHeld (HasKey m) filled.kind store image) filled.segments))
     (later : IsLater mid new) (seals : SealsIndexed t id filled e mid new)
     (spare : (among : ByteSet) (store : Store) (files : Files) (given : List ℕ) → Represents store known t → Stands (IsIn among) store files given → RESERVE < free_slots store.held) where
+  abbrev indexed : SealsIndexed t id filled e old new
+  indexed = indexed_after t id filled e old mid new reads.only later seals
+
+  -- each segment fits what is held of its key
+  fits : (among : ByteSet) (store : Store) (map : PlaceMap) (given : List ℕ) → known ≡ Some map → Represents store known t → old.content ≡ Some given → HasNoCollisions (IsIn among)
+      → FitBeside (IsIn among) map filled.kind filled.segments store given
+  fits among store map given known_is is content distinct = inl (distinct, shown_content old mid _ given held content store map known_is (is.index_is_newest map known_is))
+
   module _ (S : List ℕ → Type 0) (store : Store) (files : Files) (more : RESERVE < free_slots store.held) where
     with_spare : (c : List ℕ) → (sealing_indexed S id filled store files).between c → (sealing_compared S id filled store files).between c
     with_spare c (inl stands) = inl stands
     with_spare c (inr stands) = inr (more, stands)
 
-    arrives_after : (x : Ending) → Arrives (sealing_indexed S id filled store files) x mid new → Arrives (sealing_compared S id filled store files) x old new
-    arrives_after Done arrives = record { known = arrives.known; each = λ c image. (more, arrives.each c image) }
-    arrives_after Refused (inl only) = inl (reads_on old mid new reads.only only)
-    arrives_after Refused (inr rests) = inr rests
-    arrives_after Unread (inl only) = inl (reads_on old mid new reads.only only)
-    arrives_after Unread (inr rests) = inr rests
-    arrives_after Broken arrives = record { known = arrives.known; each = λ c image. with_spare c (arrives.each c image) }
+    arrives_so : (x : Ending) → Arrives (sealing_indexed S id filled store files) x old new → Arrives (sealing_compared S id filled store files) x old new
+    arrives_so Done arrives = record { known = arrives.known; each = λ c image. (more, arrives.each c image) }
+    arrives_so Refused arrives = arrives
+    arrives_so Unread arrives = arrives
+    arrives_so Broken arrives = record { known = arrives.known; each = λ c image. with_spare c (arrives.each c image) }
 
   pub seals_after : SealsCompared t known id filled e old new
   seals_after = record {
-    frame = first_after known t old mid new reads.only later (seals.frame known);
-    moves = λ among store files map known_is is indexed distinct may stands.
+    frame = indexed.frame known;
+    moves = λ among store files map known_is is all distinct may stands.
         let given = stands.known.0 in
         let content = stands.known.1 in
-        let fit : FitBeside (IsIn among) map filled.kind filled.segments store given =
-        inl (distinct, shown_content old mid _ given held content store map known_is (is.index_is_newest map known_is)) in
-        let way = sealing_indexed (IsIn among) id filled store files in
         let more = spare among store files given is (stands.each given (old.as_read given content)) in
-        let moved = seals.moves among store known map files given is (reads.only.content_is ∙ content) may indexed fit (stands_reads (Stands (IsIn among) store files) old mid stands reads.only) in
+        let moved = indexed.moves among store known map files given is content may all (fits among store map given known_is is content distinct) stands in
         record {
-          leaves = leaves_on (Stands (IsIn among) store files) way.between (sealing_compared (IsIn among) id filled store files).between old mid new reads.only.later.clock_is
-              (reads_leave (Stands (IsIn among) store files) old mid stands.each reads.only) moved.leaves (λ c has. inl has) (with_spare (IsIn among) store files more);
-          arrives = arrives_after (IsIn among) store files more e moved.arrives;
+          leaves = leaves_weaker (sealing_indexed (IsIn among) id filled store files).between (sealing_compared (IsIn among) id filled store files).between old new
+              (with_spare (IsIn among) store files more) moved.leaves;
+          arrives = arrives_so (IsIn among) store files more e moved.arrives;
         };
     holds = λ among store files map given now known_is is content content_now stands distinct may.
-        seals.holds among store known map files given now is (reads.only.content_is ∙ content) content_now stands may
-        (inl (distinct, shown_content old mid _ given held content store map known_is (is.index_is_newest map known_is)));
+        indexed.holds among store known map files given now is content content_now stands may (fits among store map given known_is is content distinct);
   }
 
 -- ---- nothing but reads
 
-module _ (t : Tables) (known : Option PlaceMap) (id : ℕ) (filled : Contents) (old new : DiskView) (reads : OnlyReads old new) where
-  arrives_read : (S : List ℕ → Type 0) (store : Store) (files : Files) (b : Blame) → StandsFor (Stands S store files) old → Arrives (sealing_compared S id filled store files) (ending_of b) old new
-  arrives_read S store files NoCall stands = inl reads
-  arrives_read S store files ReadCall stands = inl reads
-  arrives_read S store files WriteCall stands = record { known = stands_now.known; each = λ c image. inl (stands_now.each c image) }
-    where
-      stands_now : StandsFor (Stands S store files) new
-      stands_now = stands_reads (Stands S store files) old new stands reads
+module _ (t : Tables) (id : ℕ) (filled : Contents) (old new : DiskView) (reads : OnlyReads old new) where
+  module _ (P Q : List ℕ → Type 0) (stands : StandsFor P old) where
+    arrives_read : (b : Blame) → Arrives (index_first P Q) (ending_of b) old new
+    arrives_read NoCall = inl reads
+    arrives_read ReadCall = inl reads
+    arrives_read WriteCall = let now = stands_reads P old new stands reads in record { known = now.known; each = λ c image. inl (now.each c image) }
+
+    moved_read : (b : Blame) → Moved (index_first P Q) (ending_of b) old new
+    moved_read b = record { leaves = reads_leave (index_first P Q).between old new (λ c image. inl (stands.each c image)) reads; arrives = arrives_read b }
 
   holds_read : (map : PlaceMap) (store : Store) (given held : List ℕ) (b : Blame) → old.content ≡ Some given → new.content ≡ Some held → KeepsHeld map (ending_of b) id filled store given held
   holds_read map store given held NoCall content now = same_keeps store given held (same_content held given (sym now ∙ reads.content_is ∙ content))
   holds_read map store given held ReadCall content now = same_keeps store given held (same_content held given (sym now ∙ reads.content_is ∙ content))
   holds_read map store given held WriteCall content now = tt
 
-  seals_read : (b : Blame) → SealsCompared t known id filled (ending_of b) old new
-  seals_read b = record {
+  seals_read : (known : Option PlaceMap) (b : Blame) → SealsCompared t known id filled (ending_of b) old new
+  seals_read known b = record {
     frame = first_reads known t old new reads;
-    moves = λ among store files map known_is is indexed distinct may stands. record {
-      leaves = reads_leave (sealing_compared (IsIn among) id filled store files).between old new (λ c image. inl (stands.each c image)) reads;
-      arrives = arrives_read (IsIn among) store files b stands;
-    };
+    moves = λ among store files map known_is is all distinct may stands. moved_read (Stands (IsIn among) store files) (sealing_compared (IsIn among) id filled store files).after stands b;
     holds = λ among store files map given held known_is is content now stands distinct may. holds_read map store given held b content now;
   }
 
+  indexed_read : (b : Blame) → SealsIndexed t id filled (ending_of b) old new
+  indexed_read b = record {
+    frame = λ known. first_reads known t old new reads;
+    moves = λ among store known index files given is content may all fit stands. moved_read (Stands (IsIn among) store files) (sealing_indexed (IsIn among) id filled store files).after stands b;
+    holds = λ among store known index files given held is content now stands may fit. holds_read index store given held b content now;
+  }
+
   -- whatever was refused
-  pub seals_refused_by : {T : Type 0} (result : Result T Refusal) (P : Refusal → Type 0) → IsErrAnd result P → SealsCompared t known id filled (ending blames result) old new
-  seals_refused_by (Ok x) P is = absurd is
-  seals_refused_by (Err e) P is = seals_read (blames e)
+  pub seals_refused_by : {T : Type 0} (known : Option PlaceMap) (result : Result T Refusal) (P : Refusal → Type 0) → IsErrAnd result P → SealsCompared t known id filled (ending blames result) old new
+  seals_refused_by known (Ok x) P is = absurd is
+  seals_refused_by known (Err e) P is = seals_read known (blames e)
+
+  pub indexed_refused_by : {T : Type 0} (result : Result T Refusal) (P : Refusal → Type 0) → IsErrAnd result P → SealsIndexed t id filled (ending blames result) old new
+  indexed_refused_by (Ok x) P is = absurd is
+  indexed_refused_by (Err e) P is = indexed_read (blames e)

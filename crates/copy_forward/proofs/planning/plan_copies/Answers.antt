@@ -1,4 +1,5 @@
-use Rattle.std.proofs.Common.{List, length, drop, ap, sym, subst, refl, [], arith, length-drop}
+use Rattle.std.proofs.Common.{ℕ, ◌+◌, List, length, drop, ap, sym, subst, refl, [], arith, length-drop, ◌∙◌}
+use Rattle.std.specs.Prelude.{◌==◌}
 use Rattle.std.specs.List.{AllByRecursion}
 use Rattle.container_meta.specs.declared.entry.Entry.{Entry}
 use Rattle.container_meta.specs.Spelling as header
@@ -42,6 +43,7 @@ returns-clause-plan g c =
       whole = λ none.
           let all = all_planned s shown (drop c.args.from entries) (planned c.args.buffer.now []) after c.in_ok-count.count (room_in_none (header.view c.args.meta.now) c.args.from c.args.buffer.now c.requires.right c.requires.from none) takes in
           omega (arith, all, length-drop c.args.from entries, c.requires.from);
+      ended_is = ap (λ (n : ℕ). c.args.from + c.in_ok-count.count == n) (c.len-3.ensures ∙ c.args.meta.now.entries.ok.0);
       within = omega (arith, c.in_ok-count.ensures.within, ap length c.entries_from-entries.ensures, length-drop c.args.from entries, c.requires.from);
       kind_is = grown.kind_is;
       copied_is = omega (arith, grown.more, c.len.ensures, c.len-2.ensures);

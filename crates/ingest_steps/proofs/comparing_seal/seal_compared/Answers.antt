@@ -60,7 +60,7 @@ returns-in_err-before-clause-moves g c =
     let new = view c.compare_all.new.disk in
     let t = c.args.tables.now in
     let known = g.X.Index.places c.args.index.now old.content in
-    seals_refused_by t known (t.held.last_id + 1) c.args.filled.now old new c.in_err-before.ensures.reads.only c.from_residual.result _ c.from_residual.ensures.1
+    seals_refused_by t (t.held.last_id + 1) c.args.filled.now old new c.in_err-before.ensures.reads.only known c.from_residual.result _ c.from_residual.ensures.1
 
 pub returns-in_err-image-clause-moves : goal.returns-in_err-image-clause-moves
 returns-in_err-image-clause-moves g c =
@@ -69,7 +69,7 @@ returns-in_err-image-clause-moves g c =
     let new = view c.compare_all.new.disk in
     let t = c.args.tables.now in
     let known = g.X.Index.places c.args.index.now old.content in
-    seals_refused_by t known (t.held.last_id + 1) c.args.filled.now old new c.in_ok-before.ensures.reads.only c.from_residual-in_err-image.result _ c.from_residual-in_err-image.ensures.1
+    seals_refused_by t (t.held.last_id + 1) c.args.filled.now old new c.in_ok-before.ensures.reads.only known c.from_residual-in_err-image.result _ c.from_residual-in_err-image.ensures.1
 
 pub returns-clause-ok : goal.returns-clause-ok
 returns-clause-ok g c =

@@ -117,18 +117,18 @@ returns-in_err-may_keep-clause-moves g c =
     let v = g.D.Disk.view c.args.disk.now in
     let t = c.args.tables.now in
     let known = g.X.Index.places c.args.index.now v.content in
-    seals_refused_by t known (t.held.last_id + 1) c.args.filled.now v v (reads_here v) c.from_residual.result _ c.from_residual.ensures.1
+    seals_refused_by t (t.held.last_id + 1) c.args.filled.now v v (reads_here v) known c.from_residual.result _ c.from_residual.ensures.1
 
 pub returns-in_err-slot-clause-moves : goal.returns-in_err-slot-clause-moves
 returns-in_err-slot-clause-moves g c =
     let v = g.D.Disk.view c.args.disk.now in
     let t = c.args.tables.now in
     let known = g.X.Index.places c.args.index.now v.content in
-    seals_refused_by t known (t.held.last_id + 1) c.args.filled.now v v (reads_here v) c.from_residual-in_err-slot.result _ c.from_residual-in_err-slot.ensures.1
+    seals_refused_by t (t.held.last_id + 1) c.args.filled.now v v (reads_here v) known c.from_residual-in_err-slot.result _ c.from_residual-in_err-slot.ensures.1
 
 pub returns-in_err-hads-clause-moves : goal.returns-in_err-hads-clause-moves
 returns-in_err-hads-clause-moves g c =
     let v = g.D.Disk.view c.args.disk.now in
     let t = c.args.tables.now in
     let known = g.X.Index.places c.args.index.now v.content in
-    seals_refused_by t known (t.held.last_id + 1) c.args.filled.now v v (reads_here v) c.from_residual-in_err-hads.result _ c.from_residual-in_err-hads.ensures.1
+    seals_refused_by t (t.held.last_id + 1) c.args.filled.now v v (reads_here v) known c.from_residual-in_err-hads.result _ c.from_residual-in_err-hads.ensures.1

@@ -84,7 +84,7 @@ seal_without_memory filled actor buf old now stop count = record {
   row = (tt, refl);
   effect = record {
     disk = steps_here old.tables.slots _ old.disk refl;
-    moves = seals_refused_by old.tables old.known (next_id old) filled old.disk old.disk (reads_here old.disk) {T = Answer} (Err refusals.Memory) (λ refusal. refusal ≡ refusals.Memory) refl;
+    moves = seals_refused_by old.tables (next_id old) filled old.disk old.disk (reads_here old.disk) {T = Answer} old.known (Err refusals.Memory) (λ refusal. refusal ≡ refusals.Memory) refl;
     made = tt;
     kept = record { tables_are = refl; index_is = refl };
   };

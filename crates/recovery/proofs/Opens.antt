@@ -1,15 +1,14 @@
 -- An opening: room that was made, or not, as it is told of the disk from its start on.
-use Rattle.std.proofs.Common.{◌≡◌, inl, inr, ℕ, ◌<◌, ◌≤◌, List, [], ◌∷◌, map, Some, Result, Ok, Err, IfErr, IsTrue, refl, sym, ◌∙◌, subst}
+use Rattle.std.proofs.Common.{◌≡◌, ◌≢◌, ◌⊎◌, inl, inr, ℕ, ◌<◌, ◌≤◌, List, [], ◌∷◌, map, Some, Ok, refl, sym, ◌∙◌, subst}
 use Rattle.std.specs.FinMap as finite
 use Rattle.std.specs.List.{All}
-use Rattle.std.specs.Result.{IsErrAnd}
 use Rattle.std.proofs.lemmas.List.Elements.{All-head, All-tail}
 use Rattle.container_meta.specs.Places.{PlaceMap}
 use Rattle.dd_disk.specs.Ending.{Done, Reads, ending_of}
 use Rattle.dd_disk.specs.Shows.{Shows}
 use Rattle.dd_disk.specs.View.{DiskView, IsDurable, IsLater, OnlyReads}
 use Rattle.dd_disk.proofs.Ended.{counts_on}
-use Rattle.dd_disk.proofs.Later.{later_on}
+use Rattle.dd_disk.proofs.Later.{later_on, reads_on}
 use Rattle.dd_disk.proofs.Shows.{shown_content, until, weaker}
 use Rattle.disk_format.specs.declared.numbers.TheConstants.{RESERVE}
 use Rattle.journal_cells.specs.declared.fault.CellFault.{CellFault}
@@ -32,20 +31,19 @@ use Rattle.store_model.specs.Standing.{IsStoreOf}
 use Rattle.store_model.proofs.FreedFiles.{freed_stands, partly_opens}
 use Rattle.store_model.proofs.Once.{store_once}
 use Rattle.store_state.specs.declared.open_store.OpenStore.{OpenStore}
-use Rattle.store_state.specs.Refused.{blames, fails}
+use Rattle.store_state.specs.Refused.{blames}
 use Rattle.store_state.specs.State.{Represents}
 use Rattle.read_steps.specs.Visiting.{HasPlace, IsVisitRefusal, IsVisited, VisitsRoots}
 use Rattle.read_steps.specs.Walking.{WasRead}
 use Rattle.read_steps.proofs.Visited.{held_start, needed_visited, read_earlier, roots_wider, visited_needed}
 use Rattle.recovery.specs.Making.{IsMakeRefusal, IsWalkedFirst, MakesNoRoom, MakesRoom}
 use Rattle.recovery.specs.Marking.{AllHeld, IsStuckAmong}
-use Rattle.recovery.specs.Opening.{IsFound, IsOpenRefusal, cell_refusal}
-use Rattle.recovery.specs.Room.{FreesAfterAll, GivesUp, IsNotFull, IsRoomRefusal, IsShort, IsStuck, ReadsStore, RoomMade, RoomUnmade}
+use Rattle.recovery.specs.Opening.{IsFound, cell_refusal}
+use Rattle.recovery.specs.Room.{FreesAfterAll, IsNotFull, IsRoomRefusal, IsShort, IsStuck, ReadsStore, RoomMade, RoomUnmade}
 use Rattle.recovery.specs.Slots.{IsSlotsRefusal}
 use Rattle.recovery.proofs.Marks.{among_since}
 use Rattle.recovery.proofs.Rooms.{leaves_since}
-use Rattle.recovery.proofs.Spare.{frees_all}
-use Rattle.recovery.proofs.Steps.{opens_passed}
+use Rattle.recovery.proofs.Spare.{all_by, frees_all, some_by}
 
 -- ---- files
 
@@ -79,6 +77,12 @@ module _ (store : Store) (among : ByteSet) (stored : Stored) (given : List ℕ) 
 
     opens_some : (freed c : List ℕ) → FreesSome (IsVisited visited) freed store → IsPartlyFreed store freed given c → OpensAs (IsIn among) stored c
     opens_some freed c frees part = partly_opens (IsIn among) (IsVisited visited) stored store freed given c fewer needed opens right frees part
+
+    spares_all : (freed : List ℕ) (after : Store) → FreesTo (IsVisited visited) freed store after → FreesTo (IsReachable stored.files) freed store after
+    spares_all freed after frees = all_by (IsVisited visited) (IsReachable stored.files) fewer needed freed store after frees
+
+    spares_some : (freed : List ℕ) → FreesSome (IsVisited visited) freed store → FreesSome (IsReachable stored.files) freed store
+    spares_some freed frees = some_by (IsVisited visited) (IsReachable stored.files) fewer needed freed store frees
 
     stands_all : (freed now : List ℕ) (after : Store) → FreesTo (IsVisited visited) freed store after → Encodes now after → SameButGates freed given now → IsOf (IsIn among) stored now
     stands_all freed now after frees there same = freed_stands (IsIn among) (IsVisited visited) stored store after freed given now fewer needed opens right frees there same
@@ -138,6 +142,8 @@ module _ (old mid new : DiskView) (reads : Reads Done old mid) (o : OpenStore) (
                       (with_all_freed freed found.store) frees now.2.0 now.2.1;
                   on_the_way = λ among stored c opens part. opens_some found.store among stored given right opens o.containers.index found.represents.containers.index old new known makes.visited visits freed c
                       makes.gives.are_freed.frees part;
+                  spares = λ among stored opens. spares_all found.store among stored given right opens o.containers.index found.represents.containers.index old new known makes.visited visits freed
+                      (with_all_freed freed found.store) frees;
                 }),
                 now.2.2,
               ),
@@ -191,12 +197,24 @@ module _ (old mid new : DiskView) (reads : Reads Done old mid) (o : OpenStore) (
   opens_after refusal among stored given freed c known opens (inr (is, walk)) part =
       opens_some found.store among stored given (content_encodes given known) opens o.containers.index found.represents.containers.index old new known walk.0 (visits_earlier roots walk.0 walk.1.0) freed c walk.1.1 part
 
+  spares_after : (refusal : Refusal) (among : ByteSet) (stored : Stored) (given freed : List ℕ) → old.content ≡ Some given → OpensAs (IsIn among) stored given → IsWalkedFirst found.store o.containers.index refusal mid new freed
+      → FreesSome (IsReachable stored.files) freed found.store
+  spares_after refusal among stored given freed known opens (inl none) = subst (λ (slots : List ℕ). FreesSome (IsReachable stored.files) slots found.store) (sym none) tt
+  spares_after refusal among stored given freed known opens (inr (is, walk)) =
+      spares_some found.store among stored given (content_encodes given known) opens o.containers.index found.represents.containers.index old new known walk.0 (visits_earlier roots walk.0 walk.1.0) freed walk.1.1
+
+  -- all was read before anything was written
+  read_only : (refusal : Refusal) → IsMakeRefusal found.store o.containers.index mid new refusal → (refusal ≡ DiskWrite) ⊎ OnlyReads old new
+  read_only refusal (inl is) = inl is
+  read_only refusal (inr (only, stuck)) = inr (reads_on old mid new reads.only only)
+
   pub room_unmade : (refusal : Refusal) → MakesNoRoom found.store o.containers.index refusal mid new → RoomUnmade refusal old new
   room_unmade refusal makes = record {
     later = later_on old mid new reads.only.later later;
     faults_are = counts_on (ending_of (blames refusal)) old.faults mid.faults new.faults reads.faults_are makes.faults_are;
     short = short;
     cause = room_refusal refusal makes.cause;
+    only = read_only refusal makes.cause;
     freed = makes.freed;
     frees = walked_earlier refusal makes.freed makes.walked;
     content = λ given known. makes.content given (reads.only.content_is ∙ known) (content_encodes given known);
@@ -214,28 +232,17 @@ module _ (old mid new : DiskView) (reads : Reads Done old mid) (o : OpenStore) (
           (names_held found.store among stored given (content_encodes given known) opens o.containers.index found.represents.containers.index),
       λ c part. opens_after refusal among stored given makes.freed c known opens makes.walked part,
     );
+    spares = λ given known among stored opens. spares_after refusal among stored given makes.freed known opens makes.walked;
   }
 
 -- ---- what is answered
 
-pub gives_up : (result : Result OpenStore Refusal) (error : Refusal) (old new : DiskView) → IsErrAnd result (λ y. y ≡ error) → RoomUnmade error old new → GivesUp result old new
-gives_up (Ok o) error old new passed unmade = passed
-gives_up (Err y) error old new passed unmade = subst (λ (r : Refusal). RoomUnmade r old new) (sym passed) unmade
-
--- the store was not read
-pub reads_failed : (result : Result OpenStore Refusal) (error : Refusal) (old new : DiskView) → IsErrAnd result (λ y. y ≡ error) → Shows old new (λ image. (store : Store) → Encodes image store → IsTrue (fails error))
-    → Reads (ending_of (blames error)) old new → IsOpenRefusal (Shows old new) old.size error → IsNotFull error → ReadsStore result old new × IfErr result IsNotFull
-reads_failed (Ok o) error old new passed only reads refused not_full = absurd passed
-reads_failed (Err y) error old new passed only reads refused not_full = (
-  record {
-    opened = tt;
-    only = weaker old new (λ image sized none store right. opens_passed store (Err y) error passed (none store right)) only;
-    durable = tt;
-    reads = subst (λ (r : Refusal). Reads (ending_of (blames r)) old new) (sym passed) reads;
-    refused = subst (IsOpenRefusal (Shows old new) old.size) (sym passed) refused;
-  },
-  subst IsNotFull (sym passed) not_full,
-)
+-- where no write was refused the disk was only read
+pub only_read : (refusal : Refusal) (old new : DiskView) → refusal ≢ DiskWrite → RoomUnmade refusal old new → Reads (ending_of (blames refusal)) old new
+only_read refusal old new other unmade = elim unmade.only [
+  | inl write ↦ absurd (other write)
+  | inr only ↦ record { only = only; faults_are = unmade.faults_are }
+]
 
 -- it was, and enough slots are closed
 pub reads_opened : (o : OpenStore) (old new : DiskView) (closed : ℕ) (found : IsFound (Shows old new) old.size o) → RESERVE ≤ closed → closed ≡ free_slots found.store.held → IsDurable new → Reads Done old new

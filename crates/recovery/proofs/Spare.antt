@@ -118,3 +118,28 @@ frees_more P (first ∷ freed) slot s frees few spare = (frees.0, frees.1, frees
 pub frees_all : (P : List ℕ → Type 0) (freed : List ℕ) (s : Store) → FreesSome P freed s → IsEnough P (with_all_freed freed s) → FreesTo P freed s (with_all_freed freed s)
 frees_all P [] s frees enough = (refl, enough)
 frees_all P (first ∷ freed) s frees enough = (frees.0, frees.1, frees_all P freed (with_freed first s) frees.2 enough)
+
+-- ---- by other words for the keys that are needed
+
+module _ (P Q : List ℕ → Type 0) (fewer : (key : List ℕ) → P key → Q key) (needed : (key : List ℕ) → Q key → P key) where
+  least_by : (s : Store) (slot : ℕ) → IsLeastSpare P s slot → IsLeastSpare Q s slot
+  least_by s slot spare = record {
+    header = spare.header;
+    holds = spare.holds;
+    none = λ key copy is. spare.none key copy (needed key is);
+    least = λ other h there none. spare.least other h there (λ key copy is. none key copy (fewer key is));
+  }
+
+  pub some_by : (freed : List ℕ) (s : Store) → FreesSome P freed s → FreesSome Q freed s
+  some_by [] s frees = tt
+  some_by (slot ∷ rest) s frees = (frees.0, least_by s slot frees.1, some_by rest (with_freed slot s) frees.2)
+
+  pub all_by : (freed : List ℕ) (s t : Store) → FreesTo P freed s t → FreesTo Q freed s t
+  all_by [] s t frees = (
+    frees.0,
+    elim frees.1 [
+      | inl enough ↦ inl enough
+      | inr none ↦ inr (λ slot spare. none slot (record { header = spare.header; holds = spare.holds; none = λ key copy is. spare.none key copy (fewer key is) }))
+    ],
+  )
+  all_by (slot ∷ rest) s t frees = (frees.0, least_by s slot frees.1, all_by rest (with_freed slot s) t frees.2)

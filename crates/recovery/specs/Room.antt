@@ -1,10 +1,10 @@
 -- What an opening gives back where too few slots are closed, and why it gives up there (docs/MODEL.md, 'The reserve').
-use Rattle.std.specs.Prelude.{◌≡◌, ◌⊎◌, ◌<◌, ℕ, IsTrue, List, [], ◌∷◌, ◌++◌, IfErr, IfOk, OnOk, Result, Ok, Err, Some}
+use Rattle.std.specs.Prelude.{◌≡◌, ◌⊎◌, ◌<◌, ℕ, Bool, true, false, IsTrue, List, [], ◌∷◌, ◌++◌, IfErr, IfOk, OnOk, Result, Ok, Err, Some}
 use Rattle.base_model.specs.Known.{Known, KnownWith}
 use Rattle.container_meta.specs.Places.{PlaceMap}
 use Rattle.dd_disk.specs.Ending.{CountsFault, Reads, ending, ending_of}
 use Rattle.dd_disk.specs.Shows.{Shows}
-use Rattle.dd_disk.specs.View.{DiskView, IsLater, IsDurable, CrashLeaves}
+use Rattle.dd_disk.specs.View.{DiskView, IsLater, IsDurable, OnlyReads, CrashLeaves}
 use Rattle.disk_format.specs.declared.numbers.TheConstants.{RESERVE}
 use Rattle.merkle_file.specs.declared.top.Top.{Top}
 use Rattle.merkle_file.specs.Walk.{start_of}
@@ -16,11 +16,13 @@ use Rattle.refusals.specs.declared.refusal.Refusal.{Refusal}
 use Rattle.refusals.specs.declared.refusal.Refusal.TheVariants.{Memory, Full, DiskRead, DiskWrite, Corrupt, Missing, Damaged}
 use Rattle.store_model.specs.Collisions.{ByteSet, IsIn, IsOf, OpensAs}
 use Rattle.store_model.specs.Files.{Stored}
-use Rattle.store_model.specs.Freeing.{FreesSome, FreesTo, IsPartlyFreed, SameButGates}
+use Rattle.store_model.specs.Freeing.{FreesSome, FreesTo, IsPartlyFreed, SameButGates, with_all_freed}
 use Rattle.store_model.specs.Image.{Store, Encodes, IsValidFor, names_of}
+use Rattle.store_model.specs.Reserve.{IsReachable}
 use Rattle.store_model.specs.Slots.{IsIndexOf, free_slots}
 use Rattle.store_state.specs.declared.open_store.OpenStore.{OpenStore}
 use Rattle.store_state.specs.Refused.{blames, fails}
+use Rattle.recovery.specs.declared.unopened.Unopened.{Unopened}
 use Rattle.recovery.specs.Making.{AreClear}
 use Rattle.recovery.specs.Opening.{IsOpened, IsOpenRefusal, Opens}
 
@@ -46,6 +48,9 @@ pub record KeepsFiles (store : Store) (freed : List ℕ) (given now : List ℕ) 
   pub stands : (among : ByteSet) (stored : Stored) → OpensAs (IsIn among) stored given → IsOf (IsIn among) stored now
   pub on_the_way : (among : ByteSet) (stored : Stored) (c : List ℕ) → OpensAs (IsIn among) stored given → IsPartlyFreed store freed given c
       → OpensAs (IsIn among) stored c
+  -- and each container that was given back held the newest copy of nothing that these files need
+  pub spares : (among : ByteSet) (stored : Stored) → OpensAs (IsIn among) stored given
+      → FreesTo (IsReachable stored.files) freed store (with_all_freed freed store)
 
 -- Containers that no name needs were given back, the one of the least id first, until two slots were closed or no such was left. The gate
 -- of each is 0.
@@ -98,6 +103,8 @@ pub record RoomUnmade (refusal : Refusal) (old new : DiskView) : Type 0 where
   pub faults_are : CountsFault (ending_of (blames refusal)) old.faults new.faults
   pub short : IsShort (Shows old new) old.size
   pub cause : IsRoomRefusal old new short refusal
+  -- Nothing is written before all was read and walked.
+  pub only : (refusal ≡ DiskWrite) ⊎ OnlyReads old new
   pub freed : List ℕ
   pub frees : FreesAfterAll refusal old new short freed
   pub content : Known old.content (λ given. KnownWith new.content (IsPartlyFreed short.store freed given))
@@ -106,6 +113,9 @@ pub record RoomUnmade (refusal : Refusal) (old new : DiskView) : Type 0 where
   -- Of a content that stood for files: it and what a crash leaves stand for them, and memory or the disk failed.
   pub files : Known old.content (λ given. (among : ByteSet) (stored : Stored) → OpensAs (IsIn among) stored given
       → IsTrue (fails refusal) × ((c : List ℕ) → IsPartlyFreed short.store freed given c → OpensAs (IsIn among) stored c))
+  -- Then each container that was given back held the newest copy of nothing that these need.
+  pub spares : Known old.content (λ given. (among : ByteSet) (stored : Stored) → OpensAs (IsIn among) stored given
+      → FreesSome (IsReachable stored.files) freed short.store)
 
 -- ---- an opening
 
@@ -140,3 +150,16 @@ Opening D view result old new =
     (ReadsStore result (view old) (view new) × IfErr result IsNotFull)
     ⊎ ((mid : D) × (RoomMade (view old) (view mid) × ReadsStore result (view mid) (view new)))
     ⊎ GivesUp result (view old) (view new)
+
+-- what was answered, but for what is told of writes
+abbrev pub as_refused : Result OpenStore Unopened → Result OpenStore Refusal
+as_refused (Ok o) = Ok o
+as_refused (Err unopened) = Err unopened.refusal
+
+-- What one that was refused leaves. Nothing was written; or a container may have been given back: room was made, and then the store was
+-- not read, or a write or a sync of it failed.
+abbrev pub LeavesOf : (D : Type 0) → (D → DiskView) → Bool → Refusal → D → D → Type 0
+LeavesOf D view false refusal old new = Reads (ending_of (blames refusal)) (view old) (view new)
+LeavesOf D view true refusal old new =
+    ((mid : D) × (RoomMade (view old) (view mid) × ReadsStore (Err refusal) (view mid) (view new)))
+    ⊎ ((refusal ≡ DiskWrite) × RoomUnmade refusal (view old) (view new))

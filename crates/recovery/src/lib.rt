@@ -10,6 +10,8 @@ mod marking;
 mod opening;
 mod room;
 mod slots;
+mod unopened;
 
 pub use formatting::format;
-pub use opening::{open, reopen};
+pub use opening::open;
+pub use unopened::Unopened;

@@ -8,10 +8,11 @@ ghost use Rattle.journal_cells.specs.Journal.{IsScanned};
 ghost use Rattle.store_model.specs.Image.{Store, Encodes, HasFormat};
 ghost use Rattle.store_state.specs.Refused.{blames, fails};
 ghost use Rattle.recovery.specs.Opening.{IsSized, IsFound, IsOpened, Opens, IsBeginRefusal, IsOpenRefusal, cell_refusal};
-ghost use Rattle.recovery.specs.Room.{IsNotFull, Opening};
+ghost use Rattle.recovery.specs.Room.{IsNotFull, LeavesOf, Opening, as_refused};
 
 use crate::room::make_room;
 use crate::slots::read_slots;
+use crate::unopened::Unopened;
 use dd_disk::{Disk, DiskFault, sync_all};
 use disk_format::{LEAST_SIZE, RESERVE, size_of};
 use journal_cells::{CellFault, Journal, scan, slots_of};
@@ -146,15 +147,8 @@ fn open_all<D: Disk>(alloc: Global, disk: &mut D) -> Result<OpenStore, Refusal>
     })
 }
 
-/// Reads the store of a disk: a sync, and then, in this order, the format cell, the selectors, the records of the half that
-/// counts, and of each slot its gate and, where that is open, its header and entries. So a store is opened again that ran: it
-/// keeps two slots closed.
-///
-/// Refusals, in the order in which they come: `DiskWrite` where the sync fails; `WrongSize` below the smallest size;
-/// `NotAStore`, `Version` and `Damaged` of the format cell; `WrongSize` where the size isn't that of its slots; `Damaged`
-/// and `Version` of the journal; `Damaged` of a container; `Full` where fewer than two slots are closed. `DiskRead` and
-/// `Memory` may come in place of any after the first size. No file is read, and nothing is written.
-pub fn reopen<D: Disk>(alloc: Global, disk: &mut D) -> Result<OpenStore, Refusal>
+// Reads the store of a disk, of which two slots or more have to be closed.
+fn read_with_room<D: Disk>(alloc: Global, disk: &mut D) -> Result<OpenStore, Refusal>
     ensures opened { IfOk result (IsOpened (Shows (D.view disk.old) (D.view disk.new)) (D.view disk.old).size) }
     // A store of the right size, whose cells and headers are right and whose ids differ, is opened, unless memory or the
     // disk fails, or too few slots are closed.
@@ -172,21 +166,42 @@ pub fn reopen<D: Disk>(alloc: Global, disk: &mut D) -> Result<OpenStore, Refusal
     Ok(opened)
 }
 
-/// Opens the store on a disk, as `reopen` does. Where fewer than two slots are closed, the trees of all names are walked, in
-/// the order of the names' bytes, their nodes read and their segments not; then containers that hold the newest copy of none
-/// of their keys are given back, the one of the least id first, until two slots are closed or no such is left; and the store
-/// is read again. Before a container is given back nothing is written.
+/// Opens the store on a disk: a sync, and then, in this order, the format cell, the selectors, the records of the half that
+/// counts, and of each slot its gate and, where that is open, its header and entries are read. Where fewer than two slots are
+/// closed, the trees of all names are walked, in the order of the names' bytes, their nodes read and their segments not; then
+/// containers that hold the newest copy of none of their keys are given back, the one of the least id first, until two slots are
+/// closed or no such is left; and the store is read again. Before a container is given back nothing is written.
 ///
-/// Refusals: those of `reopen`, where `Full` comes once no container is left to be given back; and, where too few slots are
-/// closed, `Memory`, those of `read_steps::visit`, and `DiskWrite`.
-pub fn open<D: Disk>(alloc: Global, disk: &mut D) -> Result<OpenStore, Refusal>
-    ensures { Opening D D.view result disk.old disk.new }
+/// Refusals, in the order in which they come: `DiskWrite` where the sync fails; `WrongSize` below the smallest size;
+/// `NotAStore`, `Version` and `Damaged` of the format cell; `WrongSize` where the size isn't that of its slots; `Damaged`
+/// and `Version` of the journal; `Damaged` of a container. Where too few slots are closed, those of `read_steps::visit`, and
+/// `DiskWrite`; and then, as the store is read again, any of these, and `Full` where fewer than two slots are closed still.
+/// `DiskRead` and `Memory` may come in place of any after the first size.
+pub fn open<D: Disk>(alloc: Global, disk: &mut D) -> Result<OpenStore, Unopened>
+    ensures opening { Opening D D.view (as_refused result) disk.old disk.new }
+    ensures wrote { IfErr result (λ unopened. LeavesOf D D.view unopened.wrote unopened.refusal disk.old disk.new) }
 {
-    let opened = open_all(alloc, disk)?;
+    let opened = match open_all(alloc, disk) {
+        Ok(opened) => opened,
+        Err(refusal) => return Err(Unopened {
+            refusal,
+            wrote: false,
+        }),
+    };
     let closed = opened.containers.free();
     if closed >= RESERVE {
         return Ok(opened);
     }
-    make_room(alloc, disk, opened, closed)?;
-    reopen(alloc, disk)
+    if let Err(refusal) = make_room(alloc, disk, opened, closed) {
+        // Room is made by writes alone, once all was read.
+        let wrote = matches!(refusal, Refusal::DiskWrite);
+        return Err(Unopened { refusal, wrote });
+    }
+    match read_with_room(alloc, disk) {
+        Ok(opened) => Ok(opened),
+        Err(refusal) => Err(Unopened {
+            refusal,
+            wrote: true,
+        }),
+    }
 }

@@ -1,10 +1,11 @@
 -- A core that was opened runs, and runs can begin at it; one that was not opened again runs on.
-use Rattle.std.proofs.Common.{◌≡◌, ℕ, zero, suc, List, length, Option, None, Some, Result, Ok, Err, IsErr, OnErr, replicate, refl, sym, ◌∙◌, ap, subst, inl, inr, arith}
+use Rattle.std.proofs.Common.{◌≡◌, ℕ, zero, suc, Bool, true, false, List, [], length, Option, None, Some, Ok, Err, replicate, refl, sym, ◌∙◌, ap, subst, inl, inr, arith}
 use Rattle.std.proofs.lemmas.List.{length-replicate}
 use Rattle.std.specs.List.{AllByRecursion}
 use Rattle.dd_disk.specs.Ending.{Done, Reads}
 use Rattle.dd_disk.specs.Shows.{Shows}
 use Rattle.dd_disk.specs.View.{DiskView, IsDurable}
+use Rattle.dd_disk.proofs.Later.{reads_here}
 use Rattle.dd_disk.proofs.Shows.{shown_content}
 use Rattle.disk_format.specs.Layout.{slot_at}
 use Rattle.segment_index.specs.Changes.{SameBefore}
@@ -14,7 +15,7 @@ use Rattle.actor_parts.specs.declared.part.Part.TheVariants.{Idle}
 use Rattle.actor_parts.specs.declared.part.Part.{Part}
 use Rattle.disk_format.specs.declared.why.Why.{Why}
 use Rattle.recovery.specs.Opening.{IsOpened}
-use Rattle.recovery.specs.Room.{Opening, ReadsStore}
+use Rattle.recovery.specs.Room.{FromRoom, LeavesOf, Opening, ReadsStore, RoomMade}
 use Rattle.refusals.specs.declared.refusal.Refusal.{Refusal}
 use Rattle.refusals.specs.declared.refusal.Refusal.TheVariants.{Memory}
 use Rattle.store_model.specs.Collisions.{IsIn, Stands, IsOf}
@@ -33,7 +34,7 @@ use Rattle.store_state.specs.State as opened
 use Rattle.store_state.specs.Tables.{Represents, Runs}
 use Rattle.store_core.specs.declared.stop.Stop.{Stop}
 use Rattle.store_core.specs.Core.{IndexesAll}
-use Rattle.store_core.specs.Opening.{IsNew, IsKept, BeginsAt, IsNewAt, IsNotRead, IsReadFrom, OpensCore, OpensNone}
+use Rattle.store_core.specs.Opening.{IsNew, IsKept, BeginsAt, IsNewAt, IsNotRead, IsReadFrom, LeavesUnread, OpensCore, OpensNone, StaysOrStops, WritesUnread}
 use Rattle.store_core.specs.Runs.{IsSafeIn}
 use Rattle.store_core.specs.State.{CoreState, IsUnderWayIn, IsUp, UnlessStopped, IsRunning}
 use Rattle.store_core.proofs.SafeSteps.{alone}
@@ -106,18 +107,40 @@ module _ (D : Type 0) (view : D → DiskView) (old new : D) where
   not_read refusal (inr (inl is)) = inr (inl (is.0, (is.1.0, refused_reading refusal (view is.0) is.1.1)))
   not_read refusal (inr (inr is)) = inr (inr is)
 
-  -- there was no memory for the parts
-  started_not : (found : OpenStore) (before : DiskView) → ReadsStore (Ok found) before (view new) → IsNotRead Memory before (view new)
-  started_not found before reads = record {
-    cause = tt;
-    given_up = record { parts = reads.only.parts; returned = reads.only.returned; known = reads.only.known; shows = λ image sized has store right. refl };
-    reads = record { only = reads.reads.only; faults_are = reads.reads.faults_are };
-  }
+  pub leaves_unread : (wrote : Bool) (refusal : Refusal) → LeavesOf D view wrote refusal old new → LeavesUnread D view wrote refusal (view old) (view new)
+  leaves_unread false refusal leaves = leaves
+  leaves_unread true refusal (inl made) = inl (made.0, (made.1.0, refused_reading refusal (view made.0) made.1.1))
+  leaves_unread true refusal (inr unmade) = inr unmade
 
-  pub not_started : (found : OpenStore) → Opening D view (Ok found) old new → OpensNone D view Memory (view old) (view new)
-  not_started found (inl is) = inl (started_not found (view old) is.0, tt)
-  not_started found (inr (inl is)) = inr (inl (is.0, (is.1.0, started_not found (view is.0) is.1.1)))
-  not_started found (inr (inr is)) = absurd is
+-- there was no memory for the parts, and nothing was done
+pub not_begun : (D : Type 0) (view : D → DiskView) (v : DiskView) → OpensNone D view Memory v v
+not_begun D view v = inl (
+  record {
+    cause = tt;
+    given_up = record { parts = []; returned = tt; known = λ image told. tt; shows = λ image sized has store right. refl };
+    reads = record { only = reads_here v; faults_are = refl };
+  },
+  tt,
+)
+
+-- ---- the same of all that has such a disk
+
+module _ (D C : Type 0) (view : D → DiskView) (disk_of : C → DiskView) (put : D → C) (same : (d : D) → disk_of (put d) ≡ view d) where
+  from_room : (P : DiskView → Type 0) (old : DiskView) → FromRoom D view P old → FromRoom C disk_of P old
+  from_room P old (inl is) = inl is
+  from_room P old (inr is) = inr (put is.0, subst (λ (v : DiskView). RoomMade old v × P v) (sym (same is.0)) is.1)
+
+  pub core_over : (old : DiskView) (c : CoreState) → OpensCore D view old c → OpensCore C disk_of old c
+  core_over old c is = from_room (λ before. IsReadFrom before c) old is
+
+  pub none_over : (refusal : Refusal) (old new : DiskView) → OpensNone D view refusal old new → OpensNone C disk_of refusal old new
+  none_over refusal old new (inl is) = inl is
+  none_over refusal old new (inr (inl is)) = inr (inl (put is.0, subst (λ (v : DiskView). RoomMade old v × IsNotRead refusal v new) (sym (same is.0)) is.1))
+  none_over refusal old new (inr (inr is)) = inr (inr is)
+
+  pub writes_over : (refusal : Refusal) (old new : DiskView) → WritesUnread D view refusal old new → WritesUnread C disk_of refusal old new
+  writes_over refusal old new (inl is) = inl (put is.0, subst (λ (v : DiskView). RoomMade old v × IsNotRead refusal v new) (sym (same is.0)) is.1)
+  writes_over refusal old new (inr is) = inr is
 
 read_runs : (before : DiskView) (c : CoreState) → IsReadFrom before c → IsRunning c
 read_runs before c is = new_runs (Shows before c.disk) before.size c is.reads.only.later.size_is is.opened
@@ -144,14 +167,10 @@ module _ (old new : CoreState) (same_size : new.disk.size ≡ old.disk.size) (ke
   pub kept_runs : IsRunning old → IsRunning new
   kept_runs running = subst (λ (stop : Option Stop). UnlessStopped stop (IsUp new)) (sym kept.stop_is) (unless_stopped old.stop running)
 
--- what is so of a refusal
-pub on_err : {T E : Type 0} (result : Result T E) (P : Type 0) → P → OnErr result P
-on_err (Ok value) P is = tt
-on_err (Err refusal) P is = is
-
-pub refused_runs : {T E : Type 0} (result : Result T E) (old new : CoreState) → IsErr result → new.disk.size ≡ old.disk.size → OnErr result (IsKept old new) → IsRunning old → IsRunning new
-refused_runs (Ok value) old new is same_size kept = absurd cc
-refused_runs (Err refusal) old new is same_size kept = kept_runs old new same_size kept
+-- as it was over a disk that was only read, or stopped
+pub stays_runs : (D : Type 0) (view : D → DiskView) (refusal : Refusal) (old new : CoreState) → StaysOrStops D view refusal old new → IsRunning old → IsRunning new
+stays_runs D view refusal old new (inl is) running = kept_runs old new is.1.only.later.size_is is.0 running
+stays_runs D view refusal old new (inr stops) running = subst (λ (stop : Option Stop). UnlessStopped stop (IsUp new)) (sym stops.stop_is) tt
 
 -- ---- what runs begin at
 

@@ -1,5 +1,5 @@
 -- A core that was opened (docs/MODEL.md, 'The core').
-use Rattle.std.specs.Prelude.{◌≡◌, ◌⊎◌, ◌≤◌, ℕ, List, None, Some, Err, replicate}
+use Rattle.std.specs.Prelude.{◌≡◌, ◌⊎◌, ◌≤◌, ℕ, Bool, true, false, List, None, Some, Err, replicate}
 use Rattle.dd_disk.specs.Ending.{Done, Reads, ending_of}
 use Rattle.dd_disk.specs.Shows.{Shows}
 use Rattle.dd_disk.specs.View.{DiskView, IsDurable}
@@ -8,6 +8,7 @@ use Rattle.container_meta.specs.Places.{PlaceMap}
 use Rattle.actor_parts.specs.declared.actor.TheConstants.{ACTORS}
 use Rattle.actor_parts.specs.declared.part.Part.TheVariants.{Idle}
 use Rattle.refusals.specs.declared.refusal.Refusal.{Refusal}
+use Rattle.refusals.specs.declared.refusal.Refusal.TheVariants.{DiskWrite}
 use Rattle.store_model.specs.Collisions.{ByteSet, IsIn, IsOf}
 use Rattle.store_model.specs.Files.{Stored}
 use Rattle.store_model.specs.Image.{Store, Encodes, IsValidFor}
@@ -67,8 +68,8 @@ OpensNone D view refusal old new =
     ⊎ ((mid : D) × (RoomMade old (view mid) × IsNotRead refusal (view mid) new))
     ⊎ RoomUnmade refusal old new
 
--- One that was not opened again: nothing of it is another, but that its disk was read. What it knows of the disk is the same, so
--- where it ran it runs.
+-- One that was not opened again, and nothing was written: nothing of it is another, but that its disk was read. What it knows of the disk
+-- is the same, so where it ran it runs.
 pub record IsKept (old new : CoreState) : Type 0 where
   pub tables_are : new.tables ≡ old.tables
   pub index_is : new.known ≡ old.known
@@ -77,6 +78,31 @@ pub record IsKept (old new : CoreState) : Type 0 where
   pub stop_is : new.stop ≡ old.stop
   pub counted : new.acknowledged ≡ old.acknowledged
   pub served : old.served → new.served
+
+-- A container may have been given back, and the store was not read: room was made before, or a write or a sync of it failed.
+abbrev pub WritesUnread : (D : Type 0) → (D → DiskView) → Refusal → DiskView → DiskView → Type 0
+WritesUnread D view refusal old new =
+    ((mid : D) × (RoomMade old (view mid) × IsNotRead refusal (view mid) new))
+    ⊎ ((refusal ≡ DiskWrite) × RoomUnmade refusal old new)
+
+-- What an opening that was refused leaves of the disk, by whether a container may have been given back.
+abbrev pub LeavesUnread : (D : Type 0) → (D → DiskView) → Bool → Refusal → DiskView → DiskView → Type 0
+LeavesUnread D view false refusal old new = Reads (ending_of (blames refusal)) old new
+LeavesUnread D view true refusal old new = WritesUnread D view refusal old new
+
+-- Then it is stopped, as its tables are not those of the disk any more.
+pub record StopsUnopened (D : Type 0) (view : D → DiskView) (refusal : Refusal) (old new : CoreState) : Type 0 where
+  pub tables_are : new.tables ≡ old.tables
+  pub parts_are : new.parts ≡ old.parts
+  pub collection_is : new.collection ≡ old.collection
+  pub counted : new.acknowledged ≡ old.acknowledged
+  pub stop_is : new.stop ≡ Some (record { refusal = refusal; at = old.acknowledged })
+  pub wrote : WritesUnread D view refusal old.disk new.disk
+
+-- What a core is that was not opened again: as it was, over a disk that was only read; or stopped.
+abbrev pub StaysOrStops : (D : Type 0) → (D → DiskView) → Refusal → CoreState → CoreState → Type 0
+StaysOrStops D view refusal old new =
+    (IsKept old new × Reads (ending_of (blames refusal)) old.disk new.disk) ⊎ StopsUnopened D view refusal old new
 
 -- Runs can begin: it is at a store of these files, whose keys the index all has, no id was given out that none of its containers has,
 -- no collection runs, and its disk is settled.

@@ -1,16 +1,11 @@
 //! What has a state, makes steps and is opened again, as a core.
-ghost use Rattle.std.specs.Prelude.{◌≡◌, ◌-◌, ◌^◌, Bool, IfErr, OnErr, OnOk, min};
-ghost use Rattle.dd_disk.specs.Ending.{Done, Reads, ending_of};
-ghost use Rattle.dd_disk.specs.Shows.{Shows};
-ghost use Rattle.dd_disk.specs.View.{IsDurable};
+ghost use Rattle.std.specs.Prelude.{◌≡◌, ◌-◌, ◌^◌, Bool, IfErr, OnOk, min};
 ghost use Rattle.summary_vector.specs.Banks.{Banks};
 ghost use Rattle.actor_parts.specs.Kinds.{kind_of};
 ghost use Rattle.actor_parts.specs.Parts.{part_of};
 ghost use Rattle.actor_parts.specs.StepValue.{IsStep, step_value};
-ghost use Rattle.recovery.specs.Opening.{IsOpenRefusal};
-ghost use Rattle.store_state.specs.Refused.{blames};
 ghost use Rattle.store_core.specs.Core.{CoreStep};
-ghost use Rattle.store_core.specs.Opening.{IsGivenUp, IsKept, IsNew};
+ghost use Rattle.store_core.specs.Opening.{OpensCore, OpensNone, StaysOrStops};
 ghost use Rattle.store_core.specs.State.{CoreState, IsRunning, IsStopped};
 
 use actor_parts::{Actor, Answer, SegBuf, Step};
@@ -40,20 +35,15 @@ pub trait HasState {
             (record { actor = actor; step = step_value step.entry; answer = result; buf = buf.new }) (state self.new) }
         ensures running { IsRunning (state self.new) };
 
-    /// Opens the store on its disk again, in place. The refusals are those of an opening, and leave it as it was.
+    /// Opens the store on its disk again, in place, and makes room where it has to. The refusals are those of an opening. Where nothing
+    /// was written they leave it as it was; else it is stopped.
     fn reopen(&mut self) -> Result<(), Refusal>
-        ensures opened { OnOk result (IsNew (Shows (state self.old).disk (state self.new).disk) (state self.old).disk.size
-            (state self.new)) }
+        ensures opened { OnOk result (OpensCore Self (λ c. (state c).disk) (state self.old).disk (state self.new)) }
         ensures running { OnOk result (IsRunning (state self.new)) }
-        // All that was written stands after a crash.
-        ensures durable { OnOk result (IsDurable (state self.new).disk) }
-        ensures reads { OnOk result (Reads Done (state self.old).disk (state self.new).disk) }
         ensures summary { (there self.new ≡ there self.old) × (banks self.new ≡ banks self.old) }
-        ensures refused { IfErr result (IsOpenRefusal (Shows (state self.old).disk (state self.new).disk)
-            (state self.old).disk.size) }
-        ensures only { IfErr result (λ refusal. Shows (state self.old).disk (state self.new).disk (IsGivenUp refusal)) }
-        ensures back { IfErr result (λ refusal. Reads (ending_of (blames refusal)) (state self.old).disk (state self.new).disk) }
-        ensures kept { OnErr result (IsKept (state self.old) (state self.new)) }
+        ensures refused { IfErr result (λ refusal. OpensNone Self (λ c. (state c).disk) refusal (state self.old).disk
+            (state self.new).disk) }
+        ensures kept { IfErr result (λ refusal. StaysOrStops Self (λ c. (state c).disk) refusal (state self.old) (state self.new)) }
         ensures runs_on { IsRunning (state self.old) → IsRunning (state self.new) };
 
     /// Whether it runs; the refusal is that of each step once it is stopped.

@@ -6,7 +6,7 @@ use Rattle.store_model.proofs.Once.{store_once}
 use Rattle.store_state.specs.State.{Represents}
 use Rattle.store_state.proofs.Few.{few_ids}
 use Rattle.recovery.proofs.Steps.{opens_passed}
-use Rattle.recovery.proofs.opening.reopen.Goals as goal
+use Rattle.recovery.proofs.opening.read_with_room.Goals as goal
 
 pub returns-in_err-opened-clause-only : goal.returns-in_err-opened-clause-only
 returns-in_err-opened-clause-only g c =

@@ -1,54 +1,57 @@
-use Rattle.std.proofs.Common.{ℕ, refl, sym, subst}
-use Rattle.std.proofs.lemmas.Result.{err_from_is_err_and}
-use Rattle.dd_disk.specs.Shows.{Shows}
+use Rattle.std.proofs.Common.{inl, inr, ℕ, refl, sym, subst}
 use Rattle.segment_index.specs.Places.{HasPlaces}
-use Rattle.store_core.proofs.Opened.{new_runs, on_err, refused_runs}
+use Rattle.store_core.specs.Opening.{LeavesUnread}
+use Rattle.store_core.proofs.Opened.{core_over, none_over, opened_runs, stays_runs, writes_over}
 use Rattle.store_core.proofs.running.Core.reopen.Goals as goal
 
-pub returns-in_err-tables-clause-kept : goal.returns-in_err-tables-clause-kept
-returns-in_err-tables-clause-kept g c = on_err c.from_residual.result _ (record {
-  tables_are = refl;
-  index_is = refl;
-  parts_are = refl;
-  collection_is = refl;
-  stop_is = refl;
-  counted = refl;
-  served = λ served. subst (λ (size : ℕ). HasPlaces size c.args.self.now.index) (sym c.in_err-tables.ensures.reads.only.later.size_is) served;
-})
+-- what is so of the disk is so of the core that has it
 
-pub returns-in_err-tables-clause-runs_on : goal.returns-in_err-tables-clause-runs_on
-returns-in_err-tables-clause-runs_on g c =
-    refused_runs c.from_residual.result _ _ c.from_residual.ensures.0 c.in_err-tables.ensures.reads.only.later.size_is (returns-in_err-tables-clause-kept g c)
+pub returns-then-unopened-clause-refused : goal.returns-then-unopened-clause-refused
+returns-then-unopened-clause-refused g c = none_over _ _ g.D.Disk.view _ (λ d. record c.args.self.now { disk = d }) (λ d. refl) _ _ _ c.in-Err.ensures.refused
 
-pub returns-in_err-tables-clause-refused : goal.returns-in_err-tables-clause-refused
-returns-in_err-tables-clause-refused g c =
-    let p = err_from_is_err_and c.from_residual.result c.from_residual.ensures.1 in
-    rw (p.1, p.2) c.in_err-tables.ensures.refused
+pub returns-else-unopened-clause-refused : goal.returns-else-unopened-clause-refused
+returns-else-unopened-clause-refused g c = none_over _ _ g.D.Disk.view _ (λ d. record c.args.self.now { disk = d }) (λ d. refl) _ _ _ c.in-Err.ensures.refused
 
-pub returns-in_err-tables-clause-only : goal.returns-in_err-tables-clause-only
-returns-in_err-tables-clause-only g c =
-    let p = err_from_is_err_and c.from_residual.result c.from_residual.ensures.1 in
-    rw (p.1, p.2) c.in_err-tables.ensures.only
-
-pub returns-in_err-tables-clause-back : goal.returns-in_err-tables-clause-back
-returns-in_err-tables-clause-back g c =
-    let p = err_from_is_err_and c.from_residual.result c.from_residual.ensures.1 in
-    rw (p.1, p.2) c.in_err-tables.ensures.reads
-
-pub returns : goal.returns
-returns g c =
+-- something was written: it is stopped
+pub returns-then-unopened-clause-kept : goal.returns-then-unopened-clause-kept
+returns-then-unopened-clause-kept g c =
     let view = g.D.Disk.view in
-    let is = c.in_ok-tables.ensures in
-    let running = new_runs (Shows (view c.args.self.now.disk) (view c.read_store.new.disk)) (view c.args.self.now.disk).size _ is.reads.only.later.size_is is.opened in
-    record {
-      opened = is.opened;
-      running = running;
-      durable = is.durable;
-      reads = is.reads;
-      summary = (refl, refl);
-      refused = tt;
-      only = tt;
-      back = tt;
-      kept = tt;
-      runs_on = λ _. running;
-    }
+    let wrote = subst (λ b. LeavesUnread _ view b c.in-Err.unopened.refusal (view c.args.self.now.disk) (view c.open_store.new.disk)) c.if-unopened.true c.in-Err.ensures.wrote in
+    inr (record {
+      tables_are = refl;
+      parts_are = refl;
+      collection_is = refl;
+      counted = refl;
+      stop_is = refl;
+      wrote = writes_over _ _ view _ (λ d. record c.args.self.now { disk = d }) (λ d. refl) _ _ _ wrote;
+    })
+
+-- nothing was: it is as it was
+pub returns-else-unopened-clause-kept : goal.returns-else-unopened-clause-kept
+returns-else-unopened-clause-kept g c =
+    let view = g.D.Disk.view in
+    let reads = subst (λ b. LeavesUnread _ view b c.in-Err.unopened.refusal (view c.args.self.now.disk) (view c.open_store.new.disk)) c.if-unopened.false c.in-Err.ensures.wrote in
+    inl (
+      record {
+        tables_are = refl;
+        index_is = refl;
+        parts_are = refl;
+        collection_is = refl;
+        stop_is = refl;
+        counted = refl;
+        served = λ served. subst (λ (size : ℕ). HasPlaces size c.args.self.now.index) (sym reads.only.later.size_is) served;
+      },
+      reads,
+    )
+
+pub returns-else-unopened-clause-runs_on : goal.returns-else-unopened-clause-runs_on
+returns-else-unopened-clause-runs_on g c running = stays_runs _ _ _ _ _ (returns-else-unopened-clause-kept g c) running
+
+pub returns-clause-opened : goal.returns-clause-opened
+returns-clause-opened g c = core_over _ _ g.D.Disk.view _ (λ d. record c.args.self.now { disk = d }) (λ d. refl) _ _ c.in-Ok.ensures.opened
+
+pub returns-clause-running : goal.returns-clause-running
+returns-clause-running g c = opened_runs _ g.D.Disk.view _ _ c.in-Ok.ensures.opened
+
+pub returns-clause-runs_on : goal.returns-clause-runs_on
+returns-clause-runs_on g c running = returns-clause-running g c

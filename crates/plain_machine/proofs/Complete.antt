@@ -1,5 +1,6 @@
 -- Why what can be done is done.
-use Rattle.std.proofs.Common.{◌≡◌, ◌⊎◌, inl, inr, ◌≤◌, ◌-◌, ◌^◌, ◌∙◌, min, ℕ, List, [], ◌∷◌, length, append-nil, refl, sym, ap, subst, arith}
+use Rattle.std.proofs.Common.{◌≡◌, ◌⊎◌, inl, inr, ◌≤◌, ◌-◌, ◌^◌, ◌∙◌, min, ℕ, true, List, [], ◌∷◌, length, append-nil, refl, sym, ap, subst, arith}
+use Rattle.std.specs.List.{AllByRecursion}
 use Rattle.base_model.specs.Fault.{Rose}
 use Rattle.disk_format.specs.declared.numbers.TheConstants.{MOST_FILE}
 use Rattle.container_meta.specs.Segments.{KindSegment}
@@ -17,13 +18,14 @@ use Rattle.script_lines.specs.Grammar.{LineValue, pushed_bytes}
 use Rattle.script_lines.specs.ReplyValue as replies
 use Rattle.script_lines.specs.ReplyValue.{ReplyValue}
 use Rattle.store_model.specs.Collisions.{HasNoCollisions}
-use Rattle.plain_machine.specs.Complete.{IsLeft, IsNodeAt, MayReply, WhatCanBeDoneIsDone}
-use Rattle.plain_machine.specs.Content.{HasTwins}
+use Rattle.store_model.specs.Files.{Files}
+use Rattle.plain_machine.specs.Complete.{EndsUnopened, IsLeft, IsNodeAt, MayReply, WhatCanBeDoneIsDone}
+use Rattle.plain_machine.specs.Content.{BeganRoom, HasTwins, MadeRoom}
 use Rattle.plain_machine.specs.Lines.{AnswersTurn, Does}
 use Rattle.plain_machine.specs.Machine.{Machine, Part, RunState, Running, Stopped, Finished, part_in}
-use Rattle.plain_machine.specs.Refused.{RefusesBytes, RefusesCommit, RefusesDelete, RefusesName, RefusesOn, Refuses}
-use Rattle.plain_machine.specs.Runs.{MachineRun, Replied, StepBy, StepReopen, StepRunning}
-use Rattle.plain_machine.specs.Turns.{Writer, IsWriter, IsDue, MayBe, MachineTurns, RefusesStep, RefusesTurn}
+use Rattle.plain_machine.specs.Refused.{RefusesBytes, RefusesCommit, RefusesDelete, RefusesName, RefusesOn, Refuses, StopsUnopened}
+use Rattle.plain_machine.specs.Runs.{MachineRun, Replied, StepBy, StepReopen, StepRunning, ends}
+use Rattle.plain_machine.specs.Turns.{Writer, IsWriter, IsDue, MayBe, MachineTurns, OnlyFails, RefusesStep, RefusesTurn}
 use Rattle.plain_machine.proofs.Nodes.{IsNodeIn, no_clash, no_twins, offered_node, sealed_node}
 use Rattle.plain_machine.specs.Collections.{CollectionSteps, RefusesCollectionStep}
 use Rattle.refusals.specs.declared.refusal.Phase.{Phase}
@@ -236,19 +238,30 @@ does_keep line reply m n is = absurd is
 
 -- ---- a line
 
--- The count rose; or it is as it was, the machine still runs, and the reply is one that may be.
+-- it is a `reopen` that was refused for want of memory
+abbrev IsUnopened : LineValue → ReplyValue → Type 0
+IsUnopened line reply = (line ≡ lines.Reopen) × (reply ≡ replies.Refused refusals.Memory)
+
+-- The count rose; or it is as it was, the machine still runs, unless it is not opened again, and the reply is one that may be.
 abbrev LineEnds : LineValue → ReplyValue → Machine → Machine → Type 0
-LineEnds line reply m n = Rose m.faults n.faults ⊎ ((n.faults ≡ m.faults) × (m.state ≡ Running → n.state ≡ Running) × (DistinctBy m → MayReply line reply))
+LineEnds line reply m n =
+    Rose m.faults n.faults ⊎ ((n.faults ≡ m.faults) × (m.state ≡ Running → (n.state ≡ Running) ⊎ IsUnopened line reply) × (DistinctBy m → MayReply line reply))
 
 as_line : (line : LineValue) (reply : ReplyValue) (m n : Machine) → Ends (DistinctBy m) (MayReply line reply) m n → LineEnds line reply m n
 as_line line reply m n (inl rose) = inl rose
-as_line line reply m n (inr kept) = inr (kept.0.0, (λ running. kept.0.1 ∙ running), kept.1)
+as_line line reply m n (inr kept) = inr (kept.0.0, (λ running. inl (kept.0.1 ∙ running)), kept.1)
+
+-- a call failed, whether room was made before or not
+rose_anyway : (Room : Files → List ℕ → List ℕ → Type 0) (m n : Machine) → OnlyFails m n ⊎ (Rose m.faults n.faults × StopsUnopened Room m n) → Rose m.faults n.faults
+rose_anyway Room m n (inl is) = is.0
+rose_anyway Room m n (inr is) = is.0
 
 reopen_ends : (reply : ReplyValue) (m n : Machine) → StepReopen reply m n → LineEnds lines.Reopen reply m n
-reopen_ends (replies.Opened files) m n is = inr (ap (λ (x : Machine). x.faults) is.2, (λ running. ap (λ (x : Machine). x.state) is.2), λ distinct. tt)
-reopen_ends (replies.Refused refusals.Memory) m n is = as_line lines.Reopen (replies.Refused refusals.Memory) m n (inr (same m n is, λ distinct. refl))
-reopen_ends (replies.Refused refusals.DiskRead) m n is = inl is.0
-reopen_ends (replies.Refused refusals.DiskWrite) m n is = inl is.0
+reopen_ends (replies.Opened files) m n is = inr (ap (λ (x : Machine). x.faults) is.3, (λ running. inl (ap (λ (x : Machine). x.state) is.3)), λ distinct. tt)
+reopen_ends (replies.Refused refusals.Memory) m n (inl is) = as_line lines.Reopen (replies.Refused refusals.Memory) m n (inr (same m n is, λ distinct. refl))
+reopen_ends (replies.Refused refusals.Memory) m n (inr is) = inr (is.0, (λ running. inr (refl, refl)), λ distinct. refl)
+reopen_ends (replies.Refused refusals.DiskRead) m n is = inl (rose_anyway MadeRoom m n is)
+reopen_ends (replies.Refused refusals.DiskWrite) m n is = inl (rose_anyway BeganRoom m n is)
 reopen_ends reply m n is = absurd is
 
 running_ends : (line : LineValue) (reply : ReplyValue) (m n : Machine) → StepRunning line reply m n → LineEnds line reply m n
@@ -288,13 +301,32 @@ run_later (r ∷ rs) m n run = counts_later m.faults run.1.0.faults n.faults (st
 
 -- ---- all lines
 
+-- a `reopen` that was refused is the last one
+last_of : (r : Replied) (rs : List Replied) → (ends r.line r.reply ≡ true → rs ≡ []) → IsUnopened r.line r.reply → rs ≡ []
+last_of r rs last is = last (ap (λ (line : LineValue). ends line r.reply) is.0 ∙ ap (ends lines.Reopen) is.1)
+
+unopened_last : (r : Replied) (rs : List Replied) → (ends r.line r.reply ≡ true → rs ≡ []) → IsUnopened r.line r.reply → EndsUnopened (r ∷ rs)
+unopened_last r rs last is = (
+  [],
+  ap (λ (more : List Replied). r ∷ more) (last_of r rs last is)
+      ∙ ap (λ (line : LineValue). (let one : Replied = record { line = line; reply = r.reply } in one) ∷ []) is.0
+      ∙ ap (λ (reply : ReplyValue). (let one : Replied = record { line = lines.Reopen; reply = reply } in one) ∷ []) is.1,
+)
+
+none_left : (rs : List Replied) → rs ≡ [] → AllByRecursion (λ r. MayReply r.line r.reply) rs
+none_left rs none = subst (λ (more : List Replied). AllByRecursion (λ r. MayReply r.line r.reply) more) (sym none) tt
+
 pub what_can_be_done_is_done : WhatCanBeDoneIsDone
-what_can_be_done_is_done [] m n run running calm distinct = (tt, ap (λ (x : Machine). x.state) run ∙ running)
+what_can_be_done_is_done [] m n run running calm distinct = (tt, inl (ap (λ (x : Machine). x.state) run ∙ running))
 what_can_be_done_is_done (r ∷ rs) m n run running calm distinct =
     let mid = run.1.0 in
     let step : StepRunning r.line r.reply m mid = subst (λ (state : RunState). StepBy state r.line r.reply m mid) running run.1.1.0.0 in
     elim (running_ends r.line r.reply m mid step) [
       | inl rose ↦ absurd (calm (rose_later m.faults mid.faults n.faults rose (run_later rs mid n run.1.1.1)))
-      | inr kept ↦ let rest = what_can_be_done_is_done rs mid n run.1.1.1 (kept.1 running) (λ rose. calm (subst (λ (faults : ℕ). Rose faults n.faults) kept.0 rose)) (λ a b of_a of_b. distinct a b (inr of_a) (inr of_b)) in
-          ((kept.2 (λ a b of_a of_b. distinct a b (inl of_a) (inl of_b)), rest.0), rest.1)
+      | inr kept ↦ let may : MayReply r.line r.reply = kept.2 (λ a b of_a of_b. distinct a b (inl of_a) (inl of_b)) in
+          elim (kept.1 running) [
+            | inl still ↦ let rest = what_can_be_done_is_done rs mid n run.1.1.1 still (λ rose. calm (subst (λ (faults : ℕ). Rose faults n.faults) kept.0 rose)) (λ a b of_a of_b. distinct a b (inr of_a) (inr of_b)) in
+                ((may, rest.0), elim rest.1 [ inl runs ↦ inl runs | inr ended ↦ inr (r ∷ ended.0, ap (λ (more : List Replied). r ∷ more) ended.1) ])
+            | inr unopened ↦ ((may, none_left rs (last_of r rs run.0 unopened)), inr (unopened_last r rs run.0 unopened))
+          ]
     ]

@@ -1,6 +1,6 @@
 -- What can be done is done: which refusals are left where no call of the disk fails and no two different nodes have one digest
 -- (docs/MODEL.md, 'The plain machine').
-use Rattle.std.specs.Prelude.{◌≡◌, ◌⊎◌, ◌≤◌, ℕ, List, [], ◌∷◌, Some}
+use Rattle.std.specs.Prelude.{◌≡◌, ◌⊎◌, ◌≤◌, ℕ, List, [], ◌∷◌, ◌++◌, Some}
 use Rattle.std.specs.List.{AllByRecursion}
 use Rattle.base_model.specs.Bytes.{key_of}
 use Rattle.base_model.specs.Fault.{Rose}
@@ -65,8 +65,12 @@ MayReply lines.Reopen (replies.Refused refusal) = refusal ≡ Memory
 MayReply line (replies.Refused refusal) = IsLeft refusal
 MayReply line reply = Unit {0}
 
+-- the last line is a `reopen` that was refused for want of memory
+abbrev pub EndsUnopened : List Replied → Type 0
+EndsUnopened rs = (before : List Replied) × (rs ≡ before ++ record { line = lines.Reopen; reply = replies.Refused Memory } ∷ [])
+
 -- In a run of a machine that runs, where the count of faults doesn't rise and no two different nodes on the way have one digest, each
--- line is done or refused so, and the machine still runs.
+-- line is done or refused so, and the machine still runs, unless there was no memory to open it again.
 abbrev pub WhatCanBeDoneIsDone : Type 0
 WhatCanBeDoneIsDone = (rs : List Replied) (m n : Machine) (run : MachineRun rs m n) → m.state ≡ Running → ¬ (Rose m.faults n.faults)
-    → HasNoCollisions (IsNodeOnTheWay rs m n run) → AllByRecursion (λ r. MayReply r.line r.reply) rs × (n.state ≡ Running)
+    → HasNoCollisions (IsNodeOnTheWay rs m n run) → AllByRecursion (λ r. MayReply r.line r.reply) rs × ((n.state ≡ Running) ⊎ EndsUnopened rs)

@@ -10,7 +10,7 @@ use Rattle.container_meta.specs.declared.kind.Kind.TheVariants.{Tree}
 use Rattle.container_meta.specs.Segments.{Contents, KindSegment, segment_key}
 use Rattle.container_meta.specs.Spelling.{HeaderValue}
 use Rattle.disk_format.specs.Cells.{Change}
-use Rattle.disk_format.specs.declared.numbers.TheConstants.{CELL_BYTES, FIRST_HALF, SLOT_BYTES, CONTAINER_GATE}
+use Rattle.disk_format.specs.declared.numbers.TheConstants.{CELL_BYTES, FIRST_HALF, RESERVE, SLOT_BYTES, CONTAINER_GATE}
 use Rattle.disk_format.specs.Layout.{cell_at, half_cells, slot_at}
 use Rattle.merkle_file.specs.Node as node
 use Rattle.refusals.specs.declared.refusal.Difference.{Difference}
@@ -20,9 +20,9 @@ use Rattle.store_model.specs.Files.{Files}
 use Rattle.store_model.specs.Image.{Store, Encodes}
 use Rattle.store_model.specs.Indexing.{entries_in, bytes_in_slots}
 use Rattle.store_model.specs.Pieces.{Piece, Node, IsPieceOf, piece_segment}
-use Rattle.store_model.specs.Reserve.{IsSpare}
+use Rattle.store_model.specs.Reserve.{IsReachable, IsSpare}
 use Rattle.store_model.specs.Slots.{Copy, newest, first_free, free_slots}
-use Rattle.store_model.specs.Freeing.{with_freed}
+use Rattle.store_model.specs.Freeing.{FreesSome, FreesTo, IsPartlyFreed, SameButGates, with_freed}
 use Rattle.store_model.specs.Steps.{CanChangeName, CanSeal, HasCellsFor, with_change, with_sealed}
 use Rattle.store_model.specs.Trees.{HasNewest, bytes_at, node_key}
 
@@ -155,6 +155,33 @@ pub record BreaksOff (records : ℕ) (old new : List ℕ) : Type 0 where
   pub was : Encodes old store
   pub rest : SameBut (HasCellsFor store records) (λ half cell. (half ≡ store.selector.half) × (length store.records ≤ cell))
       (λ slot. (h : HeaderValue) → slice_get store.held slot ≢ Some (Some h)) store.slots old new
+
+-- ---- what an opening gives back
+
+-- Room is made for files: fewer than two slots were closed, and containers that hold the newest copy of no key that these files need were
+-- given back, the one of the least id first, until two were closed or no such was left. Their gates are closed, and all else is as it was.
+pub record MadeRoom (files : Files) (old new : List ℕ) : Type 0 where
+  pub store : Store
+  pub was : Encodes old store
+  pub few : free_slots store.held < RESERVE
+  pub freed : List ℕ
+  pub after : Store
+  pub frees : FreesTo (IsReachable files) freed store after
+  pub now : Encodes new after
+  pub rest : SameButGates freed old new
+
+-- It is, or there was enough.
+abbrev pub MakesRoom : Files → List ℕ → List ℕ → Type 0
+MakesRoom files old new = (new ≡ old) ⊎ MadeRoom files old new
+
+-- It was begun: of such containers the first were given back, or none.
+pub record BeganRoom (files : Files) (old new : List ℕ) : Type 0 where
+  pub store : Store
+  pub was : Encodes old store
+  pub few : free_slots store.held < RESERVE
+  pub freed : List ℕ
+  pub frees : FreesSome (IsReachable files) freed store
+  pub part : IsPartlyFreed store freed old new
 
 -- ---- what is counted
 

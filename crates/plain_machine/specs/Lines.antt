@@ -18,8 +18,8 @@ use Rattle.store_model.specs.Files.{with_stored, without_stored}
 use Rattle.store_model.specs.Standing.{file_listing}
 use Rattle.store_model.specs.Trees.{root_of}
 use Rattle.plain_machine.specs.Collections.{BeginsCollection, EndsCollection, StepsCollection, Sweeps}
-use Rattle.plain_machine.specs.Content.{AddsRecord, Counts, HoldsFile}
-use Rattle.plain_machine.specs.Machine.{Machine, Part, Idle, Writing, Finished, Reading, MayBeFound, disturbed, opened, one_more, part_in, put_at}
+use Rattle.plain_machine.specs.Content.{AddsRecord, Counts, HoldsFile, MakesRoom}
+use Rattle.plain_machine.specs.Machine.{Machine, Part, Idle, Writing, Finished, Reading, Finds, disturbed, opened, one_more, part_in, put_at}
 use Rattle.plain_machine.specs.Refused.{HasNumbers, HasRoomForName}
 use Rattle.plain_machine.specs.Turns.{Writer, IsWriter, IsDue, MachineTurn, MachineTurns}
 
@@ -137,7 +137,8 @@ Does line reply m n = ⊥
 
 -- ---- `reopen`
 
--- All actors end, and the files are those that are found: the content stands for them (`IsSound`).
+-- All actors end, and the files are those that are found. Where fewer than two slots were closed, room was made for these first.
 abbrev pub Reopens : ℕ → Machine → Machine → Type 0
 Reopens files m n =
-    MayBeFound m.state m.stored n.stored × (files ≡ finite.len n.stored.files) × (n ≡ opened n.stored m.content m.faults)
+    Finds m n.stored × (files ≡ finite.len n.stored.files) × MakesRoom n.stored.files m.content n.content
+    × (n ≡ opened n.stored n.content m.faults)

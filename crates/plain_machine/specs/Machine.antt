@@ -39,8 +39,8 @@ are_idle (part ∷ parts) = is_idle part && are_idle parts
 
 -- ---- the machine
 
--- It runs; or it is stopped by a write or a sync that failed. `reopen` then finds the files of before or, after a commit or a delete,
--- perhaps these.
+-- It runs; or it is stopped: by a write or a sync that failed, or as it was not opened again once room was made. `reopen` then finds the
+-- files of before or, after a commit or a delete, perhaps these.
 pub data RunState : Type 0 where
   Running : RunState
   Stopped : (other : Option Stored) → RunState
@@ -51,6 +51,11 @@ pub data Progress : Type 0 where
   Marking : Progress
   Recording : Progress
   Sweeping : (ready : Bool) → Progress
+
+-- the same, once it is stopped; a command that was in doubt stays so
+abbrev pub stopped_by : RunState → RunState
+stopped_by Running = Stopped None
+stopped_by (Stopped other) = Stopped other
 
 -- A collection that runs: so far it has come, so many steps of it may come at most before its end, and so many containers were given back.
 pub record Collecting : Type 0 where
@@ -115,6 +120,11 @@ abbrev pub MayBeFound : RunState → Stored → Stored → Type 0
 MayBeFound Running stored found = found ≡ stored
 MayBeFound (Stopped None) stored found = found ≡ stored
 MayBeFound (Stopped (Some other)) stored found = (found ≡ stored) ⊎ (found ≡ other)
+
+-- They are found: they may be, and what reads give stands for them.
+pub record Finds (m : Machine) (found : Stored) : Type 0 where
+  pub may : MayBeFound m.state m.stored found
+  pub stands : StandsFor found.files found.last m.content
 
 -- What reads give stands for the files, or for those that may be found. Crash images are spoken of in Through.antt.
 abbrev pub IsSound : Machine → Type 0

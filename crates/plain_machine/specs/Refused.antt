@@ -1,5 +1,5 @@
 -- Why a line of a script is refused, and what that leaves.
-use Rattle.std.specs.Prelude.{◌≡◌, ◌⊎◌, ◌≤◌, ◌<◌, ℕ, ◌+◌, ◌-◌, ◌^◌, Bool, true, false, List, ◌∷◌, length, is_some, IsSome, Option, Some, None}
+use Rattle.std.specs.Prelude.{◌≡◌, ◌⊎◌, ◌≤◌, ◌<◌, ℕ, ◌+◌, ◌-◌, ◌^◌, Bool, true, false, List, ◌∷◌, length, is_some, Option, Some, None}
 use Rattle.std.specs.FinMap as finite
 use Rattle.base_model.specs.Fault.{Rose}
 use Rattle.disk_format.specs.Cells.{IsName}
@@ -13,13 +13,13 @@ use Rattle.refusals.specs.declared.refusal.Refusal.{Refusal}
 use Rattle.refusals.specs.declared.refusal.Refusal.TheVariants.{Memory, NoFile, BadName, TooMany, TooLong, WrongPart, Collecting, DiskRead, DiskWrite, Numbers, Unpinned}
 use Rattle.script_lines.specs.Grammar.{LineValue, pushed_bytes}
 use Rattle.script_lines.specs.Grammar as lines
-use Rattle.store_model.specs.Files.{with_stored, without_stored}
+use Rattle.store_model.specs.Files.{Files, Stored, with_stored, without_stored}
 use Rattle.store_model.specs.Refusals.{root_key}
 use Rattle.store_model.specs.Steps.{CanRise}
 use Rattle.store_model.specs.Trees.{root_of}
 use Rattle.plain_machine.specs.Collections.{IsCollecting, RefusesCollectionStep, RefusesSweep}
-use Rattle.plain_machine.specs.Content.{OfStore, BreaksOff, HasTwins}
-use Rattle.plain_machine.specs.Machine.{Machine, Writing, Finished, Reading, Stopped, kind_of, part_in}
+use Rattle.plain_machine.specs.Content.{OfStore, BeganRoom, BreaksOff, HasTwins, MadeRoom}
+use Rattle.plain_machine.specs.Machine.{Finds, Machine, Writing, Finished, Reading, Stopped, kind_of, part_in, stopped_by}
 use Rattle.plain_machine.specs.Turns.{IsDue, OnlyFails, RefusesTurn, MachineTurns, Stays}
 
 -- ---- what an actor has to be at
@@ -165,9 +165,17 @@ abbrev pub Refuses : LineValue → Refusal → Machine → Machine → Type 0
 Refuses l (WrongPart kind) m n = IsAtWrongPart l kind m × (n ≡ m)
 Refuses l refusal m n = IsAtRightPart l m × RefusesOn l refusal m n
 
--- Why a store is not opened again: no memory, or a call of the disk failed. It ends the script.
+-- The store is stopped, as room was made for files that are found, or begun to be made: what memory has is not on the disk any more.
+pub record StopsUnopened (Room : Files → List ℕ → List ℕ → Type 0) (m n : Machine) : Type 0 where
+  pub found : Stored
+  pub finds : Finds m found
+  pub room : Room found.files m.content n.content
+  pub others : n ≡ record m { state = stopped_by m.state; content = n.content; faults = n.faults }
+
+-- Why a store is not opened again: no memory, or a call of the disk failed. It ends the script. Where room was made before, or a write of
+-- it failed, the store is stopped.
 abbrev pub RefusesReopen : Refusal → Machine → Machine → Type 0
-RefusesReopen Memory m n = n ≡ m
-RefusesReopen DiskRead m n = OnlyFails m n
-RefusesReopen DiskWrite m n = OnlyFails m n
+RefusesReopen Memory m n = (n ≡ m) ⊎ ((n.faults ≡ m.faults) × StopsUnopened MadeRoom m n)
+RefusesReopen DiskRead m n = OnlyFails m n ⊎ (Rose m.faults n.faults × StopsUnopened MadeRoom m n)
+RefusesReopen DiskWrite m n = OnlyFails m n ⊎ (Rose m.faults n.faults × StopsUnopened BeganRoom m n)
 RefusesReopen refusal m n = ⊥

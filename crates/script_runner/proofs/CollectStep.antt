@@ -1,11 +1,10 @@
 -- One step of a collection is one of the machine, and the runner follows it.
-use Rattle.std.proofs.Common.{◌≡◌, inl, inr, ◌+◌, ◌-◌, ◌<◌, ℕ, zero, suc, Bool, List, [], ◌∷◌, length, true, false, Option, Some, None, Result, Ok, Err, refl, sym, ◌∙◌, ap, subst, arith}
-use Rattle.std.specs.Prelude.{IsSome, slice_get}
+use Rattle.std.proofs.Common.{◌≡◌, inl, inr, ◌+◌, ◌-◌, ◌<◌, ℕ, suc, Bool, List, [], ◌∷◌, true, false, Option, Some, None, Result, Ok, Err, refl, sym, ◌∙◌, ap, subst, arith}
+use Rattle.std.specs.Prelude.{IsSome}
 use Rattle.base_model.specs.Fault.{Rose}
 use Rattle.dd_disk.specs.Ending.{Broken, Done, Ending, ending, ending_of}
 use Rattle.dd_disk.proofs.Later.{leaves_weaker}
 use Rattle.container_meta.specs.Places.{PlaceMap}
-use Rattle.container_meta.specs.Spelling.{HeaderValue}
 use Rattle.disk_format.specs.Layout.{size_of}
 use Rattle.actor_parts.specs.declared.actor.TheConstants.{ACTORS}
 use Rattle.actor_parts.specs.declared.part.Part as core_part

@@ -26,7 +26,9 @@ use Rattle.ingest_session.specs.Calls.{IsPushAnswer}
 use Rattle.ingest_session.specs.Due.{due_in}
 use Rattle.ingest_session.specs.State.{SessionState}
 use Rattle.store_core.specs.declared.stop.Stop.{Stop}
+use Rattle.recovery.specs.Room.{RoomMade}
 use Rattle.store_core.specs.Core.{CoreStep, Effect, StepsOr}
+use Rattle.store_core.specs.Opening.{OpensCore, OpensNone}
 use Rattle.store_core.specs.State.{CoreState, Event}
 use Rattle.store_core.proofs.Stepping.{step_later}
 use Rattle.session_turns.specs.Turns.{Asks, Feeds, IsPaused, IsRefusedTurn, TakesTurn, TurnRun, TurnsStopped}
@@ -198,12 +200,29 @@ module _ (C : Type 0) (state : C → CoreState) where
   acts_went lines.Stat (replies.Stat holdings) r s acts = step_went (state r.core) (state s.core) _ acts.0.1
   acts_went line reply r s acts = absurd acts
 
+  abbrev disk_of : C → DiskView
+  disk_of c = (state c).disk
+
+  -- room was made, and no call failed
+  room_went : (old mid : DiskView) → RoomMade old mid → Went Done old mid
+  room_went old mid room = record { later = room.later; faults = room.faults_are }
+
+  opened_went : (old : DiskView) (c : CoreState) → OpensCore C disk_of old c → Went Done old c.disk
+  opened_went old c (inl read) = record { later = read.reads.only.later; faults = read.reads.faults_are }
+  opened_went old c (inr (x, (room, read))) = went_on Done old (disk_of x) c.disk (room_went old (disk_of x) room) (record { later = read.reads.only.later; faults = read.reads.faults_are })
+
+  unopened_went : (refusal : Refusal) (old new : DiskView) → OpensNone C disk_of refusal old new → Went (ending_of (blames refusal)) old new
+  unopened_went refusal old new (inl (unread, not)) = record { later = unread.reads.only.later; faults = unread.reads.faults_are }
+  unopened_went refusal old new (inr (inl (x, (room, unread)))) =
+      went_on (ending_of (blames refusal)) old (disk_of x) new (room_went old (disk_of x) room) (record { later = unread.reads.only.later; faults = unread.reads.faults_are })
+  unopened_went refusal old new (inr (inr unmade)) = record { later = unmade.later; faults = unmade.faults_are }
+
   reopen_went : (reply : ReplyValue) (r s : RunnerState C) → ActsReopen C state reply r s → GoesBy (ending_in reply) r.core s.core
   reopen_went (replies.Opened files) r s acts =
-      went_on Done (state r.core).disk (state acts.mid).disk (state s.core).disk (record { later = acts.reads.only.later; faults = acts.reads.faults_are }) (step_went (state acts.mid) (state s.core) _ acts.counts.1)
+      went_on Done (state r.core).disk (state acts.mid).disk (state s.core).disk (opened_went (state r.core).disk (state acts.mid) acts.opened) (step_went (state acts.mid) (state s.core) _ acts.counts.1)
   reopen_went (replies.Refused refusal) r s acts = elim acts.0.why [
     | inl memory ↦ no_memory refusal r.core s.core memory.0 memory.1
-    | inr given_up ↦ record { later = given_up.2.only.later; faults = given_up.2.faults_are }
+    | inr given_up ↦ unopened_went refusal (state r.core).disk (state s.core).disk given_up.0
   ]
   reopen_went reply r s acts = absurd acts
 

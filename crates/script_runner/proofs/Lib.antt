@@ -53,6 +53,7 @@ pub mod PieceKeys
 pub mod PlainSteps
 pub mod Replied
 pub mod Resting
+pub mod RoomFound
 pub mod SameNames
 pub mod ScriptsFollow
 pub mod Sends

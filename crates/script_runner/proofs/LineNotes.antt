@@ -18,10 +18,10 @@ use Rattle.store_core.specs.State.{CoreState}
 use Rattle.plain_machine.specs.Lines.{AnswersTurn, Does}
 use Rattle.plain_machine.specs.Machine.{Machine, RunState, Running, Stopped, MayBeFound}
 use Rattle.plain_machine.specs.Refused.{RefusesBytes, RefusesCommit, RefusesDelete, RefusesName, RefusesOn, Refuses, RefusesReopen}
-use Rattle.plain_machine.specs.Runs.{StepBy, StepReopen, StepRunning}
+use Rattle.plain_machine.specs.Runs.{StepBy, StepReopen, StepRunning, ends}
 use Rattle.plain_machine.specs.Turns.{Writer, MachineTurns, RefusesStep, RefusesTurn}
 use Rattle.script_runner.specs.Acts.{Acts, ActsOrNot, ActsReopen, RunnerState, RunsLine, moment_of, noted_if}
-use Rattle.script_runner.specs.Follows.{Follows, FollowsBy, Notes}
+use Rattle.script_runner.specs.Follows.{Follows, FollowsBy, FollowsUnless, Notes}
 use Rattle.script_runner.specs.Sessions.{Sessions}
 use Rattle.plain_machine.specs.Collections.{CollectionSteps, RefusesCollectionStep}
 use Rattle.refusals.specs.declared.refusal.Phase.{Phase}
@@ -114,9 +114,12 @@ refuses_stored line (refusals.WrongPart kind) m n is = of_same m n is.1
 refuses_stored line refusal m n is = on_stored line refusal m n is.1
 
 reopen_stored : (refusal : Refusal) (m n : Machine) → RefusesReopen refusal m n → n.stored ≡ m.stored
-reopen_stored refusals.Memory m n is = of_same m n is
-reopen_stored refusals.DiskRead m n is = ap (λ (x : Machine). x.stored) is.1
-reopen_stored refusals.DiskWrite m n is = ap (λ (x : Machine). x.stored) is.1
+reopen_stored refusals.Memory m n (inl is) = of_same m n is
+reopen_stored refusals.Memory m n (inr is) = ap (λ (x : Machine). x.stored) is.1.others
+reopen_stored refusals.DiskRead m n (inl is) = ap (λ (x : Machine). x.stored) is.1
+reopen_stored refusals.DiskRead m n (inr is) = ap (λ (x : Machine). x.stored) is.1.others
+reopen_stored refusals.DiskWrite m n (inl is) = ap (λ (x : Machine). x.stored) is.1
+reopen_stored refusals.DiskWrite m n (inr is) = ap (λ (x : Machine). x.stored) is.1.others
 reopen_stored refusal m n is = absurd is
 
 answers_stored : (actor : ℕ) (told : Turned) (m n : Machine) → AnswersTurn actor told m n → n.stored ≡ m.stored
@@ -210,7 +213,7 @@ notes_by (lines.Commit a name) (replies.Committed b sequence) c m n moments mome
 notes_by (lines.Delete name) (replies.Deleted sequence) c m n moments moments_now number noted = inr (number, noted)
 notes_by line reply c m n moments moments_now number noted = inl (number, noted)
 
-module _ (C : Type 0) (state : C → CoreState) (S : List ℕ → Type 0) (m n : Machine) (r s : RunnerState C) (follows : Follows S m r.sessions (state r.core)) (follows_now : Follows S n s.sessions (state s.core)) where
+module _ (C : Type 0) (state : C → CoreState) (S : List ℕ → Type 0) (m n : Machine) (r s : RunnerState C) (follows : Follows S m r.sessions (state r.core)) where
   acts_moments : (line : LineValue) (reply : ReplyValue) → Acts C state line reply r s → MomentsBy line reply (state s.core) r.moments s.moments
   acts_moments (lines.Begin a) (replies.Begun b) acts = acts.1.1
   acts_moments (lines.Begin a) (replies.Refused refusal) acts = acts.1
@@ -255,20 +258,20 @@ module _ (C : Type 0) (state : C → CoreState) (S : List ℕ → Type 0) (m n :
   or_not line reply differs step (inr barred) =
       notes_by line reply (state s.core) m n r.moments s.moments (step_number m.state line reply m n differs step) (barred_moments line reply barred.0 barred.1 barred.3)
 
-  reopened : (reply : ReplyValue) → StepReopen reply m n → ActsReopen C state reply r s → Notes (state s.core) m n r.moments s.moments
-  reopened (replies.Opened files) step acts =
+  reopened : (reply : ReplyValue) → FollowsUnless (ends lines.Reopen reply) S n s.sessions (state s.core) → StepReopen reply m n → ActsReopen C state reply r s → Notes (state s.core) m n r.moments s.moments
+  reopened (replies.Opened files) follows_now step acts =
       let was : (state r.core).tables.journal.last ≡ m.stored.last = journal_by m.state S m r.sessions (state r.core) follows.stands in
       let now : (state s.core).tables.journal.last ≡ n.stored.last = journal_by n.state S n s.sessions (state s.core) follows_now.stands in
       let moment : ℕ = moment_of (state s.core) in
       let moments_are : s.moments ≡ noted_if m.stored.last n.stored.last moment r.moments =
       acts.moments_are ∙ ap (λ (k : ℕ). noted_if k (state s.core).tables.journal.last moment r.moments) was ∙ ap (λ (k : ℕ). noted_if m.stored.last k moment r.moments) now in
-      elim (noted_by m.stored.last n.stored.last moment r.moments (found_number m.state S m r.sessions (state r.core) n.stored refl follows.stands step.0)) [
+      elim (noted_by m.stored.last n.stored.last moment r.moments (found_number m.state S m r.sessions (state r.core) n.stored refl follows.stands step.0.may)) [
         | inl same ↦ inl (same.0, moments_are ∙ same.1)
         | inr next ↦ inr (next.0, moments_are ∙ next.1)
       ]
-  reopened (replies.Refused refusal) step acts = inl (ap last_of (reopen_stored refusal m n step), acts.2)
-  reopened reply step acts = absurd acts
+  reopened (replies.Refused refusal) follows_now step acts = inl (ap last_of (reopen_stored refusal m n step), acts.2)
+  reopened reply follows_now step acts = absurd acts
 
-  pub notes : (line : LineValue) (reply : ReplyValue) → StepBy m.state line reply m n → RunsLine C state line reply r s → Notes (state s.core) m n r.moments s.moments
-  notes lines.Reopen reply step runs = reopened reply (reopens m.state reply m n step) runs
-  notes line reply step runs = or_not line reply (λ same. cc) step runs
+  pub notes : (line : LineValue) (reply : ReplyValue) → FollowsUnless (ends line reply) S n s.sessions (state s.core) → StepBy m.state line reply m n → RunsLine C state line reply r s → Notes (state s.core) m n r.moments s.moments
+  notes lines.Reopen reply follows_now step runs = reopened reply follows_now (reopens m.state reply m n step) runs
+  notes line reply follows_now step runs = or_not line reply (λ same. cc) step runs

@@ -1,5 +1,5 @@
 -- Lines over a core that was opened give what is named, on any disk.
-use Rattle.std.proofs.Common.{◌≡◌, inl, inr, ◌∙◌, ◌≤◌, ℕ, Bool, true, false, List, [], ◌∷◌, Option, Some, None, Ok, refl, sym, ap, subst}
+use Rattle.std.proofs.Common.{◌≡◌, ◌⊎◌, inl, inr, ◌∙◌, ◌≤◌, ℕ, Bool, true, false, List, [], ◌∷◌, Option, Some, None, Ok, refl, sym, ap, subst}
 use Rattle.std.specs.FinMap as finite
 use Rattle.std.specs.List.{AllByRecursion}
 use Rattle.dd_disk.specs.Shows.{Shows}
@@ -18,9 +18,10 @@ use Rattle.script_lines.specs.ReplyValue.{ReplyValue}
 use Rattle.store_model.specs.Image.{Store, Encodes, names_of}
 use Rattle.store_state.specs.declared.tables.Tables.{Tables}
 use Rattle.recovery.specs.Opening.{IsOpenRefusal}
+use Rattle.recovery.specs.Room.{IsRoomRefusal, IsShort}
 use Rattle.store_core.specs.declared.stop.Stop.{Stop}
-use Rattle.store_core.specs.Opening.{IsKept}
-use Rattle.store_core.specs.State.{CoreState, Event, IsRunning}
+use Rattle.store_core.specs.Opening.{IsKept, IsReadFrom, OpensCore, OpensNone, StopsUnopened}
+use Rattle.store_core.specs.State.{CoreState, Event, IsRunning, IsUp, UnlessStopped}
 use Rattle.store_core.proofs.CoreRuns.{running_step}
 use Rattle.store_core.proofs.Making.{up_of}
 use Rattle.store_core.proofs.Opened.{kept_runs, new_runs}
@@ -84,6 +85,16 @@ of_reopen shown size (refusals.Damaged at_byte why_so) why = tt
 of_reopen shown size (refusals.WrongSize want got) why = tt
 of_reopen shown size refusal why = absurd why
 
+-- why no room is made
+of_room : (old new : DiskView) (short : IsShort (Shows old new) old.size) (refusal : Refusal) → IsRoomRefusal old new short refusal → IsOfReopen refusal
+of_room old new short refusals.Memory why = tt
+of_room old new short refusals.DiskRead why = tt
+of_room old new short refusals.DiskWrite why = tt
+of_room old new short (refusals.Corrupt slot offset count want got) why = tt
+of_room old new short (refusals.Missing key) why = tt
+of_room old new short (refusals.Damaged at_byte why_so) why = tt
+of_room old new short refusal why = absurd why
+
 -- what is stopped says so
 stopped_so : (stopped : Bool) (stop : Stop) (c : CoreState) → Stands stopped c → c.stop ≡ Some stop → (stopped ≡ true) × (stop.at ≡ c.acknowledged)
 stopped_so false stop c stands is = absurd (let both = sym stands.0 ∙ is in cc)
@@ -96,14 +107,18 @@ module _ (C : Type 0) (state : C → CoreState) (v : DiskView) (t : Account) (r 
   abbrev Shown : Store → Type 0
   Shown = WasShown v (state s.core).disk
 
-  reopened : (files : ℕ) → Reopens C state files s.sessions r.moments s.moments r.core s.core → LineTold C state (WasShown v (state s.core).disk) lines.Reopen (replies.Opened files) t s
-  reopened files acts =
-      let old = state r.core in
+  abbrev disk_of : C → DiskView
+  disk_of c = (state c).disk
+
+  -- from a disk that was so
+  reopened_from : (files : ℕ) (acts : Reopens C state files s.sessions r.moments s.moments r.core s.core) (old : DiskView) → IsLater v old → IsReadFrom old (state acts.mid)
+      → LineTold C state (WasShown v (state s.core).disk) lines.Reopen (replies.Opened files) t s
+  reopened_from files acts old since read =
       let mid = state acts.mid in
       let new = state s.core in
-      let is = acts.opened in
+      let is = read.opened in
       let store : Store = is.store in
-      let running : IsRunning mid = new_runs (Shows old.disk mid.disk) old.disk.size mid acts.reads.only.later.size_is is in
+      let running : IsRunning mid = new_runs (Shows old mid.disk) old.size mid read.reads.only.later.size_is is in
       let e : Event = record { actor = 0; step = asked.Stat; answer = Ok (counted acts.holdings); buf = acts.counts.0 } in
       let steps = running_step mid new e is.stop_is acts.counts.1 in
       let quiet = quiet_step mid new e acts.counts.1 tt running in
@@ -113,7 +128,7 @@ module _ (C : Type 0) (state : C → CoreState) (v : DiskView) (t : Account) (r 
         tells = (
           store,
           (
-            shown_in v old.disk mid.disk new.disk store later acts.reads.only.later.clock_is steps.made.effect.disk.only.later is.right,
+            shown_in v old mid.disk new.disk store since read.reads.only.later.clock_is steps.made.effect.disk.only.later is.right,
             acts.files_are ∙ count_names acts.holdings mid (up_of mid is.stop_is running) steps.made.row.0 ∙ ap (λ (n : NameMap). finite.len n) names,
             refl,
           ),
@@ -129,40 +144,74 @@ module _ (C : Type 0) (state : C → CoreState) (v : DiskView) (t : Account) (r 
             }) acts.sessions_are (steps.made.row.1 ∙ is.parts_are);
       }
 
+  reopened : (files : ℕ) (acts : Reopens C state files s.sessions r.moments s.moments r.core s.core) → OpensCore C disk_of (state r.core).disk (state acts.mid)
+      → LineTold C state (WasShown v (state s.core).disk) lines.Reopen (replies.Opened files) t s
+  reopened files acts (inl read) = reopened_from files acts (state r.core).disk later read
+  reopened files acts (inr (x, (room, read))) = reopened_from files acts (disk_of x) (later_on v (state r.core).disk (disk_of x) later room.later) read
+
   stands_kept : (stopped : Bool) (old new : CoreState) → IsKept old new → Stands stopped old → Stands stopped new
   stands_kept false old new same stands = (same.stop_is ∙ stands.0, (stands.1.0, same.index_is ∙ stands.1.1))
   stands_kept true old new same stands = (stands.0, (same.stop_is ∙ stands.1.0, stands.1.1 ∙ sym same.counted))
 
+  -- why it is refused
+  of_none : (refusal : Refusal) (old new : DiskView) → OpensNone C disk_of refusal old new → IsOfReopen refusal
+  of_none refusal old new (inl (unread, not)) = of_reopen (Shows old new) old.size refusal unread.cause
+  of_none refusal old new (inr (inl (x, (room, unread)))) = of_reopen (Shows (disk_of x) new) (disk_of x).size refusal unread.cause
+  of_none refusal old new (inr (inr unmade)) = of_room old new unmade.short refusal unmade.cause
+
+  -- the account, as it was, or stopped
+  abbrev Unopened : Type 0
+  Unopened = (u : Account) × (((u ≡ t) ⊎ (u ≡ record t { stopped = true })) × At u r.sessions (state s.core))
+
+  kept : IsKept (state r.core) (state s.core) → IsLater (state r.core).disk (state s.core).disk → At t r.sessions (state s.core)
+  kept same on =
+      at_still t r.sessions (state r.core) at t r.sessions (state s.core) (kept_runs (state r.core) (state s.core) on.size_is same at.running)
+      (record {
+        stands = stands_kept t.stopped (state r.core) (state s.core) same at.counts.stands;
+        acknowledged = same.counted ∙ at.counts.acknowledged;
+        names = ap (λ (tables : Tables). tables.names) same.tables_are ∙ at.counts.names;
+        records = ap (λ (tables : Tables). tables.journal.count) same.tables_are ∙ at.counts.records;
+        generation = ap (λ (tables : Tables). tables.journal.generation) same.tables_are ∙ at.counts.generation;
+        last = ap (λ (tables : Tables). tables.journal.last) same.tables_are ∙ at.counts.last;
+      }) refl refl same.parts_are
+
+  stopped : (refusal : Refusal) → StopsUnopened C disk_of refusal (state r.core) (state s.core) → At (record t { stopped = true }) r.sessions (state s.core)
+  stopped refusal stops =
+      at_still t r.sessions (state r.core) at (record t { stopped = true }) r.sessions (state s.core)
+      (subst (λ (stop : Option Stop). UnlessStopped stop (IsUp (state s.core))) (sym stops.stop_is) tt)
+      (record {
+        stands = (record { refusal = refusal; at = (state r.core).acknowledged }, (stops.stop_is, sym stops.counted));
+        acknowledged = stops.counted ∙ at.counts.acknowledged;
+        names = ap (λ (tables : Tables). tables.names) stops.tables_are ∙ at.counts.names;
+        records = ap (λ (tables : Tables). tables.journal.count) stops.tables_are ∙ at.counts.records;
+        generation = ap (λ (tables : Tables). tables.journal.generation) stops.tables_are ∙ at.counts.generation;
+        last = ap (λ (tables : Tables). tables.journal.last) stops.tables_are ∙ at.counts.last;
+      }) refl refl stops.parts_are
+
+  unopened : (refusal : Refusal) → RefusesReopen C state refusal r.core s.core → Unopened
+  unopened refusal acts = elim acts.why [
+    | inl memory ↦ (t, (inl refl, subst (λ (c : C). At t r.sessions (state c)) (sym memory.1) at))
+    | inr (none, inl (same, reads)) ↦ (t, (inl refl, kept same reads.only.later))
+    | inr (none, inr stops) ↦ (record t { stopped = true }, (inr refl, stopped refusal stops))
+  ]
+
   not_reopened : (refusal : Refusal) → RefusesReopen C state refusal r.core s.core → s.sessions ≡ r.sessions → LineTold C state (WasShown v (state s.core).disk) lines.Reopen (replies.Refused refusal) t s
-  not_reopened refusal acts sessions = record {
-    next = t;
-    tells = (
-      elim acts.why [
-        | inl memory ↦ subst IsOfReopen (sym memory.0) tt
-        | inr given_up ↦ of_reopen (Shows (state r.core).disk (state s.core).disk) (state r.core).disk.size refusal given_up.0
-      ],
-      refl,
-    );
-    at = subst (λ (x : Sessions). At t x (state s.core)) (sym sessions) (elim acts.why [
-      | inl memory ↦ subst (λ (c : C). At t r.sessions (state c)) (sym memory.1) at
-      | inr given_up ↦ kept given_up.3 given_up.2.only.later
-    ]);
-  }
-    where
-      kept : IsKept (state r.core) (state s.core) → IsLater (state r.core).disk (state s.core).disk → At t r.sessions (state s.core)
-      kept same on =
-          at_still t r.sessions (state r.core) at t r.sessions (state s.core) (kept_runs (state r.core) (state s.core) on.size_is same at.running)
-          (record {
-            stands = stands_kept t.stopped (state r.core) (state s.core) same at.counts.stands;
-            acknowledged = same.counted ∙ at.counts.acknowledged;
-            names = ap (λ (tables : Tables). tables.names) same.tables_are ∙ at.counts.names;
-            records = ap (λ (tables : Tables). tables.journal.count) same.tables_are ∙ at.counts.records;
-            generation = ap (λ (tables : Tables). tables.journal.generation) same.tables_are ∙ at.counts.generation;
-            last = ap (λ (tables : Tables). tables.journal.last) same.tables_are ∙ at.counts.last;
-          }) refl refl same.parts_are
+  not_reopened refusal acts sessions =
+      let left = unopened refusal acts in
+      record {
+        next = left.0;
+        tells = (
+          elim acts.why [
+            | inl memory ↦ subst IsOfReopen (sym memory.0) tt
+            | inr given_up ↦ of_none refusal (state r.core).disk (state s.core).disk given_up.0
+          ],
+          left.1.0,
+        );
+        at = subst (λ (x : Sessions). At left.0 x (state s.core)) (sym sessions) left.1.1;
+      }
 
   reopen_told : (reply : ReplyValue) → ActsReopen C state reply r s → LineTold C state (WasShown v (state s.core).disk) lines.Reopen reply t s
-  reopen_told (replies.Opened files) acts = reopened files acts
+  reopen_told (replies.Opened files) acts = reopened files acts acts.opened
   reopen_told (replies.Refused refusal) acts = not_reopened refusal acts.0 acts.1
   reopen_told reply acts = absurd acts
 

@@ -1,9 +1,6 @@
 -- What each line does to the core and to the sessions of a runner: which steps were made, and what was answered.
 use Rattle.std.specs.Prelude.{◌≡◌, ◌⊎◌, ℕ, ◌+◌, ◌-◌, ◌^◌, true, false, min, if◌then◌else◌, ◌==◌, List, [], ◌∷◌, ◌++◌, replicate, take, Option, Some, None, Result, Ok, Err}
 use Rattle.disk_format.specs.Cells.{Root}
-use Rattle.dd_disk.specs.Ending.{Done, Reads, ending_of}
-use Rattle.dd_disk.specs.Shows.{Shows}
-use Rattle.dd_disk.specs.View.{IsDurable}
 use Rattle.actor_parts.specs.declared.actor.TheConstants.{ACTORS}
 use Rattle.actor_parts.specs.declared.step.Answer.{Answer}
 use Rattle.actor_parts.specs.declared.step.Answer.TheVariants as answers
@@ -26,11 +23,9 @@ use Rattle.ingest_session.specs.Calls.{IsEnding, ready_in}
 use Rattle.ingest_session.specs.Due.{due_in}
 use Rattle.ingest_session.specs.History.{History, HasHistory, IsBegun, no_history}
 use Rattle.ingest_session.specs.State.{SessionState}
-use Rattle.store_state.specs.Refused.{blames}
-use Rattle.recovery.specs.Opening.{IsOpenRefusal}
 use Rattle.store_core.specs.declared.stop.Stop.{Stop}
 use Rattle.store_core.specs.Core.{CoreStep}
-use Rattle.store_core.specs.Opening.{IsNew, IsGivenUp, IsKept}
+use Rattle.store_core.specs.Opening.{OpensCore, OpensNone, StaysOrStops}
 use Rattle.store_core.specs.State.{CoreState}
 use Rattle.plain_machine.specs.Refused.{actor_of, takes}
 use Rattle.script_runner.specs.Sessions.{Sessions, kind_in, session_of, with_session}
@@ -246,13 +241,11 @@ Sweeps C state answer old new =
 abbrev pub noted_if : ℕ → ℕ → ℕ → List ℕ → List ℕ
 noted_if was now moment moments = if was == now then moments else moments ++ moment ∷ []
 
--- The core was opened again; no actor gives a file any more.
+-- The core was opened again, perhaps once room was made; no actor gives a file any more.
 pub record Reopens (C : Type 0) (state : C → CoreState) (files : ℕ) (sessions_now : Sessions) (moments moments_now : List ℕ) (old new : C)
     : Type 0 where
   pub mid : C
-  pub opened : IsNew (Shows (state old).disk (state mid).disk) (state old).disk.size (state mid)
-  pub durable : IsDurable (state mid).disk
-  pub reads : Reads Done (state old).disk (state mid).disk
+  pub opened : OpensCore C (λ c. (state c).disk) (state old).disk (state mid)
   pub holdings : Holdings
   pub counts : Counts C state holdings mid new
   pub files_are : files ≡ holdings.files
@@ -262,9 +255,8 @@ pub record Reopens (C : Type 0) (state : C → CoreState) (files : ℕ) (session
 -- Or it was not, for want of memory, or as the opening was refused.
 pub record RefusesReopen (C : Type 0) (state : C → CoreState) (refusal : Refusal) (old new : C) : Type 0 where
   pub why : ((refusal ≡ Memory) × (new ≡ old))
-      ⊎ (IsOpenRefusal (Shows (state old).disk (state new).disk) (state old).disk.size refusal
-      × Shows (state old).disk (state new).disk (IsGivenUp refusal)
-      × Reads (ending_of (blames refusal)) (state old).disk (state new).disk × IsKept (state old) (state new))
+      ⊎ (OpensNone C (λ c. (state c).disk) refusal (state old).disk (state new).disk
+      × StaysOrStops C (λ c. (state c).disk) refusal (state old) (state new))
 
 -- ---- all lines
 

@@ -54,10 +54,12 @@ abbrev pub KeepsOver : List Replied → Store → List ℕ → List ℕ → Type
 KeepsOver rs s = KeepsBytes s half_cells (NeedNoCheckpoint rs s) (HadContainer s)
 
 -- In what reads give, and in what a crash leaves at any moment of lines that are run, what was written before them stays, where none of
--- them makes steps of a collection. So it is also where the store is opened again between them, and where writes fail.
+-- them makes steps of a collection, and two slots were closed. So it is also where the store is opened again between them, and where
+-- writes fail: two slots stay closed over such lines, and so no `reopen` among them gives a container back.
 abbrev pub LinesKeepWritten : (C : Type 0) → (C → CoreState) → Type 0
 LinesKeepWritten C state = (rs : List Replied) (s : Store) (base : List ℕ) (r t : RunnerState C)
-    → NeverSweeps rs → IsOn s (state r.core) → (state r.core).disk.content ≡ Some base → Encodes base s → RunsLines C state rs r t
+    → NeverSweeps rs → IsOn s (state r.core) → (state r.core).disk.content ≡ Some base → Encodes base s → RESERVE ≤ free_slots s.held
+    → RunsLines C state rs r t
     → KnownWith (state t.core).disk.content (KeepsOver rs s base)
     × CrashLeaves (KeepsOver rs s base) (state r.core).disk (state t.core).disk
 

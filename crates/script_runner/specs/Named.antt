@@ -289,12 +289,15 @@ IsOfReopen (NotAStore gate magic) = Unit {0}
 IsOfReopen (Version n) = Unit {0}
 IsOfReopen (Damaged at why) = Unit {0}
 IsOfReopen (WrongSize want got) = Unit {0}
+-- as room is to be made
+IsOfReopen (Corrupt slot offset count want got) = Unit {0}
+IsOfReopen (Missing key) = Unit {0}
 IsOfReopen refusal = ⊥
 
--- One that is refused leaves the account, and ends the script.
+-- One that is refused leaves the account, or stops the store, and ends the script.
 abbrev pub TellsReopen : (Store → Type 0) → ReplyValue → Account → Account → Type 0
 TellsReopen Shown (replies.Opened files) t u = Reopens Shown files u
-TellsReopen Shown (replies.Refused refusal) t u = IsOfReopen refusal × (u ≡ t)
+TellsReopen Shown (replies.Refused refusal) t u = IsOfReopen refusal × ((u ≡ t) ⊎ (u ≡ record t { stopped = true }))
 TellsReopen Shown reply t u = ⊥
 
 -- of a store that runs

@@ -43,7 +43,8 @@ pub fn lines_go_on<C: HasState>()
 
 /// Whatever the containers of a disk hold: lines that are run one after the other change no byte of those that stood before them, nor of
 /// the format cell, also where the store is opened again between them and where writes fail; and where they need no checkpoint, no byte
-/// of what was written in the journal. They begin at a core that is on a store which the content is, as one that was opened just now.
+/// of what was written in the journal. They begin at a core that is on a store which the content is, with two closed slots, as one that was
+/// opened just now; and two stay closed, so that no `reopen` gives a container back.
 /// The function does nothing.
 pub fn lines_keep_what_is_written<D: Disk, C: HasState>()
     ensures lines { LinesKeepWritten C C.state }

@@ -10,8 +10,9 @@ use refusals::Refusal;
 use std::alloc::Global;
 use store_core::HasState;
 
-/// Opens the store again: all actors end. It says how many names there are. Where a commit or a delete that was left open is found,
-/// the moment is noted; its memory is taken before.
+/// Opens the store again, and makes room where it has to: all actors end. It says how many names there are. Where a commit or a delete
+/// that was left open is found, the moment is noted; its memory is taken before. Where it is refused once containers may have been given
+/// back, the core is stopped.
 pub(crate) fn reopen<C: HasState>(
     alloc: Global,
     core: &mut C,

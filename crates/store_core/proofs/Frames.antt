@@ -59,7 +59,7 @@ use Rattle.store_core.proofs.Stepping.{step_later}
 
 -- ---- the slots of a store with one container more
 
-some_not_none : (h : HeaderValue) → Some (Some h) ≡ Some None → ⊥
+pub some_not_none : (h : HeaderValue) → Some (Some h) ≡ Some None → ⊥
 some_not_none h same = cc
 
 -- what a slot held it holds
@@ -70,7 +70,7 @@ held_with (suc slot) h g (None ∷ cs) is = is
 held_with zero h g (Some x ∷ cs) is = is
 held_with (suc slot) h g (Some x ∷ cs) is = held_with slot h g cs is
 
-other_with : (slot : ℕ) (h : HeaderValue) (held : List (Option HeaderValue)) → slot ≢ first_free held → slice_get (with_slot (first_free held) h held) slot ≡ slice_get held slot
+pub other_with : (slot : ℕ) (h : HeaderValue) (held : List (Option HeaderValue)) → slot ≢ first_free held → slice_get (with_slot (first_free held) h held) slot ≡ slice_get held slot
 other_with slot h [] differ = refl
 other_with zero h (None ∷ cs) differ = absurd (differ refl)
 other_with (suc slot) h (None ∷ cs) differ = refl
@@ -83,7 +83,7 @@ first_with h [] some = absurd (omega (arith, some))
 first_with h (None ∷ cs) some = refl
 first_with h (Some x ∷ cs) some = first_with h cs some
 
-first_none : (held : List (Option HeaderValue)) → 1 ≤ free_slots held → slice_get held (first_free held) ≡ Some None
+pub first_none : (held : List (Option HeaderValue)) → 1 ≤ free_slots held → slice_get held (first_free held) ≡ Some None
 first_none [] some = absurd (omega (arith, some))
 first_none (None ∷ cs) some = refl
 first_none (Some x ∷ cs) some = first_none cs some
@@ -91,7 +91,7 @@ first_none (Some x ∷ cs) some = first_none cs some
 -- ---- bytes
 
 module _ (s : Store) (base : List ℕ) where
-  keeps_here : (end : ℕ) (Also : Type 0) (Stays : ℕ → Type 0) → KeepsBytes s end Also Stays base base
+  pub keeps_here : (end : ℕ) (Also : Type 0) (Stays : ℕ → Type 0) → KeepsBytes s end Also Stays base base
   keeps_here end Also Stays = record {
     size_is = refl;
     format = refl;
@@ -142,7 +142,7 @@ module _ (s : Store) (base : List ℕ) where
     }
 
     -- where nothing changes but what comes after all slots
-    keeps_counted : (new : List ℕ) → SameBefore (slot_at s.slots) given new → KeepsBytes s end Also Stays base new
+    pub keeps_counted : (new : List ℕ) → SameBefore (slot_at s.slots) given new → KeepsBytes s end Also Stays base new
     keeps_counted new same = record {
       size_is = same.size ∙ keeps.size_is;
       format = same.before 0 CELL_BYTES (omega arith) ∙ keeps.format;
@@ -151,7 +151,7 @@ module _ (s : Store) (base : List ℕ) where
     }
 
     -- where a slot changes that is none of these
-    keeps_sealed : (place : ℕ) (new : List ℕ) → ((slot : ℕ) → Stays slot → slot ≢ place) → SameButSlotOf s.slots place given new → KeepsBytes s end Also Stays base new
+    pub keeps_sealed : (place : ℕ) (new : List ℕ) → ((slot : ℕ) → Stays slot → slot ≢ place) → SameButSlotOf s.slots place given new → KeepsBytes s end Also Stays base new
     keeps_sealed place new others same = record {
       size_is = same.size ∙ keeps.size_is;
       format = same.before 0 CELL_BYTES (omega arith) ∙ keeps.format;
@@ -164,7 +164,7 @@ module _ (s : Store) (base : List ℕ) where
         other_slot slot within false is differ = same.after (slot_at slot) SLOT_BYTES (omega (arith, ltb-false slot place is, differ)) (omega (arith, within))
 
     -- where the journal alone changes
-    keeps_record : (later : ℕ) (Then : Type 0) (new : List ℕ) → SameButJournal given new → (Then → KeepsJournal s later base new) → KeepsBytes s later Then Stays base new
+    pub keeps_record : (later : ℕ) (Then : Type 0) (new : List ℕ) → SameButJournal given new → (Then → KeepsJournal s later base new) → KeepsBytes s later Then Stays base new
     keeps_record later Then new same journal = record {
       size_is = same.size ∙ keeps.size_is;
       format = same.format ∙ keeps.format;
@@ -232,7 +232,7 @@ module _ (name : List ℕ) (change : Change) (t : Store) where
 -- ---- one step
 
 -- it is on the second store, which has come from the first
-record IsFramed (s : Store) (base : List ℕ) (t : Store) (c : CoreState) : Type 0 where
+pub record IsFramed (s : Store) (base : List ℕ) (t : Store) (c : CoreState) : Type 0 where
   pub on : IsOn t c
   pub slots_are : t.slots ≡ s.slots
   pub rises : s.selector.generation ≤ t.selector.generation
@@ -249,7 +249,7 @@ has_settled t v slots bytes told calm has = record {
 }
 
 -- where a step leads
-record Leads (s : Store) (base : List ℕ) (changes : List StoreChange) (t : Store) (c : CoreState) : Type 0 where
+pub record Leads (s : Store) (base : List ℕ) (changes : List StoreChange) (t : Store) (c : CoreState) : Type 0 where
   pub after : Store
   pub chain : ChangesTo changes t after
   pub framed : IsFramed s base after c
@@ -555,7 +555,7 @@ module _ (s : Store) (base : List ℕ) (t : Store) (old new : CoreState) (framed
     leads actor buf asked.GcStep answer other row effect stops calm = absurd other
     leads actor buf asked.Stat answer other row effect stops calm = rests answer effect calm
 
-    step_leads : (e : Event) → IsNoGcStep e.step → Steps e old new → Leads s base (changes_by e.step e.answer) t new
+    pub step_leads : (e : Event) → IsNoGcStep e.step → Steps e old new → Leads s base (changes_by e.step e.answer) t new
     step_leads e other steps =
         leads e.actor e.buf e.step e.answer other steps.made.row steps.made.effect steps.stops
         (effect_settled old new stays given known framed.on.settled e.step e.answer other steps.stops steps.made.effect)
@@ -607,7 +607,7 @@ module _ (C : Type 0) (state : C → CoreState) where
           after_step e es t old run.0 new others.0 framed fits run.1.0 run.1.1 (λ u there rest. run_leaves es u run.0 new others.1 there rest run.1.1) (state run.0).stop refl
 
 -- where it begins
-begins : (s : Store) (base : List ℕ) (c : CoreState) → IsOn s c → c.disk.content ≡ Some base → IsFramed s base s c
+pub begins : (s : Store) (base : List ℕ) (c : CoreState) → IsOn s c → c.disk.content ≡ Some base → IsFramed s base s c
 begins s base c on told = record {
   on = on;
   slots_are = refl;

@@ -19,6 +19,7 @@ pub mod Opened
 pub mod OwnParts
 pub mod RunningOn
 pub mod Releasing
+pub mod Reserves
 pub mod SafeSteps
 pub mod Sealing
 pub mod SparedRest

@@ -2,15 +2,15 @@
 use Rattle.std.specs.Prelude.{◌≡◌, ℕ, ◌+◌, ◌<◌, ◌≤◌, List, [], ◌∷◌, length, slice_get, None, Some}
 use Rattle.base_model.specs.Bytes.{range}
 use Rattle.base_model.specs.Known.{KnownWith}
-use Rattle.disk_format.specs.declared.numbers.TheConstants.{CELL_BYTES, SLOT_BYTES, FIRST_HALF}
+use Rattle.disk_format.specs.declared.numbers.TheConstants.{CELL_BYTES, SLOT_BYTES, FIRST_HALF, RESERVE}
 use Rattle.disk_format.specs.Layout.{half_cells, cell_at, slot_at}
 use Rattle.dd_disk.specs.View.{CrashLeaves}
 use Rattle.dd_disk.specs.Moves.{StandsFor}
 use Rattle.actor_parts.specs.StepValue as asked
 use Rattle.actor_parts.specs.StepValue.{StepValue}
 use Rattle.container_meta.specs.Spelling.{HeaderValue}
-use Rattle.store_model.specs.Image.{Store, IsValidFor}
-use Rattle.store_model.specs.Slots.{HasFree}
+use Rattle.store_model.specs.Image.{Store, Encodes, IsValidFor}
+use Rattle.store_model.specs.Slots.{HasFree, free_slots}
 use Rattle.store_model.specs.Standing.{HasJournal}
 use Rattle.store_model.specs.Steps.{StoreChange, HasCellsFor}
 use Rattle.store_state.specs.Settled.{IsSettled}
@@ -95,3 +95,13 @@ WrittenStays C state = (events : List Event) (s : Store) (base : List ℕ) (old 
     → IsOn s (state old) → (state old).disk.content ≡ Some base → CoreRun C state events old new
     → AreNoGcSteps events → KnownWith (state new).disk.content (KeepsWritten s (commands_in events) base)
     × CrashLeaves (KeepsWritten s (commands_in events) base) (state old).disk (state new).disk
+
+-- a store that an image is has its reserve
+abbrev pub HasReserveIn : List ℕ → Type 0
+HasReserveIn image = (store : Store) → Encodes image store → RESERVE ≤ free_slots store.held
+
+-- Where two slots were closed at the beginning of such a run, two are at its end, also where a write failed. So an opening makes no room.
+abbrev pub ReserveStays : (C : Type 0) → (C → CoreState) → Type 0
+ReserveStays C state = (events : List Event) (s : Store) (base : List ℕ) (old new : C)
+    → IsOn s (state old) → (state old).disk.content ≡ Some base → Encodes base s → RESERVE ≤ free_slots s.held
+    → CoreRun C state events old new → AreNoGcSteps events → KnownWith (state new).disk.content HasReserveIn

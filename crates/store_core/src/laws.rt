@@ -1,6 +1,6 @@
 //! Laws of steps of a core, one after the other (docs/MODEL.md, 'The core').
 ghost use Rattle.store_core.specs.Bounds.{BoundsSteps};
-ghost use Rattle.store_core.specs.Frame.{AddsAlone, WrittenStays};
+ghost use Rattle.store_core.specs.Frame.{AddsAlone, ReserveStays, WrittenStays};
 ghost use Rattle.store_core.specs.Keeping.{KeepsSegments, StaysHeld, StaysSettled};
 ghost use Rattle.store_core.specs.Opening.{IsNewAt};
 ghost use Rattle.store_core.specs.Releases.{LeavesNoneSpare, ReleasesSpare};
@@ -79,11 +79,12 @@ pub fn a_core_survives_crashes<C: HasState>()
 
 /// Whatever the disk of a core holds, a run without steps of a collection adds records and containers to it: no other byte before the end of the slots
 /// changes, but those of the journal where a checkpoint is made. At any moment of a run, also where a write fails, what was
-/// written before it stays: the containers, and the journal where its half has a cell for each command. The function does
-/// nothing.
+/// written before it stays: the containers, and the journal where its half has a cell for each command. Where two slots were closed, two
+/// are at its end. The function does nothing.
 pub fn a_core_keeps_what_is_written<C: HasState>()
     ensures added { AddsAlone C C.state }
     ensures moments { WrittenStays C C.state }
+    ensures reserve { ReserveStays C C.state }
 {}
 
 /// Over data without collisions, of a core that began at a store: no step of a run finds damage or misses a segment, and data

@@ -1,0 +1,291 @@
+-- Two slots stay closed over steps that are none of a collection.
+use Rattle.std.proofs.Common.{◌≡◌, ◌≢◌, inl, inr, ℕ, zero, suc, ◌+◌, ◌<◌, ◌≤◌, List, [], ◌∷◌, length, Option, Some, None, Result, Ok, Err, refl, sym, ◌∙◌, ap, subst, arith}
+use Rattle.std.specs.Prelude.{slice_get}
+use Rattle.base_model.specs.Bytes.{byte_at, range}
+use Rattle.base_model.specs.Known.{KnownWith}
+use Rattle.base_model.proofs.Ranges.{byte-range}
+use Rattle.container_meta.specs.Spelling.{HeaderValue, header_of}
+use Rattle.container_meta.proofs.Again.{small_count}
+use Rattle.container_meta.proofs.Parts.{parts_of_spelling}
+use Rattle.dd_disk.specs.View.{OnlyReads, SteppedFrom}
+use Rattle.disk_format.specs.Cells.{Change}
+use Rattle.disk_format.specs.Cells.Change.{Delete, Put}
+use Rattle.disk_format.specs.Layout.{half_cells, size_of, slot_at}
+use Rattle.disk_format.specs.declared.numbers.TheConstants.{HEADER_BYTES, RESERVE, SLOT_BYTES}
+use Rattle.actor_parts.specs.declared.step.Answer.{Answer}
+use Rattle.actor_parts.specs.declared.step.Answer.TheVariants as answers
+use Rattle.actor_parts.specs.StepValue as asked
+use Rattle.actor_parts.specs.StepValue.{StepValue}
+use Rattle.journal_cells.specs.Journal.{JournalValue}
+use Rattle.refusals.specs.declared.refusal.Refusal.{Refusal}
+use Rattle.refusals.specs.declared.refusal.Refusal.TheVariants as refusals
+use Rattle.store_model.specs.Image.{Store, Encodes}
+use Rattle.store_model.specs.Slots.{HoldsSlot, first_free, free_slots}
+use Rattle.store_model.proofs.Filled.{free_less}
+use Rattle.store_model.proofs.Freed.{slot_held}
+use Rattle.store_state.specs.Settled.{IsSettled}
+use Rattle.ingest_steps.specs.Naming.{ChangesBytes}
+use Rattle.ingest_steps.specs.Sealing.{ChangesSlotAlone, HasSlot}
+use Rattle.ingest_steps.proofs.RecordFrames.{record_alone}
+use Rattle.store_core.specs.declared.stop.Stop.{Stop}
+use Rattle.store_core.specs.Core.{CoreStep, Effect, NamesOne, Row, SealsOne, Steps, StepsOr, StopsAfter}
+use Rattle.store_core.specs.Frame.{HasReserveIn, IsOn, KeepsBytes, ReserveStays}
+use Rattle.store_core.specs.Runs.{AreNoGcSteps, ChangesTo, CoreRun, IsNoGcStep, changes_by}
+use Rattle.store_core.specs.State.{CoreState, Event}
+use Rattle.store_core.proofs.CoreRuns.{running_step, stopped_reads, was_running}
+use Rattle.store_core.proofs.Frames.{Leads, begins, keeps_counted, keeps_here, keeps_record, keeps_sealed, some_not_none, step_leads}
+
+-- ---- slots of lists
+
+within : (held : List (Option HeaderValue)) (slot : ℕ) (c : Option HeaderValue) → slice_get held slot ≡ Some c → slot < length held
+within [] slot c is = absurd cc
+within (d ∷ cs) zero c is = omega arith
+within (d ∷ cs) (suc slot) c is = omega (arith, within cs slot c is)
+
+there : (held : List (Option HeaderValue)) (slot : ℕ) → slot < length held → (c : Option HeaderValue) × (slice_get held slot ≡ Some c)
+there [] slot below = absurd (omega (arith, below))
+there (c ∷ cs) zero below = (c, refl)
+there (c ∷ cs) (suc slot) below = there cs slot (omega (arith, below))
+
+-- where all closed slots of the one are closed in the other, of as many
+as_free : (held others : List (Option HeaderValue)) → length others ≡ length held → ((slot : ℕ) → slice_get held slot ≡ Some None → slice_get others slot ≡ Some None)
+    → free_slots held ≤ free_slots others
+as_free [] others many each = omega arith
+as_free (c ∷ cs) [] many each = absurd (omega (arith, many))
+as_free (None ∷ cs) (None ∷ os) many each = omega (arith, as_free cs os (omega (arith, many)) (λ slot is. each (suc slot) is))
+as_free (None ∷ cs) (Some h ∷ os) many each = absurd (some_not_none h (each 0 refl))
+as_free (Some g ∷ cs) (None ∷ os) many each = omega (arith, as_free cs os (omega (arith, many)) (λ slot is. each (suc slot) is))
+as_free (Some g ∷ cs) (Some h ∷ os) many each = as_free cs os (omega (arith, many)) (λ slot is. each (suc slot) is)
+
+-- but perhaps one
+but_one : (place : ℕ) (held others : List (Option HeaderValue)) → length others ≡ length held
+    → ((slot : ℕ) → slice_get held slot ≡ Some None → slot ≢ place → slice_get others slot ≡ Some None) → free_slots held ≤ suc (free_slots others)
+but_one place [] others many each = omega arith
+but_one place (c ∷ cs) [] many each = absurd (omega (arith, many))
+but_one zero (None ∷ cs) (None ∷ os) many each = omega (arith, as_free cs os (omega (arith, many)) (λ slot is. each (suc slot) is (omega arith)))
+but_one zero (None ∷ cs) (Some h ∷ os) many each = omega (arith, as_free cs os (omega (arith, many)) (λ slot is. each (suc slot) is (omega arith)))
+but_one zero (Some g ∷ cs) (None ∷ os) many each = omega (arith, as_free cs os (omega (arith, many)) (λ slot is. each (suc slot) is (omega arith)))
+but_one zero (Some g ∷ cs) (Some h ∷ os) many each = omega (arith, as_free cs os (omega (arith, many)) (λ slot is. each (suc slot) is (omega arith)))
+but_one (suc place) (None ∷ cs) (None ∷ os) many each = omega (arith, but_one place cs os (omega (arith, many)) (λ slot is differ. each (suc slot) is (λ same. differ (omega (arith, same)))))
+but_one (suc place) (None ∷ cs) (Some h ∷ os) many each = absurd (some_not_none h (each 0 refl (omega arith)))
+but_one (suc place) (Some g ∷ cs) (None ∷ os) many each = omega (arith, but_one place cs os (omega (arith, many)) (λ slot is differ. each (suc slot) is (λ same. differ (omega (arith, same)))))
+but_one (suc place) (Some g ∷ cs) (Some h ∷ os) many each = but_one place cs os (omega (arith, many)) (λ slot is differ. each (suc slot) is (λ same. differ (omega (arith, same))))
+
+-- ---- closed slots of an image
+
+-- the slots that the store has closed are closed in the image
+abbrev Closed : (ℕ → Type 0) → Store → List ℕ → Type 0
+Closed But t image = (slot : ℕ) → slice_get t.held slot ≡ Some None → ¬ (But slot) → HoldsSlot image slot None
+
+first_is : (at count : ℕ) (old new : List ℕ) → 1 ≤ count → range at count new ≡ range at count old → byte_at at new ≡ byte_at at old
+first_is at count old new some same =
+    let place : at + 0 ≡ at = omega arith in
+    ap (λ (k : ℕ). byte_at k new) (sym place) ∙ sym (byte-range 0 at count new (omega (arith, some))) ∙ ap (byte_at 0) same
+    ∙ byte-range 0 at count old (omega (arith, some)) ∙ ap (λ (k : ℕ). byte_at k old) place
+
+still_closed : (slot : ℕ) (old new : List ℕ) → range (slot_at slot) SLOT_BYTES new ≡ range (slot_at slot) SLOT_BYTES old → HoldsSlot old slot None → HoldsSlot new slot None
+still_closed slot old new same closed open_gate = closed (sym (first_is (slot_at slot) SLOT_BYTES old new (omega arith) same) ∙ open_gate)
+
+-- a slot whose gate is closed has no container
+not_open : (image : List ℕ) (slot : ℕ) (c : Option HeaderValue) → HoldsSlot image slot c → HoldsSlot image slot None → c ≡ None
+not_open image slot None holds closed = refl
+not_open image slot (Some h) holds closed =
+    let bytes : List ℕ = range (slot_at slot) HEADER_BYTES image in
+    let parts = parts_of_spelling h bytes (small_count (length h.entries) holds.0.count) holds.0.entries holds.1 in
+    absurd (closed (ap (λ (at : ℕ). byte_at at image) (omega arith) ∙ sym (byte-range 0 (slot_at slot) HEADER_BYTES image (omega arith)) ∙ parts.gate))
+
+module _ (u : Store) (image : List ℕ) (right : Encodes image u) where
+  closed_in : (slot : ℕ) → slot < length u.held → HoldsSlot image slot None → slice_get u.held slot ≡ Some None
+  closed_in slot below closed =
+      let c = there u.held slot below in
+      c.1 ∙ ap (λ (x : Option HeaderValue). Some x) (not_open image slot c.0 (slot_held slot u.held c.0 image right.slots_are c.1) closed)
+
+-- as many slots
+one_size : (a b : ℕ) → size_of a ≡ size_of b → a ≡ b
+one_size a b same = omega (arith, same)
+
+-- what is so of a store that a core is on, and of its content
+record IsRoomy (t : Store) (given : List ℕ) (c : CoreState) : Type 0 where
+  pub on : IsOn t c
+  pub told : c.disk.content ≡ Some given
+  pub size : length given ≡ size_of t.slots
+  pub closed : Closed (λ slot. ⊥) t given
+  pub enough : RESERVE ≤ free_slots t.held
+
+many_of : (t : Store) (given : List ℕ) (c : CoreState) → IsRoomy t given c → (image : List ℕ) → length image ≡ length given → (u : Store) → Encodes image u → length u.held ≡ length t.held
+many_of t given c roomy image size u right =
+    right.many ∙ one_size u.slots t.slots (sym right.size ∙ size ∙ roomy.size) ∙ sym roomy.on.valid.many
+
+-- all of them are
+has_all : (t : Store) (given : List ℕ) (c : CoreState) → IsRoomy t given c → (image : List ℕ) → length image ≡ length given → Closed (λ slot. ⊥) t image → HasReserveIn image
+has_all t given c roomy image size closed u right =
+    let many = many_of t given c roomy image size u right in
+    omega (arith, roomy.enough, as_free t.held u.held many (λ slot is. closed_in u image right slot (omega (arith, within t.held slot None is, many)) (closed slot is (λ none. none))))
+
+-- all but one are, and there was one to spare
+has_but_one : (place : ℕ) (t : Store) (given : List ℕ) (c : CoreState) → IsRoomy t given c → RESERVE < free_slots t.held → (image : List ℕ) → length image ≡ length given → Closed (λ slot. slot ≡ place) t image
+    → HasReserveIn image
+has_but_one place t given c roomy spare image size closed u right =
+    let many = many_of t given c roomy image size u right in
+    omega (arith, spare, but_one place t.held u.held many (λ slot is differ. closed_in u image right slot (omega (arith, within t.held slot None is, many)) (closed slot is differ)))
+
+-- ---- a step
+
+-- a change that a step makes leaves as many slots as the reserve has
+enough_by : (step : StepValue) (answer : Result Answer Refusal) (t after : Store) → ChangesTo (changes_by step answer) t after → RESERVE ≤ free_slots t.held → RESERVE ≤ free_slots after.held
+enough_by (asked.Seal filled) (Ok (answers.Sealed id)) t after chain enough =
+    subst (λ (s : Store). RESERVE ≤ free_slots s.held) (sym chain.1) (omega (arith, chain.0.slot, free_less (header_of id filled.kind filled.segments) t.held (omega (arith, enough))))
+enough_by (asked.Commit name root) (Ok answer) t after chain enough = subst (λ (s : Store). RESERVE ≤ free_slots s.held) (sym chain.1) enough
+enough_by (asked.Delete name) (Ok answer) t after chain enough = subst (λ (s : Store). RESERVE ≤ free_slots s.held) (sym chain.1) enough
+enough_by step answer t after chain enough = subst (λ (s : Store). RESERVE ≤ free_slots s.held) (sym chain) enough
+
+module _ (t : Store) (given : List ℕ) (old new : CoreState) (roomy : IsRoomy t given old) where
+  abbrev on : IsOn t old
+  on = roomy.on
+
+  abbrev place : ℕ
+  place = first_free t.held
+
+  slots_are : old.tables.slots ≡ t.slots
+  slots_are = on.represents.slots_are
+
+  settled : IsSettled t.slots old.disk
+  settled = subst (λ (n : ℕ). IsSettled n old.disk) slots_are on.settled
+
+  -- a content of which these slots are as they were
+  closed_by : (But : ℕ → Type 0) (image : List ℕ) → KeepsBytes t half_cells ⊥ (λ slot. (slice_get t.held slot ≡ Some None) × ¬ (But slot)) given image → Closed But t image
+  closed_by But image keeps slot is differ =
+      still_closed slot given image (keeps.slots slot (subst (λ (n : ℕ). slot < n) on.valid.many (within t.held slot None is)) (is, differ)) (roomy.closed slot is (λ none. none))
+
+  by_reads : OnlyReads old.disk new.disk → KnownWith new.disk.content HasReserveIn
+  by_reads reads = (given, reads.content_is ∙ roomy.told, has_all t given old roomy given refl roomy.closed)
+
+  -- it goes on
+  roomy_on : (e : Event) → IsNoGcStep e.step → new.stop ≡ None → Steps e old new → (u : Store) × ((bytes : List ℕ) × IsRoomy u bytes new)
+  roomy_on e other stays steps =
+      let next = step_leads t given t old new (begins t given old on roomy.told) stays e other steps in
+      let bytes = next.framed.content.0 in
+      let adds = next.framed.content.2 in
+      let many : length next.after.held ≡ length t.held = next.framed.on.valid.many ∙ next.framed.slots_are ∙ sym on.valid.many in (
+        next.after,
+        (
+          bytes,
+          record {
+            on = next.framed.on;
+            told = next.framed.content.1;
+            size = adds.size_is ∙ roomy.size ∙ ap size_of (sym next.framed.slots_are);
+            closed = λ slot is none.
+                let below : slot < length t.held = omega (arith, within next.after.held slot None is, many) in
+                let was = was_closed next slot is (there t.held slot below) in
+                still_closed slot given bytes (adds.slots slot (subst (λ (n : ℕ). slot < n) on.valid.many below) (is ∙ sym was)) (roomy.closed slot was (λ no. no));
+            enough = enough_by e.step e.answer t next.after next.chain roomy.enough;
+          },
+        ),
+      )
+    where
+      was_by : (after : Store) (slot : ℕ) (c : Option HeaderValue) → ((h : HeaderValue) → slice_get t.held slot ≡ Some (Some h) → slice_get after.held slot ≡ Some (Some h)) → slice_get after.held slot ≡ Some None
+          → slice_get t.held slot ≡ Some c → slice_get t.held slot ≡ Some None
+      was_by after slot None held is here = here
+      was_by after slot (Some h) held is here = absurd (some_not_none h (sym (held h here) ∙ is))
+
+      was_closed : (next : Leads t given (changes_by e.step e.answer) t new) (slot : ℕ) → slice_get next.after.held slot ≡ Some None → (c : Option HeaderValue) × (slice_get t.held slot ≡ Some c) → slice_get t.held slot ≡ Some None
+      was_closed next slot is here = was_by next.after slot here.0 (next.framed.held slot) is here.1
+
+  -- a container that was to be stored may stand in the closed slot of least number, beside which there were two
+  sealed_room : (filled : _) (answer : Result Answer Refusal) → SealsOne filled answer old new → (slot : ℕ) × HasSlot old.tables slot → KnownWith new.disk.content HasReserveIn
+  sealed_room filled answer effect has =
+      let frame = subst (λ (n : ℕ). ChangesSlotAlone n place old.disk new.disk) slots_are (effect.moves.frame.store_has t on.represents on.valid on.has_free) in
+      let left = (frame.settled settled given roomy.told).0 in
+      let spare = ((has.1.slot_is old.disk.size old.known).store_has t on.represents on.valid on.has_free).spare in
+      let Stays : ℕ → Type 0 = λ slot. (slice_get t.held slot ≡ Some None) × ¬ (slot ≡ place) in (
+        left.0,
+        left.1,
+        has_but_one place t given old roomy spare left.0 left.2.size
+            (closed_by (λ slot. slot ≡ place) left.0 (keeps_sealed t given half_cells ⊥ Stays given (keeps_here t given half_cells ⊥ Stays) place left.0 (λ slot stays. stays.1) left.2)),
+      )
+
+  abbrev journal : JournalValue
+  journal = old.tables.journal
+
+  low : journal.half ≤ 1
+  low = subst (λ (n : ℕ). n ≤ 1) (sym on.represents.names_are.half) on.valid.selector_right.half
+
+  abbrev AllStay : ℕ → Type 0
+  AllStay slot = (slice_get t.held slot ≡ Some None) × ¬ ⊥
+
+  -- a name changes the journal alone
+  named_room : (name : List ℕ) (change : Change) (answer : Result Answer Refusal) → NamesOne name change answer old new → KnownWith new.disk.content HasReserveIn
+  named_room name change answer effect =
+      let now = effect.disk.later.tells given roomy.told in
+      let counted : (c : List ℕ) → old.disk.images c → KeepsBytes t half_cells ⊥ AllStay given c = λ c image. keeps_counted t given half_cells ⊥ AllStay given (keeps_here t given half_cells ⊥ AllStay) c (settled given roomy.told c image) in
+      let keeps = λ (c : List ℕ) (from : SteppedFrom (ChangesBytes old.tables name change given) old.disk c). elim from as (λ _. KeepsBytes t half_cells ⊥ AllStay given c) [
+        | inl image ↦ counted c image
+        | inr step ↦ keeps_record t given half_cells ⊥ AllStay step.0 (counted step.0 step.1) half_cells ⊥ c (record_alone journal step.0 c low step.2.same) (λ none. absurd none)
+      ] in
+      let last = keeps now.0 ((effect.frame.leaves given roomy.told).now now.0 (new.disk.as_read now.0 now.1)) in
+      (now.0, now.1, has_all t given old roomy now.0 last.size_is (closed_by (λ slot. ⊥) now.0 last))
+
+  -- a step that stops the core
+  module _ (stop : Stop) (stopped : new.stop ≡ Some stop) where
+    runs_not : new.stop ≡ None → ⊥
+    runs_not runs = let both = sym runs ∙ stopped in absurd cc
+
+    unsealed_room : (actor : ℕ) (buf : List ℕ) (filled : _) (refusal : Refusal) → Row (asked.Seal filled) actor (Err refusal) buf old new → SealsOne filled (Err refusal) old new → StopsAfter (asked.Seal filled) (Err refusal) old.acknowledged new.stop
+        → KnownWith new.disk.content HasReserveIn
+    unsealed_room actor buf filled refusals.DiskWrite row effect stops = sealed_room filled (Err refusals.DiskWrite) effect row.0.1
+    unsealed_room actor buf filled (refusals.Damaged at why) row effect stops = sealed_room filled (Err (refusals.Damaged at why)) effect row.0.1
+    unsealed_room actor buf filled refusal row effect stops = absurd (runs_not stops)
+
+    by_effect : (actor : ℕ) (buf : List ℕ) (step : StepValue) (answer : Result Answer Refusal) → IsNoGcStep step → Row step actor answer buf old new → Effect step answer old new → StopsAfter step answer old.acknowledged new.stop
+        → KnownWith new.disk.content HasReserveIn
+    by_effect actor buf asked.Begin answer other row effect stops = by_reads effect.disk.only
+    by_effect actor buf (asked.Claim seg) answer other row effect stops = by_reads effect.disk.only
+    by_effect actor buf (asked.Seal filled) (Ok answer) other row effect stops = absurd (runs_not stops)
+    by_effect actor buf (asked.Seal filled) (Err refusal) other row effect stops = unsealed_room actor buf filled refusal row effect stops
+    by_effect actor buf (asked.Commit name root) answer other row effect stops = named_room name (Put root) answer effect
+    by_effect actor buf asked.Abort answer other row effect stops = by_reads effect.disk.only
+    by_effect actor buf (asked.OpenRead name) answer other row effect stops = by_reads effect.disk.only
+    by_effect actor buf asked.ReadNext answer other row effect stops = by_reads effect.disk.only
+    by_effect actor buf asked.EndRead answer other row effect stops = by_reads effect.disk.only
+    by_effect actor buf (asked.Delete name) answer other row effect stops = named_room name Delete answer effect
+    by_effect actor buf asked.ListNames answer other row effect stops = by_reads effect.disk.only
+    by_effect actor buf (asked.GcStart percent) answer other row effect stops = by_reads effect.disk.only
+    by_effect actor buf asked.GcStep answer other row effect stops = absurd other
+    by_effect actor buf asked.Stat answer other row effect stops = by_reads effect.disk.only
+
+    by_stop : (e : Event) (was : Option Stop) → IsNoGcStep e.step → StepsOr was e old new → KnownWith new.disk.content HasReserveIn
+    by_stop e None other steps = by_effect e.actor e.buf e.step e.answer other steps.made.row steps.made.effect steps.stops
+    by_stop e (Some before) other steps = by_reads steps.same.disk.only
+
+-- ---- a run
+
+module _ (C : Type 0) (state : C → CoreState) where
+  abbrev HasAtEnd : C → Type 0
+  HasAtEnd new = KnownWith (state new).disk.content HasReserveIn
+
+  -- a step, and what follows where it didn't stop the core
+  after_step : (e : Event) (es : List Event) (t : Store) (given : List ℕ) (old mid new : C) → IsNoGcStep e.step → IsRoomy t given (state old) → CoreStep (state old) e (state mid) → CoreRun C state es mid new
+      → ((u : Store) (bytes : List ℕ) → IsRoomy u bytes (state mid) → HasAtEnd new) → (stop : Option Stop) → (state mid).stop ≡ stop → HasAtEnd new
+  after_step e es t given old mid new other roomy step run others None is =
+      let was = was_running (state old).stop e (state old) (state mid) refl step is in
+      let next = roomy_on t given (state old) (state mid) roomy e other is (running_step (state old) (state mid) e was step) in
+      others next.0 next.1.0 next.1.1
+  after_step e es t given old mid new other roomy step run others (Some stop) is =
+      let here = by_stop t given (state old) (state mid) roomy stop is e (state old).stop other step in
+      (here.0, (stopped_reads C state stop es mid new is run).content_is ∙ here.1, here.2)
+
+  run_roomy : (events : List Event) (t : Store) (given : List ℕ) (old new : C) → AreNoGcSteps events → IsRoomy t given (state old) → CoreRun C state events old new → HasAtEnd new
+  run_roomy [] t given old new others roomy run =
+      subst (λ (c : C). HasAtEnd c) (sym run) (given, roomy.told, has_all t given (state old) roomy given refl roomy.closed)
+  run_roomy (e ∷ es) t given old new others roomy run =
+      after_step e es t given old run.0 new others.0 roomy run.1.0 run.1.1 (λ u bytes there. run_roomy es u bytes run.0 new others.1 there run.1.1) (state run.0).stop refl
+
+  pub reserve_stays : ReserveStays C state
+  reserve_stays events s base old new on told right enough run others =
+      run_roomy events s base old new others (record {
+        on = on;
+        told = told;
+        size = right.size;
+        closed = λ slot is none. slot_held slot s.held None base right.slots_are is;
+        enough = enough;
+      }) run

@@ -165,10 +165,10 @@ module _ (S : List ℕ → Type 0) (name : List ℕ) (refusal : Refusal) (m : St
 pub deleted_map : (name : List ℕ) (sequence : ℕ) (ending : Option Ending) (v w : DiskView) (sink sink_now : SinkView) → RunsEachMap ending (said (lines.Delete name) (replies.Deleted sequence) ∷ []) v w
     → IsDone ending → WroteReply (deleted_line name) ending sink sink_now → KeepsEachMap (Delete name) [] ending v w sink sink_now
 deleted_map name sequence ending v w sink sink_now each done wrote image told among m distinct all is =
-    done_map (IsIn among) name sequence m image v w told (step_of ending (lines.Delete name) (replies.Deleted sequence) v w each image told among m distinct is (done_idle name m image v.faults sequence)) ending sink sink_now done wrote
+    done_map (IsIn among) name sequence m image v w told (step_of ending (lines.Delete name) (replies.Deleted sequence) v w each image told among m distinct is (done_idle name m image v.faults sequence) refl) ending sink sink_now done wrote
 
 -- it was refused as the map has it
 pub undeleted_map : (name : List ℕ) (refusal : Refusal) (v w : DiskView) (sink : SinkView) → RunsEachMap (Some (Refused refusal)) (refused (lines.Delete name) refusal ∷ []) v w
     → KeepsEachMap (Delete name) [] (Some (Refused refusal)) v w sink sink
 undeleted_map name refusal v w sink each image told among m distinct all is =
-    undone_map (IsIn among) name refusal m image v w told is (step_of (Some (Refused refusal)) (lines.Delete name) (replies.Refused refusal) v w each image told among m distinct is (undone_idle name m image v.faults refusal)) sink
+    undone_map (IsIn among) name refusal m image v w told is (step_of (Some (Refused refusal)) (lines.Delete name) (replies.Refused refusal) v w each image told among m distinct is (undone_idle name m image v.faults refusal) refl) sink

@@ -54,6 +54,7 @@ pub mod PutNames
 pub mod PutStops
 pub mod ReadSteps
 pub mod Reading
+pub mod Reopened
 pub mod Replied
 pub mod Returned
 pub mod RightPuts

@@ -71,7 +71,7 @@ module _ (S : List ℕ → Type 0) (files : List NamedRoot) (m : Stored) (image 
 listed_map : (files : List NamedRoot) (ending : Option Ending) (v w : DiskView) (sink sink_now : SinkView) → RunsEachMap ending (said lines.ListNames (replies.Listed files) ∷ []) v w
     → IsDone ending → WroteReply (listing_text files) ending sink sink_now → KeepsEachMap table.List [] ending v w sink sink_now
 listed_map files ending v w sink sink_now each done wrote image told among m distinct all is =
-    listed_keeps (IsIn among) files m image v w told (step_of ending lines.ListNames (replies.Listed files) v w each image told among m distinct is (listed_idle files m image v.faults)) ending sink sink_now done wrote
+    listed_keeps (IsIn among) files m image v w told (step_of ending lines.ListNames (replies.Listed files) v w each image told among m distinct is (listed_idle files m image v.faults) refl) ending sink sink_now done wrote
 
 pub is_done : (ending : Option Ending) (sink sink_now : SinkView) → IsReplied ending sink sink_now → IsDone ending
 is_done None sink sink_now replied = tt

@@ -1,6 +1,6 @@
 -- One line over a core that was opened: what the machine's step says of the disk, and of the map.
-use Rattle.std.proofs.Common.{◌≡◌, ◌⊎◌, inl, inr, ℕ, zero, suc, List, [], ◌∷◌, Option, None, Some, replicate, refl, sym, ◌∙◌, subst}
-use Rattle.std.specs.Prelude.{slice_index_or}
+use Rattle.std.proofs.Common.{◌≡◌, ◌⊎◌, inl, inr, ℕ, zero, suc, Bool, false, List, [], ◌∷◌, Option, None, Some, replicate, refl, sym, ◌∙◌, subst}
+use Rattle.std.specs.Prelude.{◌||◌, slice_index_or}
 use Rattle.dd_disk.specs.View.{DiskView}
 use Rattle.dd_io.specs.Flow.{SinkView}
 use Rattle.actor_parts.specs.declared.actor.TheConstants.{ACTORS}
@@ -13,14 +13,14 @@ use Rattle.reply_text.specs.declared.ending.Ending.{Ending}
 use Rattle.reply_text.specs.declared.ending.Ending.TheVariants.{Sink, Refused}
 use Rattle.script_lines.specs.Grammar.{LineValue}
 use Rattle.script_lines.specs.ReplyValue.{ReplyValue}
-use Rattle.script_runner.specs.Follows.{IsCut}
+use Rattle.script_runner.specs.Follows.{IsCut, IsImageBy, is_reopen}
 use Rattle.script_runner.specs.Scripts.{IsCutBy}
 use Rattle.store_model.specs.Collisions.{ByteSet, HasNoCollisions, IsIn, IsOf}
 use Rattle.store_model.specs.Files.{Stored}
 use Rattle.store_model.specs.Image.{Store, Encodes}
 use Rattle.backup_engine.specs.Adding.{Adds}
 use Rattle.backup_engine.specs.Line.{CommandLine}
-use Rattle.backup_engine.specs.Lines.{RunsByMachine, RunsEachMap}
+use Rattle.backup_engine.specs.Lines.{RunsBy, RunsByMachine, RunsEachMap}
 use Rattle.backup_engine.specs.PlainMap.{CanBeDone}
 use Rattle.backup_engine.specs.Promise as promise
 use Rattle.backup_engine.specs.Promise.{EndsBy, GivesSlotsBack, IsLeftAs, KeepsMap, LeavesMeanwhile, MayBeMeanwhile}
@@ -72,7 +72,11 @@ module _ (S : List ℕ → Type 0) (line : LineValue) (reply : ReplyValue) (m : 
   passed n run d (found, (inl before, of)) = inl (subst (λ (x : Stored). IsOf S x d) before.1 of)
   passed n run d (found, (inr after, of)) = inr (found, (after.1, of))
 
-  module _ (is : RunsByMachine S rs m image v w) where
+  module _ (other : is_reopen line ≡ false) (runs : RunsByMachine S rs m image v w) where
+    -- the line leaves two slots closed
+    is : RunsBy (IsOf S) rs m image v w
+    is = subst (λ (b : Bool). RunsBy (IsImageBy (b || false) S) rs m image v w) other runs
+
     abbrev mid : Machine
     mid = is.run.1.0
 
@@ -100,10 +104,10 @@ module _ (S : List ℕ → Type 0) (line : LineValue) (reply : ReplyValue) (m : 
 -- of a disk that stands for the map, where nothing is cut
 pub step_of : (ending : Option Ending) (line : LineValue) (reply : ReplyValue) (v w : DiskView) → RunsEachMap ending (said line reply ∷ []) v w
     → (image : List ℕ) → v.content ≡ Some image → (among : ByteSet) (m : Stored) → HasNoCollisions (IsIn among) → IsOf (IsIn among) m image
-    → ((n : Machine) → Step line reply (opened m image v.faults) n → n.parts ≡ replicate ACTORS Idle) → OneStep (IsIn among) line reply m image v w
-step_of ending line reply v w each image told among m distinct is stays =
+    → ((n : Machine) → Step line reply (opened m image v.faults) n → n.parts ≡ replicate ACTORS Idle) → is_reopen line ≡ false → OneStep (IsIn among) line reply m image v w
+step_of ending line reply v w each image told among m distinct is stays other =
     elim (each image told among m distinct (λ bytes cut. absurd (none_cut_by line reply (opened m image v.faults) refl stays bytes cut)) is) [
-      | inl machine ↦ one_step (IsIn among) line reply m image v w machine
+      | inl machine ↦ one_step (IsIn among) line reply m image v w other machine
       | inr none ↦ absurd (let no = none.none in cc)
     ]
 

@@ -1,6 +1,6 @@
 -- What `run` keeps, from the lines that were run.
 use Rattle.std.proofs.Common.{◌≡◌, ◌⊎◌, inl, inr, ℕ, List, [], ◌∷◌, ◌++◌, IsTrue, Option, Some, None, Result, replicate, refl, sym, ◌∙◌, subst, arith}
-use Rattle.dd_disk.specs.Ending.{Reads, CountsFault, ending_of}
+use Rattle.dd_disk.specs.Ending.{CountsFault, ending_of}
 use Rattle.dd_disk.specs.Shows.{Shows}
 use Rattle.dd_disk.specs.View.{CrashLeaves, DiskView, IsLater, OnlyReads}
 use Rattle.dd_disk.proofs.Later.{later_on, reads_here}
@@ -29,6 +29,7 @@ use Rattle.script_runner.specs.Named.{Account, AllTell, CountFaults, GiveWhatIsN
 use Rattle.script_runner.specs.Opened.{OpenedFollows}
 use Rattle.script_runner.specs.Scripts.{RunsLines, ScriptsFollow}
 use Rattle.script_runner.specs.Frame.{KeepsOver}
+use Rattle.store_core.specs.Opening.{OpensNone}
 use Rattle.store_core.specs.State.{CoreState}
 use Rattle.store_model.specs.Collisions.{IsIn, IsOf}
 use Rattle.store_model.specs.Files.{Stored}
@@ -40,7 +41,8 @@ use Rattle.backup_engine.specs.Frame.{KeepsAll, LinesKeepOthers}
 use Rattle.backup_engine.specs.Lines.{RunsByMachine, RunsEachMap, RunsNone}
 use Rattle.backup_engine.specs.Promise.{LeavesMeanwhile}
 use Rattle.backup_engine.specs.Script as script
-use Rattle.backup_engine.specs.Script.{CountsLines, FailsAlone, IsRunRefusal, IsScriptEnd, KeepsScript, WroteReplies}
+use Rattle.backup_engine.specs.Reopening.{HasNoRoom}
+use Rattle.backup_engine.specs.Script.{CountsLines, FailsAlone, HasLast, IsNotReopened, IsRunRefusal, IsScriptEnd, KeepsScript, WroteReplies}
 use Rattle.backup_engine.specs.ScriptRuns.{EndsReopening, ScriptRun}
 use Rattle.backup_engine.specs.TopCall.{ending_in}
 use Rattle.backup_engine.proofs.WholeCall.{leaves_more, leaves_of}
@@ -50,6 +52,7 @@ use Rattle.backup_engine.proofs.LinesRun.{lines_run}
 use Rattle.backup_engine.proofs.NotDone.{IsUnopened, map_fails}
 use Rattle.backup_engine.proofs.Reading.{reads_leave}
 use Rattle.backup_engine.proofs.UnlikeCopies.{shown_since}
+use Rattle.backup_engine.proofs.Reopened.{room_cause, room_so}
 use Rattle.backup_engine.proofs.Unlent.{open_refusal, reads, shows}
 
 -- ---- what was shown
@@ -229,7 +232,7 @@ module _ (D : Type 0) (view : D → DiskView) (C : Type 0) (state : C → CoreSt
     kept_all image written = inr (record { store = stands.store; right = stands.encodes; reserve = stands.reserve; written = written })
 
     abbrev kept_lines : KnownWith last.content (KeepsOver run.rs stands.store base) × CrashLeaves (KeepsOver run.rs stands.store base) found last
-    kept_lines = keep run.rs stands.store base r s unswept stands.on stands.told stands.encodes run.runs
+    kept_lines = keep run.rs stands.store base r s unswept stands.on stands.told stands.encodes stands.reserve run.runs
 
     crashed : LeavesMeanwhile (KeepsAll run.rs base) v w
     crashed = leaves_more (KeepsOver run.rs stands.store base) (KeepsAll run.rs base) v w kept_all (leaves_of C state v w r.core s.core called (KeepsOver run.rs stands.store base) later kept_lines.1)
@@ -242,13 +245,14 @@ module _ (D : Type 0) (view : D → DiskView) (C : Type 0) (state : C → CoreSt
 
   -- ---- a `reopen` that was refused
 
-  module _ (mid : RunnerState C) (way : IsLater found (state mid.core).disk) where
-    abbrev here : DiskView
-    here = (state mid.core).disk
+  abbrev Unopened : Refusal → Type 0
+  Unopened refusal = IsOpenRefusal (ReadsSince v w) v.size refusal ⊎ HasNoRoom (ReadsSince v w) v.size refusal
 
-    shown_in_call : (refusal : Refusal) → Reads (ending_of (blames refusal)) here last → (P : List ℕ → Type 0) → Shows here last P → ReadsSince v w P
-    shown_in_call refusal reads P shown =
-        let since = shown_since v here last (later_on v found here called.first.only.later way) reads.only.content_is P shown in
+  -- from a disk that was so then, and still is what reads give
+  module _ (here : DiskView) (way : IsLater found here) (still : last.content ≡ here.content) where
+    shown_in_call : (P : List ℕ → Type 0) → Shows here last P → ReadsSince v w P
+    shown_in_call P shown =
+        let since = shown_since v here last (later_on v found here called.first.only.later way) still P shown in
         record {
           parts = since.parts;
           returned = all_then (λ part. last.read_returned v.clock part.at part.bytes) (λ part. w.read_returned v.clock part.at part.bytes) since.parts
@@ -257,14 +261,34 @@ module _ (D : Type 0) (view : D → DiskView) (C : Type 0) (state : C → CoreSt
           shows = since.shows;
         }
 
-    cause_in_call : (refusal : Refusal) → RefusesReopen C state refusal mid.core s.core → IsOpenRefusal (ReadsSince v w) v.size refusal
-    cause_in_call refusal refused = elim refused.why [
-      | inl memory ↦ subst (λ (x : Refusal). IsOpenRefusal (ReadsSince v w) v.size x) (sym memory.0) tt
-      | inr why ↦
-          let size_is : here.size ≡ v.size = way.size_is ∙ called.first.only.later.size_is in
-          subst (λ (n : ℕ). IsOpenRefusal (ReadsSince v w) n refusal) size_is
-          (open_refusal (Shows here last) (ReadsSince v w) (shown_in_call refusal why.2) here.size refusal why.0)
-    ]
+    size_here : here.size ≡ v.size
+    size_here = way.size_is ∙ called.first.only.later.size_is
+
+    opening_cause : (refusal : Refusal) → IsOpenRefusal (Shows here last) here.size refusal → IsOpenRefusal (ReadsSince v w) v.size refusal
+    opening_cause refusal is =
+        subst (λ (n : ℕ). IsOpenRefusal (ReadsSince v w) n refusal) size_here (open_refusal (Shows here last) (ReadsSince v w) shown_in_call here.size refusal is)
+
+    either_cause : (refusal : Refusal) → IsOpenRefusal (Shows here last) here.size refusal ⊎ HasNoRoom (Shows here last) here.size refusal → Unopened refusal
+    either_cause refusal (inl is) = inl (opening_cause refusal is)
+    either_cause refusal (inr is) = inr (subst (λ (n : ℕ). HasNoRoom (ReadsSince v w) n refusal) size_here (room_so (Shows here last) (ReadsSince v w) here.size shown_in_call refusal is))
+
+  free_write : (refusal : Refusal) → refusal ≡ DiskWrite → Unopened refusal
+  free_write refusal is = inl (subst (λ (x : Refusal). IsOpenRefusal (ReadsSince v w) v.size x) (sym is) tt)
+
+  none_cause : (refusal : Refusal) (here : DiskView) → IsLater found here → OpensNone C (λ c. (state c).disk) refusal here last → Unopened refusal
+  none_cause refusal here way (inl (unread, not)) = inl (opening_cause here way unread.reads.only.content_is refusal unread.cause)
+  none_cause refusal here way (inr (inl (x, (room, unread)))) =
+      inl (opening_cause (state x).disk (later_on found here (state x).disk way room.later) unread.reads.only.content_is refusal unread.cause)
+  none_cause refusal here way (inr (inr unmade)) = elim unmade.only [
+    | inl write ↦ free_write refusal write
+    | inr only ↦ either_cause here way only.content_is refusal (room_cause here last unmade.short refusal unmade.cause)
+  ]
+
+  cause_in_call : (mid : RunnerState C) → IsLater found (state mid.core).disk → (refusal : Refusal) → RefusesReopen C state refusal mid.core s.core → Unopened refusal
+  cause_in_call mid way refusal refused = elim refused.why [
+    | inl memory ↦ inl (subst (λ (x : Refusal). IsOpenRefusal (ReadsSince v w) v.size x) (sym memory.0) tt)
+    | inr why ↦ none_cause refusal (state mid.core).disk way why.0
+  ]
 
   reopening : (refusal : Refusal) → EndsReopening run.rs refusal → IsRunRefusal run.rs v w source source_now refusal
   reopening refusal ends =
@@ -345,11 +369,15 @@ module _ (loans loans_now : List ℕ) (v w : DiskView) where
     | inr none ↦ inr (runs_none ending rs none)
   ]
 
+  cause_unlent : (refusal : Refusal) → IsOpenRefusal (ReadsSince lent lent_now) v.size refusal ⊎ HasNoRoom (ReadsSince lent lent_now) v.size refusal → IsOpenRefusal (ReadsSince v w) v.size refusal ⊎ HasNoRoom (ReadsSince v w) v.size refusal
+  cause_unlent refusal (inl is) = inl (open_refusal (ReadsSince lent lent_now) (ReadsSince v w) (reads loans loans_now v w) v.size refusal is)
+  cause_unlent refusal (inr is) = inr (room_so (ReadsSince lent lent_now) (ReadsSince v w) v.size (reads loans loans_now v w) refusal is)
+
   not_opened : (refusal : Refusal) (rs : List Replied) (source source_now : SourceView) → IsRunRefusal rs lent lent_now source source_now refusal → IsRunRefusal rs v w source source_now refusal
   not_opened refusal rs source source_now (inl is) =
       inl (record { none = is.none; cause = open_refusal (Shows lent lent_now) (Shows v w) (shows loans loans_now v w) v.size refusal is.cause; left_is = is.left_is })
   not_opened refusal rs source source_now (inr is) =
-      inr (record { before = is.before; has_last = is.has_last; cause = open_refusal (ReadsSince lent lent_now) (ReadsSince v w) (reads loans loans_now v w) v.size refusal is.cause })
+      inr (record { before = is.before; has_last = is.has_last; cause = cause_unlent refusal is.cause })
 
   shown_unlent : (store : Store) → WasShown lent lent_now store → WasShown v w store
   shown_unlent store is = record { parts = is.parts; returned = is.returned; shows = is.shows }

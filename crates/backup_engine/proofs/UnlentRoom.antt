@@ -2,7 +2,7 @@
 use Rattle.std.proofs.Common.{◌≡◌, inl, inr, List, [], ◌∷◌, ℕ, Option, Some}
 use Rattle.container_meta.specs.Places.{PlaceMap}
 use Rattle.dd_disk.specs.Shows.{Shows}
-use Rattle.dd_disk.specs.View.{CrashLeaves, DiskView}
+use Rattle.dd_disk.specs.View.{CrashLeaves, DiskView, OnlyReads}
 use Rattle.disk_format.specs.declared.why.Why.{Why}
 use Rattle.merkle_file.specs.declared.top.Top.{Top}
 use Rattle.read_steps.specs.Visiting.{HasPlace, IsVisitRefusal}
@@ -98,16 +98,26 @@ module _ (loans loans_now : List ℕ) (v w : DiskView) where
   frees_back is refusal freed (inl none) = inl none
   frees_back is refusal freed (inr some) = inr (some.0, (walk_back is some.1.0, some.1.1))
 
+  only_back : v.loans ≡ w.loans → OnlyReads lent lent_now → OnlyReads v w
+  only_back same only = record {
+    later = later_back loans loans_now v w same only.later;
+    content_is = only.content_is;
+    images_are = only.images_are;
+    since_are = only.since_are;
+  }
+
   pub unmade_back : (refusal : Refusal) → v.loans ≡ w.loans → RoomUnmade refusal lent lent_now → RoomUnmade refusal v w
   unmade_back refusal same unmade = record {
     later = later_back loans loans_now v w same unmade.later;
     faults_are = unmade.faults_are;
     short = short_back unmade.short;
     cause = refusal_back unmade.short refusal unmade.cause;
+    only = elim unmade.only [ inl write ↦ inl write | inr reads ↦ inr (only_back same reads) ];
     freed = unmade.freed;
     frees = frees_back unmade.short refusal unmade.freed unmade.frees;
     content = unmade.content;
     images = unmade.images;
     crash = λ given told. crashes_back _ (unmade.crash given told);
     files = unmade.files;
+    spares = unmade.spares;
   }

@@ -1,5 +1,5 @@
 -- Lines over a store for which room was made, or was there, of all of the call: they are a run of the plain machine.
-use Rattle.std.proofs.Common.{◌≡◌, inl, inr, ◌≤◌, ℕ, IsTrue, List, [], ◌∷◌, Option, Some, refl, ◌∙◌, subst, arith}
+use Rattle.std.proofs.Common.{◌≡◌, inl, inr, ◌≤◌, ℕ, Bool, true, false, IsTrue, List, [], ◌∷◌, Option, Some, refl, ◌∙◌, subst, arith}
 use Rattle.dd_disk.specs.View.{DiskView}
 use Rattle.plain_machine.specs.Machine.{Machine, opened}
 use Rattle.plain_machine.specs.Runs.{IsPassedFrom, MachineRun, Replied}
@@ -8,9 +8,10 @@ use Rattle.recovery.specs.Room.{IsNotFull, RoomMade, RoomUnmade}
 use Rattle.refusals.specs.declared.refusal.Refusal.{Refusal}
 use Rattle.reply_text.specs.declared.ending.Ending.{Ending}
 use Rattle.reply_text.specs.declared.ending.Ending.TheVariants.{Refused}
-use Rattle.script_runner.specs.Scripts.{IsCutBy}
+use Rattle.script_runner.specs.Follows.{IsImageBy}
+use Rattle.script_runner.specs.Scripts.{IsCutBy, reopens}
 use Rattle.store_core.specs.Opening.{IsNotRead}
-use Rattle.store_model.specs.Collisions.{ByteSet, IsIn, IsOf, OpensAs}
+use Rattle.store_model.specs.Collisions.{ByteSet, IsIn, OpensAs}
 use Rattle.store_model.specs.Files.{Stored}
 use Rattle.store_model.proofs.FreedFiles.{opens_of}
 use Rattle.store_state.specs.Refused.{fails}
@@ -43,6 +44,11 @@ module _ (S : List ℕ → Type 0) (rs : List Replied) (m : Stored) (start : Lis
   abbrev Goes : DiskView → DiskView → ℕ → Type 0
   Goes v w faults = (last : Machine) × ((run : MachineRun rs (opened m start faults) last) × ((moments : List ℕ) × HoldsThrough (OpensAs S) moments rs (opened m start faults) last run v w))
 
+  -- an image that has its reserve, or may have to have it made
+  opens_by : (b : Bool) (found : Stored) (image : List ℕ) → IsImageBy b S found image → OpensAs S found image
+  opens_by true found image is = is
+  opens_by false found image is = opens_of S found image is
+
   pub runs_weaker : (v w : DiskView) → RunsByMachine S rs m start v w → RunsBy (OpensAs S) rs m start v w
   runs_weaker v w runs =
       let through = runs.through in
@@ -53,9 +59,9 @@ module _ (S : List ℕ → Type 0) (rs : List Replied) (m : Stored) (start : Lis
         through = record {
           many = through.many;
           rise = through.rise;
-          since = λ t c within below image. elim (through.since t c within below image) [ inl was ↦ inl was | inr some ↦ inr (more_some (IsOf S) (OpensAs S) (opens_of S) _ c some) ];
-          crash = λ i t c is below image. more_some (IsOf S) (OpensAs S) (opens_of S) _ c (through.crash i t c is below image);
-          now = λ c image. more_some (IsOf S) (OpensAs S) (opens_of S) _ c (through.now c image);
+          since = λ t c within below image. elim (through.since t c within below image) [ inl was ↦ inl was | inr some ↦ inr (more_some (IsImageBy (reopens rs) S) (OpensAs S) (opens_by (reopens rs)) _ c some) ];
+          crash = λ i t c is below image. more_some (IsImageBy (reopens rs) S) (OpensAs S) (opens_by (reopens rs)) _ c (through.crash i t c is below image);
+          now = λ c image. more_some (IsImageBy (reopens rs) S) (OpensAs S) (opens_by (reopens rs)) _ c (through.now c image);
           content = through.content;
           faults = through.faults;
         };

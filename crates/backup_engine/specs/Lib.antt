@@ -12,6 +12,7 @@ pub mod Naming
 pub mod PlainMap
 pub mod Promise
 pub mod Putting
+pub mod Reopening
 pub mod Running
 pub mod Saying
 pub mod Script

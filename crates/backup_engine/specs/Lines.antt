@@ -10,7 +10,8 @@ use Rattle.reply_text.specs.declared.ending.Ending.{Ending}
 use Rattle.reply_text.specs.declared.ending.Ending.TheVariants.{Refused}
 use Rattle.script_lines.specs.Grammar.{LineValue}
 use Rattle.script_lines.specs.ReplyText.{reply_line}
-use Rattle.script_runner.specs.Scripts.{IsCutBy}
+use Rattle.script_runner.specs.Follows.{IsImageBy}
+use Rattle.script_runner.specs.Scripts.{IsCutBy, reopens}
 use Rattle.store_model.specs.Collisions.{HasNoCollisions, ByteSet, IsIn, IsOf}
 use Rattle.store_model.specs.Files.{Stored}
 use Rattle.store_state.specs.Refused.{fails}
@@ -33,9 +34,9 @@ pub record RunsBy (Is : Stored → List ℕ → Type 0) (rs : List Replied) (m :
   pub moments : List ℕ
   pub through : HoldsThrough Is moments rs (opened m image disk.faults) last run disk disk_now
 
--- the same, of images with two closed slots or more
+-- The same, of images of stores that have their reserve; where the store is opened again between them, it may have to be made.
 abbrev pub RunsByMachine : (List ℕ → Type 0) → List Replied → Stored → List ℕ → DiskView → DiskView → Type 0
-RunsByMachine S rs m image disk disk_now = RunsBy (IsOf S) rs m image disk disk_now
+RunsByMachine S rs m image disk disk_now = RunsBy (IsImageBy (reopens rs) S) rs m image disk disk_now
 
 -- No line was run: there was no memory, or a call of the disk failed, as the store was opened. Nothing was written.
 pub record RunsNone (ending : Option Ending) (rs : List Replied) (disk disk_now : DiskView) : Type 0 where

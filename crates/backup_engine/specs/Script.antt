@@ -28,6 +28,7 @@ use Rattle.store_state.specs.Refused.{blames, fails}
 use Rattle.backup_engine.specs.AnyDisk.{ReadsSince}
 use Rattle.backup_engine.specs.Frame.{LinesKeepOthers}
 use Rattle.backup_engine.specs.Lines.{RunsEachMap, lines_of, printed}
+use Rattle.backup_engine.specs.Reopening.{HasNoRoom}
 
 -- ---- what was written
 
@@ -68,11 +69,12 @@ pub record IsNotOpened (refusal : Refusal) (rs : List Replied) (disk disk_now : 
   pub cause : IsOpenRefusal (Shows disk disk_now) disk.size refusal
   pub left_is : source_now.left ≡ source.left
 
--- the last line was a `reopen`, and the store was not opened again, for its cause, as was replied
+-- The last line was a `reopen`, and the store was not opened again, for its cause, as was replied: as it was read, perhaps once room was
+-- made, or as room was to be made.
 pub record IsNotReopened (refusal : Refusal) (rs : List Replied) (disk disk_now : DiskView) : Type 0 where
   pub before : List Replied
   pub has_last : HasLast rs before (record { line = lines.Reopen; reply = replies.Refused refusal })
-  pub cause : IsOpenRefusal (ReadsSince disk disk_now) disk.size refusal
+  pub cause : IsOpenRefusal (ReadsSince disk disk_now) disk.size refusal ⊎ HasNoRoom (ReadsSince disk disk_now) disk.size refusal
 
 -- why `run` is refused, by a refusal that is no want of memory
 abbrev pub IsRunRefusal : List Replied → DiskView → DiskView → SourceView → SourceView → Refusal → Type 0

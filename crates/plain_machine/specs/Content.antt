@@ -170,9 +170,9 @@ pub record MadeRoom (files : Files) (old new : List ℕ) : Type 0 where
   pub now : Encodes new after
   pub rest : SameButGates freed old new
 
--- It is, or there was enough.
+-- It is; or there was, as two slots were closed.
 abbrev pub MakesRoom : Files → List ℕ → List ℕ → Type 0
-MakesRoom files old new = (new ≡ old) ⊎ MadeRoom files old new
+MakesRoom files old new = ((new ≡ old) × OfStore old (λ store. RESERVE ≤ free_slots store.held)) ⊎ MadeRoom files old new
 
 -- It was begun: of such containers the first were given back, or none.
 pub record BeganRoom (files : Files) (old new : List ℕ) : Type 0 where

@@ -315,7 +315,7 @@ module _ (C : Type 0) (state : C → CoreState) (among : ByteSet) (m : Machine) 
       → GoesUnless C state S lines.Reopen (replies.Opened files) m r s
   opened_line files acts (inl read) =
       let right = shown_content before.disk (state acts.mid).disk (λ bytes. Encodes bytes read.opened.store) m.content read.opened.right follows.content_is in
-      opened_from files acts before.disk read m.content follows.content_is (reserved among found m.content opens read.opened.store right read.opened.reserve) (inl refl) refl (omega arith)
+      opened_from files acts before.disk read m.content follows.content_is (reserved among found m.content opens read.opened.store right read.opened.reserve) (inl (refl, (read.opened.store, (right, read.opened.reserve)))) refl (omega arith)
       (λ c there. inl (images_found c there)) (reads_leave (Left (opened found m.content m.faults)) before.disk before.disk (λ c there. inl (images_found c there)) (reads_here before.disk))
   opened_line files acts (inr (x, (room, read))) =
       let v = disk_of x in

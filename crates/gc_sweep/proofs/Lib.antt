@@ -1,0 +1,7 @@
+pub mod Arrives
+pub mod Begun
+pub mod Copied
+pub mod CopyKeeps
+pub mod OnDisk
+pub mod Taken
+pub mod Written

@@ -1,0 +1,31 @@
+-- The slots of a running store, by its tables, and its disk.
+use Rattle.std.proofs.Common.{◌≡◌, ℕ, ◌+◌, ◌<◌, ◌≤◌, length, Option, ap, ◌∙◌, arith}
+use Rattle.std.proofs.lemmas.List.{length-map}
+use Rattle.container_meta.specs.Places.{PlaceMap}
+use Rattle.disk_format.specs.declared.numbers.TheConstants.{MOST_SLOTS, SLOT_BYTES}
+use Rattle.disk_format.specs.Layout.{slot_at}
+use Rattle.store_model.proofs.Free.{as_many}
+use Rattle.store_state.specs.Indexing.{IsOfSlots}
+use Rattle.store_state.specs.Tables.{Runs, count_of}
+use Rattle.store_state.specs.declared.tables.Tables.{Tables}
+
+module _ (size : ℕ) (known : Option PlaceMap) (t : Tables) (runs : Runs size known t) where
+  -- each slot has an id
+  pub slots_there : length t.held.ids.items ≡ runs.store.slots
+  slots_there = ap length runs.represents.slots_hold.ids_are ∙ as_many runs.store.held ∙ runs.valid.many
+
+  pub few_slots : length t.held.ids.items ≤ MOST_SLOTS
+  few_slots = omega (arith, slots_there, runs.valid.count.1)
+
+  -- and a count
+  pub counts_many : length t.held.counts.items ≡ length t.held.ids.items
+  counts_many =
+      let held = runs.store.held in
+      omega (arith, ap length runs.represents.slots_hold.counts_are, length-map held count_of, ap length runs.represents.slots_hold.ids_are, as_many held)
+
+  -- a slot lies on the disk
+  pub slot_fits : (slot : ℕ) → slot < length t.held.ids.items → slot_at slot + SLOT_BYTES ≤ size
+  slot_fits slot within = omega (arith, slots_there, runs.valid.size_is, within)
+
+  pub of_slots : IsOfSlots size
+  of_slots = record { slots = runs.store.slots; size_is = runs.valid.size_is }

@@ -1,0 +1,5 @@
+pub mod Beginning
+pub mod Copying
+pub mod Flushing
+pub mod Next
+pub mod UnderWay

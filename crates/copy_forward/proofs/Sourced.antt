@@ -1,5 +1,5 @@
 -- A container whose header was read, and then planned.
-use Rattle.std.proofs.Common.{◌≡◌, inl, inr, ℕ, [], drop, List, Option, None, Some, refl, subst, sym}
+use Rattle.std.proofs.Common.{◌≡◌, inl, inr, ℕ, ◌≤◌, [], drop, length, List, Option, None, Some, refl, subst, sym}
 use Rattle.container_meta.specs.Places.{PlaceMap}
 use Rattle.container_meta.specs.Segments.{Contents}
 use Rattle.container_meta.specs.Spelling.{HeaderValue, IsHeader}
@@ -41,11 +41,13 @@ module _ (known mid_known : Option PlaceMap) (live : LiveKeys) (slot from : ℕ)
     );
   }
 
-  pub unplanned_after : (refusal : Refusal) → IsPlanRefusal (source_of mid_known live slot h.kind) (Shows mid new) (drop from h.entries) (planned buffer []) refusal
+  pub unplanned_after : (refusal : Refusal) → h.kind ≡ buffer.kind → from ≤ length h.entries → IsPlanRefusal (source_of mid_known live slot h.kind) (Shows mid new) (drop from h.entries) (planned buffer []) refusal
       → IsSourceRefusal known live slot from buffer old new refusal
-  unplanned_after refusal is = inr (
+  unplanned_after refusal kind few is = inr (
     h,
     header_shown,
+    kind,
+    few,
     plan_refused_wider (Shows mid new) (Shows old new) (λ P. since old mid new reads) source (drop from h.entries) (planned buffer []) refusal
         (subst (λ (k : Option PlaceMap). IsPlanRefusal (source_of k live slot h.kind) (Shows mid new) (drop from h.entries) (planned buffer []) refusal) same is),
   )

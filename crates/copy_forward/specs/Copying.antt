@@ -1,5 +1,5 @@
 -- What becomes of the entries of a container whose live copies are put into another (docs/MODEL.md, 'Copying').
-use Rattle.std.specs.Prelude.{◌≡◌, ◌≢◌, ◌⊎◌, ◌<◌, ℕ, [], drop, length, List, Option, None, Some}
+use Rattle.std.specs.Prelude.{◌≡◌, ◌≢◌, ◌⊎◌, ◌<◌, ◌≤◌, ℕ, [], drop, length, List, Option, None, Some}
 use Rattle.container_meta.specs.Places.{PlaceMap}
 use Rattle.container_meta.specs.Segments.{Contents}
 use Rattle.container_meta.specs.Spelling.{HeaderValue, IsHeader}
@@ -36,11 +36,11 @@ abbrev pub Forgets : Option PlaceMap → Option PlaceMap → Option Plan → Typ
 Forgets known after None = after ≡ known
 Forgets known after (Some plan) = KnownMap known (λ m. after ≡ Some (without_keys plan.dead.items m)) × Stays known after
 
--- why nothing is planned: of its header, or, by that, of its entries
+-- why nothing is planned: of its header, or, by that, which is the one of before, of its entries
 abbrev pub IsSourceRefusal : Option PlaceMap → LiveKeys → ℕ → ℕ → Contents → DiskView → DiskView → Refusal → Type 0
 IsSourceRefusal known live slot from buffer old new refusal =
     IsHeaderRefusal old new slot refusal
-    ⊎ ((h : HeaderValue) × Shows old new (λ image. HoldsSlot image slot (Some h))
+    ⊎ ((h : HeaderValue) × Shows old new (λ image. HoldsSlot image slot (Some h)) × (h.kind ≡ buffer.kind) × (from ≤ length h.entries)
     × IsPlanRefusal (source_of known live slot h.kind) (Shows old new) (drop from h.entries) (planned buffer []) refusal)
 
 -- or why it is not done

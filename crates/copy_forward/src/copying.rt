@@ -19,8 +19,8 @@ use refusals::Refusal;
 use segment_index::Index;
 use std::alloc::Global;
 
-// Whether two kinds are one.
-fn same_kind(a: Kind, b: Kind) -> bool
+/// Whether two kinds are one.
+pub fn same_kind(a: Kind, b: Kind) -> bool
     ensures { IsTrue result ↔ (a ≡ b) }
 {
     matches!((a, b), (Kind::Leaf, Kind::Leaf) | (Kind::Tree, Kind::Tree))

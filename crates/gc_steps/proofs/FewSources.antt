@@ -11,7 +11,8 @@ use Rattle.store_state.specs.Tables.{IsFirstFree, RepresentsSlots}
 use Rattle.store_state.specs.declared.slot_table.SlotTable.{SlotTable}
 use Rattle.gc_steps.specs.declared.collection.Collection.{Collection}
 use Rattle.gc_steps.specs.Filtering.{Chooses}
-use Rattle.gc_steps.specs.Stages.{is_old, is_old_slot}
+use Rattle.gc_sweep.specs.UnderWay.{is_old}
+use Rattle.gc_steps.specs.Stages.{is_old_slot}
 use Rattle.gc_steps.specs.StepsToCome.{count_from, old_from}
 use Rattle.gc_steps.specs.UnderWay.{IsRecordedTo, IsUnderWay, old_ids}
 use Rattle.container_meta.specs.Places.{PlaceMap}

@@ -21,7 +21,7 @@ use Rattle.gc_steps.specs.declared.collection.Stage.TheVariants.{Copy as CopySta
 use Rattle.gc_steps.specs.LiveTrees.{IsLive, HoldsNode}
 use Rattle.gc_steps.specs.Stages.{sweep_from}
 use Rattle.gc_steps.specs.SweepIsSafe.{SweepIsSafe, IsReadySource, ReleasesReady}
-use Rattle.gc_steps.proofs.Released.{none_held}
+use Rattle.gc_sweep.proofs.Released.{none_held}
 
 -- no bytes of a segment are the gate of a slot
 segment_same : (slot : ℕ) (place : Place) (old new : List ℕ) → SameOutside (slot_at slot) 1 old new → place.offset + place.length ≤ 212480 → bytes_at place new ≡ bytes_at place old

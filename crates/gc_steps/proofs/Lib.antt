@@ -26,7 +26,6 @@ pub mod PinnedTrees
 pub mod ReaderNeeds
 pub mod Recorded
 pub mod RefusedSafe
-pub mod Released
 pub mod RootTrees
 pub mod RootsAfter
 pub mod Safe

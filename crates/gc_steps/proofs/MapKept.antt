@@ -8,7 +8,7 @@ use Rattle.disk_format.specs.Layout.{size_of, slot_at}
 use Rattle.segment_index.specs.Changes.{SameFrom}
 use Rattle.store_state.specs.Tables.{Runs}
 use Rattle.store_state.specs.declared.tables.Tables.{Tables}
-use Rattle.gc_steps.proofs.Released.{slots_there}
+use Rattle.gc_sweep.proofs.OnDisk.{slots_there}
 
 pub map_kept : (places : Option (List ℕ) → Option PlaceMap) (owned_from : ℕ → ℕ)
     → ((a b : List ℕ) → SameFrom (owned_from (length a)) a b → places (Some b) ≡ places (Some a))

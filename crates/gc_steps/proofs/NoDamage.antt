@@ -52,7 +52,8 @@ use Rattle.copy_forward.specs.Entries.{IsHeaderRefusal}
 use Rattle.gc_steps.specs.Marking.{IsEntriesFault, IsMarkRefusal, scan_for}
 use Rattle.gc_steps.specs.MarksAreClosed.{MarksAreClosed}
 use Rattle.gc_steps.specs.Scanning.{ShowsAt, step_refusal}
-use Rattle.gc_steps.specs.Stages.{is_old, is_old_slot}
+use Rattle.gc_sweep.specs.UnderWay.{is_old}
+use Rattle.gc_steps.specs.Stages.{is_old_slot}
 use Rattle.gc_steps.specs.Stepping.{IsStepRefusal, moment}
 use Rattle.gc_steps.specs.UnderWay.{HasStage, IsUnderWay}
 use Rattle.gc_steps.proofs.NoneMissing.{never_missing}

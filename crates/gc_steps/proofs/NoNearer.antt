@@ -12,7 +12,8 @@ use Rattle.store_state.proofs.Taken.{counts_with, ids_with}
 use Rattle.gc_steps.specs.declared.collection.Collection.{Collection}
 use Rattle.gc_steps.specs.declared.collection.Stage.{Stage}
 use Rattle.gc_steps.specs.declared.collection.Stage.TheVariants.{Mark, Filter, Select, Copy, Release, End}
-use Rattle.gc_steps.specs.Stages.{is_old, is_old_slot, is_tree, is_tree_slot}
+use Rattle.gc_sweep.specs.UnderWay.{is_old}
+use Rattle.gc_steps.specs.Stages.{is_old_slot, is_tree, is_tree_slot}
 use Rattle.gc_steps.specs.StepsToCome.{count_from, old_from, steps_at, steps_to_come}
 use Rattle.gc_steps.specs.UnderWay.{IsUnderWay}
 

@@ -13,7 +13,8 @@ use Rattle.store_state.proofs.Taken.{counts_with, ids_with}
 use Rattle.gc_steps.specs.declared.collection.Collection.{Collection}
 use Rattle.gc_steps.specs.declared.collection.Stage.{Stage}
 use Rattle.gc_steps.specs.declared.collection.Stage.TheVariants.{Mark, Filter, Select, Copy, Release, End}
-use Rattle.gc_steps.specs.Stages.{is_old, is_old_slot, is_tree, is_tree_slot}
+use Rattle.gc_sweep.specs.UnderWay.{is_old}
+use Rattle.gc_steps.specs.Stages.{is_old_slot, is_tree, is_tree_slot}
 use Rattle.gc_steps.specs.UnderWay.{AreSourcesLeft, HasStage, IsSlot, IsUnderWay, old_ids}
 use Rattle.gc_steps.proofs.UnderWay.{contains_set, old_not_zero}
 

@@ -42,10 +42,10 @@ use Rattle.gc_steps.specs.Stages.{filter_from, is_old_slot, mark_from, mark_leve
 use Rattle.gc_steps.specs.Stepping.{StepsTo, moment}
 use Rattle.gc_steps.specs.UnderWay.{IsUnderWay}
 use Rattle.gc_steps.specs.Fresh.{IsAsLive}
-use Rattle.gc_steps.specs.SweepIsSafe.{HasNoEntryIn}
+use Rattle.gc_sweep.specs.Releasing.{HasNoEntryIn}
 use Rattle.store_model.specs.Reserve.{HoldsNone, IsReachable, IsSpare}
 use Rattle.store_state.specs.Invariant.{IndexesFiles}
-use Rattle.gc_steps.proofs.Released.{none_held}
+use Rattle.gc_sweep.proofs.Released.{none_held}
 use Rattle.gc_steps.proofs.UnderWay.{at_stage}
 use Rattle.std.specs.FinMap as finite
 use Rattle.gc_steps.proofs.FirstStage.{id_below, id_there, old_there}

@@ -41,11 +41,13 @@ use Rattle.gc_steps.specs.Filtering.{Chooses, Records}
 use Rattle.gc_steps.specs.LiveTrees.{IsLive, IsWhole}
 use Rattle.gc_steps.specs.Marking.{Scans}
 use Rattle.gc_steps.specs.MarksAreClosed.{MarksAreClosed}
-use Rattle.gc_steps.specs.Releasing.{HasFreed}
+use Rattle.gc_sweep.specs.Releasing.{HasFreed}
 use Rattle.gc_steps.specs.Safety.{IsNeeded, IsSafe, IsSafeAt}
-use Rattle.gc_steps.specs.Stages.{filter_at, first_slot, is_old, is_old_slot, mark_from, sweep_from}
+use Rattle.gc_sweep.specs.UnderWay.{is_old}
+use Rattle.gc_steps.specs.Stages.{filter_at, first_slot, is_old_slot, mark_from, sweep_from}
 use Rattle.gc_steps.specs.Stepping.{StepsTo, TablesAfter, Touches, moment}
-use Rattle.gc_steps.specs.SweepIsSafe.{HasNoEntryIn, IsReadySource, ReleasesReady, SweepIsSafe}
+use Rattle.gc_sweep.specs.Releasing.{HasNoEntryIn}
+use Rattle.gc_steps.specs.SweepIsSafe.{IsReadySource, ReleasesReady, SweepIsSafe}
 use Rattle.gc_steps.specs.UnderWay.{IsUnderWay}
 use Rattle.gc_steps.proofs.ChildTrees.{children_whole}
 use Rattle.gc_steps.proofs.FirstStage.{id_there}
@@ -57,7 +59,7 @@ use Rattle.gc_steps.proofs.RootTrees.{whole_indexed}
 use Rattle.gc_steps.proofs.Safe.{early_from, marks_safe, restaged, sweep_safe}
 use Rattle.gc_steps.proofs.ScanKeeps.{scan_keeps}
 use Rattle.gc_steps.proofs.Started.{root_whole}
-use Rattle.gc_steps.proofs.Released.{none_held}
+use Rattle.gc_sweep.proofs.Released.{none_held}
 use Rattle.gc_steps.proofs.Swept.{had_before, live_after, partial_after, swept}
 use Rattle.gc_steps.proofs.UnderWay.{at_stage}
 

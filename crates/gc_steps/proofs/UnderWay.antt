@@ -24,8 +24,9 @@ use Rattle.gc_steps.specs.declared.collection.Collection.{Collection}
 use Rattle.gc_steps.specs.declared.collection.Stage.{Stage}
 use Rattle.gc_steps.specs.declared.collection.Stage.TheVariants.{Mark, Filter, Select, Copy, Release, End}
 use Rattle.gc_steps.specs.Filtering.{Chooses, recorded, recorded_by}
-use Rattle.gc_steps.specs.Releasing.{HasFreed}
-use Rattle.gc_steps.specs.Stages.{first_from, first_slot, filter_at, filter_from, is_old, is_old_slot, is_tree_slot, mark_at, mark_from, mark_level, mark_on, sweep_from}
+use Rattle.gc_sweep.specs.Releasing.{HasFreed}
+use Rattle.gc_sweep.specs.UnderWay.{is_old}
+use Rattle.gc_steps.specs.Stages.{first_from, first_slot, filter_at, filter_from, is_old_slot, is_tree_slot, mark_at, mark_from, mark_level, mark_on, sweep_from}
 use Rattle.gc_steps.specs.UnderWay.{AreSourcesLeft, HasStage, IsRecordedTo, IsUnderWay, old_ids}
 
 pub at_stage : (t : SlotTable) (c : Collection) (stage : Stage) → IsUnderWay t c → c.stage ≡ stage → HasStage t c stage

@@ -6,7 +6,6 @@ pub mod Laws
 pub mod LiveTrees
 pub mod Marking
 pub mod MarksAreClosed
-pub mod Releasing
 pub mod Roots
 pub mod Safety
 pub mod Scanning

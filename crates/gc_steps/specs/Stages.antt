@@ -1,16 +1,13 @@
 -- What the steps of a collection do, one after the other (docs/MODEL.md, 'Collection').
-use Rattle.std.specs.Prelude.{ℕ, zero, suc, ◌+◌, ◌-◌, ◌==◌, ◌&&◌, not, nat_lt, if◌then◌else◌, Bool, false, List, length, get_or, slice_get, Option, None, Some}
+use Rattle.std.specs.Prelude.{ℕ, zero, suc, ◌+◌, ◌-◌, ◌==◌, ◌&&◌, nat_lt, if◌then◌else◌, Bool, false, List, length, get_or, slice_get, Option, None, Some}
 use Rattle.container_meta.specs.Format.{kind_byte}
 use Rattle.store_state.specs.declared.slot_table.SlotCount.{SlotCount}
 use Rattle.store_state.specs.declared.slot_table.SlotTable.{SlotTable}
+use Rattle.gc_sweep.specs.UnderWay.{is_old}
 use Rattle.gc_steps.specs.declared.collection.Stage.{Stage}
 use Rattle.gc_steps.specs.declared.collection.Stage.TheVariants.{Mark, Filter, Select, Copy, End}
 
 -- ---- the containers that a collection goes over
-
--- a container of this id was there when the collection began
-abbrev pub is_old : ℕ → ℕ → Bool
-is_old snapshot id = not (id == 0) && nat_lt id snapshot
 
 abbrev pub is_tree : Option SlotCount → Bool
 is_tree None = false

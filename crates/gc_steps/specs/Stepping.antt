@@ -22,9 +22,9 @@ use Rattle.gc_steps.specs.declared.phase.StepDone.TheVariants.{Did, Done}
 use Rattle.gc_steps.specs.Copying.{Takes, IsSourceRefusal, IsTakeRefusal, MapStays}
 use Rattle.gc_steps.specs.Filtering.{Records, Chooses}
 use Rattle.gc_steps.specs.Marking.{Scans, IsMarkRefusal, KeepsMarks}
-use Rattle.gc_steps.specs.Releasing.{HasFreed, GivesBack, ChangesGateAlone}
+use Rattle.gc_sweep.specs.Releasing.{HasFreed, GivesBack, ChangesGateAlone}
 use Rattle.gc_steps.specs.Stages.{sweep_from}
-use Rattle.gc_steps.specs.SweepIsSafe.{HasNoEntryIn}
+use Rattle.gc_sweep.specs.Releasing.{HasNoEntryIn}
 
 -- ---- what it is called
 

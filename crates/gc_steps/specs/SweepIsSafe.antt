@@ -1,9 +1,7 @@
 -- What holds at every moment once a collection has marked (docs/MODEL.md, 'Collection').
-use Rattle.std.specs.Prelude.{◌≡◌, ◌≢◌, ◌<◌, ◌≤◌, ℕ, List, Option, Some, slice_get}
-use Rattle.std.specs.FinMap as finite
+use Rattle.std.specs.Prelude.{◌≡◌, ◌<◌, ◌≤◌, ℕ, List, Option, Some, slice_get}
 use Rattle.std.specs.List.{All}
 use Rattle.actor_parts.specs.declared.part.Part.{Part}
-use Rattle.container_meta.specs.declared.place.Place.{Place}
 use Rattle.container_meta.specs.Places.{PlaceMap}
 use Rattle.container_meta.specs.Spelling.{HeaderValue}
 use Rattle.gc_enumerate.specs.Scanning.{child_keys}
@@ -11,16 +9,13 @@ use Rattle.merkle_file.specs.Node.{Contents}
 use Rattle.store_model.specs.Image.{Store, names_of}
 use Rattle.store_model.specs.Slots.{Copy}
 use Rattle.store_model.specs.Trees.{node_key}
+use Rattle.gc_sweep.specs.Releasing.{HasNoEntryIn}
 use Rattle.gc_steps.specs.declared.collection.Collection.{Collection}
 use Rattle.gc_steps.specs.declared.collection.Stage.{Stage}
 use Rattle.gc_steps.specs.declared.collection.Stage.TheVariants.{Release}
 use Rattle.gc_steps.specs.LiveTrees.{IsLive, HoldsNode}
 use Rattle.gc_steps.specs.MarksAreClosed.{NewAreLive}
 use Rattle.gc_steps.specs.Roots.{IsRoot}
-
--- the index has no entry in the slot
-abbrev pub HasNoEntryIn : PlaceMap → ℕ → Type 0
-HasNoEntryIn index slot = (key : List ℕ) (place : Place) → finite.get index key ≡ Some place → place.slot ≢ slot
 
 -- A source that is ready, the one before the next: its container stands in the slot still, and came before the collection began; and the index
 -- has no entry in the slot.

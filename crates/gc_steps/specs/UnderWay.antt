@@ -7,7 +7,8 @@ use Rattle.store_state.specs.declared.slot_table.SlotTable.{SlotTable}
 use Rattle.gc_steps.specs.declared.collection.Collection.{Collection}
 use Rattle.gc_steps.specs.declared.collection.Stage.{Stage}
 use Rattle.gc_steps.specs.declared.collection.Stage.TheVariants.{Mark, Filter, Select, Copy, Release, End}
-use Rattle.gc_steps.specs.Stages.{is_old, is_old_slot, is_tree_slot}
+use Rattle.gc_sweep.specs.UnderWay.{is_old}
+use Rattle.gc_steps.specs.Stages.{is_old_slot, is_tree_slot}
 
 -- those of these ids that are of containers that were there when the collection began
 abbrev pub old_ids : ℕ → List ℕ → List ℕ

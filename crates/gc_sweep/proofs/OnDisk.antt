@@ -17,15 +17,15 @@ module _ (size : ℕ) (known : Option PlaceMap) (t : Tables) (runs : Runs size k
   pub few_slots : length t.held.ids.items ≤ MOST_SLOTS
   few_slots = omega (arith, slots_there, runs.valid.count.1)
 
-  -- and a count
-  pub counts_many : length t.held.counts.items ≡ length t.held.ids.items
-  counts_many =
+  -- both columns of the table are as long
+  pub columns : length t.held.counts.items ≡ length t.held.ids.items
+  columns =
       let held = runs.store.held in
       omega (arith, ap length runs.represents.slots_hold.counts_are, length-map held count_of, ap length runs.represents.slots_hold.ids_are, as_many held)
 
-  -- a slot lies on the disk
-  pub slot_fits : (slot : ℕ) → slot < length t.held.ids.items → slot_at slot + SLOT_BYTES ≤ size
-  slot_fits slot within = omega (arith, slots_there, runs.valid.size_is, within)
-
   pub of_slots : IsOfSlots size
   of_slots = record { slots = runs.store.slots; size_is = runs.valid.size_is }
+
+-- a slot lies on the disk
+pub slot_fits : (size : ℕ) (known : Option PlaceMap) (t : Tables) (slot : ℕ) → Runs size known t → slot < length t.held.ids.items → slot_at slot + SLOT_BYTES ≤ size
+slot_fits size known t slot runs within = omega (arith, slots_there size known t runs, runs.valid.size_is, within)

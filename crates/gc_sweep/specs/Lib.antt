@@ -2,4 +2,5 @@ pub mod Beginning
 pub mod Copying
 pub mod Flushing
 pub mod Next
+pub mod Releasing
 pub mod UnderWay

@@ -5,6 +5,7 @@
 mod beginning;
 mod copying;
 mod flushing;
+mod giving_back;
 mod laws;
 mod next;
 mod sweep;
@@ -12,6 +13,7 @@ mod sweep;
 pub use beginning::begin;
 pub use copying::copy_source;
 pub use flushing::flush_copies;
+pub use giving_back::give_back;
 pub use laws::sealing_keeps_it_sweeping;
 pub use next::next_step;
 pub use sweep::{Next, Sweep};

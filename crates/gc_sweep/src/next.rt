@@ -5,6 +5,7 @@ ghost use Rattle.gc_sweep.specs.Next.{IsNext, kind_in};
 
 use crate::sweep::Next;
 use container_meta::{Kind, OpenContainer};
+use copy_forward::same_kind;
 use store_state::SlotTable;
 
 /// The slot of the container of an id.
@@ -27,13 +28,6 @@ pub(crate) fn kind_of_slot(held: &SlotTable, slot: u32) -> Kind
     ensures { Some result ≡ kind_in held.now slot }
 {
     held.counts[slot as usize].kind
-}
-
-// Whether two kinds are one.
-fn same_kind(a: Kind, b: Kind) -> bool
-    ensures { IsTrue result ↔ (a ≡ b) }
-{
-    matches!((a, b), (Kind::Leaf, Kind::Leaf) | (Kind::Tree, Kind::Tree))
 }
 
 /// What comes next where no source is ready, and the source of a number is to go on from the entry of a number.

@@ -8,7 +8,8 @@ use Rattle.store_model.specs.Slots.{ids_of}
 use Rattle.store_state.specs.Tables.{RepresentsSlots, count_of}
 use Rattle.store_state.specs.declared.slot_table.SlotCount.{SlotCount}
 use Rattle.store_state.specs.declared.slot_table.SlotTable.{SlotTable}
-use Rattle.gc_steps.specs.Stages.{is_old, is_old_slot, is_tree, is_tree_slot}
+use Rattle.gc_sweep.specs.UnderWay.{is_old}
+use Rattle.gc_steps.specs.Stages.{is_old_slot, is_tree, is_tree_slot}
 use Rattle.gc_steps.specs.StepsToCome.{count_from, old_from, trees_from}
 use Rattle.plain_machine.specs.Collections.{containers_in, most_steps, one_tree, trees_in}
 

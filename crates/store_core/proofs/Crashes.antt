@@ -29,8 +29,9 @@ use Rattle.store_core.proofs.KeepingFiles.{may_seal_all}
 use Rattle.store_core.proofs.Stepping.{step_later}
 use Rattle.segment_index.specs.Changes.{Changes, SameBefore}
 use Rattle.gc_steps.specs.declared.collection.Collection.{Collection}
-use Rattle.gc_steps.specs.Releasing.{GivesBack}
-use Rattle.gc_steps.specs.SweepIsSafe.{HasNoEntryIn, ReleasesReady}
+use Rattle.gc_sweep.specs.Releasing.{GivesBack}
+use Rattle.gc_sweep.specs.Releasing.{HasNoEntryIn}
+use Rattle.gc_steps.specs.SweepIsSafe.{ReleasesReady}
 use Rattle.gc_steps.specs.Safety.{IsSafeAt}
 use Rattle.container_meta.specs.Places.{PlaceMap}
 use Rattle.store_state.specs.Tables.{Represents}

@@ -1,5 +1,5 @@
-use Rattle.std.proofs.Common.{◌≡◌, ap, rules}
-use Rattle.base_model.proofs.Outcome.{map_err, passed_on}
+use Rattle.std.proofs.Common.{◌≡◌, ◌≤◌, ap, length, rules}
+use Rattle.base_model.proofs.Outcome.{passed_on}
 use Rattle.container_meta.specs.Spelling.{view}
 use Rattle.copy_forward.specs.Copying.{IsSourceRefusal}
 use Rattle.copy_forward.proofs.Sourced.{plans_after, unplanned_after}
@@ -15,9 +15,11 @@ returns-in_err-plan-clause-refused g c =
     let meta = c.in_ok-meta.meta in
     let reads = c.in_ok-meta.ensures.reads.only in
     let e = c.in_err-plan.field-0.0 in
+    let kind : meta.kind ≡ c.args.buffer.now.kind = search rules in
+    let few : c.args.from ≤ length meta.entries.items = search rules in
     passed_on c.from_residual-in_err-plan.result (IsSourceRefusal (places old.content) c.args.live.now c.args.slot c.args.from c.args.buffer.now old new) e c.from_residual-in_err-plan.ensures.1
     (unplanned_after (places old.content) (places mid.content) c.args.live.now c.args.slot c.args.from (view meta) c.args.buffer.now old mid new (ap places reads.content_is) c.in_ok-meta.ensures.shown reads
-    c.in_err-plan.ensures.reads.only.later e c.in_err-plan.ensures.refused)
+    c.in_err-plan.ensures.reads.only.later e kind few c.in_err-plan.ensures.refused)
 
 pub returns-clause-ok : goal.returns-clause-ok
 returns-clause-ok g c =

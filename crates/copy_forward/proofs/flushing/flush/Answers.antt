@@ -1,4 +1,4 @@
-use Rattle.std.proofs.Common.{◌+◌, ap, subst, sym}
+use Rattle.std.proofs.Common.{◌+◌}
 use Rattle.base_model.proofs.Outcome.{map_err}
 use Rattle.dd_disk.specs.Ending.{ending}
 use Rattle.ingest_steps.specs.Sealing.{HasPlacesOf}

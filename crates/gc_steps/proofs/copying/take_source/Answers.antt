@@ -7,7 +7,7 @@ use Rattle.gc_enumerate.proofs.Marks.{on_err}
 use Rattle.segment_index.specs.Changes.{Changes}
 use Rattle.store_state.specs.Refused.{blames}
 use Rattle.store_state.proofs.Changed.{size_on}
-use Rattle.gc_steps.proofs.Released.{few_slots, slot_fits}
+use Rattle.gc_sweep.proofs.OnDisk.{few_slots, slot_fits}
 use Rattle.gc_steps.proofs.Taken.{changes_after, runs_emptied, runs_same, takes_emptied}
 use Rattle.gc_steps.specs.declared.collection.Stage.TheVariants.{Copy}
 use Rattle.gc_steps.proofs.UnderWay.{at_stage}

@@ -3,7 +3,7 @@ use Rattle.container_meta.specs.Spelling.{view}
 use Rattle.dd_disk.proofs.Shows.{until}
 use Rattle.gc_steps.specs.declared.collection.Collection.{Collection}
 use Rattle.gc_steps.specs.declared.collection.Stage.{Stage}
-use Rattle.gc_steps.proofs.Released.{columns, few_slots, slot_fits}
+use Rattle.gc_sweep.proofs.OnDisk.{columns, few_slots, slot_fits}
 use Rattle.gc_steps.proofs.Scans.{entries_since, some_since, fault_since, keeps_marks}
 use Rattle.gc_steps.specs.declared.collection.Stage.TheVariants.{Mark}
 use Rattle.gc_steps.proofs.UnderWay.{at_stage, marked}

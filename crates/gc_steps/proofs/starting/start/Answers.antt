@@ -1,5 +1,5 @@
 use Rattle.std.proofs.Common.{refl, arith}
-use Rattle.gc_steps.proofs.Released.{columns, few_slots}
+use Rattle.gc_sweep.proofs.OnDisk.{columns, few_slots}
 use Rattle.gc_steps.specs.declared.collection.Collection.{Collection}
 use Rattle.gc_steps.proofs.Nearer.{begun}
 use Rattle.gc_steps.proofs.UnderWay.{started}

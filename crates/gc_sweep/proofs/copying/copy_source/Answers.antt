@@ -8,7 +8,7 @@ use Rattle.store_state.specs.Refused.{blames}
 use Rattle.gc_sweep.specs.Copying.{IsCopyStepRefusal}
 use Rattle.gc_sweep.proofs.CopyKeeps.{copies_on, here}
 use Rattle.gc_sweep.proofs.Copied.{copied_fits, is_source, step_refused}
-use Rattle.gc_sweep.proofs.OnDisk.{counts_many, few_slots, slot_fits}
+use Rattle.gc_sweep.proofs.OnDisk.{columns, few_slots, slot_fits}
 use Rattle.gc_sweep.proofs.copying.copy_source.Goals as goal
 
 pub slot_of-slot-requires-clause-few : goal.slot_of-slot-requires-clause-few
@@ -16,16 +16,16 @@ slot_of-slot-requires-clause-few g c = few_slots (g.D.Disk.view c.args.disk.now)
 
 pub kind_of_slot-kind-requires : goal.kind_of_slot-kind-requires
 kind_of_slot-kind-requires g c =
-    omega (arith, counts_many (g.D.Disk.view c.args.disk.now).size c.requires.runs.0 c.args.tables.now c.requires.runs.1, c.slot_of-slot.ensures.within)
+    omega (arith, columns (g.D.Disk.view c.args.disk.now).size c.requires.runs.0 c.args.tables.now c.requires.runs.1, c.slot_of-slot.ensures.within)
 
 pub fill-requires-clause-place : goal.fill-requires-clause-place
-fill-requires-clause-place g c = slot_fits (g.D.Disk.view c.args.disk.now).size c.requires.runs.0 c.args.tables.now c.requires.runs.1 c.slot_of-slot.result c.slot_of-slot.ensures.within
+fill-requires-clause-place g c = slot_fits (g.D.Disk.view c.args.disk.now).size c.requires.runs.0 c.args.tables.now c.slot_of-slot.result c.requires.runs.1 c.slot_of-slot.ensures.within
 
 pub take_found-requires-clause-few : goal.take_found-requires-clause-few
 take_found-requires-clause-few g c = few_slots (g.D.Disk.view c.args.disk.now).size c.requires.runs.0 c.args.tables.now c.requires.runs.1
 
 pub take_found-requires-clause-counts : goal.take_found-requires-clause-counts
-take_found-requires-clause-counts g c = counts_many (g.D.Disk.view c.args.disk.now).size c.requires.runs.0 c.args.tables.now c.requires.runs.1
+take_found-requires-clause-counts g c = columns (g.D.Disk.view c.args.disk.now).size c.requires.runs.0 c.args.tables.now c.requires.runs.1
 
 pub take_found-requires-clause-few_copied : goal.take_found-requires-clause-few_copied
 take_found-requires-clause-few_copied g c =

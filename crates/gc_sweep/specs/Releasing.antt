@@ -1,7 +1,9 @@
--- What giving a container back does to the tables and to the disk (docs/MODEL.md, 'Collection').
-use Rattle.std.specs.Prelude.{◌≡◌, ℕ, List, Option, Some}
+-- What giving a container back does to the tables and to the disk (docs/MODEL.md, 'Sweeping').
+use Rattle.std.specs.Prelude.{◌≡◌, ◌≢◌, ℕ, List, Option, Some}
+use Rattle.std.specs.FinMap as finite
 use Rattle.base_model.specs.Known.{Known, KnownWith}
 use Rattle.container_log.specs.Writing.{SameButGate}
+use Rattle.container_meta.specs.declared.place.Place.{Place}
 use Rattle.container_meta.specs.Places.{PlaceMap}
 use Rattle.dd_disk.specs.Ending.{Ending, Done, Refused, Unread, Broken}
 use Rattle.dd_disk.specs.Moves.{Way, one_step, Moves}
@@ -16,7 +18,10 @@ use Rattle.store_model.specs.Steps.{KeepsCopies}
 use Rattle.store_state.specs.Invariant.{IndexesFiles}
 use Rattle.store_state.specs.Tables.{Represents, Runs}
 use Rattle.store_state.specs.declared.tables.Tables.{Tables}
-use Rattle.gc_steps.specs.SweepIsSafe.{HasNoEntryIn}
+
+-- the index has no entry in the slot
+abbrev pub HasNoEntryIn : PlaceMap → ℕ → Type 0
+HasNoEntryIn index slot = (key : List ℕ) (place : Place) → finite.get index key ≡ Some place → place.slot ≢ slot
 
 -- The tables are those of before without a container, in whose slot the index has no entry: of each store that they were those of, they are
 -- those of the store with that slot closed.

@@ -1,9 +1,10 @@
 use Rattle.dd_disk.specs.Ending.{Done, ending_of}
 use Rattle.dd_disk.proofs.Moves.{passed}
 use Rattle.store_state.specs.Refused.{blames}
-use Rattle.gc_steps.specs.Releasing.{GivesBack}
-use Rattle.gc_steps.proofs.Released.{gives_back, slot_fits}
-use Rattle.gc_steps.proofs.releasing.give_back.Goals as goal
+use Rattle.gc_sweep.specs.Releasing.{GivesBack}
+use Rattle.gc_sweep.proofs.OnDisk.{slot_fits}
+use Rattle.gc_sweep.proofs.Released.{gives_back}
+use Rattle.gc_sweep.proofs.giving_back.give_back.Goals as goal
 
 pub close-requires : goal.close-requires
 close-requires g c = slot_fits (g.D.Disk.view c.args.disk.now).size c.requires.runs.0 c.args.tables.now c.args.slot c.requires.runs.1 c.requires.within

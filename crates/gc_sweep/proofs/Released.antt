@@ -1,5 +1,5 @@
 -- A slot is closed in which the index has no entry: the tables, and the disk.
-use Rattle.std.proofs.Common.{◌≡◌, ◌≢◌, ◌⊎◌, inl, inr, ℕ, zero, suc, ◌+◌, ◌<◌, ◌≤◌, List, [], ◌∷◌, length, map, get_or, Option, Some, None, option_map, refl, sym, ◌∙◌, ap, subst, arith}
+use Rattle.std.proofs.Common.{◌≡◌, ◌≢◌, ◌⊎◌, inl, inr, ℕ, zero, suc, List, [], ◌∷◌, get_or, Option, Some, None, option_map, refl, sym, ◌∙◌, ap, subst, arith}
 use Rattle.std.specs.List.{slice_get}
 use Rattle.container_log.specs.Writing.{Frees, IsFreed}
 use Rattle.container_meta.specs.declared.place.Place.{Place}
@@ -10,8 +10,6 @@ use Rattle.dd_disk.specs.Moves.{Moves}
 use Rattle.dd_disk.specs.View.{DiskView}
 use Rattle.dd_disk.specs.Writes.{Writes, Written}
 use Rattle.dd_disk.proofs.Moves.{moves_written}
-use Rattle.disk_format.specs.declared.numbers.TheConstants.{SLOT_BYTES, MOST_SLOTS}
-use Rattle.disk_format.specs.Layout.{slot_at}
 use Rattle.segment_index.specs.Places.{KnownMap}
 use Rattle.store_model.specs.Collisions.{IsIn, Stands}
 use Rattle.store_model.specs.Files.{Files}
@@ -22,17 +20,15 @@ use Rattle.store_model.specs.Slots.{Copy, HasKey, IsPartialIndexOf, ids_of, with
 use Rattle.store_model.specs.Steps.{KeepsCopies}
 use Rattle.store_model.specs.Trees.{HasNewest}
 use Rattle.store_model.proofs.Copies.{some_same}
-use Rattle.store_model.proofs.Free.{as_many}
 use Rattle.store_model.proofs.Freed.{free_freed, slot_held, valid_freed}
 use Rattle.store_model.proofs.FreedFiles.{unfreed_stands, one_freed_stands, one_freed_keeps}
 use Rattle.store_model.proofs.FreedTrees.{newest_freed}
 use Rattle.store_model.proofs.Lookups.{finds}
 use Rattle.store_state.specs.Invariant.{IndexesFiles}
-use Rattle.store_state.specs.Tables.{Represents, RepresentsSlots, Runs, count_of}
+use Rattle.store_state.specs.Tables.{Represents, RepresentsSlots}
 use Rattle.store_state.specs.declared.slot_table.SlotTable.{SlotTable}
 use Rattle.store_state.specs.declared.tables.Tables.{Tables}
-use Rattle.gc_steps.specs.Releasing.{HasFreed, GivesBack, KeepsFreed, freeing}
-use Rattle.gc_steps.specs.SweepIsSafe.{HasNoEntryIn}
+use Rattle.gc_sweep.specs.Releasing.{HasFreed, HasNoEntryIn, GivesBack, KeepsFreed, freeing}
 
 -- ---- the slots
 
@@ -43,25 +39,6 @@ open_slot (None ∷ cs) zero there_is = absurd (there_is refl)
 open_slot (Some h ∷ cs) zero there_is = (h, refl)
 open_slot (None ∷ cs) (suc slot) there_is = open_slot cs slot there_is
 open_slot (Some g ∷ cs) (suc slot) there_is = open_slot cs slot there_is
-
-length-map_count : (held : List (Option HeaderValue)) → length (map count_of held) ≡ length held
-length-map_count [] = refl
-length-map_count (c ∷ cs) = ap suc (length-map_count cs)
-
--- both columns are as long as there are slots
-pub columns : (size : ℕ) (known : Option PlaceMap) (t : Tables) → Runs size known t → length t.held.counts.items ≡ length t.held.ids.items
-columns size known t runs =
-    ap length runs.represents.slots_hold.counts_are ∙ length-map_count runs.store.held ∙ sym (as_many runs.store.held) ∙ sym (ap length runs.represents.slots_hold.ids_are)
-
-pub slots_there : (size : ℕ) (known : Option PlaceMap) (t : Tables) (runs : Runs size known t) → length t.held.ids.items ≡ runs.store.slots
-slots_there size known t runs = ap length runs.represents.slots_hold.ids_are ∙ as_many runs.store.held ∙ runs.valid.many
-
-pub few_slots : (size : ℕ) (known : Option PlaceMap) (t : Tables) → Runs size known t → length t.held.ids.items ≤ MOST_SLOTS
-few_slots size known t runs = omega (arith, slots_there size known t runs, runs.valid.count.1)
-
--- the slot lies on the disk
-pub slot_fits : (size : ℕ) (known : Option PlaceMap) (t : Tables) (slot : ℕ) → Runs size known t → slot < length t.held.ids.items → slot_at slot + SLOT_BYTES ≤ size
-slot_fits size known t slot runs within = omega (arith, slots_there size known t runs, runs.valid.size_is, within)
 
 -- ---- the index
 

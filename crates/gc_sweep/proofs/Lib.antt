@@ -2,6 +2,7 @@ pub mod Arrives
 pub mod Begun
 pub mod Copied
 pub mod CopyKeeps
+pub mod Freed
 pub mod OnDisk
 pub mod Released
 pub mod Taken

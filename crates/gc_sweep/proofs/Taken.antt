@@ -30,14 +30,14 @@ slice_get-set (y ∷ ys) zero (suc j) x other = refl
 slice_get-set (y ∷ ys) (suc i) zero x other = refl
 slice_get-set (y ∷ ys) (suc i) (suc j) x other = slice_get-set ys i j x (λ same. other (ap suc same))
 
-contains_set : (ids : List ℕ) (slot new id : ℕ) → Contains ids id → get_or ids slot 0 ≢ id → Contains (set ids slot new) id
+pub contains_set : (ids : List ℕ) (slot new id : ℕ) → Contains ids id → get_or ids slot 0 ≢ id → Contains (set ids slot new) id
 contains_set ids slot new id (k, within, is) other =
     let apart : k ≢ slot = λ same. other (ap (λ (n : ℕ). get_or ids n 0) (sym same) ∙ sym (get_or_default_zero ids k id within) ∙ is) in
     (k, subst (λ (n : ℕ). k < n) (sym (length-set ids slot new)) within, get_or-set_other ids slot k new id apart ∙ is)
 
 -- ---- the table
 
-old_not_zero : (snapshot id : ℕ) → is_old snapshot id ≡ true → id ≢ 0
+pub old_not_zero : (snapshot id : ℕ) → is_old snapshot id ≡ true → id ≢ 0
 old_not_zero snapshot zero old = absurd cc
 old_not_zero snapshot (suc id) old = λ zero. omega (arith, zero)
 

@@ -8,6 +8,7 @@ mod flushing;
 mod giving_back;
 mod laws;
 mod next;
+mod releasing;
 mod sweep;
 
 pub use beginning::begin;
@@ -16,4 +17,5 @@ pub use flushing::flush_copies;
 pub use giving_back::give_back;
 pub use laws::sealing_keeps_it_sweeping;
 pub use next::next_step;
+pub use releasing::release_source;
 pub use sweep::{Next, Sweep};

@@ -1,0 +1,67 @@
+//! A step that gives a source back.
+ghost use Rattle.std.specs.Prelude.{◌≡◌, ◌≢◌, ◌+◌, ◌^◌, ◌<◌, ◌≤◌, ℕ, [], length, get_or, drop, Contains, OnOk, OnErr, IfErr};
+ghost use Rattle.dd_disk.specs.Ending.{ending};
+ghost use Rattle.dd_disk.specs.Moves.{Acts};
+ghost use Rattle.dd_disk.specs.View.{IsDurable};
+ghost use Rattle.disk_format.specs.declared.numbers.TheConstants.{MOST_SLOTS as MANY};
+ghost use Rattle.refusals.specs.declared.refusal.Refusal.TheVariants.{DiskWrite};
+ghost use Rattle.store_state.specs.Refused.{blames};
+ghost use Rattle.store_state.specs.Tables.{Runs};
+ghost use Rattle.gc_sweep.specs.Releasing.{HasFreed, GivesBack, ChangesGateAlone};
+ghost use Rattle.gc_sweep.specs.InTurn.{HasReleased, slot_in_turn};
+ghost use Rattle.gc_sweep.specs.UnderWay.{IsSweeping};
+ghost use Rattle.gc_sweep.specs.declared.sweep.Next.TheVariants.{Release as ReleaseNext};
+
+use crate::giving_back::give_back;
+use crate::next::next_step;
+use crate::sweep::{Next, Sweep};
+use dd_disk::Disk;
+use refusals::Refusal;
+use store_state::{SlotTable, Tables};
+
+// Takes it into a sweep that the first source that is ready was given back.
+fn take_released(held: &SlotTable, sweep: &mut Sweep, source: usize, entry: usize)
+    requires some { sweep.old.ready.items ≢ [] }
+    requires few_freed { sweep.old.freed + 1 < 2 ^ 64 }
+    requires there { source < length sweep.old.sources.items → Contains held.now.ids.items (get_or sweep.old.sources.items source 0) }
+    requires few { length held.now.ids.items ≤ MANY }
+    requires counts { length held.now.counts.items ≡ length held.now.ids.items }
+    ensures { HasReleased held.now source entry sweep.old sweep.new }
+{
+    sweep.ready.remove(0);
+    sweep.freed += 1;
+    sweep.next = if sweep.ready.is_empty() {
+        next_step(held, &sweep.sources, &sweep.buffer, source, entry)
+    } else {
+        Next::Release { source, entry }
+    };
+}
+
+/// Gives back the first source that is ready, in whose slot the index has no entry; `source` and `entry` are those of what came next.
+/// The one refusal is `DiskWrite`, which leaves tables and sweep as they were.
+pub fn release_source<D: Disk>(
+    disk: &mut D,
+    tables: &mut Tables,
+    sweep: &mut Sweep,
+    source: usize,
+    entry: usize,
+) -> Result<(), Refusal>
+    requires runs { (known : _) × Runs (D.view disk.old).size known tables.old }
+    requires under_way { (snapshot : ℕ) × IsSweeping tables.old.held snapshot sweep.old }
+    requires next { sweep.old.next ≡ ReleaseNext source entry }
+    ensures tables { OnOk result (HasFreed tables.old (slot_in_turn sweep.old) tables.new) }
+    ensures sweep { OnOk result (HasReleased tables.new.held source entry sweep.old sweep.new) }
+    ensures under_way { (snapshot : ℕ) → IsSweeping tables.old.held snapshot sweep.old → IsSweeping tables.new.held snapshot sweep.new }
+    ensures tables_kept { OnErr result (tables.new ≡ tables.old) }
+    ensures kept { OnErr result (sweep.new ≡ sweep.old) }
+    ensures refused { IfErr result (λ refusal. refusal ≡ DiskWrite) }
+    ensures durable { OnOk result (IsDurable (D.view disk.new)) }
+    ensures disk { Acts (ending blames result) (D.view disk.old) (D.view disk.new) }
+    ensures moves { GivesBack tables.old (slot_in_turn sweep.old) (ending blames result) (D.view disk.old) (D.view disk.new) }
+    ensures frame { ChangesGateAlone (slot_in_turn sweep.old) (ending blames result) (D.view disk.old) (D.view disk.new) }
+{
+    let slot = sweep.ready[0];
+    give_back(disk, tables, slot)?;
+    take_released(&tables.held, sweep, source, entry);
+    Ok(())
+}

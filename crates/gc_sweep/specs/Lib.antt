@@ -1,7 +1,9 @@
 pub mod Beginning
 pub mod Copying
 pub mod Flushing
+pub mod Holding
 pub mod InTurn
 pub mod Next
 pub mod Releasing
+pub mod StepsLeft
 pub mod UnderWay

@@ -3,6 +3,7 @@ pub mod Begun
 pub mod Copied
 pub mod CopyKeeps
 pub mod Freed
+pub mod Leaves
 pub mod Nears
 pub mod OnDisk
 pub mod Released

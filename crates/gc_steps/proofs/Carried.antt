@@ -16,7 +16,8 @@ use Rattle.store_model.specs.Trees.{HasNewest, bytes_at, node_key}
 use Rattle.store_model.proofs.Copies.{some_same}
 use Rattle.store_model.proofs.Counted.{tree_on}
 use Rattle.gc_steps.specs.declared.collection.Collection.{Collection}
-use Rattle.gc_steps.specs.LiveTrees.{IsLive, IsWhole, HoldsNode}
+use Rattle.gc_sweep.specs.Holding.{IsLive}
+use Rattle.gc_steps.specs.LiveTrees.{IsWhole, HoldsNode}
 use Rattle.gc_steps.specs.MarksAreClosed.{IsPassed, MarksAreClosed, NewAreLive}
 use Rattle.gc_steps.specs.Roots.{IsRoot}
 use Rattle.gc_steps.specs.SweepIsSafe.{ReleasesReady, SweepIsSafe}

@@ -35,7 +35,7 @@ use Rattle.store_model.proofs.Copies.{some_same}
 use Rattle.store_model.proofs.HeldSlots.{same_kind}
 use Rattle.store_state.specs.Invariant.{ArePinsOf, CoreInvariant, HoldsPart}
 use Rattle.gc_steps.specs.declared.collection.Collection.{Collection}
-use Rattle.gc_steps.specs.LiveTrees.{IsLive}
+use Rattle.gc_sweep.specs.Holding.{IsLive}
 use Rattle.gc_steps.specs.Roots.{IsPartKey, IsRoot, Marks}
 use Rattle.gc_steps.specs.SweepIsSafe.{ReleasesReady}
 use Rattle.gc_steps.proofs.Carried.{Carries, IsGrown, KeepsBoth, carried}

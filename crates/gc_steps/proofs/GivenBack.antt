@@ -18,7 +18,8 @@ use Rattle.store_model.proofs.Freed.{there_before}
 use Rattle.store_model.proofs.FreedTrees.{newest_freed}
 use Rattle.gc_steps.specs.declared.collection.Collection.{Collection}
 use Rattle.gc_steps.specs.declared.collection.Stage.TheVariants.{Copy as CopyStage, Release, End}
-use Rattle.gc_steps.specs.LiveTrees.{IsLive, HoldsNode}
+use Rattle.gc_sweep.specs.Holding.{IsLive}
+use Rattle.gc_steps.specs.LiveTrees.{HoldsNode}
 use Rattle.gc_steps.specs.Stages.{sweep_from}
 use Rattle.gc_steps.specs.SweepIsSafe.{SweepIsSafe, IsReadySource, ReleasesReady}
 use Rattle.gc_sweep.proofs.Released.{none_held}

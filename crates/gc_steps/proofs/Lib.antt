@@ -1,5 +1,6 @@
 pub mod Carried
 pub mod ChildTrees
+pub mod Chosen
 pub mod ClaimedPin
 pub mod Faulted
 pub mod FewSources
@@ -38,7 +39,8 @@ pub mod Sparing
 pub mod SparingStages
 pub mod Started
 pub mod StepSafe
+pub mod SweepSteps
 pub mod Swept
-pub mod Taken
+pub mod TablesRun
 pub mod UnderWay
 pub mod Unseen

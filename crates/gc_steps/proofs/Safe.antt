@@ -20,7 +20,7 @@ use Rattle.gc_steps.specs.declared.collection.Collection.{Collection}
 use Rattle.gc_steps.specs.declared.collection.Stage.{Stage}
 use Rattle.gc_steps.specs.declared.collection.Stage.TheVariants.{Mark, Filter, Select, Copy, Release, End}
 use Rattle.gc_steps.specs.FewSources.{IsToChoose}
-use Rattle.gc_steps.specs.LiveTrees.{IsLive}
+use Rattle.gc_sweep.specs.Holding.{IsLive}
 use Rattle.gc_steps.specs.MarksAreClosed.{MarksAreClosed, NewAreLive, WasScanned}
 use Rattle.gc_steps.specs.Roots.{IsRoot}
 use Rattle.gc_steps.specs.Safety.{IsSafe, IsSafeAt}

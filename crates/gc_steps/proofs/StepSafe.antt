@@ -38,7 +38,8 @@ use Rattle.gc_steps.specs.declared.collection.Stage.TheVariants.{Mark, Filter, S
 use Rattle.gc_steps.specs.Copying.{Empties, GivesUp, Takes}
 use Rattle.copy_forward.specs.Entries.{AreDead, copy_keys, without_keys}
 use Rattle.gc_steps.specs.Filtering.{Chooses, Records}
-use Rattle.gc_steps.specs.LiveTrees.{IsLive, IsWhole}
+use Rattle.gc_sweep.specs.Holding.{IsLive}
+use Rattle.gc_steps.specs.LiveTrees.{IsWhole}
 use Rattle.gc_steps.specs.Marking.{Scans}
 use Rattle.gc_steps.specs.MarksAreClosed.{MarksAreClosed}
 use Rattle.gc_sweep.specs.Releasing.{HasFreed}

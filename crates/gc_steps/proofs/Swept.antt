@@ -28,7 +28,7 @@ use Rattle.store_model.proofs.Copies.{some_same, lies}
 use Rattle.store_model.proofs.Lookups.{finds}
 use Rattle.gc_steps.specs.declared.collection.Collection.{Collection}
 use Rattle.gc_steps.specs.declared.collection.Stage.TheVariants.{Release}
-use Rattle.gc_steps.specs.LiveTrees.{IsLive}
+use Rattle.gc_sweep.specs.Holding.{IsLive}
 use Rattle.gc_sweep.specs.Releasing.{HasNoEntryIn}
 use Rattle.gc_steps.specs.SweepIsSafe.{SweepIsSafe}
 

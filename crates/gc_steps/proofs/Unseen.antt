@@ -7,7 +7,7 @@ use Rattle.container_meta.specs.Places.{PlaceMap}
 use Rattle.gc_enumerate.specs.Live.{LiveKeys, IsLiveAt}
 use Rattle.store_model.specs.Image.{Store}
 use Rattle.gc_steps.specs.declared.collection.Collection.{Collection}
-use Rattle.gc_steps.specs.LiveTrees.{IsLive}
+use Rattle.gc_sweep.specs.Holding.{IsLive}
 use Rattle.gc_steps.proofs.Carried.{KeepsBoth, carried}
 
 -- Where keys are marked, or no longer, and the index has none of them, both invariants stay.

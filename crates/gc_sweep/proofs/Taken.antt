@@ -23,7 +23,7 @@ use Rattle.gc_sweep.proofs.Arrives.{all_by}
 
 -- ---- lists
 
-slice_get-set : {X : Type 0} (xs : List X) (i j : ℕ) (x : X) → j ≢ i → slice_get (set xs i x) j ≡ slice_get xs j
+pub slice_get-set : {X : Type 0} (xs : List X) (i j : ℕ) (x : X) → j ≢ i → slice_get (set xs i x) j ≡ slice_get xs j
 slice_get-set [] i j x other = refl
 slice_get-set (y ∷ ys) zero zero x other = absurd (other refl)
 slice_get-set (y ∷ ys) zero (suc j) x other = refl
@@ -118,7 +118,7 @@ module _ (t now : SlotTable) (snapshot slot id : ℕ) (count : SlotCount) (close
 -- ---- what a container that is sealed does to the table
 
 -- a closed slot has no id
-closed_slot : (held : List (Option HeaderValue)) (slot : ℕ) → slice_get held slot ≡ Some None → get_or (ids_of held) slot 0 ≡ 0
+pub closed_slot : (held : List (Option HeaderValue)) (slot : ℕ) → slice_get held slot ≡ Some None → get_or (ids_of held) slot 0 ≡ 0
 closed_slot [] slot is = refl
 closed_slot (None ∷ cs) zero is = refl
 closed_slot (Some h ∷ cs) zero is = absurd cc

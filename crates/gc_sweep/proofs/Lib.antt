@@ -3,6 +3,9 @@ pub mod Begun
 pub mod Copied
 pub mod CopyKeeps
 pub mod Freed
+pub mod Gains
+pub mod InSlots
+pub mod KeyLists
 pub mod OnDisk
 pub mod Released
 pub mod Taken

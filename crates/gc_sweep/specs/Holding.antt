@@ -25,7 +25,7 @@ IsLive index live key = (place : Place) × ((finite.get index key ≡ Some place
 -- A segment that was copied: its key is live, and the newest copy of that key has its level and its bytes.
 pub record IsCopied (index : PlaceMap) (live : LiveKeys) (held : List (Option HeaderValue)) (image : List ℕ) (kind : Kind) (x : Segment)
     : Type 0 where
-  pub live : IsLive index live (segment_key kind x)
+  pub is_live : IsLive index live (segment_key kind x)
   pub newest : HasNewest held (segment_key kind x) x.level x.bytes image
 
 -- The container in a slot is the source that goes on from an entry, and that is not its first.

@@ -4,6 +4,8 @@ pub mod Copied
 pub mod CopyKeeps
 pub mod Freed
 pub mod Gains
+pub mod Holds
+pub mod HoldsRoom
 pub mod InSlots
 pub mod KeyLists
 pub mod OnDisk

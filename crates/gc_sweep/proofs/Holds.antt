@@ -22,7 +22,7 @@ use Rattle.gc_sweep.specs.Next.{IsNext}
 use Rattle.gc_sweep.specs.Releasing.{HasNoEntryIn}
 use Rattle.gc_sweep.specs.UnderWay.{HasNext, IsSweeping, entry_in, sources_before}
 use Rattle.gc_sweep.proofs.InSlots.{IsSourceIn, none_in, stands_in}
-use Rattle.gc_sweep.proofs.KeyLists.{listed, none_distinct}
+use Rattle.gc_sweep.proofs.KeyLists.{each_so, listed, none_distinct}
 
 -- ---- what is filled
 
@@ -35,10 +35,6 @@ no_keys_apart c none = subst (λ (ss : List Segment). IsDistinct bytes_eq (map (
 
 pub none_copied : (P : Segment → Type 0) (c : Contents) → c.segments ≡ [] → AllByRecursion P c.segments
 none_copied P c none = subst (AllByRecursion P) (sym none) tt
-
-pub each_so : (P Q : Segment → Type 0) (ss : List Segment) → ((x : Segment) → P x → Q x) → AllByRecursion P ss → AllByRecursion Q ss
-each_so P Q [] each all = tt
-each_so P Q (x ∷ xs) each all = (each x all.0, each_so P Q xs each all.1)
 
 -- ---- a sweep that begins
 

@@ -30,8 +30,9 @@ use Rattle.gc_sweep.specs.Holding.{HoldsSweep, IsCopied}
 use Rattle.gc_sweep.specs.InTurn.{slot_in_turn}
 use Rattle.gc_sweep.specs.Releasing.{HasNoEntryIn}
 use Rattle.gc_sweep.specs.UnderWay.{IsSweeping, free_in, taken_from}
-use Rattle.gc_sweep.proofs.Holds.{IsInTurn, each_so, in_turn}
+use Rattle.gc_sweep.proofs.Holds.{IsInTurn, in_turn}
 use Rattle.gc_sweep.proofs.InSlots.{copy_of}
+use Rattle.gc_sweep.proofs.KeyLists.{each_so}
 
 -- ---- the reserve
 

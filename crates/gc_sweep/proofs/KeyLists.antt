@@ -62,6 +62,10 @@ pub both_so : {X : Type 0} (P : X → Type 0) (xs ys : List X) → AllByRecursio
 both_so P [] ys first second = second
 both_so P (x ∷ xs) ys first second = (first.0, both_so P xs ys first.1 second)
 
+pub each_so : {X : Type 0} (P Q : X → Type 0) (xs : List X) → ((x : X) → P x → Q x) → AllByRecursion P xs → AllByRecursion Q xs
+each_so P Q [] each all = tt
+each_so P Q (x ∷ xs) each all = (each x all.0, each_so P Q xs each all.1)
+
 -- no key is twice in a list with one more that it lacks
 pub distinct_more : (keys : List (List ℕ)) (key : List ℕ) → IsDistinct bytes_eq keys → listed keys key ≡ false → IsDistinct bytes_eq (keys ++ key ∷ [])
 unfolding IsDistinct

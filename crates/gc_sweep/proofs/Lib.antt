@@ -5,6 +5,9 @@ pub mod CopyKeeps
 pub mod Freed
 pub mod Gains
 pub mod Holds
+pub mod HoldsBeside
+pub mod HoldsFlushed
+pub mod HoldsReleased
 pub mod HoldsRoom
 pub mod InSlots
 pub mod KeyLists

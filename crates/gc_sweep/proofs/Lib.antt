@@ -12,6 +12,8 @@ pub mod HoldsRoom
 pub mod InSlots
 pub mod KeyLists
 pub mod OnDisk
+pub mod PlannedKeys
 pub mod Released
+pub mod SourceRead
 pub mod Taken
 pub mod Written

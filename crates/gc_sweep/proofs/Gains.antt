@@ -1,5 +1,5 @@
 -- What planning the entries of a container adds to what is filled, and which keys leave the index, by a map that is known.
-use Rattle.std.proofs.Common.{◌≡◌, ◌⊎◌, inl, inr, ℕ, suc, ◌+◌, Bool, true, false, List, [], ◌∷◌, ◌++◌, length, take, map, Option, Some, append_assoc, append-nil, refl, sym, ◌∙◌, ap, subst}
+use Rattle.std.proofs.Common.{◌≡◌, ◌⊎◌, inl, inr, ℕ, true, false, List, [], ◌∷◌, ◌++◌, take, map, Some, append_assoc, append-nil, refl, sym, ◌∙◌, ap, subst}
 use Rattle.std.specs.List.{AllByRecursion, IsDistinct}
 use Rattle.std.specs.Str.{bytes_eq}
 use Rattle.sha2.specs.Sha256.{sha256}
@@ -13,7 +13,7 @@ use Rattle.store_model.specs.Indexing.{entry_key}
 use Rattle.store_model.specs.Slots.{place_of}
 use Rattle.store_model.specs.Trees.{bytes_at}
 use Rattle.copy_forward.specs.Entries.{is_copy}
-use Rattle.copy_forward.specs.Planning.{Adds, AddsLive, HasLiveKey, Planned, Source, Takes, TakesOne}
+use Rattle.copy_forward.specs.Planning.{HasLiveKey, Planned, Source, Takes, TakesOne}
 use Rattle.gc_sweep.proofs.KeyLists.{both_so, distinct_more, keys_append, listed, listed_left, listed_one, listed_right}
 
 -- A segment that was added: that of a live copy, as it was shown.

@@ -1,11 +1,10 @@
 -- What holds of a sweep by the store holds beside what others do.
-use Rattle.std.proofs.Common.{◌≡◌, ◌⊎◌, inl, inr, ℕ, ◌<◌, ◌≤◌, Bool, true, List, ◌++◌, length, get_or, take, Option, Some, refl, sym, ◌∙◌, ap, subst, arith}
+use Rattle.std.proofs.Common.{◌≡◌, inl, inr, ℕ, ◌<◌, Bool, true, List, ◌++◌, take, Option, Some, refl, ap, arith}
 use Rattle.std.specs.Prelude.{slice_get}
 use Rattle.std.specs.FinMap as finite
-use Rattle.std.specs.List.{AllByRecursion, Contains}
+use Rattle.std.specs.List.{Contains}
 use Rattle.std.proofs.lemmas.List.Elements.{Contains-append_left, Contains-append_right}
 use Rattle.container_meta.specs.declared.entry.Entry.{Entry}
-use Rattle.container_meta.specs.declared.kind.Kind.{Kind}
 use Rattle.container_meta.specs.declared.place.Place.{Place}
 use Rattle.container_meta.specs.Places.{PlaceMap}
 use Rattle.container_meta.specs.Segments.{has_key, segment_key}
@@ -17,8 +16,7 @@ use Rattle.store_model.specs.Slots.{place_of}
 use Rattle.store_state.specs.Tables.{RepresentsSlots}
 use Rattle.store_state.specs.declared.slot_table.SlotTable.{SlotTable}
 use Rattle.gc_sweep.specs.declared.sweep.Sweep.{Sweep}
-use Rattle.gc_sweep.specs.Holding.{AreCopied, GoesOnBeside, HasOnlyIn, HoldsSweep, IsCopied, IsHalfCopied, IsOrigin}
-use Rattle.gc_sweep.specs.Releasing.{HasNoEntryIn}
+use Rattle.gc_sweep.specs.Holding.{AreCopied, GoesOnBeside, HoldsSweep, IsCopied, IsHalfCopied, IsOrigin}
 use Rattle.gc_sweep.specs.UnderWay.{IsSweeping, entry_in, sources_before}
 use Rattle.gc_sweep.proofs.InSlots.{at_copy, copy_at, half_within, one_header, source_old, stands_in}
 use Rattle.gc_sweep.proofs.KeyLists.{each_so}
@@ -58,12 +56,12 @@ module _ (t : SlotTable) (index later : PlaceMap) (held held_now : List (Option 
   holds_beside holds = record {
     copied = each_so (IsCopied index live held image s.buffer.kind) (IsCopied later live_now held_now now s.buffer.kind) s.buffer.segments
         (λ x is. (
-          let one : IsCopied later live_now held_now now s.buffer.kind x =
-          record {
-            is_live = beside.keys (segment_key s.buffer.kind x) is.is_live;
-            newest = beside.copies (segment_key s.buffer.kind x) x.level x.bytes (is.is_live.0, is.is_live.1.0) is.newest;
-          } in
-          one
+        let one : IsCopied later live_now held_now now s.buffer.kind x =
+        record {
+          is_live = beside.keys (segment_key s.buffer.kind x) is.is_live;
+          newest = beside.copies (segment_key s.buffer.kind x) x.level x.bytes (is.is_live.0, is.is_live.1.0) is.newest;
+        } in
+        one
         )) holds.copied;
     once = holds.once;
     origin = λ key place has found. elim (beside.places key place found) [

@@ -2,7 +2,7 @@
 use Rattle.std.proofs.Common.{◌≡◌, ◌≢◌, ◌⊎◌, inl, inr, ℕ, zero, suc, ◌+◌, ◌<◌, ◌≤◌, Bool, true, false, cond, List, [], ◌∷◌, ◌++◌, length, get_or, map, take, append-nil, Option, Some, None, refl, sym, ◌∙◌, ap, subst, arith}
 use Rattle.std.specs.Prelude.{◌||◌, slice_get}
 use Rattle.std.specs.FinMap as finite
-use Rattle.std.specs.List.{AllByRecursion, Contains}
+use Rattle.std.specs.List.{Contains}
 use Rattle.std.specs.Str.{bytes_eq}
 use Rattle.std.proofs.lemmas.List.Elements.{Contains-append_left}
 use Rattle.sha2.specs.Sha256.{sha256}
@@ -28,7 +28,7 @@ use Rattle.gc_sweep.specs.Holding.{AreCopied, HoldsSweep, IsCopied, IsHalfCopied
 use Rattle.gc_sweep.specs.Releasing.{HasNoEntryIn}
 use Rattle.gc_sweep.specs.UnderWay.{HasNext, IsSweeping, entry_in, sources_before}
 use Rattle.gc_sweep.proofs.Holds.{no_key, no_keys_apart, none_copied}
-use Rattle.gc_sweep.proofs.InSlots.{IsSourceIn, at_copy, copy_at, live_on, none_in, source_old, stands_in}
+use Rattle.gc_sweep.proofs.InSlots.{at_copy, copy_at, live_on, none_in, source_old, stands_in}
 use Rattle.gc_sweep.proofs.KeyLists.{each_so, listed}
 
 -- ---- the container that was written

@@ -1,13 +1,11 @@
 -- What holds of a sweep by the store holds once a source is given back.
-use Rattle.std.proofs.Common.{◌≡◌, ◌≢◌, ◌⊎◌, inl, inr, ℕ, zero, suc, ◌<◌, ◌≤◌, Bool, true, List, [], ◌∷◌, ◌++◌, length, get_or, drop, take, Option, Some, refl, sym, ◌∙◌, ap, subst, arith}
+use Rattle.std.proofs.Common.{◌≡◌, ◌≢◌, inl, inr, ℕ, zero, suc, ◌<◌, ◌≤◌, true, List, [], ◌∷◌, length, get_or, drop, Option, Some, refl, sym, ◌∙◌, ap, subst, arith}
 use Rattle.std.specs.Prelude.{slice_get, slice_index_or}
-use Rattle.std.specs.FinMap as finite
 use Rattle.std.specs.List.{AllByRecursion, Contains, IsDistinct}
 use Rattle.std.specs.Str.{bytes_eq}
 use Rattle.std.proofs.lemmas.List.Elements.{Contains-append_cases, Contains-append_left, Contains-append_right}
-use Rattle.container_meta.specs.declared.place.Place.{Place}
 use Rattle.container_meta.specs.Places.{PlaceMap}
-use Rattle.container_meta.specs.Segments.{Contents, Segment, has_key, keys_of, segment_key}
+use Rattle.container_meta.specs.Segments.{Contents, has_key, keys_of, segment_key}
 use Rattle.container_meta.specs.Spelling.{HeaderValue}
 use Rattle.gc_enumerate.specs.Live.{LiveKeys}
 use Rattle.store_model.specs.Slots.{HasKey, without_slot}
@@ -18,10 +16,9 @@ use Rattle.store_state.specs.declared.slot_table.SlotTable.{SlotTable}
 use Rattle.gc_sweep.specs.declared.sweep.Next.{Next}
 use Rattle.gc_sweep.specs.declared.sweep.Next.TheVariants.{Copy as CopyNext, Flush, Release, End}
 use Rattle.gc_sweep.specs.declared.sweep.Sweep.{Sweep}
-use Rattle.gc_sweep.specs.Holding.{AreCopied, HasOnlyIn, HoldsSweep, IsCopied, IsHalfCopied, IsOrigin}
+use Rattle.gc_sweep.specs.Holding.{AreCopied, HoldsSweep, IsCopied, IsHalfCopied, IsOrigin}
 use Rattle.gc_sweep.specs.InTurn.{HasReleased, slot_in_turn}
 use Rattle.gc_sweep.specs.Next.{IsNext}
-use Rattle.gc_sweep.specs.Releasing.{HasNoEntryIn}
 use Rattle.gc_sweep.specs.UnderWay.{HasNext, IsSweeping, entry_in, sources_before}
 use Rattle.gc_sweep.proofs.Holds.{IsInTurn, in_turn, no_key}
 use Rattle.gc_sweep.proofs.InSlots.{one_header}
@@ -112,9 +109,9 @@ module _ (t then : SlotTable) (index : PlaceMap) (held : List (Option HeaderValu
     copied = subst (λ (c : Contents). AllByRecursion (IsCopied index live held_now now c.kind) c.segments) (sym released.buffer_is)
         (each_so (IsCopied index live held image s.buffer.kind) (IsCopied index live held_now now s.buffer.kind) s.buffer.segments
         (λ x is. (
-          let one : IsCopied index live held_now now s.buffer.kind x =
-          record { is_live = is.is_live; newest = keeps (segment_key s.buffer.kind x) x.level x.bytes (is.is_live.0, is.is_live.1.0) is.newest } in
-          one
+        let one : IsCopied index live held_now now s.buffer.kind x =
+        record { is_live = is.is_live; newest = keeps (segment_key s.buffer.kind x) x.level x.bytes (is.is_live.0, is.is_live.1.0) is.newest } in
+        one
         )) holds.copied);
     once = subst (λ (c : Contents). IsDistinct bytes_eq (keys_of c)) (sym released.buffer_is) holds.once;
     origin = λ key place filled found.
@@ -135,6 +132,6 @@ module _ (t then : SlotTable) (index : PlaceMap) (held : List (Option HeaderValu
         elim (Contains-append_cases s.waiting.items s.ready.items other lost) [
           | inl waits ↦ Contains-append_left s'.waiting.items s'.ready.items other (subst (λ (xs : List ℕ). Contains xs other) (sym waiting_is) waits)
           | inr is_ready ↦ Contains-append_right s'.waiting.items s'.ready.items other
-                (subst (λ (xs : List ℕ). Contains xs other) (sym released.ready_is) (rest_in s.ready.items other is_ready before.0))
+              (subst (λ (xs : List ℕ). Contains xs other) (sym released.ready_is) (rest_in s.ready.items other is_ready before.0))
         ];
   }

@@ -1,5 +1,5 @@
 -- Containers in slots by their ids, and where an index has the copy of a key.
-use Rattle.std.proofs.Common.{◌≡◌, ◌≢◌, ◌⊎◌, inl, inr, ℕ, zero, suc, ◌+◌, ◌<◌, ◌≤◌, Bool, true, false, List, [], ◌∷◌, ◌++◌, length, get_or, map, Option, Some, None, find, option_map, refl, sym, ◌∙◌, ap, subst, arith}
+use Rattle.std.proofs.Common.{◌≡◌, ◌≢◌, ℕ, zero, suc, ◌+◌, ◌<◌, true, false, List, [], ◌∷◌, ◌++◌, length, get_or, map, Option, Some, None, find, option_map, refl, sym, ◌∙◌, ap, arith}
 use Rattle.std.specs.Prelude.{◌==◌, not, nat_lt, slice_get}
 use Rattle.std.specs.FinMap as finite
 use Rattle.std.specs.List.{AllByRecursion, Contains}
@@ -17,7 +17,7 @@ use Rattle.container_meta.specs.Spelling.{HeaderValue}
 use Rattle.gc_enumerate.specs.Live.{LiveKeys, IsLiveAt}
 use Rattle.store_model.specs.Indexing.{entry_key}
 use Rattle.store_model.specs.Slots.{Copy, DifferentIds, IsPartialIndexOf, IsUnusedId, ids_of, newest, place_of}
-use Rattle.store_model.proofs.Copies.{LiesIn, lies, some_same}
+use Rattle.store_model.proofs.Copies.{lies, some_same}
 use Rattle.store_model.proofs.HeldSlots.{found_so}
 use Rattle.store_state.specs.Tables.{RepresentsSlots, count_of}
 use Rattle.store_state.specs.declared.slot_table.SlotCount.{SlotCount}

@@ -6,6 +6,7 @@ pub mod Freed
 pub mod Gains
 pub mod Holds
 pub mod HoldsBeside
+pub mod HoldsCopied
 pub mod HoldsFlushed
 pub mod HoldsReleased
 pub mod HoldsRoom
@@ -14,6 +15,7 @@ pub mod KeyLists
 pub mod OnDisk
 pub mod PlannedKeys
 pub mod Released
+pub mod SourceEnds
 pub mod SourceRead
 pub mod Taken
 pub mod Written

@@ -1,6 +1,5 @@
 -- What the plan of a source makes of the index and of what is filled, where the index's map is known and the disk tells its content.
-use Rattle.std.proofs.Common.{◌≡◌, ◌≢◌, ◌⊎◌, inl, inr, ℕ, zero, suc, ◌+◌, ◌<◌, ◌≤◌, Bool, true, false, List, [], ◌∷◌, ◌++◌, length, get_or, drop, take, map, Option, Some, None, find, refl, sym, ◌∙◌, ap, subst, arith, length-append}
-use Rattle.std.specs.Prelude.{slice_get}
+use Rattle.std.proofs.Common.{◌≡◌, ◌≢◌, ◌⊎◌, inl, inr, ℕ, zero, suc, ◌+◌, ◌<◌, ◌≤◌, true, List, [], ◌∷◌, ◌++◌, length, drop, take, map, Option, Some, None, find, refl, sym, ◌∙◌, ap, subst, arith, length-append}
 use Rattle.std.specs.FinMap as finite
 use Rattle.std.specs.List.{AllByRecursion, IsDistinct}
 use Rattle.std.specs.Str.{bytes_eq}
@@ -18,14 +17,13 @@ use Rattle.dd_disk.specs.View.{DiskView}
 use Rattle.dd_disk.proofs.Shows.{shown_content}
 use Rattle.gc_enumerate.specs.Live.{LiveKeys, IsLiveAt}
 use Rattle.store_model.specs.Indexing.{entry_key}
-use Rattle.store_model.specs.Slots.{Copy, IsPartialIndexOf, place_of}
+use Rattle.store_model.specs.Slots.{IsPartialIndexOf, place_of}
 use Rattle.store_model.specs.Trees.{bytes_at}
 use Rattle.store_model.proofs.Copies.{some_same}
 use Rattle.store_model.proofs.HeldSlots.{found_so}
 use Rattle.gc_sweep.specs.declared.sweep.Sweep.{Sweep}
 use Rattle.gc_sweep.specs.Copying.{IsFilling}
-use Rattle.gc_sweep.specs.Holding.{AreCopied, HoldsSweep, IsCopied, IsLive}
-use Rattle.gc_sweep.proofs.Arrives.{no_items}
+use Rattle.gc_sweep.specs.Holding.{AreCopied, IsCopied, IsLive}
 use Rattle.gc_sweep.proofs.Gains.{Gains, IsOfCopy, IsOfDead, IsPlanned, all_planned, gained_keys, takes_apart, takes_gain}
 use Rattle.gc_sweep.proofs.Holds.{no_key, no_keys_apart, none_copied}
 use Rattle.gc_sweep.proofs.InSlots.{at_copy, copy_at, copy_of, lies_at, live_anywhere, live_on, one_header}
@@ -116,11 +114,11 @@ module _ (index : PlaceMap) (held : List (Option HeaderValue)) (image : List ℕ
   filled_new key place found has = elim (listed_either (keys_of filling) (map (segment_key filling.kind) gains.added) key split) [
     | inl was ↦ inl (filled_was key was)
     | inr added ↦ inr (
-        listed_so (λ (k : List ℕ). finite.get index k ≡ Some place → place.slot ≡ slot) (map (segment_key filling.kind) gains.added) key
-            (map_so (λ (k : List ℕ). finite.get index k ≡ Some place → place.slot ≡ slot) filling.kind gains.added
-            (each_so (IsOfCopy src (Shows old new) index) (λ x. finite.get index (segment_key filling.kind x) ≡ Some place → place.slot ≡ slot) gains.added at_slot gains.are_live)) added found,
-        some_added gains.added refl added,
-      )
+      listed_so (λ (k : List ℕ). finite.get index k ≡ Some place → place.slot ≡ slot) (map (segment_key filling.kind) gains.added) key
+          (map_so (λ (k : List ℕ). finite.get index k ≡ Some place → place.slot ≡ slot) filling.kind gains.added
+          (each_so (IsOfCopy src (Shows old new) index) (λ x. finite.get index (segment_key filling.kind x) ≡ Some place → place.slot ≡ slot) gains.added at_slot gains.are_live)) added found,
+      some_added gains.added refl added,
+    )
   ]
     where
       split : listed (keys_of filling ++ map (segment_key filling.kind) gains.added) key ≡ true

@@ -1,5 +1,6 @@
 pub mod Arrives
 pub mod Begun
+pub mod BesideOthers
 pub mod Copied
 pub mod CopyKeeps
 pub mod Freed

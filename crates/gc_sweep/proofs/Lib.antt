@@ -2,6 +2,7 @@ pub mod Arrives
 pub mod Begun
 pub mod BesideOthers
 pub mod Copied
+pub mod CopyFailures
 pub mod CopyKeeps
 pub mod Freed
 pub mod Gains

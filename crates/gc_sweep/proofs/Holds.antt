@@ -1,0 +1,109 @@
+-- What holds of a sweep by the store, as it begins, as the disk changes beside its copies, and as it ends.
+use Rattle.std.proofs.Common.{◌≡◌, ◌≢◌, ℕ, ◌<◌, true, false, List, [], ◌∷◌, ◌++◌, length, get_or, map, Option, Some, refl, sym, ◌∙◌, ap, subst, arith}
+use Rattle.std.specs.Prelude.{slice_get}
+use Rattle.std.specs.List.{AllByRecursion, Contains, IsDistinct}
+use Rattle.std.specs.Str.{bytes_eq}
+use Rattle.std.proofs.lemmas.List.Elements.{Contains-append_right, Contains-get_or}
+use Rattle.container_meta.specs.Places.{PlaceMap}
+use Rattle.container_meta.specs.Segments.{Contents, Segment, has_key, segment_key}
+use Rattle.container_meta.specs.Spelling.{HeaderValue}
+use Rattle.gc_enumerate.specs.Live.{LiveKeys}
+use Rattle.store_model.specs.Trees.{HasNewest}
+use Rattle.store_state.specs.Tables.{RepresentsSlots}
+use Rattle.store_state.specs.declared.slot_table.SlotTable.{SlotTable}
+use Rattle.gc_sweep.specs.declared.sweep.Next.{Next}
+use Rattle.gc_sweep.specs.declared.sweep.Next.TheVariants.{Copy as CopyNext, Flush, Release, End}
+use Rattle.gc_sweep.specs.declared.sweep.Sweep.{Sweep}
+use Rattle.gc_sweep.specs.Beginning.{Begins}
+use Rattle.gc_sweep.specs.Holding.{HoldsSweep, IsCopied}
+use Rattle.gc_sweep.specs.InTurn.{slot_in_turn}
+use Rattle.gc_sweep.specs.Next.{IsNext}
+use Rattle.gc_sweep.specs.Releasing.{HasNoEntryIn}
+use Rattle.gc_sweep.specs.UnderWay.{HasNext, IsSweeping, entry_in, sources_before}
+use Rattle.gc_sweep.proofs.InSlots.{IsSourceIn, none_in, stands_in}
+use Rattle.gc_sweep.proofs.KeyLists.{each_so, listed, none_distinct}
+
+-- ---- what is filled
+
+-- where it has nothing it has no key
+pub no_key : (c : Contents) (key : List ℕ) → c.segments ≡ [] → has_key c key ≡ true → ⊥
+no_key c key none has = let wrong : true ≡ false = sym has ∙ ap (λ (ss : List Segment). listed (map (segment_key c.kind) ss) key) none in cc
+
+pub no_keys_apart : (c : Contents) → c.segments ≡ [] → IsDistinct bytes_eq (map (segment_key c.kind) c.segments)
+no_keys_apart c none = subst (λ (ss : List Segment). IsDistinct bytes_eq (map (segment_key c.kind) ss)) (sym none) none_distinct
+
+pub none_copied : (P : Segment → Type 0) (c : Contents) → c.segments ≡ [] → AllByRecursion P c.segments
+none_copied P c none = subst (AllByRecursion P) (sym none) tt
+
+-- ---- a sweep that begins
+
+pub begun_holds : (t : SlotTable) (sources : List ℕ) (s : Sweep) (index : PlaceMap) (held : List (Option HeaderValue)) (image : List ℕ) (live : LiveKeys) (snapshot : ℕ) → Begins t sources s
+    → HoldsSweep index held image live snapshot s
+begun_holds t sources s index held image live snapshot begins = record {
+  copied = none_copied (IsCopied index live held image s.buffer.kind) s.buffer begins.empty;
+  once = no_keys_apart s.buffer begins.empty;
+  origin = λ key place has found. absurd (no_key s.buffer key begins.empty has);
+  waiting = λ slot there. absurd (none_in s.waiting.items slot begins.none_waits there);
+  ready = λ slot there. absurd (none_in s.ready.items slot begins.none_ready there);
+  half = λ slot h half. absurd (omega (arith, half.some, first.1));
+  none_lost = λ slot number h there below id_is. absurd (omega (arith, below, first.0));
+}
+  where
+    by_next : (n : Next) → IsNext t sources s.buffer 0 0 n → (sources_before s n ≡ 0) × (entry_in n ≡ 0)
+    by_next (CopyNext source entry) is = (is.0, is.1)
+    by_next (Flush source entry) is = (is.0, is.1)
+    by_next (Release source entry) is = absurd is
+    by_next End is = (omega (arith, is.1, ap length begins.sources_are), refl)
+
+    first : (sources_before s s.next ≡ 0) × (entry_in s.next ≡ 0)
+    first = by_next s.next begins.next_is
+
+-- ---- a disk whose newest copies stay
+
+pub holds_on_disk : (index : PlaceMap) (held : List (Option HeaderValue)) (image now : List ℕ) (live : LiveKeys) (snapshot : ℕ) (s : Sweep)
+    → ((key : List ℕ) (level : ℕ) (bytes : List ℕ) → HasNewest held key level bytes image → HasNewest held key level bytes now)
+    → HoldsSweep index held image live snapshot s → HoldsSweep index held now live snapshot s
+holds_on_disk index held image now live snapshot s keeps holds = record {
+  copied = each_so (IsCopied index live held image s.buffer.kind) (IsCopied index live held now s.buffer.kind) s.buffer.segments
+      (λ x is. (let one : IsCopied index live held now s.buffer.kind x = record { is_live = is.is_live; newest = keeps (segment_key s.buffer.kind x) x.level x.bytes is.newest } in one)) holds.copied;
+  once = holds.once;
+  origin = holds.origin;
+  waiting = holds.waiting;
+  ready = holds.ready;
+  half = holds.half;
+  none_lost = holds.none_lost;
+}
+
+-- ---- the first source that is ready
+
+some_ready : (xs : List ℕ) → xs ≢ [] → Contains xs (get_or xs 0 0)
+some_ready [] some = absurd (some refl)
+some_ready (x ∷ xs) some = Contains-get_or (x ∷ xs) 0 0 (omega arith)
+
+-- A source that came to its end is given back next: it stands in its slot, was there as the collection began, and the index has no entry in it.
+pub record IsInTurn (index : PlaceMap) (held : List (Option HeaderValue)) (snapshot : ℕ) (s : Sweep) : Type 0 where
+  pub stands : IsSourceIn held snapshot s.sources.items (sources_before s s.next) (slot_in_turn s)
+  pub is_ready : Contains s.ready.items (slot_in_turn s)
+  pub none : HasNoEntryIn index (slot_in_turn s)
+
+pub in_turn : (t : SlotTable) (index : PlaceMap) (held : List (Option HeaderValue)) (image : List ℕ) (live : LiveKeys) (snapshot source entry : ℕ) (s : Sweep) → RepresentsSlots held t → IsSweeping t snapshot s
+    → s.next ≡ Release source entry → HoldsSweep index held image live snapshot s → IsInTurn index held snapshot s
+in_turn t index held image live snapshot source entry s slots under stage holds =
+    let has : HasNext t s (Release source entry) = subst (HasNext t s) stage under.next_is in
+    let there = some_ready s.ready.items has.0 in
+    record {
+      stands = stands_in held t snapshot s under slots (slot_in_turn s) (Contains-append_right s.waiting.items s.ready.items (slot_in_turn s) there);
+      is_ready = there;
+      none = holds.ready (slot_in_turn s) there;
+    }
+
+-- ---- at its end
+
+-- no source stands still
+pub none_left : (t : SlotTable) (index : PlaceMap) (held : List (Option HeaderValue)) (image : List ℕ) (live : LiveKeys) (snapshot : ℕ) (s : Sweep) → IsSweeping t snapshot s → s.next ≡ End
+    → HoldsSweep index held image live snapshot s → (number : ℕ) → number < length s.sources.items → (slot : ℕ) (h : HeaderValue) → slice_get held slot ≡ Some (Some h) → h.id ≢ get_or s.sources.items number 0
+none_left t index held image live snapshot s under stage holds number within slot h there id_is =
+    let has : HasNext t s End = subst (HasNext t s) stage under.next_is in
+    let below : number < sources_before s s.next = subst (λ (n : Next). number < sources_before s n) (sym stage) within in
+    let none : s.waiting.items ++ s.ready.items ≡ [] = ap (λ (xs : List ℕ). xs ++ s.ready.items) (under.waits has.1) ∙ has.0 in
+    none_in (s.waiting.items ++ s.ready.items) slot none (holds.none_lost slot number h there below id_is)

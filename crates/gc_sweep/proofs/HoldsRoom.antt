@@ -1,0 +1,111 @@
+-- The reserve of slots while a sweep is under way, and that what was copied may be written.
+use Rattle.std.proofs.Common.{◌≡◌, ◌≢◌, ◌⊎◌, inl, inr, ℕ, ◌+◌, ◌<◌, ◌≤◌, true, false, List, count_by, Option, Some, None, refl, sym, ◌∙◌, ap, subst, arith}
+use Rattle.std.specs.Prelude.{◌==◌, nat_le, slice_get}
+use Rattle.std.specs.List.{AllByRecursion}
+use Rattle.std.proofs.lemmas.Bool.Decides.{leb_tells}
+use Rattle.sha2.specs.Sha256.{sha256}
+use Rattle.container_meta.specs.declared.place.Place.{Place}
+use Rattle.container_meta.specs.Places.{PlaceMap}
+use Rattle.container_meta.specs.Segments.{Segment, segment_key}
+use Rattle.container_meta.specs.Spelling.{HeaderValue}
+use Rattle.disk_format.specs.declared.numbers.TheConstants.{RESERVE}
+use Rattle.gc_enumerate.specs.Live.{LiveKeys}
+use Rattle.store_model.specs.Collisions.{AreAmong, IsAmong}
+use Rattle.store_model.specs.Reserve.{HasReserve, HoldsNone, IsSpare}
+use Rattle.store_model.specs.Slots.{AreHeaders, Copy, HasKey, IsPartialIndexOf, first_free, free_slots}
+use Rattle.store_model.specs.Standing.{AreNodes, IsOfKind}
+use Rattle.store_model.specs.Steps.{MaySeal}
+use Rattle.store_model.specs.Trees.{HasNewest}
+use Rattle.store_model.proofs.Copies.{some_same}
+use Rattle.store_model.proofs.Free.{first_closed, some_free, zeros_free}
+use Rattle.store_model.proofs.FreedFiles.{free_reserve}
+use Rattle.store_model.proofs.HeldSlots.{IsAmongThese, IsNodeEntry, among_so, newest_so, nodes_so}
+use Rattle.store_state.specs.Tables.{RepresentsSlots}
+use Rattle.store_state.specs.declared.slot_table.SlotTable.{SlotTable}
+use Rattle.gc_sweep.specs.declared.sweep.Next.{Next}
+use Rattle.gc_sweep.specs.declared.sweep.Next.TheVariants.{Copy as CopyNext, Flush, Release, End}
+use Rattle.gc_sweep.specs.declared.sweep.Sweep.{Sweep}
+use Rattle.gc_sweep.specs.Holding.{HoldsSweep, IsCopied}
+use Rattle.gc_sweep.specs.InTurn.{slot_in_turn}
+use Rattle.gc_sweep.specs.Releasing.{HasNoEntryIn}
+use Rattle.gc_sweep.specs.UnderWay.{IsSweeping, free_in, taken_from}
+use Rattle.gc_sweep.proofs.Holds.{IsInTurn, in_turn}
+use Rattle.gc_sweep.proofs.InSlots.{copy_of}
+use Rattle.gc_sweep.proofs.KeyLists.{each_so}
+
+-- ---- the reserve
+
+-- a slot in which the index has no entry has the newest copy of no key that it has
+pub none_newest : (held : List (Option HeaderValue)) (index : PlaceMap) (slot : ℕ) → IsPartialIndexOf held index → HasNoEntryIn index slot → HoldsNone (HasKey index) held slot
+none_newest held index slot partial none key copy has is here =
+    let found = copy_of held index partial key has.0 has.1 in
+    none key has.0 has.1 (ap (λ (p : Place). p.slot) (sym found.1.1 ∙ ap (λ (c : Copy). c.place) (some_same found.0 copy (sym found.1.0 ∙ is))) ∙ here)
+
+module _ (t : SlotTable) (index : PlaceMap) (held : List (Option HeaderValue)) (image : List ℕ) (live : LiveKeys) (snapshot : ℕ) (s : Sweep) (slots : RepresentsSlots held t) (headers : AreHeaders held)
+    (under : IsSweeping t snapshot s) where
+  free_is : free_in t ≡ free_slots held
+  free_is = ap (λ (ids : List ℕ). count_by (λ id. id == 0) ids) slots.ids_are ∙ zeros_free held headers
+
+  most_one : (n : Next) → taken_from n ≤ 1
+  most_one (CopyNext source entry) = omega arith
+  most_one (Flush source entry) = omega arith
+  most_one (Release source entry) = omega arith
+  most_one End = omega arith
+
+  pub one_free : 1 ≤ free_slots held
+  one_free = omega (arith, under.room, free_is, most_one s.next)
+
+  module _ (partial : IsPartialIndexOf held index) (holds : HoldsSweep index held image live snapshot s) where
+    both_closed : 2 ≤ free_slots held → HasReserve (HasKey index) held
+    both_closed enough = free_reserve (HasKey index) held enough
+
+    -- a closed one, and the one that is given back next
+    closed_and_ready : IsInTurn index held snapshot s → HasReserve (HasKey index) held
+    closed_and_ready turn = by_order (leb_tells (first_free held) (slot_in_turn s))
+      where
+        closed : slice_get held (first_free held) ≡ Some None
+        closed = first_closed held (some_free held one_free)
+
+        differ : first_free held ≢ slot_in_turn s
+        differ same = let wrong : None ≡ Some turn.stands.header = some_same None (Some turn.stands.header) (sym closed ∙ ap (slice_get held) same ∙ turn.stands.there) in cc
+
+        spare : IsSpare (HasKey index) held (slot_in_turn s)
+        spare = record { header = turn.stands.header; holds = turn.stands.there; none = none_newest held index (slot_in_turn s) partial turn.none }
+
+        by_order : ((nat_le (first_free held) (slot_in_turn s) ≡ true) × (first_free held ≤ slot_in_turn s)) ⊎ ((nat_le (first_free held) (slot_in_turn s) ≡ false) × (slot_in_turn s < first_free held)) → HasReserve (HasKey index) held
+        by_order (inl least) = record { first = first_free held; second = slot_in_turn s; differ = omega (arith, least.1, differ); first_is = inl closed; second_is = inr spare }
+        by_order (inr more) = record { first = slot_in_turn s; second = first_free held; differ = more.1; first_is = inr spare; second_is = inl closed }
+
+    -- two slots are closed; or one is, and the first that is ready is given back
+    pub has_reserve : HasReserve (HasKey index) held
+    has_reserve = by_next s.next refl
+      where
+        closed_by : (n : Next) → s.next ≡ n → taken_from n ≡ 0 → HasReserve (HasKey index) held
+        closed_by n stage none = both_closed (let room : RESERVE ≤ free_in t + taken_from n = subst (λ (n : Next). RESERVE ≤ free_in t + taken_from n) stage under.room in omega (arith, room, none, free_is))
+
+        by_next : (n : Next) → s.next ≡ n → HasReserve (HasKey index) held
+        by_next (CopyNext source entry) stage = closed_by (CopyNext source entry) stage refl
+        by_next (Flush source entry) stage = closed_by (Flush source entry) stage refl
+        by_next (Release source entry) stage = closed_and_ready (in_turn t index held image live snapshot source entry s slots under stage holds)
+        by_next End stage = closed_by End stage refl
+
+-- ---- what was copied may be written
+
+module _ (index : PlaceMap) (held : List (Option HeaderValue)) (image : List ℕ) (live : LiveKeys) (snapshot : ℕ) (s : Sweep) (holds : HoldsSweep index held image live snapshot s) where
+  -- each segment is the newest copy of its key
+  pub are_newest : AllByRecursion (λ x. HasNewest held (segment_key s.buffer.kind x) x.level x.bytes image) s.buffer.segments
+  are_newest =
+      each_so (IsCopied index live held image s.buffer.kind) (λ x. HasNewest held (segment_key s.buffer.kind x) x.level x.bytes image) s.buffer.segments (λ x is. is.newest) holds.copied
+
+  module _ (S : List ℕ → Type 0) (nodes : AreNodes 0 held image) (among : AreAmong S 0 held image) where
+    may_seal : (x : Segment) → HasNewest held (segment_key s.buffer.kind x) x.level x.bytes image → MaySeal S s.buffer.kind x
+    may_seal x has =
+        let node = newest_so IsNodeEntry held s.buffer.kind (sha256 x.bytes) image has.copy (nodes_so 0 held image nodes) has.copy_is in
+        let leaf = newest_so (IsAmongThese S) held s.buffer.kind (sha256 x.bytes) image has.copy (among_so S 0 held image among) has.copy_is in
+        record {
+          of_kind = subst (λ (level : ℕ). IsOfKind s.buffer.kind level x.bytes) (sym node.level_is ∙ has.level_is) (subst (IsOfKind s.buffer.kind node.entry.level) has.bytes_are node.so);
+          among = subst (IsAmong S s.buffer.kind) has.bytes_are leaf.so;
+        }
+
+    pub may_flush : AllByRecursion (MaySeal S s.buffer.kind) s.buffer.segments
+    may_flush = each_so (λ x. HasNewest held (segment_key s.buffer.kind x) x.level x.bytes image) (MaySeal S s.buffer.kind) s.buffer.segments may_seal are_newest

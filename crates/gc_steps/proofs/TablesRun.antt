@@ -1,5 +1,5 @@
 -- Tables run on beside an index that has fewer keys, or the same.
-use Rattle.std.proofs.Common.{◌≡◌, ℕ, List, Option, Some, None, sym, ◌∙◌, subst}
+use Rattle.std.proofs.Common.{◌≡◌, ℕ, List, Option, Some, None, refl, sym, ◌∙◌, subst}
 use Rattle.container_meta.specs.Places.{PlaceMap}
 use Rattle.copy_forward.specs.Entries.{without_keys}
 use Rattle.segment_index.specs.Places.{KnownMap}
@@ -8,7 +8,7 @@ use Rattle.store_model.proofs.Copies.{some_same}
 use Rattle.store_state.specs.Indexing.{Stays}
 use Rattle.store_state.specs.Tables.{Runs}
 use Rattle.store_state.specs.declared.tables.Tables.{Tables}
-use Rattle.gc_steps.proofs.Swept.{had_before}
+use Rattle.gc_sweep.proofs.KeyLists.{had_before}
 
 -- with an index that has fewer keys
 pub runs_emptied : (size new_size : ℕ) (known after_known : Option PlaceMap) (t : Tables) (keys : List (List ℕ)) → new_size ≡ size → KnownMap known (λ m. after_known ≡ Some (without_keys keys m))

@@ -10,7 +10,7 @@ use Rattle.actor_parts.specs.StepValue as asked
 use Rattle.actor_parts.specs.StepValue.{StepValue}
 use Rattle.refusals.specs.declared.refusal.Refusal.{Refusal}
 use Rattle.refusals.specs.declared.refusal.Refusal.TheVariants as refusals
-use Rattle.store_model.specs.Collisions.{HasNoCollisions, ByteSet, IsIn, IsOf}
+use Rattle.store_model.specs.Collisions.{HasNoCollisions, ByteSet, IsIn, OpensAs}
 use Rattle.store_model.specs.Files.{Stored}
 use Rattle.store_model.specs.Image.{Store}
 use Rattle.store_state.specs.declared.tables.Tables.{Tables}
@@ -32,7 +32,7 @@ use Rattle.script_runner.proofs.Resting.{refused_faults, refused_stored}
 
 -- an image of the files before the step, or of those that it may have put
 abbrev pub IsTried : (List ℕ → Type 0) → Machine → FileEvent → List ℕ → Type 0
-IsTried S m f image = IsOf S m.stored image ⊎ IsOf S (stored_tried f.event.step f.event.answer f.bytes m.stored) image
+IsTried S m f image = OpensAs S m.stored image ⊎ OpensAs S (stored_tried f.event.step f.event.answer f.bytes m.stored) image
 
 -- Of a core that was at this store of the machine's files: it is stopped as a write or a sync failed; what was written stays, and
 -- each image is of these files, or of those after a commit or a delete.
@@ -101,7 +101,7 @@ module _ (C : Type 0) (state : C → CoreState) (among : ByteSet) (apart : HasNo
           | inl before ↦ inl before
           | inr after ↦ elim after [
             | inl tried ↦ inr tried
-            | inr done ↦ inl (subst (λ (stored : Stored). IsOf S stored image) same done)
+            | inr done ↦ inl (subst (λ (stored : Stored). OpensAs S stored image) same done)
           ]
         ]) (leaves_on_the_way C state among (f ∷ []) store m.stored old new apart running.begins.is_at run)
 

@@ -21,7 +21,7 @@ use Rattle.gc_steps.proofs.Safe.{early_level}
 use Rattle.gc_steps.specs.FewSources.{IsToChoose}
 use Rattle.disk_format.specs.declared.numbers.TheConstants.{MOST_LEVEL}
 use Rattle.namespace.specs.Names.{NameMap}
-use Rattle.store_model.specs.Collisions.{HasNoCollisions, ByteSet, IsIn, IsOf}
+use Rattle.store_model.specs.Collisions.{HasNoCollisions, ByteSet, IsIn, OpensAs}
 use Rattle.store_model.specs.Image.{Store, names_of}
 use Rattle.store_model.specs.Reserve.{IsReachable}
 use Rattle.store_state.specs.declared.slot_table.SlotTable.{SlotTable}
@@ -90,7 +90,7 @@ module _ (C : Type 0) (state : C → CoreState) (among : ByteSet) (apart : HasNo
   pub keeps : KeepsStored S m.stored (state old).disk (state new).disk
   keeps = record {
     later = (step_later (state old) (state new) f.event (state old).stop made).clock_is;
-    leaves = leaves_weaker (IsOnTheWay S (f ∷ []) m.stored) (IsOf S m.stored) (state old).disk (state new).disk
+    leaves = leaves_weaker (IsOnTheWay S (f ∷ []) m.stored) (OpensAs S m.stored) (state old).disk (state new).disk
         (λ image way. elim way [
           | inl before ↦ before
           | inr after ↦ elim after [ inl tried ↦ tried | inr done ↦ done ]

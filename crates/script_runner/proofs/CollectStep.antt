@@ -27,7 +27,7 @@ use Rattle.gc_steps.proofs.UnderWay.{at_stage}
 use Rattle.gc_steps.proofs.Sparing as sparing
 use Rattle.gc_steps.specs.Marking.{MarksOnly}
 use Rattle.gc_steps.proofs.StepSafe.{IsStoreAfter, LeavesSafe, step_safe}
-use Rattle.store_model.specs.Collisions.{HasNoCollisions, ByteSet, IsIn, IsOf}
+use Rattle.store_model.specs.Collisions.{HasNoCollisions, ByteSet, IsIn, OpensAs}
 use Rattle.store_model.specs.Image.{Encodes, Store}
 use Rattle.store_model.specs.Reserve.{IsReachable, IsSpare}
 use Rattle.store_model.specs.Steps.{StoreChange}
@@ -193,7 +193,7 @@ module _ (C : Type 0) (state : C → CoreState) (among : ByteSet) (apart : HasNo
   pub keeps : KeepsStored S m.stored (state old).disk (state new).disk
   keeps = record {
     later = (step_later (state old) (state new) f.event (state old).stop made).clock_is;
-    leaves = leaves_weaker (IsOnTheWay S (f ∷ []) m.stored) (IsOf S m.stored) (state old).disk (state new).disk
+    leaves = leaves_weaker (IsOnTheWay S (f ∷ []) m.stored) (OpensAs S m.stored) (state old).disk (state new).disk
         (λ image way. elim way [
           | inl before ↦ before
           | inr after ↦ elim after [ inl tried ↦ tried | inr done ↦ done ]

@@ -19,7 +19,7 @@ use Rattle.refusals.specs.declared.refusal.Refusal.{Refusal}
 use Rattle.refusals.specs.declared.refusal.Refusal.TheVariants as refusals
 use Rattle.ingest_session.specs.State.{SessionState}
 use Rattle.namespace.specs.Names.{HasRoom}
-use Rattle.store_model.specs.Collisions.{HasNoCollisions, ByteSet, IsIn, IsOf}
+use Rattle.store_model.specs.Collisions.{HasNoCollisions, ByteSet, IsIn, OpensAs}
 use Rattle.store_model.specs.Files.{Files, with_stored}
 use Rattle.store_model.specs.Image.{Store, Encodes, names_of}
 use Rattle.store_model.specs.Standing.{IsStoreOf}
@@ -82,7 +82,7 @@ pub record CommitMade (S : List ℕ → Type 0) (m : Machine) (sessions : Sessio
   pub numbers : HasNumbers m
   pub recorded : AddsRecord name (Put (root_of file)) m.content image
   pub at : RunsAt S (committed m actor name file image) (with_session sessions actor None) new
-  pub leaves : CrashLeaves (λ c. IsOf S m.stored c ⊎ IsOf S (with_stored m.stored name file) c) old.disk new.disk
+  pub leaves : CrashLeaves (λ c. OpensAs S m.stored c ⊎ OpensAs S (with_stored m.stored name file) c) old.disk new.disk
 
 module _ (C : Type 0) (state : C → CoreState) (among : ByteSet) (distinct : HasNoCollisions (IsIn among)) (m : Machine) (sessions : Sessions) (actor : ℕ) (below : actor < ACTORS) (old new : C) (at : RunsAt (IsIn among) m sessions (state old)) (t : SessionState)
     (whole : IsWhole m actor t (state old)) (name buf : List ℕ) where

@@ -20,7 +20,7 @@ use Rattle.ingest_session.specs.State.{SessionState}
 use Rattle.ingest_steps.specs.Naming.{MayName}
 use Rattle.ingest_steps.specs.Writers.{IsCommitRefusal}
 use Rattle.namespace.specs.Names.{HasRoom, IsFull, NameMap}
-use Rattle.store_model.specs.Collisions.{HasNoCollisions, ByteSet, IsIn, IsOf}
+use Rattle.store_model.specs.Collisions.{HasNoCollisions, ByteSet, IsIn, OpensAs}
 use Rattle.store_model.specs.Files.{Stored, with_stored}
 use Rattle.store_model.specs.Image.{Store, Encodes, names_of}
 use Rattle.store_model.specs.Standing.{IsStoreOf}
@@ -57,7 +57,7 @@ pub record CommitRefused (S : List ℕ → Type 0) (m : Machine) (sessions : Ses
   pub next : Machine
   pub refuses : RefusesName actor name file refusal m next ⊎ ((refusal ≡ refusals.Memory) × Stays m next)
   pub follows : Follows S next sessions new
-  pub leaves : CrashLeaves (λ image. IsOf S m.stored image ⊎ IsOfFound S next.state next.stored image) old.disk new.disk
+  pub leaves : CrashLeaves (λ image. OpensAs S m.stored image ⊎ IsOfFound S next.state next.stored image) old.disk new.disk
 
 -- ---- names
 
@@ -168,7 +168,7 @@ module _ (C : Type 0) (state : C → CoreState) (among : ByteSet) (distinct : Ha
             refuses = cause.1;
             follows = follows_at S m sessions (state new) (rested cause.0);
             leaves =
-                leaves_weaker (λ image. IsOf S m.stored image ⊎ IsOf S m.stored image) (λ image. IsOf S m.stored image ⊎ IsOfFound S m.state m.stored image) (state old).disk (state new).disk
+                leaves_weaker (λ image. OpensAs S m.stored image ⊎ OpensAs S m.stored image) (λ image. OpensAs S m.stored image ⊎ IsOfFound S m.state m.stored image) (state old).disk (state new).disk
                 (λ image either. elim either [ inl of ↦ inl of | inr of ↦ inl of ])
                 leads.leaves;
           }
@@ -187,10 +187,10 @@ module _ (C : Type 0) (state : C → CoreState) (among : ByteSet) (distinct : Ha
       abbrev broken_now : Machine
       broken_now = record m { state = Stopped (Some tried); content = broke.image; faults = (state new).disk.faults }
 
-      may_be_of : (image : List ℕ) → IsTried S m f image → IsOf S m.stored image ⊎ IsOf S tried image
+      may_be_of : (image : List ℕ) → IsTried S m f image → OpensAs S m.stored image ⊎ OpensAs S tried image
       may_be_of image either = by_write refusal is_write either
         where
-          by_write : (e : Refusal) → e ≡ refusals.DiskWrite → IsTried S m (commit_event actor name whole.file buf (Err e)) image → IsOf S m.stored image ⊎ IsOf S tried image
+          by_write : (e : Refusal) → e ≡ refusals.DiskWrite → IsTried S m (commit_event actor name whole.file buf (Err e)) image → OpensAs S m.stored image ⊎ OpensAs S tried image
           by_write refusals.DiskWrite same is = is
           by_write e same is = absurd cc
 
@@ -234,7 +234,7 @@ module _ (C : Type 0) (state : C → CoreState) (among : ByteSet) (distinct : Ha
         next = broken_now;
         refuses = inl (subst (λ (e : Refusal). RefusesName actor name file e m broken_now) (sym is_write) write_failed);
         follows = stopped_follows;
-        leaves = leaves_weaker (IsTried S m f) (λ image. IsOf S m.stored image ⊎ IsOfFound S broken_now.state broken_now.stored image) (state old).disk (state new).disk (λ image either. inr (found image either)) broke.leaves;
+        leaves = leaves_weaker (IsTried S m f) (λ image. OpensAs S m.stored image ⊎ IsOfFound S broken_now.state broken_now.stored image) (state old).disk (state new).disk (λ image either. inr (found image either)) broke.leaves;
       }
 
     by_stop : (stop : Option Stop) → (state new).stop ≡ stop → CommitRefused S m sessions actor name file refusal (state old) (state new)

@@ -18,10 +18,10 @@ use Rattle.store_core.specs.State.{CoreState}
 use Rattle.plain_machine.specs.Lines.{AnswersTurn, Does}
 use Rattle.plain_machine.specs.Machine.{Machine, RunState, Running, Stopped, MayBeFound}
 use Rattle.plain_machine.specs.Refused.{RefusesBytes, RefusesCommit, RefusesDelete, RefusesName, RefusesOn, Refuses, RefusesReopen}
-use Rattle.plain_machine.specs.Runs.{StepBy, StepReopen, StepRunning, ends}
+use Rattle.plain_machine.specs.Runs.{StepBy, StepReopen, StepRunning}
 use Rattle.plain_machine.specs.Turns.{Writer, MachineTurns, RefusesStep, RefusesTurn}
 use Rattle.script_runner.specs.Acts.{Acts, ActsOrNot, ActsReopen, RunnerState, RunsLine, moment_of, noted_if}
-use Rattle.script_runner.specs.Follows.{Follows, FollowsBy, FollowsUnless, Notes}
+use Rattle.script_runner.specs.Follows.{Follows, FollowsBy, Notes}
 use Rattle.script_runner.specs.Sessions.{Sessions}
 use Rattle.plain_machine.specs.Collections.{CollectionSteps, RefusesCollectionStep}
 use Rattle.refusals.specs.declared.refusal.Phase.{Phase}
@@ -258,7 +258,7 @@ module _ (C : Type 0) (state : C → CoreState) (S : List ℕ → Type 0) (m n :
   or_not line reply differs step (inr barred) =
       notes_by line reply (state s.core) m n r.moments s.moments (step_number m.state line reply m n differs step) (barred_moments line reply barred.0 barred.1 barred.3)
 
-  reopened : (reply : ReplyValue) → FollowsUnless (ends lines.Reopen reply) S n s.sessions (state s.core) → StepReopen reply m n → ActsReopen C state reply r s → Notes (state s.core) m n r.moments s.moments
+  reopened : (reply : ReplyValue) → Follows S n s.sessions (state s.core) → StepReopen reply m n → ActsReopen C state reply r s → Notes (state s.core) m n r.moments s.moments
   reopened (replies.Opened files) follows_now step acts =
       let was : (state r.core).tables.journal.last ≡ m.stored.last = journal_by m.state S m r.sessions (state r.core) follows.stands in
       let now : (state s.core).tables.journal.last ≡ n.stored.last = journal_by n.state S n s.sessions (state s.core) follows_now.stands in
@@ -272,6 +272,6 @@ module _ (C : Type 0) (state : C → CoreState) (S : List ℕ → Type 0) (m n :
   reopened (replies.Refused refusal) follows_now step acts = inl (ap last_of (reopen_stored refusal m n step), acts.2)
   reopened reply follows_now step acts = absurd acts
 
-  pub notes : (line : LineValue) (reply : ReplyValue) → FollowsUnless (ends line reply) S n s.sessions (state s.core) → StepBy m.state line reply m n → RunsLine C state line reply r s → Notes (state s.core) m n r.moments s.moments
+  pub notes : (line : LineValue) (reply : ReplyValue) → Follows S n s.sessions (state s.core) → StepBy m.state line reply m n → RunsLine C state line reply r s → Notes (state s.core) m n r.moments s.moments
   notes lines.Reopen reply follows_now step runs = reopened reply follows_now (reopens m.state reply m n step) runs
   notes line reply follows_now step runs = or_not line reply (λ same. cc) step runs

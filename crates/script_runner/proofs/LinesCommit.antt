@@ -14,7 +14,7 @@ use Rattle.ingest_session.specs.State.{SessionState}
 use Rattle.script_lines.specs.Grammar as lines
 use Rattle.script_lines.specs.ReplyValue as replies
 use Rattle.script_lines.specs.ReplyValue.{ReplyValue}
-use Rattle.store_model.specs.Collisions.{HasNoCollisions, ByteSet, IsIn, IsOf}
+use Rattle.store_model.specs.Collisions.{HasNoCollisions, ByteSet, IsIn, OpensAs}
 use Rattle.store_model.specs.Files.{Stored, with_stored}
 use Rattle.store_model.specs.Trees.{root_of}
 use Rattle.store_core.specs.State.{CoreState, Event}
@@ -88,14 +88,14 @@ module _ (C : Type 0) (state : C → CoreState) (among : ByteSet) (distinct : Ha
       root_is = same_root root (root_of whole.file) (sym ready.ready ∙ whole.root_is)
 
       -- a crash before the commit leaves the files of before it, and one after it what the commit leaves
-      leaves_by : (state_now : RunState) (stored_now : Stored) → CrashLeaves (λ image. IsOf S made.next.stored image ⊎ IsOfFound S state_now stored_now image) (state mid).disk (state s.core).disk
+      leaves_by : (state_now : RunState) (stored_now : Stored) → CrashLeaves (λ image. OpensAs S made.next.stored image ⊎ IsOfFound S state_now stored_now image) (state mid).disk (state s.core).disk
           → CrashLeaves (λ image. IsOfFound S m.state m.stored image ⊎ IsOfFound S state_now stored_now image) (state r.core).disk (state s.core).disk
       leaves_by state_now stored_now leaves =
-          leaves_on (IsOf S m.stored) (λ image. IsOf S made.next.stored image ⊎ IsOfFound S state_now stored_now image) (λ image. IsOfFound S m.state m.stored image ⊎ IsOfFound S state_now stored_now image)
+          leaves_on (OpensAs S m.stored) (λ image. OpensAs S made.next.stored image ⊎ IsOfFound S state_now stored_now image) (λ image. IsOfFound S m.state m.stored image ⊎ IsOfFound S state_now stored_now image)
           (state r.core).disk (state mid).disk (state s.core).disk made.keeps.later made.keeps.leaves leaves
           (λ image of. inl (found_running m.state S m.stored image is of))
           (λ image either. elim either [
-            | inl of ↦ inl (found_running m.state S m.stored image is (subst (λ (stored : Stored). IsOf S stored image) made.stored_is of))
+            | inl of ↦ inl (found_running m.state S m.stored image is (subst (λ (stored : Stored). OpensAs S stored image) made.stored_is of))
             | inr found ↦ inr found
           ])
 
@@ -131,7 +131,7 @@ module _ (C : Type 0) (state : C → CoreState) (among : ByteSet) (distinct : Ha
             )
             (subst (λ (x : Sessions). Follows S next x (state s.core)) (set-set r.sessions a (Some t) None ∙ sym sessions) (follows_at S next (with_session now a None) (state s.core) commit.at))
             (leaves_by next.state next.stored
-            (leaves_weaker (λ image. IsOf S made.next.stored image ⊎ IsOf S (with_stored made.next.stored name whole.file) image) (λ image. IsOf S made.next.stored image ⊎ IsOfFound S next.state next.stored image) (state mid).disk (state s.core).disk
+            (leaves_weaker (λ image. OpensAs S made.next.stored image ⊎ OpensAs S (with_stored made.next.stored name whole.file) image) (λ image. OpensAs S made.next.stored image ⊎ IsOfFound S next.state next.stored image) (state mid).disk (state s.core).disk
             (λ image either. elim either [ inl of ↦ inl of | inr of ↦ inr (found_running next.state S next.stored image commit.at.state_is of) ]) commit.leaves))
           where
             number : (journal last : ℕ) → journal ≡ last → last < 2 ^ 64 - 1 → min (journal + 1) (2 ^ 64 - 1) ≡ suc last

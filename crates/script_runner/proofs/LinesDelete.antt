@@ -19,7 +19,7 @@ use Rattle.namespace.specs.Names.{NameMap}
 use Rattle.script_lines.specs.Grammar as lines
 use Rattle.script_lines.specs.ReplyValue as replies
 use Rattle.script_lines.specs.ReplyValue.{ReplyValue}
-use Rattle.store_model.specs.Collisions.{HasNoCollisions, ByteSet, IsIn, IsOf}
+use Rattle.store_model.specs.Collisions.{HasNoCollisions, ByteSet, IsIn, OpensAs}
 use Rattle.store_model.specs.Files.{without_stored}
 use Rattle.store_model.specs.Image.{Store, Encodes, names_of}
 use Rattle.store_model.specs.Standing.{IsStoreOf}
@@ -149,7 +149,7 @@ module _ (C : Type 0) (state : C → CoreState) (among : ByteSet) (distinct : Ha
             others = refl;
           })
           (follows_at S next s.sessions new at_next)
-          (leaves_weaker (λ image. IsOf S m.stored image ⊎ IsOf S (without_stored m.stored name) image) (λ image. IsOfFound S m.state m.stored image ⊎ IsOfFound S next.state next.stored image) old.disk new.disk
+          (leaves_weaker (λ image. OpensAs S m.stored image ⊎ OpensAs S (without_stored m.stored name) image) (λ image. IsOfFound S m.state m.stored image ⊎ IsOfFound S next.state next.stored image) old.disk new.disk
           (λ image either. elim either [ inl of ↦ inl (found_running m.state S m.stored image is of) | inr of ↦ inr (found_running next.state S next.stored image is of) ]) leads.leaves)
         where
           number : (journal last : ℕ) → journal ≡ last → last < 2 ^ 64 - 1 → min (journal + 1) (2 ^ 64 - 1) ≡ suc last
@@ -194,7 +194,7 @@ module _ (C : Type 0) (state : C → CoreState) (among : ByteSet) (distinct : Ha
           (names_rested old new (asked.Delete name) name Delete refusal stays row.stops row.made.effect) in
           line_to C state S (lines.Delete name) (replies.Refused refusal) m r s is m (delete_refuses name refusal m m right_part_is cause.1)
           (subst (λ (now : Sessions). Follows S m now new) (sym sessions) (follows_at S m r.sessions new rested))
-          (leaves_weaker (IsOf S m.stored) (λ image. IsOfFound S m.state m.stored image ⊎ IsOfFound S m.state m.stored image) old.disk new.disk
+          (leaves_weaker (OpensAs S m.stored) (λ image. IsOfFound S m.state m.stored image ⊎ IsOfFound S m.state m.stored image) old.disk new.disk
           (λ image of. inl (found_running m.state S m.stored image is of))
           (rested_leaves C state among distinct m r.sessions r.core s.core at 0 first_below (asked.Delete name) [] buf refusal made row.made.row.1 tt stays))
 

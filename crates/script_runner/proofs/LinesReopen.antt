@@ -1,5 +1,5 @@
 -- `reopen` follows the plain machine, whether the store was opened again or not.
-use Rattle.std.proofs.Common.{[], ◌≡◌, ◌⊎◌, inl, inr, ◌≤◌, ◌<◌, ◌-◌, ℕ, false, true, List, length, replicate, Option, None, Ok, Err, IsTrue, refl, sym, ◌∙◌, ap, subst, arith, Bool, Some, ◌∷◌}
+use Rattle.std.proofs.Common.{[], ◌≡◌, ◌⊎◌, inl, inr, ◌≤◌, ◌<◌, ◌-◌, ℕ, false, true, List, length, replicate, Option, None, Ok, Err, IsTrue, refl, sym, ◌∙◌, ap, subst, arith, Bool, Some, ◌∷◌, suc}
 use Rattle.store_model.specs.Collisions.{ByteSet, IsIn, IsOf, OpensAs}
 use Rattle.std.proofs.lemmas.List.{get_or-replicate, length-replicate}
 use Rattle.std.specs.FinMap as finite
@@ -44,7 +44,6 @@ use Rattle.store_core.specs.Opening.{BeginsAt, IsGivenUp, IsKept, IsNotRead, IsR
 use Rattle.store_core.specs.Runs.{IsAt, IsSafeIn}
 use Rattle.store_core.specs.State.{CoreState, Event, IsUp, UnlessStopped, IsUnderWayIn}
 use Rattle.store_core.proofs.CoreRuns.{running_step}
-use Rattle.store_core.proofs.Crashes.{image_at}
 use Rattle.store_core.proofs.Making.{up_of}
 use Rattle.store_core.proofs.Opened.{begins_at, kept_runs, new_runs}
 use Rattle.store_core.proofs.RunningOn.{step_runs}
@@ -52,12 +51,13 @@ use Rattle.plain_machine.specs.Machine.{Collecting, Finds, Machine, Part, Idle, 
 use Rattle.plain_machine.specs.Refused as plain_refused
 use Rattle.plain_machine.specs.Runs.{StepBy, StepReopen}
 use Rattle.script_runner.specs.Acts.{ActsReopen, RefusesReopen, Reopens, RunnerState, counted}
-use Rattle.script_runner.specs.Follows.{Follows, FollowsBy, FollowsPart, IsLeftAt, IsOfFound, Takes, FollowsCollection, FollowsStore, FollowsStoreOf}
+use Rattle.script_runner.specs.Follows.{Follows, FollowsBy, FollowsPart, FollowsStopped, IsOfFound, Takes, FollowsCollection, FollowsStore, FollowsStoreOf}
 use Rattle.script_runner.specs.Sessions.{Sessions, session_of}
-use Rattle.script_runner.proofs.Along.{GoesUnless}
+use Rattle.script_runner.proofs.Along.{GoesAlong}
 use Rattle.script_runner.proofs.Images.{sound}
 use Rattle.script_runner.proofs.PartsOn.{part_on}
 use Rattle.script_runner.proofs.RoomFound.{began, began_for, begun_leaves, given_now, given_then, images_now, images_then, opens_then, reserved, room_for, room_leaves, stands_now, told_now, told_then}
+use Rattle.script_runner.proofs.Onward.{images}
 use Rattle.store_model.proofs.FreedFiles.{opens_of, stands_of}
 use Rattle.base_model.specs.Fault.{Rose}
 use Rattle.script_runner.proofs.SameNames.{same_count}
@@ -89,7 +89,6 @@ module _ (old new : CoreState) (reads : OnlyReads old.disk new.disk) (tables_are
     valid = subst (λ (size : ℕ). IsValidFor size store) (sym reads.later.size_is) at.valid;
     stands = record { known = (at.stands.known.0, reads.content_is ∙ at.stands.known.1); each = λ image there. at.stands.each image (reads.images_are image there) };
     last_is = ap (λ (tables : Tables). tables.journal.last) tables_are ∙ at.last_is;
-    reserve = at.reserve;
     invariant = λ image told.
         let was = at.invariant image (sym reads.content_is ∙ told) in
         record {
@@ -148,23 +147,10 @@ module _ (old new : CoreState) (reads : OnlyReads old.disk new.disk) (tables_are
 
 -- ---- what a crash leaves, and what is found
 
--- each image of a core that follows is of files that may be found
-found_by : (S : List ℕ → Type 0) (m : Machine) (sessions : Sessions) (c : CoreState) (run : RunState) → m.state ≡ run → FollowsBy run S m sessions c
-    → (image : List ℕ) → c.disk.images image → IsOfFound S m.state m.stored image
-found_by S m sessions c Running is stands image there =
-    let at = stands.begins.is_at in
-    let of : IsOf S m.stored image = image_at S stands.begins.store m.stored c at image there in
-    (m.stored, (subst (λ (state : RunState). MayBeFound state m.stored m.stored) (sym is) refl, of))
-found_by S m sessions c (Stopped other) is stands image there = stands.images image there
-
 -- whether it runs or is stopped
 step_by : (run : RunState) (reply : ReplyValue) (m n : Machine) → StepReopen reply m n → StepBy run lines.Reopen reply m n
 step_by Running reply m n is = is
 step_by (Stopped other) reply m n is = is
-
--- it can be opened as these
-as_opens : (S : List ℕ → Type 0) (m : Machine) (image : List ℕ) → IsOfFound S m.state m.stored image → IsLeftAt true S m image
-as_opens S m image is = (is.0, (is.1.0, opens_of S is.0 image is.1.1))
 
 -- a store that is stopped then may be found with the same files
 may_still : (run : RunState) (stored found : Stored) → MayBeFound run stored found → MayBeFound (stopped_by run) stored found
@@ -225,10 +211,10 @@ module _ (C : Type 0) (state : C → CoreState) (among : ByteSet) (m : Machine) 
   abbrev disk_of : C → DiskView
   disk_of c = (state c).disk
 
-  images_found : (image : List ℕ) → before.disk.images image → IsLeftAt true S m image
-  images_found image there = as_opens S m image (found_by S m r.sessions before m.state refl follows.stands image there)
+  images_found : (image : List ℕ) → before.disk.images image → IsOfFound S m.state m.stored image
+  images_found = images S m r.sessions before follows
 
-  content_found : IsLeftAt true S m m.content
+  content_found : IsOfFound S m.state m.stored m.content
   content_found = images_found m.content (before.disk.as_read m.content follows.content_is)
 
   abbrev found : Stored
@@ -242,7 +228,7 @@ module _ (C : Type 0) (state : C → CoreState) (among : ByteSet) (m : Machine) 
 
   -- of the files before or after it
   abbrev Left : Machine → List ℕ → Type 0
-  Left next image = IsLeftAt true S m image ⊎ IsLeftAt true S next image
+  Left next image = IsOfFound S m.state m.stored image ⊎ IsOfFound S next.state next.stored image
 
   -- images on the way of an opening that makes room
   on_the_way : (next : Machine) (c : List ℕ) → before.disk.images c ⊎ OpensAs S found c → Left next c
@@ -298,11 +284,11 @@ module _ (C : Type 0) (state : C → CoreState) (among : ByteSet) (m : Machine) 
         let at = begun.is_at in
         let stands = at.stands.each image (mid.disk.as_read image (read.reads.only.content_is ∙ told)) in
         let answer : counted acts.holdings ≡ answers.Stat (finite.len (names_of store)) (entries_in store.held) (bytes_in_slots store.held) (length store.held - free_slots store.held) (free_slots store.held) =
-        steps.made.row.0.store_has store (alone store mid.known mid.tables at.represents) at.valid (omega (arith, at.reserve)) in
+        steps.made.row.0.store_has store (alone store mid.known mid.tables at.represents) at.valid (at.invariant image (read.reads.only.content_is ∙ told)).has_free in
         acts.files_are ∙ files_told acts.holdings (finite.len (names_of store)) (entries_in store.held) (bytes_in_slots store.held) (length store.held - free_slots store.held) (free_slots store.held) answer
         ∙ same_count store found.files image stands.holds
 
-    opened_from : ((c : List ℕ) → v.images c → Left next c) → CrashLeaves (Left next) before.disk v → GoesUnless C state S lines.Reopen (replies.Opened files) m r s
+    opened_from : ((c : List ℕ) → v.images c → Left next c) → CrashLeaves (Left next) before.disk v → GoesAlong C state S lines.Reopen (replies.Opened files) m r s
     opened_from here earlier = record {
       next = next;
       step = (step_by m.state (replies.Opened files) m next (finds, files_are, makes, refl), sound S next s.sessions after follows_opened);
@@ -312,7 +298,7 @@ module _ (C : Type 0) (state : C → CoreState) (among : ByteSet) (m : Machine) 
     }
 
   opened_line : (files : ℕ) (acts : Reopens C state files s.sessions r.moments s.moments r.core s.core) → FromRoom C disk_of (λ v. IsReadFrom v (state acts.mid)) before.disk
-      → GoesUnless C state S lines.Reopen (replies.Opened files) m r s
+      → GoesAlong C state S lines.Reopen (replies.Opened files) m r s
   opened_line files acts (inl read) =
       let right = shown_content before.disk (state acts.mid).disk (λ bytes. Encodes bytes read.opened.store) m.content read.opened.right follows.content_is in
       opened_from files acts before.disk read m.content follows.content_is (reserved among found m.content opens read.opened.store right read.opened.reserve) (inl (refl, (read.opened.store, (right, read.opened.reserve)))) refl (omega arith)
@@ -362,11 +348,11 @@ module _ (C : Type 0) (state : C → CoreState) (among : ByteSet) (m : Machine) 
       stands = subst (λ (sessions : Sessions). FollowsBy m.state S now sessions after) (sym same) (kept_by m.state follows.stands);
     }
 
-    kept_line : (refusal : Refusal) → plain_refused.RefusesReopen refusal m now → GoesUnless C state S lines.Reopen (replies.Refused refusal) m r s
+    kept_line : (refusal : Refusal) → plain_refused.RefusesReopen refusal m now → GoesAlong C state S lines.Reopen (replies.Refused refusal) m r s
     kept_line refusal refuses = record {
       next = now;
       step = (step_by m.state (replies.Refused refusal) m now refuses, sound S now s.sessions after follows_kept);
-      follows = inl follows_kept;
+      follows = follows_kept;
       leaves = reads_leave (Left now) before.disk after.disk (λ c there. inl (images_found c there)) reads;
     }
 
@@ -408,46 +394,77 @@ module _ (C : Type 0) (state : C → CoreState) (among : ByteSet) (m : Machine) 
       let rose : Rose before.disk.faults after.disk.faults = subst (λ (x : Refusal). CountsFault (ending_of (blames x)) before.disk.faults after.disk.faults) is counts in
       subst (λ (x : Refusal). plain_refused.RefusesReopen x m (stopped image)) (sym is) (inr (rose_here rose, stops_for BeganRoom image room))
 
-  stopped_line : (refusal : Refusal) (image : List ℕ) → StopsUnopened C disk_of refusal before after → plain_refused.RefusesReopen refusal m (stopped image) → after.disk.content ≡ Some image → OpensAs S found image
-      → ((c : List ℕ) → after.disk.images c → OpensAs S found c) → CrashLeaves (Left (stopped image)) before.disk after.disk → GoesUnless C state S lines.Reopen (replies.Refused refusal) m r s
-  stopped_line refusal image stops refuses told there images leaves =
-      let may = may_still m.state m.stored found content_found.1.0 in
+  -- what it follows then, by what it followed before
+  last_by : (run : RunState) → FollowsBy run S m r.sessions before → before.tables.journal.last ≡ m.stored.last
+  last_by Running stands = stands.begins.is_at.last_is
+  last_by (Stopped other) stands = stands.last_is
+
+  number_by : (run : RunState) → m.state ≡ run → FollowsBy run S m r.sessions before → (other : Stored) → stopped_by run ≡ Stopped (Some other) → other.last ≡ suc m.stored.last
+  number_by Running is stands other stopped = absurd cc
+  number_by (Stopped left) is stands other stopped = stands.number other (is ∙ stopped)
+
+  module _ (refusal : Refusal) (image : List ℕ) (stops : StopsUnopened C disk_of refusal before after) (same : s.sessions ≡ r.sessions) (told : after.disk.content ≡ Some image) (there : OpensAs S found image)
+      (each : (c : List ℕ) → after.disk.images c → OpensAs S found c) where
+    may : MayBeFound (stopped_by m.state) m.stored found
+    may = may_still m.state m.stored found content_found.1.0
+
+    stands_stopped : FollowsStopped S (stopped image) after
+    stands_stopped = record {
+      stop = record { refusal = refusal; at = before.acknowledged };
+      stop_is = stops.stop_is;
+      at_is = follows.counted;
+      last_is = ap (λ (tables : Tables). tables.journal.last) stops.tables_are ∙ last_by m.state follows.stands;
+      content = (found, (may, there));
+      images = λ c left. (found, (may, each c left));
+      number = number_by m.state refl follows.stands;
+    }
+
+    by_stopped : (run : RunState) → FollowsBy (stopped_by run) S (stopped image) s.sessions after
+    by_stopped Running = stands_stopped
+    by_stopped (Stopped other) = stands_stopped
+
+    follows_stopped : Follows S (stopped image) s.sessions after
+    follows_stopped = record {
+      content_is = told;
+      faults_are = refl;
+      counted = stops.counted ∙ follows.counted;
+      sessions_are = ap length same ∙ follows.sessions_are;
+      parts_are = follows.parts_are;
+      stands = by_stopped m.state;
+    }
+
+  stopped_line : (refusal : Refusal) (image : List ℕ) → StopsUnopened C disk_of refusal before after → s.sessions ≡ r.sessions → plain_refused.RefusesReopen refusal m (stopped image) → after.disk.content ≡ Some image → OpensAs S found image
+      → ((c : List ℕ) → after.disk.images c → OpensAs S found c) → CrashLeaves (Left (stopped image)) before.disk after.disk → GoesAlong C state S lines.Reopen (replies.Refused refusal) m r s
+  stopped_line refusal image stops same refuses told there each leaves =
+      let follows_now : Follows S (stopped image) s.sessions after = follows_stopped refusal image stops same told there each in
       record {
         next = stopped image;
-        step = (step_by m.state (replies.Refused refusal) m (stopped image) refuses, (found, (may, stands_of S found image there)));
-        follows = inr (record {
-          stop = record { refusal = refusal; at = before.acknowledged };
-          stop_is = stops.stop_is;
-          at_is = follows.counted;
-          content_is = told;
-          faults_are = refl;
-          content = (found, (may, there));
-          images = λ c left. (found, (may, images c left));
-        });
+        step = (step_by m.state (replies.Refused refusal) m (stopped image) refuses, sound S (stopped image) s.sessions after follows_now);
+        follows = follows_now;
         leaves = leaves;
       }
 
   -- once room was made the store was not read
-  unread_line : (refusal : Refusal) (x : C) → RoomMade before.disk (disk_of x) → IsNotRead refusal (disk_of x) after.disk → StopsUnopened C disk_of refusal before after → IsTrue (fails refusal)
-      → GoesUnless C state S lines.Reopen (replies.Refused refusal) m r s
-  unread_line refusal x room unread stops failed =
+  unread_line : (refusal : Refusal) (x : C) → RoomMade before.disk (disk_of x) → IsNotRead refusal (disk_of x) after.disk → StopsUnopened C disk_of refusal before after → s.sessions ≡ r.sessions → IsTrue (fails refusal)
+      → GoesAlong C state S lines.Reopen (replies.Refused refusal) m r s
+  unread_line refusal x room unread stops same failed =
       let v = disk_of x in
       let image = given_now among found m.content opens before.disk v follows.content_is room in
-      let images : (c : List ℕ) → v.images c → OpensAs S found c = λ c left. opens_of S found c (images_now among found m.content opens before.disk v follows.content_is room c left) in
+      let each : (c : List ℕ) → v.images c → OpensAs S found c = λ c left. opens_of S found c (images_now among found m.content opens before.disk v follows.content_is room c left) in
       let counts = subst (λ (faults : ℕ). CountsFault (ending_of (blames refusal)) faults after.disk.faults) room.faults_are unread.reads.faults_are in
       let Way : List ℕ → Type 0 = λ c. before.disk.images c ⊎ OpensAs S found c in
-      stopped_line refusal image stops (made_refuses refusal image failed counts (room_for among found m.content opens before.disk v follows.content_is room))
+      stopped_line refusal image stops same (made_refuses refusal image failed counts (room_for among found m.content opens before.disk v follows.content_is room))
       (unread.reads.only.content_is ∙ told_now among found m.content opens before.disk v follows.content_is room)
       (opens_of S found image (stands_now among found m.content opens before.disk v follows.content_is room))
-      (λ c left. images c (unread.reads.only.images_are c left))
+      (λ c left. each c (unread.reads.only.images_are c left))
       (leaves_on Way Way (Left (stopped image)) before.disk v after.disk room.later.clock_is (room_leaves among found m.content opens before.disk v follows.content_is room)
-      (reads_leave Way v after.disk (λ c left. inr (images c left)) unread.reads.only) (on_the_way (stopped image)) (on_the_way (stopped image)))
+      (reads_leave Way v after.disk (λ c left. inr (each c left)) unread.reads.only) (on_the_way (stopped image)) (on_the_way (stopped image)))
 
   -- it was not made, as a write or a sync failed
-  unmade_line : (refusal : Refusal) → refusal ≡ refusals.DiskWrite → RoomUnmade refusal before.disk after.disk → StopsUnopened C disk_of refusal before after → GoesUnless C state S lines.Reopen (replies.Refused refusal) m r s
-  unmade_line refusal is unmade stops =
+  unmade_line : (refusal : Refusal) → refusal ≡ refusals.DiskWrite → RoomUnmade refusal before.disk after.disk → StopsUnopened C disk_of refusal before after → s.sessions ≡ r.sessions → GoesAlong C state S lines.Reopen (replies.Refused refusal) m r s
+  unmade_line refusal is unmade stops same =
       let image = given_then among found m.content opens before.disk after.disk follows.content_is refusal unmade in
-      stopped_line refusal image stops (began_refuses refusal image is unmade.faults_are (began_for among found m.content opens before.disk after.disk follows.content_is refusal unmade))
+      stopped_line refusal image stops same (began_refuses refusal image is unmade.faults_are (began_for among found m.content opens before.disk after.disk follows.content_is refusal unmade))
       (told_then among found m.content opens before.disk after.disk follows.content_is refusal unmade) (opens_then among found m.content opens before.disk after.disk follows.content_is refusal unmade)
       (images_then among found m.content opens before.disk after.disk follows.content_is refusal unmade)
       (leaves_weaker (λ c. before.disk.images c ⊎ OpensAs S found c) (Left (stopped image)) before.disk after.disk (on_the_way (stopped image))
@@ -467,7 +484,7 @@ module _ (C : Type 0) (state : C → CoreState) (among : ByteSet) (m : Machine) 
       fails_by refusal of.store given_up (λ free is. let few = subst (λ (x : Refusal). recovery.Opens of.store (Err x)) is given_up in omega (arith, of.reserve, few.0, few.1))
   none_fails refusal (inr (inr unmade)) = (unmade.files m.content follows.content_is among found opens).0
 
-  refused_line : (refusal : Refusal) → RefusesReopen C state refusal r.core s.core → s.sessions ≡ r.sessions → GoesUnless C state S lines.Reopen (replies.Refused refusal) m r s
+  refused_line : (refusal : Refusal) → RefusesReopen C state refusal r.core s.core → s.sessions ≡ r.sessions → GoesAlong C state S lines.Reopen (replies.Refused refusal) m r s
   refused_line refusal acts same = elim acts.why [
     | inl memory ↦
         let reads : OnlyReads before.disk after.disk = subst (λ (c : C). OnlyReads before.disk (state c).disk) (sym memory.1) (reads_here before.disk) in
@@ -476,13 +493,13 @@ module _ (C : Type 0) (state : C → CoreState) (among : ByteSet) (m : Machine) 
         (subst (λ (x : Refusal). plain_refused.RefusesReopen x m (record m { faults = after.disk.faults })) (sym memory.0) (inl (same_machine (ap (λ (c : C). (state c).disk.faults) memory.1))))
     | inr (none, inl (kept, reads)) ↦ kept_line reads.only kept same refusal (kept_refuses refusal (none_fails refusal none) reads.faults_are)
     | inr (none, inr stops) ↦ elim stops.wrote [
-      | inl (x, (room, unread)) ↦ unread_line refusal x room unread stops (none_fails refusal none)
-      | inr (is, unmade) ↦ unmade_line refusal is unmade stops
+      | inl (x, (room, unread)) ↦ unread_line refusal x room unread stops same (none_fails refusal none)
+      | inr (is, unmade) ↦ unmade_line refusal is unmade stops same
     ]
   ]
 
   -- `reopen` does what the machine does.
-  pub reopen_line : (reply : ReplyValue) → ActsReopen C state reply r s → GoesUnless C state S lines.Reopen reply m r s
+  pub reopen_line : (reply : ReplyValue) → ActsReopen C state reply r s → GoesAlong C state S lines.Reopen reply m r s
   reopen_line (replies.Opened files) acts = opened_line files acts acts.opened
   reopen_line (replies.Refused refusal) acts = refused_line refusal acts.0 acts.1
   reopen_line reply acts = absurd acts

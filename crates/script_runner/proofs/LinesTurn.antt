@@ -15,7 +15,7 @@ use Rattle.script_lines.specs.declared.reply.Turned.TheVariants as turns
 use Rattle.script_lines.specs.Grammar as lines
 use Rattle.script_lines.specs.ReplyValue as replies
 use Rattle.script_lines.specs.ReplyValue.{ReplyValue}
-use Rattle.store_model.specs.Collisions.{HasNoCollisions, ByteSet, IsIn, IsOf}
+use Rattle.store_model.specs.Collisions.{HasNoCollisions, ByteSet, IsIn, OpensAs}
 use Rattle.store_model.specs.Files.{Stored}
 use Rattle.store_core.specs.State.{CoreState}
 use Rattle.plain_machine.specs.Lines.{AnswersTurn}
@@ -38,7 +38,7 @@ use Rattle.script_runner.proofs.TurnsMade.{one_turn, paused_at}
 
 -- ---- a line of a machine that runs
 
-pub found_running : (state : RunState) (S : List ℕ → Type 0) (stored : Stored) (image : List ℕ) → state ≡ Running → IsOf S stored image → IsOfFound S state stored image
+pub found_running : (state : RunState) (S : List ℕ → Type 0) (stored : Stored) (image : List ℕ) → state ≡ Running → OpensAs S stored image → IsOfFound S state stored image
 found_running state S stored image is of = (stored, (subst (λ (a : RunState). MayBeFound a stored stored) (sym is) refl, of))
 
 -- It leads to a machine that the runner follows, and crashes leave files of before or after it.
@@ -57,7 +57,7 @@ pub line_keeps : (C : Type 0) (state : C → CoreState) (S : List ℕ → Type 0
     → (sessions : Sessions) → s.sessions ≡ sessions → Follows S next sessions (state s.core) → KeepsStored S m.stored (state r.core).disk (state s.core).disk → GoesAlong C state S line reply m r s
 line_keeps C state S line reply m r s is next step sessions same follows keeps =
     line_to C state S line reply m r s is next step (subst (λ (now : Sessions). Follows S next now (state s.core)) (sym same) follows)
-    (leaves_weaker (IsOf S m.stored) (λ image. IsOfFound S m.state m.stored image ⊎ IsOfFound S next.state next.stored image) (state r.core).disk (state s.core).disk
+    (leaves_weaker (OpensAs S m.stored) (λ image. IsOfFound S m.state m.stored image ⊎ IsOfFound S next.state next.stored image) (state r.core).disk (state s.core).disk
     (λ image of. inl (found_running m.state S m.stored image is of)) keeps.leaves)
 
 -- ---- a turn that is refused

@@ -12,7 +12,7 @@ use Rattle.actor_parts.specs.Parts.{part_of}
 use Rattle.actor_parts.specs.StepValue.{StepValue}
 use Rattle.refusals.specs.declared.refusal.Refusal.{Refusal}
 use Rattle.refusals.specs.declared.refusal.Refusal.TheVariants as refusals
-use Rattle.store_model.specs.Collisions.{HasNoCollisions, ByteSet, IsIn, IsOf}
+use Rattle.store_model.specs.Collisions.{HasNoCollisions, ByteSet, IsIn, OpensAs}
 use Rattle.store_model.specs.Files.{Stored}
 use Rattle.store_model.specs.Image.{Store}
 use Rattle.store_state.specs.Refused.{blames}
@@ -89,11 +89,11 @@ module _ (C : Type 0) (state : C → CoreState) (among : ByteSet) (distinct : Ha
         subst (λ (e : Refusal). StopsAfter step (Err e) (state old).acknowledged (state new).stop) is steps.stops in
         absurd (let both = sym stays ∙ so in cc)
 
-    pub rested_leaves : CrashLeaves (IsOf S m.stored) (state old).disk (state new).disk
+    pub rested_leaves : CrashLeaves (OpensAs S m.stored) (state old).disk (state new).disk
     rested_leaves =
-        leaves_weaker (λ image. IsOf S m.stored image ⊎ IsOf S m.stored image) (IsOf S m.stored) (state old).disk (state new).disk
+        leaves_weaker (λ image. OpensAs S m.stored image ⊎ OpensAs S m.stored image) (OpensAs S m.stored) (state old).disk (state new).disk
         (λ image either. elim either [ inl of ↦ of | inr of ↦ of ])
-        (subst (λ (then : Stored). CrashLeaves (λ image. IsOf S m.stored image ⊎ IsOf S then image) (state old).disk (state new).disk) (refused_stored step refusal bytes m.stored) leads.leaves)
+        (subst (λ (then : Stored). CrashLeaves (λ image. OpensAs S m.stored image ⊎ OpensAs S then image) (state old).disk (state new).disk) (refused_stored step refusal bytes m.stored) leads.leaves)
 
   -- a write failed, and the store is stopped
   module _ (stop : Stop) (stopped : (state new).stop ≡ Some stop) (one : commands_of step ≡ 1) (tried : Stored) (tried_is : stored_tried step (Err refusals.DiskWrite) bytes m.stored ≡ tried) (next_is : tried.last ≡ suc m.stored.last) where
@@ -107,7 +107,7 @@ module _ (C : Type 0) (state : C → CoreState) (among : ByteSet) (distinct : Ha
     found image either =
         elim (subst (λ (e : Refusal). IsTried S m (refused_event actor step bytes buf e) image) is_write either) [
           | inl was ↦ (m.stored, (inl refl, was))
-          | inr put ↦ (tried, (inr refl, subst (λ (then : Stored). IsOf S then image) tried_is put))
+          | inr put ↦ (tried, (inr refl, subst (λ (then : Stored). OpensAs S then image) tried_is put))
         ]
 
     pub name_broken : NameBroken S m sessions refusal tried (state old) (state new)

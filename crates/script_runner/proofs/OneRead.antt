@@ -2,7 +2,7 @@
 use Rattle.std.proofs.Common.{◌≡◌, inl, inr, [], Option, Some, None, ap, subst, ◌∙◌}
 use Rattle.dd_disk.proofs.Later.{leaves_weaker}
 use Rattle.actor_parts.specs.StepValue.{IsStep}
-use Rattle.store_model.specs.Collisions.{HasNoCollisions, ByteSet, IsIn, IsOf}
+use Rattle.store_model.specs.Collisions.{HasNoCollisions, ByteSet, IsIn, OpensAs}
 use Rattle.store_model.specs.Files.{Stored}
 use Rattle.store_state.specs.declared.tables.Tables.{Tables}
 use Rattle.store_core.specs.Core.{CoreStep, Rests}
@@ -42,6 +42,6 @@ module _ (C : Type 0) (state : C → CoreState) (among : ByteSet) (distinct : Ha
         others = λ other differs below. (then.others other differs below).0;
         content_is = rests.disk.only.content_is;
         counted = counted;
-        leaves = leaves_weaker _ (IsOf (IsIn among) m.stored) (state old).disk (state new).disk
-            (λ image of. elim of [ inl was ↦ was | inr now ↦ subst (λ (stored : Stored). IsOf (IsIn among) stored image) files now ]) then.leaves;
+        leaves = leaves_weaker _ (OpensAs (IsIn among) m.stored) (state old).disk (state new).disk
+            (λ image of. elim of [ inl was ↦ was | inr now ↦ subst (λ (stored : Stored). OpensAs (IsIn among) stored image) files now ]) then.leaves;
       }

@@ -14,7 +14,7 @@ use Rattle.actor_parts.specs.StepValue as asked
 use Rattle.actor_parts.specs.StepValue.{StepValue}
 use Rattle.refusals.specs.declared.refusal.Refusal.{Refusal}
 use Rattle.refusals.specs.declared.refusal.Refusal.TheVariants as refusals
-use Rattle.store_model.specs.Collisions.{HasNoCollisions, ByteSet, IsIn, IsOf}
+use Rattle.store_model.specs.Collisions.{HasNoCollisions, ByteSet, IsIn, OpensAs}
 use Rattle.store_model.specs.Files.{Stored}
 use Rattle.store_model.specs.Image.{Store}
 use Rattle.store_model.specs.Steps.{StoreChange, changed}
@@ -58,7 +58,7 @@ pub record Stepped (S : List ℕ → Type 0) (m : Machine) (sessions : Sessions)
   pub kept : AllByRecursion (λ seg. IsHeldIn seg new) (kept_by f.event.step f.event.answer)
   pub takes : (rest : List (List ℕ)) (ahead : List Top) → Takes rest ahead old → Takes rest ahead new
   pub counted : new.acknowledged ≡ core_step.counted f.event.answer old.acknowledged
-  pub leaves : CrashLeaves (λ image. IsOf S m.stored image ⊎ IsOf S (stored_by f m.stored) image) old.disk new.disk
+  pub leaves : CrashLeaves (λ image. OpensAs S m.stored image ⊎ OpensAs S (stored_by f m.stored) image) old.disk new.disk
   pub last_is : new.tables.journal.last ≡ (stored_by f m.stored).last
 
 -- the same files, id and collection by other names
@@ -151,14 +151,14 @@ module _ (C : Type 0) (state : C → CoreState) (among : ByteSet) (apart : HasNo
     other actor differs =
         other_part actor f.event.actor (state old).parts (state new).parts (row_one f.event.actor f.event.buf (state old) (state new) f.event.step f.event.answer steps.made.row) differs
 
-    leaves : CrashLeaves (λ image. IsOf S m.stored image ⊎ IsOf S (stored_by f m.stored) image) (state old).disk (state new).disk
+    leaves : CrashLeaves (λ image. OpensAs S m.stored image ⊎ OpensAs S (stored_by f m.stored) image) (state old).disk (state new).disk
     leaves =
         let same = tried_same f.event.step f.event.answer (state old).acknowledged (state new).stop f.bytes m.stored stays steps.stops in
-        leaves_weaker (IsOnTheWay S (f ∷ []) m.stored) (λ image. IsOf S m.stored image ⊎ IsOf S (stored_by f m.stored) image) (state old).disk (state new).disk
+        leaves_weaker (IsOnTheWay S (f ∷ []) m.stored) (λ image. OpensAs S m.stored image ⊎ OpensAs S (stored_by f m.stored) image) (state old).disk (state new).disk
         (λ image way. elim way [
           | inl before ↦ inl before
           | inr after ↦ elim after [
-            | inl tried ↦ inr (subst (λ (stored : Stored). IsOf S stored image) same tried)
+            | inl tried ↦ inr (subst (λ (stored : Stored). OpensAs S stored image) same tried)
             | inr done ↦ inr done
           ]
         ]) (leaves_on_the_way C state among (f ∷ []) store m.stored old new apart running.begins.is_at run)

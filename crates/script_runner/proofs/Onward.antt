@@ -1,6 +1,6 @@
 -- A core that goes on at the same files, and what becomes of one actor, as a runner that follows the plain machine sees it.
 use Rattle.std.proofs.Common.{◌≡◌, ◌≢◌, ◌⊎◌, inl, inr, ◌<◌, ◌∙◌, ℕ, List, slice_index_or, Option, None, refl, sym, subst}
-use Rattle.store_model.specs.Collisions.{IsOf}
+use Rattle.store_model.specs.Collisions.{OpensAs}
 use Rattle.std.proofs.lemmas.Bool.{cases_eq}
 use Rattle.dd_disk.specs.View.{CrashLeaves}
 use Rattle.dd_disk.proofs.Later.{leaves_weaker, reads_here, reads_leave}
@@ -36,10 +36,10 @@ pub record Onward (S : List ℕ → Type 0) (m : Machine) (actor : ℕ) (old new
   pub others : (other : ℕ) → other ≢ actor → other < ACTORS → part_of new.parts other ≡ part_of old.parts other
   pub content_is : new.disk.content ≡ old.disk.content
   pub counted : new.acknowledged ≡ old.acknowledged
-  pub leaves : CrashLeaves (IsOf S m.stored) old.disk new.disk
+  pub leaves : CrashLeaves (OpensAs S m.stored) old.disk new.disk
 
 -- each image is of the files
-of_files : (S : List ℕ → Type 0) (m : Machine) (c : CoreState) → FollowsStoreOf S m c → (image : List ℕ) → c.disk.images image → IsOf S m.stored image
+of_files : (S : List ℕ → Type 0) (m : Machine) (c : CoreState) → FollowsStoreOf S m c → (image : List ℕ) → c.disk.images image → OpensAs S m.stored image
 of_files S m c begins = image_at S begins.store m.stored c begins.is_at
 
 pub stays : (S : List ℕ → Type 0) (m : Machine) (sessions : Sessions) (actor : ℕ) (c : CoreState) → FollowsRunning S m sessions c → Onward S m actor c c
@@ -52,12 +52,12 @@ stays S m sessions actor c running = record {
   others = λ other differs below. refl;
   content_is = refl;
   counted = refl;
-  leaves = reads_leave (IsOf S m.stored) c.disk c.disk (of_files S m c running.begins) (reads_here c.disk);
+  leaves = reads_leave (OpensAs S m.stored) c.disk c.disk (of_files S m c running.begins) (reads_here c.disk);
 }
 
 -- ---- the machine that is followed
 
-found_same : (state : RunState) (S : List ℕ → Type 0) (stored : Stored) (image : List ℕ) → state ≡ Running → IsOf S stored image → IsOfFound S state stored image
+found_same : (state : RunState) (S : List ℕ → Type 0) (stored : Stored) (image : List ℕ) → state ≡ Running → OpensAs S stored image → IsOfFound S state stored image
 found_same state S stored image is of = (stored, (subst (λ (a : RunState). MayBeFound a stored stored) (sym is) refl, of))
 
 pub by_running : (S : List ℕ → Type 0) (m : Machine) (sessions : Sessions) (c : CoreState) → m.state ≡ Running → Follows S m sessions c → FollowsRunning S m sessions c
@@ -109,7 +109,7 @@ module _ (S : List ℕ → Type 0) (m : Machine) (sessions sessions_now : Sessio
 
   pub leaves_on : CrashLeaves (λ image. IsOfFound S m.state m.stored image ⊎ IsOfFound S m.state m.stored image) old.disk new.disk
   leaves_on =
-      leaves_weaker (IsOf S m.stored) (λ image. IsOfFound S m.state m.stored image ⊎ IsOfFound S m.state m.stored image) old.disk new.disk
+      leaves_weaker (OpensAs S m.stored) (λ image. IsOfFound S m.state m.stored image ⊎ IsOfFound S m.state m.stored image) old.disk new.disk
       (λ image of. inl (found_same m.state S m.stored image is of)) onward.leaves
 
 -- a line of a runner that does so

@@ -1,34 +1,14 @@
 -- A line but `reopen` is taken or not, and replied to.
-use Rattle.std.proofs.Common.{◌≡◌, ◌≢◌, inl, inr, ℕ, List, false, Result, Ok, Err, IfOk, refl}
+use Rattle.std.proofs.Common.{◌≡◌, ◌≢◌, inl, inr, ℕ, List, Result, Ok, Err, IfOk, refl}
 use Rattle.refusals.specs.declared.refusal.Refusal.{Refusal}
 use Rattle.script_lines.specs.Grammar.{LineValue}
 use Rattle.script_lines.specs.Grammar as lines
 use Rattle.script_lines.specs.ReplyText.{reply_line}
 use Rattle.script_lines.specs.ReplyValue.{ReplyValue}
 use Rattle.script_lines.specs.ReplyValue as replies
-use Rattle.plain_machine.specs.Runs.{ends}
 use Rattle.store_core.specs.State.{CoreState}
 use Rattle.script_runner.specs.Acts.{Acts, ActsOrNot, Admits, Bars, RunnerState, RunsLine}
 use Rattle.script_runner.specs.Runner.{ActsWith, IsAcknowledged, IsPlain, MakesReply, Prints}
-
--- it doesn't end the script
-pub goes_on : (line : LineValue) (reply : ReplyValue) → line ≢ lines.Reopen → ends line reply ≡ false
-goes_on (lines.Begin a) reply other = refl
-goes_on (lines.Push a digits) reply other = refl
-goes_on (lines.Finish a) reply other = refl
-goes_on (lines.Turn a) reply other = refl
-goes_on (lines.Commit a name) reply other = refl
-goes_on (lines.Abort a) reply other = refl
-goes_on (lines.Read a name) reply other = refl
-goes_on (lines.Next a) reply other = refl
-goes_on (lines.Drop a) reply other = refl
-goes_on (lines.Delete name) reply other = refl
-goes_on lines.ListNames reply other = refl
-goes_on (lines.Gc percent) reply other = refl
-goes_on lines.GcStep reply other = refl
-goes_on lines.Sweep reply other = refl
-goes_on lines.Stat reply other = refl
-goes_on lines.Reopen reply other = absurd (other refl)
 
 -- what was printed of a reply that acknowledges nothing
 pub printed : {T E : Type 0} (items : T → List ℕ) (result : Result T E) (reply : ReplyValue) → ¬ (IsAcknowledged reply) → IfOk result (λ t. items t ≡ reply_line reply) → Prints items result reply

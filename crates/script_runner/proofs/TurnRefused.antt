@@ -22,7 +22,7 @@ use Rattle.actor_parts.specs.StepValue as asked
 use Rattle.actor_parts.specs.StepValue.{StepValue}
 use Rattle.refusals.specs.declared.refusal.Refusal.{Refusal}
 use Rattle.refusals.specs.declared.refusal.Refusal.TheVariants as refusals
-use Rattle.store_model.specs.Collisions.{HasNoCollisions, ByteSet, IsIn, IsOf}
+use Rattle.store_model.specs.Collisions.{HasNoCollisions, ByteSet, IsIn, OpensAs}
 use Rattle.store_model.specs.Image.{Store}
 use Rattle.store_state.specs.Comparing.{IsFirstUnlike}
 use Rattle.store_state.specs.Refused.{blames}
@@ -236,7 +236,7 @@ module _ (C : Type 0) (state : C → CoreState) (among : ByteSet) (distinct : Ha
       is_write : refusal ≡ refusals.DiskWrite
       is_write = same_refusal refusal refusals.DiskWrite broke.refusal_is
 
-      of_files : (image : List ℕ) → IsTried S m (f (Seal kind) asks) image → IsOf S m.stored image
+      of_files : (image : List ℕ) → IsTried S m (f (Seal kind) asks) image → OpensAs S m.stored image
       of_files image tried = elim tried [ inl was ↦ was | inr put ↦ put ]
 
       stopped_follows : Follows S broken_now (with_session sessions actor (Some t)) (state new)

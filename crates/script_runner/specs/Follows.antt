@@ -25,9 +25,8 @@ use Rattle.ingest_session.specs.History.{History, HasHistory}
 use Rattle.ingest_session.specs.State.{SessionState}
 use Rattle.read_steps.specs.Walking.{SegmentsAhead}
 use Rattle.script_lines.specs.Grammar.{LineValue}
-use Rattle.script_lines.specs.Grammar as lines
 use Rattle.script_lines.specs.ReplyValue.{ReplyValue}
-use Rattle.store_model.specs.Collisions.{HasNoCollisions, ByteSet, IsIn, IsOf, OpensAs}
+use Rattle.store_model.specs.Collisions.{HasNoCollisions, ByteSet, IsIn, OpensAs}
 use Rattle.store_model.specs.Files.{Files, Stored}
 use Rattle.segment_index.specs.Places.{KnownMap}
 use Rattle.store_model.specs.Image.{Store}
@@ -43,7 +42,7 @@ use Rattle.store_core.specs.Runs.{IsAt}
 use Rattle.store_core.specs.State.{CoreState, IsUp}
 use Rattle.plain_machine.specs.Machine.{Collecting, Machine, Marking, Part, Idle, Progress, Recording, Sweeping, Writing, Finished, Reading, RunState, Running, Stopped, MayBeFound, part_in}
 use Rattle.plain_machine.specs.Refused.{actor_of}
-use Rattle.plain_machine.specs.Runs.{Step, ends}
+use Rattle.plain_machine.specs.Runs.{Step}
 use Rattle.plain_machine.specs.Through.{IsOfSome}
 use Rattle.plain_machine.specs.Turns.{Writer, IsWriter, MayBe}
 use Rattle.script_runner.specs.Acts.{RunnerState, RunsLine, moment_of}
@@ -139,11 +138,11 @@ pub record FollowsRunning (S : List ℕ → Type 0) (m : Machine) (sessions : Se
   pub parts : (actor : ℕ) → actor < ACTORS
       → FollowsPart (part_in m actor) (session_of sessions actor) (core_parts_of.part_of c.parts actor) c
 
--- an image is of files that may be found
+-- an image can be opened as files that may be found
 abbrev pub IsOfFound : (List ℕ → Type 0) → RunState → Stored → List ℕ → Type 0
-IsOfFound S state stored image = (found : Stored) × (MayBeFound state stored found × IsOf S found image)
+IsOfFound S state stored image = IsOfSome (OpensAs S) (MayBeFound state stored) image
 
--- It is stopped: what reads give, and each image, is of files that may be found.
+-- It is stopped: what reads give, and each image, can be opened as files that may be found.
 pub record FollowsStopped (S : List ℕ → Type 0) (m : Machine) (c : CoreState) : Type 0 where
   pub stop : Stop
   pub stop_is : c.stop ≡ Some stop
@@ -166,38 +165,6 @@ pub record Follows (S : List ℕ → Type 0) (m : Machine) (sessions : Sessions)
   pub parts_are : length m.parts ≡ ACTORS
   pub stands : FollowsBy m.state S m sessions c
 
--- ---- images as a `reopen` leaves them
-
--- whether a line opens the store again
-abbrev pub is_reopen : LineValue → Bool
-is_reopen lines.Reopen = true
-is_reopen line = false
-
--- What it is for an image to be of files: it has its reserve; but as a `reopen` makes room it may have to be made still.
-abbrev pub IsImageBy : Bool → (List ℕ → Type 0) → Stored → List ℕ → Type 0
-IsImageBy true S stored image = OpensAs S stored image
-IsImageBy false S stored image = IsOf S stored image
-
--- the image is of files that may be found at the machine
-abbrev pub IsLeftAt : Bool → (List ℕ → Type 0) → Machine → List ℕ → Type 0
-IsLeftAt reopens S m image = IsOfSome (IsImageBy reopens S) (MayBeFound m.state m.stored) image
-
--- It is stopped, as it was not opened again once room was made, or begun to be made: what reads give, and each image, is of files that may
--- be found.
-pub record LeavesUnopened (S : List ℕ → Type 0) (m : Machine) (c : CoreState) : Type 0 where
-  pub stop : Stop
-  pub stop_is : c.stop ≡ Some stop
-  pub at_is : stop.at ≡ m.acknowledged
-  pub content_is : c.disk.content ≡ Some m.content
-  pub faults_are : c.disk.faults ≡ m.faults
-  pub content : IsLeftAt true S m m.content
-  pub images : (image : List ℕ) → c.disk.images image → IsLeftAt true S m image
-
--- The core follows the machine; or, where a `reopen` was refused, which ends the script, it may be stopped so.
-abbrev pub FollowsUnless : Bool → (List ℕ → Type 0) → Machine → Sessions → CoreState → Type 0
-FollowsUnless true S m sessions c = Follows S m sessions c ⊎ LeavesUnopened S m c
-FollowsUnless false S m sessions c = Follows S m sessions c
-
 -- ---- one line
 
 -- some bytes are cut by now from what actors give: they are a segment of each file that goes on so
@@ -210,14 +177,13 @@ Notes c m n moments moments_now =
     ((n.stored.last ≡ m.stored.last) × (moments_now ≡ moments))
     ⊎ ((n.stored.last ≡ suc m.stored.last) × (moments_now ≡ moments ++ moment_of c ∷ []))
 
--- A line did what the machine does; and a crash at any moment of it leaves files of before or after it. A `reopen` that was refused ends
--- the script.
+-- A line did what the machine does; and a crash at any moment of it leaves an image that can be opened as files of before or after it.
 pub record FollowsLine (C : Type 0) (state : C → CoreState) (S : List ℕ → Type 0) (line : LineValue) (reply : ReplyValue) (m : Machine)
     (r s : RunnerState C) : Type 0 where
   pub next : Machine
   pub step : Step line reply m next
-  pub follows : FollowsUnless (ends line reply) S next s.sessions (state s.core)
-  pub leaves : CrashLeaves (λ image. IsLeftAt (is_reopen line) S m image ⊎ IsLeftAt (is_reopen line) S next image)
+  pub follows : Follows S next s.sessions (state s.core)
+  pub leaves : CrashLeaves (λ image. IsOfFound S m.state m.stored image ⊎ IsOfFound S next.state next.stored image)
       (state r.core).disk (state s.core).disk
   pub noted : Notes (state s.core) m next r.moments s.moments
 

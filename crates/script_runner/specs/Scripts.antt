@@ -1,12 +1,12 @@
 -- Lines that are run one after the other follow the plain machine, with the moments that the runner notes (docs/MODEL.md, 'Scripts').
-use Rattle.std.specs.Prelude.{◌≡◌, ◌⊎◌, ◌||◌, ℕ, Bool, true, false, List, [], ◌∷◌, ◌++◌}
-use Rattle.store_model.specs.Collisions.{HasNoCollisions, ByteSet, IsIn}
+use Rattle.std.specs.Prelude.{◌≡◌, ◌⊎◌, ℕ, true, List, [], ◌∷◌, ◌++◌}
+use Rattle.store_model.specs.Collisions.{HasNoCollisions, ByteSet, IsIn, OpensAs}
 use Rattle.store_core.specs.State.{CoreState}
 use Rattle.plain_machine.specs.Machine.{Machine}
 use Rattle.plain_machine.specs.Runs.{MachineRun, Replied, Step, ends}
 use Rattle.plain_machine.specs.Through.{HoldsThrough}
 use Rattle.script_runner.specs.Acts.{RunnerState, RunsLine}
-use Rattle.script_runner.specs.Follows.{Follows, FollowsUnless, IsCut, IsImageBy, IsOfActor, is_reopen}
+use Rattle.script_runner.specs.Follows.{Follows, IsCut, IsOfActor}
 
 -- ---- lines
 
@@ -31,26 +31,16 @@ IsCutBy (one ∷ more) m bytes = IsCut m bytes ⊎ ((mid : Machine) × (Step one
 
 -- ---- all lines
 
--- whether one of the lines opens the store again
-abbrev pub reopens : List Replied → Bool
-reopens [] = false
-reopens (one ∷ more) = is_reopen one.line || reopens more
-
--- whether they ended with one that was refused
-abbrev pub end_unopened : List Replied → Bool
-end_unopened [] = false
-end_unopened (one ∷ more) = ends one.line one.reply || end_unopened more
-
--- Lines did what the machine does; what is noted since and the disk are as the machine's run says (Through.antt). Each image has its
--- reserve where the store is not opened again.
+-- Lines did what the machine does; what is noted since and the disk are as the machine's run says (Through.antt), where an image is of
+-- files that it can be opened as.
 pub record FollowsScript (C : Type 0) (state : C → CoreState) (S : List ℕ → Type 0) (rs : List Replied) (m : Machine) (r s : RunnerState C)
     : Type 0 where
   pub next : Machine
   pub run : MachineRun rs m next
-  pub follows : FollowsUnless (end_unopened rs) S next s.sessions (state s.core)
+  pub follows : Follows S next s.sessions (state s.core)
   pub later : List ℕ
   pub moments_are : s.moments ≡ r.moments ++ later
-  pub through : HoldsThrough (IsImageBy (reopens rs) S) later rs m next run (state r.core).disk (state s.core).disk
+  pub through : HoldsThrough (OpensAs S) later rs m next run (state r.core).disk (state s.core).disk
 
 -- A runner that follows the machine goes on to, line after line, where what is cut on the way has no collisions.
 abbrev pub ScriptsFollow : (C : Type 0) → (C → CoreState) → Type 0

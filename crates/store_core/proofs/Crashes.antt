@@ -1,5 +1,5 @@
 -- What a crash leaves at any moment of a run.
-use Rattle.std.proofs.Common.{◌≡◌, ◌⊎◌, inl, inr, ℕ, List, [], ◌∷◌, ◌≤◌, Option, Some, None, Result, Ok, Err, refl, sym, ◌∙◌, subst, arith, ap, suc}
+use Rattle.std.proofs.Common.{◌≡◌, ◌⊎◌, inl, inr, ℕ, List, [], ◌∷◌, ◌<◌, Option, Some, None, Result, Ok, Err, refl, sym, ◌∙◌, subst, arith, ap, suc}
 use Rattle.dd_disk.specs.View.{OnlyReads, CrashLeaves, SteppedFrom}
 use Rattle.dd_disk.proofs.Later.{reads_here, reads_leave, leaves_on, leaves_weaker}
 use Rattle.container_meta.specs.Segments.{Contents}
@@ -10,12 +10,12 @@ use Rattle.actor_parts.specs.StepValue as asked
 use Rattle.actor_parts.specs.StepValue.{StepValue, IsStep}
 use Rattle.refusals.specs.declared.refusal.Refusal.{Refusal}
 use Rattle.refusals.specs.declared.refusal.Refusal.TheVariants as refusals
-use Rattle.store_model.specs.Collisions.{HasNoCollisions, ByteSet, IsIn, Stands, IsOf}
+use Rattle.store_model.specs.Collisions.{HasNoCollisions, ByteSet, IsIn, Stands, OpensAs}
 use Rattle.store_model.specs.Image.{Store, last_sequence}
 use Rattle.store_model.specs.Steps.{with_cell, with_other, with_sealed, with_change}
 use Rattle.store_model.proofs.Cells.{last_with_cell}
 use Rattle.ingest_steps.specs.Naming.{FilesStandStill}
-use Rattle.store_model.specs.Files.{Stored, with_file, with_stored, without_file, without_stored}
+use Rattle.store_model.specs.Files.{Files, Stored, with_file, with_stored, without_file, without_stored}
 use Rattle.store_model.specs.Files as files
 use Rattle.store_model.proofs.NameChanges.{last_changed}
 use Rattle.store_core.specs.declared.stop.Stop.{Stop}
@@ -45,24 +45,38 @@ use Rattle.store_model.proofs.FramedTrees.{stands_framed}
 use Rattle.store_model.specs.Freeing.{with_freed}
 use Rattle.disk_format.specs.declared.numbers.TheConstants.{RESERVE}
 use Rattle.container_meta.specs.Spelling.{header_of}
-use Rattle.store_model.specs.Slots.{free_slots}
+use Rattle.store_model.specs.Slots.{HasKey, free_slots}
 use Rattle.store_model.proofs.Filled.{free_less}
 use Rattle.ingest_steps.specs.Sealing.{StandsSealed}
-use Rattle.store_core.proofs.GcSteps.{free_more}
+use Rattle.gc_sweep.proofs.Released.{none_held}
+use Rattle.store_model.proofs.FreedFiles.{free_reserve, reserve_by, reserve_freed}
+use Rattle.store_model.proofs.Reached.{reached_less, reached_put}
+use Rattle.store_model.specs.Reserve.{HasReserve, IsReachable}
+use Rattle.store_model.specs.Standing.{CanBeOpened}
+use Rattle.store_state.specs.Invariant.{CoreInvariant, IndexesFiles}
 
 -- the last number of the store
 pub last_at : (S : List ℕ → Type 0) (s : Store) (stored : Stored) (c : CoreState) → IsAt S s stored c → last_sequence s ≡ stored.last
 last_at S s stored c at = sym at.represents.names_are.last_is ∙ at.last_is
 
--- each image of a core that is at a store is of its files
-pub image_at : (S : List ℕ → Type 0) (s : Store) (stored : Stored) (c : CoreState) → IsAt S s stored c → (image : List ℕ) → c.disk.images image → IsOf S stored image
-image_at S s stored c at image left = record { store = s; stands = at.stands.each image left; reserve = at.reserve; last_is = last_at S s stored c at }
+-- a store can be opened as files whose keys the index has, where it has its reserve by the index
+opens_by : (index : PlaceMap) (store : Store) (files : Files) → IndexesFiles index files → HasReserve (HasKey index) store.held → CanBeOpened store files
+opens_by index store files indexed reserve = reserve_by (HasKey index) (IsReachable files) store.held indexed reserve
+
+pub opens_at : (S : List ℕ → Type 0) (s : Store) (stored : Stored) (c : CoreState) → IsAt S s stored c → CanBeOpened s stored.files
+opens_at S s stored c at =
+    let core : CoreInvariant at.index s stored.files c.parts at.stands.known.0 = at.invariant at.stands.known.0 at.stands.known.1 in
+    opens_by at.index s stored.files core.files_are_indexed core.reserve_holds
+
+-- each image of a core that is at a store can be opened as its files
+pub image_at : (S : List ℕ → Type 0) (s : Store) (stored : Stored) (c : CoreState) → IsAt S s stored c → (image : List ℕ) → c.disk.images image → OpensAs S stored image
+image_at S s stored c at image left = record { store = s; stands = at.stands.each image left; opens = opens_at S s stored c at; last_is = last_at S s stored c at }
 
 -- ---- one step
 
--- an image of the files before, or of those after, where a write that failed may stand
+-- an image that can be opened as the files before, or as those after, where a write that failed may stand
 abbrev Either : (List ℕ → Type 0) → StepValue → Result Answer Refusal → List ℕ → Stored → List ℕ → Type 0
-Either S step answer bytes stored image = IsOf S stored image ⊎ IsOf S (stored_tried step answer bytes stored) image
+Either S step answer bytes stored image = OpensAs S stored image ⊎ OpensAs S (stored_tried step answer bytes stored) image
 
 module _ (among : ByteSet) (s : Store) (stored : Stored) (old new : CoreState) (bytes : List ℕ) (distinct : HasNoCollisions (IsIn among)) (at : IsAt (IsIn among) s stored old) where
   abbrev S : List ℕ → Type 0
@@ -74,31 +88,43 @@ module _ (among : ByteSet) (s : Store) (stored : Stored) (old new : CoreState) (
   last_more : (name : List ℕ) (change : Change) → last_sequence (with_change name change s) ≡ suc stored.last
   last_more name change = last_changed name change s at.valid.follow ∙ ap suc last_here
 
-  -- an image of these files that has its reserve
-  image_of : (t : Store) (c : List ℕ) → RESERVE ≤ free_slots t.held → last_sequence t ≡ stored.last → Stands S t stored.files c → IsOf S stored c
-  image_of t c reserve last stands = record { store = t; stands = stands; reserve = reserve; last_is = last }
+  abbrev core : CoreInvariant at.index s stored.files old.parts at.stands.known.0
+  core = at.invariant at.stands.known.0 at.stands.known.1
 
-  of_old : (c : List ℕ) → old.disk.images c → IsOf S stored c
+  opens : CanBeOpened s stored.files
+  opens = opens_at S s stored old at
+
+  -- an image that can be opened as these files
+  image_of : (t : Store) (c : List ℕ) → CanBeOpened t stored.files → last_sequence t ≡ stored.last → Stands S t stored.files c → OpensAs S stored c
+  image_of t c can last stands = record { store = t; stands = stands; opens = can; last_is = last }
+
+  of_old : (c : List ℕ) → old.disk.images c → OpensAs S stored c
   of_old = image_at S s stored old at
 
   -- of names that stand still
-  of_still : (c : List ℕ) → FilesStandStill S s stored.files c → IsOf S stored c
-  of_still c (inl is) = image_of (with_other is.0 s) c at.reserve last_here is.1
-  of_still c (inr is) = image_of (with_cell s) c at.reserve (last_with_cell s at.valid.follow ∙ last_here) is
+  of_still : (c : List ℕ) → FilesStandStill S s stored.files c → OpensAs S stored c
+  of_still c (inl is) = image_of (with_other is.0 s) c opens last_here is.1
+  of_still c (inr is) = image_of (with_cell s) c opens (last_with_cell s at.valid.follow ∙ last_here) is
 
   -- where nothing was written
   by_reads : (step : StepValue) (answer : Result Answer Refusal) → OnlyReads old.disk new.disk → CrashLeaves (Either S step answer bytes stored) old.disk new.disk
   by_reads step answer reads = reads_leave (Either S step answer bytes stored) old.disk new.disk (λ c is. inl (of_old c is)) reads
+
+  -- a container more leaves two closed slots, where there was one to spare
+  opens_sealed : (filled : Contents) → RESERVE < free_slots s.held → CanBeOpened (with_sealed (next_id old) filled.kind filled.segments s) stored.files
+  opens_sealed filled spare =
+      free_reserve (IsReachable stored.files) (with_sealed (next_id old) filled.kind filled.segments s).held
+      (omega (arith, spare, free_less (header_of (next_id old) filled.kind filled.segments) s.held (omega (arith, spare))))
 
   by_seal : (filled : Contents) (answer : Result Answer Refusal) → SealsOne filled answer old new → IsStep (asked.Seal filled) → IsGivenRight S (asked.Seal filled) answer bytes old
       → CrashLeaves (Either S (asked.Seal filled) answer bytes stored) old.disk new.disk
   by_seal filled answer effect right given =
       leaves_weaker (λ c. Stands S s stored.files c ⊎ StandsSealed S (next_id old) filled s stored.files c) (Either S (asked.Seal filled) answer bytes stored) old.disk new.disk
       (λ c stands. elim stands [
-        | inl is ↦ inl (image_of s c at.reserve last_here is)
-        | inr is ↦ inl (image_of (with_sealed (next_id old) filled.kind filled.segments s) c (omega (arith, is.0, free_less (header_of (next_id old) filled.kind filled.segments) s.held (omega (arith, is.0)))) last_here is.1)
+        | inl is ↦ inl (image_of s c opens last_here is)
+        | inr is ↦ inl (image_of (with_sealed (next_id old) filled.kind filled.segments s) c (opens_sealed filled is.0) last_here is.1)
       ])
-      (effect.moves.moves among s stored.files at.index at.index_known at.represents (at.invariant at.stands.known.0 at.stands.known.1).files_are_indexed distinct (may_seal_all S filled.kind filled.segments right.1 given) at.stands).leaves
+      (effect.moves.moves among s stored.files at.index at.index_known at.represents core.files_are_indexed distinct (may_seal_all S filled.kind filled.segments right.1 given) at.stands).leaves
 
   -- of a commit that came to its first write
   put_leaves : (name : List ℕ) (root : Root) (answer : Result Answer Refusal) → NamesOne name (Put root) answer old new → IsRootOf root bytes old
@@ -111,22 +137,29 @@ module _ (among : ByteSet) (s : Store) (stored : Stored) (old new : CoreState) (
 
   -- images of the store, or of that with a change, are of the files before or after
   either_way : (name : List ℕ) (change : Change) (after : Stored) (step : StepValue) (answer : Result Answer Refusal) → stored_tried step answer bytes stored ≡ after
-      → after.last ≡ suc stored.last
+      → after.last ≡ suc stored.last → IndexesFiles at.index after.files
       → CrashLeaves (λ c. FilesStandStill S s stored.files c ⊎ Stands S (with_change name change s) after.files c) old.disk new.disk
       → CrashLeaves (Either S step answer bytes stored) old.disk new.disk
-  either_way name change after step answer tried last leaves =
+  either_way name change after step answer tried last indexed leaves =
       leaves_weaker (λ c. FilesStandStill S s stored.files c ⊎ Stands S (with_change name change s) after.files c) (Either S step answer bytes stored) old.disk new.disk
       (λ c stands. elim stands [
         | inl is ↦ inl (of_still c is)
-        | inr is ↦ inr (subst (λ (m : Stored). IsOf S m c) (sym tried) (record { store = with_change name change s; stands = is; reserve = at.reserve; last_is = last_more name change ∙ sym last }))
+        | inr is ↦ inr (subst (λ (m : Stored). OpensAs S m c) (sym tried) (record { store = with_change name change s; stands = is; opens = opens_by at.index s after.files indexed core.reserve_holds; last_is = last_more name change ∙ sym last }))
       ]) leaves
+
+  -- the index has the keys of what is put, and those of what is left once a name is deleted
+  put_indexed : (name : List ℕ) (root : Root) → IsRootOf root bytes old → IndexesFiles at.index (with_file stored.files name bytes)
+  put_indexed name root given = reached_put (HasKey at.index) stored.files core.files_are_indexed name bytes (given.indexed at.index at.index_known)
+
+  less_indexed : (name : List ℕ) → IndexesFiles at.index (without_file stored.files name)
+  less_indexed name = reached_less (HasKey at.index) stored.files core.files_are_indexed name
 
   by_commit : (name : List ℕ) (root : Root) (answer : Result Answer Refusal) → NamesOne name (Put root) answer old new → IsGivenRight S (asked.Commit name root) answer bytes old
       → CrashLeaves (Either S (asked.Commit name root) answer bytes stored) old.disk new.disk
   by_commit name root (Ok answer) effect given =
-      either_way name (Put root) (with_stored stored name bytes) (asked.Commit name root) (Ok answer) refl refl (put_leaves name root (Ok answer) effect given)
+      either_way name (Put root) (with_stored stored name bytes) (asked.Commit name root) (Ok answer) refl refl (put_indexed name root given) (put_leaves name root (Ok answer) effect given)
   by_commit name root (Err refusals.DiskWrite) effect given =
-      either_way name (Put root) (with_stored stored name bytes) (asked.Commit name root) (Err refusals.DiskWrite) refl refl (put_leaves name root (Err refusals.DiskWrite) effect given)
+      either_way name (Put root) (with_stored stored name bytes) (asked.Commit name root) (Err refusals.DiskWrite) refl refl (put_indexed name root given) (put_leaves name root (Err refusals.DiskWrite) effect given)
   by_commit name root (Err refusals.DiskRead) effect given = by_reads (asked.Commit name root) (Err refusals.DiskRead) effect.disk.ends
   by_commit name root (Err refusal) effect given = by_reads (asked.Commit name root) (Err refusal) effect.disk.ends
 
@@ -140,29 +173,35 @@ module _ (among : ByteSet) (s : Store) (stored : Stored) (old new : CoreState) (
   by_delete : (name : List ℕ) (answer : Result Answer Refusal) → NamesOne name Delete answer old new
       → CrashLeaves (Either S (asked.Delete name) answer bytes stored) old.disk new.disk
   by_delete name (Ok answer) effect =
-      either_way name Delete (without_stored stored name) (asked.Delete name) (Ok answer) refl refl (delete_leaves name (Ok answer) effect)
+      either_way name Delete (without_stored stored name) (asked.Delete name) (Ok answer) refl refl (less_indexed name) (delete_leaves name (Ok answer) effect)
   by_delete name (Err refusals.DiskWrite) effect =
-      either_way name Delete (without_stored stored name) (asked.Delete name) (Err refusals.DiskWrite) refl refl (delete_leaves name (Err refusals.DiskWrite) effect)
+      either_way name Delete (without_stored stored name) (asked.Delete name) (Err refusals.DiskWrite) refl refl (less_indexed name) (delete_leaves name (Err refusals.DiskWrite) effect)
   by_delete name (Err refusals.DiskRead) effect = by_reads (asked.Delete name) (Err refusals.DiskRead) effect.disk.ends
   by_delete name (Err refusal) effect = by_reads (asked.Delete name) (Err refusal) effect.disk.ends
 
   -- a step of a collection: each image is of the same files
-  of_same : (t : Store) (c : List ℕ) → RESERVE ≤ free_slots t.held → last_sequence t ≡ last_sequence s → Stands S t stored.files c → IsOf S stored c
-  of_same t c reserve same is = image_of t c reserve (same ∙ last_here) is
+  of_same : (t : Store) (c : List ℕ) → CanBeOpened t stored.files → last_sequence t ≡ last_sequence s → Stands S t stored.files c → OpensAs S stored c
+  of_same t c can same is = image_of t c can (same ∙ last_here) is
+
+  -- a container that the index has nothing in may be given back
+  opens_freed : (slot : ℕ) → HasNoEntryIn at.index slot → CanBeOpened (with_freed slot s) stored.files
+  opens_freed slot none =
+      opens_by at.index (with_freed slot s) stored.files core.files_are_indexed
+      (reserve_freed (HasKey at.index) slot s.held (none_held s at.index slot core.index_is_newest none) core.reserve_holds)
 
   by_changes : (answer : Result Answer Refusal) (e : Ending) → Changes (slot_at s.slots) e old.disk new.disk → CrashLeaves (Either S asked.GcStep answer bytes stored) old.disk new.disk
   by_changes answer e changes =
       leaves_weaker (SteppedFrom (SameBefore (slot_at s.slots)) old.disk) (Either S asked.GcStep answer bytes stored) old.disk new.disk
       (λ c from. elim from [
         | inl was ↦ inl (of_old c was)
-        | inr stepped ↦ inl (of_same s c at.reserve refl (stands_framed S s stored.files stepped.0 c (at.stands.each stepped.0 stepped.1) stepped.2.before stepped.2.size))
+        | inr stepped ↦ inl (of_same s c opens refl (stands_framed S s stored.files stepped.0 c (at.stands.each stepped.0 stepped.1) stepped.2.before stepped.2.size))
       ]) changes.leaves
 
   by_release : (answer : Result Answer Refusal) (e : Ending) (slot : ℕ) → HasNoEntryIn at.index slot → GivesBack old.tables slot e old.disk new.disk → CrashLeaves (Either S asked.GcStep answer bytes stored) old.disk new.disk
   by_release answer e slot none gives =
       leaves_weaker (λ c. Stands S s stored.files c ⊎ Stands S (with_freed slot s) stored.files c) (Either S asked.GcStep answer bytes stored) old.disk new.disk
-      (λ c stands. elim stands [ inl is ↦ inl (of_same s c at.reserve refl is) | inr is ↦ inl (of_same (with_freed slot s) c (omega (arith, at.reserve, free_more slot s.held)) refl is) ])
-      (gives.moves among s at.index stored.files (subst (λ (known : Option PlaceMap). Represents s known old.tables) at.index_known at.represents) (at.invariant at.stands.known.0 at.stands.known.1).files_are_indexed none at.stands).leaves
+      (λ c stands. elim stands [ inl is ↦ inl (of_same s c opens refl is) | inr is ↦ inl (of_same (with_freed slot s) c (opens_freed slot none) refl is) ])
+      (gives.moves among s at.index stored.files (subst (λ (known : Option PlaceMap). Represents s known old.tables) at.index_known at.represents) core.files_are_indexed none at.stands).leaves
 
   by_stage : (answer : Result Answer Refusal) (c : Collection) (stage : Stage) (e : Ending) → IsSafeAt stage at.index s old.parts at.stands.known.0 c → c.stage ≡ stage → Touches stage old.tables e old.disk new.disk
       → CrashLeaves (Either S asked.GcStep answer bytes stored) old.disk new.disk
@@ -207,7 +246,7 @@ module _ (C : Type 0) (state : C → CoreState) (among : ByteSet) (distinct : Ha
   still_reads : (stop : Stop) (steps : List FileEvent) (old new : C) → (state old).stop ≡ Some stop → FileRun C state In steps old new → OnlyReads (state old).disk (state new).disk
   still_reads stop steps old new is run = stopped_reads C state stop (events_of steps) old new is (core_run C state In steps old new run)
 
-  on_the_way : (steps : List FileEvent) (stored : Stored) (c : List ℕ) → IsOf In stored c → IsOnTheWay In steps stored c
+  on_the_way : (steps : List FileEvent) (stored : Stored) (c : List ℕ) → OpensAs In stored c → IsOnTheWay In steps stored c
   on_the_way [] stored c is = is
   on_the_way (f ∷ fs) stored c is = inl is
 
@@ -339,7 +378,7 @@ module _ (C : Type 0) (state : C → CoreState) (among : ByteSet) where
 
 module _ (C : Type 0) (state : C → CoreState) (among : ByteSet) (distinct : HasNoCollisions (IsIn among)) where
   abbrev Ends : List FileEvent → Stored → List ℕ → Type 0
-  Ends steps stored image = IsOf (IsIn among) (stored_after steps stored) image ⊎ IsOf (IsIn among) (stored_tried_by steps stored) image
+  Ends steps stored image = OpensAs (IsIn among) (stored_after steps stored) image ⊎ OpensAs (IsIn among) (stored_tried_by steps stored) image
 
   -- the first step, and the end of the others where it didn't stop the core
   ends_by : (f : FileEvent) (fs : List FileEvent) (s : Store) (stored : Stored) (old mid new : C) → IsAt (IsIn among) s stored (state old) → FileStep (IsIn among) f (state old) (state mid) → FileRun C state (IsIn among) fs mid new
@@ -350,7 +389,7 @@ module _ (C : Type 0) (state : C → CoreState) (among : ByteSet) (distinct : Ha
       let same = by_old_tried (state old).stop f (state old) (state mid) stored step.made is in
       elim (others next.store next.is_at) [
         | inl done ↦ inl done
-        | inr tried ↦ inr (subst (λ (m : Stored). IsOf (IsIn among) (stored_tried_by fs m) image) (sym same) tried)
+        | inr tried ↦ inr (subst (λ (m : Stored). OpensAs (IsIn among) (stored_tried_by fs m) image) (sym same) tried)
       ]
   ends_by f fs s stored old mid new at step run image there others (Some stop) is =
       let first = by_stop among s stored (state old) (state mid) f.bytes distinct at (state old).stop f refl step.made step.asked step.given in
@@ -359,8 +398,8 @@ module _ (C : Type 0) (state : C → CoreState) (among : ByteSet) (distinct : Ha
       let by = stopped_files C state among stop fs (stored_by f stored) mid new is run in
       let tried = stopped_files C state among stop fs (stored_tried f.event.step f.event.answer f.bytes stored) mid new is run in
       elim (first.now image (reads.images_are image there)) [
-        | inl before ↦ inl (subst (λ (m : Stored). IsOf (IsIn among) m image) (sym (by.0 ∙ none)) before)
-        | inr after ↦ inr (subst (λ (m : Stored). IsOf (IsIn among) m image) (sym tried.1) after)
+        | inl before ↦ inl (subst (λ (m : Stored). OpensAs (IsIn among) m image) (sym (by.0 ∙ none)) before)
+        | inr after ↦ inr (subst (λ (m : Stored). OpensAs (IsIn among) m image) (sym tried.1) after)
       ]
 
   ends_all : (steps : List FileEvent) (s : Store) (stored : Stored) (old new : C) → IsAt (IsIn among) s stored (state old) → FileRun C state (IsIn among) steps old new

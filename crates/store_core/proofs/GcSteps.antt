@@ -9,15 +9,13 @@ use Rattle.actor_parts.specs.declared.step.Answer.{Answer}
 use Rattle.store_core.specs.Runs.{AreChangesBy, ChangesTo, FileEvent, IsAt, IsSafeIn}
 use Rattle.store_model.specs.Collisions.{ByteSet, IsIn, Stands}
 use Rattle.gc_steps.specs.declared.collection.Collection.{Collection}
-use Rattle.disk_format.specs.declared.numbers.TheConstants.{RESERVE}
-use Rattle.container_meta.specs.Spelling.{HeaderValue}
-use Rattle.store_model.specs.Slots.{HasKey, free_slots, without_slot}
+use Rattle.store_model.specs.Slots.{HasKey}
 use Rattle.store_state.specs.Invariant.{CoreInvariant}
 use Rattle.store_core.specs.State.{CoreState, IsUnderWayIn}
 use Rattle.gc_steps.specs.declared.phase.StepDone.TheVariants.{Did}
 use Rattle.dd_disk.specs.Ending.{Done, Reads, ending_of}
 use Rattle.gc_steps.specs.declared.collection.Stage.TheVariants.{Copy, End, Filter, Mark, Release, Select}
-use Rattle.std.proofs.Common.{[], inl, inr, zero, suc, Err, List, None, Ok, Option, Result, Some, ap, arith, length, refl, subst, sym, ℕ, ◌∙◌, ◌∷◌, ◌≡◌, ◌≤◌}
+use Rattle.std.proofs.Common.{[], inl, inr, Err, List, None, Ok, Option, Result, Some, ap, arith, length, refl, subst, sym, ℕ, ◌∙◌, ◌∷◌, ◌≡◌, ◌≤◌}
 use Rattle.store_model.specs.Steps.{FreeContainer, StoreChange}
 use Rattle.store_core.specs.Collecting.{GcEffect, GcRow, IsNotMade, NoneRuns, TouchesBy, GoesOn, HasEnded, at_moment}
 use Rattle.store_model.specs.Trees.{HasNewest}
@@ -69,18 +67,6 @@ stage_changes (Release next slot) index s t (inl same) = absurd (same.0 next slo
 stage_changes (Release next slot) index s t (inr frees) = (FreeContainer frees.slot ∷ [], ((frees.slot, refl), ((frees.header, frees.there), frees.now_is)))
 stage_changes End index s t after = ([], (refl, stays_same End index s t (λ next other is. let wrong = is in cc) after))
 
--- no slot fewer is free once one of them is closed
-pub free_more : (slot : ℕ) (held : List (Option HeaderValue)) → free_slots held ≤ free_slots (without_slot slot held)
-free_more slot [] = omega arith
-free_more zero (None ∷ cs) = omega arith
-free_more zero (Some h ∷ cs) = omega arith
-free_more (suc slot) (None ∷ cs) = omega (arith, free_more slot cs)
-free_more (suc slot) (Some h ∷ cs) = free_more slot cs
-
-no_fewer : (stage : Stage) (index : PlaceMap) (s t : Store) → IsStoreAfter stage index s t → free_slots s.held ≤ free_slots t.held
-no_fewer stage index s t (inl same) = omega (arith, ap (λ (x : Store). free_slots x.held) same.1)
-no_fewer stage index s t (inr freed) = omega (arith, free_more freed.slot s.held, ap (λ (x : Store). free_slots x.held) freed.now_is)
-
 did_changes : (stage : Stage) (freed : ℕ) (phase : Phase) (index : PlaceMap) (s t : Store) → answer_at stage freed ≡ Did phase → IsStoreAfter stage index s t
     → (changes : List StoreChange) × (AreChangesBy asked.GcStep (Ok (answers.Did phase)) changes × ChangesTo changes s t)
 did_changes stage freed phase index s t is after =
@@ -123,15 +109,14 @@ module _ (among : ByteSet) (s : Store) (stored : Stored) (old new : CoreState) (
   -- what holds afterwards, by the store, the map of the index and the content that there are then
   module _ (now : List ℕ) (told : new.disk.content ≡ Some now) (goes : IsLater old.disk new.disk) (parts : new.parts ≡ old.parts) (under_way : IsUnderWayIn new.tables.held new.collection) where
     at_now : (t : Store) (later : PlaceMap) → new.known ≡ Some later → Represents t (Some later) new.tables → IsValidFor new.disk.size t → StandsFor (Stands (IsIn among) t stored.files) new.disk
-        → new.tables.journal ≡ old.tables.journal → RESERVE ≤ free_slots t.held → CoreInvariant later t stored.files old.parts now → IsSafeIn later t old.parts now new.collection → IsAt (IsIn among) t stored new
-    at_now t later known is valid stands journal reserve core safe = record {
+        → new.tables.journal ≡ old.tables.journal → CoreInvariant later t stored.files old.parts now → IsSafeIn later t old.parts now new.collection → IsAt (IsIn among) t stored new
+    at_now t later known is valid stands journal core safe = record {
       represents = subst (λ (k : Option PlaceMap). Represents t k new.tables) (sym known) is;
       index = later;
       index_known = known;
       valid = valid;
       stands = stands;
       last_is = ap (λ (j : JournalValue). j.last) journal ∙ at.last_is;
-      reserve = reserve;
       invariant = λ c is. subst (CoreInvariant later t stored.files new.parts) (one_list now c (sym told ∙ is)) (subst (λ (p : List Part). CoreInvariant later t stored.files p now) (sym parts) core);
       many = ap length parts ∙ at.many;
       under_way = under_way;
@@ -149,7 +134,7 @@ module _ (among : ByteSet) (s : Store) (stored : Stored) (old new : CoreState) (
       next = record {
         store = s;
         chain = refl;
-        is_at = at_now s at.index known (subst (Represents s (Some at.index)) (sym tables) represents) (subst (λ (size : ℕ). IsValidFor size s) (sym goes.size_is) at.valid) stands (ap (λ (t : Tables). t.journal) tables) at.reserve core safe;
+        is_at = at_now s at.index known (subst (Represents s (Some at.index)) (sym tables) represents) (subst (λ (size : ℕ). IsValidFor size s) (sym goes.size_is) at.valid) stands (ap (λ (t : Tables). t.journal) tables) core safe;
       };
       keys = λ key before is spared first then first_is then_is has. subst (λ (m : PlaceMap). HasKey m key) (one_map_at first then (sym first_is ∙ at.index_known ∙ sym known ∙ then_is)) has;
       copies = λ key before after is after_is spared first first_is has level text newest.
@@ -175,7 +160,7 @@ module _ (among : ByteSet) (s : Store) (stored : Stored) (old new : CoreState) (
             store = leaves.store_now;
             chain = changes.1.1;
             is_at = at_now leaves.store_now leaves.later leaves.known_is leaves.represents leaves.valid leaves.stands (journal_same c.stage old.tables new.tables row.tables)
-                (omega (arith, at.reserve, no_fewer c.stage at.index s leaves.store_now leaves.store_is)) leaves.core
+                leaves.core
                 (subst (IsSafeIn leaves.later leaves.store_now old.parts now) (sym row.runs) leaves.safe);
           };
           keys = λ key before is spared first then first_is then_is has.

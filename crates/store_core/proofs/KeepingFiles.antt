@@ -1,5 +1,5 @@
 -- A core that isn't stopped has the stored of the commits that it acknowledged, and its invariant holds.
-use Rattle.std.proofs.Common.{◌≡◌, ◌⊎◌, inl, inr, ◌≤◌, ℕ, List, [], ◌∷◌, ◌++◌, Option, Some, None, Result, Ok, Err, refl, sym, ◌∙◌, subst, ap, suc, length, arith}
+use Rattle.std.proofs.Common.{◌≡◌, ◌⊎◌, inl, inr, ℕ, List, [], ◌∷◌, ◌++◌, Option, Some, None, Result, Ok, Err, refl, sym, ◌∙◌, subst, ap, suc, length, arith}
 use Rattle.std.specs.List.{AllByRecursion}
 use Rattle.disk_format.specs.Cells.{Root}
 use Rattle.disk_format.specs.Cells.Change.{Delete, Put}
@@ -25,8 +25,8 @@ use Rattle.store_model.specs.Collisions.{HasNoCollisions, ByteSet, IsIn, IsAmong
 use Rattle.store_model.specs.Files.{Stored, with_stored, without_stored}
 use Rattle.store_model.specs.Files as files
 use Rattle.store_model.specs.Image.{Store, IsValidFor, last_sequence}
-use Rattle.disk_format.specs.declared.numbers.TheConstants.{RESERVE}
-use Rattle.store_model.specs.Slots.{HasFree, HasKey, IsPartialIndexOf, free_slots}
+use Rattle.store_model.specs.Slots.{HasFree, HasKey, IsPartialIndexOf}
+use Rattle.store_model.specs.Reserve.{HasReserve}
 use Rattle.store_model.proofs.FreedFiles.{free_reserve}
 use Rattle.store_model.proofs.Valid.{free_sealed}
 use Rattle.store_model.proofs.Reached.{reached_less, reached_put}
@@ -74,18 +74,17 @@ one_some x y same = cc
 
 module _ (S : List ℕ → Type 0) (store : Store) (stored : Stored) (new : CoreState) where
   -- from what the tables are, what each image is, and what the actors are at
-  pub arrive : RESERVE ≤ free_slots store.held → Represents store new.known new.tables → (places : PlaceMap) → new.known ≡ Some places → IsValidFor new.disk.size store → StandsFor (Stands S store stored.files) new.disk
+  pub arrive : (places : PlaceMap) → HasReserve (HasKey places) store.held → HasFree store.held → Represents store new.known new.tables → new.known ≡ Some places → IsValidFor new.disk.size store → StandsFor (Stands S store stored.files) new.disk
       → new.tables.journal.last ≡ stored.last → IndexesFiles places stored.files
       → ((image : List ℕ) → new.disk.content ≡ Some image → AllByRecursion (HoldsPart (HasKey places) store.held image) new.parts)
       → length new.parts ≡ ACTORS → IsUnderWayIn new.tables.held new.collection → IsSafeFor places store stored new → IsAt S store stored new
-  arrive reserve represents places known valid stands last files_indexed parts many under_way safe = record {
+  arrive places reserve free represents known valid stands last files_indexed parts many under_way safe = record {
     represents = represents;
     index = places;
     index_known = known;
     valid = valid;
     stands = stands;
     last_is = last;
-    reserve = reserve;
     invariant = core;
     many = many;
     under_way = under_way;
@@ -97,8 +96,8 @@ module _ (S : List ℕ → Type 0) (store : Store) (stored : Stored) (new : Core
         index_is_newest = represents.index_is_newest places known;
         files_are_indexed = files_indexed;
         pins_are_closed = parts image told;
-        reserve_holds = free_reserve (HasKey places) store.held reserve;
-        has_free = omega (arith, reserve);
+        reserve_holds = reserve;
+        has_free = free;
       }
 
 module _ (among : ByteSet) (s : Store) (stored : Stored) (old new : CoreState) (actor : ℕ) (at : IsAt (IsIn among) s stored old) (one : ChangesOne actor old.parts new.parts)
@@ -154,7 +153,7 @@ module _ (among : ByteSet) (s : Store) (stored : Stored) (old new : CoreState) (
     next = record {
       store = s;
       chain = refl;
-      is_at = arrive (IsIn among) s stored new at.reserve (same_tables kept) at.index (kept.index_is ∙ at.index_known)
+      is_at = arrive (IsIn among) s stored new at.index invariant.reserve_holds free (same_tables kept) (kept.index_is ∙ at.index_known)
           (subst (λ (size : ℕ). IsValidFor size s) (sym reads.later.size_is) at.valid) (stands_reads (Stands (IsIn among) s stored.files) old.disk new.disk at.stands reads) (same_last kept) invariant.files_are_indexed
           (λ image is. let same : content ≡ image = one_some content image (sym told ∙ sym reads.content_is ∙ is) in
           subst (λ (bytes : List ℕ). AllByRecursion (HoldsPart (HasKey at.index) s.held bytes) new.parts) same (all_hold at.index s content (λ key has. has) (λ key level bytes counts has. has) own)) many_here under_way safe;
@@ -173,7 +172,7 @@ module _ (among : ByteSet) (s : Store) (stored : Stored) (old new : CoreState) (
     next = record {
       store = s;
       chain = refl;
-      is_at = arrive (IsIn among) s stored new at.reserve (same_tables kept) at.index (kept.index_is ∙ at.index_known) (subst (λ (size : ℕ). IsValidFor size s) (sym goes.size_is) at.valid) stands (same_last kept) invariant.files_are_indexed
+      is_at = arrive (IsIn among) s stored new at.index invariant.reserve_holds free (same_tables kept) (kept.index_is ∙ at.index_known) (subst (λ (size : ℕ). IsValidFor size s) (sym goes.size_is) at.valid) stands (same_last kept) invariant.files_are_indexed
           (λ image is. let kept_here = keeps image is in all_hold at.index s image (λ key has. has) kept_here.0 kept_here.1) many_here under_way safe;
     };
     keys = kept_keys kept;
@@ -184,12 +183,13 @@ module _ (among : ByteSet) (s : Store) (stored : Stored) (old new : CoreState) (
   }
 
   -- a step that makes a change
-  pub makes : (change : StoreChange) (later : Stored) → last_sequence (changed change s) ≡ later.last → Makes change old new → RESERVE ≤ free_slots (changed change s).held → IsLater old.disk new.disk → StandsFor (Stands (IsIn among) (changed change s) later.files) new.disk
+  pub makes : (change : StoreChange) (later : Stored) → last_sequence (changed change s) ≡ later.last → Makes change old new
+      → ((then : PlaceMap) → new.known ≡ Some then → HasReserve (HasKey then) (changed change s).held) → HasFree (changed change s).held → IsLater old.disk new.disk → StandsFor (Stands (IsIn among) (changed change s) later.files) new.disk
       → ((then : PlaceMap) → new.known ≡ Some then → IndexesFiles then stored.files → IndexesFiles then later.files)
       → ((then : PlaceMap) (after : List ℕ) → new.known ≡ Some then → new.disk.content ≡ Some after
       → KeepsCopies (HasKey at.index) s content (changed change s) after × HoldsPart (HasKey then) (changed change s).held after (part_of new.parts actor))
       → ((then : PlaceMap) → new.known ≡ Some then → IsSafeFor then (changed change s) later new) → NextOn (IsIn among) s (change ∷ []) later old new
-  makes change later last made reserve goes stands files_on keeps safe =
+  makes change later last made reserve free_then goes stands files_on keeps safe =
       let known = made.tells at.index at.index_known in
       let keys : (key : List ℕ) → HasKey at.index key → HasKey known.0 key = made.keeps_keys at.index at.index_known known.0 known.1 in
       let represents = made.represents.store_has s at.represents at.valid free in
@@ -197,7 +197,7 @@ module _ (among : ByteSet) (s : Store) (stored : Stored) (old new : CoreState) (
         next = record {
           store = changed change s;
           chain = (made.can.store_has s at.represents at.valid free, refl);
-          is_at = arrive (IsIn among) (changed change s) later new reserve represents known.0 known.1 (made.valid.store_has s at.represents at.valid free) stands (represents.names_are.last_is ∙ last)
+          is_at = arrive (IsIn among) (changed change s) later new known.0 (reserve known.0 known.1) free_then represents known.1 (made.valid.store_has s at.represents at.valid free) stands (represents.names_are.last_is ∙ last)
               (files_on known.0 known.1 (λ key need. keys key (invariant.files_are_indexed key need)))
               (λ image is. let kept = keeps known.0 image known.1 is in all_hold known.0 (changed change s) image keys kept.0 kept.1) many_here under_way (safe known.0 known.1);
         };
@@ -360,7 +360,9 @@ module _ (among : ByteSet) (s : Store) (stored : Stored) (old new : CoreState) (
       let moved = (seal_moves filled (Ok (answers.Sealed id)) effect right given).arrives in
       let can = effect.made.can.store_has s at.represents at.valid invariant_here.has_free in
       let next : NextOn (IsIn among) s (SealContainer (next_id old) filled.kind filled.segments ∷ []) stored old new =
-      makes among s stored old new actor at (row_one actor buf old new (asked.Seal filled) (Ok (answers.Sealed id)) row) (goes_under_way (asked.Seal filled) (Ok (answers.Sealed id)) row effect collects) (SealContainer (next_id old) filled.kind filled.segments) stored last_here effect.made (omega (arith, can.slot, free_sealed (next_id old) filled.kind filled.segments s can)) effect.disk.later
+      makes among s stored old new actor at (row_one actor buf old new (asked.Seal filled) (Ok (answers.Sealed id)) row) (goes_under_way (asked.Seal filled) (Ok (answers.Sealed id)) row effect collects) (SealContainer (next_id old) filled.kind filled.segments) stored last_here effect.made
+      (λ then then_is. free_reserve (HasKey then) (with_sealed (next_id old) filled.kind filled.segments s).held (omega (arith, can.slot, free_sealed (next_id old) filled.kind filled.segments s can)))
+      (omega (arith, can.slot, free_sealed (next_id old) filled.kind filled.segments s can)) effect.disk.later
       (unspared filled new.disk moved) (λ then then_is files. files)
       (λ then after then_is is. (
         (seal_holds filled (Ok (answers.Sealed id)) after is effect right given).0,
@@ -386,13 +388,17 @@ module _ (among : ByteSet) (s : Store) (stored : Stored) (old new : CoreState) (
       subst (λ (b : List ℕ). IsSafeIn at.index s new.parts b new.collection) bytes
       (unchanged_safe at.index at.index s s old.parts new.parts image image old.collection new.collection (still_rested among s stored old new actor buf at parts) same (at.safe image here))
 
+  -- where the index is the same, the reserve is
+  reserve_still : new.known ≡ old.known → (then : PlaceMap) → new.known ≡ Some then → HasReserve (HasKey then) s.held
+  reserve_still same then is = subst (λ (m : PlaceMap). HasReserve (HasKey m) s.held) (one_some at.index then (sym at.index_known ∙ sym same ∙ is)) invariant_here.reserve_holds
+
   -- a name
   commit_next : (name : List ℕ) (root : Root) (answer : Result Answer Refusal) → Goes (asked.Commit name root) answer
   commit_next name root (Ok (answers.Committed sequence)) row effect collects stops right given =
       let tree = given.tree s at.represents in
       let moved = effect.moves.moves among s stored.files (files.Put name bytes) at.represents.names_are refl (ap Put given.root_is) (record { known = at.stands.known; each = λ c is. (at.stands.each c is, tree.each c is) }) in
       let copies = effect.copies s at.represents image here stands_here.holds.right in
-      makes among s stored old new actor at (row_one actor buf old new (asked.Commit name root) (Ok (answers.Committed sequence)) row) (goes_under_way (asked.Commit name root) (Ok (answers.Committed sequence)) row effect collects) (ChangeName name (Put root)) (with_stored stored name bytes) (last_changed name (Put root) s at.valid.follow ∙ ap suc last_here) effect.made at.reserve effect.disk.later
+      makes among s stored old new actor at (row_one actor buf old new (asked.Commit name root) (Ok (answers.Committed sequence)) row) (goes_under_way (asked.Commit name root) (Ok (answers.Committed sequence)) row effect collects) (ChangeName name (Put root)) (with_stored stored name bytes) (last_changed name (Put root) s at.valid.follow ∙ ap suc last_here) effect.made (reserve_still effect.index) invariant_here.has_free effect.disk.later
       (subst (λ (r : Root). StandsFor (Stands (IsIn among) (with_change name (Put r) s) (with_stored stored name bytes).files) new.disk) (sym given.root_is) moved.arrives)
       (λ then then_is all. reached_put (HasKey then) stored.files all name bytes (λ key there. effect.made.keeps_keys at.index at.index_known then then_is key (given.indexed at.index at.index_known key there)))
       (λ then after then_is is. (
@@ -412,7 +418,7 @@ module _ (among : ByteSet) (s : Store) (stored : Stored) (old new : CoreState) (
   delete_next name (Ok (answers.Deleted sequence)) row effect collects stops right given =
       let moved = effect.moves.moves among s stored.files (files.Delete name) at.represents.names_are refl refl (record { known = at.stands.known; each = λ c is. (at.stands.each c is, tt) }) in
       let copies = effect.copies s at.represents image here stands_here.holds.right in
-      makes among s stored old new actor at (row_one actor buf old new (asked.Delete name) (Ok (answers.Deleted sequence)) row) (goes_under_way (asked.Delete name) (Ok (answers.Deleted sequence)) row effect collects) (ChangeName name Delete) (without_stored stored name) (last_changed name Delete s at.valid.follow ∙ ap suc last_here) effect.made at.reserve effect.disk.later
+      makes among s stored old new actor at (row_one actor buf old new (asked.Delete name) (Ok (answers.Deleted sequence)) row) (goes_under_way (asked.Delete name) (Ok (answers.Deleted sequence)) row effect collects) (ChangeName name Delete) (without_stored stored name) (last_changed name Delete s at.valid.follow ∙ ap suc last_here) effect.made (reserve_still effect.index) invariant_here.has_free effect.disk.later
       moved.arrives (λ then then_is all. reached_less (HasKey then) stored.files all name)
       (λ then after then_is is.
       let any = subst (KeepsCopies AnyKey s image (with_change name Delete s)) (one_some copies.0 after (sym copies.1 ∙ is)) copies.2 in

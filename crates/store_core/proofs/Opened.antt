@@ -206,7 +206,6 @@ begins_at S stored image v c new durable reads told is =
           each = λ left leaves. subst (λ (bytes : List ℕ). Stands S is.store stored.files bytes) (sym (durable image here left leaves)) stands;
         };
         last_is = represents.names_are.last_is ∙ is.last_is;
-        reserve = is.reserve;
         invariant = λ bytes told_here. record {
           index_is_newest = represents.index_is_newest new.told.0 new.told.1;
           files_are_indexed = files_indexed;
@@ -218,6 +217,7 @@ begins_at S stored image v c new durable reads told is =
         under_way = subst (IsUnderWayIn c.tables.held) (sym new.collection_is) tt;
         safe = λ bytes told_here. subst (IsSafeIn new.told.0 is.store c.parts bytes) (sym new.collection_is) tt;
       };
+      reserve = is.reserve;
       whole = whole;
       none_runs = new.collection_is;
       last_id_is = new.last_id_is ∙ ap (λ (store : Store). last_id store.held) same;

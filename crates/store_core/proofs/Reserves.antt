@@ -4,7 +4,7 @@ use Rattle.std.specs.Prelude.{slice_get}
 use Rattle.base_model.specs.Bytes.{byte_at, range}
 use Rattle.base_model.specs.Known.{KnownWith}
 use Rattle.base_model.proofs.Ranges.{byte-range}
-use Rattle.container_meta.specs.Spelling.{HeaderValue, header_of}
+use Rattle.container_meta.specs.Spelling.{HeaderValue}
 use Rattle.container_meta.proofs.Again.{small_count}
 use Rattle.container_meta.proofs.Parts.{parts_of_spelling}
 use Rattle.dd_disk.specs.View.{OnlyReads, SteppedFrom}
@@ -13,15 +13,16 @@ use Rattle.disk_format.specs.Cells.Change.{Delete, Put}
 use Rattle.disk_format.specs.Layout.{half_cells, size_of, slot_at}
 use Rattle.disk_format.specs.declared.numbers.TheConstants.{HEADER_BYTES, RESERVE, SLOT_BYTES}
 use Rattle.actor_parts.specs.declared.step.Answer.{Answer}
-use Rattle.actor_parts.specs.declared.step.Answer.TheVariants as answers
 use Rattle.actor_parts.specs.StepValue as asked
 use Rattle.actor_parts.specs.StepValue.{StepValue}
 use Rattle.journal_cells.specs.Journal.{JournalValue}
 use Rattle.refusals.specs.declared.refusal.Refusal.{Refusal}
 use Rattle.refusals.specs.declared.refusal.Refusal.TheVariants as refusals
 use Rattle.store_model.specs.Image.{Store, Encodes}
-use Rattle.store_model.specs.Slots.{HoldsSlot, first_free, free_slots}
-use Rattle.store_model.proofs.Filled.{free_less}
+use Rattle.store_model.specs.Freeing.{with_freed}
+use Rattle.store_model.specs.Slots.{HoldsSlot, first_free, free_slots, without_slot}
+use Rattle.store_model.specs.Steps.{StoreChange, SealContainer, ChangeName, FreeContainer, with_change, with_sealed}
+use Rattle.store_model.proofs.Valid.{free_sealed}
 use Rattle.store_model.proofs.Freed.{slot_held}
 use Rattle.store_state.specs.Settled.{IsSettled}
 use Rattle.ingest_steps.specs.Naming.{ChangesBytes}
@@ -131,13 +132,21 @@ has_but_one place t given c roomy spare image size closed u right =
 
 -- ---- a step
 
--- a change that a step makes leaves as many slots as the reserve has
-enough_by : (step : StepValue) (answer : Result Answer Refusal) (t after : Store) → ChangesTo (changes_by step answer) t after → RESERVE ≤ free_slots t.held → RESERVE ≤ free_slots after.held
-enough_by (asked.Seal filled) (Ok (answers.Sealed id)) t after chain enough =
-    subst (λ (s : Store). RESERVE ≤ free_slots s.held) (sym chain.1) (omega (arith, chain.0.slot, free_less (header_of id filled.kind filled.segments) t.held (omega (arith, enough))))
-enough_by (asked.Commit name root) (Ok answer) t after chain enough = subst (λ (s : Store). RESERVE ≤ free_slots s.held) (sym chain.1) enough
-enough_by (asked.Delete name) (Ok answer) t after chain enough = subst (λ (s : Store). RESERVE ≤ free_slots s.held) (sym chain.1) enough
-enough_by step answer t after chain enough = subst (λ (s : Store). RESERVE ≤ free_slots s.held) (sym chain) enough
+-- no slot fewer is free once one of them is closed
+free_more : (slot : ℕ) (held : List (Option HeaderValue)) → free_slots held ≤ free_slots (without_slot slot held)
+free_more slot [] = omega arith
+free_more zero (None ∷ cs) = omega arith
+free_more zero (Some h ∷ cs) = omega arith
+free_more (suc slot) (None ∷ cs) = omega (arith, free_more slot cs)
+free_more (suc slot) (Some h ∷ cs) = free_more slot cs
+
+-- changes leave as many slots as the reserve has
+pub enough_after : (changes : List StoreChange) (s t : Store) → ChangesTo changes s t → RESERVE ≤ free_slots s.held → RESERVE ≤ free_slots t.held
+enough_after [] s t chain enough = subst (λ (x : Store). RESERVE ≤ free_slots x.held) (sym chain) enough
+enough_after (SealContainer id kind segments ∷ rest) s t chain enough =
+    enough_after rest (with_sealed id kind segments s) t chain.1 (omega (arith, chain.0.slot, free_sealed id kind segments s chain.0))
+enough_after (ChangeName name change ∷ rest) s t chain enough = enough_after rest (with_change name change s) t chain.1 enough
+enough_after (FreeContainer slot ∷ rest) s t chain enough = enough_after rest (with_freed slot s) t chain.1 (omega (arith, enough, free_more slot s.held))
 
 module _ (t : Store) (given : List ℕ) (old new : CoreState) (roomy : IsRoomy t given old) where
   abbrev on : IsOn t old
@@ -178,7 +187,7 @@ module _ (t : Store) (given : List ℕ) (old new : CoreState) (roomy : IsRoomy t
                 let below : slot < length t.held = omega (arith, within next.after.held slot None is, many) in
                 let was = was_closed next slot is (there t.held slot below) in
                 still_closed slot given bytes (adds.slots slot (subst (λ (n : ℕ). slot < n) on.valid.many below) (is ∙ sym was)) (roomy.closed slot was (λ no. no));
-            enough = enough_by e.step e.answer t next.after next.chain roomy.enough;
+            enough = enough_after (changes_by e.step e.answer) t next.after next.chain roomy.enough;
           },
         ),
       )

@@ -104,11 +104,12 @@ abbrev pub StaysOrStops : (D : Type 0) → (D → DiskView) → Refusal → Core
 StaysOrStops D view refusal old new =
     (IsKept old new × Reads (ending_of (blames refusal)) old.disk new.disk) ⊎ StopsUnopened D view refusal old new
 
--- Runs can begin: it is at a store of these files, whose keys the index all has, no id was given out that none of its containers has,
--- no collection runs, and its disk is settled.
+-- Runs can begin: it is at a store of these files, whose keys the index all has, two slots are free, no id was given out that none of its
+-- containers has, no collection runs, and its disk is settled.
 pub record BeginsAt (S : List ℕ → Type 0) (stored : Stored) (c : CoreState) : Type 0 where
   pub store : Store
   pub is_at : IsAt S store stored c
+  pub reserve : RESERVE ≤ free_slots store.held
   pub whole : IndexesAll store c.known
   pub none_runs : c.collection ≡ None
   pub last_id_is : c.tables.held.last_id ≡ last_id store.held

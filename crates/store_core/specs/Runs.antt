@@ -1,9 +1,8 @@
 -- Steps of a core one after the other, by any actors (docs/MODEL.md, 'The core').
-use Rattle.std.specs.Prelude.{Bool, true, false, ◌≡◌, ◌⊎◌, ◌-◌, ◌^◌, ◌<◌, ◌≤◌, ℕ, List, [], ◌∷◌, ◌++◌, ◌==◌, length, sum_by, take, Option, None, Some, Result, Ok, Err}
+use Rattle.std.specs.Prelude.{Bool, true, false, ◌≡◌, ◌⊎◌, ◌-◌, ◌^◌, ◌<◌, ℕ, List, [], ◌∷◌, ◌++◌, ◌==◌, length, sum_by, take, Option, None, Some, Result, Ok, Err}
 use Rattle.std.specs.FinMap as finite
 use Rattle.std.specs.List.{AllByRecursion}
 use Rattle.base_model.specs.Known.{Known}
-use Rattle.disk_format.specs.declared.numbers.TheConstants.{RESERVE}
 use Rattle.disk_format.specs.Cells.{Root}
 use Rattle.disk_format.specs.Cells.Change.{Delete, Put}
 use Rattle.dd_disk.specs.Moves.{StandsFor}
@@ -19,11 +18,11 @@ use Rattle.actor_parts.specs.StepValue.{StepValue, IsStep}
 use Rattle.refusals.specs.declared.refusal.Refusal.{Refusal}
 use Rattle.refusals.specs.declared.refusal.Refusal.TheVariants as refusals
 use Rattle.segmenter.specs.Segments.{segments_of}
-use Rattle.store_model.specs.Collisions.{HasNoCollisions, ByteSet, IsIn, IsAmong, Stands, IsOf}
+use Rattle.store_model.specs.Collisions.{HasNoCollisions, ByteSet, IsIn, IsAmong, Stands, OpensAs}
 use Rattle.store_model.specs.Files.{Stored, with_stored, without_stored}
 use Rattle.store_model.specs.Image.{Store, IsValidFor}
 use Rattle.store_model.specs.Reserve.{AllKeys}
-use Rattle.store_model.specs.Slots.{HasKey, free_slots}
+use Rattle.store_model.specs.Slots.{HasKey}
 use Rattle.segment_index.specs.Places.{KnownMap}
 use Rattle.store_model.specs.Steps.{StoreChange, SealContainer, ChangeName, FreeContainer, CanChange, changed}
 use Rattle.store_model.specs.Trees.{root_of, file_tree, HoldsTree}
@@ -106,8 +105,8 @@ abbrev pub IsSafeIn : PlaceMap → Store → List Part → List ℕ → Option C
 IsSafeIn index store parts image None = Unit {0}
 IsSafeIn index store parts image (Some c) = IsSafe index store parts image c
 
--- Tables and index are those of the store, each image is that store of these files, the number is the last, two slots are free, and the
--- invariants hold.
+-- Tables and index are those of the store, each image is that store of these files, the number is the last, and the invariants hold; by
+-- these each image can be opened.
 pub record IsAt (S : List ℕ → Type 0) (store : Store) (stored : Stored) (c : CoreState) : Type 0 where
   pub represents : Represents store c.known c.tables
   pub index : PlaceMap
@@ -115,7 +114,6 @@ pub record IsAt (S : List ℕ → Type 0) (store : Store) (stored : Stored) (c :
   pub valid : IsValidFor c.disk.size store
   pub stands : StandsFor (Stands S store stored.files) c.disk
   pub last_is : c.tables.journal.last ≡ stored.last
-  pub reserve : RESERVE ≤ free_slots store.held
   pub invariant : Known c.disk.content (CoreInvariant index store stored.files c.parts)
   pub many : length c.parts ≡ ACTORS
   pub under_way : IsUnderWayIn c.tables.held c.collection
@@ -188,12 +186,12 @@ stored_tried (asked.Commit name root) (Err refusals.DiskWrite) bytes stored = wi
 stored_tried (asked.Delete name) (Err refusals.DiskWrite) bytes stored = without_stored stored name
 stored_tried step answer bytes stored = stored_with step answer bytes stored
 
--- An image of these files, or of those after some of the steps, the first of them first; and a commit or a delete whose write failed
--- may have taken effect.
+-- An image that can be opened as these files, or as those after some of the steps, the first of them first; and a commit or a delete whose
+-- write failed may have taken effect.
 abbrev pub IsOnTheWay : (List ℕ → Type 0) → List FileEvent → Stored → List ℕ → Type 0
-IsOnTheWay S [] stored image = IsOf S stored image
+IsOnTheWay S [] stored image = OpensAs S stored image
 IsOnTheWay S (f ∷ fs) stored image =
-    IsOf S stored image ⊎ IsOf S (stored_tried f.event.step f.event.answer f.bytes stored) image
+    OpensAs S stored image ⊎ OpensAs S (stored_tried f.event.step f.event.answer f.bytes stored) image
     ⊎ IsOnTheWay S fs (stored_by f stored) image
 
 -- At the end of the steps, and at each moment between, a crash leaves an image that is on the way, or one that it might have
@@ -224,12 +222,12 @@ abbrev pub stored_tried_by : List FileEvent → Stored → Stored
 stored_tried_by [] stored = stored
 stored_tried_by (f ∷ fs) stored = stored_tried_by fs (stored_tried f.event.step f.event.answer f.bytes stored)
 
--- At the end each image is of the files after all commands that were acknowledged, or after these and the one whose write failed.
+-- At the end each image can be opened as the files after all commands that were acknowledged, or after these and the one whose write failed.
 abbrev pub EndsWithAll : (C : Type 0) → (C → CoreState) → Type 0
 EndsWithAll C state = (among : ByteSet) (steps : List FileEvent) (s : Store) (stored : Stored) (old new : C)
     → HasNoCollisions (IsIn among) → IsAt (IsIn among) s stored (state old) → FileRun C state (IsIn among) steps old new
     → (image : List ℕ) → (state new).disk.images image
-    → IsOf (IsIn among) (stored_after steps stored) image ⊎ IsOf (IsIn among) (stored_tried_by steps stored) image
+    → OpensAs (IsIn among) (stored_after steps stored) image ⊎ OpensAs (IsIn among) (stored_tried_by steps stored) image
 
 -- ---- readers
 

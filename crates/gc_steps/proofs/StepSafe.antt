@@ -65,19 +65,25 @@ use Rattle.gc_steps.proofs.Swept.{had_before, live_after, partial_after, swept}
 use Rattle.gc_steps.proofs.UnderWay.{at_stage}
 
 -- A container of a store is given back, in whose slot the index has no entry.
-pub record IsFreeing (stage : Stage) (index : PlaceMap) (store store_now : Store) : Type 0 where
-  pub next : ℕ
-  pub slot : ℕ
-  pub stage_is : stage ≡ Release next slot
+pub record IsFreeing (index : PlaceMap) (slot : ℕ) (store store_now : Store) : Type 0 where
   pub header : HeaderValue
   pub there : slice_get store.held slot ≡ Some (Some header)
   pub none : HasNoEntryIn index slot
   pub now_is : store_now ≡ with_freed slot store
 
--- The store stays; but where the source that is ready is given back, it is that with its slot closed.
-abbrev pub IsStoreAfter : Stage → PlaceMap → Store → Store → Type 0
-IsStoreAfter stage index store store_now =
-    (((next slot : ℕ) → stage ≡ Release next slot → ⊥) × (store_now ≡ store)) ⊎ IsFreeing stage index store store_now
+-- A container of copies is written, each of which is the newest copy of its key.
+pub record IsFlushing (filled : Contents) (store store_now : Store) (image : List ℕ) : Type 0 where
+  pub id : ℕ
+  pub can : CanFlush id filled.kind filled.segments store
+  pub newest : AllByRecursion (λ x. HasNewest store.held (segment_key filled.kind x) x.level x.bytes image) filled.segments
+  pub now_is : store_now ≡ with_sealed id filled.kind filled.segments store
+
+-- The store stays; but where copies are written it has their container, and where the source in turn is given back it is that with its slot
+-- closed.
+abbrev pub IsStoreAfter : Stage → Next → Sweep → PlaceMap → Store → Store → List ℕ → Type 0
+IsStoreAfter SweepStage (Flush source entry) s index store store_now image = IsFlushing s.buffer store store_now image
+IsStoreAfter SweepStage (Release source entry) s index store store_now image = IsFreeing index (slot_in_turn s) store store_now
+IsStoreAfter stage next s index store store_now image = store_now ≡ store
 
 -- the keys that were needed are in the index, and their newest copies are what they were
 abbrev pub Spares : PlaceMap → Store → Store → List Part → List ℕ → List ℕ → Type 0

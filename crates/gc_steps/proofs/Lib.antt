@@ -10,8 +10,8 @@ pub mod FirstStage
 pub mod FoundNodes
 pub mod FreshMarks
 pub mod GainedPins
-pub mod GivenBack
 pub mod ListedKeys
+pub mod MakesSteps
 pub mod MapKept
 pub mod Marked
 pub mod MarkedAll
@@ -40,7 +40,6 @@ pub mod SparingStages
 pub mod Started
 pub mod StepSafe
 pub mod SweepSteps
-pub mod Swept
 pub mod TablesRun
 pub mod UnderWay
 pub mod Unseen

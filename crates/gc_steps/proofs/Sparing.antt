@@ -3,6 +3,7 @@ use Rattle.std.proofs.Common.{◌≡◌, ◌⊎◌, inl, inr, ℕ, zero, suc, �
 use Rattle.std.specs.Prelude.{slice_get}
 use Rattle.std.specs.List.{Contains}
 use Rattle.std.proofs.lemmas.Bool.Decides.{eqb_tells}
+use Rattle.actor_parts.specs.declared.part.Part.{Part}
 use Rattle.container_meta.specs.declared.entry.Entry.{Entry}
 use Rattle.container_meta.specs.declared.kind.Kind.{Kind}
 use Rattle.container_meta.specs.declared.place.Place.{Place}
@@ -52,6 +53,7 @@ use Rattle.gc_steps.specs.Filtering.{Chooses, Records, recorded}
 use Rattle.gc_steps.specs.Fresh.{IsAsLive}
 use Rattle.gc_steps.specs.LiveTrees.{HoldsNode}
 use Rattle.gc_steps.specs.Marking.{KeepsMarks, MarksOnly, Scans, ScansEntries, ScansSome}
+use Rattle.gc_steps.specs.Safety.{IsSafe, IsSafeAt}
 use Rattle.gc_steps.specs.Sparing.{CopiesAlone, IsSpared, IsSparedAt, IsWithin, Spares}
 use Rattle.gc_steps.specs.Stages.{filter_from, is_old_slot, mark_from, mark_level}
 use Rattle.gc_steps.specs.Stepping.{Flushes, Keeps, StepsTo, moment}
@@ -108,6 +110,16 @@ spares_begun P index store image t c holds slots stage_is above within = record 
     old slot h there = omega (arith, id_below store.held slot h there, above)
 
 -- ---- each of its steps
+
+-- what holds of the sweep of one that is safe
+pub held_at : (index : PlaceMap) (store : Store) (parts : List Part) (image : List ℕ) (c : Collection) → IsSafe index store parts image c → HoldsAt c.stage index store.held image c
+held_at index store parts image c = by_stage c.stage refl
+  where
+    by_stage : (stage : Stage) → c.stage ≡ stage → IsSafeAt stage index store parts image c → HoldsAt stage index store.held image c
+    by_stage (Mark level at) is safe = tt
+    by_stage (Filter at) is safe = tt
+    by_stage Select is safe = tt
+    by_stage SweepStage is safe = subst (λ (s : Stage). HoldsAt s index store.held image c) is safe.sweep_holds
 
 -- a sweep makes so of each container, and of what was copied
 swept_spares : (P : List ℕ → Type 0) (index : PlaceMap) (held : List (Option HeaderValue)) (c d : Collection) → IsWithin P c.live → c.stage ≡ SweepStage → d ≡ record c { sweep = d.sweep }
@@ -228,7 +240,7 @@ module _ (P : List ℕ → Type 0) (index : PlaceMap) (store : Store) (files : F
   held_then m held now stage_is same is =
       subst (λ (live : LiveKeys). HoldsSweep m held now live c.snapshot d.sweep) (ap (λ (x : Collection). x.live) same)
       (subst (λ (n : ℕ). HoldsSweep m held now d.live n d.sweep) (ap (λ (x : Collection). x.snapshot) same)
-      (subst (λ (s : Stage). HoldsAt s m held now d) (ap (λ (x : Collection). x.stage) same ∙ stage_is) is))
+      (subst (λ (s : Stage). HoldsAt s m held now d) (ap (λ (x : Collection). x.stage) same ∙ stage_is) is).1)
 
   module _ (valid : IsValidFor old.size store) (free : HasFree store.held) (under : IsUnderWay t.held c) (tables_now : Tables) where
     module _ (stage_is : c.stage ≡ SweepStage) (sweeping : IsSweeping t.held c.snapshot c.sweep) (held : HoldsSweep index store.held image c.live c.snapshot c.sweep) (same : d ≡ record c { sweep = d.sweep }) where
@@ -316,10 +328,10 @@ module _ (P : List ℕ → Type 0) (index : PlaceMap) (store : Store) (files : F
         λ m known_is s now same then. stays steps.1 (recorded_spares at is (at_stage t.held c (Filter at) under is).0.0 steps.0) m known_is s same
     by_stage Select next is next_is held steps = λ m known_is s now same then. stays steps.1 (chosen_spares is steps.0) m known_is s same
     by_stage SweepStage (CopyNext source entry) is next_is held steps = λ m known_is s now same then.
-        subst (λ (x : Store). Spares P m x.held d) (sym same) (copied_spares is (at_stage t.held c SweepStage under is) held steps.1 source entry next_is steps.0 m known_is)
-    by_stage SweepStage (Flush source entry) is next_is held steps = flushed_spares is (at_stage t.held c SweepStage under is) held steps.sweeps source entry next_is steps
+        subst (λ (x : Store). Spares P m x.held d) (sym same) (copied_spares is (at_stage t.held c SweepStage under is) held.1 steps.1 source entry next_is steps.0 m known_is)
+    by_stage SweepStage (Flush source entry) is next_is held steps = flushed_spares is (at_stage t.held c SweepStage under is) held.1 steps.sweeps source entry next_is steps
     by_stage SweepStage (Release source entry) is next_is held steps =
-        released_spares is (at_stage t.held c SweepStage under is) held steps.1 source entry next_is steps.0 (steps.3 image content)
+        released_spares is (at_stage t.held c SweepStage under is) held.1 steps.1 source entry next_is steps.0 (steps.3 image content)
     by_stage SweepStage End is next_is held steps = λ m known_is s now same then. stays steps.1 (subst (Spares P index store.held) (sym steps.0) was) m known_is s same
 
     -- Each step keeps it.

@@ -17,7 +17,7 @@ use Rattle.store_model.specs.Slots.{HasKey}
 use Rattle.store_state.specs.Invariant.{CoreInvariant}
 use Rattle.store_core.specs.State.{CoreState}
 use Rattle.disk_format.specs.Cells.Change.{Delete, Put}
-use Rattle.gc_steps.specs.declared.collection.Stage.TheVariants.{End, Filter, Mark, Release, Select, Copy}
+use Rattle.gc_steps.specs.declared.collection.Stage.TheVariants.{Filter, Mark, Select, Sweep}
 use Rattle.std.proofs.Common.{[], Err, List, None, Ok, Option, Result, Some, ap, arith, map, refl, subst, true, ℕ, ◌<◌, ◌↔◌, ◌∙◌, ◌∷◌, ◌≡◌, ◌≢◌, ◌⊎◌, zero, suc, inl, inr, sym, length}
 use Rattle.actor_parts.specs.declared.part.Part.TheVariants.{Idle, Writing}
 use Rattle.store_core.specs.Runs.{IsAt, IsSafeIn}
@@ -91,9 +91,7 @@ module _ (index later : PlaceMap) (s t : Store) (before after : List Part) (old 
   safe_at (Mark level slot) c d both = both.0
   safe_at (Filter slot) c d both = both.1
   safe_at Select c d both = both.1
-  safe_at (Copy source) c d both = both.1
-  safe_at (Release next slot) c d both = both.1
-  safe_at End c d both = both.1
+  safe_at Sweep c d both = both.1
 
   -- the collection is the same
   pub unchanged_safe : (was now : Option Collection) → ((c : Collection) → KeepsBoth index later s t before after old new c c) → now ≡ was → IsSafeIn index s before old was → IsSafeIn later t after new now

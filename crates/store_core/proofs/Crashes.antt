@@ -219,23 +219,23 @@ module _ (among : ByteSet) (s : Store) (stored : Stored) (old new : CoreState) (
     abbrev id : ℕ
     id = old.tables.held.last_id + 1
 
-    abbrev filled : Contents
-    filled = c.sweep.buffer
+    abbrev copied : Contents
+    copied = c.sweep.buffer
 
     represents : Represents s (Some at.index) old.tables
     represents = subst (λ (known : Option PlaceMap). Represents s known old.tables) at.index_known at.represents
 
     -- what was copied is written: each image is of the same files, with its container, too
-    by_flush : c.sweep.next ≡ Flush source entry → (e : Ending) → SealsIndexed old.tables id filled e old.disk new.disk → CrashLeaves (Either S asked.GcStep answer bytes stored) old.disk new.disk
+    by_flush : c.sweep.next ≡ Flush source entry → (e : Ending) → SealsIndexed old.tables id copied e old.disk new.disk → CrashLeaves (Either S asked.GcStep answer bytes stored) old.disk new.disk
     by_flush stage e seals =
         let here = at.stands.each at.stands.known.0 (old.disk.as_read at.stands.known.0 at.stands.known.1) in
         let may = may_flush at.index s.held at.stands.known.0 c.live c.snapshot c.sweep holds S here.holds.nodes here.among in
-        leaves_weaker (λ image. Stands S s stored.files image ⊎ Stands S (with_sealed id filled.kind filled.segments s) stored.files image) (Either S asked.GcStep answer bytes stored) old.disk new.disk
+        leaves_weaker (λ image. Stands S s stored.files image ⊎ Stands S (with_sealed id copied.kind copied.segments s) stored.files image) (Either S asked.GcStep answer bytes stored) old.disk new.disk
         (λ image stands. elim stands [
           | inl is ↦ inl (of_same s image opens refl is)
-          | inr is ↦ inl (of_same (with_sealed id filled.kind filled.segments s) image
+          | inr is ↦ inl (of_same (with_sealed id copied.kind copied.segments s) image
               (opens_flushed old.tables.held at.index s stored.files at.stands.known.0 image c.live c.snapshot source entry id c.sweep at.represents.slots_hold at.valid.headers under stage holds core.index_is_newest
-              (omega (arith, at.represents.slots_hold.last_id_is)) new_id core.files_are_indexed (headers_of_right image (with_sealed id filled.kind filled.segments s) is.holds.right)) refl is)
+              (omega (arith, at.represents.slots_hold.last_id_is)) new_id core.files_are_indexed (headers_of_right image (with_sealed id copied.kind copied.segments s) is.holds.right)) refl is)
         ])
         (seals.moves among s (Some at.index) at.index stored.files at.stands.known.0 represents at.stands.known.1 may core.files_are_indexed
         (inr (inr (are_newest at.index s.held at.stands.known.0 c.live c.snapshot c.sweep holds))) at.stands).leaves
@@ -253,9 +253,9 @@ module _ (among : ByteSet) (s : Store) (stored : Stored) (old new : CoreState) (
   by_stage answer c Select next e under safe is at_next touches = by_reads asked.GcStep answer touches.only
   by_stage answer c SweepStage (CopyNext source entry) e under safe is at_next touches = by_changes answer e (touches s.slots at.valid.size_is)
   by_stage answer c SweepStage (Flush source entry) e under safe is at_next touches =
-      by_flush answer c source entry (subst (HasStage old.tables.held c) is under.stage_is) under.began (subst (λ (stage : Stage). HoldsAt stage at.index s.held at.stands.known.0 c) is safe.sweep_holds) at_next e touches.1
+      by_flush answer c source entry (subst (HasStage old.tables.held c) is under.stage_is) under.began (subst (λ (stage : Stage). HoldsAt stage at.index s.held at.stands.known.0 c) is safe.sweep_holds).1 at_next e touches.1
   by_stage answer c SweepStage (Release source entry) e under safe is at_next touches =
-      by_turn answer c source entry (subst (HasStage old.tables.held c) is under.stage_is) under.began (subst (λ (stage : Stage). HoldsAt stage at.index s.held at.stands.known.0 c) is safe.sweep_holds) at_next e touches.1
+      by_turn answer c source entry (subst (HasStage old.tables.held c) is under.stage_is) under.began (subst (λ (stage : Stage). HoldsAt stage at.index s.held at.stands.known.0 c) is safe.sweep_holds).1 at_next e touches.1
   by_stage answer c SweepStage End e under safe is at_next touches = by_reads asked.GcStep answer touches.only
 
   by_gc : (answer : Result Answer Refusal) (running : Option Collection) → IsUnderWayIn old.tables.held running → IsSafeIn at.index s old.parts at.stands.known.0 running → TouchesBy running answer old new.disk

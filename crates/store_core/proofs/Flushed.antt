@@ -4,6 +4,7 @@ use Rattle.std.specs.Prelude.{Contains, nat_le, slice_get}
 use Rattle.std.proofs.lemmas.Bool.Decides.{leb_tells}
 use Rattle.std.proofs.lemmas.List.Elements.{Contains-append_left, Contains-get_or}
 use Rattle.container_meta.specs.Places.{PlaceMap}
+use Rattle.container_meta.specs.Segments.{entries_from}
 use Rattle.container_meta.specs.Spelling.{HeaderValue, IsHeader, header_of}
 use Rattle.gc_enumerate.specs.Live.{LiveKeys}
 use Rattle.gc_sweep.specs.declared.sweep.Next.{Next}
@@ -19,6 +20,7 @@ use Rattle.gc_sweep.proofs.InSlots.{IsSourceIn, stands_in}
 use Rattle.disk_format.specs.declared.numbers.TheConstants.{RESERVE}
 use Rattle.store_model.specs.Files.{Files}
 use Rattle.store_model.specs.Image.{Store}
+use Rattle.store_model.specs.Indexing.{with_entries}
 use Rattle.store_model.specs.Reserve.{HasReserve, IsReachable, IsSpare}
 use Rattle.store_model.specs.Slots.{AreHeaders, HasKey, IsPartialIndexOf, first_free, free_slots, last_id, with_slot}
 use Rattle.store_model.specs.Standing.{CanBeOpened}
@@ -112,10 +114,11 @@ module _ (t : SlotTable) (index : PlaceMap) (store : Store) (files : Files) (ima
   pub opens_flushed : IndexesFiles index files → AreHeaders held_now → CanBeOpened (with_sealed id s.buffer.kind s.buffer.segments store) files
   opens_flushed indexed headers_now =
       let right : IsHeader h = header_at held_now place h headers_now (first_with h held some) in
-      let later = partial_with h held index partial right above some in
+      let later : PlaceMap = with_entries s.buffer.kind place (entries_from 0 s.buffer.segments) index in
+      let partial_now : IsPartialIndexOf held_now later = partial_with h held index partial right above some in
       let holds_now = holds_flushed t index held image now live snapshot source entry id s after slots under stage flushed right new some holds in
-      let spare = record { header = stands.header; holds = there; none = none_newest held_now _ first later (holds_now.ready first waits) } in
-      reserve_by _ (IsReachable files) held_now
+      let spare : IsSpare (HasKey later) held_now first = record { header = stands.header; holds = there; none = none_newest held_now later first partial_now (holds_now.ready first waits) } in
+      reserve_by (HasKey later) (IsReachable files) held_now
       (λ key need. keys_flushed t index held image now live snapshot source entry id s after slots under stage flushed right new some key (indexed key need).0 (indexed key need).1)
-      (reserve_of _ held_now (first_free held_now) first
+      (reserve_of (HasKey later) held_now (first_free held_now) first
       (λ same. let wrong : None ≡ Some stands.header = some_same None (Some stands.header) (sym closed_now ∙ ap (slice_get held_now) same ∙ there) in cc) closed_now spare)

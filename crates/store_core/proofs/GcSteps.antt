@@ -168,7 +168,7 @@ module _ (among : ByteSet) (s : Store) (stored : Stored) (old new : CoreState) (
         subst (λ (k : Option PlaceMap). TablesAfter c.stage c.sweep.next (moment old.tables k old.disk c) (at_moment new row.after)) at.index_known row.tables in
         let touched : Touches c.stage c.sweep.next c.sweep old.tables Done old.disk new.disk = subst (λ (o : Option Collection). TouchesBy o (Ok (answers.Did phase)) old new.disk) row.ran touches in
         let leaves = step_safe at.index s stored.files old.parts image now among old.tables new.tables new.known old.disk new.disk c row.after
-        (at.invariant image here) few represents at.valid here told at.stands under safe steps tables touched in
+        (at.invariant image here) few represents at.valid here told at.stands under (subst (IsUnderWayIn new.tables.held) row.runs under_way) safe steps tables touched goes in
         let changes = did_changes c phase at.index s leaves.store_now image row.phase_is leaves.store_is in
         record {
           changes = changes.0;
@@ -220,7 +220,7 @@ module _ (among : ByteSet) (s : Store) (stored : Stored) (old new : CoreState) (
         let kept = subst (λ (t : Tables). Keeps c.stage c.sweep.next (moment old.tables (Some at.index) old.disk c) (moment t new.known new.disk row.after) refusal) row.tables_are keeps in
         let touched : Touches c.stage c.sweep.next c.sweep old.tables (ending_of (blames refusal)) old.disk new.disk = subst (λ (o : Option Collection). TouchesBy o (Err refusal) old new.disk) row.ran touches in
         let still = refused_safe at.index s stored.files old.parts image now among old.tables new.known old.disk new.disk c row.after (at.invariant image here) represents at.valid here told at.stands
-        (ending_of (blames refusal)) refusal other safe cause kept touched in
+        refusal other safe cause kept touched in
         same_led (Err refusal) none still.known_is row.tables_are still.stands still.core (subst (IsSafeIn at.index s old.parts now) (sym row.runs) still.safe) still.keeps
 
   not_broken : (refusal : Refusal) → StopsAfter asked.GcStep (Err refusal) old.acknowledged new.stop → refusal ≡ refusals.DiskWrite → ⊥

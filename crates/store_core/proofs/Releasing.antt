@@ -5,6 +5,7 @@ use Rattle.actor_parts.specs.declared.step.Answer.TheVariants as answers
 use Rattle.actor_parts.specs.StepValue as asked
 use Rattle.actor_parts.specs.StepValue.{StepValue}
 use Rattle.container_meta.specs.Places.{PlaceMap}
+use Rattle.dd_disk.specs.View.{IsLater}
 use Rattle.gc_steps.specs.declared.collection.Collection.{Collection}
 use Rattle.gc_steps.specs.declared.collection.Stage.{Stage}
 use Rattle.gc_steps.specs.declared.collection.Stage.TheVariants.{Filter, Mark, Select, Sweep as SweepStage}
@@ -101,7 +102,7 @@ module _ (among : ByteSet) (distinct : HasNoCollisions (IsIn among)) (f : FileEv
   was = at.invariant at.stands.known.0 at.stands.known.1
 
   -- that was made
-  module _ (phase : Phase) (goes : GoesOn phase old new) (touches : TouchesBy old.collection (Ok (answers.Did phase)) old new.disk) where
+  module _ (phase : Phase) (goes : GoesOn phase old new) (touches : TouchesBy old.collection (Ok (answers.Did phase)) old new.disk) (later : IsLater old.disk new.disk) where
     by_stage : (stage : Stage) (next : Next) (sweep : Sweep) → IsStoreAfter stage next sweep at.index s t at.stands.known.0 → Gives Needs (Ok (answers.Did (phase_at stage next))) s t
     by_stage (Mark level slot) next sweep same = gives_none Needs (Ok (answers.Did phases.Mark)) s t refl same
     by_stage (Filter slot) next sweep same = gives_none Needs (Ok (answers.Did phases.Filter)) s t refl same
@@ -122,15 +123,15 @@ module _ (among : ByteSet) (distinct : HasNoCollisions (IsIn among)) (f : FileEv
     did_gives : Gives Needs (Ok (answers.Did phase)) s t
     did_gives =
         subst (λ (p : Phase). Gives Needs (Ok (answers.Did p)) s t) (phase_of goes.before phase goes.phase_is)
-        (by_stage goes.before.stage goes.before.sweep.next goes.before.sweep (led_to among s stored old new at t after phase goes touches))
+        (by_stage goes.before.stage goes.before.sweep.next goes.before.sweep (led_to among s stored old new at t after phase goes touches later))
 
     did_on : SparesIn Needs at.index s old.collection → SparesIn Needs after.index t new.collection
     did_on spares =
         subst (SparesIn Needs after.index t) (sym goes.runs)
-        (did_spares among s stored old new at t after phase goes touches after.index after.index_known (subst (SparesIn Needs at.index s) goes.ran spares))
+        (did_spares among s stored old new at t after phase goes touches later after.index after.index_known (subst (SparesIn Needs at.index s) goes.ran spares))
 
   gives_by : (a : Result Answer Refusal) → AreChangesBy asked.GcStep a leads.changes → GcRow a old new → GcEffect a old new → Gives Needs a s t
-  gives_by (Ok (answers.Did phase)) are row effect = did_gives phase row.0 effect.touches
+  gives_by (Ok (answers.Did phase)) are row effect = did_gives phase row.0 effect.touches effect.later
   gives_by (Ok (answers.Done freed copied)) are row effect = gives_none Needs (Ok (answers.Done freed copied)) s t refl (same_store are)
   gives_by (Err refusal) are row effect = gives_none Needs (Err refusal) s t refl (same_store are)
   gives_by a are row effect = absurd row
@@ -155,7 +156,7 @@ module _ (among : ByteSet) (distinct : HasNoCollisions (IsIn among)) (f : FileEv
 
   spares_by : (a : Result Answer Refusal) → AreChangesBy asked.GcStep a leads.changes → GcRow a old new → GcEffect a old new → StopsAfter asked.GcStep a old.acknowledged new.stop
       → SparesIn Needs at.index s old.collection → SparesIn Needs after.index t new.collection
-  spares_by (Ok (answers.Did phase)) are row effect stops spares = did_on phase row.0 effect.touches spares
+  spares_by (Ok (answers.Did phase)) are row effect stops spares = did_on phase row.0 effect.touches effect.later spares
   spares_by (Ok (answers.Done freed copied)) are row effect stops spares = subst (SparesIn Needs after.index t) (sym row.0.ended) tt
   spares_by (Err refusals.NotCollecting) are row effect stops spares = subst (SparesIn Needs after.index t) (sym row.0.none_runs) tt
   spares_by (Err refusal) are row effect stops spares = refused_on refusal are row.0 stops spares

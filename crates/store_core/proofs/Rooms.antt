@@ -1,5 +1,5 @@
 -- Where the slots of the reserve are closed by the table.
-use Rattle.std.proofs.Common.{◌≡◌, ℕ, ◌+◌, ◌≤◌, List, count_by, Option, None, Some, ap, subst, ◌∙◌, arith}
+use Rattle.std.proofs.Common.{◌≡◌, ℕ, ◌+◌, ◌≤◌, List, count_by, Option, ap, subst, ◌∙◌, arith}
 use Rattle.std.specs.Prelude.{◌==◌}
 use Rattle.container_meta.specs.Spelling.{HeaderValue}
 use Rattle.disk_format.specs.declared.numbers.TheConstants.{RESERVE}
@@ -13,7 +13,6 @@ use Rattle.store_model.specs.Slots.{AreHeaders, free_slots}
 use Rattle.store_model.proofs.Free.{zeros_free}
 use Rattle.store_state.specs.Tables.{RepresentsSlots}
 use Rattle.store_state.specs.declared.slot_table.SlotTable.{SlotTable}
-use Rattle.store_core.specs.State.{IsUnderWayIn}
 
 -- as many slots are closed by the table as the store has
 pub free_held : (held : List (Option HeaderValue)) (t : SlotTable) → RepresentsSlots held t → AreHeaders held → free_in t ≡ free_slots held
@@ -22,11 +21,7 @@ free_held held t slots headers = ap (λ (ids : List ℕ). count_by (λ id. id ==
 pub has_room : (held : List (Option HeaderValue)) (t : SlotTable) → RepresentsSlots held t → AreHeaders held → RESERVE ≤ free_slots held → HasRoom t
 has_room held t slots headers enough = omega (arith, enough, free_held held t slots headers)
 
--- they are while none runs,
-pub room_idle : (t : SlotTable) (c : Option Collection) → c ≡ None → IsUnderWayIn t c → HasRoom t
-room_idle t c none under = subst (IsUnderWayIn t) none under
-
--- and where one comes to its end
+-- they are where a collection comes to its end
 pub room_ended : (t : SlotTable) (c : Collection) → c.stage ≡ Sweep → c.sweep.next ≡ End → IsUnderWay t c → HasRoom t
 room_ended t c stage next under =
     let sweeping : IsSweeping t c.snapshot c.sweep = subst (HasStage t c) stage under.stage_is in

@@ -13,6 +13,7 @@ use Rattle.gc_sweep.specs.declared.sweep.Next.TheVariants.{Copy, Flush, Release,
 use Rattle.gc_steps.specs.LiveTrees.{HoldsNode}
 use Rattle.gc_steps.specs.Roots.{IsActorKey, IsNameKey, IsRoot}
 use Rattle.gc_steps.specs.Stages.{mark_level}
+use Rattle.dd_disk.specs.View.{IsLater}
 use Rattle.disk_format.specs.declared.numbers.TheConstants.{MOST_LEVEL}
 use Rattle.gc_steps.specs.Sparing.{IsWithin, Spares}
 use Rattle.gc_steps.specs.Stepping.{IsStepRefusal, Keeps, StepsTo, TablesAfter, moment}
@@ -93,7 +94,7 @@ module _ (among : ByteSet) (s : Store) (stored : Stored) (old new : CoreState) (
   few = omega (arith, at.many)
 
   -- that was made
-  module _ (t : Store) (after : IsAt (IsIn among) t stored new) (phase : Phase) (goes : GoesOn phase old new) (touches : TouchesBy old.collection (Ok (answers.Did phase)) old new.disk) where
+  module _ (t : Store) (after : IsAt (IsIn among) t stored new) (phase : Phase) (goes : GoesOn phase old new) (touches : TouchesBy old.collection (Ok (answers.Did phase)) old new.disk) (later : IsLater old.disk new.disk) where
     abbrev now : List ℕ
     now = after.stands.known.0
 
@@ -112,7 +113,7 @@ module _ (among : ByteSet) (s : Store) (stored : Stored) (old new : CoreState) (
     pub leaves : LeavesSafe c at.index s stored.files old.parts content now among new.tables new.known new.disk goes.after
     leaves =
         step_safe at.index s stored.files old.parts content now among old.tables new.tables new.known old.disk new.disk c goes.after (at.invariant content told) few shows at.valid told after.stands.known.1 at.stands under
-        (subst (IsSafeIn at.index s old.parts content) goes.ran (at.safe content told)) steps tables (subst (λ (o : Option Collection). TouchesBy o (Ok (answers.Did phase)) old new.disk) goes.ran touches)
+        (subst (IsUnderWayIn new.tables.held) goes.runs after.under_way) (subst (IsSafeIn at.index s old.parts content) goes.ran (at.safe content told)) steps tables (subst (λ (o : Option Collection). TouchesBy o (Ok (answers.Did phase)) old new.disk) goes.ran touches) later
 
     -- the store that it is at is the one that the stage leads to
     pub led_to : IsStoreAfter c.stage c.sweep.next c.sweep at.index s t content

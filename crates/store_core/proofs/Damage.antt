@@ -263,7 +263,7 @@ module _ (among : ByteSet) (s : Store) (stored : Stored) (old new : CoreState) (
     marked_at c (Mark level slot) safe = safe
     marked_at c (Filter slot) safe = tt
     marked_at c Select safe = tt
-    marked_at c Sweep safe = ?
+    marked_at c Sweep safe = tt
 
     gc_clean : (refusal : Refusal) → IsNotMade refusal old new → IsClean refusal
     gc_clean refusal row =

@@ -1,5 +1,5 @@
 -- A container of copies that stands on the disk, whether or not the tables have it: the store with it can be opened.
-use Rattle.std.proofs.Common.{◌≡◌, ◌≢◌, ◌⊎◌, inl, inr, ℕ, zero, suc, ◌+◌, ◌<◌, ◌≤◌, true, false, List, [], ◌∷◌, ◌++◌, get_or, Option, Some, None, refl, sym, ◌∙◌, ap, subst, arith}
+use Rattle.std.proofs.Common.{◌≡◌, ◌≢◌, ◌⊎◌, inl, inr, ℕ, zero, suc, ◌+◌, ◌<◌, ◌≤◌, true, false, List, [], ◌∷◌, get_or, Option, Some, None, refl, sym, ◌∙◌, ap, subst, arith}
 use Rattle.std.specs.Prelude.{Contains, nat_le, slice_get}
 use Rattle.std.proofs.lemmas.Bool.Decides.{leb_tells}
 use Rattle.std.proofs.lemmas.List.Elements.{Contains-append_left, Contains-get_or}
@@ -12,7 +12,6 @@ use Rattle.gc_sweep.specs.declared.sweep.Next.TheVariants.{Flush, Release}
 use Rattle.gc_sweep.specs.declared.sweep.Sweep.{Sweep}
 use Rattle.gc_sweep.specs.Flushing.{HasFlushed}
 use Rattle.gc_sweep.specs.Holding.{HoldsSweep}
-use Rattle.gc_sweep.specs.Releasing.{HasNoEntryIn}
 use Rattle.gc_sweep.specs.UnderWay.{HasNext, IsSweeping, free_in, sources_before, taken_from}
 use Rattle.gc_sweep.proofs.HoldsFlushed.{holds_flushed, keys_flushed}
 use Rattle.gc_sweep.proofs.HoldsRoom.{none_newest}

@@ -19,7 +19,7 @@ use Rattle.gc_sweep.specs.declared.sweep.Next.{Next}
 use Rattle.gc_sweep.specs.declared.sweep.Next.TheVariants.{Copy, Flush, Release, End}
 use Rattle.gc_sweep.specs.declared.sweep.Sweep.{Sweep}
 use Rattle.gc_sweep.specs.InTurn.{slot_in_turn}
-use Rattle.std.proofs.Common.{[], inl, inr, Err, List, None, Ok, Option, Result, Some, ap, arith, length, refl, subst, sym, ℕ, ◌∙◌, ◌∷◌, ◌≡◌, ◌≤◌}
+use Rattle.std.proofs.Common.{[], Err, List, None, Ok, Option, Result, Some, ap, arith, length, refl, subst, sym, ℕ, ◌∙◌, ◌∷◌, ◌≡◌, ◌≤◌}
 use Rattle.store_model.specs.Steps.{FlushContainer, FreeContainer, StoreChange}
 use Rattle.store_core.specs.Collecting.{GcEffect, GcRow, IsNotMade, NoneRuns, TouchesBy, GoesOn, HasEnded, at_moment}
 use Rattle.store_model.specs.Trees.{HasNewest}

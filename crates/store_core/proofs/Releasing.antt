@@ -1,5 +1,5 @@
 -- What the steps of a collection give back, where no other steps come between them.
-use Rattle.std.proofs.Common.{◌≡◌, inl, inr, ℕ, ◌+◌, List, [], ◌∷◌, ◌++◌, Option, Some, None, Result, Ok, Err, refl, sym, ◌∙◌, ap, ap₂, subst, arith}
+use Rattle.std.proofs.Common.{◌≡◌, ℕ, ◌+◌, List, [], ◌∷◌, ◌++◌, Option, Some, None, Result, Ok, Err, refl, sym, ◌∙◌, ap, ap₂, subst, arith}
 use Rattle.actor_parts.specs.declared.step.Answer.{Answer}
 use Rattle.actor_parts.specs.declared.step.Answer.TheVariants as answers
 use Rattle.actor_parts.specs.StepValue as asked
@@ -53,7 +53,7 @@ sweeps_then P (FlushContainer id kind segments ∷ changes) more s t u first res
 sweeps_then P (FreeContainer slot ∷ changes) more s t u first rest = (first.0, sweeps_then P changes more (with_freed slot s) t u first.1 rest)
 
 freed_then : (changes more : List StoreChange) → freed_in (changes ++ more) ≡ freed_in changes + freed_in more
-freed_then [] more = refl
+freed_then [] more = omega arith
 freed_then (SealContainer id kind segments ∷ changes) more = freed_then changes more
 freed_then (ChangeName name change ∷ changes) more = freed_then changes more
 freed_then (FlushContainer id kind segments ∷ changes) more = freed_then changes more

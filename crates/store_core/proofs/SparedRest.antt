@@ -11,6 +11,7 @@ use Rattle.gc_steps.specs.declared.collection.Stage.TheVariants.{Filter, Mark, S
 use Rattle.gc_sweep.specs.declared.sweep.Next.{Next}
 use Rattle.gc_sweep.specs.declared.sweep.Next.TheVariants.{Copy, Flush, Release, End}
 use Rattle.gc_steps.specs.LiveTrees.{HoldsNode}
+use Rattle.gc_steps.specs.Safety.{IsSafe}
 use Rattle.gc_steps.specs.Roots.{IsActorKey, IsNameKey, IsRoot}
 use Rattle.gc_steps.specs.Stages.{mark_level}
 use Rattle.dd_disk.specs.View.{IsLater}
@@ -19,7 +20,7 @@ use Rattle.gc_steps.specs.Sparing.{IsWithin, Spares}
 use Rattle.gc_steps.specs.Stepping.{IsStepRefusal, Keeps, StepsTo, TablesAfter, moment}
 use Rattle.gc_steps.specs.UnderWay.{IsUnderWay}
 use Rattle.gc_steps.proofs.FileKeys.{name_reachable, reachable_closed}
-use Rattle.gc_steps.proofs.Sparing.{some_spares, spares_begun, spares_ended, spares_step}
+use Rattle.gc_steps.proofs.Sparing.{held_at, spares_begun, spares_ended, spares_refused, spares_step}
 use Rattle.gc_steps.proofs.StepSafe.{IsStoreAfter, LeavesSafe, step_safe}
 use Rattle.merkle_file.specs.Node.{Contents}
 use Rattle.namespace.specs.Names.{NameMap}
@@ -38,6 +39,7 @@ use Rattle.store_model.proofs.Once.{store_once}
 use Rattle.store_model.proofs.Sound.{last_within}
 use Rattle.store_state.specs.Tables.{Represents}
 use Rattle.store_state.specs.declared.tables.Tables.{Tables}
+use Rattle.store_core.proofs.SafeSteps.{one_map_at}
 use Rattle.store_core.specs.Collecting.{Begins, GoesOn, HasEnded, IsNotMade, TouchesBy, at_moment}
 use Rattle.store_core.specs.Runs.{IsAt, IsSafeIn}
 use Rattle.store_core.specs.State.{CoreState, IsUnderWayIn}
@@ -123,26 +125,16 @@ module _ (among : ByteSet) (s : Store) (stored : Stored) (old new : CoreState) (
 
     pub did_spares : (index : PlaceMap) → new.known ≡ Some index → Spares (IsReachable stored.files) at.index s.held c → Spares (IsReachable stored.files) index t.held goes.after
     did_spares index known was =
-        spares_step (IsReachable stored.files) at.index s stored.files content old.tables new.known old.disk new.disk c goes.after stands_for shows told closed was new.tables under steps index known t led_to
+        spares_step (IsReachable stored.files) at.index s stored.files content old.tables new.known old.disk new.disk c goes.after stands_for shows told closed was at.valid (at.invariant content told).has_free under new.tables
+        (held_at at.index s old.parts content c (subst (IsSafeIn at.index s old.parts content) goes.ran (at.safe content told))) steps index known t now led_to
+        (held_at index t new.parts now goes.after
+        (subst (λ (m : PlaceMap). IsSafe m t new.parts now goes.after) (one_map_at after.index index (sym after.index_known ∙ known)) (subst (IsSafeIn after.index t new.parts now) goes.runs (after.safe now after.stands.known.1))))
 
   -- that was refused
-  module _ (refusal : Refusal) (row : IsNotMade refusal old new) (was : Spares (IsReachable stored.files) at.index s.held row.before) where
-    by_stage : (stage : Stage) (next : Next) → row.before.stage ≡ stage → (r : Refusal) → Keeps stage next (moment old.tables (Some at.index) old.disk row.before) (at_moment new row.after) r
-        → Spares (IsReachable stored.files) at.index s.held row.after
-    by_stage (Mark level slot) next is refusals.Memory (inl same, known) = subst (Spares (IsReachable stored.files) at.index s.held) (sym same) was
-    by_stage (Mark level slot) next is refusals.Memory (inr only, known) =
-        some_spares (IsReachable stored.files) at.index s stored.files content old.tables new.known old.disk new.disk row.before row.after stands_for shows told closed was level slot is only
-    by_stage (Mark level slot) next is r keeps = subst (Spares (IsReachable stored.files) at.index s.held) (sym keeps.0) was
-    by_stage (Filter slot) next is r keeps = subst (Spares (IsReachable stored.files) at.index s.held) (sym keeps.0) was
-    by_stage Select next is r keeps = subst (Spares (IsReachable stored.files) at.index s.held) (sym keeps.0) was
-    by_stage Sweep (Copy source entry) is r keeps = subst (Spares (IsReachable stored.files) at.index s.held) (sym keeps.0) was
-    by_stage Sweep (Flush source entry) is r keeps = subst (Spares (IsReachable stored.files) at.index s.held) (sym keeps.0) was
-    by_stage Sweep (Release source entry) is r keeps = subst (Spares (IsReachable stored.files) at.index s.held) (sym keeps) was
-    by_stage Sweep End is r keeps = subst (Spares (IsReachable stored.files) at.index s.held) (sym keeps.0) was
-
-    pub refused_spares : Spares (IsReachable stored.files) at.index s.held row.after
-    refused_spares =
-        by_stage row.before.stage row.before.sweep.next refl refusal (subst (λ (k : Option PlaceMap). Keeps row.before.stage row.before.sweep.next (moment old.tables k old.disk row.before) (at_moment new row.after) refusal) at.index_known row.kept)
+  pub refused_spares : (refusal : Refusal) (row : IsNotMade refusal old new) → Spares (IsReachable stored.files) at.index s.held row.before → Spares (IsReachable stored.files) at.index s.held row.after
+  refused_spares refusal row was =
+      spares_refused (IsReachable stored.files) at.index s stored.files content old.tables new.known old.disk new.disk row.before row.after stands_for shows told closed was new.tables refusal
+      (subst (λ (k : Option PlaceMap). Keeps row.before.stage row.before.sweep.next (moment old.tables k old.disk row.before) (at_moment new row.after) refusal) at.index_known row.kept)
 
   -- and the map of the index stays, where no write failed
   known_by : (stage : Stage) (next : Next) (r : Refusal) (c d : Collection) → (r ≡ refusals.DiskWrite → ⊥) → IsStepRefusal stage next (moment old.tables (Some at.index) old.disk c) new.disk r
@@ -167,4 +159,5 @@ module _ (among : ByteSet) (s : Store) (stored : Stored) (old new : CoreState) (
 
   -- that ended it
   pub ended_spares : (freed copied : ℕ) (row : HasEnded freed copied old new) → Spares (IsReachable stored.files) at.index s.held row.before → (slot : ℕ) → ¬ (IsSpare (IsReachable stored.files) s.held slot)
-  ended_spares freed copied row was = spares_ended (IsReachable stored.files) at.index s row.before (shows.index_is_newest at.index refl) row.at_end was
+  ended_spares freed copied row was =
+      spares_ended (IsReachable stored.files) at.index s old.tables.held row.before (subst (IsUnderWayIn old.tables.held) row.ran at.under_way) row.at_end.0 row.at_end.1 was (shows.index_is_newest at.index refl)

@@ -1,12 +1,14 @@
 -- A core that was opened over a disk, ran, and was closed.
-use Rattle.std.proofs.Common.{◌≡◌, ℕ, List, Some, refl, sym, ◌∙◌, subst}
+use Rattle.std.proofs.Common.{◌≡◌, ◌≤◌, ℕ, List, Some, refl, sym, ◌∙◌, subst}
 use Rattle.store_model.specs.Files.{Stored}
 use Rattle.dd_disk.specs.View.{DiskView, IsDurable}
 use Rattle.dd_disk.specs.Ending.{Reads, Done}
 use Rattle.dd_disk.specs.Shows.{Shows}
 use Rattle.disk_format.specs.Layout.{slot_at}
+use Rattle.disk_format.specs.declared.numbers.TheConstants.{RESERVE}
 use Rattle.segment_index.specs.Changes.{SameBefore}
 use Rattle.store_model.specs.Image.{Store}
+use Rattle.store_model.specs.Slots.{free_slots}
 use Rattle.store_model.specs.Collisions.{Stands, IsOf}
 use Rattle.store_state.specs.Settled.{IsSettled}
 use Rattle.store_core.specs.Opening.{IsNew}
@@ -26,10 +28,11 @@ pub record Called (C : Type 0) (state : C → CoreState) (v w : DiskView) (old n
 
 -- ---- what it starts at
 
--- the core is at this map, by a store that the content is
+-- the core is at this map, by a store that the content is, of which two slots are free
 pub record Starts (S : List ℕ → Type 0) (m : Stored) (image : List ℕ) (c : CoreState) : Type 0 where
   pub store : Store
   pub is_at : IsAt S store m c
+  pub reserve : RESERVE ≤ free_slots store.held
   pub stands : Stands S store m.files image
   pub told : c.disk.content ≡ Some image
   pub whole : IndexesAll store c.known
@@ -47,6 +50,7 @@ module _ (C : Type 0) (state : C → CoreState) (v w : DiskView) (old new : C) (
       record {
         store = begins.store;
         is_at = begins.is_at;
+        reserve = begins.reserve;
         stands = begins.is_at.stands.each image ((state old).disk.as_read image here);
         told = here;
         whole = begins.whole;

@@ -26,7 +26,7 @@ use Rattle.reply_text.specs.declared.ending.Ending.TheVariants.{Sink, Refused}
 use Rattle.script_runner.specs.Acts.{CollectionRun, Collects, Starts, Sweeps}
 use Rattle.script_runner.proofs.CollectCauses.{IsCollectCause, collect_cause}
 use Rattle.plain_machine.specs.Collections.{freed_by}
-use Rattle.store_model.specs.Collisions.{ByteSet, HasNoCollisions, IsIn, IsOf}
+use Rattle.store_model.specs.Collisions.{ByteSet, HasNoCollisions, IsIn, IsOf, OpensAs}
 use Rattle.store_model.specs.Files.{Files, Stored}
 use Rattle.store_model.specs.Freeing.{HasNoGate, with_freed}
 use Rattle.store_model.specs.Image.{Encodes, Store}
@@ -54,9 +54,10 @@ use Rattle.store_model.specs.Reserve.{IsReachable, IsSpare}
 use Rattle.store_core.proofs.CoreRuns.{running_step}
 use Rattle.store_core.proofs.Crashes.{leaves_on_the_way}
 use Rattle.store_core.proofs.Damage.{never_damaged}
+use Rattle.store_core.proofs.Reserves.{enough_after}
 use Rattle.backup_engine.specs.Collected.{Collected, CollectedAll, collected_line, frees}
 use Rattle.backup_engine.specs.Line.{Collect}
-use Rattle.backup_engine.specs.Promise.{EndsBy, GivesSlotsBack, IsLeftAs, KeepsEachMap, KeepsMap, MayBeMeanwhile, WroteReply}
+use Rattle.backup_engine.specs.Promise.{EndsBy, GivesSlotsBack, IsLeftAs, IsLeftWith, KeepsEachMap, KeepsMap, MayBeMeanwhile, WroteReply}
 use Rattle.backup_engine.specs.Promise as promise
 use Rattle.backup_engine.proofs.Called.{Called, Starts as StartsAt, starts}
 use Rattle.backup_engine.proofs.CollectFrame.{IsBut}
@@ -93,12 +94,12 @@ still_after : (steps : List FileEvent) (m : Stored) → AreQuiet steps → store
 still_after [] m quiet = refl
 still_after (f ∷ fs) m quiet = ap (λ (x : Stored). stored_after fs x) (stored_still f m quiet.0) ∙ still_after fs m quiet.1
 
-still_on_the_way : (S : List ℕ → Type 0) (steps : List FileEvent) (m : Stored) (c : List ℕ) → AreQuiet steps → IsOnTheWay S steps m c → IsOf S m c
+still_on_the_way : (S : List ℕ → Type 0) (steps : List FileEvent) (m : Stored) (c : List ℕ) → AreQuiet steps → IsOnTheWay S steps m c → OpensAs S m c
 still_on_the_way S [] m c quiet is = is
 still_on_the_way S (f ∷ fs) m c quiet is = elim is [
   | inl before ↦ before
   | inr more ↦ elim more [
-    | inl tried ↦ subst (λ (x : Stored). IsOf S x c) (tried_still f m quiet.0) tried
+    | inl tried ↦ subst (λ (x : Stored). OpensAs S x c) (tried_still f m quiet.0) tried
     | inr rest ↦ still_on_the_way S fs m c quiet.1 (subst (λ (x : Stored). IsOnTheWay S fs x c) (stored_still f m quiet.0) rest)
   ]
 ]
@@ -266,8 +267,8 @@ module _ (C : Type 0) (state : C → CoreState) (v w : DiskView) (old new : C) (
 
       -- ---- what is left
 
-      crashes : CrashLeaves (IsOf S m) (state old).disk (state new).disk
-      crashes = leaves_weaker (IsOnTheWay S steps m) (IsOf S m) (state old).disk (state new).disk (λ c on. still_on_the_way S steps m c quiet on)
+      crashes : CrashLeaves (OpensAs S m) (state old).disk (state new).disk
+      crashes = leaves_weaker (IsOnTheWay S steps m) (OpensAs S m) (state old).disk (state new).disk (λ c on. still_on_the_way S steps m c quiet on)
           (leaves_on_the_way C state among steps at.store m old new distinct at.is_at run)
 
       pub content_now : (bytes : List ℕ) × ((w.content ≡ Some bytes) × ((state new).disk.content ≡ Some bytes))
@@ -275,10 +276,10 @@ module _ (C : Type 0) (state : C → CoreState) (v w : DiskView) (old new : C) (
           let now = (since_old C state v w old new called percent snapshot mid start answer sweeps).tells image at.told in
           (now.0, (called.last.only.content_is ∙ now.1, now.1))
 
-      pub now_is : (c : List ℕ) → w.images c → IsOf S m c
+      pub now_is : (c : List ℕ) → w.images c → OpensAs S m c
       now_is c there = crashes.now c (called.last.only.images_are c there)
 
-      left_so : (ending : Option Ending) (c : List ℕ) → IsOf S m c → IsLeftAs S (Collect percent) [] m ending c
+      left_so : (ending : Option Ending) (c : List ℕ) → OpensAs S m c → IsLeftAs S (Collect percent) [] m ending c
       left_so None c of = of
       left_so (Some Sink) c of = of
       left_so (Some (Refused refusals.DiskWrite)) c of = inl of
@@ -296,8 +297,8 @@ module _ (C : Type 0) (state : C → CoreState) (v w : DiskView) (old new : C) (
           (content_now.0, content_now.1.0, left_so ending content_now.0 (now_is content_now.0 (w.as_read content_now.0 content_now.1.0))),
           λ c there. left_so ending c (now_is c there),
         );
-        crash = leaves_more (IsOf S m) (MayBeMeanwhile S (Collect percent) [] m ending) v w (λ c of. inl of)
-            (leaves_of C state v w old new called (IsOf S m) (since_old C state v w old new called percent snapshot mid start answer sweeps) crashes);
+        crash = leaves_more (OpensAs S m) (MayBeMeanwhile S (Collect percent) [] m ending) v w (λ c of. inl of)
+            (leaves_of C state v w old new called (OpensAs S m) (since_old C state v w old new called percent snapshot mid start answer sweeps) crashes);
       }
         where
           one_image : (base : List ℕ) → v.content ≡ Some base → base ≡ image
@@ -343,6 +344,12 @@ module _ (C : Type 0) (state : C → CoreState) (v w : DiskView) (old new : C) (
         chain_from store right =
             subst (λ (s : Store). FreesSpare Needs released.slots s released.store) (subst (λ (changes : List StoreChange). ChangesTo changes at.store led.next.store) led.changes_are led.next.chain ∙ store_once image at.store store at.stands.holds.right right)
             released.chain
+
+        -- a store of the map is left, with as many free slots as there were, or more
+        left_now : IsLeftWith m w.content (λ store. Unit {0})
+        left_now =
+            let enough = enough_after (frees released.slots) at.store released.store (frees_changes Needs released.slots at.store released.store (chain_from at.store at.stands.holds.right)) at.reserve in
+            (released.store, (content_now.0, content_now.1.0, (released.is_at.stands.each content_now.0 ((state new).disk.as_read content_now.0 content_now.1.1)).holds), enough, tt)
 
         gave_one : (freed : ℕ) → freed ≡ releases sweeps.0 → (store : Store) → Encodes image store → Collected m.files freed store image content_now.0
         gave_one freed as_many store right =
@@ -410,14 +417,20 @@ module _ (C : Type 0) (state : C → CoreState) (v w : DiskView) (old new : C) (
             by_row : (r : Refusal) → IsNotMade r (state sweeps.1.0) (state new) → IsHarmless ⊥ r → IsCollectCause r
             by_row r made none = collect_cause (at_moment (state sweeps.1.0) made.before) (state new).disk made.before.stage r made.cause none
 
-        by_cause : (r : Refusal) → IsCollectCause r → EndsBy (Collect percent) [] m w.content (Some (Refused r))
-        by_cause refusals.Memory cause = left_with S m content_now.0 w.content (λ store. Unit {0}) content_now.1.0 (now_is content_now.0 (w.as_read content_now.0 content_now.1.0)) tt
-        by_cause refusals.DiskRead cause = left_with S m content_now.0 w.content (λ store. Unit {0}) content_now.1.0 (now_is content_now.0 (w.as_read content_now.0 content_now.1.0)) tt
-        by_cause refusals.DiskWrite cause = tt
-        by_cause r cause = absurd cause
+        stops_so : StopsAfter asked.GcStep (Err refusal) (state sweeps.1.0).acknowledged (state new).stop
+        stops_so = subst (λ (a : Result Answer Refusal). StopsAfter asked.GcStep a (state sweeps.1.0).acknowledged (state new).stop) answer_is (ends C state v w old new called percent snapshot mid start answer sweeps).stops
+
+        none_by_it : released_by answer ≡ 0
+        none_by_it = ap released_by answer_is
+
+        by_cause : (r : Refusal) → IsCollectCause r → StopsAfter asked.GcStep (Err r) (state sweeps.1.0).acknowledged (state new).stop → EndsBy (Collect percent) [] m w.content (Some (Refused r))
+        by_cause refusals.Memory cause stops = left_now none_by_it stops
+        by_cause refusals.DiskRead cause stops = left_now none_by_it stops
+        by_cause refusals.DiskWrite cause stops = tt
+        by_cause r cause stops = absurd cause
 
         pub stopped_by_map : EndsBy (Collect percent) [] m w.content (Some (Refused refusal))
-        stopped_by_map = by_cause refusal (collects_on refusal row_is harmless)
+        stopped_by_map = by_cause refusal (collects_on refusal row_is harmless) stops_so
 
   -- ---- by each map
 
@@ -472,7 +485,6 @@ module _ (C : Type 0) (state : C → CoreState) (v w : DiskView) (old new : C) (
       -- there was no memory for its reply
       pub untold_map : (sink : SinkView) → KeepsEachMap (Collect percent) [] (Some (Refused refusals.Memory)) v w sink sink
       untold_map sink = λ image told among m distinct segments is.
-          let now = content_now snapshot mid start done sweeps among m distinct image told is in
           keeps snapshot mid start done sweeps among m distinct image told is (Some (Refused refusals.Memory)) sink sink
-          (left_with (IsIn among) m now.0 w.content (λ store. Unit {0}) now.1.0 (now_is snapshot mid start done sweeps among m distinct image told is now.0 (w.as_read now.0 now.1.0)) tt)
+          (left_now snapshot mid start done sweeps among m distinct image told is refl (ends C state v w old new called percent snapshot mid start done sweeps).stops)
           (wrote_nothing (Collect percent) [] m (Refused refusals.Memory) sink (not_sink refusals.Memory)) (λ store right. (freed, some_of (gave_back among m distinct image told is store right)))

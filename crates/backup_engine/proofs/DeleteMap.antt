@@ -19,7 +19,7 @@ use Rattle.reply_text.specs.declared.ending.Ending.TheVariants.{Sink, Refused}
 use Rattle.reply_text.specs.Text.{deleted_line}
 use Rattle.script_lines.specs.Grammar as lines
 use Rattle.script_lines.specs.ReplyValue as replies
-use Rattle.store_model.specs.Collisions.{IsIn, IsOf}
+use Rattle.store_model.specs.Collisions.{IsIn, IsOf, OpensAs}
 use Rattle.store_model.specs.Files.{Stored, without_stored}
 use Rattle.store_model.specs.Image.{Store, Encodes}
 use Rattle.store_model.specs.Steps.{with_change}
@@ -83,8 +83,8 @@ module _ (S : List ℕ → Type 0) (name : List ℕ) (sequence : ℕ) (m : Store
         subst (λ (s : Store). Encodes one.last.content (with_change name Gone s)) (store_once image recorded.store store recorded.was right) recorded.now,
       )
 
-  leaves : (found : Stored) (d : List ℕ) → MayBeFound one.last.state one.last.stored found → IsOf S found d → IsOf S (without_stored m name) d
-  leaves found d may of = subst (λ (x : Stored). IsOf S x d) (after found may) of
+  leaves : (found : Stored) (d : List ℕ) → MayBeFound one.last.state one.last.stored found → OpensAs S found d → OpensAs S (without_stored m name) d
+  leaves found d may of = subst (λ (x : Stored). OpensAs S x d) (after found may) of
 
   pub done_map : (ending : Option Ending) (sink sink_now : SinkView) → IsDone ending → WroteReply (deleted_line name) ending sink sink_now → KeepsMap S (Delete name) [] ending m v w sink sink_now
   done_map None sink sink_now done wrote = keeps_map S (lines.Delete name) (replies.Deleted sequence) m image v w one told (Delete name) None sink sink_now deletes.there wrote deletes.there adds (λ store right. tt) leaves
@@ -112,7 +112,7 @@ module _ (S : List ℕ → Type 0) (name : List ℕ) (refusal : Refusal) (m : St
   of_store : (P : Store → Type 0) → OfStore image P → P is.store
   of_store P has = subst P (store_once image has.0 is.store has.1.0 is.stands.holds.right) has.1.1
 
-  left_so : (r : Refusal) (d : List ℕ) → IsOf S m d → IsLeftAs S (Delete name) [] m (Some (Refused r)) d
+  left_so : (r : Refusal) (d : List ℕ) → OpensAs S m d → IsLeftAs S (Delete name) [] m (Some (Refused r)) d
   left_so DiskWrite d of = inl of
   left_so r d of = of
 
@@ -126,7 +126,7 @@ module _ (S : List ℕ → Type 0) (name : List ℕ) (refusal : Refusal) (m : St
   undone : (r : Refusal) (sink : SinkView) → ¬ (r ≡ DiskWrite) → Same → EndsBy (Delete name) [] m w.content (Some (Refused r)) → Kept r sink
   undone r sink other same by_map =
       keeps_map S (lines.Delete name) (replies.Refused refusal) m image v w one told (Delete name) (Some (Refused r)) sink sink by_map refl tt (added_so r (same_content same)) (λ store right. tt)
-      (λ found d may of. left_so r d (subst (λ (x : Stored). IsOf S x d) (same_found same found may) of))
+      (λ found d may of. left_so r d (subst (λ (x : Stored). OpensAs S x d) (same_found same found may) of))
 
   may_delete : (name_is : IsName name) (there : is_some (finite.get m.files name) ≡ true) → MayDelete name (room_of (Delete name) m is.store)
   may_delete name_is there = record { named = name_is; knows = there }
@@ -136,11 +136,11 @@ module _ (S : List ℕ → Type 0) (name : List ℕ) (refusal : Refusal) (m : St
   lacks_numbers (inr full) = inr (of_store (λ store. (half_cells ≤ length store.records) × (store.selector.generation ≡ 2 ^ 64 - 1)) full)
 
   may_be_gone : (found : Stored) (d : List ℕ) → is_some (finite.get m.files name) ≡ true → (n : Machine) → one.last ≡ record start { state = Stopped (Some (without_stored m name)); content = n.content; faults = n.faults }
-      → MayBeFound one.last.state one.last.stored found → IsOf S found d → IsLeftAs S (Delete name) [] m (Some (Refused DiskWrite)) d
+      → MayBeFound one.last.state one.last.stored found → OpensAs S found d → IsLeftAs S (Delete name) [] m (Some (Refused DiskWrite)) d
   may_be_gone found d there n last_is may of =
       elim (subst (λ (x : Machine). MayBeFound x.state x.stored found) last_is may) [
-        | inl before ↦ inl (subst (λ (x : Stored). IsOf S x d) before of)
-        | inr gone ↦ inr (there, subst (λ (x : Stored). IsOf S x d) gone of)
+        | inl before ↦ inl (subst (λ (x : Stored). OpensAs S x d) before of)
+        | inr gone ↦ inr (there, subst (λ (x : Stored). OpensAs S x d) gone of)
       ]
 
   by_refusal : (r : Refusal) (sink : SinkView) → machine.RefusesDelete name r start one.last → Kept r sink
@@ -165,10 +165,10 @@ module _ (S : List ℕ → Type 0) (name : List ℕ) (refusal : Refusal) (m : St
 pub deleted_map : (name : List ℕ) (sequence : ℕ) (ending : Option Ending) (v w : DiskView) (sink sink_now : SinkView) → RunsEachMap ending (said (lines.Delete name) (replies.Deleted sequence) ∷ []) v w
     → IsDone ending → WroteReply (deleted_line name) ending sink sink_now → KeepsEachMap (Delete name) [] ending v w sink sink_now
 deleted_map name sequence ending v w sink sink_now each done wrote image told among m distinct all is =
-    done_map (IsIn among) name sequence m image v w told (step_of ending (lines.Delete name) (replies.Deleted sequence) v w each image told among m distinct is (done_idle name m image v.faults sequence) refl) ending sink sink_now done wrote
+    done_map (IsIn among) name sequence m image v w told (step_of ending (lines.Delete name) (replies.Deleted sequence) v w each image told among m distinct is (done_idle name m image v.faults sequence)) ending sink sink_now done wrote
 
 -- it was refused as the map has it
 pub undeleted_map : (name : List ℕ) (refusal : Refusal) (v w : DiskView) (sink : SinkView) → RunsEachMap (Some (Refused refusal)) (refused (lines.Delete name) refusal ∷ []) v w
     → KeepsEachMap (Delete name) [] (Some (Refused refusal)) v w sink sink
 undeleted_map name refusal v w sink each image told among m distinct all is =
-    undone_map (IsIn among) name refusal m image v w told is (step_of (Some (Refused refusal)) (lines.Delete name) (replies.Refused refusal) v w each image told among m distinct is (undone_idle name m image v.faults refusal) refl) sink
+    undone_map (IsIn among) name refusal m image v w told is (step_of (Some (Refused refusal)) (lines.Delete name) (replies.Refused refusal) v w each image told among m distinct is (undone_idle name m image v.faults refusal)) sink

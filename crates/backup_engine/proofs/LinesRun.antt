@@ -8,11 +8,11 @@ use Rattle.plain_machine.specs.Runs.{MachineRun, IsPassedFrom, Replied}
 use Rattle.plain_machine.specs.Through.{HoldsThrough, IsOfSome, Rise, told_clock}
 use Rattle.reply_text.specs.declared.ending.Ending.{Ending}
 use Rattle.script_runner.specs.Acts.{RunnerState}
-use Rattle.script_runner.specs.Follows.{Follows, IsImageBy}
+use Rattle.script_runner.specs.Follows.{Follows}
 use Rattle.script_runner.specs.Opened.{OpenedFollows}
-use Rattle.script_runner.specs.Scripts.{AreOfActors, RunsLines, ScriptsFollow, reopens}
+use Rattle.script_runner.specs.Scripts.{AreOfActors, RunsLines, ScriptsFollow}
 use Rattle.store_core.specs.State.{CoreState}
-use Rattle.store_model.specs.Collisions.{IsIn}
+use Rattle.store_model.specs.Collisions.{IsIn, OpensAs}
 use Rattle.store_model.specs.Files.{Stored}
 use Rattle.backup_engine.specs.Lines.{RunsEachMap}
 use Rattle.backup_engine.proofs.Called.{Called}
@@ -94,12 +94,12 @@ lines_run D view C state before w old new called opens follows ending rs r s old
     subst (λ (c : C). Follows (IsIn among) machine r.sessions (state c)) (sym old_is)
     (subst (λ (l : _). Follows (IsIn among) machine l (state old)) (sym none) (opens among m image before old called.opened called.durable called.first told is)) in
     let script = follows among rs machine r s distinct actors cut begins runs in
-    let through : HoldsThrough (IsImageBy (reopens rs) (IsIn among)) script.later rs machine script.next script.run (state old).disk (state new).disk =
-    subst (λ (c : C). HoldsThrough (IsImageBy (reopens rs) (IsIn among)) script.later rs machine script.next script.run (state c).disk (state new).disk) old_is
-    (subst (λ (c : C). HoldsThrough (IsImageBy (reopens rs) (IsIn among)) script.later rs machine script.next script.run (state r.core).disk (state c).disk) new_is script.through) in
+    let through : HoldsThrough (OpensAs (IsIn among)) script.later rs machine script.next script.run (state old).disk (state new).disk =
+    subst (λ (c : C). HoldsThrough (OpensAs (IsIn among)) script.later rs machine script.next script.run (state c).disk (state new).disk) old_is
+    (subst (λ (c : C). HoldsThrough (OpensAs (IsIn among)) script.later rs machine script.next script.run (state r.core).disk (state c).disk) new_is script.through) in
     inl (record {
       last = script.next;
       run = script.run;
       moments = script.later;
-      through = through_call C state v w old new called (IsImageBy (reopens rs) (IsIn among)) script.later rs machine script.next script.run through;
+      through = through_call C state v w old new called (OpensAs (IsIn among)) script.later rs machine script.next script.run through;
     })

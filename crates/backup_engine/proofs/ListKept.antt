@@ -21,7 +21,7 @@ use Rattle.script_lines.specs.ReplyValue as replies
 use Rattle.script_runner.specs.Acts.{Lists}
 use Rattle.store_core.specs.Core.{CoreStep, ListRow, Steps}
 use Rattle.store_core.specs.State.{CoreState, Event}
-use Rattle.store_model.specs.Collisions.{IsIn, IsOf}
+use Rattle.store_model.specs.Collisions.{IsIn, OpensAs}
 use Rattle.store_model.specs.Files.{Stored}
 use Rattle.store_model.specs.Image.{Store, Encodes, names_of}
 use Rattle.store_model.specs.Standing.{file_listing}
@@ -54,8 +54,8 @@ module _ (S : List ℕ → Type 0) (files : List NamedRoot) (m : Stored) (image 
   adds : (store : Store) → Encodes image store → IsStore store w.content
   adds store right = (image, one.content ∙ ap (λ (n : Machine). Some n.content) same, right)
 
-  leaves : (found : Stored) (d : List ℕ) → MayBeFound one.last.state one.last.stored found → IsOf S found d → IsOf S m d
-  leaves found d may of = subst (λ (x : Stored). IsOf S x d) (subst (λ (n : Machine). MayBeFound n.state n.stored found) same may) of
+  leaves : (found : Stored) (d : List ℕ) → MayBeFound one.last.state one.last.stored found → OpensAs S found d → OpensAs S m d
+  leaves found d may of = subst (λ (x : Stored). OpensAs S x d) (subst (λ (n : Machine). MayBeFound n.state n.stored found) same may) of
 
   wrote_files : (ending : Option Ending) (sink sink_now : SinkView) → WroteReply (listing_text files) ending sink sink_now → WroteReply (listing_text (file_listing m.files)) ending sink sink_now
   wrote_files ending sink sink_now wrote = subst (λ (l : List NamedRoot). WroteReply (listing_text l) ending sink sink_now) one.step.0.0 wrote
@@ -71,7 +71,7 @@ module _ (S : List ℕ → Type 0) (files : List NamedRoot) (m : Stored) (image 
 listed_map : (files : List NamedRoot) (ending : Option Ending) (v w : DiskView) (sink sink_now : SinkView) → RunsEachMap ending (said lines.ListNames (replies.Listed files) ∷ []) v w
     → IsDone ending → WroteReply (listing_text files) ending sink sink_now → KeepsEachMap table.List [] ending v w sink sink_now
 listed_map files ending v w sink sink_now each done wrote image told among m distinct all is =
-    listed_keeps (IsIn among) files m image v w told (step_of ending lines.ListNames (replies.Listed files) v w each image told among m distinct is (listed_idle files m image v.faults) refl) ending sink sink_now done wrote
+    listed_keeps (IsIn among) files m image v w told (step_of ending lines.ListNames (replies.Listed files) v w each image told among m distinct is (listed_idle files m image v.faults)) ending sink sink_now done wrote
 
 pub is_done : (ending : Option Ending) (sink sink_now : SinkView) → IsReplied ending sink sink_now → IsDone ending
 is_done None sink sink_now replied = tt

@@ -18,9 +18,9 @@ use Rattle.store_model.specs.Standing.{IsFormatted}
 use Rattle.backup_engine.specs.AnyDisk.{Formats}
 use Rattle.backup_engine.specs.Line.{CommandLine, Format, Ingest, Restore, Delete, Collect, TableLine, Single, Run}
 use Rattle.backup_engine.specs.Line as table
-use Rattle.backup_engine.specs.Lines.{RunsBy}
+use Rattle.backup_engine.specs.Lines.{RunsByMachine}
 use Rattle.backup_engine.specs.PlainMap.{map_after}
-use Rattle.backup_engine.specs.Promise.{IsLeftBy, MayBeBetween, SinceStart, NothingWritten, Stands}
+use Rattle.backup_engine.specs.Promise.{IsLeftAs, MayBeMeanwhile, SinceStart, NothingWritten, Stands}
 use Rattle.backup_engine.specs.TopCall.{Does, DoesNothing, status_by}
 use Rattle.backup_engine.specs.Whole.{KeepsWhole, RunsFrom, RunsNoLine}
 use Rattle.backup_engine.specs.Lists.{AnswersBy, Call, KeepsCall, CallRun, IsGivenAmong, IsPromised, BeginsOfMap, LeadsBy, MayLead, MayPass, LeadsTo, Passed, Possible, RunsByTheMap, ScriptLeads, StandsEmpty, FormatBegins, LeavesPossible, AnswersByTheMap, SurvivesACrash}
@@ -48,7 +48,7 @@ leads_nowhere command given (Some ending) m not_done = refl
 -- What the promise says of images is read here alone.
 module _ (S : List ℕ → Type 0) (command : CommandLine) (given : List ℕ) where
   -- what is left of a map is one that the line may lead to
-  leads_left : (ending : Option Ending) (m : Stored) (image : List ℕ) → IsLeftBy (OpensAs S) command given m ending image → OfSome S (LeadsBy command given ending m) image
+  leads_left : (ending : Option Ending) (m : Stored) (image : List ℕ) → IsLeftAs S command given m ending image → OfSome S (LeadsBy command given ending m) image
   leads_left None m image left = (map_after command given m, (refl, left))
   leads_left (Some Sink) m image left = (map_after command given m, (refl, left))
   leads_left (Some (Refused DiskWrite)) m image (inl left) = (m, (inl refl, left))
@@ -56,7 +56,7 @@ module _ (S : List ℕ → Type 0) (command : CommandLine) (given : List ℕ) wh
   leads_left (Some ending) m image left = (m, (refl, left))
 
   -- and so is what a crash leaves meanwhile, but for the map as it was
-  leads_meanwhile : (ending : Option Ending) (m : Stored) (image : List ℕ) → MayBeBetween (OpensAs S) command given m ending image
+  leads_meanwhile : (ending : Option Ending) (m : Stored) (image : List ℕ) → MayBeMeanwhile S command given m ending image
       → OpensAs S m image ⊎ OfSome S (LeadsBy command given ending m) image
   leads_meanwhile ending m image (inl was) = inl was
   leads_meanwhile None m image (inr done) = inr (map_after command given m, (refl, done.2))
@@ -72,12 +72,12 @@ Answers D view (Some Run) S c m v w = RunsFrom D view S c.rs m v w ⊎ RunsNoLin
 
 -- what a command leaves of it, now and meanwhile
 record Leaves (S : List ℕ → Type 0) (command : CommandLine) (c : Call) (m : Stored) (v w : DiskView) : Type 0 where
-  left : Stands (IsLeftBy (OpensAs S) command c.given m c.ending) w ⊎ NothingWritten c.ending v w
-  crash : (image : List ℕ) → SinceStart v w image → v.images image ⊎ MayBeBetween (OpensAs S) command c.given m c.ending image
+  left : Stands (IsLeftAs S command c.given m c.ending) w ⊎ NothingWritten c.ending v w
+  crash : (image : List ℕ) → SinceStart v w image → v.images image ⊎ MayBeMeanwhile S command c.given m c.ending image
 
 module _ (S : List ℕ → Type 0) (c : Call) (m : Stored) (v w : DiskView) where
   whole_leaves : (command : CommandLine) → KeepsWhole S command c.given c.ending m v w c.sink c.sink_now → Leaves S command c m v w
-  whole_leaves command keeps = record { left = keeps.left; crash = since_began (MayBeBetween (OpensAs S) command c.given m c.ending) v w keeps.crash }
+  whole_leaves command keeps = record { left = keeps.left; crash = since_began (MayBeMeanwhile S command c.given m c.ending) v w keeps.crash }
 
   command_leaves : (command : CommandLine) → AnswersBy S command c m v w → Leaves S command c m v w
   command_leaves (Format slots) stays = record { left = inr stays.nothing; crash = λ image since. inl (stays.crash image since) }
@@ -103,16 +103,16 @@ module _ (S : List ℕ → Type 0) (P : Stored → Type 0) (c : Call) where
   no_lines rs m none = subst (λ (l : List Replied). ScriptLeads l m m) (sym none) (record { image = []; faults = 0; last = opened m [] 0; run = refl; found = refl })
 
   module _ (m : Stored) (v w : DiskView) (has : P m) (stands : Stands (OfSome S P) v) where
-    line_leads : (command : CommandLine) (image : List ℕ) → IsLeftBy (OpensAs S) command c.given m c.ending image → OfSome S (After P (Some (Single command)) c) image
+    line_leads : (command : CommandLine) (image : List ℕ) → IsLeftAs S command c.given m c.ending image → OfSome S (After P (Some (Single command)) c) image
     line_leads command image left = let one = leads_left S command c.given c.ending m image left in (one.0, ((m, (has, one.1.0)), one.1.1))
 
-    line_leaves : (command : CommandLine) → Stands (IsLeftBy (OpensAs S) command c.given m c.ending) w ⊎ NothingWritten c.ending v w → Stands (OfSome S (After P (Some (Single command)) c)) w
+    line_leaves : (command : CommandLine) → Stands (IsLeftAs S command c.given m c.ending) w ⊎ NothingWritten c.ending v w → Stands (OfSome S (After P (Some (Single command)) c)) w
     line_leaves command (inl left) = ((left.0.0, left.0.1, line_leads command left.0.0 left.0.2), λ d is. line_leads command d (left.1 d is))
     line_leaves command (inr none) =
         ((stands.0.0, none.content ∙ stands.0.1, same_leads command stands.0.0 none.not_done stands.0.2), λ d is. same_leads command d none.not_done (stands.1 d (none.images d is)))
 
     -- lines that are a run of the machine, from a content of the files
-    module _ (start : List ℕ) (machine : RunsBy (OpensAs S) c.rs m start v w) where
+    module _ (start : List ℕ) (machine : RunsByMachine S c.rs m start v w) where
       script_now : (d : List ℕ) → w.images d → OfSome S (After P (Some Run) c) d
       script_now d is =
           let found = machine.through.now d is in
@@ -164,7 +164,7 @@ module _ (S : List ℕ → Type 0) (P : Stored → Type 0) (c : Call) where
     leaves D view (Some (Single command)) answers = let left = command_leaves S c m v w command answers in line_leaves command left.left
     leaves D view (Some Run) runs = script_leaves D view runs
 
-    line_crash : (command : CommandLine) (image : List ℕ) → v.images image ⊎ MayBeBetween (OpensAs S) command c.given m c.ending image
+    line_crash : (command : CommandLine) (image : List ℕ) → v.images image ⊎ MayBeMeanwhile S command c.given m c.ending image
         → OfSome S P image ⊎ OfSome S (MayPass (Some (Single command)) c m) image
     line_crash command image (inl before) = inl (stands.1 image before)
     line_crash command image (inr meanwhile) = elim (leads_meanwhile S command c.given c.ending m image meanwhile) [ inl was ↦ inl (m, (has, was)) | inr led ↦ inr led ]

@@ -1,6 +1,6 @@
 -- One line over a core that was opened: what the machine's step says of the disk, and of the map.
-use Rattle.std.proofs.Common.{◌≡◌, ◌⊎◌, inl, inr, ℕ, zero, suc, Bool, false, List, [], ◌∷◌, Option, None, Some, replicate, refl, sym, ◌∙◌, subst}
-use Rattle.std.specs.Prelude.{◌||◌, slice_index_or}
+use Rattle.std.proofs.Common.{◌≡◌, ◌⊎◌, inl, inr, ℕ, zero, suc, List, [], ◌∷◌, Option, None, Some, replicate, refl, sym, ◌∙◌, subst}
+use Rattle.std.specs.Prelude.{slice_index_or}
 use Rattle.dd_disk.specs.View.{DiskView}
 use Rattle.dd_io.specs.Flow.{SinkView}
 use Rattle.actor_parts.specs.declared.actor.TheConstants.{ACTORS}
@@ -13,14 +13,14 @@ use Rattle.reply_text.specs.declared.ending.Ending.{Ending}
 use Rattle.reply_text.specs.declared.ending.Ending.TheVariants.{Sink, Refused}
 use Rattle.script_lines.specs.Grammar.{LineValue}
 use Rattle.script_lines.specs.ReplyValue.{ReplyValue}
-use Rattle.script_runner.specs.Follows.{IsCut, IsImageBy, is_reopen}
+use Rattle.script_runner.specs.Follows.{IsCut}
 use Rattle.script_runner.specs.Scripts.{IsCutBy}
-use Rattle.store_model.specs.Collisions.{ByteSet, HasNoCollisions, IsIn, IsOf}
+use Rattle.store_model.specs.Collisions.{ByteSet, HasNoCollisions, IsIn, IsOf, OpensAs}
 use Rattle.store_model.specs.Files.{Stored}
 use Rattle.store_model.specs.Image.{Store, Encodes}
 use Rattle.backup_engine.specs.Adding.{Adds}
 use Rattle.backup_engine.specs.Line.{CommandLine}
-use Rattle.backup_engine.specs.Lines.{RunsBy, RunsByMachine, RunsEachMap}
+use Rattle.backup_engine.specs.Lines.{RunsByMachine, RunsEachMap}
 use Rattle.backup_engine.specs.PlainMap.{CanBeDone}
 use Rattle.backup_engine.specs.Promise as promise
 use Rattle.backup_engine.specs.Promise.{EndsBy, GivesSlotsBack, IsLeftAs, KeepsMap, LeavesMeanwhile, MayBeMeanwhile}
@@ -55,8 +55,8 @@ pub record OneStep (S : List ℕ → Type 0) (line : LineValue) (reply : ReplyVa
   pub last : Machine
   pub step : Step line reply (opened m image v.faults) last
   pub content : w.content ≡ Some last.content
-  pub now : (d : List ℕ) → w.images d → IsOfSome (IsOf S) (MayBeFound last.state last.stored) d
-  pub crash : LeavesMeanwhile (λ d. IsOf S m d ⊎ IsOfSome (IsOf S) (MayBeFound last.state last.stored) d) v w
+  pub now : (d : List ℕ) → w.images d → IsOfSome (OpensAs S) (MayBeFound last.state last.stored) d
+  pub crash : LeavesMeanwhile (λ d. OpensAs S m d ⊎ IsOfSome (OpensAs S) (MayBeFound last.state last.stored) d) v w
 
 module _ (S : List ℕ → Type 0) (line : LineValue) (reply : ReplyValue) (m : Stored) (image : List ℕ) (v w : DiskView) where
   abbrev first : Machine
@@ -66,17 +66,13 @@ module _ (S : List ℕ → Type 0) (line : LineValue) (reply : ReplyValue) (m : 
   rs = said line reply ∷ []
 
   abbrev Found : Machine → List ℕ → Type 0
-  Found n d = IsOfSome (IsOf S) (MayBeFound n.state n.stored) d
+  Found n d = IsOfSome (OpensAs S) (MayBeFound n.state n.stored) d
 
-  passed : (n : Machine) (run : MachineRun rs first n) (d : List ℕ) → IsOfSome (IsOf S) (IsPassedFrom m.last rs first n run) d → IsOf S m d ⊎ Found run.1.0 d
-  passed n run d (found, (inl before, of)) = inl (subst (λ (x : Stored). IsOf S x d) before.1 of)
+  passed : (n : Machine) (run : MachineRun rs first n) (d : List ℕ) → IsOfSome (OpensAs S) (IsPassedFrom m.last rs first n run) d → OpensAs S m d ⊎ Found run.1.0 d
+  passed n run d (found, (inl before, of)) = inl (subst (λ (x : Stored). OpensAs S x d) before.1 of)
   passed n run d (found, (inr after, of)) = inr (found, (after.1, of))
 
-  module _ (other : is_reopen line ≡ false) (runs : RunsByMachine S rs m image v w) where
-    -- the line leaves two slots closed
-    is : RunsBy (IsOf S) rs m image v w
-    is = subst (λ (b : Bool). RunsBy (IsImageBy (b || false) S) rs m image v w) other runs
-
+  module _ (is : RunsByMachine S rs m image v w) where
     abbrev mid : Machine
     mid = is.run.1.0
 
@@ -86,7 +82,7 @@ module _ (S : List ℕ → Type 0) (line : LineValue) (reply : ReplyValue) (m : 
     found_now : (d : List ℕ) → w.images d → Found mid d
     found_now d left = subst (λ (n : Machine). Found n d) same (is.through.now d left)
 
-    crashed : LeavesMeanwhile (λ d. IsOf S m d ⊎ Found mid d) v w
+    crashed : LeavesMeanwhile (λ d. OpensAs S m d ⊎ Found mid d) v w
     crashed = record {
       now = λ d left. inr (inr (found_now d left));
       since = λ t d within below since. elim (is.through.since t d within below since) [ inl was ↦ inl was | inr there ↦ inr (passed is.last is.run d there) ];
@@ -104,10 +100,10 @@ module _ (S : List ℕ → Type 0) (line : LineValue) (reply : ReplyValue) (m : 
 -- of a disk that stands for the map, where nothing is cut
 pub step_of : (ending : Option Ending) (line : LineValue) (reply : ReplyValue) (v w : DiskView) → RunsEachMap ending (said line reply ∷ []) v w
     → (image : List ℕ) → v.content ≡ Some image → (among : ByteSet) (m : Stored) → HasNoCollisions (IsIn among) → IsOf (IsIn among) m image
-    → ((n : Machine) → Step line reply (opened m image v.faults) n → n.parts ≡ replicate ACTORS Idle) → is_reopen line ≡ false → OneStep (IsIn among) line reply m image v w
-step_of ending line reply v w each image told among m distinct is stays other =
+    → ((n : Machine) → Step line reply (opened m image v.faults) n → n.parts ≡ replicate ACTORS Idle) → OneStep (IsIn among) line reply m image v w
+step_of ending line reply v w each image told among m distinct is stays =
     elim (each image told among m distinct (λ bytes cut. absurd (none_cut_by line reply (opened m image v.faults) refl stays bytes cut)) is) [
-      | inl machine ↦ one_step (IsIn among) line reply m image v w other machine
+      | inl machine ↦ one_step (IsIn among) line reply m image v w machine
       | inr none ↦ absurd (let no = none.none in cc)
     ]
 
@@ -131,7 +127,7 @@ module _ (S : List ℕ → Type 0) (line : LineValue) (reply : ReplyValue) (m : 
   pub keeps_map : EndsBy command [] m w.content ending → promise.Wrote command [] m ending sink sink_now → CanBeIf command [] m ending
       → ((store : Store) → Encodes image store → Adds command [] ending store w.content)
       → ((store : Store) → Encodes image store → GivesSlotsBack command ending m.files store image w.content sink sink_now)
-      → ((found : Stored) (d : List ℕ) → MayBeFound one.last.state one.last.stored found → IsOf S found d → IsLeftAs S command [] m ending d)
+      → ((found : Stored) (d : List ℕ) → MayBeFound one.last.state one.last.stored found → OpensAs S found d → IsLeftAs S command [] m ending d)
       → KeepsMap S command [] ending m v w sink sink_now
   keeps_map by_map wrote can adds gave leaves = record {
     by_map = by_map;
@@ -140,7 +136,7 @@ module _ (S : List ℕ → Type 0) (line : LineValue) (reply : ReplyValue) (m : 
     gave_back = λ old known store right.
         subst (λ (bytes : List ℕ). GivesSlotsBack command ending m.files store bytes w.content sink sink_now) (sym (same_content old known)) (gave store (subst (λ (bytes : List ℕ). Encodes bytes store) (same_content old known) right));
     left = inl ((one.last.content, one.content, left one.last.content (w.as_read one.last.content one.content)), left);
-    crash = leaves_more (λ d. IsOf S m d ⊎ IsOfSome (IsOf S) (MayBeFound one.last.state one.last.stored) d) (MayBeMeanwhile S command [] m ending) v w between one.crash;
+    crash = leaves_more (λ d. OpensAs S m d ⊎ IsOfSome (OpensAs S) (MayBeFound one.last.state one.last.stored) d) (MayBeMeanwhile S command [] m ending) v w between one.crash;
   }
     where
       same_content : (old : List ℕ) → v.content ≡ Some old → old ≡ image
@@ -149,6 +145,6 @@ module _ (S : List ℕ → Type 0) (line : LineValue) (reply : ReplyValue) (m : 
       left : (d : List ℕ) → w.images d → IsLeftAs S command [] m ending d
       left d is = let found = one.now d is in leaves found.0 d found.1.0 found.1.1
 
-      between : (d : List ℕ) → IsOf S m d ⊎ IsOfSome (IsOf S) (MayBeFound one.last.state one.last.stored) d → MayBeMeanwhile S command [] m ending d
+      between : (d : List ℕ) → OpensAs S m d ⊎ IsOfSome (OpensAs S) (MayBeFound one.last.state one.last.stored) d → MayBeMeanwhile S command [] m ending d
       between d (inl is) = inl is
       between d (inr found) = meanwhile S command [] m ending d can (leaves found.0 d found.1.0 found.1.1)

@@ -1,6 +1,6 @@
 -- Which maps the steps by which a file is stored lead to.
 use Rattle.std.proofs.Common.{◌≡◌, ◌⊎◌, inl, inr, ℕ, List, [], ◌∷◌, Option, Some, None, Result, Ok, Err, refl, ◌∙◌, ap, subst}
-use Rattle.store_model.specs.Collisions.{IsOf}
+use Rattle.store_model.specs.Collisions.{OpensAs}
 use Rattle.store_model.specs.Files.{Stored, with_stored}
 use Rattle.std.specs.List.{AllByRecursion}
 use Rattle.actor_parts.specs.declared.step.Answer.{Answer}
@@ -90,7 +90,7 @@ module _ (S : List ℕ → Type 0) (name given : List ℕ) (m : Stored) where
   put_after (Ok u) = after
   put_after (Err refusal) = m
 
-  left_before : (refusal : Refusal) (c : List ℕ) → IsOf S m c → Left (Err refusal) c
+  left_before : (refusal : Refusal) (c : List ℕ) → OpensAs S m c → Left (Err refusal) c
   left_before refusals.DiskWrite c is = inl is
   left_before refusal c is = is
 
@@ -116,8 +116,8 @@ module _ (S : List ℕ → Type 0) (name given : List ℕ) (m : Stored) where
   done_tried (asked.Commit n root) (Err refusal) bytes is last = absurd last
   done_tried step answer bytes is last = absurd last
 
-  failed_tried : (step : StepValue) (refusal : Refusal) (bytes : List ℕ) (c : List ℕ) → IsAskedFor name given step bytes → CanTry step (Err refusal) → IsOf S (stored_tried step (Err refusal) bytes m) c → Left (Err refusal) c
-  failed_tried (asked.Commit n root) refusals.DiskWrite bytes c is can of = inr (can, subst (λ (x : Stored). IsOf S x c) (same_put n bytes is.0 is.2) of)
+  failed_tried : (step : StepValue) (refusal : Refusal) (bytes : List ℕ) (c : List ℕ) → IsAskedFor name given step bytes → CanTry step (Err refusal) → OpensAs S (stored_tried step (Err refusal) bytes m) c → Left (Err refusal) c
+  failed_tried (asked.Commit n root) refusals.DiskWrite bytes c is can of = inr (can, subst (λ (x : Stored). OpensAs S x c) (same_put n bytes is.0 is.2) of)
   failed_tried (asked.Commit n root) refusal bytes c is can of = of
   failed_tried asked.Begin refusal bytes c is can of = left_before refusal c of
   failed_tried (asked.Claim seg) refusal bytes c is can of = left_before refusal c of
@@ -129,13 +129,13 @@ module _ (S : List ℕ → Type 0) (name given : List ℕ) (m : Stored) where
   last_with f (Err refusal) step (inl is) = ap (λ (a : Result Answer Refusal). stored_with f.event.step a f.bytes m) is ∙ refused_with f.event.step refusal f.bytes m
   last_with f (Err refusal) step (inr is) = none_with f.event.step f.event.answer f.bytes m is.0.0
 
-  last_tried : (f : FileEvent) (put : Result Unit Refusal) (c : List ℕ) → IsPutStep name given f → EndsPut (f ∷ []) put → CanTryBy f → IsOf S (stored_tried f.event.step f.event.answer f.bytes m) c → Left put c
-  last_tried f (Ok u) c step ends can of = subst (λ (x : Stored). IsOf S x c) (done_tried f.event.step f.event.answer f.bytes step.asked_for ends) of
+  last_tried : (f : FileEvent) (put : Result Unit Refusal) (c : List ℕ) → IsPutStep name given f → EndsPut (f ∷ []) put → CanTryBy f → OpensAs S (stored_tried f.event.step f.event.answer f.bytes m) c → Left put c
+  last_tried f (Ok u) c step ends can of = subst (λ (x : Stored). OpensAs S x c) (done_tried f.event.step f.event.answer f.bytes step.asked_for ends) of
   last_tried f (Err refusal) c step (inl is) can of =
-      failed_tried f.event.step refusal f.bytes c step.asked_for (subst (CanTry f.event.step) is can) (subst (λ (a : Result Answer Refusal). IsOf S (stored_tried f.event.step a f.bytes m) c) is of)
-  last_tried f (Err refusal) c step (inr is) can of = left_before refusal c (subst (λ (x : Stored). IsOf S x c) (none_tried f.event.step f.event.answer f.bytes m is.0.0) of)
+      failed_tried f.event.step refusal f.bytes c step.asked_for (subst (CanTry f.event.step) is can) (subst (λ (a : Result Answer Refusal). OpensAs S (stored_tried f.event.step a f.bytes m) c) is of)
+  last_tried f (Err refusal) c step (inr is) can of = left_before refusal c (subst (λ (x : Stored). OpensAs S x c) (none_tried f.event.step f.event.answer f.bytes m is.0.0) of)
 
-  left_by : (put : Result Unit Refusal) (c : List ℕ) → IsOf S (put_after put) c → Left put c
+  left_by : (put : Result Unit Refusal) (c : List ℕ) → OpensAs S (put_after put) c → Left put c
   left_by (Ok u) c is = is
   left_by (Err refusal) c is = left_before refusal c is
 
@@ -149,16 +149,16 @@ module _ (S : List ℕ → Type 0) (name given : List ℕ) (m : Stored) where
   maps_after (f ∷ g ∷ fs) put each ends = ap (stored_after (g ∷ fs)) (none_with f.event.step f.event.answer f.bytes m ends.0.0) ∙ maps_after (g ∷ fs) put each.1 ends.1
 
   -- where a write that failed may stand
-  pub maps_tried : (fs : List FileEvent) (put : Result Unit Refusal) (c : List ℕ) → AllByRecursion (IsPutStep name given) fs → EndsPut fs put → AllByRecursion CanTryBy fs → IsOf S (stored_tried_by fs m) c → Left put c
+  pub maps_tried : (fs : List FileEvent) (put : Result Unit Refusal) (c : List ℕ) → AllByRecursion (IsPutStep name given) fs → EndsPut fs put → AllByRecursion CanTryBy fs → OpensAs S (stored_tried_by fs m) c → Left put c
   maps_tried [] (Ok u) c each ends can of = absurd ends
   maps_tried [] (Err refusal) c each ends can of = left_before refusal c of
   maps_tried (f ∷ []) put c each ends can of = last_tried f put c each.0 ends can.0 of
   maps_tried (f ∷ g ∷ fs) put c each ends can of =
-      maps_tried (g ∷ fs) put c each.1 ends.1 can.1 (subst (λ (x : Stored). IsOf S (stored_tried_by (g ∷ fs) x) c) (none_tried f.event.step f.event.answer f.bytes m ends.0.0) of)
+      maps_tried (g ∷ fs) put c each.1 ends.1 can.1 (subst (λ (x : Stored). OpensAs S (stored_tried_by (g ∷ fs) x) c) (none_tried f.event.step f.event.answer f.bytes m ends.0.0) of)
 
   pub left_at_end : (fs : List FileEvent) (put : Result Unit Refusal) (c : List ℕ) → AllByRecursion (IsPutStep name given) fs → EndsPut fs put → AllByRecursion CanTryBy fs
-      → IsOf S (stored_after fs m) c ⊎ IsOf S (stored_tried_by fs m) c → Left put c
-  left_at_end fs put c each ends can (inl of) = left_by put c (subst (λ (x : Stored). IsOf S x c) (maps_after fs put each ends) of)
+      → OpensAs S (stored_after fs m) c ⊎ OpensAs S (stored_tried_by fs m) c → Left put c
+  left_at_end fs put c each ends can (inl of) = left_by put c (subst (λ (x : Stored). OpensAs S x c) (maps_after fs put each ends) of)
   left_at_end fs put c each ends can (inr of) = maps_tried fs put c each ends can of
 
   -- and on the way
@@ -167,8 +167,8 @@ module _ (S : List ℕ → Type 0) (name given : List ℕ) (m : Stored) where
   left_on_the_way [] put c each ends may can of = inl of
   left_on_the_way (f ∷ []) put c each ends may can (inl of) = inl of
   left_on_the_way (f ∷ []) put c each ends may can (inr (inl of)) = meanwhile put c may (last_tried f put c each.0 ends can.0 of)
-  left_on_the_way (f ∷ []) put c each ends may can (inr (inr of)) = meanwhile put c may (left_by put c (subst (λ (x : Stored). IsOf S x c) (last_with f put each.0 ends) of))
+  left_on_the_way (f ∷ []) put c each ends may can (inr (inr of)) = meanwhile put c may (left_by put c (subst (λ (x : Stored). OpensAs S x c) (last_with f put each.0 ends) of))
   left_on_the_way (f ∷ g ∷ fs) put c each ends may can (inl of) = inl of
-  left_on_the_way (f ∷ g ∷ fs) put c each ends may can (inr (inl of)) = inl (subst (λ (x : Stored). IsOf S x c) (none_tried f.event.step f.event.answer f.bytes m ends.0.0) of)
+  left_on_the_way (f ∷ g ∷ fs) put c each ends may can (inr (inl of)) = inl (subst (λ (x : Stored). OpensAs S x c) (none_tried f.event.step f.event.answer f.bytes m ends.0.0) of)
   left_on_the_way (f ∷ g ∷ fs) put c each ends may can (inr (inr of)) =
       left_on_the_way (g ∷ fs) put c each.1 ends.1 may can.1 (subst (λ (x : Stored). IsOnTheWay S (g ∷ fs) x c) (none_with f.event.step f.event.answer f.bytes m ends.0.0) of)

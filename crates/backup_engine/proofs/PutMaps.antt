@@ -1,9 +1,9 @@
 -- Over a disk that stands for a map an `ingest` keeps the map.
-use Rattle.std.proofs.Common.{◌≡◌, ◌⊎◌, inl, inr, ℕ, ◌<◌, List, length, Option, Some, None, Result, Ok, Err, refl, sym, ◌∙◌, subst, arith}
+use Rattle.std.proofs.Common.{◌≡◌, ◌⊎◌, inl, inr, ℕ, ◌<◌, ◌≤◌, List, length, Option, Some, None, Result, Ok, Err, refl, sym, ◌∙◌, subst, arith}
 use Rattle.store_model.specs.Files.{Stored}
 use Rattle.std.specs.List.{AllByRecursion}
 use Rattle.base_model.specs.Known.{KnownWith}
-use Rattle.disk_format.specs.declared.numbers.TheConstants.{MOST_FILE}
+use Rattle.disk_format.specs.declared.numbers.TheConstants.{MOST_FILE, RESERVE}
 use Rattle.dd_disk.specs.View.{DiskView, CrashLeaves}
 use Rattle.dd_disk.proofs.Moves.{stands_content}
 use Rattle.dd_io.specs.Flow.{SourceView, SinkView}
@@ -14,7 +14,7 @@ use Rattle.reply_text.specs.declared.ending.Ending.TheVariants.{Source, Sink, Re
 use Rattle.reply_text.specs.Text.{stored_line}
 use Rattle.store_model.specs.Collisions.{HasNoCollisions, ByteSet, IsIn, IsOf}
 use Rattle.store_model.specs.Image.{Store, Encodes, IsValidFor}
-use Rattle.store_model.specs.Slots.{HasFree}
+use Rattle.store_model.specs.Slots.{HasFree, free_slots}
 use Rattle.store_model.specs.Standing.{IsStoreOf, IsSegmentOf}
 use Rattle.store_model.specs.Collisions as collisions
 use Rattle.disk_format.specs.Cells.Change.{Put}
@@ -27,6 +27,7 @@ use Rattle.store_core.specs.Runs.{ChangesTo, FileRun, IsAt, IsOnTheWay, Reaches,
 use Rattle.store_core.specs.State.{CoreState}
 use Rattle.store_core.proofs.Crashes.{last_at, leaves, ends_with_all}
 use Rattle.store_core.proofs.AnySteps.{changes_told, keeps_files}
+use Rattle.store_core.proofs.Reserves.{enough_after}
 use Rattle.backup_engine.specs.Adding.{Adds, AddsTo, AddsOnce}
 use Rattle.backup_engine.specs.Line.{Ingest}
 use Rattle.backup_engine.specs.AnyDisk.{ReadsSince, room_in}
@@ -148,7 +149,7 @@ module _ (C : Type 0) (state : C → CoreState) (v w : DiskView) (old new : C) (
       let left : List ℕ = end.is_at.stands.known.0 in
       let here = end.is_at.stands.known.1 in
       let holds = (stands_content (collisions.Stands S end.store (stored_after ran.steps m).files) (state new).disk end.is_at.stands left here).holds in
-      let once : AddsOnce given (seals_of ran.steps) first = ran.adds.store_has first start.is_at.represents start.is_at.valid (omega (arith, start.is_at.reserve)) start.whole in
+      let once : AddsOnce given (seals_of ran.steps) first = ran.adds.store_has first start.is_at.represents start.is_at.valid (omega (arith, start.reserve)) start.whole in
       subst (λ (s : Store). AddsTo given (put_in name given put) s w.content) (store_once image first store start.stands.holds.right right)
       (adds_to name given ran.steps put first end.store w.content ran.each ran.ends (subst (λ (changes : List StoreChange). ChangesTo changes first end.store) (changes_told ran.steps end.changes others end.changes_are) end.chain) once (left, was.last.only.content_is ∙ here, holds.right))
 
@@ -166,11 +167,11 @@ module _ (C : Type 0) (state : C → CoreState) (v w : DiskView) (old new : C) (
         refused_on C state among name given distinct ran.steps refusal first.store m old new other was.opened.stop_is first.is_at
         (run C state v w old new was name given (Err refusal) ran among m image told distinct all is) ran.each ran.ends
 
-    at_end : ¬ (refusal ≡ DiskWrite) → (t : Store) × (IsAt (IsIn among) t m (state new) × IndexesAll t (state new).known)
+    at_end : ¬ (refusal ≡ DiskWrite) → (t : Store) × (IsAt (IsIn among) t m (state new) × IndexesAll t (state new).known × (RESERVE ≤ free_slots t.held))
     at_end other =
         let end = reached C state v w old new was name given (Err refusal) ran among m image told distinct all is (runs_on other).runs in (
           end.store,
-          (subst (λ (stored : Stored). IsAt (IsIn among) end.store stored (state new)) (maps_after (IsIn among) name given m ran.steps (Err refusal) ran.each ran.ends) end.is_at, end.whole (puts_no_gc name given ran.steps ran.each) first.whole),
+          (subst (λ (stored : Stored). IsAt (IsIn among) end.store stored (state new)) (maps_after (IsIn among) name given m ran.steps (Err refusal) ran.each ran.ends) end.is_at, end.whole (puts_no_gc name given ran.steps ran.each) first.whole, enough_after end.changes first.store end.store end.chain first.reserve),
         )
 
     -- what is so of that store
@@ -183,7 +184,7 @@ module _ (C : Type 0) (state : C → CoreState) (v w : DiskView) (old new : C) (
         let here = at.stands.known.1 in
         let holds : IsStoreOf end.0 m.files left = (stands_content (collisions.Stands (IsIn among) end.0 m.files) (state new).disk at.stands left here).holds in
         let room = same_room end.0 m left holds (last_at (IsIn among) end.0 m (state new) at) name in
-        (end.0, (left, was.last.only.content_is ∙ here, holds), at.reserve, each end.0 left at end.1.1 room (at.invariant left here).has_free)
+        (end.0, (left, was.last.only.content_is ∙ here, holds), end.1.2, each end.0 left at end.1.1 room (at.invariant left here).has_free)
 
     right : ¬ (refusal ≡ DiskWrite) → IsRight given m w.content refusal
     right other = subst (λ (content : Option (List ℕ)). IsRight given m content refusal) (sym was.last.only.content_is) (runs_on other).right

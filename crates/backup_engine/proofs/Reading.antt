@@ -8,7 +8,8 @@ use Rattle.dd_io.specs.Flow.{SinkView, AppendedPart}
 use Rattle.refusals.specs.declared.refusal.Refusal.TheVariants.{DiskWrite}
 use Rattle.reply_text.specs.declared.ending.Ending.{Ending}
 use Rattle.reply_text.specs.declared.ending.Ending.TheVariants.{Sink, Refused}
-use Rattle.store_model.specs.Collisions.{HasNoCollisions, ByteSet, IsIn, IsOf}
+use Rattle.store_model.proofs.FreedFiles.{opens_of}
+use Rattle.store_model.specs.Collisions.{ByteSet, HasNoCollisions, IsIn, IsOf, OpensAs}
 use Rattle.store_model.specs.Files.{Files, Stored}
 use Rattle.store_model.specs.Image.{Store, Encodes}
 use Rattle.store_model.specs.Standing.{IsSegmentOf}
@@ -125,7 +126,7 @@ reads_map command given ending v w sink sink_now reads not answers old known amo
     }
 
 -- the map after a `restore` is what it was, however it ended
-restored : (S : List ℕ → Type 0) (name given : List ℕ) (m : Stored) (ending : Option Ending) (image : List ℕ) → IsOf S m image → IsLeftAs S (Restore name) given m ending image
+restored : (S : List ℕ → Type 0) (name given : List ℕ) (m : Stored) (ending : Option Ending) (image : List ℕ) → OpensAs S m image → IsLeftAs S (Restore name) given m ending image
 restored S name given m None image is = is
 restored S name given m (Some Sink) image is = is
 restored S name given m (Some (Refused DiskWrite)) image is = inl is
@@ -137,7 +138,7 @@ pub reads_restore : (name given : List ℕ) (ending : Option Ending) (v w : Disk
 reads_restore name given ending v w sink sink_now reads durable answers old known among m distinct right is =
     let answer = answers old known among m distinct right is in
     let told : w.content ≡ Some old = reads.content_is ∙ known in
-    let left : IsLeftAs (IsIn among) (Restore name) given m ending old = restored (IsIn among) name given m ending old is in
+    let left : IsLeftAs (IsIn among) (Restore name) given m ending old = restored (IsIn among) name given m ending old (opens_of (IsIn among) m old is) in
     record {
       by_map = answer.by_map;
       wrote = answer.wrote;

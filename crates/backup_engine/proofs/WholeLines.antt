@@ -1,21 +1,20 @@
 -- Lines over a store for which room was made, or was there, of all of the call: they are a run of the plain machine.
-use Rattle.std.proofs.Common.{◌≡◌, inl, inr, ◌≤◌, ℕ, Bool, true, false, IsTrue, List, [], ◌∷◌, Option, Some, refl, ◌∙◌, subst, arith}
+use Rattle.std.proofs.Common.{◌≡◌, inl, inr, ◌≤◌, ℕ, IsTrue, List, [], ◌∷◌, Option, Some, refl, ◌∙◌, subst, arith}
 use Rattle.dd_disk.specs.View.{DiskView}
 use Rattle.plain_machine.specs.Machine.{Machine, opened}
 use Rattle.plain_machine.specs.Runs.{IsPassedFrom, MachineRun, Replied}
-use Rattle.plain_machine.specs.Through.{HoldsThrough, IsOfSome, Rise, told_clock}
+use Rattle.plain_machine.specs.Through.{HoldsThrough, Rise, told_clock}
 use Rattle.recovery.specs.Room.{IsNotFull, RoomMade, RoomUnmade}
 use Rattle.refusals.specs.declared.refusal.Refusal.{Refusal}
 use Rattle.reply_text.specs.declared.ending.Ending.{Ending}
 use Rattle.reply_text.specs.declared.ending.Ending.TheVariants.{Refused}
-use Rattle.script_runner.specs.Follows.{IsImageBy}
-use Rattle.script_runner.specs.Scripts.{IsCutBy, reopens}
+use Rattle.script_runner.specs.Scripts.{IsCutBy}
 use Rattle.store_core.specs.Opening.{IsNotRead}
 use Rattle.store_model.specs.Collisions.{ByteSet, IsIn, OpensAs}
 use Rattle.store_model.specs.Files.{Stored}
 use Rattle.store_model.proofs.FreedFiles.{opens_of}
 use Rattle.store_state.specs.Refused.{fails}
-use Rattle.backup_engine.specs.Lines.{RunsBy, RunsByMachine, RunsEachMap, RunsNone}
+use Rattle.backup_engine.specs.Lines.{RunsByMachine, RunsEachMap, RunsNone}
 use Rattle.backup_engine.specs.Promise.{LeavesMeanwhile}
 use Rattle.backup_engine.specs.Script.{FailsAlone}
 use Rattle.backup_engine.specs.Whole.{FailsAloneWhole, RunsEachWhole, RunsNoLine}
@@ -23,9 +22,6 @@ use Rattle.backup_engine.proofs.Reading.{reads_leave}
 use Rattle.backup_engine.proofs.WholeMade.{RunsIfOpened, leaves_on, made_stands, room_leaves, unmade_leaves, unread_fails}
 
 -- ---- a machine's run
-
-more_some : (Is Are : Stored → List ℕ → Type 0) → ((m : Stored) (c : List ℕ) → Is m c → Are m c) → (P : Stored → Type 0) (c : List ℕ) → IsOfSome Is P c → IsOfSome Are P c
-more_some Is Are more P c is = (is.0, (is.1.0, more is.0 c is.1.1))
 
 -- the files of the beginning are passed
 passed_first : (rs : List Replied) (m : Stored) (start : List ℕ) (faults : ℕ) (last : Machine) (run : MachineRun rs (opened m start faults) last) → IsPassedFrom m.last rs (opened m start faults) last run m
@@ -43,29 +39,6 @@ module _ (S : List ℕ → Type 0) (rs : List Replied) (m : Stored) (start : Lis
   -- what a run of the machine over a disk tells, whose count of faults was this
   abbrev Goes : DiskView → DiskView → ℕ → Type 0
   Goes v w faults = (last : Machine) × ((run : MachineRun rs (opened m start faults) last) × ((moments : List ℕ) × HoldsThrough (OpensAs S) moments rs (opened m start faults) last run v w))
-
-  -- an image that has its reserve, or may have to have it made
-  opens_by : (b : Bool) (found : Stored) (image : List ℕ) → IsImageBy b S found image → OpensAs S found image
-  opens_by true found image is = is
-  opens_by false found image is = opens_of S found image is
-
-  pub runs_weaker : (v w : DiskView) → RunsByMachine S rs m start v w → RunsBy (OpensAs S) rs m start v w
-  runs_weaker v w runs =
-      let through = runs.through in
-      record {
-        last = runs.last;
-        run = runs.run;
-        moments = runs.moments;
-        through = record {
-          many = through.many;
-          rise = through.rise;
-          since = λ t c within below image. elim (through.since t c within below image) [ inl was ↦ inl was | inr some ↦ inr (more_some (IsImageBy (reopens rs) S) (OpensAs S) (opens_by (reopens rs)) _ c some) ];
-          crash = λ i t c is below image. more_some (IsImageBy (reopens rs) S) (OpensAs S) (opens_by (reopens rs)) _ c (through.crash i t c is below image);
-          now = λ c image. more_some (IsImageBy (reopens rs) S) (OpensAs S) (opens_by (reopens rs)) _ c (through.now c image);
-          content = through.content;
-          faults = through.faults;
-        };
-      }
 
   module _ (v mid w : DiskView) (later : v.clock ≤ mid.clock) (leaves : LeavesMeanwhile (OpensAs S m) v mid) (faults : ℕ) where
     goes_on : Goes mid w faults → Goes v w faults
@@ -92,7 +65,7 @@ module _ (S : List ℕ → Type 0) (rs : List Replied) (m : Stored) (start : Lis
           ),
         )
 
-  pub runs_earlier : (v mid w : DiskView) → v.clock ≤ mid.clock → mid.faults ≡ v.faults → LeavesMeanwhile (OpensAs S m) v mid → RunsBy (OpensAs S) rs m start mid w → RunsBy (OpensAs S) rs m start v w
+  pub runs_earlier : (v mid w : DiskView) → v.clock ≤ mid.clock → mid.faults ≡ v.faults → LeavesMeanwhile (OpensAs S m) v mid → RunsByMachine S rs m start mid w → RunsByMachine S rs m start v w
   runs_earlier v mid w later same leaves runs =
       let goes = goes_on v mid w later leaves v.faults (subst (Goes mid w) same (runs.last, (runs.run, (runs.moments, runs.through)))) in
       record { last = goes.0; run = goes.1.0; moments = goes.1.1.0; through = goes.1.1.1 }
@@ -116,7 +89,7 @@ module _ (D : Type 0) (view : D → DiskView) (ending : Option Ending) (rs : Lis
     lines_here each image told among m distinct cut opens =
         let can = runs among m image told opens in
         elim (each image told among m distinct (cut image) can) [
-          | inl machine ↦ inl (record { start = image; was = inl told; stands = can; runs = runs_weaker (IsIn among) rs m image v w machine })
+          | inl machine ↦ inl (record { start = image; was = inl told; stands = can; runs = machine })
           | inr none ↦ inr (none_here (IsIn among) m image told opens none)
         ]
 
@@ -154,7 +127,7 @@ module _ (D : Type 0) (view : D → DiskView) (ending : Option Ending) (rs : Lis
             start = there.0;
             was = inr (room, (made, there.1));
             stands = there.2;
-            runs = runs_earlier (IsIn among) rs m there.0 v mid w made.later.clock_is made.faults_are (room_leaves v mid made old told among m opens) (runs_weaker (IsIn among) rs m there.0 mid w machine);
+            runs = runs_earlier (IsIn among) rs m there.0 v mid w made.later.clock_is made.faults_are (room_leaves v mid made old told among m opens) machine;
           })
           | inr none ↦ inr (none_made w among m old told opens none)
         ]

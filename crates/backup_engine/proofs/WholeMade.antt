@@ -1,5 +1,5 @@
 -- A command over a store for which room was made, or was there, of all of the call: what it does to the files that the disk stands for.
-use Rattle.std.proofs.Common.{◌≡◌, ◌⊎◌, inl, inr, ◌≤◌, ℕ, IsTrue, List, Option, Some, None, Err, refl, sym, ◌∙◌, subst, arith}
+use Rattle.std.proofs.Common.{◌≡◌, ◌⊎◌, inl, inr, ◌≤◌, ℕ, IsTrue, List, Option, Some, Err, refl, sym, ◌∙◌, subst, arith}
 use Rattle.base_model.specs.Known.{KnownWith}
 use Rattle.dd_disk.specs.View.{DiskView}
 use Rattle.dd_disk.proofs.Shows.{shown_content}
@@ -21,32 +21,17 @@ use Rattle.store_model.proofs.FreedFiles.{opens_of}
 use Rattle.store_model.proofs.Once.{store_once}
 use Rattle.store_state.specs.Refused.{fails}
 use Rattle.backup_engine.specs.Line.{CommandLine}
-use Rattle.backup_engine.specs.Promise.{IsLeftBy, KeepsEachMap, KeepsMap, LeavesMeanwhile, MayBeBetween, NothingWritten, Stands}
+use Rattle.backup_engine.specs.Promise.{IsLeftAs, KeepsEachMap, KeepsMap, LeavesMeanwhile, MayBeMeanwhile, NothingWritten, Stands}
 use Rattle.backup_engine.specs.Whole.{KeepsEachWhole, KeepsWhole}
 use Rattle.backup_engine.proofs.NotDone.{not_sink}
 use Rattle.backup_engine.proofs.Reading.{reads_leave, wrote_nothing}
 use Rattle.backup_engine.proofs.WholeCall.{leaves_more}
 
--- ---- images that have two closed slots can be opened
-
-more_left : (Is Are : Stored → List ℕ → Type 0) → ((m : Stored) (c : List ℕ) → Is m c → Are m c) → (command : CommandLine) (given : List ℕ) (m : Stored) (ending : Option Ending) (c : List ℕ)
-    → IsLeftBy Is command given m ending c → IsLeftBy Are command given m ending c
-more_left Is Are more command given m None c is = more _ c is
-more_left Is Are more command given m (Some Sink) c is = more _ c is
-more_left Is Are more command given m (Some (Refused DiskWrite)) c (inl is) = inl (more _ c is)
-more_left Is Are more command given m (Some (Refused DiskWrite)) c (inr is) = inr (is.0, more _ c is.1)
-more_left Is Are more command given m (Some ending) c is = more _ c is
-
-more_between : (Is Are : Stored → List ℕ → Type 0) → ((m : Stored) (c : List ℕ) → Is m c → Are m c) → (command : CommandLine) (given : List ℕ) (m : Stored) (ending : Option Ending) (c : List ℕ)
-    → MayBeBetween Is command given m ending c → MayBeBetween Are command given m ending c
-more_between Is Are more command given m ending c (inl is) = inl (more _ c is)
-more_between Is Are more command given m ending c (inr is) = inr (is.0, is.1, more _ c is.2)
-
 -- a map that stays is one that an ending which isn't the command's own may leave
-stays_left : (Is : Stored → List ℕ → Type 0) (command : CommandLine) (given : List ℕ) (m : Stored) (e : Ending) (c : List ℕ) → ¬ (e ≡ Sink) → Is m c → IsLeftBy Is command given m (Some e) c
-stays_left Is command given m Sink c not is = absurd (not refl)
-stays_left Is command given m (Refused DiskWrite) c not is = inl is
-stays_left Is command given m e c not is = is
+stays_left : (S : List ℕ → Type 0) (command : CommandLine) (given : List ℕ) (m : Stored) (e : Ending) (c : List ℕ) → ¬ (e ≡ Sink) → OpensAs S m c → IsLeftAs S command given m (Some e) c
+stays_left S command given m Sink c not is = absurd (not refl)
+stays_left S command given m (Refused DiskWrite) c not is = inl is
+stays_left S command given m e c not is = is
 
 -- ---- two slots or more were closed
 
@@ -63,20 +48,14 @@ read_runs v c read among m image told opens =
 
 module _ (command : CommandLine) (given : List ℕ) (ending : Option Ending) (sink sink_now : SinkView) where
   module _ (v w : DiskView) (runs : RunsIfOpened v) (keeps : KeepsEachMap command given ending v w sink sink_now) where
-    left_here : (S : List ℕ → Type 0) (m : Stored) → Stands (IsLeftBy (IsOf S) command given m ending) w ⊎ NothingWritten ending v w → Stands (IsLeftBy (OpensAs S) command given m ending) w ⊎ NothingWritten ending v w
-    left_here S m (inl stands) =
-        inl ((stands.0.0, stands.0.1, more_left (IsOf S) (OpensAs S) (opens_of S) command given m ending stands.0.0 stands.0.2), λ c image. more_left (IsOf S) (OpensAs S) (opens_of S) command given m ending c (stands.1 c image))
-    left_here S m (inr nothing) = inr nothing
-
     pub whole_here : KeepsEachWhole command given ending v w sink sink_now
     whole_here old told among m distinct segments opens =
         let kept = keeps old told among m distinct segments (runs among m old told opens) in
         record {
           by_map = inl kept.by_map;
           wrote = kept.wrote;
-          left = left_here (IsIn among) m kept.left;
-          crash = leaves_more (MayBeBetween (IsOf (IsIn among)) command given m ending) (MayBeBetween (OpensAs (IsIn among)) command given m ending) v w
-              (more_between (IsOf (IsIn among)) (OpensAs (IsIn among)) (opens_of (IsIn among)) command given m ending) kept.crash;
+          left = kept.left;
+          crash = kept.crash;
         }
 
 -- ---- room was made
@@ -119,12 +98,11 @@ module _ (command : CommandLine) (given : List ℕ) (ending : Option Ending) (si
     abbrev there : KnownWith mid.content (IsOf S m)
     there = made_stands v mid made old told among m opens
 
-    stays : (e : Ending) → ending ≡ Some e → ¬ (e ≡ Sink) → (c : List ℕ) → OpensAs S m c → IsLeftBy (OpensAs S) command given m ending c
-    stays e is not c opens_as = subst (λ (x : Option Ending). IsLeftBy (OpensAs S) command given m x c) (sym is) (stays_left (OpensAs S) command given m e c not opens_as)
+    stays : (e : Ending) → ending ≡ Some e → ¬ (e ≡ Sink) → (c : List ℕ) → OpensAs S m c → IsLeftAs S command given m ending c
+    stays e is not c opens_as = subst (λ (x : Option Ending). IsLeftAs S command given m x c) (sym is) (stays_left S command given m e c not opens_as)
 
-    left_made : Stands (IsLeftBy (IsOf S) command given m ending) w ⊎ NothingWritten ending mid w → Stands (IsLeftBy (OpensAs S) command given m ending) w
-    left_made (inl stands) =
-        ((stands.0.0, stands.0.1, more_left (IsOf S) (OpensAs S) (opens_of S) command given m ending stands.0.0 stands.0.2), λ c image. more_left (IsOf S) (OpensAs S) (opens_of S) command given m ending c (stands.1 c image))
+    left_made : Stands (IsLeftAs S command given m ending) w ⊎ NothingWritten ending mid w → Stands (IsLeftAs S command given m ending) w
+    left_made (inl stands) = stands
     left_made (inr nothing) =
         let e = nothing.not_done in
         let stay = stays e.0 e.1 e.2 in (
@@ -137,10 +115,9 @@ module _ (command : CommandLine) (given : List ℕ) (ending : Option Ending) (si
       by_map = inl kept.by_map;
       wrote = kept.wrote;
       left = inl (left_made kept.left);
-      crash = leaves_on (MayBeBetween (OpensAs S) command given m ending) v mid w made.later.clock_is
-          (leaves_more (OpensAs S m) (MayBeBetween (OpensAs S) command given m ending) v mid (λ c is. inl is) (room_leaves v mid made old told among m opens))
-          (leaves_more (MayBeBetween (IsOf S) command given m ending) (MayBeBetween (OpensAs S) command given m ending) mid w
-          (more_between (IsOf S) (OpensAs S) (opens_of S) command given m ending) kept.crash);
+      crash = leaves_on (MayBeMeanwhile S command given m ending) v mid w made.later.clock_is
+          (leaves_more (OpensAs S m) (MayBeMeanwhile S command given m ending) v mid (λ c is. inl is) (room_leaves v mid made old told among m opens))
+          kept.crash;
     }
 
   pub whole_made : KeepsEachWhole command given ending v w sink sink_now
@@ -187,7 +164,7 @@ module _ (command : CommandLine) (given : List ℕ) (refusal : Refusal) (sink : 
   whole_unmade is old told among m distinct segments opens =
       let files = is.files old told among m opens in
       let content = is.content old told in
-      let left = stays_left (OpensAs (IsIn among)) command given m (Refused refusal) in
+      let left = stays_left (IsIn among) command given m (Refused refusal) in
       record {
         by_map = inr (refusal, (refl, files.0));
         wrote = wrote_nothing command given m (Refused refusal) sink (not_sink refusal);
@@ -195,5 +172,5 @@ module _ (command : CommandLine) (given : List ℕ) (refusal : Refusal) (sink : 
           (content.0, content.1, left content.0 (not_sink refusal) (files.1 content.0 content.2)),
           λ c image. left c (not_sink refusal) (files.1 c (is.images old told c image)),
         );
-        crash = leaves_more (OpensAs (IsIn among) m) (MayBeBetween (OpensAs (IsIn among)) command given m (Some (Refused refusal))) v w (λ c there. inl there) (unmade_leaves refusal v w is old told among m opens);
+        crash = leaves_more (OpensAs (IsIn among) m) (MayBeMeanwhile (IsIn among) command given m (Some (Refused refusal))) v w (λ c there. inl there) (unmade_leaves refusal v w is old told among m opens);
       }

@@ -10,9 +10,8 @@ use Rattle.reply_text.specs.declared.ending.Ending.{Ending}
 use Rattle.reply_text.specs.declared.ending.Ending.TheVariants.{Refused}
 use Rattle.script_lines.specs.Grammar.{LineValue}
 use Rattle.script_lines.specs.ReplyText.{reply_line}
-use Rattle.script_runner.specs.Follows.{IsImageBy}
-use Rattle.script_runner.specs.Scripts.{IsCutBy, reopens}
-use Rattle.store_model.specs.Collisions.{HasNoCollisions, ByteSet, IsIn, IsOf}
+use Rattle.script_runner.specs.Scripts.{IsCutBy}
+use Rattle.store_model.specs.Collisions.{HasNoCollisions, ByteSet, IsIn, IsOf, OpensAs}
 use Rattle.store_model.specs.Files.{Stored}
 use Rattle.store_state.specs.Refused.{fails}
 
@@ -27,16 +26,12 @@ printed [] = []
 printed (one ∷ more) = reply_line one.reply ++ printed more
 
 -- The lines, with these replies, are a run of the machine that was opened with these files, over this content. The disk is then as
--- the machine's run says, and so is what a crash leaves at any moment. `Is` says what it is for an image to be of files.
-pub record RunsBy (Is : Stored → List ℕ → Type 0) (rs : List Replied) (m : Stored) (image : List ℕ) (disk disk_now : DiskView) : Type 0 where
+-- the machine's run says, and so is what a crash leaves at any moment, by the files as which an image can be opened.
+pub record RunsByMachine (S : List ℕ → Type 0) (rs : List Replied) (m : Stored) (image : List ℕ) (disk disk_now : DiskView) : Type 0 where
   pub last : Machine
   pub run : MachineRun rs (opened m image disk.faults) last
   pub moments : List ℕ
-  pub through : HoldsThrough Is moments rs (opened m image disk.faults) last run disk disk_now
-
--- The same, of images of stores that have their reserve; where the store is opened again between them, it may have to be made.
-abbrev pub RunsByMachine : (List ℕ → Type 0) → List Replied → Stored → List ℕ → DiskView → DiskView → Type 0
-RunsByMachine S rs m image disk disk_now = RunsBy (IsImageBy (reopens rs) S) rs m image disk disk_now
+  pub through : HoldsThrough (OpensAs S) moments rs (opened m image disk.faults) last run disk disk_now
 
 -- No line was run: there was no memory, or a call of the disk failed, as the store was opened. Nothing was written.
 pub record RunsNone (ending : Option Ending) (rs : List Replied) (disk disk_now : DiskView) : Type 0 where

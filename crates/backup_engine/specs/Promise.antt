@@ -12,7 +12,7 @@ use Rattle.refusals.specs.declared.refusal.Refusal.TheVariants.{DiskWrite, Clash
 use Rattle.reply_text.specs.declared.ending.Ending.{Ending}
 use Rattle.reply_text.specs.declared.ending.Ending.TheVariants.{Words, Source, Sink, Line, Script, Refused}
 use Rattle.reply_text.specs.Text.{stored_line, deleted_line, listing_text}
-use Rattle.store_model.specs.Collisions.{HasNoCollisions, ByteSet, IsIn, IsOf}
+use Rattle.store_model.specs.Collisions.{HasNoCollisions, ByteSet, IsIn, IsOf, OpensAs}
 use Rattle.store_model.specs.Files.{Files, Stored}
 use Rattle.store_model.specs.Image.{Store, Encodes}
 use Rattle.store_model.specs.Pieces.{Node, IsPieceOf}
@@ -114,24 +114,19 @@ GivesSlotsBack command ending files store old content sink sink_now = Unit {0}
 
 -- ---- what is left
 
--- At the end, in what reads give and in each image that a crash leaves then: the map as it was, or as it is after the command, where that
--- could be done. `Is` says what it is for an image to be of a map.
-abbrev pub IsLeftBy : (Stored → List ℕ → Type 0) → CommandLine → List ℕ → Stored → Option Ending → List ℕ → Type 0
-IsLeftBy Is command given m None image = Is (map_after command given m) image
-IsLeftBy Is command given m (Some Sink) image = Is (map_after command given m) image
-IsLeftBy Is command given m (Some (Refused DiskWrite)) image = Is m image ⊎ (CanBeDone command given m × Is (map_after command given m) image)
-IsLeftBy Is command given m (Some ending) image = Is m image
+-- As what the content, and each image that a crash leaves, can be opened at the end: the map as it was, or as it is after the command, where
+-- that could be done.
+abbrev pub IsLeftAs : (List ℕ → Type 0) → CommandLine → List ℕ → Stored → Option Ending → List ℕ → Type 0
+IsLeftAs S command given m None image = OpensAs S (map_after command given m) image
+IsLeftAs S command given m (Some Sink) image = OpensAs S (map_after command given m) image
+IsLeftAs S command given m (Some (Refused DiskWrite)) image =
+    OpensAs S m image ⊎ (CanBeDone command given m × OpensAs S (map_after command given m) image)
+IsLeftAs S command given m (Some ending) image = OpensAs S m image
 
 -- what a crash may leave at any moment of the command
-abbrev pub MayBeBetween : (Stored → List ℕ → Type 0) → CommandLine → List ℕ → Stored → Option Ending → List ℕ → Type 0
-MayBeBetween Is command given m ending image = Is m image ⊎ (MayChange ending × CanBeDone command given m × Is (map_after command given m) image)
-
--- the same, of images with two closed slots or more
-abbrev pub IsLeftAs : (List ℕ → Type 0) → CommandLine → List ℕ → Stored → Option Ending → List ℕ → Type 0
-IsLeftAs S command given m ending image = IsLeftBy (IsOf S) command given m ending image
-
 abbrev pub MayBeMeanwhile : (List ℕ → Type 0) → CommandLine → List ℕ → Stored → Option Ending → List ℕ → Type 0
-MayBeMeanwhile S command given m ending image = MayBeBetween (IsOf S) command given m ending image
+MayBeMeanwhile S command given m ending image =
+    OpensAs S m image ⊎ (MayChange ending × CanBeDone command given m × OpensAs S (map_after command given m) image)
 
 -- what a crash at the end may leave, or might have left at a moment since the call began
 abbrev pub SinceStart : DiskView → DiskView → List ℕ → Type 0
@@ -153,9 +148,9 @@ pub record NothingWritten (ending : Option Ending) (disk disk_now : DiskView) : 
   pub content : disk_now.content ≡ disk.content
   pub images : (c : List ℕ) → disk_now.images c → disk.images c
 
--- Over a content that is a store of the map m, with two closed slots or more, the command answers by the map, and leaves it as it was or as it is after
--- the command, at the end and at every moment before, but for what a crash might have left before it. (Where room has to be made first,
--- it is so from then on; Whole.antt has the call from its beginning.)
+-- Over a content that is a store of the map m, with two closed slots or more, the command answers by the map, and leaves what can be opened
+-- as the map as it was or as it is after the command, at the end and at every moment before, but for what a crash might have left before
+-- it. (Where room has to be made first, it is so from then on; Whole.antt has the call from its beginning.)
 pub record KeepsMap (S : List ℕ → Type 0) (command : CommandLine) (given : List ℕ) (ending : Option Ending) (m : Stored)
     (disk disk_now : DiskView) (sink sink_now : SinkView) : Type 0 where
   pub by_map : EndsBy command given m disk_now.content ending

@@ -16,8 +16,8 @@ use Rattle.store_model.specs.Files.{Stored}
 use Rattle.store_model.specs.Standing.{IsSegmentOf}
 use Rattle.store_state.specs.Refused.{fails}
 use Rattle.backup_engine.specs.Line.{CommandLine}
-use Rattle.backup_engine.specs.Lines.{RunsBy}
-use Rattle.backup_engine.specs.Promise.{EndsBy, IsLeftBy, LeavesMeanwhile, MayBeBetween, NothingWritten, Stands, Wrote}
+use Rattle.backup_engine.specs.Lines.{RunsByMachine}
+use Rattle.backup_engine.specs.Promise.{EndsBy, IsLeftAs, LeavesMeanwhile, MayBeMeanwhile, NothingWritten, Stands, Wrote}
 
 -- it was not done, as there was no memory, or a call of the disk failed
 abbrev pub EndsFailing : Option Ending → Type 0
@@ -32,8 +32,8 @@ pub record KeepsWhole (S : List ℕ → Type 0) (command : CommandLine) (given :
     (disk disk_now : DiskView) (sink sink_now : SinkView) : Type 0 where
   pub by_map : EndsBy command given m disk_now.content ending ⊎ EndsFailing ending
   pub wrote : Wrote command given m ending sink sink_now
-  pub left : Stands (IsLeftBy (OpensAs S) command given m ending) disk_now ⊎ NothingWritten ending disk disk_now
-  pub crash : LeavesMeanwhile (MayBeBetween (OpensAs S) command given m ending) disk disk_now
+  pub left : Stands (IsLeftAs S command given m ending) disk_now ⊎ NothingWritten ending disk disk_now
+  pub crash : LeavesMeanwhile (MayBeMeanwhile S command given m ending) disk disk_now
 
 -- It holds where no two different data segments have one digest: of a set of those that the disk holds and is given.
 abbrev pub KeepsEachWhole : CommandLine → List ℕ → Option Ending → DiskView → DiskView → SinkView → SinkView → Type 0
@@ -63,7 +63,7 @@ pub record RunsFrom (D : Type 0) (view : D → DiskView) (S : List ℕ → Type 
   pub start : List ℕ
   pub was : WasStart D view start disk
   pub stands : IsOf S m start
-  pub runs : RunsBy (OpensAs S) rs m start disk disk_now
+  pub runs : RunsByMachine S rs m start disk disk_now
 
 -- So it is over a disk that tells its content and can be opened as files, where no two different data segments have one digest: of a set
 -- of those that the disk holds and that are cut on the way.

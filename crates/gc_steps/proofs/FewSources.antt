@@ -1,11 +1,7 @@
 -- No more sources are chosen than containers were there, and a seal brings no such container.
 use Rattle.std.proofs.Common.{◌≡◌, ◌⊎◌, inl, inr, ◌<◌, ◌≤◌, ◌+◌, ◌-◌, ℕ, suc, Bool, true, false, List, [], ◌∷◌, length, get_or, Option, Vec, Global, refl, sym, ◌∙◌, ap, subst, arith}
-use Rattle.std.specs.Prelude.{if◌then◌else◌, filter, nat_lt}
-use Rattle.std.proofs.lemmas.List.{take_all}
-use Rattle.std.proofs.lemmas.List.Sorted.{length_permutation}
+use Rattle.std.specs.Prelude.{if◌then◌else◌, filter}
 use Rattle.container_meta.specs.Spelling.{HeaderValue}
-use Rattle.gc_select.specs.declared.liveness.ContainerLiveness.{ContainerLiveness}
-use Rattle.gc_select.specs.Selecting.{ids_of, is_selected, selected}
 use Rattle.store_model.specs.Slots.{with_slot}
 use Rattle.store_state.specs.Tables.{IsFirstFree, RepresentsSlots}
 use Rattle.store_state.specs.declared.slot_table.SlotTable.{SlotTable}

@@ -10,8 +10,8 @@ pub mod FirstStage
 pub mod FoundNodes
 pub mod FreshMarks
 pub mod GainedPins
-pub mod GivenBack
 pub mod ListedKeys
+pub mod MakesSteps
 pub mod MapKept
 pub mod Marked
 pub mod MarkedAll
@@ -19,7 +19,6 @@ pub mod Nearer
 pub mod Needed
 pub mod NeededKeys
 pub mod NextStage
-pub mod NoDamage
 pub mod NoNearer
 pub mod NoneMissing
 pub mod OtherSteps
@@ -35,12 +34,9 @@ pub mod Scanned
 pub mod Scans
 pub mod Sealed
 pub mod SealedPins
-pub mod Sparing
-pub mod SparingStages
 pub mod Started
 pub mod StepSafe
 pub mod SweepSteps
-pub mod Swept
 pub mod TablesRun
 pub mod UnderWay
 pub mod Unseen

@@ -1,19 +1,18 @@
 -- What a step of the sweep does to the whole collection.
-use Rattle.std.proofs.Common.{◌≡◌, ℕ, ◌+◌, ◌<◌, ◌≤◌, List, length, Option, Some, None, refl, sym, ◌∙◌, ap, subst, arith}
+use Rattle.std.proofs.Common.{◌≡◌, ℕ, ◌<◌, Option, Some, None, refl, sym, ◌∙◌, ap, subst, arith}
 use Rattle.base_model.specs.Known.{Known}
 use Rattle.container_meta.specs.Places.{PlaceMap}
 use Rattle.copy_forward.specs.Copying.{Forgets}
 use Rattle.copy_forward.specs.declared.plan.Plan.{Plan}
-use Rattle.copy_forward.specs.Entries.{MapStays, without_keys}
+use Rattle.copy_forward.specs.Entries.{MapStays}
 use Rattle.dd_disk.specs.Ending.{Ending}
 use Rattle.dd_disk.specs.View.{DiskView, IsDurable}
 use Rattle.disk_format.specs.Layout.{size_of, slot_at}
-use Rattle.ingest_steps.specs.Sealing.{HasPlacesOf, places_with}
+use Rattle.ingest_steps.specs.Sealing.{places_with}
 use Rattle.refusals.specs.declared.refusal.Phase.TheVariants as phases
 use Rattle.refusals.specs.declared.refusal.Refusal.{Refusal}
 use Rattle.segment_index.specs.Changes.{Changes}
 use Rattle.segment_index.specs.Places.{KnownMap}
-use Rattle.store_model.proofs.Copies.{some_same}
 use Rattle.store_state.specs.Tables.{Runs}
 use Rattle.store_state.specs.declared.tables.Tables.{Tables}
 use Rattle.gc_sweep.specs.declared.sweep.Next.{Next}
@@ -22,7 +21,7 @@ use Rattle.gc_sweep.specs.declared.sweep.Sweep.{Sweep as SweepValue}
 use Rattle.gc_sweep.specs.Copying.{CopiesSource, IsCopyStepRefusal}
 use Rattle.gc_sweep.specs.Flushing.{HasFlushed, WritesCopies}
 use Rattle.gc_sweep.specs.InTurn.{HasReleased, slot_in_turn}
-use Rattle.gc_sweep.specs.Releasing.{ChangesGateAlone, HasFreed}
+use Rattle.gc_sweep.specs.Releasing.{HasFreed}
 use Rattle.gc_sweep.specs.StepsLeft.{steps_left}
 use Rattle.gc_sweep.specs.UnderWay.{IsSweeping}
 use Rattle.gc_sweep.proofs.Nears.{copy_nears, flush_nears, release_nears}
@@ -30,7 +29,7 @@ use Rattle.gc_steps.specs.declared.collection.Collection.{Collection}
 use Rattle.gc_steps.specs.declared.collection.Stage.{Stage}
 use Rattle.gc_steps.specs.declared.collection.Stage.TheVariants.{Sweep}
 use Rattle.gc_steps.specs.declared.phase.StepDone.TheVariants.{Did}
-use Rattle.gc_steps.specs.Stepping.{GoesBy, IsStepRefusal, Keeps, Makes, Moment, Refuses, RunsOn, StepsTo, TablesAfter, Touches, answer_at, answer_of, moment, phase_at}
+use Rattle.gc_steps.specs.Stepping.{GoesBy, IsStepRefusal, Keeps, Makes, Moment, Refuses, RunsOn, StepsTo, TablesAfter, Touches, answer_at, answer_of, moment}
 use Rattle.gc_steps.specs.StepsToCome.{steps_to_come}
 use Rattle.gc_steps.specs.UnderWay.{IsUnderWay}
 use Rattle.gc_steps.proofs.Nearer.{fewer_to_sweep}
@@ -48,9 +47,9 @@ module _ (c : Collection) (stage : c.stage ≡ Sweep) (next : Next) (next_is : c
 
   answers : answer_at Sweep next c.sweep.freed c.sweep.copied ≡ answer_of c
   answers = sym (
-    ap (λ (s : Stage). answer_at s c.sweep.next c.sweep.freed c.sweep.copied) stage
-    ∙ ap (λ (n : Next). answer_at Sweep n c.sweep.freed c.sweep.copied) next_is
-  )
+      ap (λ (s : Stage). answer_at s c.sweep.next c.sweep.freed c.sweep.copied) stage
+      ∙ ap (λ (n : Next). answer_at Sweep n c.sweep.freed c.sweep.copied) next_is
+      )
 
 module _ (t u : Tables) (known now : Option PlaceMap) (old new : DiskView) (c : Collection) (s : SweepValue) (source entry : ℕ) (stage : c.stage ≡ Sweep) (under : IsUnderWay t.held c) where
   abbrev before : Moment

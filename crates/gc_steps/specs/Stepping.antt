@@ -87,7 +87,7 @@ StepsTo (Filter slot) next old new =
 StepsTo Select next old new = Chooses old.tables.held old.collection new.collection × (new.known ≡ old.known)
 StepsTo Sweep (Copy source entry) old new =
     CopiesSource old.tables.held old.collection.live old.known new.known old.disk new.disk source entry old.collection.sweep
-        new.collection.sweep × SweepsOn old new
+    new.collection.sweep × SweepsOn old new
 StepsTo Sweep (Flush source entry) old new = Flushes source entry old new
 StepsTo Sweep (Release source entry) old new =
     HasReleased new.tables.held source entry old.collection.sweep new.collection.sweep × SweepsOn old new

@@ -9,7 +9,7 @@ use Rattle.merkle_file.specs.Node.{Contents}
 use Rattle.store_model.specs.Image.{Store, names_of}
 use Rattle.store_model.specs.Slots.{Copy}
 use Rattle.store_model.specs.Trees.{node_key}
-use Rattle.gc_sweep.specs.Holding.{HoldsSweep, IsLive}
+use Rattle.gc_sweep.specs.Holding.{HoldsSweep, IsLive, SourcesStand}
 use Rattle.gc_steps.specs.declared.collection.Collection.{Collection}
 use Rattle.gc_steps.specs.declared.collection.Stage.{Stage}
 use Rattle.gc_steps.specs.declared.collection.Stage.TheVariants.{Sweep}
@@ -19,7 +19,7 @@ use Rattle.gc_steps.specs.Roots.{IsRoot}
 
 -- what holds of the sweep, once it has begun
 abbrev pub HoldsAt : Stage → PlaceMap → List (Option HeaderValue) → List ℕ → Collection → Type 0
-HoldsAt Sweep index held image c = HoldsSweep index held image c.live c.snapshot c.sweep
+HoldsAt Sweep index held image c = SourcesStand held c.snapshot c.sweep × HoldsSweep index held image c.live c.snapshot c.sweep
 HoldsAt stage index held image c = Unit {0}
 
 -- The roots of names and readers and all pins are live, so the index has them; the children of each live node are live. So each key that is

@@ -13,16 +13,14 @@ use Rattle.copy_forward.specs.Entries.{is_copy}
 use Rattle.gc_enumerate.specs.Live.{LiveKeys}
 use Rattle.store_model.specs.Indexing.{entry_key}
 use Rattle.store_model.specs.Slots.{place_of}
-use Rattle.store_state.specs.Tables.{RepresentsSlots}
-use Rattle.store_state.specs.declared.slot_table.SlotTable.{SlotTable}
 use Rattle.gc_sweep.specs.declared.sweep.Sweep.{Sweep}
-use Rattle.gc_sweep.specs.Holding.{AreCopied, GoesOnBeside, HoldsSweep, IsCopied, IsHalfCopied, IsOrigin}
-use Rattle.gc_sweep.specs.UnderWay.{IsSweeping, entry_in, sources_before}
-use Rattle.gc_sweep.proofs.InSlots.{at_copy, copy_at, half_within, one_header, source_old, stands_in}
+use Rattle.gc_sweep.specs.Holding.{AreCopied, GoesOnBeside, HoldsSweep, IsCopied, IsHalfCopied, IsOrigin, SourcesStand}
+use Rattle.gc_sweep.specs.UnderWay.{entry_in, sources_before}
+use Rattle.gc_sweep.proofs.InSlots.{at_copy, copy_at, one_header}
 use Rattle.gc_sweep.proofs.KeyLists.{each_so}
 
-module _ (t : SlotTable) (index later : PlaceMap) (held held_now : List (Option HeaderValue)) (image now : List ℕ) (live live_now : LiveKeys) (snapshot : ℕ) (s : Sweep) (slots : RepresentsSlots held t)
-    (under : IsSweeping t snapshot s) (beside : GoesOnBeside index later held held_now image now live live_now snapshot) where
+module _ (index later : PlaceMap) (held held_now : List (Option HeaderValue)) (image now : List ℕ) (live live_now : LiveKeys) (snapshot : ℕ) (s : Sweep) (sources : SourcesStand held snapshot s)
+    (beside : GoesOnBeside index later held held_now image now live live_now snapshot) where
   -- what the index has now in a slot of a container of before it had
   had_in : (slot : ℕ) (h : HeaderValue) → slice_get held slot ≡ Some (Some h) → h.id < snapshot → (key : List ℕ) (place : Place) → finite.get later key ≡ Some place → place.slot ≡ slot
       → finite.get index key ≡ Some place
@@ -32,11 +30,11 @@ module _ (t : SlotTable) (index later : PlaceMap) (held held_now : List (Option 
   ]
 
   had_waiting : (slot : ℕ) → Contains (s.waiting.items ++ s.ready.items) slot → (key : List ℕ) (place : Place) → finite.get later key ≡ Some place → place.slot ≡ slot → finite.get index key ≡ Some place
-  had_waiting slot there = let stands = stands_in held t snapshot s under slots slot there in had_in slot stands.header stands.there stands.old
+  had_waiting slot there = let stands = sources.stand slot there in had_in slot stands.0 stands.1.0 stands.1.1
 
   -- a source that goes on stands where it stood
   half_old : (slot : ℕ) (h : HeaderValue) → IsHalfCopied held_now s slot h → h.id < snapshot
-  half_old slot h half = omega (arith, half.id_is, (source_old held t snapshot s under (sources_before s s.next) (half_within held t snapshot s under half.some)).1)
+  half_old slot h half = omega (arith, half.id_is, sources.old (sources_before s s.next) (sources.within half.some))
 
   half_before : (slot : ℕ) (h : HeaderValue) → IsHalfCopied held_now s slot h → IsHalfCopied held s slot h
   half_before slot h half = record { some = half.some; there = beside.stood slot h half.there (half_old slot h half); id_is = half.id_is }
@@ -75,5 +73,15 @@ module _ (t : SlotTable) (index later : PlaceMap) (held held_now : List (Option 
         let so = holds.half slot h was in
         (so.0, copied_on slot h (has_key s.buffer) (entry_in s.next) was.there (half_old slot h half) so.1);
     none_lost = λ slot number h there below id_is.
-        holds.none_lost slot number h (beside.stood slot h there (omega (arith, id_is, (source_old held t snapshot s under number (omega (arith, below, under.before))).1))) below id_is;
+        holds.none_lost slot number h (beside.stood slot h there (omega (arith, id_is, sources.old number (omega (arith, below, sources.before))))) below id_is;
   }
+
+-- and so do its sources
+pub stand_beside : (held held_now : List (Option HeaderValue)) (snapshot : ℕ) (s : Sweep) → ((slot : ℕ) (h : HeaderValue) → slice_get held slot ≡ Some (Some h) → slice_get held_now slot ≡ Some (Some h))
+    → SourcesStand held snapshot s → SourcesStand held_now snapshot s
+stand_beside held held_now snapshot s stays sources = record {
+  old = sources.old;
+  before = sources.before;
+  within = sources.within;
+  stand = λ slot there. let was = sources.stand slot there in (was.0, (stays slot was.0 was.1.0, was.1.1));
+}

@@ -27,7 +27,7 @@ use Rattle.copy_forward.proofs.OnePlace.{place_same, same_place}
 use Rattle.gc_sweep.specs.declared.sweep.Next.{Next}
 use Rattle.gc_sweep.specs.declared.sweep.Next.TheVariants.{Copy as CopyNext, Flush, Release, End}
 use Rattle.gc_sweep.specs.declared.sweep.Sweep.{Sweep}
-use Rattle.gc_sweep.specs.Holding.{IsLive}
+use Rattle.gc_sweep.specs.Holding.{IsLive, SourcesStand}
 use Rattle.gc_sweep.specs.Next.{kind_in}
 use Rattle.gc_sweep.specs.UnderWay.{HasNext, IsSweeping, IsTaken, entry_in, is_old, sources_before}
 use Rattle.gc_sweep.proofs.Released.{open_slot}
@@ -132,6 +132,14 @@ module _ (held : List (Option HeaderValue)) (t : SlotTable) (snapshot : ℕ) (s 
 
     pub stands_in : (slot : ℕ) → Contains (s.waiting.items ++ s.ready.items) slot → IsSourceIn held snapshot s.sources.items (sources_before s s.next) slot
     stands_in slot there = taken_in slot (of_each (IsTaken t s.sources.items (sources_before s s.next)) (s.waiting.items ++ s.ready.items) slot under.taken there)
+
+    pub sources_stand : SourcesStand held snapshot s
+    sources_stand = record {
+      old = λ number within. (source_old number within).1;
+      before = under.before;
+      within = half_within;
+      stand = λ slot there. let is = stands_in slot there in (is.header, (is.there, is.old));
+    }
 
 -- ---- the index
 

@@ -1,8 +1,8 @@
 -- What a step of a sweep leaves of the running store, over a disk that tells its content: its invariant goes on, and no live key is lost.
-use Rattle.std.proofs.Common.{◌≡◌, ◌⊎◌, inl, inr, ℕ, ◌+◌, ◌<◌, ◌≤◌, List, length, Option, Some, None, refl, sym, ◌∙◌, ap, subst, arith}
+use Rattle.std.proofs.Common.{◌≡◌, ◌⊎◌, inl, inr, ℕ, zero, suc, ◌+◌, ◌<◌, ◌≤◌, List, [], ◌∷◌, length, map, Option, Some, None, refl, sym, ◌∙◌, ap, subst, arith}
 use Rattle.std.specs.Prelude.{slice_get}
 use Rattle.std.specs.FinMap as finite
-use Rattle.std.specs.List.{AllByRecursion}
+use Rattle.std.specs.List.{AllByRecursion, Contains}
 use Rattle.actor_parts.specs.declared.part.Part.{Part}
 use Rattle.container_meta.specs.declared.kind.Kind.{Kind}
 use Rattle.container_meta.specs.declared.place.Place.{Place}
@@ -33,7 +33,7 @@ use Rattle.store_state.specs.Tables.{Represents}
 use Rattle.store_state.specs.declared.tables.Tables.{Tables}
 use Rattle.store_state.proofs.Parts.{parts_kept}
 use Rattle.gc_sweep.specs.Flushing.{WritesCopies}
-use Rattle.gc_sweep.specs.Holding.{IsLive}
+use Rattle.gc_sweep.specs.Holding.{IsCopied, IsLive}
 use Rattle.gc_sweep.specs.Releasing.{GivesBack, HasFreed, HasNoEntryIn}
 use Rattle.gc_sweep.proofs.Released.{none_held}
 
@@ -41,6 +41,13 @@ use Rattle.gc_sweep.proofs.Released.{none_held}
 marked : (live : LiveKeys) (key : List ℕ) (at other : Place) → IsLiveAt live key at → IsLiveAt live key other
 unfolding IsLiveAt
 marked live key at other is = is
+
+-- each key that was copied is live
+pub live_keys : (index : PlaceMap) (live : LiveKeys) (held : List (Option HeaderValue)) (image : List ℕ) (kind : Kind) (xs : List Segment) → AllByRecursion (IsCopied index live held image kind) xs → (key : List ℕ)
+    → Contains (map (segment_key kind) xs) key → IsLive index live key
+live_keys index live held image kind [] all key there = absurd (omega (arith, there.1))
+live_keys index live held image kind (x ∷ xs) all key (zero, within, is) = subst (IsLive index live) is all.0.is_live
+live_keys index live held image kind (x ∷ xs) all key (suc k, within, is) = live_keys index live held image kind xs all.1 key (k, omega (arith, within), is)
 
 -- The tables are those of a store of the same files, and the map of the index is its; the invariant goes on. Just the same keys are live, and
 -- their newest copies are what they were.

@@ -50,6 +50,14 @@ abbrev pub AreCopied : (List ℕ → Bool) → PlaceMap → ℕ → HeaderValue 
 AreCopied test index slot h count =
     AllByRecursion (λ e. is_copy index h.kind slot e ≡ true → test (entry_key h.kind e) ≡ true) (take count h.entries)
 
+-- Each source came before the collection began; one that waits or is ready stands in its slot still.
+pub record SourcesStand (held : List (Option HeaderValue)) (snapshot : ℕ) (s : Sweep) : Type 0 where
+  pub old : (number : ℕ) → number < length s.sources.items → get_or s.sources.items number 0 < snapshot
+  pub before : sources_before s s.next ≤ length s.sources.items
+  pub within : 0 < entry_in s.next → sources_before s s.next < length s.sources.items
+  pub stand : (slot : ℕ) → Contains (s.waiting.items ++ s.ready.items) slot
+      → (h : HeaderValue) × ((slice_get held slot ≡ Some (Some h)) × (h.id < snapshot))
+
 -- What was copied is live, and is what the store holds; no key was copied twice, and the index has each in one of the sources that it came
 -- from, or in a newer container. What the index has of a source that waits was copied, as what it has of the first entries of one that was
 -- copied in part; of a source that is ready it has nothing. And each source that came to its end and stands still waits or is ready.

@@ -1,20 +1,16 @@
-use Rattle.std.proofs.Common.{rules, ◌≡◌, ◌≤◌, ℕ, length, IfOk, IfErr, ◌+◌, ◌-◌, ◌*◌, ◌<◌, ◌/◌, ◌%◌, Bool, true, false, nat_eq, nat_lt, List, [], ◌∷◌, ◌++◌, slice_index_or, slice_set, bit_and, bit_or, Fits, w8, w32, w64, Bor, MutBor}
-use Rattle.dd_disk.specs.Ending.{ending}
-use Rattle.disk_format.specs.declared.numbers.TheConstants.{MOST_SEGMENT}
-use Rattle.store_state.specs.Refused.{blames}
-use Rattle.store_state.specs.Tables.{Runs}
-use Rattle.gc_sweep.specs.declared.sweep.Next.TheVariants.{Release as ReleaseNext}
-use Rattle.gc_steps.specs.Stepping.{GoesBy, Makes, Refuses, moment}
-use Rattle.gc_steps.specs.UnderWay.{IsUnderWay}
-use Rattle.gc_steps.specs.declared.collection.Stage.TheVariants.{Sweep as SweepStage}
+use Rattle.gc_steps.proofs.MakesSteps.{mark_made, record_made}
 use Rattle.gc_steps.proofs.stepping.step.Goals as goal
 
--- src/stepping.rt:27:1
-pub returns-in_ok-mark_container-in-Mark-clause-made :
-    goal.returns-in_ok-mark_container-in-Mark-clause-made
-returns-in_ok-mark_container-in-Mark-clause-made g c = ?
+pub returns-in_ok-mark_container-in-Mark-clause-made : goal.returns-in_ok-mark_container-in-Mark-clause-made
+returns-in_ok-mark_container-in-Mark-clause-made g c =
+    let view = g.D.Disk.view in
+    let did = c.in_ok-mark_container-in-Mark.ensures in
+    mark_made c.args.tables.now (g.X.Index.places c.args.index.now (view c.args.disk.now).content) (g.X.Index.places c.mark_container.new.index (view c.mark_container.new.disk).content)
+    (view c.args.disk.now) (view c.mark_container.new.disk) c.args.collection.now c.mark_container.new.collection c.requires.under_way did.reads.only.later.size_is did.map c.in-Mark.level c.in-Mark.slot c.in-Mark.is did.ok
 
--- src/stepping.rt:27:1
-pub returns-in_ok-record_container-in-Filter-clause-made :
-    goal.returns-in_ok-record_container-in-Filter-clause-made
-returns-in_ok-record_container-in-Filter-clause-made g c = ?
+pub returns-in_ok-record_container-in-Filter-clause-made : goal.returns-in_ok-record_container-in-Filter-clause-made
+returns-in_ok-record_container-in-Filter-clause-made g c =
+    let view = g.D.Disk.view in
+    let did = c.in_ok-record_container-in-Filter.ensures in
+    record_made c.args.tables.now (g.X.Index.places c.args.index.now (view c.args.disk.now).content) (g.X.Index.places c.record_container.new.index (view c.record_container.new.disk).content)
+    (view c.args.disk.now) (view c.record_container.new.disk) c.args.collection.now c.record_container.new.collection c.requires.under_way did.reads.only.later.size_is did.map c.in-Filter.slot c.in-Filter.is did.ok

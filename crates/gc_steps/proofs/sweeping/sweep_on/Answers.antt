@@ -1,8 +1,10 @@
-use Rattle.std.proofs.Common.{ap, arith, refl, sym, ◌∙◌}
+use Rattle.std.proofs.Common.{None, arith, refl}
+use Rattle.base_model.proofs.Outcome.{passed_on}
+use Rattle.gc_sweep.specs.InTurn.{slot_in_turn}
+use Rattle.gc_sweep.proofs.Freed.{slot_within}
 use Rattle.dd_disk.specs.Ending.{Done, ending_of}
 use Rattle.dd_disk.proofs.Moves.{passed}
 use Rattle.store_state.specs.Refused.{blames}
-use Rattle.gc_steps.specs.declared.collection.Collection.{Collection}
 use Rattle.gc_steps.specs.declared.collection.Stage.TheVariants.{Sweep}
 use Rattle.gc_steps.specs.Stepping.{GoesBy, Refuses, moment}
 use Rattle.gc_steps.proofs.MapKept.{map_kept}
@@ -17,7 +19,7 @@ returns-in_err-copy_source-in-Copy-clause-refused g c =
     let after = moment c.args.tables.now (g.X.Index.places c.copy_source.new.index (view c.copy_source.new.disk).content) (view c.copy_source.new.disk) (swept c.args.collection.now c.copy_source.new.sweep) in
     let did = c.in_err-copy_source-in-Copy.ensures in
     let runs = c.requires.runs.1 in
-    err_with (Refuses before after) c.from_residual.result c.in_err-copy_source-in-Copy.field-0.0 c.from_residual.ensures.1
+    passed_on c.from_residual.result (Refuses before after) c.in_err-copy_source-in-Copy.field-0.0 c.from_residual.ensures.1
     (copy_refused c.args.tables.now c.args.tables.now (g.X.Index.places c.args.index.now (view c.args.disk.now).content) (g.X.Index.places c.copy_source.new.index (view c.copy_source.new.disk).content)
     (view c.args.disk.now) (view c.copy_source.new.disk) c.args.collection.now c.copy_source.new.sweep c.in-Copy.source c.in-Copy.entry c.requires.stage c.requires.under_way c.in-Copy.is refl
     (did.changes runs.store.slots runs.valid.size_is).later.size_is c.in_err-copy_source-in-Copy.field-0.0 did.unchanged did.refused did.kept)
@@ -82,7 +84,7 @@ returns-in_ok-release_source-in-Release-clause-made g c =
     release_made c.args.tables.now c.release_source.new.tables (places old.content) (places new.content) old new now c.release_source.new.sweep c.in-Release.source c.in-Release.entry c.requires.stage c.requires.under_way c.in-Release.is
     did.disk.later.size_is did.tables did.sweep did.durable
     (λ given content. map_kept places (g.X.Index.owned_from index) (g.met.X.Index.places_stay index) (g.X.Index.serves index) (g.met.X.Index.owns_no_slot index) c.requires.runs.0 c.args.tables.now (slot_in_turn now.sweep)
-    old new c.requires.runs.1 (turn_within c.args.tables.now.held now.snapshot now.sweep c.in-Release.source c.in-Release.entry sweeping c.in-Release.is) c.requires.serves given content (did.frame.content refl given content))
+    old new c.requires.runs.1 (slot_within c.in-Release.source c.in-Release.entry now.snapshot c.args.tables.now now.sweep c.in-Release.is sweeping) c.requires.serves given content (did.frame.content refl given content))
 
 pub returns-in_ok-release_source-in-Release-clause-under_way : goal.returns-in_ok-release_source-in-Release-clause-under_way
 returns-in_ok-release_source-in-Release-clause-under_way g c =

@@ -1,5 +1,5 @@
 -- Collections: containers that no file needs are given back, step by step (docs/MODEL.md, 'The plain machine').
-use Rattle.std.specs.Prelude.{◌≡◌, ℕ, suc, ◌+◌, ◌*◌, ◌≤◌, Bool, true, false, List, [], ◌∷◌, Option, None, Some, IsSome}
+use Rattle.std.specs.Prelude.{◌≡◌, ℕ, suc, ◌+◌, ◌*◌, ◌<◌, ◌≤◌, Bool, true, false, List, [], ◌∷◌, Option, None, Some, IsSome}
 use Rattle.base_model.specs.Fault.{Rose}
 use Rattle.container_meta.specs.declared.kind.Kind.{Kind}
 use Rattle.container_meta.specs.declared.kind.Kind.TheVariants.{Leaf, Tree}
@@ -10,7 +10,7 @@ use Rattle.refusals.specs.declared.refusal.Refusal.{Refusal}
 use Rattle.refusals.specs.declared.refusal.Refusal.TheVariants.{Memory, NotCollecting, DiskRead, DiskWrite, Numbers}
 use Rattle.disk_format.specs.declared.numbers.TheConstants.{LAST_ID}
 use Rattle.store_model.specs.Reserve.{IsReachable, IsSpare}
-use Rattle.plain_machine.specs.Content.{AddsCopies, BreaksSweep, FreesContainer, OfStore, SameStore}
+use Rattle.plain_machine.specs.Content.{AddsCopies, BreaksCopies, BreaksGate, FreesContainer, OfStore, SameStore}
 use Rattle.plain_machine.specs.Machine.{Collecting, Machine, Marking, Progress, Recording, Stopped, Sweeping, are_idle}
 use Rattle.plain_machine.specs.Turns.{Stays}
 
@@ -76,7 +76,8 @@ GoesTo Filter Marking next = next ≡ Recording
 GoesTo Filter Recording next = next ≡ Recording
 GoesTo Select Marking next = next ≡ Sweeping false false
 GoesTo Select Recording next = next ≡ Sweeping false false
-GoesTo Copy (Sweeping false filled) next = (ready : Bool) × ((now : Bool) × ((next ≡ Sweeping ready now) × (filled ≡ true → now ≡ true)))
+GoesTo Copy (Sweeping false filled) next =
+    (ready : Bool) × ((now : Bool) × ((next ≡ Sweeping ready now) × (filled ≡ true → now ≡ true) × (ready ≡ true → now ≡ filled)))
 GoesTo Flush (Sweeping false true) next = next ≡ Sweeping true false
 GoesTo Release (Sweeping true filled) next = (ready : Bool) × (next ≡ Sweeping ready filled)
 GoesTo phase progress next = ⊥
@@ -131,14 +132,25 @@ Sweeps freed copied m n = (phases : List Phase) × ((mid : Machine) × (Collecti
 
 -- ---- what is refused
 
--- Why no step is made. No copies are written where no id is left. Where a write or a sync failed the store is stopped.
+-- what a write that failed leaves of the content, by the step that had it; other steps write nothing
+abbrev pub BreaksBy : Phase → Machine → List ℕ → Type 0
+BreaksBy Copy m new = SameStore m.content new
+BreaksBy Flush m new = (m.last_id < LAST_ID) × BreaksCopies m.content new
+BreaksBy Release m new = BreaksGate (IsReachable m.stored.files) m.content new
+BreaksBy phase m new = ⊥
+
+-- so it is by the step that came next
+abbrev pub BreaksStep : Machine → List ℕ → Type 0
+BreaksStep m new = (phase : Phase) × (IsCollecting phase m.collecting × BreaksBy phase m new)
+
+-- Why no step is made. Copies are not written where no id is left. Where a write or a sync failed the store is stopped.
 abbrev pub RefusesCollectionStep : Refusal → Machine → Machine → Type 0
 RefusesCollectionStep NotCollecting m n = (m.collecting ≡ None) × (n ≡ m)
 RefusesCollectionStep Memory m n = IsSome m.collecting × Stays m n
+RefusesCollectionStep Numbers m n = IsCollecting Flush m.collecting × (LAST_ID ≤ m.last_id) × Stays m n
 RefusesCollectionStep DiskRead m n = IsSome m.collecting × Rose m.faults n.faults × SameStore m.content n.content
     × (n ≡ record m { content = n.content; faults = n.faults })
-RefusesCollectionStep Numbers m n = IsCollecting Flush m.collecting × (LAST_ID ≤ m.last_id) × Stays m n
-RefusesCollectionStep DiskWrite m n = IsSome m.collecting × Rose m.faults n.faults × BreaksSweep (IsReachable m.stored.files) m.content n.content
+RefusesCollectionStep DiskWrite m n = BreaksStep m n.content × Rose m.faults n.faults
     × (n ≡ record m { state = Stopped None; content = n.content; faults = n.faults })
 RefusesCollectionStep refusal m n = ⊥
 

@@ -156,13 +156,22 @@ pub record FreesContainer (P : List ℕ → Type 0) (old new : List ℕ) : Type 
   pub now : Encodes new (with_freed slot store)
   pub rest : SameButGate slot store.slots old new
 
--- A write of a collection broke off: all is as it was, but perhaps for the free slot of least number, or for the gate of a container that holds
--- the newest copy of no key of which P holds.
-abbrev pub BreaksSweep : (List ℕ → Type 0) → List ℕ → List ℕ → Type 0
-BreaksSweep P old new =
-    SameStore old new
-    ⊎ OfStore old (λ store. SameBut (Unit {0}) (λ half cell. ⊥) (λ slot. slot ≡ first_free store.held) store.slots old new)
-    ⊎ OfStore old (λ store. (slot : ℕ) × (IsSpare P store.held slot × SameButGate slot store.slots old new))
+-- Copies were not written, as a write of them broke off: all is as it was, but perhaps for the free slot of least number, beside which another is
+-- free.
+pub record BreaksCopies (old new : List ℕ) : Type 0 where
+  pub store : Store
+  pub was : Encodes old store
+  pub slot : 1 < free_slots store.held
+  pub rest : SameBut (Unit {0}) (λ half cell. ⊥) (λ slot. slot ≡ first_free store.held) store.slots old new
+
+-- A container was not given back, as the write broke off: all is as it was, but perhaps for its gate. It holds the newest copy of no key of which
+-- P holds.
+pub record BreaksGate (P : List ℕ → Type 0) (old new : List ℕ) : Type 0 where
+  pub store : Store
+  pub was : Encodes old store
+  pub slot : ℕ
+  pub spare : IsSpare P store.held slot
+  pub rest : SameButGate slot store.slots old new
 
 -- A write broke off: each container that was there is as it was; and so is each record, where the half had cells for so many more.
 pub record BreaksOff (records : ℕ) (old new : List ℕ) : Type 0 where

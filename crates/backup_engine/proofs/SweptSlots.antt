@@ -96,7 +96,7 @@ pub no_slots : (s : Store) → SweptSlots s s [] []
 no_slots s = record { had = tt; may = tt; there = λ slot h there. inl there; closed = λ slot closed. inl closed; renewed = tt }
 
 -- where more slots were closed
-may_more : (s : Store) (slot : ℕ) (freed : List ℕ) (other : ℕ) → MayFill s freed other → MayFill s (slot ∷ freed) other
+pub may_more : (s : Store) (slot : ℕ) (freed : List ℕ) (other : ℕ) → MayFill s freed other → MayFill s (slot ∷ freed) other
 may_more s slot freed other (inl closed) = inl closed
 may_more s slot freed other (inr one) = inr (Contains-append_right (slot ∷ []) freed other one)
 

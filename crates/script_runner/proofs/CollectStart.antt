@@ -174,7 +174,7 @@ module _ (C : Type 0) (state : C → CoreState) (among : ByteSet) (apart : HasNo
       collection = begun.collection;
       runs = begun.runs;
       progress_is = early;
-      counted = early_counted begun.collection.stage begun.collection.sweep begins_so early refl refl;
+      counted = early_counted begun.collection.stage begun.collection.sweep 0 0 early refl refl;
       most = most;
       few = subst (λ (t : SlotTable). HasFewSources most t begun.collection) (sym slots_same) (few_begun (state old).tables.held begun.collection begun.nothing_yet.1.sources_are);
       nears = subst (λ (t : SlotTable). steps_to_come most t begun.collection ≤ most_steps held.held) (sym slots_same)

@@ -2,9 +2,13 @@ pub mod Along
 pub mod BrokenStep
 pub mod CollectBytes
 pub mod CollectCauses
+pub mod CollectCounts
+pub mod CollectEnd
+pub mod CollectMade
 pub mod CollectNeeds
 pub mod CollectParts
 pub mod CollectProgress
+pub mod CollectRefused
 pub mod CollectSpares
 pub mod CollectStart
 pub mod CollectStep
@@ -12,6 +16,7 @@ pub mod CollectionOn
 pub mod Coming
 pub mod CommitMade
 pub mod CommitRefused
+pub mod CopyRefused
 pub mod Disturbing
 pub mod FaultsCounted
 pub mod Harmless
@@ -59,6 +64,7 @@ pub mod ScriptsFollow
 pub mod Sends
 pub mod SessionLists
 pub mod SparesLive
+pub mod SweepContent
 pub mod Sweeping
 pub mod TurnAsks
 pub mod TurnClashes

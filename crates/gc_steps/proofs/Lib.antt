@@ -19,6 +19,7 @@ pub mod Nearer
 pub mod Needed
 pub mod NeededKeys
 pub mod NextStage
+pub mod NoDamage
 pub mod NoNearer
 pub mod NoneMissing
 pub mod OtherSteps
@@ -34,6 +35,8 @@ pub mod Scanned
 pub mod Scans
 pub mod Sealed
 pub mod SealedPins
+pub mod Sparing
+pub mod SparingStages
 pub mod Started
 pub mod StepSafe
 pub mod SweepSteps

@@ -5,6 +5,7 @@ pub mod Committing
 pub mod CoreRuns
 pub mod Crashes
 pub mod Damage
+pub mod Flushed
 pub mod Frames
 pub mod GcSteps
 pub mod GivingFiles
@@ -20,6 +21,7 @@ pub mod OwnParts
 pub mod RunningOn
 pub mod Releasing
 pub mod Reserves
+pub mod Rooms
 pub mod SafeSteps
 pub mod Sealing
 pub mod SparedRest

@@ -1,19 +1,24 @@
 -- What the steps of a collection give back, where no other steps come between them.
-use Rattle.std.proofs.Common.{◌≡◌, inl, inr, ℕ, ◌+◌, List, [], ◌∷◌, ◌++◌, length, Option, Some, None, Result, Ok, Err, refl, sym, ◌∙◌, ap, ap₂, subst}
-use Rattle.std.proofs.lemmas.List.{length-append}
+use Rattle.std.proofs.Common.{◌≡◌, ℕ, ◌+◌, List, [], ◌∷◌, ◌++◌, Option, Some, None, Result, Ok, Err, refl, sym, ◌∙◌, ap, ap₂, subst, arith}
 use Rattle.actor_parts.specs.declared.step.Answer.{Answer}
 use Rattle.actor_parts.specs.declared.step.Answer.TheVariants as answers
 use Rattle.actor_parts.specs.StepValue as asked
 use Rattle.actor_parts.specs.StepValue.{StepValue}
 use Rattle.container_meta.specs.Places.{PlaceMap}
+use Rattle.dd_disk.specs.View.{IsLater}
 use Rattle.gc_steps.specs.declared.collection.Collection.{Collection}
 use Rattle.gc_steps.specs.declared.collection.Stage.{Stage}
-use Rattle.gc_steps.specs.declared.collection.Stage.TheVariants.{Copy, End, Filter, Mark, Release, Select}
+use Rattle.gc_steps.specs.declared.collection.Stage.TheVariants.{Filter, Mark, Select, Sweep as SweepStage}
+use Rattle.gc_sweep.specs.declared.sweep.Next.{Next}
+use Rattle.gc_sweep.specs.declared.sweep.Next.TheVariants.{Copy, Flush, Release, End}
+use Rattle.gc_sweep.specs.declared.sweep.Sweep.{Sweep}
+use Rattle.gc_sweep.specs.InTurn.{slot_in_turn}
 use Rattle.gc_steps.specs.Sparing.{Spares}
 use Rattle.gc_steps.specs.Stepping.{phase_at}
 use Rattle.gc_steps.proofs.Sparing.{ready_is_spare}
 use Rattle.gc_steps.proofs.StepSafe.{IsStoreAfter}
 use Rattle.refusals.specs.declared.refusal.Phase.{Phase}
+use Rattle.refusals.specs.declared.refusal.Phase.TheVariants as phases
 use Rattle.refusals.specs.declared.refusal.Refusal.{Refusal}
 use Rattle.refusals.specs.declared.refusal.Refusal.TheVariants as refusals
 use Rattle.store_model.specs.Collisions.{HasNoCollisions, ByteSet, IsIn}
@@ -21,11 +26,11 @@ use Rattle.store_model.specs.Files.{Stored}
 use Rattle.store_model.specs.Freeing.{with_freed}
 use Rattle.store_model.specs.Image.{Store}
 use Rattle.store_model.specs.Reserve.{IsReachable, IsSpare}
-use Rattle.store_model.specs.Steps.{StoreChange}
+use Rattle.store_model.specs.Steps.{StoreChange, SealContainer, ChangeName, FlushContainer, FreeContainer, with_sealed}
 use Rattle.store_core.specs.Bounds.{starts}
 use Rattle.store_core.specs.Collecting.{GcEffect, GcRow, GoesOn, HasEnded, IsNotMade, TouchesBy}
 use Rattle.store_core.specs.Core.{Steps, StopsAfter}
-use Rattle.store_core.specs.Releases.{AreGcSteps, FreesSpare, LeavesNoneSpare, ReleasesSpare, ends_with, released_by}
+use Rattle.store_core.specs.Releases.{AreGcSteps, LeavesNoneSpare, ReleasesSpare, SweepsSpare, ends_with, freed_in, released_by}
 use Rattle.store_core.specs.Runs.{AreChangesBy, ChangesTo, FileEvent, FileRun, FileStep, IsAt, stored_by, stored_with}
 use Rattle.store_core.specs.State.{CoreState}
 use Rattle.store_core.proofs.AnySteps.{any_step, with_step}
@@ -34,35 +39,36 @@ use Rattle.store_core.proofs.KeepingFiles.{run_running}
 use Rattle.store_core.proofs.SafeSteps.{one_map_at}
 use Rattle.store_model.proofs.Once.{store_once}
 use Rattle.store_state.specs.Invariant.{CoreInvariant}
-use Rattle.store_core.proofs.GcSteps.{phase_is}
+use Rattle.store_core.proofs.GcSteps.{phase_of}
 use Rattle.store_core.proofs.Leading.{Leads}
 use Rattle.store_core.proofs.SparedRest.{begun_spares, did_spares, ended_spares, led_to, refused_known, refused_spares}
 
--- ---- lists of containers that are given back
+-- ---- what a collection changes alone
 
-frees_then : (P : List ℕ → Type 0) (slots more : List ℕ) (s t u : Store) → FreesSpare P slots s t → FreesSpare P more t u → FreesSpare P (slots ++ more) s u
-frees_then P [] more s t u first rest = subst (λ (x : Store). FreesSpare P more x u) first rest
-frees_then P (slot ∷ slots) more s t u first rest = (first.0, frees_then P slots more (with_freed slot s) t u first.1 rest)
+sweeps_then : (P : List ℕ → Type 0) (changes more : List StoreChange) (s t u : Store) → SweepsSpare P changes s t → SweepsSpare P more t u → SweepsSpare P (changes ++ more) s u
+sweeps_then P [] more s t u first rest = subst (λ (x : Store). SweepsSpare P more x u) first rest
+sweeps_then P (SealContainer id kind segments ∷ changes) more s t u first rest = absurd first
+sweeps_then P (ChangeName name change ∷ changes) more s t u first rest = absurd first
+sweeps_then P (FlushContainer id kind segments ∷ changes) more s t u first rest = (first.0, sweeps_then P changes more (with_sealed id kind segments s) t u first.1 rest)
+sweeps_then P (FreeContainer slot ∷ changes) more s t u first rest = (first.0, sweeps_then P changes more (with_freed slot s) t u first.1 rest)
+
+freed_then : (changes more : List StoreChange) → freed_in (changes ++ more) ≡ freed_in changes + freed_in more
+freed_then [] more = omega arith
+freed_then (SealContainer id kind segments ∷ changes) more = freed_then changes more
+freed_then (ChangeName name change ∷ changes) more = freed_then changes more
+freed_then (FlushContainer id kind segments ∷ changes) more = freed_then changes more
+freed_then (FreeContainer slot ∷ changes) more = omega (arith, freed_then changes more)
 
 -- ---- a step
 
--- none is given back but at a release
-no_release : (stage : Stage) → ((next slot : ℕ) → stage ≡ Release next slot → ⊥) → released_by (Ok (answers.Did (phase_at stage))) ≡ 0
-no_release (Mark level slot) none = refl
-no_release (Filter slot) none = refl
-no_release Select none = refl
-no_release (Copy source) none = refl
-no_release (Release next slot) none = absurd (none next slot refl)
-no_release End none = refl
-
--- What a step gave back: one container, or none.
+-- What a step of a collection changed: it gave a container back, or wrote one, or nothing.
 record Gives (P : List ℕ → Type 0) (answer : Result Answer Refusal) (s t : Store) : Type 0 where
-  slots : List ℕ
-  many : length slots ≡ released_by answer
-  chain : FreesSpare P slots s t
+  changes : List StoreChange
+  many : freed_in changes ≡ released_by answer
+  chain : SweepsSpare P changes s t
 
 gives_none : (P : List ℕ → Type 0) (answer : Result Answer Refusal) (s t : Store) → released_by answer ≡ 0 → t ≡ s → Gives P answer s t
-gives_none P answer s t none same = record { slots = []; many = sym none; chain = same }
+gives_none P answer s t none same = record { changes = []; many = sym none; chain = same }
 
 -- the collection that runs, if one does, spares what is needed
 abbrev SparesIn : (List ℕ → Type 0) → PlaceMap → Store → Option Collection → Type 0
@@ -96,30 +102,36 @@ module _ (among : ByteSet) (distinct : HasNoCollisions (IsIn among)) (f : FileEv
   was = at.invariant at.stands.known.0 at.stands.known.1
 
   -- that was made
-  module _ (phase : Phase) (goes : GoesOn phase old new) (touches : TouchesBy old.collection (Ok (answers.Did phase)) old new.disk) where
-    stage_of : phase_at goes.before.stage ≡ phase
-    stage_of = phase_is goes.before.stage goes.before.freed phase goes.phase_is
-
-    by_store : IsStoreAfter goes.before.stage at.index s t → Gives Needs (Ok (answers.Did phase)) s t
-    by_store (inl same) =
-        gives_none Needs (Ok (answers.Did phase)) s t
-        (ap (λ (p : Phase). released_by (Ok (answers.Did p))) (sym stage_of) ∙ no_release goes.before.stage same.0) same.1
-    by_store (inr frees) = record {
-      slots = frees.slot ∷ [];
-      many = ap (λ (stage : Stage). released_by (Ok (answers.Did (phase_at stage)))) (sym frees.stage_is) ∙ ap (λ (p : Phase). released_by (Ok (answers.Did p))) stage_of;
-      chain = (ready_is_spare at.index s stored.files frees.slot frees.header frees.there was.index_is_newest was.files_are_indexed frees.none, frees.now_is);
+  module _ (phase : Phase) (goes : GoesOn phase old new) (touches : TouchesBy old.collection (Ok (answers.Did phase)) old new.disk) (later : IsLater old.disk new.disk) where
+    by_stage : (stage : Stage) (next : Next) (sweep : Sweep) → IsStoreAfter stage next sweep at.index s t at.stands.known.0 → Gives Needs (Ok (answers.Did (phase_at stage next))) s t
+    by_stage (Mark level slot) next sweep same = gives_none Needs (Ok (answers.Did phases.Mark)) s t refl same
+    by_stage (Filter slot) next sweep same = gives_none Needs (Ok (answers.Did phases.Filter)) s t refl same
+    by_stage Select next sweep same = gives_none Needs (Ok (answers.Did phases.Select)) s t refl same
+    by_stage SweepStage (Copy source entry) sweep same = gives_none Needs (Ok (answers.Did phases.Copy)) s t refl same
+    by_stage SweepStage (Flush source entry) sweep flushes = record {
+      changes = FlushContainer flushes.id sweep.buffer.kind sweep.buffer.segments ∷ [];
+      many = refl;
+      chain = (flushes.can, flushes.now_is);
     }
+    by_stage SweepStage (Release source entry) sweep frees = record {
+      changes = FreeContainer (slot_in_turn sweep) ∷ [];
+      many = refl;
+      chain = (ready_is_spare at.index s stored.files (slot_in_turn sweep) frees.header frees.there was.index_is_newest was.files_are_indexed frees.none, frees.now_is);
+    }
+    by_stage SweepStage End sweep same = gives_none Needs (Ok (answers.Did phases.End)) s t refl same
 
     did_gives : Gives Needs (Ok (answers.Did phase)) s t
-    did_gives = by_store (led_to among s stored old new at t after phase goes touches)
+    did_gives =
+        subst (λ (p : Phase). Gives Needs (Ok (answers.Did p)) s t) (phase_of goes.before phase goes.phase_is)
+        (by_stage goes.before.stage goes.before.sweep.next goes.before.sweep (led_to among s stored old new at t after phase goes touches later))
 
     did_on : SparesIn Needs at.index s old.collection → SparesIn Needs after.index t new.collection
     did_on spares =
         subst (SparesIn Needs after.index t) (sym goes.runs)
-        (did_spares among s stored old new at t after phase goes touches after.index after.index_known (subst (SparesIn Needs at.index s) goes.ran spares))
+        (did_spares among s stored old new at t after phase goes touches later after.index after.index_known (subst (SparesIn Needs at.index s) goes.ran spares))
 
   gives_by : (a : Result Answer Refusal) → AreChangesBy asked.GcStep a leads.changes → GcRow a old new → GcEffect a old new → Gives Needs a s t
-  gives_by (Ok (answers.Did phase)) are row effect = did_gives phase row.0 effect.touches
+  gives_by (Ok (answers.Did phase)) are row effect = did_gives phase row.0 effect.touches effect.later
   gives_by (Ok (answers.Done freed copied)) are row effect = gives_none Needs (Ok (answers.Done freed copied)) s t refl (same_store are)
   gives_by (Err refusal) are row effect = gives_none Needs (Err refusal) s t refl (same_store are)
   gives_by a are row effect = absurd row
@@ -144,7 +156,7 @@ module _ (among : ByteSet) (distinct : HasNoCollisions (IsIn among)) (f : FileEv
 
   spares_by : (a : Result Answer Refusal) → AreChangesBy asked.GcStep a leads.changes → GcRow a old new → GcEffect a old new → StopsAfter asked.GcStep a old.acknowledged new.stop
       → SparesIn Needs at.index s old.collection → SparesIn Needs after.index t new.collection
-  spares_by (Ok (answers.Did phase)) are row effect stops spares = did_on phase row.0 effect.touches spares
+  spares_by (Ok (answers.Did phase)) are row effect stops spares = did_on phase row.0 effect.touches effect.later spares
   spares_by (Ok (answers.Done freed copied)) are row effect stops spares = subst (SparesIn Needs after.index t) (sym row.0.ended) tt
   spares_by (Err refusals.NotCollecting) are row effect stops spares = subst (SparesIn Needs after.index t) (sym row.0.none_runs) tt
   spares_by (Err refusal) are row effect stops spares = refused_on refusal are row.0 stops spares
@@ -160,7 +172,7 @@ module _ (C : Type 0) (state : C → CoreState) where
   releases_spare among [] s stored old new distinct at run all stays = record {
     store = s;
     is_at = subst (λ (c : C). IsAt (IsIn among) s stored (state c)) (sym run) at;
-    slots = [];
+    changes = [];
     many = refl;
     chain = refl;
   }
@@ -172,9 +184,9 @@ module _ (C : Type 0) (state : C → CoreState) where
       record {
         store = rest.store;
         is_at = rest.is_at;
-        slots = one.slots ++ rest.slots;
-        many = length-append one.slots rest.slots ∙ ap₂ (λ (a b : ℕ). a + b) one.many rest.many;
-        chain = frees_then (IsReachable stored.files) one.slots rest.slots s (leads among distinct f s stored (state old) (state run.0) all.0 run.1.0 at on).next.store rest.store one.chain rest.chain;
+        changes = one.changes ++ rest.changes;
+        many = freed_then one.changes rest.changes ∙ ap₂ (λ (a b : ℕ). a + b) one.many rest.many;
+        chain = sweeps_then (IsReachable stored.files) one.changes rest.changes s (leads among distinct f s stored (state old) (state run.0) all.0 run.1.0 at on).next.store rest.store one.chain rest.chain;
       }
 
   -- where the steps lead the collection that runs spares what is needed

@@ -34,7 +34,7 @@ use Rattle.script_runner.specs.Sessions.{Sessions}
 use Rattle.script_runner.proofs.CollectNeeds.{told_here}
 use Rattle.script_runner.proofs.CollectParts.{gc_event}
 use Rattle.script_runner.proofs.CollectProgress.{at_end}
-use Rattle.script_runner.proofs.CollectStep.{HasCollecting, Stepped, as_stage, leads, none_collecting, right, runs_then, same_some, some_collecting, steps, touched}
+use Rattle.script_runner.proofs.CollectStep.{HasCollecting, Stepped, as_stage, leads, none_collecting, right, runs_then, same_some, some_collecting, steps, touched, under}
 use Rattle.script_runner.proofs.TurnRunning.{RunsAt}
 
 none_filled : (segments : List Segment) → nat_lt 0 (length segments) ≡ false → length segments ≡ 0
@@ -99,7 +99,9 @@ module _ (C : Type 0) (state : C → CoreState) (among : ByteSet) (apart : HasNo
     ended_at = at.running.begins.is_at
 
     spares_ended : Spares (IsReachable m.stored.files) ended_at.index at.running.begins.store.held ended.before → (slot : ℕ) → ¬ (IsSpare (IsReachable m.stored.files) at.running.begins.store.held slot)
-    spares_ended spares = sparing.spares_ended (IsReachable m.stored.files) ended_at.index at.running.begins.store ended.before ((told_here (IsIn among) at.running.begins.store m.stored (state old) ended_at).index_is_newest ended_at.index refl) ended.at_end spares
+    spares_ended spares =
+        sparing.spares_ended (IsReachable m.stored.files) ended_at.index at.running.begins.store (state old).tables.held ended.before (under C state among apart m sessions old new at done buf made ended.before ended.ran) ended.at_end.0 ended.at_end.1 spares
+        ((told_here (IsIn among) at.running.begins.store m.stored (state old) ended_at).index_is_newest ended_at.index refl)
 
     -- where it ran alone, each container that is left is needed
     none_spare : has_ended.collecting.alone ≡ true → OfStore m.content (λ store. (slot : ℕ) → ¬ (IsSpare (IsReachable m.stored.files) store.held slot))

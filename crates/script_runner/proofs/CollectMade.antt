@@ -10,6 +10,7 @@ use Rattle.refusals.specs.declared.refusal.Refusal.{Refusal}
 use Rattle.gc_steps.specs.declared.collection.Collection.{Collection}
 use Rattle.gc_steps.specs.declared.collection.Stage.{Stage}
 use Rattle.gc_steps.specs.declared.collection.Stage.TheVariants.{Mark, Filter, Select, Sweep}
+use Rattle.gc_steps.specs.Safety.{IsSafe}
 use Rattle.gc_steps.specs.Sparing.{Spares}
 use Rattle.gc_steps.specs.Stepping.{StepsTo, TablesAfter, Touches, answer_at, moment, phase_at}
 use Rattle.gc_steps.specs.declared.phase.StepDone.TheVariants.{Did}
@@ -154,13 +155,15 @@ module _ (C : Type 0) (state : C → CoreState) (among : ByteSet) (apart : HasNo
   tables_known =
       subst (λ (known : Option PlaceMap). TablesAfter goes.before.stage goes.before.sweep.next (moment (state old).tables known (state old).disk goes.before) (at_moment (state new) goes.after)) begins.index_known goes.tables
 
+  safe_before : IsSafe begins.index at.running.begins.store (state old).parts m.content goes.before
+  safe_before = subst (IsSafeIn begins.index at.running.begins.store (state old).parts m.content) goes.ran (begins.safe m.content at.content_is)
+
   leaves : LeavesSafe goes.before begins.index at.running.begins.store m.stored.files (state old).parts m.content image_now among (state new).tables (state new).known (state new).disk goes.after
   leaves =
       step_safe begins.index at.running.begins.store m.stored.files (state old).parts m.content image_now among (state old).tables (state new).tables (state new).known (state old).disk (state new).disk goes.before goes.after
       invariant (omega (arith, begins.many)) (told_here S at.running.begins.store m.stored (state old) begins) begins.valid at.content_is
       told_now begins.stands (under C state among apart m sessions old new at did buf made goes.before goes.ran)
-      (subst (IsSafeIn begins.index at.running.begins.store (state old).parts m.content) goes.ran (begins.safe m.content at.content_is))
-      steps_known tables_known touches (steps C state among apart m sessions old new at did buf made).made.effect.later
+      safe_before steps_known tables_known touches (steps C state among apart m sessions old new at did buf made).made.effect.later
 
   encodes_now : Encodes image_now leaves.store_now
   encodes_now = (leaves.stands.each image_now ((state new).disk.as_read image_now told_now)).holds.right
@@ -188,9 +191,10 @@ module _ (C : Type 0) (state : C → CoreState) (among : ByteSet) (apart : HasNo
   spares_step : Spares Needs begins.index at.running.begins.store.held goes.before → Spares Needs leaves.later leaves.store_now.held goes.after
   spares_step spares =
       sparing.spares_step Needs begins.index at.running.begins.store m.stored.files m.content (state old).tables (state new).known (state old).disk (state new).disk goes.before goes.after
-      (needs_here S at.running.begins.store m.stored (state old) begins m.content at.content_is) (told_here S at.running.begins.store m.stored (state old) begins) at.content_is (needs_closed S at.running.begins.store m.stored (state old) begins m.content at.content_is) spares (state new).tables
-      (under C state among apart m sessions old new at did buf made goes.before goes.ran)
-      steps_known leaves.later leaves.known_is leaves.store_now leaves.store_is
+      (needs_here S at.running.begins.store m.stored (state old) begins m.content at.content_is) (told_here S at.running.begins.store m.stored (state old) begins) at.content_is (needs_closed S at.running.begins.store m.stored (state old) begins m.content at.content_is) spares
+      begins.valid invariant.has_free (under C state among apart m sessions old new at did buf made goes.before goes.ran) (state new).tables
+      (sparing.held_at begins.index at.running.begins.store (state old).parts m.content goes.before safe_before) steps_known
+      leaves.later leaves.known_is leaves.store_now image_now leaves.store_is (sparing.held_at leaves.later leaves.store_now (state old).parts image_now goes.after leaves.safe)
 
   spares_now : SparesAlone m.stored.files led_to (Some goes_so) (state new)
   spares_now = λ alone index collection known runs.

@@ -12,9 +12,8 @@ use Rattle.refusals.specs.declared.refusal.Refusal.TheVariants as refusals
 use Rattle.gc_steps.specs.declared.collection.Collection.{Collection}
 use Rattle.gc_steps.specs.declared.collection.Stage.{Stage}
 use Rattle.gc_steps.specs.declared.collection.Stage.TheVariants.{Mark, Filter, Select, Sweep}
-use Rattle.gc_steps.specs.Marking.{MarksOnly}
 use Rattle.gc_steps.specs.Sparing.{Spares}
-use Rattle.gc_steps.specs.Stepping.{Touches, phase_at}
+use Rattle.gc_steps.specs.Stepping.{Keeps, Touches, moment, phase_at}
 use Rattle.gc_steps.proofs.Sparing as sparing
 use Rattle.gc_sweep.specs.declared.sweep.Next.{Next}
 use Rattle.gc_sweep.specs.declared.sweep.Next.TheVariants.{Copy, Flush, Release, End}
@@ -41,7 +40,7 @@ use Rattle.script_runner.proofs.CollectionOn.{by_collection, same_come}
 use Rattle.script_runner.proofs.CollectNeeds.{needs_closed, needs_here, told_here}
 use Rattle.script_runner.proofs.CollectParts.{gc_event}
 use Rattle.script_runner.proofs.CollectProgress.{may_come}
-use Rattle.script_runner.proofs.CollectSpares.{MarksSome, rest_index, rest_marks}
+use Rattle.script_runner.proofs.CollectIndex.{rest_index}
 use Rattle.script_runner.proofs.CollectStep.{HasCollecting, flush_same, image, is_collecting, keeps, kept_unchanged, leads, runs_then, same_index, same_so, same_some, some_collecting, step, steps, told, touched}
 use Rattle.script_runner.proofs.Harmless.{is_harmless}
 use Rattle.script_runner.proofs.SweepContent.{copies_broke, freeing_broke}
@@ -122,17 +121,11 @@ module _ (C : Type 0) (state : C → CoreState) (among : ByteSet) (apart : HasNo
     abbrev SparesAt : Collection → Type 0
     SparesAt c = Spares (IsReachable m.stored.files) begins_then.index at.running.begins.store.held c
 
-    marked_spares : MarksSome (state old) (state new) row.before row.after → SparesAt row.before → SparesAt row.after
-    marked_spares marks spares =
-        sparing.some_spares (IsReachable m.stored.files) begins_then.index at.running.begins.store m.stored.files m.content (state old).tables (state new).known (state old).disk (state new).disk row.before row.after
-        (needs_here (IsIn among) at.running.begins.store m.stored (state old) begins_then m.content at.content_is) (told_here (IsIn among) at.running.begins.store m.stored (state old) begins_then) at.content_is (needs_closed (IsIn among) at.running.begins.store m.stored (state old) begins_then m.content at.content_is) spares marks.level marks.slot marks.stage_is
-        (subst (λ (known : Option PlaceMap). MarksOnly known (state old).disk (state new).disk marks.level marks.slot row.before row.after) begins_then.index_known marks.only)
-
     spares_after : SparesAt row.before → SparesAt row.after
-    spares_after spares = elim (rest_marks (state old) (state new) refusal row) [
-      | inl same ↦ subst SparesAt (sym same) spares
-      | inr marks ↦ marked_spares marks spares
-    ]
+    spares_after spares =
+        sparing.spares_refused (IsReachable m.stored.files) begins_then.index at.running.begins.store m.stored.files m.content (state old).tables (state new).known (state old).disk (state new).disk row.before row.after
+        (needs_here (IsIn among) at.running.begins.store m.stored (state old) begins_then m.content at.content_is) (told_here (IsIn among) at.running.begins.store m.stored (state old) begins_then) at.content_is (needs_closed (IsIn among) at.running.begins.store m.stored (state old) begins_then m.content at.content_is) spares (state new).tables refusal
+        (subst (λ (known : Option PlaceMap). Keeps row.before.stage row.before.sweep.next (moment (state old).tables known (state old).disk row.before) (at_moment (state new) row.after) refusal) begins_then.index_known row.kept)
 
     index_then : IsRestCause refusal → (state new).known ≡ (state old).known
     index_then rests =

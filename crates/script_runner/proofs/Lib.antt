@@ -4,12 +4,12 @@ pub mod CollectBytes
 pub mod CollectCauses
 pub mod CollectCounts
 pub mod CollectEnd
+pub mod CollectIndex
 pub mod CollectMade
 pub mod CollectNeeds
 pub mod CollectParts
 pub mod CollectProgress
 pub mod CollectRefused
-pub mod CollectSpares
 pub mod CollectStart
 pub mod CollectStep
 pub mod CollectionOn
@@ -38,8 +38,8 @@ pub mod LinesStat
 pub mod LinesTaking
 pub mod LinesTurn
 pub mod Lists
-pub mod NameRefused
 pub mod MostSteps
+pub mod NameRefused
 pub mod NamedAt
 pub mod NamedChange
 pub mod NamedCollect

@@ -14,6 +14,7 @@ use Rattle.gc_steps.specs.Safety.{IsSafe}
 use Rattle.gc_steps.specs.Sparing.{Spares}
 use Rattle.gc_steps.specs.Stepping.{StepsTo, TablesAfter, Touches, answer_at, moment, phase_at}
 use Rattle.gc_steps.specs.declared.phase.StepDone.TheVariants.{Did}
+use Rattle.gc_steps.specs.UnderWay.{IsUnderWay}
 use Rattle.gc_steps.proofs.Sparing as sparing
 use Rattle.gc_steps.proofs.StepSafe.{IsStoreAfter, LeavesSafe, step_safe}
 use Rattle.gc_sweep.specs.declared.sweep.Next.{Next}
@@ -27,7 +28,7 @@ use Rattle.store_state.specs.Tables.{Represents}
 use Rattle.store_core.specs.Collecting.{GoesOn, at_moment}
 use Rattle.store_core.specs.Core.{CoreStep, IndexesAll}
 use Rattle.store_core.specs.Runs.{IsAt, IsSafeIn}
-use Rattle.store_core.specs.State.{CoreState}
+use Rattle.store_core.specs.State.{CoreState, IsUnderWayIn}
 use Rattle.store_core.proofs.Leading.{Leads}
 use Rattle.plain_machine.specs.Collections.{ChangesBy, GoesTo, StepsCollection, forgets_by, freed_by, last_by}
 use Rattle.plain_machine.specs.Content.{SameStore}
@@ -158,11 +159,17 @@ module _ (C : Type 0) (state : C → CoreState) (among : ByteSet) (apart : HasNo
   safe_before : IsSafe begins.index at.running.begins.store (state old).parts m.content goes.before
   safe_before = subst (IsSafeIn begins.index at.running.begins.store (state old).parts m.content) goes.ran (begins.safe m.content at.content_is)
 
+  abbrev led : Leads S at.running.begins.store (gc_event 0 did buf) m.stored (state old) (state new)
+  led = leads C state among apart m sessions old new at did buf made (steps C state among apart m sessions old new at did buf made).stops
+
+  under_now : IsUnderWay (state new).tables.held goes.after
+  under_now = subst (IsUnderWayIn (state new).tables.held) goes.runs led.next.is_at.under_way
+
   leaves : LeavesSafe goes.before begins.index at.running.begins.store m.stored.files (state old).parts m.content image_now among (state new).tables (state new).known (state new).disk goes.after
   leaves =
       step_safe begins.index at.running.begins.store m.stored.files (state old).parts m.content image_now among (state old).tables (state new).tables (state new).known (state old).disk (state new).disk goes.before goes.after
       invariant (omega (arith, begins.many)) (told_here S at.running.begins.store m.stored (state old) begins) begins.valid at.content_is
-      told_now begins.stands (under C state among apart m sessions old new at did buf made goes.before goes.ran)
+      told_now begins.stands (under C state among apart m sessions old new at did buf made goes.before goes.ran) under_now
       safe_before steps_known tables_known touches (steps C state among apart m sessions old new at did buf made).made.effect.later
 
   encodes_now : Encodes image_now leaves.store_now
@@ -172,9 +179,6 @@ module _ (C : Type 0) (state : C → CoreState) (among : ByteSet) (apart : HasNo
 
   abbrev Needs : List ℕ → Type 0
   Needs = IsReachable m.stored.files
-
-  abbrev led : Leads S at.running.begins.store (gc_event 0 did buf) m.stored (state old) (state new)
-  led = leads C state among apart m sessions old new at did buf made (steps C state among apart m sessions old new at did buf made).stops
 
   abbrev led_to : Store
   led_to = led.next.store
@@ -208,20 +212,20 @@ module _ (C : Type 0) (state : C → CoreState) (among : ByteSet) (apart : HasNo
   Touched stage next = Touches stage next goes.before.sweep (state old).tables Done (state old).disk (state new).disk
 
   nothing : (stage : Stage) (next : Next) → GivesNothing stage next → Touched stage next → SameStore m.content image_now
-  nothing stage next none touches = same_so C state among apart m sessions old new at did buf made goes.before goes.ran stage next Done none touches
+  nothing stage next none touch = same_so C state among apart m sessions old new at did buf made goes.before goes.ran stage next Done none touch
 
   changes_at : (stage : Stage) (next : Next) → goes.before.stage ≡ stage → goes.before.sweep.next ≡ next → Touched stage next → TablesAfter stage next (at_moment (state old) goes.before) (at_moment (state new) goes.after)
       → (phase_at stage next ≡ phase_at Sweep End → ⊥) → ChangesBy (phase_at stage next) (copies_by stage next goes.before.sweep) m image_now
-  changes_at (Mark level slot) next is next_is touches tables other = (refl, nothing (Mark level slot) next tt touches)
-  changes_at (Filter slot) next is next_is touches tables other = (refl, nothing (Filter slot) next tt touches)
-  changes_at Select next is next_is touches tables other = (refl, nothing Select next tt touches)
-  changes_at Sweep (Copy source entry) is next_is touches tables other = (refl, nothing Sweep (Copy source entry) tt touches)
-  changes_at Sweep (Flush source entry) is next_is touches tables other =
+  changes_at (Mark level slot) next is next_is touch tables other = (refl, nothing (Mark level slot) next tt touch)
+  changes_at (Filter slot) next is next_is touch tables other = (refl, nothing (Filter slot) next tt touch)
+  changes_at Select next is next_is touch tables other = (refl, nothing Select next tt touch)
+  changes_at Sweep (Copy source entry) is next_is touch tables other = (refl, nothing Sweep (Copy source entry) tt touch)
+  changes_at Sweep (Flush source entry) is next_is touch tables other =
       copies_added among at.running.begins.store m.stored (state old) (state new) begins at.running.begins.settled m.content image_now at.content_is told_now goes.before goes.ran is source entry next_is tables.0 tables.1
-      touches m.last_id at.running.begins.last_id_is
-  changes_at Sweep (Release source entry) is next_is touches tables other =
-      (refl, freed among at.running.begins.store m.stored (state old) (state new) begins at.running.begins.settled m.content image_now at.content_is told_now goes.before goes.ran is source entry next_is touches)
-  changes_at Sweep End is next_is touches tables other = absurd (other refl)
+      touch m.last_id at.running.begins.last_id_is
+  changes_at Sweep (Release source entry) is next_is touch tables other =
+      (refl, freed among at.running.begins.store m.stored (state old) (state new) begins at.running.begins.settled m.content image_now at.content_is told_now goes.before goes.ran is source entry next_is touch)
+  changes_at Sweep End is next_is touch tables other = absurd (other refl)
 
   changes : ChangesBy phase copies m image_now
   changes =

@@ -1,5 +1,5 @@
 -- What a sweep leaves of the content, by the machine: copies that it writes, and a container that it gives back.
-use Rattle.std.proofs.Common.{◌≡◌, ◌+◌, ◌<◌, ◌≤◌, ℕ, zero, suc, List, [], ◌∷◌, length, Option, Some, None, refl, sym, ap, subst, arith}
+use Rattle.std.proofs.Common.{◌≡◌, ◌∙◌, inr, ◌+◌, ◌<◌, ◌≤◌, ℕ, zero, suc, List, [], ◌∷◌, length, Option, Some, None, refl, sym, ap, subst, arith}
 use Rattle.std.specs.Prelude.{slice_get, count_by, ◌==◌}
 use Rattle.std.specs.List.{AllByRecursion}
 use Rattle.container_meta.specs.Places.{PlaceMap}
@@ -44,7 +44,7 @@ use Rattle.plain_machine.specs.Content.{AddsCopies, BreaksCopies, BreaksGate, Fr
 use Rattle.script_runner.proofs.CollectBytes.{flush_changes, gate_broke, gate_changed}
 use Rattle.script_runner.proofs.CollectNeeds.{told_here}
 use Rattle.script_runner.proofs.TurnHolds.{right_here}
-use Rattle.script_runner.proofs.TurnMade.{of_kind}
+use Rattle.script_runner.proofs.TurnKept.{of_kind}
 
 held_within : (held : List (Option HeaderValue)) (slot : ℕ) (h : HeaderValue) → slice_get held slot ≡ Some (Some h) → slot < length held
 held_within [] slot h is = absurd cc

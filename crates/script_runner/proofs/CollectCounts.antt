@@ -1,5 +1,5 @@
 -- How many containers a collection gave back and how many copies it wrote, by the machine, after a step of it.
-use Rattle.std.proofs.Common.{◌≡◌, inl, inr, ◌+◌, ℕ, List, [], length, Option, Some, None, refl, sym, ◌∙◌, ap, subst, arith}
+use Rattle.std.proofs.Common.{◌≡◌, inl, inr, ◌+◌, ℕ, List, length, Option, Some, None, refl, sym, ◌∙◌, ap, subst, arith}
 use Rattle.container_meta.specs.declared.kind.Kind.{Kind}
 use Rattle.container_meta.specs.Segments.{Contents, Segment}
 use Rattle.copy_forward.specs.declared.plan.Plan.{Plan}

@@ -1,5 +1,5 @@
 -- A step of a collection that is refused leaves the map of the index, where the store runs on.
-use Rattle.std.proofs.Common.{◌≡◌, ℕ}
+use Rattle.std.proofs.Common.{◌≡◌}
 use Rattle.refusals.specs.declared.refusal.Refusal.{Refusal}
 use Rattle.refusals.specs.declared.refusal.Refusal.TheVariants as refusals
 use Rattle.gc_steps.specs.declared.collection.Collection.{Collection}

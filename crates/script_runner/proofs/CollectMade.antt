@@ -1,5 +1,5 @@
 -- A step of a collection that was made is one of the machine, and the runner follows it.
-use Rattle.std.proofs.Common.{◌≡◌, ◌+◌, ◌-◌, ◌<◌, ◌≤◌, ℕ, suc, List, Option, Some, None, Result, Ok, refl, sym, ◌∙◌, ap, subst, arith, true, false}
+use Rattle.std.proofs.Common.{◌≡◌, ◌+◌, ◌-◌, ◌<◌, ◌≤◌, ℕ, suc, List, Option, Some, Result, Ok, refl, sym, ◌∙◌, ap, subst, arith, true, false}
 use Rattle.container_meta.specs.Places.{PlaceMap}
 use Rattle.dd_disk.specs.Ending.{Done}
 use Rattle.disk_format.specs.declared.numbers.TheConstants.{LAST_ID}
@@ -12,8 +12,7 @@ use Rattle.gc_steps.specs.declared.collection.Stage.{Stage}
 use Rattle.gc_steps.specs.declared.collection.Stage.TheVariants.{Mark, Filter, Select, Sweep}
 use Rattle.gc_steps.specs.Safety.{IsSafe}
 use Rattle.gc_steps.specs.Sparing.{Spares}
-use Rattle.gc_steps.specs.Stepping.{StepsTo, TablesAfter, Touches, answer_at, moment, phase_at}
-use Rattle.gc_steps.specs.declared.phase.StepDone.TheVariants.{Did}
+use Rattle.gc_steps.specs.Stepping.{StepsTo, TablesAfter, Touches, moment, phase_at}
 use Rattle.gc_steps.specs.UnderWay.{IsUnderWay}
 use Rattle.gc_steps.proofs.Sparing as sparing
 use Rattle.gc_steps.proofs.StepSafe.{IsStoreAfter, LeavesSafe, step_safe}
@@ -24,7 +23,6 @@ use Rattle.store_model.specs.Image.{Encodes, Store}
 use Rattle.store_model.specs.Reserve.{IsReachable}
 use Rattle.store_model.proofs.Once.{store_once}
 use Rattle.store_state.specs.Invariant.{CoreInvariant}
-use Rattle.store_state.specs.Tables.{Represents}
 use Rattle.store_core.specs.Collecting.{GoesOn, at_moment}
 use Rattle.store_core.specs.Core.{CoreStep, IndexesAll}
 use Rattle.store_core.specs.Runs.{IsAt, IsSafeIn}
@@ -41,7 +39,7 @@ use Rattle.script_runner.proofs.CollectCounts.{copies_by, counted_on}
 use Rattle.script_runner.proofs.CollectNeeds.{needs_closed, needs_here, told_here}
 use Rattle.script_runner.proofs.CollectParts.{gc_event}
 use Rattle.script_runner.proofs.CollectProgress.{Progresses, progresses}
-use Rattle.script_runner.proofs.CollectStep.{HasCollecting, Stepped, as_stage, image, last_after, leads, low_after, right, runs_then, same_index, same_so, same_some, some_collecting, steps, told, touched, under}
+use Rattle.script_runner.proofs.CollectStep.{HasCollecting, Stepped, image, last_after, leads, low_after, runs_then, same_index, same_so, same_some, some_collecting, steps, told, touched, under}
 use Rattle.script_runner.proofs.SweepContent.{copies_added, freed}
 use Rattle.script_runner.proofs.Sweeping.{IsFewIn, few_after, few_by, left_by, left_on}
 use Rattle.script_runner.proofs.TurnHolds.{right_here}

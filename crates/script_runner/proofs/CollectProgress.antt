@@ -1,6 +1,6 @@
 -- How far a collection has come, by the machine, after a step of it.
-use Rattle.std.proofs.Common.{◌≡◌, ◌≢◌, inl, inr, ◌+◌, ◌<◌, ◌≤◌, ℕ, Bool, true, false, List, [], ◌∷◌, length, Option, Some, None, refl, sym, ◌∙◌, ap, subst, arith}
-use Rattle.std.specs.Prelude.{nat_lt, ◌==◌}
+use Rattle.std.proofs.Common.{◌≡◌, ◌≢◌, inl, inr, ◌+◌, ◌≤◌, ℕ, Bool, true, false, List, [], ◌∷◌, length, Option, Some, None, refl, sym, ◌∙◌, ap, subst, arith}
+use Rattle.std.specs.Prelude.{nat_lt}
 use Rattle.std.proofs.lemmas.Bool.{eq-eqb, lt-ltb, ltb-true}
 use Rattle.container_meta.specs.declared.entry.Entry.{Entry}
 use Rattle.container_meta.specs.Segments.{Contents, Segment}
@@ -19,7 +19,6 @@ use Rattle.gc_sweep.specs.declared.sweep.Next.{Next}
 use Rattle.gc_sweep.specs.declared.sweep.Next.TheVariants.{Copy, Flush, Release, End}
 use Rattle.gc_sweep.specs.declared.sweep.Sweep.{Sweep as SweepValue}
 use Rattle.gc_sweep.specs.Copying.{CopiesSource, EndsBy, HasEnded, TakesBy}
-use Rattle.gc_sweep.specs.InTurn.{HasReleased}
 use Rattle.gc_sweep.specs.Next.{IsNext}
 use Rattle.refusals.specs.declared.refusal.Phase.{Phase}
 use Rattle.store_state.specs.declared.slot_table.SlotTable.{SlotTable}

@@ -1,5 +1,5 @@
 -- A step of a collection that was refused is refused by the machine, and the runner follows it.
-use Rattle.std.proofs.Common.{◌≡◌, inl, inr, ◌<◌, ◌≤◌, ℕ, List, Option, Some, None, Result, Err, refl, sym, ◌∙◌, ap, subst, arith}
+use Rattle.std.proofs.Common.{◌≡◌, ◌<◌, ◌≤◌, ℕ, List, Option, Some, None, Result, Err, refl, sym, ◌∙◌, ap, subst}
 use Rattle.base_model.specs.Fault.{Rose}
 use Rattle.container_meta.specs.Places.{PlaceMap}
 use Rattle.dd_disk.specs.Ending.{Broken, Ending, ending_of}

@@ -16,14 +16,13 @@ use Rattle.plain_machine.specs.Refused.{IsAtRightPart, Refuses}
 use Rattle.script_runner.specs.Acts.{Acts, ActsOrNot, Admits, CollectionRun, RunnerState, Starts}
 use Rattle.script_runner.specs.Follows.{Follows, IsAtProgress}
 use Rattle.script_runner.proofs.CollectProgress.{may_come}
-use Rattle.gc_steps.specs.declared.collection.Collection.{Collection}
 use Rattle.script_runner.specs.Sessions.{Sessions}
 use Rattle.script_runner.proofs.Along.{GoesAlong}
 use Rattle.script_runner.proofs.CollectStart.{started_step, unstarted_memory, unstarted_running}
 use Rattle.script_runner.proofs.CollectStart as start
 use Rattle.script_runner.proofs.CollectEnd.{ended_step}
 use Rattle.script_runner.proofs.CollectMade.{did_step}
-use Rattle.script_runner.proofs.CollectRefused.{After, refused_step}
+use Rattle.script_runner.proofs.CollectRefused.{refused_step}
 use Rattle.script_runner.proofs.CollectStep.{none_collecting, same_some, some_collecting}
 use Rattle.script_runner.proofs.CollectStep as collect
 use Rattle.script_runner.proofs.LinesBarred.{right_part, taken_or_not}

@@ -1,13 +1,11 @@
 -- What a sweep leaves of the content, by the machine: copies that it writes, and a container that it gives back.
-use Rattle.std.proofs.Common.{◌≡◌, ◌∙◌, inr, ◌+◌, ◌<◌, ◌≤◌, ℕ, zero, suc, List, [], ◌∷◌, length, Option, Some, None, refl, sym, ap, subst, arith}
-use Rattle.std.specs.Prelude.{slice_get, count_by, ◌==◌}
+use Rattle.std.proofs.Common.{◌≡◌, ◌∙◌, inr, ◌+◌, ◌<◌, ◌≤◌, ℕ, suc, List, length, Some, refl, ap, subst, arith}
+use Rattle.std.specs.Prelude.{count_by, ◌==◌}
 use Rattle.std.specs.List.{AllByRecursion}
 use Rattle.container_meta.specs.Places.{PlaceMap}
-use Rattle.container_meta.specs.Segments.{Contents, Segment, segment_key}
-use Rattle.container_meta.specs.Spelling.{HeaderValue}
-use Rattle.dd_disk.specs.Ending.{Broken, Done, Ending}
+use Rattle.container_meta.specs.Segments.{Contents, segment_key}
+use Rattle.dd_disk.specs.Ending.{Broken, Done}
 use Rattle.dd_disk.specs.Moves.{StandsFor}
-use Rattle.disk_format.specs.Layout.{size_of}
 use Rattle.disk_format.specs.declared.numbers.TheConstants.{RESERVE}
 use Rattle.gc_steps.specs.declared.collection.Collection.{Collection}
 use Rattle.gc_steps.specs.declared.collection.Stage.{Stage}
@@ -15,6 +13,7 @@ use Rattle.gc_steps.specs.declared.collection.Stage.TheVariants.{Sweep}
 use Rattle.gc_steps.specs.Safety.{IsSafeAt}
 use Rattle.gc_steps.specs.Stepping.{Touches}
 use Rattle.gc_steps.specs.SweepIsSafe.{HoldsAt, SweepIsSafe}
+use Rattle.gc_steps.proofs.Sparing.{held_within, ready_is_spare}
 use Rattle.gc_steps.proofs.UnderWay.{at_stage}
 use Rattle.gc_sweep.specs.declared.sweep.Next.{Next}
 use Rattle.gc_sweep.specs.declared.sweep.Next.TheVariants.{Flush, Release}
@@ -24,14 +23,14 @@ use Rattle.gc_sweep.specs.InTurn.{slot_in_turn}
 use Rattle.gc_sweep.specs.UnderWay.{IsSweeping, free_in, taken_from}
 use Rattle.gc_sweep.proofs.Holds.{IsInTurn, in_turn}
 use Rattle.gc_sweep.proofs.HoldsRoom.{are_newest, may_flush}
-use Rattle.gc_sweep.proofs.Released.{none_held}
+use Rattle.gc_sweep.proofs.KeyLists.{each_so}
 use Rattle.ingest_steps.specs.Sealing.{FitBeside}
 use Rattle.store_model.specs.Collisions.{ByteSet, IsIn, Stands}
 use Rattle.store_model.specs.Files.{Stored}
 use Rattle.store_model.specs.Freeing.{with_freed}
 use Rattle.store_model.specs.Image.{Encodes, Store}
 use Rattle.store_model.specs.Reserve.{IsReachable, IsSpare}
-use Rattle.store_model.specs.Slots.{HasFree, first_free, free_slots}
+use Rattle.store_model.specs.Slots.{first_free, free_slots}
 use Rattle.store_model.specs.Steps.{CanFlush, MaySeal, with_sealed}
 use Rattle.store_model.specs.Trees.{HasNewest}
 use Rattle.store_model.proofs.Free.{some_free, zeros_free}
@@ -45,15 +44,6 @@ use Rattle.script_runner.proofs.CollectBytes.{flush_changes, gate_broke, gate_ch
 use Rattle.script_runner.proofs.CollectNeeds.{told_here}
 use Rattle.script_runner.proofs.TurnHolds.{right_here}
 use Rattle.script_runner.proofs.TurnKept.{of_kind}
-
-held_within : (held : List (Option HeaderValue)) (slot : ℕ) (h : HeaderValue) → slice_get held slot ≡ Some (Some h) → slot < length held
-held_within [] slot h is = absurd cc
-held_within (x ∷ xs) zero h is = omega arith
-held_within (x ∷ xs) (suc slot) h is = let rest = held_within xs slot h is in omega (arith, rest)
-
-each_so : (P Q : Segment → Type 0) (xs : List Segment) → ((x : Segment) → P x → Q x) → AllByRecursion P xs → AllByRecursion Q xs
-each_so P Q [] so all = tt
-each_so P Q (x ∷ xs) so all = (so x all.0, each_so P Q xs so all.1)
 
 module _ (among : ByteSet) (store : Store) (stored : Stored) (old new : CoreState) (at : IsAt (IsIn among) store stored old) (settled : IsSettled old.tables.slots old.disk)
     (content image : List ℕ) (here : old.disk.content ≡ Some content) (told : new.disk.content ≡ Some image) (c : Collection) (runs : old.collection ≡ Some c) (stage_is : c.stage ≡ Sweep) where
@@ -175,11 +165,7 @@ module _ (among : ByteSet) (store : Store) (stored : Stored) (old new : CoreStat
     turn = in_turn old.tables.held index store.held content c.live c.snapshot source entry c.sweep represents.slots_hold sweeping next_is was_held
 
     spare : IsSpare (IsReachable stored.files) store.held turned
-    spare = record {
-      header = turn.stands.header;
-      holds = turn.stands.there;
-      none = λ key copy needed is. none_held store index turned invariant.index_is_newest turn.none key copy (invariant.files_are_indexed key needed) is;
-    }
+    spare = ready_is_spare index store stored.files turned turn.stands.header turn.stands.there invariant.index_is_newest invariant.files_are_indexed turn.none
 
     there : turned < store.slots
     there = omega (arith, held_within store.held turned turn.stands.header turn.stands.there, at.valid.many)

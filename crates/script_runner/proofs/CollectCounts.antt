@@ -1,4 +1,4 @@
--- How many containers a collection gave back and how many copies it wrote, by the machine, after a step of it.
+-- The snapshot of a collection, how many containers it gave back and how many copies it wrote, by the machine, after a step of it.
 use Rattle.std.proofs.Common.{◌≡◌, inl, inr, ◌+◌, ℕ, List, length, Option, Some, None, refl, sym, ◌∙◌, ap, subst, arith}
 use Rattle.container_meta.specs.declared.kind.Kind.{Kind}
 use Rattle.container_meta.specs.Segments.{Contents, Segment}
@@ -68,6 +68,16 @@ module _ (old new : Moment) (freed copied : ℕ) where
       omega (arith, takes.3, ap (λ (c : Contents). length c.segments) takes.0)
   taken_many t slot source (Some plan) filling kind fills planned takes =
       omega (arith, takes.1, ap (λ (c : Contents). length c.segments) takes.0, planned plan refl, filling_many before.sweep.buffer filling kind fills)
+
+  -- the snapshot stays
+  pub snapshot_on : (stage : Stage) (next : Next) → StepsTo stage next old new → after.snapshot ≡ before.snapshot
+  snapshot_on (Mark level slot) next steps = ap (λ (c : Collection). c.snapshot) steps.0.collection_is
+  snapshot_on (Filter slot) next steps = ap (λ (c : Collection). c.snapshot) steps.0.collection_is
+  snapshot_on Select next steps = ap (λ (c : Collection). c.snapshot) steps.0.collection_is
+  snapshot_on Sweep (Copy source entry) steps = ap (λ (c : Collection). c.snapshot) steps.1
+  snapshot_on Sweep (Flush source entry) steps = ap (λ (c : Collection). c.snapshot) steps.sweeps
+  snapshot_on Sweep (Release source entry) steps = ap (λ (c : Collection). c.snapshot) steps.1
+  snapshot_on Sweep End steps = ap (λ (c : Collection). c.snapshot) steps.0
 
   pub counted_on : (stage : Stage) (next : Next) → before.stage ≡ stage → before.sweep.next ≡ next → HasCounted stage before.sweep freed copied → StepsTo stage next old new → (phase_at stage next ≡ phase_at Sweep End → ⊥) → Counted stage next
   counted_on (Mark level slot) next is next_is counted steps other =

@@ -120,12 +120,13 @@ module _ (C : Type 0) (state : C → CoreState) (among : ByteSet) (apart : HasNo
     ended_step = record {
       next = record m { collecting = None };
       is = record {
+        snapshot = has_ended.collecting.snapshot;
         left = has_ended.collecting.to_come;
         alone = has_ended.collecting.alone;
         ran = has_ended.is
-            ∙ ap (λ (n : ℕ). let k : Collecting = record { progress = has_ended.collecting.progress; to_come = has_ended.collecting.to_come; freed = n; copied = has_ended.collecting.copied; alone = has_ended.collecting.alone } in Some k) freed_same
-            ∙ ap (λ (n : ℕ). let k : Collecting = record { progress = has_ended.collecting.progress; to_come = has_ended.collecting.to_come; freed = freed; copied = n; alone = has_ended.collecting.alone } in Some k) copied_same
-            ∙ ap (λ (p : Progress). let k : Collecting = record { progress = p; to_come = has_ended.collecting.to_come; freed = freed; copied = copied; alone = has_ended.collecting.alone } in Some k) at_last;
+            ∙ ap (λ (n : ℕ). let k : Collecting = record { snapshot = has_ended.collecting.snapshot; progress = has_ended.collecting.progress; to_come = has_ended.collecting.to_come; freed = n; copied = has_ended.collecting.copied; alone = has_ended.collecting.alone } in Some k) freed_same
+            ∙ ap (λ (n : ℕ). let k : Collecting = record { snapshot = has_ended.collecting.snapshot; progress = has_ended.collecting.progress; to_come = has_ended.collecting.to_come; freed = freed; copied = n; alone = has_ended.collecting.alone } in Some k) copied_same
+            ∙ ap (λ (p : Progress). let k : Collecting = record { snapshot = has_ended.collecting.snapshot; progress = p; to_come = has_ended.collecting.to_come; freed = freed; copied = copied; alone = has_ended.collecting.alone } in Some k) at_last;
         none_spare = none_spare;
         others = refl;
       };

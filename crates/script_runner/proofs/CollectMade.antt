@@ -35,7 +35,7 @@ use Rattle.script_runner.specs.Follows.{FollowsCollecting, HasCounted, IsAtProgr
 use Rattle.script_runner.specs.Sessions.{Sessions}
 use Rattle.script_runner.proofs.CollectBytes.{GivesNothing}
 use Rattle.script_runner.proofs.CollectCauses.{no_end, phase_is}
-use Rattle.script_runner.proofs.CollectCounts.{copies_by, counted_on}
+use Rattle.script_runner.proofs.CollectCounts.{copies_by, counted_on, snapshot_on}
 use Rattle.script_runner.proofs.CollectNeeds.{needs_closed, needs_here, told_here}
 use Rattle.script_runner.proofs.CollectParts.{gc_event}
 use Rattle.script_runner.proofs.CollectProgress.{Progresses, progresses}
@@ -90,6 +90,9 @@ module _ (C : Type 0) (state : C → CoreState) (among : ByteSet) (apart : HasNo
   at_before : IsAtProgress has.collecting.progress goes.before
   at_before = subst (IsAtProgress has.collecting.progress) same has.follows.progress_is
 
+  snapshot_before : goes.before.snapshot ≡ has.collecting.snapshot
+  snapshot_before = subst (λ (c : Collection). c.snapshot ≡ has.collecting.snapshot) same has.follows.snapshot_is
+
   counted_before : HasCounted goes.before.stage goes.before.sweep has.collecting.freed has.collecting.copied
   counted_before = subst (λ (c : Collection). HasCounted c.stage c.sweep has.collecting.freed has.collecting.copied) same has.follows.counted
 
@@ -100,7 +103,7 @@ module _ (C : Type 0) (state : C → CoreState) (among : ByteSet) (apart : HasNo
   copies = copies_by goes.before.stage goes.before.sweep.next goes.before.sweep
 
   abbrev goes_so : Collecting
-  goes_so = record { progress = leads_on.next; to_come = left; freed = has.collecting.freed + freed_by phase; copied = has.collecting.copied + copies; alone = has.collecting.alone }
+  goes_so = record { snapshot = has.collecting.snapshot; progress = leads_on.next; to_come = left; freed = has.collecting.freed + freed_by phase; copied = has.collecting.copied + copies; alone = has.collecting.alone }
 
   counted_now : HasCounted goes.after.stage goes.after.sweep (has.collecting.freed + freed_by phase) (has.collecting.copied + copies)
   counted_now =
@@ -111,6 +114,7 @@ module _ (C : Type 0) (state : C → CoreState) (among : ByteSet) (apart : HasNo
   now = record {
     collection = goes.after;
     runs = goes.runs;
+    snapshot_is = snapshot_on (at_moment (state old) goes.before) (at_moment (state new) goes.after) has.collecting.freed has.collecting.copied goes.before.stage goes.before.sweep.next goes.steps ∙ snapshot_before;
     progress_is = leads_on.is_at;
     counted = counted_now;
     most = has.follows.most;
@@ -118,8 +122,8 @@ module _ (C : Type 0) (state : C → CoreState) (among : ByteSet) (apart : HasNo
     nears = omega (arith, fewer, ap (left_by has.follows.most (state new).tables.held) goes.runs);
   }
 
-  ran : m.collecting ≡ Some (record { progress = has.collecting.progress; to_come = suc left; freed = has.collecting.freed; copied = has.collecting.copied; alone = has.collecting.alone })
-  ran = has.is ∙ ap (λ (n : ℕ). let k : Collecting = record { progress = has.collecting.progress; to_come = n; freed = has.collecting.freed; copied = has.collecting.copied; alone = has.collecting.alone } in Some k) (let e : has.collecting.to_come ≡ suc left = omega (arith, fewer) in e)
+  ran : m.collecting ≡ Some (record { snapshot = has.collecting.snapshot; progress = has.collecting.progress; to_come = suc left; freed = has.collecting.freed; copied = has.collecting.copied; alone = has.collecting.alone })
+  ran = has.is ∙ ap (λ (n : ℕ). let k : Collecting = record { snapshot = has.collecting.snapshot; progress = has.collecting.progress; to_come = n; freed = has.collecting.freed; copied = has.collecting.copied; alone = has.collecting.alone } in Some k) (let e : has.collecting.to_come ≡ suc left = omega (arith, fewer) in e)
 
   -- ---- the last id
 
@@ -213,7 +217,7 @@ module _ (C : Type 0) (state : C → CoreState) (among : ByteSet) (apart : HasNo
   nothing stage next none touch = same_so C state among apart m sessions old new at did buf made goes.before goes.ran stage next Done none touch
 
   changes_at : (stage : Stage) (next : Next) → goes.before.stage ≡ stage → goes.before.sweep.next ≡ next → Touched stage next → TablesAfter stage next (at_moment (state old) goes.before) (at_moment (state new) goes.after)
-      → (phase_at stage next ≡ phase_at Sweep End → ⊥) → ChangesBy (phase_at stage next) (copies_by stage next goes.before.sweep) m image_now
+      → (phase_at stage next ≡ phase_at Sweep End → ⊥) → ChangesBy (phase_at stage next) has.collecting.snapshot (copies_by stage next goes.before.sweep) m image_now
   changes_at (Mark level slot) next is next_is touch tables other = (refl, nothing (Mark level slot) next tt touch)
   changes_at (Filter slot) next is next_is touch tables other = (refl, nothing (Filter slot) next tt touch)
   changes_at Select next is next_is touch tables other = (refl, nothing Select next tt touch)
@@ -222,12 +226,12 @@ module _ (C : Type 0) (state : C → CoreState) (among : ByteSet) (apart : HasNo
       copies_added among at.running.begins.store m.stored (state old) (state new) begins at.running.begins.settled m.content image_now at.content_is told_now goes.before goes.ran is source entry next_is tables.0 tables.1
       touch m.last_id at.running.begins.last_id_is
   changes_at Sweep (Release source entry) is next_is touch tables other =
-      (refl, freed among at.running.begins.store m.stored (state old) (state new) begins at.running.begins.settled m.content image_now at.content_is told_now goes.before goes.ran is source entry next_is touch)
+      (refl, freed among at.running.begins.store m.stored (state old) (state new) begins at.running.begins.settled m.content image_now at.content_is told_now goes.before goes.ran is source entry next_is touch has.collecting.snapshot snapshot_before)
   changes_at Sweep End is next_is touch tables other = absurd (other refl)
 
-  changes : ChangesBy phase copies m image_now
+  changes : ChangesBy phase has.collecting.snapshot copies m image_now
   changes =
-      subst (λ (p : Phase). ChangesBy p copies m image_now) stage_phase (changes_at goes.before.stage goes.before.sweep.next refl refl touches goes.tables not_end)
+      subst (λ (p : Phase). ChangesBy p has.collecting.snapshot copies m image_now) stage_phase (changes_at goes.before.stage goes.before.sweep.next refl refl touches goes.tables not_end)
 
   -- ---- the index
 
@@ -260,6 +264,7 @@ module _ (C : Type 0) (state : C → CoreState) (among : ByteSet) (apart : HasNo
       progress = has.collecting.progress;
       next = leads_on.next;
       goes = subst (λ (p : Phase). GoesTo p has.collecting.progress leads_on.next) stage_phase leads_on.goes;
+      snapshot = has.collecting.snapshot;
       left = left;
       freed = has.collecting.freed;
       copied = has.collecting.copied;

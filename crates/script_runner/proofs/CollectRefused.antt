@@ -84,6 +84,9 @@ module _ (C : Type 0) (state : C → CoreState) (among : ByteSet) (apart : HasNo
         may_come has_some.collecting.progress row.before
         (subst (IsAtProgress has_some.collecting.progress) (same_some has_some.follows.collection row.before (state old).collection has_some.follows.runs row.ran) has_some.follows.progress_is)
 
+    snapshot_before : row.before.snapshot ≡ has_some.collecting.snapshot
+    snapshot_before = subst (λ (c : Collection). c.snapshot ≡ has_some.collecting.snapshot) (same_some has_some.follows.collection row.before (state old).collection has_some.follows.runs row.ran) has_some.follows.snapshot_is
+
     collects_as : (phase : Phase) → phase_at row.before.stage row.before.sweep.next ≡ phase → IsCollecting phase m.collecting
     collects_as phase is =
         subst (IsCollecting phase) (sym has_some.is) (subst (λ (p : Phase). MayCome p has_some.collecting.progress) is next_may)
@@ -162,9 +165,14 @@ module _ (C : Type 0) (state : C → CoreState) (among : ByteSet) (apart : HasNo
         no_read : IsReadCause refusal → ⊥
         no_read reads = subst IsReadCause is reads
 
-        by_step : (stage : Stage) (next : Next) → row.before.stage ≡ stage → row.before.sweep.next ≡ next → BreaksBy (phase_at stage next) m image_then → BreaksStep m image_then
-        by_step stage next stage_is next_is breaks =
-            (phase_at stage next, (collects_as (phase_at stage next) (ap (λ (s : Stage). phase_at s row.before.sweep.next) stage_is ∙ ap (phase_at stage) next_is), breaks))
+        by_step : (stage : Stage) (next : Next) → row.before.stage ≡ stage → row.before.sweep.next ≡ next → BreaksBy (phase_at stage next) has_some.collecting.snapshot m image_then → BreaksStep m image_then
+        by_step stage next stage_is next_is breaks = record {
+          running = has_some.collecting;
+          ran = has_some.is;
+          phase = phase_at stage next;
+          may = subst (λ (p : Phase). MayCome p has_some.collecting.progress) (ap (λ (s : Stage). phase_at s row.before.sweep.next) stage_is ∙ ap (phase_at stage) next_is) next_may;
+          breaks = breaks;
+        }
 
         by_stage : (stage : Stage) (next : Next) → row.before.stage ≡ stage → row.before.sweep.next ≡ next → IsCauseAt stage next (state old).tables refusal → Touched stage next → BreaksStep m image_then
         by_stage (Mark level slot) next stage_is next_is at_stage touches = absurd (no_read at_stage)
@@ -181,7 +189,7 @@ module _ (C : Type 0) (state : C → CoreState) (among : ByteSet) (apart : HasNo
         by_stage Sweep (Release source entry) stage_is next_is at_stage touches =
             by_step Sweep (Release source entry) stage_is next_is
             (freeing_broke among at.running.begins.store m.stored (state old) (state new) begins_then at.running.begins.settled m.content image_then at.content_is told_then row.before row.ran stage_is source entry next_is
-            (broken_as Sweep (Release source entry) touches))
+            (broken_as Sweep (Release source entry) touches) has_some.collecting.snapshot snapshot_before)
         by_stage Sweep End stage_is next_is at_stage touches = absurd at_stage
 
     -- ---- no id is left

@@ -1,9 +1,10 @@
 -- What a sweep leaves of the content, by the machine: copies that it writes, and a container that it gives back.
-use Rattle.std.proofs.Common.{◌≡◌, ◌∙◌, inr, ◌+◌, ◌<◌, ◌≤◌, ℕ, suc, List, length, Some, refl, ap, subst, arith}
+use Rattle.std.proofs.Common.{◌≡◌, ◌∙◌, inr, ◌+◌, ◌<◌, ◌≤◌, ℕ, suc, List, length, Some, refl, sym, ap, subst, arith}
 use Rattle.std.specs.Prelude.{count_by, ◌==◌}
 use Rattle.std.specs.List.{AllByRecursion}
 use Rattle.container_meta.specs.Places.{PlaceMap}
 use Rattle.container_meta.specs.Segments.{Contents, segment_key}
+use Rattle.container_meta.specs.Spelling.{HeaderValue}
 use Rattle.dd_disk.specs.Ending.{Broken, Done}
 use Rattle.dd_disk.specs.Moves.{StandsFor}
 use Rattle.disk_format.specs.declared.numbers.TheConstants.{RESERVE}
@@ -170,22 +171,29 @@ module _ (among : ByteSet) (store : Store) (stored : Stored) (old new : CoreStat
     there : turned < store.slots
     there = omega (arith, held_within store.held turned turn.stands.header turn.stands.there, at.valid.many)
 
-    pub freed : Touches Sweep (Release source entry) c.sweep old.tables Done old.disk new.disk → FreesContainer (IsReachable stored.files) content image
-    freed touches = record {
+    before_now : (snapshot : ℕ) → c.snapshot ≡ snapshot → spare.header.id < snapshot
+    before_now snapshot is =
+        let same : turn.stands.header ≡ spare.header = (let both : Some (Some turn.stands.header) ≡ Some (Some spare.header) = sym turn.stands.there ∙ spare.holds in cc) in
+        subst (λ (n : ℕ). spare.header.id < n) is (subst (λ (h : HeaderValue). h.id < c.snapshot) same turn.stands.old)
+
+    pub freed : Touches Sweep (Release source entry) c.sweep old.tables Done old.disk new.disk → (snapshot : ℕ) → c.snapshot ≡ snapshot → FreesContainer (IsReachable stored.files) snapshot content image
+    freed touches snapshot is = record {
       store = store;
       was = right;
       slot = turned;
       spare = spare;
+      came_before = before_now snapshot is;
       now = right_now (with_freed turned store) (touches.1.moves among store index stored.files represents invariant.files_are_indexed turn.none at.stands).arrives;
       rest = gate_changed store.slots old.tables c.sweep old.disk new.disk content image here told at.valid.size_is source entry there touches;
     }
 
     -- where a write broke off
-    pub freeing_broke : Touches Sweep (Release source entry) c.sweep old.tables Broken old.disk new.disk → BreaksGate (IsReachable stored.files) content image
-    freeing_broke touches = record {
+    pub freeing_broke : Touches Sweep (Release source entry) c.sweep old.tables Broken old.disk new.disk → (snapshot : ℕ) → c.snapshot ≡ snapshot → BreaksGate (IsReachable stored.files) snapshot content image
+    freeing_broke touches snapshot is = record {
       store = store;
       was = right;
       slot = turned;
       spare = spare;
+      came_before = before_now snapshot is;
       rest = gate_broke store.slots old.tables c.sweep old.disk new.disk content image here told at.valid.size_is source entry there settled_so touches;
     }

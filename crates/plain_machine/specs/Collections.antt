@@ -1,4 +1,4 @@
--- Collections: containers that no file needs are given back, step by step (docs/MODEL.md, 'The plain machine').
+-- Collections: segments are copied, and containers that no file needs are given back, step by step (docs/MODEL.md, 'The plain machine').
 use Rattle.std.specs.Prelude.{◌≡◌, ℕ, suc, ◌+◌, ◌*◌, ◌<◌, ◌≤◌, Bool, true, false, List, [], ◌∷◌, Option, None, Some, IsSome}
 use Rattle.base_model.specs.Fault.{Rose}
 use Rattle.container_meta.specs.declared.kind.Kind.{Kind}
@@ -43,14 +43,16 @@ pub record BeginsCollection (snapshot : ℕ) (m n : Machine) : Type 0 where
   pub snapshot_is : snapshot ≡ suc m.last_id
   pub most : ℕ
   pub most_is : OfStore m.content (λ store. most ≡ most_steps store.held)
-  pub others : n ≡ record m { collecting = Some (record { progress = Marking; to_come = most; freed = 0; copied = 0; alone = are_idle m.parts }) }
+  pub others : n ≡ record m {
+    collecting = Some (record { snapshot = snapshot; progress = Marking; to_come = most; freed = 0; copied = 0; alone = are_idle m.parts });
+  }
 
--- what a step changes: a flush adds a container of so many copies, a release gives a container back that no file needs, and no other step
--- anything
-abbrev pub ChangesBy : Phase → ℕ → Machine → List ℕ → Type 0
-ChangesBy Flush copies m new = AddsCopies m.last_id copies m.content new
-ChangesBy Release copies m new = (copies ≡ 0) × FreesContainer (IsReachable m.stored.files) m.content new
-ChangesBy phase copies m new = (copies ≡ 0) × SameStore m.content new
+-- what a step changes: a flush adds a container of so many copies, a release gives a container back that came before the snapshot and that no
+-- file needs, and no other step anything
+abbrev pub ChangesBy : Phase → (snapshot copies : ℕ) → Machine → List ℕ → Type 0
+ChangesBy Flush snapshot copies m new = AddsCopies m.last_id copies m.content new
+ChangesBy Release snapshot copies m new = (copies ≡ 0) × FreesContainer (IsReachable m.stored.files) snapshot m.content new
+ChangesBy phase snapshot copies m new = (copies ≡ 0) × SameStore m.content new
 
 -- the last id is another after a flush
 abbrev pub last_by : Phase → ℕ → ℕ
@@ -97,17 +99,26 @@ pub record StepsCollection (phase : Phase) (m n : Machine) : Type 0 where
   pub progress : Progress
   pub next : Progress
   pub goes : GoesTo phase progress next
+  pub snapshot : ℕ
   pub left : ℕ
   pub freed : ℕ
   pub copied : ℕ
   pub alone : Bool
-  pub ran : m.collecting ≡ Some (record { progress = progress; to_come = suc left; freed = freed; copied = copied; alone = alone })
+  pub ran : m.collecting
+      ≡ Some (record { snapshot = snapshot; progress = progress; to_come = suc left; freed = freed; copied = copied; alone = alone })
   pub copies : ℕ
-  pub changes : ChangesBy phase copies m n.content
+  pub changes : ChangesBy phase snapshot copies m n.content
   pub others : n ≡ record m {
     content = n.content;
     last_id = last_by phase m.last_id;
-    collecting = Some (record { progress = next; to_come = left; freed = freed + freed_by phase; copied = copied + copies; alone = alone });
+    collecting = Some (record {
+      snapshot = snapshot;
+      progress = next;
+      to_come = left;
+      freed = freed + freed_by phase;
+      copied = copied + copies;
+      alone = alone;
+    });
     collected = forgets_by phase m.collected;
   }
 
@@ -120,9 +131,11 @@ CollectionSteps (phase ∷ phases) m n = (mid : Machine) × (StepsCollection pha
 -- segments it copied. One that ran alone leaves no container that holds the newest copy of no key that a file needs: so it gave back all of
 -- these.
 pub record EndsCollection (freed copied : ℕ) (m n : Machine) : Type 0 where
+  pub snapshot : ℕ
   pub left : ℕ
   pub alone : Bool
-  pub ran : m.collecting ≡ Some (record { progress = Sweeping false false; to_come = left; freed = freed; copied = copied; alone = alone })
+  pub ran : m.collecting
+      ≡ Some (record { snapshot = snapshot; progress = Sweeping false false; to_come = left; freed = freed; copied = copied; alone = alone })
   pub none_spare : alone ≡ true → OfStore m.content (λ store. (slot : ℕ) → ¬ (IsSpare (IsReachable m.stored.files) store.held slot))
   pub others : n ≡ record m { collecting = None }
 
@@ -133,15 +146,19 @@ Sweeps freed copied m n = (phases : List Phase) × ((mid : Machine) × (Collecti
 -- ---- what is refused
 
 -- what a write that failed leaves of the content, by the step that had it; other steps write nothing
-abbrev pub BreaksBy : Phase → Machine → List ℕ → Type 0
-BreaksBy Copy m new = SameStore m.content new
-BreaksBy Flush m new = (m.last_id < LAST_ID) × BreaksCopies m.content new
-BreaksBy Release m new = BreaksGate (IsReachable m.stored.files) m.content new
-BreaksBy phase m new = ⊥
+abbrev pub BreaksBy : Phase → ℕ → Machine → List ℕ → Type 0
+BreaksBy Copy snapshot m new = SameStore m.content new
+BreaksBy Flush snapshot m new = (m.last_id < LAST_ID) × BreaksCopies m.content new
+BreaksBy Release snapshot m new = BreaksGate (IsReachable m.stored.files) snapshot m.content new
+BreaksBy phase snapshot m new = ⊥
 
--- so it is by the step that came next
-abbrev pub BreaksStep : Machine → List ℕ → Type 0
-BreaksStep m new = (phase : Phase) × (IsCollecting phase m.collecting × BreaksBy phase m new)
+-- A step of the collection that runs, one that may come, broke off.
+pub record BreaksStep (m : Machine) (new : List ℕ) : Type 0 where
+  pub running : Collecting
+  pub ran : m.collecting ≡ Some running
+  pub phase : Phase
+  pub may : MayCome phase running.progress
+  pub breaks : BreaksBy phase running.snapshot m new
 
 -- Why no step is made. Copies are not written where no id is left. Where a write or a sync failed the store is stopped.
 abbrev pub RefusesCollectionStep : Refusal → Machine → Machine → Type 0

@@ -1,5 +1,5 @@
--- How many containers a collection gave back and how many copies it wrote, by the machine, after a step of it.
-use Rattle.std.proofs.Common.{◌≡◌, inl, inr, ◌+◌, ℕ, List, [], length, Option, Some, None, sym, ◌∙◌, ap, subst, arith}
+-- The snapshot of a collection, how many containers it gave back and how many copies it wrote, by the machine, after a step of it.
+use Rattle.std.proofs.Common.{◌≡◌, inl, inr, ◌+◌, ℕ, List, length, Option, Some, None, refl, sym, ◌∙◌, ap, subst, arith}
 use Rattle.container_meta.specs.declared.kind.Kind.{Kind}
 use Rattle.container_meta.specs.Segments.{Contents, Segment}
 use Rattle.copy_forward.specs.declared.plan.Plan.{Plan}
@@ -16,7 +16,7 @@ use Rattle.gc_sweep.specs.declared.sweep.Next.TheVariants.{Copy, Flush, Release,
 use Rattle.gc_sweep.specs.declared.sweep.Sweep.{Sweep as SweepValue}
 use Rattle.gc_sweep.specs.Copying.{CopiesSource, IsFilling, TakesBy}
 use Rattle.plain_machine.specs.Collections.{freed_by}
-use Rattle.plain_machine.specs.Machine.{Collecting, Progress}
+use Rattle.store_state.specs.declared.slot_table.SlotTable.{SlotTable}
 use Rattle.script_runner.specs.Follows.{HasCounted}
 
 -- how many copies a step writes
@@ -24,27 +24,23 @@ abbrev pub copies_by : Stage → Next → SweepValue → ℕ
 copies_by Sweep (Flush source entry) s = length s.buffer.segments
 copies_by stage next s = 0
 
--- the same, after a step by which it is so far
-abbrev pub counted_more : Collecting → Progress → ℕ → ℕ → ℕ → Collecting
-counted_more k progress left freed copies = record k { progress = progress; to_come = left; freed = k.freed + freed; copied = k.copied + copies }
-
 -- what is filled has as many segments as there were
 pub filling_many : (buffer filling : Contents) (kind : Kind) → IsFilling buffer kind filling → length filling.segments ≡ length buffer.segments
 filling_many buffer filling kind (inl (empty, is)) = ap (λ (c : Contents). length c.segments) is ∙ sym (ap (λ (l : List Segment). length l) empty)
 filling_many buffer filling kind (inr (some, is)) = ap (λ (c : Contents). length c.segments) is
 
 -- before it sweeps nothing was
-pub early_counted : (stage : Stage) (s : SweepValue) (k : Collecting) → IsToChoose stage → k.freed ≡ 0 → k.copied ≡ 0 → HasCounted stage s k
-early_counted (Mark level slot) s k early freed copied = (freed, copied)
-early_counted (Filter slot) s k early freed copied = (freed, copied)
-early_counted Select s k early freed copied = (freed, copied)
-early_counted Sweep s k early freed copied = absurd early
+pub early_counted : (stage : Stage) (s : SweepValue) (freed copied : ℕ) → IsToChoose stage → freed ≡ 0 → copied ≡ 0 → HasCounted stage s freed copied
+early_counted (Mark level slot) s freed copied early none_freed none_copied = (none_freed, none_copied)
+early_counted (Filter slot) s freed copied early none_freed none_copied = (none_freed, none_copied)
+early_counted Select s freed copied early none_freed none_copied = (none_freed, none_copied)
+early_counted Sweep s freed copied early none_freed none_copied = absurd early
 
 pub at_filter : (found : Option ℕ) → IsToChoose (filter_at found)
 at_filter None = tt
 at_filter (Some slot) = tt
 
-module _ (old new : Moment) (k : Collecting) (progress : Progress) (left : ℕ) where
+module _ (old new : Moment) (freed copied : ℕ) where
   abbrev before : Collection
   before = old.collection
 
@@ -52,20 +48,20 @@ module _ (old new : Moment) (k : Collecting) (progress : Progress) (left : ℕ) 
   after = new.collection
 
   abbrev Counted : Stage → Next → Type 0
-  Counted stage next = HasCounted after.stage after.sweep (counted_more k progress left (freed_by (phase_at stage next)) (copies_by stage next before.sweep))
+  Counted stage next = HasCounted after.stage after.sweep (freed + freed_by (phase_at stage next)) (copied + copies_by stage next before.sweep)
 
   -- the sources are still to be chosen
-  still_none : (stage : Stage) → after.stage ≡ stage → IsToChoose stage → k.freed ≡ 0 → k.copied ≡ 0 → HasCounted after.stage after.sweep (counted_more k progress left 0 0)
-  still_none stage is early freed copied =
-      early_counted after.stage after.sweep (counted_more k progress left 0 0) (subst IsToChoose (sym is) early) (omega (arith, freed)) (omega (arith, copied))
+  still_none : (stage : Stage) → after.stage ≡ stage → IsToChoose stage → freed ≡ 0 → copied ≡ 0 → HasCounted after.stage after.sweep (freed + 0) (copied + 0)
+  still_none stage is early none_freed none_copied =
+      early_counted after.stage after.sweep (freed + 0) (copied + 0) (subst IsToChoose (sym is) early) (omega (arith, none_freed)) (omega (arith, none_copied))
 
   -- it sweeps
-  sweeping : (freed copies : ℕ) → after.stage ≡ Sweep → after.sweep.freed ≡ k.freed + freed → after.sweep.copied ≡ k.copied + copies + length after.sweep.buffer.segments
-      → HasCounted after.stage after.sweep (counted_more k progress left freed copies)
-  sweeping freed copies is freed_is copied_is = subst (λ (stage : Stage). HasCounted stage after.sweep (counted_more k progress left freed copies)) (sym is) (freed_is, copied_is)
+  sweeping : (more copies : ℕ) → after.stage ≡ Sweep → after.sweep.freed ≡ freed + more → after.sweep.copied ≡ copied + copies + length after.sweep.buffer.segments
+      → HasCounted after.stage after.sweep (freed + more) (copied + copies)
+  sweeping more copies is freed_is copied_is = subst (λ (stage : Stage). HasCounted stage after.sweep (freed + more) (copied + copies)) (sym is) (freed_is, copied_is)
 
   -- a source was copied: as many more are to be written
-  taken_many : (t : _) (slot source : ℕ) (found : Option Plan) (filling : Contents) (kind : Kind) → IsFilling before.sweep.buffer kind filling
+  taken_many : (t : SlotTable) (slot source : ℕ) (found : Option Plan) (filling : Contents) (kind : Kind) → IsFilling before.sweep.buffer kind filling
       → ((plan : Plan) → found ≡ Some plan → length plan.buffer.segments ≡ length filling.segments + plan.copied) → TakesBy t slot source found before.sweep after.sweep
       → after.sweep.copied + length before.sweep.buffer.segments ≡ before.sweep.copied + length after.sweep.buffer.segments
   taken_many t slot source None filling kind fills planned takes =
@@ -73,7 +69,17 @@ module _ (old new : Moment) (k : Collecting) (progress : Progress) (left : ℕ) 
   taken_many t slot source (Some plan) filling kind fills planned takes =
       omega (arith, takes.1, ap (λ (c : Contents). length c.segments) takes.0, planned plan refl, filling_many before.sweep.buffer filling kind fills)
 
-  pub counted_on : (stage : Stage) (next : Next) → before.stage ≡ stage → before.sweep.next ≡ next → HasCounted stage before.sweep k → StepsTo stage next old new → (phase_at stage next ≡ phase_at Sweep End → ⊥) → Counted stage next
+  -- the snapshot stays
+  pub snapshot_on : (stage : Stage) (next : Next) → StepsTo stage next old new → after.snapshot ≡ before.snapshot
+  snapshot_on (Mark level slot) next steps = ap (λ (c : Collection). c.snapshot) steps.0.collection_is
+  snapshot_on (Filter slot) next steps = ap (λ (c : Collection). c.snapshot) steps.0.collection_is
+  snapshot_on Select next steps = ap (λ (c : Collection). c.snapshot) steps.0.collection_is
+  snapshot_on Sweep (Copy source entry) steps = ap (λ (c : Collection). c.snapshot) steps.1
+  snapshot_on Sweep (Flush source entry) steps = ap (λ (c : Collection). c.snapshot) steps.sweeps
+  snapshot_on Sweep (Release source entry) steps = ap (λ (c : Collection). c.snapshot) steps.1
+  snapshot_on Sweep End steps = ap (λ (c : Collection). c.snapshot) steps.0
+
+  pub counted_on : (stage : Stage) (next : Next) → before.stage ≡ stage → before.sweep.next ≡ next → HasCounted stage before.sweep freed copied → StepsTo stage next old new → (phase_at stage next ≡ phase_at Sweep End → ⊥) → Counted stage next
   counted_on (Mark level slot) next is next_is counted steps other =
       still_none (mark_from before.snapshot old.tables.held level (slot + 1)) (ap (λ (c : Collection). c.stage) steps.0.collection_is) (early_from before.snapshot old.tables.held level (slot + 1)) counted.0 counted.1
   counted_on (Filter slot) next is next_is counted steps other =

@@ -1,6 +1,6 @@
 -- How far a collection has come, by the machine, after a step of it.
-use Rattle.std.proofs.Common.{◌≡◌, ◌≢◌, inl, inr, ◌+◌, ◌<◌, ℕ, Bool, true, false, List, [], ◌∷◌, length, Option, Some, None, refl, sym, ◌∙◌, ap, subst, arith}
-use Rattle.std.specs.Prelude.{nat_lt, ◌==◌}
+use Rattle.std.proofs.Common.{◌≡◌, ◌≢◌, inl, inr, ◌+◌, ◌≤◌, ℕ, Bool, true, false, List, [], ◌∷◌, length, Option, Some, None, refl, sym, ◌∙◌, ap, subst, arith}
+use Rattle.std.specs.Prelude.{nat_lt}
 use Rattle.std.proofs.lemmas.Bool.{eq-eqb, lt-ltb, ltb-true}
 use Rattle.container_meta.specs.declared.entry.Entry.{Entry}
 use Rattle.container_meta.specs.Segments.{Contents, Segment}
@@ -19,7 +19,6 @@ use Rattle.gc_sweep.specs.declared.sweep.Next.{Next}
 use Rattle.gc_sweep.specs.declared.sweep.Next.TheVariants.{Copy, Flush, Release, End}
 use Rattle.gc_sweep.specs.declared.sweep.Sweep.{Sweep as SweepValue}
 use Rattle.gc_sweep.specs.Copying.{CopiesSource, EndsBy, HasEnded, TakesBy}
-use Rattle.gc_sweep.specs.InTurn.{HasReleased}
 use Rattle.gc_sweep.specs.Next.{IsNext}
 use Rattle.refusals.specs.declared.refusal.Phase.{Phase}
 use Rattle.store_state.specs.declared.slot_table.SlotTable.{SlotTable}
@@ -121,8 +120,8 @@ module _ (old new : CoreState) (before after : Collection) where
 
   -- a source that doesn't end was not copied into an empty container
   not_empty : (of : Source) (shown : (List ℕ → Type 0) → Type 0) (entries : List Entry) (from : ℕ) (filling : Contents) (plan : Plan) → IsPlan of shown entries from filling plan → plan.ended ≡ false → filling.segments ≢ []
-  not_empty of shown entries from filling plan is open empty =
-      absurd (let wrong : true ≡ false = sym (eq-eqb plan.next (length entries) (is.whole empty)) ∙ sym is.ended_is ∙ open in cc)
+  not_empty of shown entries from filling plan is unended empty =
+      absurd (let wrong : true ≡ false = sym (eq-eqb plan.next (length entries) (is.whole empty)) ∙ sym is.ended_is ∙ unended in cc)
 
   module _ (source entry : ℕ) (copies : CopiesSource old.tables.held before.live old.known new.known old.disk new.disk source entry before.sweep after.sweep) where
     by_found : (found : Option Plan) → PlansSource old.known before.live copies.slot entry copies.filling old.disk new.disk found → TakesBy old.tables.held copies.slot source found before.sweep after.sweep

@@ -163,7 +163,7 @@ module _ (C : Type 0) (state : C → CoreState) (among : ByteSet) (apart : HasNo
     slots_same = same_slots C state among apart m sessions old new at percent started buf made
 
     abbrev begins_so : Collecting
-    begins_so = record { progress = Marking; to_come = most_steps held.held; freed = 0; copied = 0; alone = are_idle m.parts }
+    begins_so = record { snapshot = snapshot; progress = Marking; to_come = most_steps held.held; freed = 0; copied = 0; alone = are_idle m.parts }
 
     -- the sources are still to be chosen
     early : IsToChoose begun.collection.stage
@@ -173,8 +173,9 @@ module _ (C : Type 0) (state : C → CoreState) (among : ByteSet) (apart : HasNo
     now = record {
       collection = begun.collection;
       runs = begun.runs;
+      snapshot_is = sym begun.snapshot_is;
       progress_is = early;
-      counted = early_counted begun.collection.stage begun.collection.sweep begins_so early refl refl;
+      counted = early_counted begun.collection.stage begun.collection.sweep 0 0 early refl refl;
       most = most;
       few = subst (λ (t : SlotTable). HasFewSources most t begun.collection) (sym slots_same) (few_begun (state old).tables.held begun.collection begun.nothing_yet.1.sources_are);
       nears = subst (λ (t : SlotTable). steps_to_come most t begun.collection ≤ most_steps held.held) (sym slots_same)

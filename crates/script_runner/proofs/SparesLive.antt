@@ -114,6 +114,7 @@ follows_disturbed (Some k) c follows = record {
   collection = follows.collection;
   runs = follows.runs;
   progress_is = follows.progress_is;
+  snapshot_is = follows.snapshot_is;
   counted = follows.counted;
   most = follows.most;
   few = follows.few;

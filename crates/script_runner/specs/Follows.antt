@@ -108,16 +108,17 @@ IsAtProgress progress c = IsAtStage progress c.stage c.sweep.next c.sweep.buffer
 
 -- So many sources were given back, and so many segments copied and written: of those that were copied the others are to be written. None of
 -- either before it sweeps.
-abbrev pub HasCounted : Stage → SweepValue → Collecting → Type 0
-HasCounted stages.Sweep s k = (s.freed ≡ k.freed) × (s.copied ≡ k.copied + length s.buffer.segments)
-HasCounted stage s k = (k.freed ≡ 0) × (k.copied ≡ 0)
+abbrev pub HasCounted : Stage → SweepValue → ℕ → ℕ → Type 0
+HasCounted stages.Sweep s freed copied = (s.freed ≡ freed) × (s.copied ≡ copied + length s.buffer.segments)
+HasCounted stage s freed copied = (freed ≡ 0) × (copied ≡ 0)
 
--- One runs that has come so far, gave so many containers back and wrote so many copies, and no more steps of it come.
+-- One runs, from that snapshot, that has come so far, gave so many containers back and wrote so many copies, and no more steps of it come.
 pub record FollowsCollecting (k : Collecting) (c : CoreState) : Type 0 where
   pub collection : Collection
   pub runs : c.collection ≡ Some collection
+  pub snapshot_is : collection.snapshot ≡ k.snapshot
   pub progress_is : IsAtProgress k.progress collection
-  pub counted : HasCounted collection.stage collection.sweep k
+  pub counted : HasCounted collection.stage collection.sweep k.freed k.copied
   pub most : ℕ
   pub few : HasFewSources most c.tables.held collection
   pub nears : steps_to_come most c.tables.held collection ≤ k.to_come

@@ -1,5 +1,5 @@
 -- How many steps a collection takes.
-use Rattle.std.proofs.Common.{◌≡◌, inl, inr, ◌≤◌, ℕ, ◌+◌, ◌*◌, List, [], ◌∷◌, length, Option, Some, None, Result, Ok, Err, Vec, Global, refl, sym, ◌∙◌, ap, subst, arith}
+use Rattle.std.proofs.Common.{◌≡◌, ◌≤◌, ℕ, ◌+◌, ◌*◌, List, [], ◌∷◌, length, Option, Some, None, Result, Ok, Err, Vec, Global, refl, sym, ◌∙◌, ap, subst, arith}
 use Rattle.actor_parts.specs.declared.step.Answer.{Answer}
 use Rattle.actor_parts.specs.declared.step.Answer.TheVariants as answers
 use Rattle.actor_parts.specs.StepValue as asked
@@ -30,6 +30,7 @@ use Rattle.store_core.specs.Collecting.{Begins, Collects, GcRow, GoesOn, IsKeptK
 use Rattle.store_core.specs.Core.{Effect, KeepsTables, Row, Steps, StepsOr, next_id}
 use Rattle.store_core.specs.Runs.{CoreRun}
 use Rattle.store_core.specs.State.{CoreState, Event, IsRunning, IsUnderWayIn, IsUp, UnlessStopped}
+use Rattle.store_core.proofs.Counted.{refused_live}
 use Rattle.store_core.proofs.CoreRuns.{running_step}
 use Rattle.store_core.proofs.RunningOn.{commit_held, delete_held, first_closed, first_within, step_runs, tables_kept}
 
@@ -169,25 +170,13 @@ module _ (old new : CoreState) (b : Collection) (ran : old.collection ≡ Some b
             nears = λ many few. let fewer = near many few in omega (arith, fewer);
           }
 
-  -- what is refused leaves it, but for its live keys
-  refused_live : (stage : Stage) (next : Next) (refusal : Refusal) (a : Collection) → Keeps stage next (at_moment old b) (at_moment new a) refusal → (live : LiveKeys) × (a ≡ record b { live = live })
-  refused_live (Mark level slot) next refusals.Memory a (inl same, known) = (b.live, same)
-  refused_live (Mark level slot) next refusals.Memory a (inr only, known) = (a.live, only.collection_is)
-  refused_live (Mark level slot) next refusal a keeps = (b.live, keeps.0)
-  refused_live (Filter slot) next refusal a keeps = (b.live, keeps.0)
-  refused_live Select next refusal a keeps = (b.live, keeps.0)
-  refused_live Sweep (Copy source entry) refusal a keeps = (b.live, keeps.0)
-  refused_live Sweep (Flush source entry) refusal a keeps = (b.live, keeps.0)
-  refused_live Sweep (Release source entry) refusal a keeps = (b.live, keeps)
-  refused_live Sweep End refusal a keeps = (b.live, keeps.0)
-
   gc_leaves : (answer : Result Answer Refusal) → IsNoEnd answer → GcRow answer old new → Leaves asked.GcStep answer b old new
   gc_leaves (Ok (answers.Did phase)) goes_on row = did_leaves phase row.0
   gc_leaves (Ok (answers.Done freed copied)) goes_on row = absurd goes_on
   gc_leaves (Err refusals.NotCollecting) goes_on row = absurd (let wrong : None ≡ Some b = sym row.0.none_ran ∙ ran in cc)
   gc_leaves (Err refusal) goes_on row =
       let same = same_some row.0.before b old.collection row.0.ran ran in
-      let live = refused_live b.stage b.sweep.next refusal row.0.after (subst (λ (x : Collection). Keeps x.stage x.sweep.next (at_moment old x) (at_moment new row.0.after) refusal) same row.0.kept) in
+      let live = refused_live old new b b.stage b.sweep.next refusal row.0.after (subst (λ (x : Collection). Keeps x.stage x.sweep.next (at_moment old x) (at_moment new row.0.after) refusal) same row.0.kept) in
       unchanged asked.GcStep (Err refusal) refl live.0 (row.0.runs ∙ ap Some live.1) (same_steps (ap (λ (t : Tables). t.held) row.0.tables_are))
   gc_leaves answer goes_on row = absurd row
 

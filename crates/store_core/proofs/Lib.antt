@@ -3,6 +3,7 @@ pub mod Bounded
 pub mod CheckedReads
 pub mod Committing
 pub mod CoreRuns
+pub mod Counted
 pub mod Crashes
 pub mod Damage
 pub mod Flushed
@@ -26,3 +27,4 @@ pub mod SafeSteps
 pub mod Sealing
 pub mod SparedRest
 pub mod Stepping
+pub mod Tallied

@@ -1,5 +1,5 @@
 -- What the steps of a collection give back, where no other steps come between them.
-use Rattle.std.proofs.Common.{◌≡◌, ℕ, ◌+◌, List, [], ◌∷◌, ◌++◌, Option, Some, None, Result, Ok, Err, refl, sym, ◌∙◌, ap, ap₂, subst, arith}
+use Rattle.std.proofs.Common.{◌≡◌, ℕ, ◌+◌, List, [], ◌∷◌, ◌++◌, Option, Some, None, Result, Ok, Err, refl, sym, ◌∙◌, ap, ap₂, subst}
 use Rattle.actor_parts.specs.declared.step.Answer.{Answer}
 use Rattle.actor_parts.specs.declared.step.Answer.TheVariants as answers
 use Rattle.actor_parts.specs.StepValue as asked
@@ -11,10 +11,9 @@ use Rattle.gc_steps.specs.declared.collection.Stage.{Stage}
 use Rattle.gc_steps.specs.declared.collection.Stage.TheVariants.{Filter, Mark, Select, Sweep as SweepStage}
 use Rattle.gc_sweep.specs.declared.sweep.Next.{Next}
 use Rattle.gc_sweep.specs.declared.sweep.Next.TheVariants.{Copy, Flush, Release, End}
-use Rattle.gc_sweep.specs.declared.sweep.Sweep.{Sweep}
 use Rattle.gc_sweep.specs.InTurn.{slot_in_turn}
 use Rattle.gc_steps.specs.Sparing.{Spares}
-use Rattle.gc_steps.specs.Stepping.{phase_at}
+use Rattle.gc_steps.specs.Stepping.{Keeps, phase_at}
 use Rattle.gc_steps.proofs.Sparing.{ready_is_spare}
 use Rattle.gc_steps.proofs.StepSafe.{IsStoreAfter}
 use Rattle.refusals.specs.declared.refusal.Phase.{Phase}
@@ -28,12 +27,13 @@ use Rattle.store_model.specs.Image.{Store}
 use Rattle.store_model.specs.Reserve.{IsReachable, IsSpare}
 use Rattle.store_model.specs.Steps.{StoreChange, SealContainer, ChangeName, FlushContainer, FreeContainer, with_sealed}
 use Rattle.store_core.specs.Bounds.{starts}
-use Rattle.store_core.specs.Collecting.{GcEffect, GcRow, GoesOn, HasEnded, IsNotMade, TouchesBy}
+use Rattle.store_core.specs.Collecting.{GcEffect, GcRow, GoesOn, HasEnded, IsNotMade, TouchesBy, at_moment}
 use Rattle.store_core.specs.Core.{Steps, StopsAfter}
 use Rattle.store_core.specs.Releases.{AreGcSteps, LeavesNoneSpare, ReleasesSpare, SweepsSpare, ends_with, freed_in, released_by}
 use Rattle.store_core.specs.Runs.{AreChangesBy, ChangesTo, FileEvent, FileRun, FileStep, IsAt, stored_by, stored_with}
 use Rattle.store_core.specs.State.{CoreState}
 use Rattle.store_core.proofs.AnySteps.{any_step, with_step}
+use Rattle.store_core.proofs.Counted.{Counts, IsQuiet, changed_by, counts_refused, counts_step, freed_then}
 use Rattle.store_core.proofs.CoreRuns.{running_step, was_running}
 use Rattle.store_core.proofs.KeepingFiles.{run_running}
 use Rattle.store_core.proofs.SafeSteps.{one_map_at}
@@ -41,34 +41,29 @@ use Rattle.store_model.proofs.Once.{store_once}
 use Rattle.store_state.specs.Invariant.{CoreInvariant}
 use Rattle.store_core.proofs.GcSteps.{phase_of}
 use Rattle.store_core.proofs.Leading.{Leads}
-use Rattle.store_core.proofs.SparedRest.{begun_spares, did_spares, ended_spares, led_to, refused_known, refused_spares}
+use Rattle.store_core.proofs.SparedRest.{same_some, begun_spares, did_spares, ended_spares, led_to, refused_known, refused_spares}
 
 -- ---- what a collection changes alone
 
-sweeps_then : (P : List ℕ → Type 0) (changes more : List StoreChange) (s t u : Store) → SweepsSpare P changes s t → SweepsSpare P more t u → SweepsSpare P (changes ++ more) s u
+pub sweeps_then : (P : List ℕ → Type 0) (changes more : List StoreChange) (s t u : Store) → SweepsSpare P changes s t → SweepsSpare P more t u → SweepsSpare P (changes ++ more) s u
 sweeps_then P [] more s t u first rest = subst (λ (x : Store). SweepsSpare P more x u) first rest
 sweeps_then P (SealContainer id kind segments ∷ changes) more s t u first rest = absurd first
 sweeps_then P (ChangeName name change ∷ changes) more s t u first rest = absurd first
 sweeps_then P (FlushContainer id kind segments ∷ changes) more s t u first rest = (first.0, sweeps_then P changes more (with_sealed id kind segments s) t u first.1 rest)
 sweeps_then P (FreeContainer slot ∷ changes) more s t u first rest = (first.0, sweeps_then P changes more (with_freed slot s) t u first.1 rest)
 
-freed_then : (changes more : List StoreChange) → freed_in (changes ++ more) ≡ freed_in changes + freed_in more
-freed_then [] more = omega arith
-freed_then (SealContainer id kind segments ∷ changes) more = freed_then changes more
-freed_then (ChangeName name change ∷ changes) more = freed_then changes more
-freed_then (FlushContainer id kind segments ∷ changes) more = freed_then changes more
-freed_then (FreeContainer slot ∷ changes) more = omega (arith, freed_then changes more)
-
 -- ---- a step
 
--- What a step of a collection changed: it gave a container back, or wrote one, or nothing.
-record Gives (P : List ℕ → Type 0) (answer : Result Answer Refusal) (s t : Store) : Type 0 where
-  changes : List StoreChange
-  many : freed_in changes ≡ released_by answer
-  chain : SweepsSpare P changes s t
+-- the collection that runs, if one does, counts these changes
+abbrev pub CountsIn : List StoreChange → Option Collection → Option Collection → Type 0
+CountsIn changes was now = (before after : Collection) → was ≡ Some before → now ≡ Some after → IsQuiet before → Counts changes before after
 
-gives_none : (P : List ℕ → Type 0) (answer : Result Answer Refusal) (s t : Store) → released_by answer ≡ 0 → t ≡ s → Gives P answer s t
-gives_none P answer s t none same = record { changes = []; many = sym none; chain = same }
+-- What a step of a collection changed: it gave a container back, or wrote one, or nothing; and the collection counts it.
+pub record Gives (P : List ℕ → Type 0) (answer : Result Answer Refusal) (s t : Store) (was now : Option Collection) : Type 0 where
+  pub changes : List StoreChange
+  pub many : freed_in changes ≡ released_by answer
+  pub chain : SweepsSpare P changes s t
+  pub counts : CountsIn changes was now
 
 -- the collection that runs, if one does, spares what is needed
 abbrev SparesIn : (List ℕ → Type 0) → PlaceMap → Store → Option Collection → Type 0
@@ -80,13 +75,13 @@ module _ (among : ByteSet) (distinct : HasNoCollisions (IsIn among)) (f : FileEv
   abbrev Needs : List ℕ → Type 0
   Needs = IsReachable stored.files
 
-  leads : Leads (IsIn among) s f (stored_by f stored) old new
+  pub leads : Leads (IsIn among) s f (stored_by f stored) old new
   leads = any_step among distinct f s stored old new step at stays
 
   abbrev t : Store
   t = leads.next.store
 
-  after : IsAt (IsIn among) t stored new
+  pub after : IsAt (IsIn among) t stored new
   after = subst (λ (x : Stored). IsAt (IsIn among) t x new) (ap (λ (st : StepValue). stored_with st f.event.answer f.bytes stored) is) leads.next.is_at
 
   steps : Steps (with_step f asked.GcStep).event old new
@@ -103,41 +98,91 @@ module _ (among : ByteSet) (distinct : HasNoCollisions (IsIn among)) (f : FileEv
 
   -- that was made
   module _ (phase : Phase) (goes : GoesOn phase old new) (touches : TouchesBy old.collection (Ok (answers.Did phase)) old new.disk) (later : IsLater old.disk new.disk) where
-    by_stage : (stage : Stage) (next : Next) (sweep : Sweep) → IsStoreAfter stage next sweep at.index s t at.stands.known.0 → Gives Needs (Ok (answers.Did (phase_at stage next))) s t
-    by_stage (Mark level slot) next sweep same = gives_none Needs (Ok (answers.Did phases.Mark)) s t refl same
-    by_stage (Filter slot) next sweep same = gives_none Needs (Ok (answers.Did phases.Filter)) s t refl same
-    by_stage Select next sweep same = gives_none Needs (Ok (answers.Did phases.Select)) s t refl same
-    by_stage SweepStage (Copy source entry) sweep same = gives_none Needs (Ok (answers.Did phases.Copy)) s t refl same
-    by_stage SweepStage (Flush source entry) sweep flushes = record {
-      changes = FlushContainer flushes.id sweep.buffer.kind sweep.buffer.segments ∷ [];
+    abbrev c : Collection
+    c = goes.before
+
+    counted : (id : ℕ) → CountsIn (changed_by c.stage c.sweep.next c.sweep id) old.collection new.collection
+    counted id b a ran runs quiet =
+        let same_before : c ≡ b = same_some c b old.collection goes.ran ran in
+        let same_after : goes.after ≡ a = same_some goes.after a new.collection goes.runs runs in
+        subst (λ (x : Collection). Counts (changed_by c.stage c.sweep.next c.sweep id) x a) same_before
+        (subst (λ (x : Collection). Counts (changed_by c.stage c.sweep.next c.sweep id) c x) same_after
+        (counts_step old new c goes.after (subst IsQuiet (sym same_before) quiet) id c.stage c.sweep.next refl goes.steps))
+
+    abbrev Given : Stage → Next → Type 0
+    Given stage next = ((id : ℕ) → CountsIn (changed_by stage next c.sweep id) old.collection new.collection) → Gives Needs (Ok (answers.Did (phase_at stage next))) s t old.collection new.collection
+
+    none_given : (phase : Phase) → released_by (Ok (answers.Did phase)) ≡ 0 → t ≡ s → CountsIn [] old.collection new.collection → Gives Needs (Ok (answers.Did phase)) s t old.collection new.collection
+    none_given phase none same counts = record { changes = []; many = sym none; chain = same; counts = counts }
+
+    by_stage : (stage : Stage) (next : Next) → IsStoreAfter stage next c.sweep at.index s t at.stands.known.0 → Given stage next
+    by_stage (Mark level slot) next same counts = none_given phases.Mark refl same (counts 0)
+    by_stage (Filter slot) next same counts = none_given phases.Filter refl same (counts 0)
+    by_stage Select next same counts = none_given phases.Select refl same (counts 0)
+    by_stage SweepStage (Copy source entry) same counts = none_given phases.Copy refl same (counts 0)
+    by_stage SweepStage (Flush source entry) flushes counts = record {
+      changes = FlushContainer flushes.id c.sweep.buffer.kind c.sweep.buffer.segments ∷ [];
       many = refl;
       chain = (flushes.can, flushes.now_is);
+      counts = counts flushes.id;
     }
-    by_stage SweepStage (Release source entry) sweep frees = record {
-      changes = FreeContainer (slot_in_turn sweep) ∷ [];
+    by_stage SweepStage (Release source entry) frees counts = record {
+      changes = FreeContainer (slot_in_turn c.sweep) ∷ [];
       many = refl;
-      chain = (ready_is_spare at.index s stored.files (slot_in_turn sweep) frees.header frees.there was.index_is_newest was.files_are_indexed frees.none, frees.now_is);
+      chain = (ready_is_spare at.index s stored.files (slot_in_turn c.sweep) frees.header frees.there was.index_is_newest was.files_are_indexed frees.none, frees.now_is);
+      counts = counts 0;
     }
-    by_stage SweepStage End sweep same = gives_none Needs (Ok (answers.Did phases.End)) s t refl same
+    by_stage SweepStage End same counts = none_given phases.End refl same (counts 0)
 
-    did_gives : Gives Needs (Ok (answers.Did phase)) s t
+    did_gives : Gives Needs (Ok (answers.Did phase)) s t old.collection new.collection
     did_gives =
-        subst (λ (p : Phase). Gives Needs (Ok (answers.Did p)) s t) (phase_of goes.before phase goes.phase_is)
-        (by_stage goes.before.stage goes.before.sweep.next goes.before.sweep (led_to among s stored old new at t after phase goes touches later))
+        subst (λ (p : Phase). Gives Needs (Ok (answers.Did p)) s t old.collection new.collection) (phase_of c phase goes.phase_is)
+        (by_stage c.stage c.sweep.next (led_to among s stored old new at t after phase goes touches later) counted)
 
     did_on : SparesIn Needs at.index s old.collection → SparesIn Needs after.index t new.collection
     did_on spares =
         subst (SparesIn Needs after.index t) (sym goes.runs)
         (did_spares among s stored old new at t after phase goes touches later after.index after.index_known (subst (SparesIn Needs at.index s) goes.ran spares))
 
-  gives_by : (a : Result Answer Refusal) → AreChangesBy asked.GcStep a leads.changes → GcRow a old new → GcEffect a old new → Gives Needs a s t
+  -- that was refused, where one runs
+  refused_counts : (refusal : Refusal) → IsNotMade refusal old new → CountsIn [] old.collection new.collection
+  refused_counts refusal row b a ran runs quiet =
+      let same_before : row.before ≡ b = same_some row.before b old.collection row.ran ran in
+      let same_after : row.after ≡ a = same_some row.after a new.collection row.runs runs in
+      counts_refused old new b a refusal quiet
+      (subst (λ (x : Collection). Keeps b.stage b.sweep.next (at_moment old b) (at_moment new x) refusal) same_after
+      (subst (λ (x : Collection). Keeps x.stage x.sweep.next (at_moment old x) (at_moment new row.after) refusal) same_before row.kept))
+
+  gives_by : (a : Result Answer Refusal) → AreChangesBy asked.GcStep a leads.changes → GcRow a old new → GcEffect a old new → Gives Needs a s t old.collection new.collection
   gives_by (Ok (answers.Did phase)) are row effect = did_gives phase row.0 effect.touches effect.later
-  gives_by (Ok (answers.Done freed copied)) are row effect = gives_none Needs (Ok (answers.Done freed copied)) s t refl (same_store are)
-  gives_by (Err refusal) are row effect = gives_none Needs (Err refusal) s t refl (same_store are)
+  gives_by (Ok (answers.Done freed copied)) are row effect = record {
+    changes = [];
+    many = refl;
+    chain = same_store are;
+    counts = λ b a ran runs. absurd (let wrong : None ≡ Some a = sym row.0.ended ∙ runs in cc);
+  }
+  gives_by (Err refusals.NotCollecting) are row effect = record {
+    changes = [];
+    many = refl;
+    chain = same_store are;
+    counts = λ b a ran runs. absurd (let wrong : None ≡ Some b = sym row.0.none_ran ∙ ran in cc);
+  }
+  gives_by (Err refusal) are row effect = record { changes = []; many = refl; chain = same_store are; counts = refused_counts refusal row.0 }
   gives_by a are row effect = absurd row
 
-  gives : Gives Needs f.event.answer s t
+  pub gives : Gives Needs f.event.answer s t old.collection new.collection
   gives = gives_by f.event.answer told steps.made.row steps.made.effect
+
+  -- where none runs, none does
+  idle_by : (a : Result Answer Refusal) → GcRow a old new → old.collection ≡ None → new.collection ≡ None
+  idle_by (Ok (answers.Did phase)) row none = absurd (let wrong : None ≡ Some row.0.before = sym none ∙ row.0.ran in cc)
+  idle_by (Ok (answers.Done freed copied)) row none = row.0.ended
+  idle_by (Err refusals.NotCollecting) row none = row.0.none_runs
+  idle_by (Err refusal) row none = absurd (let wrong : None ≡ Some row.0.before = sym none ∙ row.0.ran in cc)
+  idle_by a row none = absurd row
+
+  pub idle_on : old.collection ≡ None → new.collection ≡ None
+  idle_on = idle_by f.event.answer steps.made.row
 
   -- that was refused
   whole : (refusal : Refusal) → StopsAfter asked.GcStep (Err refusal) old.acknowledged new.stop → refusal ≡ refusals.DiskWrite → ⊥

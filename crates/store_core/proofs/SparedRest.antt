@@ -44,7 +44,7 @@ use Rattle.store_core.specs.Collecting.{Begins, GoesOn, HasEnded, IsNotMade, Tou
 use Rattle.store_core.specs.Runs.{IsAt, IsSafeIn}
 use Rattle.store_core.specs.State.{CoreState, IsUnderWayIn}
 
-same_some : (a b : Collection) (o : Option Collection) → o ≡ Some a → o ≡ Some b → a ≡ b
+pub same_some : (a b : Collection) (o : Option Collection) → o ≡ Some a → o ≡ Some b → a ≡ b
 same_some a b o one two = let both : Some a ≡ Some b = sym one ∙ two in cc
 
 -- ---- it begins, where no actor is at anything

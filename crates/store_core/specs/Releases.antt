@@ -79,3 +79,19 @@ LeavesNoneSpare C state = (among : ByteSet) (actor last_actor percent snapshot f
     → FileRun C state (IsIn among) steps mid new → AreGcSteps steps → (state new).stop ≡ None
     → CoreStep (state new) (ends_with last_actor freed copied last_buf) (state last)
     → IsAt (IsIn among) t stored (state new) → (slot : ℕ) → ¬ (IsSpare (IsReachable stored.files) t.held slot)
+
+-- It has come to it by changes that give back so many containers, none of which these files need, and write so many segments.
+pub record HasCollected (S : List ℕ → Type 0) (stored : Stored) (freed copied : ℕ) (s : Store) (c : CoreState) : Type 0 where
+  pub released : HasReleased S stored freed s c
+  pub written : copied_in released.changes ≡ copied
+
+-- So it is where one began, and came to its end with no other steps between: it answers how many containers it gave back, and how many segments
+-- those have that it wrote.
+abbrev pub CollectsAsAnswered : (C : Type 0) → (C → CoreState) → Type 0
+CollectsAsAnswered C state = (among : ByteSet) (actor last_actor percent snapshot freed copied : ℕ) (buf last_buf : List ℕ)
+    (steps : List FileEvent) (s : Store) (stored : Stored) (old mid new last : C)
+    → HasNoCollisions (IsIn among) → IsAt (IsIn among) s stored (state old) → (state old).stop ≡ None
+    → CoreStep (state old) (starts actor percent snapshot buf) (state mid)
+    → FileRun C state (IsIn among) steps mid new → AreGcSteps steps → (state new).stop ≡ None
+    → CoreStep (state new) (ends_with last_actor freed copied last_buf) (state last)
+    → HasCollected (IsIn among) stored freed copied s (state last)

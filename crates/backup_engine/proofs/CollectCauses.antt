@@ -207,7 +207,7 @@ module _ (percent : ℕ) (v w : DiskView) (source : SourceView) (sink : SinkView
 
     source_cause : (live : LiveKeys) (from : ℕ) (buffer : Contents) (refusal : Refusal) → IsCopyRefusal old.known live slot from buffer old.disk new refusal → IsCausedBy refusal
     source_cause live from buffer refusal (inl (inl header)) = source_header refusal header
-    source_cause live from buffer refusal (inl (inr (h, (shown, kind, few, plan)))) = by_plan refusal plan
+    source_cause live from buffer refusal (inl (inr (h, shown, kind, few, plan))) = by_plan refusal plan
       where
         s : Source
         s = source_of old.known live slot h.kind

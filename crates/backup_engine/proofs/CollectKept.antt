@@ -1,5 +1,5 @@
 -- What a `collect` keeps, whatever the disk holds.
-use Rattle.std.proofs.Common.{◌≡◌, ◌≢◌, inr, ◌+◌, ◌<◌, ℕ, List, [], length, Option, None, Some, Result, Ok, Err, refl, sym, ◌∙◌, ap, subst, arith}
+use Rattle.std.proofs.Common.{◌≡◌, ◌≢◌, inr, ◌+◌, ◌≤◌, ℕ, List, [], length, Option, None, Some, Result, Ok, Err, refl, sym, ◌∙◌, ap, subst, arith}
 use Rattle.actor_parts.specs.declared.step.Answer.{Answer}
 use Rattle.actor_parts.specs.declared.step.Answer.TheVariants as answers
 use Rattle.actor_parts.specs.StepValue as asked
@@ -56,13 +56,13 @@ abbrev pub start_event : ℕ → Result Answer Refusal → List ℕ → Event
 start_event percent answer buf = record { actor = 0; step = asked.GcStart percent; answer = answer; buf = buf }
 
 module _ (C : Type 0) (state : C → CoreState) (v w : DiskView) (old new : C) (called : Called C state v w old new) (percent : ℕ) where
-  abbrev store : Store
+  abbrev pub store : Store
   store = called.opened.store
 
-  abbrev index : PlaceMap
+  abbrev pub index : PlaceMap
   index = called.opened.told.0
 
-  abbrev sized : v.size ≡ size_of store.slots
+  abbrev pub sized : v.size ≡ size_of store.slots
   sized = called.opened.valid.size_is
 
   started : (answer : Result Answer Refusal) (mid : C) (buf : List ℕ) → CoreStep (state old) (start_event percent answer buf) (state mid) → Steps (start_event percent answer buf) (state old) (state mid)

@@ -49,7 +49,7 @@ use Rattle.store_core.proofs.Frames.{first_with}
 use Rattle.store_core.proofs.Leading.{Leads}
 use Rattle.store_core.proofs.SparedRest.{led_to}
 use Rattle.backup_engine.proofs.CollectKept.{start_event}
-use Rattle.backup_engine.proofs.CollectSteps.{CollectedSoFar, IsChangeOf, changed, gc_event, goes, more_is, one_more, one_step}
+use Rattle.backup_engine.proofs.CollectSteps.{ChangedSo, CollectedSoFar, IsChangeOf, changed, gc_event, goes, more_is, one_more, one_step}
 
 -- ---- steps that change no file
 
@@ -174,10 +174,10 @@ module _ (s : Store) (index : PlaceMap) (v : DiskView) (sized : v.size ≡ size_
     steps : Steps f.event (state old) (state new)
     steps = one_step s index v sized C state phase old new so collects
 
-    row : GoesOn phase (state old) (state new)
+    abbrev row : GoesOn phase (state old) (state new)
     row = goes s index v sized C state phase old new so collects
 
-    abbrev made : _
+    abbrev made : ChangedSo s index v sized C state phase old new so collects
     made = changed s index v sized C state phase old new so collects
 
     led : Leads S so.after f m (state old) (state new)

@@ -28,16 +28,15 @@ use Rattle.gc_sweep.specs.declared.sweep.Next.TheVariants.{Copy, Flush, Release,
 use Rattle.gc_sweep.specs.declared.sweep.Sweep.{Sweep}
 use Rattle.gc_sweep.specs.Beginning.{Begins}
 use Rattle.gc_sweep.specs.InTurn.{slot_in_turn}
-use Rattle.gc_sweep.specs.UnderWay.{HasNext, IsSweeping}
+use Rattle.gc_sweep.specs.UnderWay.{HasNext, IsSweeping, sources_before}
 use Rattle.gc_sweep.proofs.InSlots.{IsSourceIn, stands_in}
 use Rattle.plain_machine.specs.Collections.{freed_by}
-use Rattle.plain_machine.specs.Machine.{Collecting, Marking}
 use Rattle.refusals.specs.declared.refusal.Phase.{Phase}
 use Rattle.refusals.specs.declared.refusal.Refusal.{Refusal}
 use Rattle.script_runner.specs.Acts.{CollectionRun, Collects}
 use Rattle.script_runner.specs.Follows.{HasCounted}
 use Rattle.script_runner.proofs.CollectCauses.{no_end}
-use Rattle.script_runner.proofs.CollectCounts.{at_filter, copies_by, counted_on}
+use Rattle.script_runner.proofs.CollectCounts.{copies_by, counted_on, snapshot_on}
 use Rattle.store_model.specs.Freeing.{with_freed}
 use Rattle.store_model.specs.Image.{IsValidFor, Store}
 use Rattle.store_model.specs.Slots.{HasFree, first_free, last_id}
@@ -72,14 +71,11 @@ use Rattle.backup_engine.proofs.SweptSlots.{SweptSlots, all-append, copied-appen
 -- ---- counts
 
 -- so many containers were given back, and so many segments written
-abbrev pub counts : ℕ → ℕ → Collecting
-counts freed copied = record { progress = Marking; to_come = 0; freed = freed; copied = copied; alone = false }
-
 abbrev pub CountsSo : Collection → List StoreChange → Type 0
-CountsSo c changes = HasCounted c.stage c.sweep (counts (freed_in changes) (copied_in changes))
+CountsSo c changes = HasCounted c.stage c.sweep (freed_in changes) (copied_in changes)
 
 -- as it begins there is nothing to be counted
-pub none_counted : (stage : Stage) (t : _) (s : Sweep) → Begins t [] s → HasCounted stage s (counts 0 0)
+pub none_counted : (stage : Stage) (t : _) (s : Sweep) → Begins t [] s → HasCounted stage s 0 0
 none_counted (Mark level slot) t s begins = (refl, refl)
 none_counted (Filter slot) t s begins = (refl, refl)
 none_counted Select t s begins = (refl, refl)
@@ -119,7 +115,7 @@ module _ (s after : Store) (freed filled : List ℕ) (slots : SweptSlots s after
     abbrev slot : ℕ
     slot = slot_in_turn c.sweep
 
-    stands : IsSourceIn after.held c.snapshot c.sweep.sources.items _ slot
+    stands : IsSourceIn after.held c.snapshot c.sweep.sources.items (sources_before c.sweep c.sweep.next) slot
     stands =
         stands_in after.held old.tables.held c.snapshot c.sweep sweeping represents.slots_hold slot
         (Contains-append_right c.sweep.waiting.items c.sweep.ready.items slot (some_ready c.sweep.ready.items has_next.0))
@@ -251,16 +247,6 @@ module _ (old new : CoreState) (before after : Collection) where
   still_marks SweepStage (Release source entry) is steps index marks now = absurd (on_sweep is steps.1 now)
   still_marks SweepStage End is steps index marks now = absurd (subst IsMarking (ap (λ (c : Collection). c.stage) steps.0 ∙ is) now)
 
-  -- its snapshot stays
-  snapshot_stays : (stage : Stage) (next : Next) → StepsTo stage next (at_moment old before) (at_moment new after) → after.snapshot ≡ before.snapshot
-  snapshot_stays (Mark level slot) next steps = ap (λ (c : Collection). c.snapshot) steps.0.collection_is
-  snapshot_stays (Filter slot) next steps = ap (λ (c : Collection). c.snapshot) steps.0.collection_is
-  snapshot_stays Select next steps = ap (λ (c : Collection). c.snapshot) steps.0.collection_is
-  snapshot_stays SweepStage (Copy source entry) steps = ap (λ (c : Collection). c.snapshot) steps.1
-  snapshot_stays SweepStage (Flush source entry) steps = ap (λ (c : Collection). c.snapshot) steps.sweeps
-  snapshot_stays SweepStage (Release source entry) steps = ap (λ (c : Collection). c.snapshot) steps.1
-  snapshot_stays SweepStage End steps = ap (λ (c : Collection). c.snapshot) steps.0
-
   -- a release ends durable
   release_durable : (stage : Stage) (next : Next) → StepsTo stage next (at_moment old before) (at_moment new after) → (source entry : ℕ) → stage ≡ SweepStage → next ≡ Release source entry → IsDurable new.disk
   release_durable stage next steps source entry is next_is =
@@ -349,9 +335,9 @@ collection_later C state (phase ∷ phases) old new run =
     later_on (state old).disk (state run.0).disk (state new).disk (one_later C state _ old run.0 run.1.0.1) (collection_later C state phases run.0 new run.1.1)
 
 -- counts of other changes
-counts_as : (c : Collection) (f n g m : ℕ) → f ≡ n → g ≡ m → HasCounted c.stage c.sweep (counts f g) → HasCounted c.stage c.sweep (counts n m)
+counts_as : (c : Collection) (f n g m : ℕ) → f ≡ n → g ≡ m → HasCounted c.stage c.sweep f g → HasCounted c.stage c.sweep n m
 counts_as c f n g m freed copied counted =
-    subst (λ (x : ℕ). HasCounted c.stage c.sweep (counts x m)) freed (subst (λ (y : ℕ). HasCounted c.stage c.sweep (counts f y)) copied counted)
+    subst (λ (x : ℕ). HasCounted c.stage c.sweep x m) freed (subst (λ (y : ℕ). HasCounted c.stage c.sweep f y) copied counted)
 
 module _ (s : Store) (index : PlaceMap) (v : DiskView) (sized : v.size ≡ size_of s.slots) (C : Type 0) (state : C → CoreState) where
   abbrev SoFar : C → Type 0
@@ -364,10 +350,10 @@ module _ (s : Store) (index : PlaceMap) (v : DiskView) (sized : v.size ≡ size_
     pub valid_so : IsValidFor (state c).disk.size so.after
     valid_so = subst (λ (n : ℕ). IsValidFor n so.after) (sym so.later.size_is) so.valid
 
-    abbrev runs_so : Runs (state c).disk.size None (state c).tables
+    abbrev pub runs_so : Runs (state c).disk.size None (state c).tables
     runs_so = (up_of (state c) so.stop_is so.running).runs
 
-    above_so : last_id s.held ≤ (state c).tables.held.last_id
+    pub above_so : last_id s.held ≤ (state c).tables.held.last_id
     above_so = omega (arith, so.ids)
 
     pub free_so : HasFree so.after.held
@@ -391,16 +377,16 @@ module _ (s : Store) (index : PlaceMap) (v : DiskView) (sized : v.size ≡ size_
     pub goes : GoesOn phase (state old) (state new)
     goes = one_step.made.row.0
 
-    abbrev before : Collection
+    abbrev pub before : Collection
     before = goes.before
 
     pub same : so.collection ≡ before
     same = same_collection so.collection before (state old).collection so.runs goes.ran
 
-    under_before : IsUnderWay (state old).tables.held before
+    pub under_before : IsUnderWay (state old).tables.held before
     under_before = subst (λ (c : Collection). IsUnderWay (state old).tables.held c) same (under_way old so)
 
-    began_before : before.snapshot ≤ last_id s.held + 1
+    pub began_before : before.snapshot ≤ last_id s.held + 1
     began_before = subst (λ (c : Collection). c.snapshot ≤ last_id s.held + 1) same so.began
 
     abbrev pub was : Moment
@@ -410,8 +396,10 @@ module _ (s : Store) (index : PlaceMap) (v : DiskView) (sized : v.size ≡ size_
     now = at_moment (state new) goes.after
 
     -- what it changed
-    pub changed : Changed s so.after so.freed so.filled so.slots was now so.represents (valid_so old so) (runs_so old so) under_before
-        began_before (above_so old so) before.stage before.sweep.next
+    abbrev pub ChangedSo : Type 0
+    ChangedSo = Changed s so.after so.freed so.filled so.slots was now so.represents (valid_so old so) (runs_so old so) under_before began_before (above_so old so) before.stage before.sweep.next
+
+    pub changed : ChangedSo
     changed =
         changed_by s so.after so.freed so.filled so.slots was now so.represents (valid_so old so) (runs_so old so) under_before
         began_before (above_so old so) before.stage before.sweep.next refl refl goes.tables
@@ -435,7 +423,7 @@ module _ (s : Store) (index : PlaceMap) (v : DiskView) (sized : v.size ≡ size_
     counted_now =
         counts_as goes.after _ (freed_in (so.changes ++ changed.changes)) _ (copied_in (so.changes ++ changed.changes))
         (omega (arith, freed-append so.changes changed.changes, changed.freed_many)) (omega (arith, copied-append so.changes changed.changes, changed.copied_many))
-        (counted_on was now (counts (freed_in so.changes) (copied_in so.changes)) Marking 0 before.stage before.sweep.next refl refl
+        (counted_on was now (freed_in so.changes) (copied_in so.changes) before.stage before.sweep.next refl refl
         (subst (λ (c : Collection). CountsSo c so.changes) same so.counted) goes.steps (no_end before.stage before.sweep.next before.sweep.freed before.sweep.copied phase goes.phase_is))
 
     pub one_more : SoFar new
@@ -459,7 +447,7 @@ module _ (s : Store) (index : PlaceMap) (v : DiskView) (sized : v.size ≡ size_
           ids = omega (arith, changed.ids_now, so.ids, written-append so.changes changed.changes);
           collection = goes.after;
           runs = goes.runs;
-          began = omega (arith, so.began, ap (λ (c : Collection). c.snapshot) same, snapshot_stays (state old) (state new) before goes.after before.stage before.sweep.next goes.steps);
+          began = omega (arith, so.began, ap (λ (c : Collection). c.snapshot) same, snapshot_on was now (freed_in so.changes) (copied_in so.changes) before.stage before.sweep.next goes.steps);
           counted = counted_now;
           marks = still_marks (state old) (state new) before goes.after before.stage before.sweep.next refl goes.steps index (λ marks. so.marks (stage_same before so.collection (sym same) marks));
           tells = effect.tells here.0 here.1;
@@ -492,8 +480,8 @@ module _ (s : Store) (index : PlaceMap) (v : DiskView) (sized : v.size ≡ size_
       let under : IsUnderWay (state old).tables.held c = subst (λ (x : Collection). IsUnderWay (state old).tables.held x) same (under_way old so) in
       let sweeping : IsSweeping (state old).tables.held c.snapshot c.sweep = at_stage (state old).tables.held c SweepStage under row.at_end.0 in
       let at_end : HasNext (state old).tables.held c.sweep End = subst (HasNext (state old).tables.held c.sweep) row.at_end.1 sweeping.next_is in
-      let counted : HasCounted SweepStage c.sweep (counts (freed_in so.changes) (copied_in so.changes)) =
-      subst (λ (stage : Stage). HasCounted stage c.sweep (counts (freed_in so.changes) (copied_in so.changes))) row.at_end.0 (subst (λ (x : Collection). CountsSo x so.changes) same so.counted) in (
+      let counted : HasCounted SweepStage c.sweep (freed_in so.changes) (copied_in so.changes) =
+      subst (λ (stage : Stage). HasCounted stage c.sweep (freed_in so.changes) (copied_in so.changes)) row.at_end.0 (subst (λ (x : Collection). CountsSo x so.changes) same so.counted) in (
         row,
         row.freed_is ∙ counted.0,
         omega (arith, row.copied_is, counted.1, ap (λ (l : List Segment). length l) at_end.1),

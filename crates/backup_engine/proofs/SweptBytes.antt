@@ -31,7 +31,7 @@ same_slots s base = record { size_is = refl; same = λ at count within none besi
 
 module _ (s : Store) (freed filled : List ℕ) (base d c : List ℕ) (but : SameButSlotsOf s freed filled base d) where
   -- where nothing before the end of the slots is another
-  but_before : SameBefore (slot_at s.slots) d c → SameButSlotsOf s freed filled base c
+  pub but_before : SameBefore (slot_at s.slots) d c → SameButSlotsOf s freed filled base c
   but_before same = record { size_is = same.size ∙ but.size_is; same = λ at count within none beside. same.before at count within ∙ but.same at count within none beside }
 
   -- one gate more may be another

@@ -466,16 +466,16 @@ module _ (C : Type 0) (state : C → CoreState) (v w : DiskView) (old new : C) (
 
         -- by the refusal
         ends_by : (r : Refusal) → r ≡ refusal → IsCollectCause r → StopsAfter asked.GcStep (Err r) (state sweeps.1.0).acknowledged (state new).stop → EndsFrom (Collect percent) [] m v.content w.content (Some (Refused r))
-        ends_by refusals.DiskWrite is cause stops = tt
-        ends_by refusals.Memory is cause stops = refused_left stops
-        ends_by refusals.DiskRead is cause stops = refused_left stops
-        ends_by refusals.Numbers is cause stops = refused_no_id stops (sym is)
-        ends_by r is cause stops = absurd cause
+        ends_by refusals.DiskWrite is why stops = tt
+        ends_by refusals.Memory is why stops = refused_left stops
+        ends_by refusals.DiskRead is why stops = refused_left stops
+        ends_by refusals.Numbers is why stops = refused_no_id stops (sym is)
+        ends_by r is why stops = absurd why
 
         gave_by : (r : Refusal) → StopsAfter asked.GcStep (Err r) (state sweeps.1.0).acknowledged (state new).stop → (sink : SinkView) (store : Store) → Encodes image store
             → GivesSlotsBack (Collect percent) (Some (Refused r)) m.files store image w.content sink sink
-        gave_by refusals.DiskWrite stops sink store right = tt
-        gave_by r stops sink store right = (freed_in so.changes, copied_in so.changes, refused_gave stops store right)
+        gave_by refusals.DiskWrite stops sink s right = tt
+        gave_by r stops sink s right = (freed_in so.changes, copied_in so.changes, refused_gave stops s right)
 
         pub refused_map : (sink : SinkView) → KeepsMap S (Collect percent) [] (Some (Refused refusal)) m v w sink sink
         refused_map sink =

@@ -41,9 +41,9 @@ module _ (s after : Store) (freed filled : List ℕ) (base now : List ℕ) (slot
     beside [] all = tt
     beside (other ∷ places) all = (
       beside_other slot other (λ same.
-      let new : last_id s.held < h.id = all.0 h (subst (λ (n : ℕ). slice_get after.held n ≡ Some (Some h)) same there) in
-      let low : h.id ≤ last_id s.held = id_below s.held slot h first in
-      absurd (omega (arith, new, low))),
+          let new : last_id s.held < h.id = all.0 h (subst (λ (n : ℕ). slice_get after.held n ≡ Some (Some h)) same there) in
+          let low : h.id ≤ last_id s.held = id_below s.held slot h first in
+          absurd (omega (arith, new, low))),
       beside places all.1,
     )
 

@@ -112,21 +112,21 @@ module _ (s after : Store) (freed filled : List ℕ) (slots : SweptSlots s after
     has_next : HasNext old.tables.held c.sweep (Release source entry)
     has_next = subst (HasNext old.tables.held c.sweep) next_is sweeping.next_is
 
-    abbrev slot : ℕ
-    slot = slot_in_turn c.sweep
+    abbrev turn : ℕ
+    turn = slot_in_turn c.sweep
 
-    stands : IsSourceIn after.held c.snapshot c.sweep.sources.items (sources_before c.sweep c.sweep.next) slot
+    stands : IsSourceIn after.held c.snapshot c.sweep.sources.items (sources_before c.sweep c.sweep.next) turn
     stands =
-        stands_in after.held old.tables.held c.snapshot c.sweep sweeping represents.slots_hold slot
-        (Contains-append_right c.sweep.waiting.items c.sweep.ready.items slot (some_ready c.sweep.ready.items has_next.0))
+        stands_in after.held old.tables.held c.snapshot c.sweep sweeping represents.slots_hold turn
+        (Contains-append_right c.sweep.waiting.items c.sweep.ready.items turn (some_ready c.sweep.ready.items has_next.0))
 
-    pub had_in_turn : HadContainer s slot
-    had_in_turn = elim (slots.there slot stands.header stands.there) [
+    pub had_in_turn : HadContainer s turn
+    had_in_turn = elim (slots.there turn stands.header stands.there) [
       | inl had ↦ (stands.header, had)
       | inr later ↦ absurd (omega (arith, later, stands.old, began))
     ]
 
-    pub free_in_turn : (h : HeaderValue) × (slice_get after.held slot ≡ Some (Some h))
+    pub free_in_turn : (h : HeaderValue) × (slice_get after.held turn ≡ Some (Some h))
     free_in_turn = (stands.header, stands.there)
 
   -- what a step of a stage changes

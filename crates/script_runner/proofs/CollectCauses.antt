@@ -39,8 +39,8 @@ abbrev pub IsCollectCause : Refusal → Type 0
 IsCollectCause refusals.DiskWrite = Unit {0}
 IsCollectCause refusal = IsRestCause refusal
 
--- And by the step: one that copies, that writes or that gives back, also as a write failed, and that alone where a source is given back; one
--- that writes where no id is left.
+-- And by the step: a write may fail where it copies, writes or gives back, and there nothing else is a cause of the last; where it writes no id
+-- may be left, and then no write fails.
 abbrev pub IsCauseAt : Stage → Next → Tables → Refusal → Type 0
 IsCauseAt Sweep (Copy source entry) t refusals.DiskWrite = Unit {0}
 IsCauseAt Sweep (Flush source entry) t refusals.DiskWrite = t.held.last_id < LAST_ID

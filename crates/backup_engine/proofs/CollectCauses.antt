@@ -1,38 +1,89 @@
 -- Why a step of a collection is refused, of the whole call: by what reads returned since it began.
-use Rattle.std.proofs.Common.{◌≡◌, inl, inr, ◌+◌, ◌<◌, ◌≤◌, ℕ, List, [], ◌∷◌, get_or, Option, None, Some, refl, sym, ◌∙◌, subst, arith}
+use Rattle.std.proofs.Common.{◌≡◌, inl, inr, ◌+◌, ◌<◌, ◌≤◌, ℕ, zero, suc, List, [], ◌∷◌, ◌++◌, drop, length, Option, None, Some, refl, sym, ◌∙◌, subst, arith}
+use Rattle.std.specs.Prelude.{Contains}
 use Rattle.std.specs.List.{AllByRecursion}
+use Rattle.std.proofs.lemmas.List.Elements.{Contains-append_right, Contains-get_or}
+use Rattle.std.proofs.lemmas.List.Sums.{sum_by-append, sum_by-cons}
+use Rattle.base_model.specs.Bytes.{range}
 use Rattle.base_model.specs.Known.{Known}
 use Rattle.container_log.specs.Parts.{header_bytes}
+use Rattle.container_meta.specs.declared.entry.Entry.{Entry}
+use Rattle.container_meta.specs.declared.kind.Kind.{Kind}
 use Rattle.container_meta.specs.Places.{PlaceMap}
+use Rattle.container_meta.specs.Segments.{Contents}
+use Rattle.container_meta.specs.Spelling.{Follow, HeaderValue, IsHeader, bytes_of}
+use Rattle.copy_forward.specs.Copying.{IsCopyRefusal}
+use Rattle.copy_forward.specs.Entries.{IsHeaderRefusal}
+use Rattle.copy_forward.specs.Planning.{IsOneRefusal, IsPlanRefusal, IsStuck, Planned, Source, planned, source_of}
 use Rattle.dd_disk.specs.Ending.{Done, Ending, Reads}
 use Rattle.dd_disk.specs.Shows.{Part, Shows}
 use Rattle.dd_disk.specs.View.{DiskView, IsLater}
 use Rattle.dd_disk.specs.Writes.{Both}
 use Rattle.dd_disk.proofs.Shows.{shown_content}
 use Rattle.dd_io.specs.Flow.{SourceView, SinkView}
-use Rattle.disk_format.specs.Layout.{size_of, slot_at}
+use Rattle.disk_format.specs.declared.numbers.TheConstants.{LAST_ID}
+use Rattle.disk_format.specs.Layout.{data_at, size_of, slot_at}
+use Rattle.gc_enumerate.specs.Live.{LiveKeys}
 use Rattle.gc_enumerate.specs.Scanning.{IsScanFault}
-use Rattle.gc_steps.specs.Copying.{IsSourceRefusal, IsTakeRefusal}
-use Rattle.copy_forward.specs.Entries.{IsHeaderRefusal}
+use Rattle.gc_steps.specs.Filtering.{IsRecordRefusal}
 use Rattle.gc_steps.specs.Marking.{StopsScan, scan_for}
 use Rattle.gc_steps.specs.Scanning.{ShowsAt}
 use Rattle.gc_steps.specs.Stepping.{IsStepRefusal, Moment, Touches}
 use Rattle.gc_steps.specs.declared.collection.Stage.{Stage}
-use Rattle.gc_steps.specs.declared.collection.Stage.TheVariants.{Mark, Filter, Select, Copy, Release, End}
+use Rattle.gc_steps.specs.declared.collection.Stage.TheVariants.{Mark, Filter, Select, Sweep as SweepStage}
+use Rattle.gc_sweep.specs.declared.sweep.Next.{Next}
+use Rattle.gc_sweep.specs.declared.sweep.Next.TheVariants.{Copy, Flush, Release, End}
+use Rattle.gc_sweep.specs.Copying.{IsCopyStepRefusal}
+use Rattle.gc_sweep.specs.Flushing.{IsFlushStepRefusal}
+use Rattle.gc_sweep.proofs.InSlots.{of_each}
 use Rattle.refusals.specs.declared.refusal.Refusal.{Refusal}
-use Rattle.refusals.specs.declared.refusal.Refusal.TheVariants.{Memory, DiskRead, DiskWrite, Damaged}
+use Rattle.refusals.specs.declared.refusal.Refusal.TheVariants.{Memory, DiskRead, DiskWrite, Corrupt, Numbers, Damaged}
 use Rattle.reply_text.specs.declared.ending.Ending.TheVariants.{Refused}
 use Rattle.segment_index.specs.Changes.{SameBefore}
-use Rattle.store_model.specs.Slots.{IsIndexOf}
+use Rattle.store_model.specs.Refusals.{WereFound}
+use Rattle.store_model.specs.Slots.{HoldsSlot, IsIndexOf}
 use Rattle.store_model.specs.Trees.{bytes_at}
-use Rattle.backup_engine.specs.AnyDisk.{Holds, IsCaused, IsUnmarked, ShownSince, ShownThere}
+use Rattle.store_model.proofs.Copies.{data_within}
+use Rattle.backup_engine.specs.AnyDisk.{Holds, IsCaused, IsUnmarked, IsUnwritten, ShownSince, ShownThere}
 use Rattle.backup_engine.specs.Line.{Collect}
 use Rattle.backup_engine.proofs.CollectFaults.{fault_wider}
 use Rattle.backup_engine.proofs.CollectSteps.{IsMarking, both_from}
+use Rattle.backup_engine.proofs.SweptSlots.{all-more}
 
-all_more : {A : Type 0} (P Q : A → Type 0) (xs : List A) → ((x : A) → P x → Q x) → AllByRecursion P xs → AllByRecursion Q xs
-all_more P Q [] each all = tt
-all_more P Q (x ∷ xs) each all = (each x all.0, all_more P Q xs each all.1)
+-- ---- entries
+
+-- what an entry names lies in the data of its slot
+all_within : (kind : Kind) (before entries : List Entry) → Follow kind before entries → bytes_of before + bytes_of entries ≤ 212480 → AllByRecursion (λ e. e.offset + e.length ≤ 212480) entries
+all_within kind before [] follow few = tt
+all_within kind before (e ∷ es) follow few =
+    let more : bytes_of (before ++ e ∷ []) + bytes_of es ≤ 212480 =
+    omega (arith, few, sum_by-cons (λ (y : Entry). y.length) e es, sum_by-append (λ (y : Entry). y.length) before (e ∷ []), sum_by-cons (λ (y : Entry). y.length) e []) in
+    (omega (arith, follow.0.offset, few, sum_by-cons (λ (y : Entry). y.length) e es), all_within kind (before ++ e ∷ []) es follow.1 more)
+
+entries_within : (h : HeaderValue) → IsHeader h → AllByRecursion (λ e. e.offset + e.length ≤ 212480) h.entries
+entries_within h right = all_within h.kind [] h.entries right.entries (omega (arith, data_within h right))
+
+-- one of those from a number on is one
+of_rest : (from : ℕ) (entries : List Entry) (e : Entry) → Contains (drop from entries) e → Contains entries e
+of_rest zero entries e is = is
+of_rest (suc from) [] e is = is
+of_rest (suc from) (x ∷ xs) e is = Contains-append_right (x ∷ []) xs e (of_rest from xs e is)
+
+-- the entry at which a plan is stuck
+record IsStuckAt (s : Source) (shown : (List ℕ → Type 0) → Type 0) (refusal : Refusal) (entries : List Entry) : Type 0 where
+  entry : Entry
+  one_of : Contains entries entry
+  buffer : Contents
+  cause : IsOneRefusal s shown entry buffer refusal
+
+stuck_at : (s : Source) (shown : (List ℕ → Type 0) → Type 0) (refusal : Refusal) (entries : List Entry) (before : Planned) → IsStuck s shown entries before refusal → IsStuckAt s shown refusal entries
+stuck_at s shown refusal [] before is = absurd is
+stuck_at s shown refusal (e ∷ es) before (inl one) = record { entry = e; one_of = Contains-get_or (e ∷ es) 0 e (omega arith); buffer = before.buffer; cause = one }
+stuck_at s shown refusal (e ∷ es) before (inr (mid, (one, stuck))) =
+    let rest = stuck_at s shown refusal es mid stuck in
+    record { entry = rest.entry; one_of = Contains-append_right (e ∷ []) es rest.entry rest.one_of; buffer = rest.buffer; cause = rest.cause }
+
+-- ---- a step that was refused
 
 -- The call began at v and ended at w; between them a step was refused, from one moment on to another.
 module _ (percent : ℕ) (v w : DiskView) (source : SourceView) (sink : SinkView) (holds : Holds v w) (old : Moment) (new : DiskView) (first : IsLater v old.disk) (step : IsLater old.disk new) (last : Reads Done new w) where
@@ -43,7 +94,7 @@ module _ (percent : ℕ) (v w : DiskView) (source : SourceView) (sink : SinkView
   since : (P : List ℕ → Type 0) → Known w.content P → Shows old.disk new P → ShownSince v w P
   since P known shown = record {
     parts = shown.parts;
-    returned = all_more (λ (part : Part). new.read_returned old.disk.clock part.at part.bytes) (λ (part : Part). w.read_returned v.clock part.at part.bytes) shown.parts
+    returned = all-more (λ (part : Part). new.read_returned old.disk.clock part.at part.bytes) (λ (part : Part). w.read_returned v.clock part.at part.bytes) shown.parts
         (λ part was. last.only.later.returned v.clock part.at part.bytes (omega (arith, first.clock_is, step.clock_is)) (new.returned_earlier v.clock old.disk.clock part.at part.bytes first.clock_is was)) shown.returned;
     known = known;
     shows = λ image sized has. shown.shows image (sized ∙ sym first.size_is) has;
@@ -64,7 +115,7 @@ module _ (percent : ℕ) (v w : DiskView) (source : SourceView) (sink : SinkView
   by_marks index all Memory unmarked = tt
   by_marks index all DiskRead unmarked = tt
   by_marks index all DiskWrite unmarked = tt
-  by_marks index all refusal unmarked = inr (holds, inr (index, (all, unmarked)))
+  by_marks index all refusal unmarked = inr (holds, inr (inl (index, (all, unmarked))))
 
   mark_cause : new.content ≡ old.disk.content → (index : PlaceMap) → IsIndexOf holds.store.held index → old.known ≡ Some index → (level slot : ℕ) (refusal : Refusal)
       → StopsScan old.known old.disk new level slot old.collection.live refusal → IsCausedBy refusal
@@ -83,32 +134,109 @@ module _ (percent : ℕ) (v w : DiskView) (source : SourceView) (sink : SinkView
             (subst (λ (k : Option PlaceMap). IsScanFault (scan_for k old.collection.live slot level stops.header) (ShowsAt old.disk new) (λ at why. k ≡ None) stops.header.entries stops.fault) known stops.cause);
       })
 
-  -- a source's header lies before the end of the slots, where the content stays
-  source_cause : (tells : (places : PlaceMap) × (old.known ≡ Some places)) (slot : ℕ) → ((bytes : List ℕ) → Shows old.disk new (λ image. header_bytes slot image ≡ bytes) → ShownSince v w (λ image. header_bytes slot image ≡ bytes))
-      → (refusal : Refusal) → IsSourceRefusal old.known old.disk new slot refusal → IsCausedBy refusal
-  source_cause tells slot on Memory cause = tt
-  source_cause tells slot on DiskRead cause = tt
-  source_cause tells slot on (Damaged at why) (inl (at_is, damage)) =
-      inr (holds, inl (slot, (at_is, record { bytes = damage.bytes; first = damage.first; are_found = on damage.bytes damage.are_found })))
-  source_cause tells slot on (Damaged at why) (inr none) = absurd (let wrong : Some tells.0 ≡ None = sym tells.1 ∙ none in cc)
-  source_cause tells slot on refusal cause = absurd cause
+  -- the index of a core is known, and so is not damaged
+  untold : (tells : (places : PlaceMap) × (old.known ≡ Some places)) → old.known ≡ None → ⊥
+  untold tells none = let wrong : Some tells.0 ≡ None = sym tells.1 ∙ none in cc
 
-  since_before : (place slot : ℕ) → slot_at slot + 49664 ≤ place → Both (SameBefore place) old.disk.content new.content → (bytes : List ℕ) → Shows old.disk new (λ image. header_bytes slot image ≡ bytes)
-      → ShownSince v w (λ image. header_bytes slot image ≡ bytes)
-  since_before place slot within moved bytes shown =
-      since (λ image. header_bytes slot image ≡ bytes)
-      (λ image told.
-      let was = both_from (SameBefore place) old.disk.content new.content image (sym last.only.content_is ∙ told) moved in
-      was.1.1.before (slot_at slot) 49664 within ∙ shown_content old.disk new (λ c. header_bytes slot c ≡ bytes) was.0 shown was.1.0) shown
+  record_cause : (tells : (places : PlaceMap) × (old.known ≡ Some places)) → new.content ≡ old.disk.content → (slot : ℕ) (refusal : Refusal) → IsRecordRefusal old.known old.disk new slot refusal → IsCausedBy refusal
+  record_cause tells same slot Memory cause = tt
+  record_cause tells same slot DiskRead cause = tt
+  record_cause tells same slot (Damaged at why) (inl cause) = header_cause same slot (Damaged at why) cause
+  record_cause tells same slot (Damaged at why) (inr none) = absurd (untold tells none)
+  record_cause tells same slot refusal cause = absurd cause
 
-  take_cause : (tells : (places : PlaceMap) × (old.known ≡ Some places)) (place id : ℕ) → ((slot : ℕ) → get_or old.tables.held.ids.items slot 0 ≡ id → slot_at slot + 49664 ≤ place)
-      → Both (SameBefore place) old.disk.content new.content → (refusal : Refusal) → IsTakeRefusal old.tables.held old.known old.disk new id refusal → IsCausedBy refusal
-  take_cause tells place id within moved DiskWrite cause = tt
-  take_cause tells place id within moved Memory cause = tt
-  take_cause tells place id within moved DiskRead cause = tt
-  take_cause tells place id within moved (Damaged at why) (slot, id_is, cause) =
-      source_cause tells slot (since_before place slot (within slot id_is) moved) (Damaged at why) cause
-  take_cause tells place id within moved refusal cause = absurd cause.2
+  -- ---- a source, whose slot lies before the end of the slots, where the content stays
+
+  module _ (tells : (places : PlaceMap) × (old.known ≡ Some places)) (slots slot : ℕ) (below : slot < slots) (moved : Both (SameBefore (slot_at slots)) old.disk.content new.content) where
+    -- what was there is there
+    since_before : (P : List ℕ → Type 0) → ((was image : List ℕ) → SameBefore (slot_at slots) was image → P was → P image) → Shows old.disk new P → ShownSince v w P
+    since_before P still shown =
+        since P
+        (λ image told.
+        let was = both_from (SameBefore (slot_at slots)) old.disk.content new.content image (sym last.only.content_is ∙ told) moved in
+        still was.0 image was.1.1 (shown_content old.disk new P was.0 shown was.1.0)) shown
+
+    since_header : (bytes : List ℕ) → Shows old.disk new (λ image. header_bytes slot image ≡ bytes) → ShownSince v w (λ image. header_bytes slot image ≡ bytes)
+    since_header bytes = since_before (λ image. header_bytes slot image ≡ bytes) (λ was image same is. same.before (slot_at slot) 49664 (omega (arith, below)) ∙ is)
+
+    source_header : (refusal : Refusal) → IsHeaderRefusal old.disk new slot refusal → IsCausedBy refusal
+    source_header Memory cause = tt
+    source_header DiskRead cause = tt
+    source_header (Damaged at why) (at_is, damage) =
+        inr (holds, inl (slot, (at_is, record { bytes = damage.bytes; first = damage.first; are_found = since_header damage.bytes damage.are_found })))
+    source_header refusal cause = absurd cause
+
+    module _ (h : HeaderValue) (shown : Shows old.disk new (λ image. HoldsSlot image slot (Some h))) (e : Entry) (one_of : Contains h.entries e) where
+      there : ShownSince v w (λ image. HoldsSlot image slot (Some h))
+      there = since_before (λ image. HoldsSlot image slot (Some h)) (λ was image same is. (is.0, same.before (slot_at slot) 49664 (omega (arith, below)) ∙ is.1)) shown
+
+      -- what an entry names lies in the slot
+      found_since : (at count : ℕ) (got : List ℕ) → at ≡ data_at slot + e.offset → count ≡ e.length → WereFound (Shows old.disk new) at count got → WereFound (ShownSince v w) at count got
+      found_since at count got at_is count_is found = record {
+        bytes = found.bytes;
+        long = found.long;
+        digest_is = found.digest_is;
+        there = since (λ image. range at count image ≡ found.bytes)
+            (λ image told.
+            let was = both_from (SameBefore (slot_at slots)) old.disk.content new.content image (sym last.only.content_is ∙ told) moved in
+            let right : IsHeader h = (shown_content old.disk new (λ c. HoldsSlot c slot (Some h)) was.0 shown was.1.0).0 in
+            let within : e.offset + e.length ≤ 212480 = of_each (λ x. x.offset + x.length ≤ 212480) h.entries e (entries_within h right) one_of in
+            was.1.1.before at count (omega (arith, at_is, count_is, within, below)) ∙ shown_content old.disk new (λ c. range at count c ≡ found.bytes) was.0 found.there was.1.0) found.there;
+      }
+
+      one_cause : (s : Source) (buffer : Contents) (refusal : Refusal) → s.known ≡ old.known → s.slot ≡ slot → IsOneRefusal s (Shows old.disk new) e buffer refusal → IsCausedBy refusal
+      one_cause s buffer Memory known same cause = tt
+      one_cause s buffer DiskRead known same cause = tt
+      one_cause s buffer DiskWrite known same cause = tt
+      one_cause s buffer (Damaged at why) known same cause = absurd (untold tells (sym known ∙ cause))
+      one_cause s buffer (Corrupt other offset count want got) known same cause =
+          let is = cause.1.1 in
+          let slot_is : other ≡ slot = is.0 ∙ same in
+          inr (
+            holds,
+            inr (inr (inl (record {
+              slot = slot;
+              header = h;
+              shown = there;
+              entry = e;
+              one_of = one_of;
+              cause = (slot_is, is.1, is.2, is.3, is.4, found_since (data_at other + offset) count got (omega (arith, slot_is, is.1)) is.2 is.5);
+            }))),
+          )
+      one_cause s buffer refusal known same cause = absurd cause.1.1
+
+    source_cause : (live : LiveKeys) (from : ℕ) (buffer : Contents) (refusal : Refusal) → IsCopyRefusal old.known live slot from buffer old.disk new refusal → IsCausedBy refusal
+    source_cause live from buffer refusal (inl (inl header)) = source_header refusal header
+    source_cause live from buffer refusal (inl (inr (h, shown, kind, few, plan))) = by_plan refusal plan
+      where
+        s : Source
+        s = source_of old.known live slot h.kind
+
+        stuck : (r : Refusal) → IsStuck (source_of old.known live slot h.kind) (Shows old.disk new) (drop from h.entries) (planned buffer []) r → IsCausedBy r
+        stuck r is =
+            let at = stuck_at (source_of old.known live slot h.kind) (Shows old.disk new) r (drop from h.entries) (planned buffer []) is in
+            one_cause h shown at.entry (of_rest from h.entries at.entry at.one_of) (source_of old.known live slot h.kind) at.buffer r refl refl at.cause
+
+        by_plan : (r : Refusal) → IsPlanRefusal (source_of old.known live slot h.kind) (Shows old.disk new) (drop from h.entries) (planned buffer []) r → IsCausedBy r
+        by_plan Memory is = tt
+        by_plan r is = stuck r is
+    source_cause live from buffer DiskWrite (inr remove) = tt
+    source_cause live from buffer (Damaged at why) (inr none) = absurd (untold tells none)
+    source_cause live from buffer refusal (inr remove) = absurd remove
+
+  copy_cause : (tells : (places : PlaceMap) × (old.known ≡ Some places)) (slots : ℕ) → length old.tables.held.ids.items ≡ slots → Both (SameBefore (slot_at slots)) old.disk.content new.content → (source entry : ℕ) (refusal : Refusal)
+      → IsCopyStepRefusal old.tables.held old.collection.live old.known old.disk new source entry old.collection.sweep refusal → IsCausedBy refusal
+  copy_cause tells slots many moved source entry Memory cause = tt
+  copy_cause tells slots many moved source entry refusal none =
+      source_cause tells slots none.slot (omega (arith, none.is_source.within, many)) moved old.collection.live entry none.filling refusal none.cause
+
+  flush_cause : (tells : (places : PlaceMap) × (old.known ≡ Some places)) → (LAST_ID ≤ old.tables.held.last_id → IsUnwritten holds.store) → (refusal : Refusal) → IsFlushStepRefusal old.tables old.known refusal → IsCausedBy refusal
+  flush_cause tells none Memory cause = tt
+  flush_cause tells none Numbers cause = inr (holds, inr (inr (inr (refl, none cause))))
+  flush_cause tells none DiskRead cause = tt
+  flush_cause tells none DiskWrite cause = tt
+  flush_cause tells none (Damaged at why) cause = absurd (untold tells cause.1)
+  flush_cause tells none refusal cause = absurd cause.1
 
   by_write : (refusal : Refusal) → refusal ≡ DiskWrite → IsCausedBy refusal
   by_write refusal is = subst IsCausedBy (sym is) tt
@@ -117,16 +245,14 @@ module _ (percent : ℕ) (v w : DiskView) (source : SourceView) (sink : SinkView
   by_memory refusal is = subst IsCausedBy (sym is) tt
 
   -- by the stage
-  pub stage_cause : (slots : ℕ) → old.disk.size ≡ size_of slots → (index : PlaceMap) → IsIndexOf holds.store.held index → (tells : (places : PlaceMap) × (old.known ≡ Some places)) → (stage : Stage)
-      → (IsMarking stage → old.known ≡ Some index)
-      → ((source slot : ℕ) → stage ≡ Copy source → get_or old.tables.held.ids.items slot 0 ≡ get_or old.collection.sources.items source 0 → slot < slots)
-      → (e : Ending) → Touches stage old.tables e old.disk new → (refusal : Refusal) → IsStepRefusal stage old new refusal → IsCausedBy refusal
-  stage_cause slots sized index all tells (Mark level slot) marks within e touches refusal (inl cause) = header_cause touches.only.content_is slot refusal cause
-  stage_cause slots sized index all tells (Mark level slot) marks within e touches refusal (inr stops) = mark_cause touches.only.content_is index all (marks tt) level slot refusal stops
-  stage_cause slots sized index all tells (Filter slot) marks within e touches refusal cause =
-      source_cause tells slot (λ bytes. since_reads touches.only.content_is (λ image. header_bytes slot image ≡ bytes)) refusal cause
-  stage_cause slots sized index all tells Select marks within e touches refusal cause = by_memory refusal cause
-  stage_cause slots sized index all tells (Copy source) marks within e touches refusal cause =
-      take_cause tells (slot_at slots) (get_or old.collection.sources.items source 0) (λ slot id_is. let below = within source slot refl id_is in omega (arith, below)) (touches slots sized).content_is refusal cause
-  stage_cause slots sized index all tells (Release next slot) marks within e touches refusal cause = by_write refusal cause
-  stage_cause slots sized index all tells End marks within e touches refusal cause = absurd cause
+  pub stage_cause : (slots : ℕ) → old.disk.size ≡ size_of slots → length old.tables.held.ids.items ≡ slots → (index : PlaceMap) → IsIndexOf holds.store.held index → (tells : (places : PlaceMap) × (old.known ≡ Some places))
+      → (LAST_ID ≤ old.tables.held.last_id → IsUnwritten holds.store) → (stage : Stage) (next : Next) → (IsMarking stage → old.known ≡ Some index)
+      → (e : Ending) → Touches stage next old.collection.sweep old.tables e old.disk new → (refusal : Refusal) → IsStepRefusal stage next old new refusal → IsCausedBy refusal
+  stage_cause slots sized many index all tells none (Mark level slot) next marks e touches refusal (inl cause) = header_cause touches.only.content_is slot refusal cause
+  stage_cause slots sized many index all tells none (Mark level slot) next marks e touches refusal (inr stops) = mark_cause touches.only.content_is index all (marks tt) level slot refusal stops
+  stage_cause slots sized many index all tells none (Filter slot) next marks e touches refusal cause = record_cause tells touches.only.content_is slot refusal cause
+  stage_cause slots sized many index all tells none Select next marks e touches refusal cause = by_memory refusal cause
+  stage_cause slots sized many index all tells none SweepStage (Copy source entry) marks e touches refusal cause = copy_cause tells slots many (touches slots sized).content_is source entry refusal cause
+  stage_cause slots sized many index all tells none SweepStage (Flush source entry) marks e touches refusal cause = flush_cause tells none refusal cause
+  stage_cause slots sized many index all tells none SweepStage (Release source entry) marks e touches refusal cause = by_write refusal cause
+  stage_cause slots sized many index all tells none SweepStage End marks e touches refusal cause = absurd cause

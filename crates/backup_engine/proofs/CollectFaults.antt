@@ -11,8 +11,10 @@ use Rattle.gc_enumerate.specs.declared.fault.ScanFault.TheVariants as faults
 use Rattle.gc_enumerate.proofs.Scans.{entry_fault_wider, finds_wider}
 use Rattle.refusals.specs.declared.refusal.Refusal.{Refusal}
 use Rattle.refusals.specs.declared.refusal.Refusal.TheVariants.{Damaged}
+use Rattle.store_model.specs.Slots.{place_of}
 use Rattle.store_model.specs.Trees.{bytes_at}
-use Rattle.backup_engine.specs.AnyDisk.{HasBadHeader, IsUnmarked, ShownSince, ShownThere}
+use Rattle.backup_engine.specs.AnyDisk.{HasBadHeader, IsUncopied, IsUnmarked, ShownSince, ShownThere}
+use Rattle.backup_engine.proofs.UnlikeNodes.{copy_refusal}
 
 module _ (s : Scan) (showed showed' : Place → List ℕ → Type 0) (wider : (place : Place) (bytes : List ℕ) → showed place bytes → showed' place bytes)
     (damaged damaged' : ℕ → Why → Type 0) (still : (at : ℕ) (why : Why) → damaged at why → damaged' at why) where
@@ -51,4 +53,14 @@ module _ (old old_now new new_now : DiskView) (each : (P : List ℕ → Type 0) 
     fault = is.fault;
     refusal_is = is.refusal_is;
     cause = fault_wider _ (ShownThere old old_now) (ShownThere new new_now) (λ place bytes. each (λ image. bytes_at place image ≡ bytes)) (λ at why. ⊥) (λ at why. ⊥) (λ at why none. none) is.header.entries is.fault is.cause;
+  }
+
+  pub uncopied_so : (refusal : Refusal) → IsUncopied old old_now refusal → IsUncopied new new_now refusal
+  uncopied_so refusal is = record {
+    slot = is.slot;
+    header = is.header;
+    shown = each _ is.shown;
+    entry = is.entry;
+    one_of = is.one_of;
+    cause = copy_refusal (ShownSince old old_now) (ShownSince new new_now) each (place_of is.slot is.entry) is.entry.digest refusal is.cause;
   }

@@ -1,5 +1,5 @@
 -- What a `collect` keeps, whatever the disk holds.
-use Rattle.std.proofs.Common.{◌≡◌, ◌≢◌, inr, ◌+◌, ◌<◌, ℕ, List, [], get_or, Option, None, Some, Result, Ok, Err, refl, sym, ◌∙◌, subst, arith}
+use Rattle.std.proofs.Common.{◌≡◌, ◌≢◌, inr, ◌+◌, ◌≤◌, ℕ, List, [], length, Option, None, Some, Result, Ok, Err, refl, sym, ◌∙◌, ap, subst, arith}
 use Rattle.actor_parts.specs.declared.step.Answer.{Answer}
 use Rattle.actor_parts.specs.declared.step.Answer.TheVariants as answers
 use Rattle.actor_parts.specs.StepValue as asked
@@ -11,11 +11,10 @@ use Rattle.dd_disk.proofs.Later.{later_on, leaves_on, reads_leave}
 use Rattle.dd_disk.proofs.Shows.{shown_content}
 use Rattle.dd_io.specs.Flow.{SourceView, SinkView}
 use Rattle.disk_format.specs.Layout.{size_of}
+use Rattle.disk_format.specs.declared.numbers.TheConstants.{LAST_ID}
 use Rattle.gc_steps.specs.Stepping.{Touches}
-use Rattle.gc_steps.specs.UnderWay.{HasStage}
 use Rattle.gc_steps.specs.declared.collection.Collection.{Collection}
-use Rattle.gc_steps.specs.declared.collection.Stage.{Stage}
-use Rattle.gc_steps.specs.declared.collection.Stage.TheVariants.{Copy, End}
+use Rattle.gc_sweep.specs.declared.sweep.Next.TheVariants.{End}
 use Rattle.refusals.specs.declared.refusal.Phase.{Phase}
 use Rattle.refusals.specs.declared.refusal.Refusal.{Refusal}
 use Rattle.refusals.specs.declared.refusal.Refusal.TheVariants as refusals
@@ -23,24 +22,30 @@ use Rattle.reply_text.specs.declared.ending.Ending as reply
 use Rattle.reply_text.specs.declared.ending.Ending.TheVariants.{Sink, Refused}
 use Rattle.script_runner.specs.Acts.{Collects, Starts, Sweeps}
 use Rattle.store_model.specs.Image.{Encodes, Store}
+use Rattle.store_model.specs.Slots.{last_id}
+use Rattle.store_model.proofs.Free.{as_many as as_many_ids}
 use Rattle.store_state.specs.Refused.{blames}
 use Rattle.store_state.specs.Settled.{IsSettled}
+use Rattle.store_state.specs.declared.tables.Tables.{Tables}
 use Rattle.store_core.specs.Collecting.{Begins, GcRow, HasEnded, IsNotMade, StartRow, TouchesBy, at_moment}
 use Rattle.store_core.specs.Core.{CoreStep, Rests, Steps}
 use Rattle.store_core.specs.State.{CoreState, Event}
+use Rattle.store_core.specs.Releases.{copied_in, freed_in}
 use Rattle.store_core.proofs.CoreRuns.{running_step}
+use Rattle.store_core.proofs.GcSteps.{end_reads}
 use Rattle.store_core.proofs.RunningOn.{step_runs}
 use Rattle.store_core.proofs.SafeSteps.{alone}
-use Rattle.backup_engine.specs.AnyDisk.{EndsDurable, HasGivenBack, Holds, IsCaused, IsSettledDisk, OnAnyDisk, WroteOnAny, disk_ending}
-use Rattle.gc_steps.proofs.Sparing.{held_within}
-use Rattle.backup_engine.specs.Collected.{collected_line}
-use Rattle.backup_engine.specs.Frame.{KeepsButGates, KeepsOthers, KeepsRest}
+use Rattle.backup_engine.specs.AnyDisk.{EndsDurable, HasSwept, Holds, IsCaused, IsSettledDisk, IsUnwritten, OnAnyDisk, WroteOnAny, disk_ending}
+use Rattle.backup_engine.specs.Collected.{collected_line, written_in}
+use Rattle.backup_engine.specs.Frame.{KeepsButSweep, KeepsOthers, KeepsRest, SameButSlotsOf}
 use Rattle.backup_engine.specs.Line.{Collect}
 use Rattle.backup_engine.specs.Promise.{WroteReply}
 use Rattle.backup_engine.proofs.Called.{Called, settled}
 use Rattle.backup_engine.proofs.CollectCauses.{stage_cause}
-use Rattle.backup_engine.proofs.CollectFrame.{IsBut, IsFramed, all_framed, but_here, content_framed, framed_reads, step_framed, step_leaves}
-use Rattle.backup_engine.proofs.CollectSteps.{CollectedSoFar, all_steps, collection_later, IsMarking, ended, gc_event, had_first, header_there, reads_settled, releases, same_collection, some_id, under_way}
+use Rattle.backup_engine.proofs.CollectFrame.{IsBut, all_leave, but_here, each_but, step_leaves}
+use Rattle.backup_engine.proofs.CollectSteps.{CollectedSoFar, IsMarking, all_steps, collection_later, ended, gc_event, none_counted, reads_settled, same_collection}
+use Rattle.backup_engine.proofs.SweptBytes.{IsFramed, framed_reads, same_slots}
+use Rattle.backup_engine.proofs.SweptSlots.{no_slots}
 use Rattle.backup_engine.proofs.FirstActor.{represents_still}
 use Rattle.backup_engine.proofs.NotDone.{holds}
 use Rattle.backup_engine.proofs.Reading.{reads_frame}
@@ -51,13 +56,13 @@ abbrev pub start_event : ℕ → Result Answer Refusal → List ℕ → Event
 start_event percent answer buf = record { actor = 0; step = asked.GcStart percent; answer = answer; buf = buf }
 
 module _ (C : Type 0) (state : C → CoreState) (v w : DiskView) (old new : C) (called : Called C state v w old new) (percent : ℕ) where
-  abbrev store : Store
+  abbrev pub store : Store
   store = called.opened.store
 
-  abbrev index : PlaceMap
+  abbrev pub index : PlaceMap
   index = called.opened.told.0
 
-  abbrev sized : v.size ≡ size_of store.slots
+  abbrev pub sized : v.size ≡ size_of store.slots
   sized = called.opened.valid.size_is
 
   started : (answer : Result Answer Refusal) (mid : C) (buf : List ℕ) → CoreStep (state old) (start_event percent answer buf) (state mid) → Steps (start_event percent answer buf) (state old) (state mid)
@@ -103,18 +108,31 @@ module _ (C : Type 0) (state : C → CoreState) (v w : DiskView) (old new : C) (
     abbrev rested : Rests began (state old) (state mid)
     rested = first.made.effect
 
-    pub so_begun : CollectedSoFar store index v 0 (state mid)
+    first_framed : (base : List ℕ) → v.content ≡ Some base → IsFramed store [] [] base (state old).disk
+    first_framed base told =
+        let here : (state old).disk.content ≡ Some base = called.first.only.content_is ∙ told in
+        record { told = (base, here); each = λ c image. subst (SameButSlotsOf store [] [] base) (sym (called.durable base here c image)) (same_slots store base) }
+
+    pub so_begun : CollectedSoFar store index v (state mid)
     so_begun = record {
       stop_is = first.stops;
       running = step_runs (state old) (state mid) (start_event percent began start.0) start.1 called.running;
-      slots = [];
-      many = refl;
+      changes = [];
+      each = tt;
       after = store;
       chain = refl;
       represents = alone store (state mid).known (state mid).tables (represents_still (state old) (state mid) rested.tables store called.opened.represents);
+      valid = called.opened.valid;
+      slots_are = refl;
+      freed = [];
+      filled = [];
+      slots = no_slots store;
+      framed = λ base told. framed_reads store [] [] base (state old).disk (state mid).disk (first_framed base told) rested.disk.only;
+      ids = omega (arith, called.opened.last_id_is, ap (λ (t : Tables). t.held.last_id) rested.tables.tables_are);
       collection = begins.collection;
       runs = begins.runs;
-      freed_is = begins.nothing_yet.2;
+      began = omega (arith, begins.next_is, called.opened.last_id_is);
+      counted = none_counted begins.collection.stage (state old).tables.held begins.collection.sweep begins.nothing_yet.1;
       marks = λ marking. rested.tables.index_is ∙ called.opened.told.1;
       tells = (index, rested.tables.index_is ∙ called.opened.told.1);
       faults_are = rested.disk.faults_are ∙ called.first.faults_are;
@@ -122,21 +140,14 @@ module _ (C : Type 0) (state : C → CoreState) (v w : DiskView) (old new : C) (
       settled = reads_settled store.slots (state old).disk (state mid).disk (settled C state v w old new called store.slots) rested.disk.only;
     }
 
-    module _ (base : List ℕ) (told : v.content ≡ Some base) where
-      here : (state old).disk.content ≡ Some base
-      here = called.first.only.content_is ∙ told
+    pub begun_is : (so_begun.after ≡ store) × (so_begun.changes ≡ [])
+    unfolding so_begun
+    begun_is = (refl, refl)
 
-      first_each : (c : List ℕ) → (state old).disk.images c → IsBut store base c
-      first_each c image = subst (IsBut store base) (sym (called.durable base here c image)) (but_here store base)
-
-      first_framed : IsFramed store base (state old).disk
-      first_framed = record { told = (base, here); each = first_each }
-
-      framed_begun : IsFramed store base (state mid).disk
-      framed_begun = framed_reads store base (state old).disk (state mid).disk first_framed rested.disk.only
-
-      leaves_begun : CrashLeaves (IsBut store base) (state old).disk (state mid).disk
-      leaves_begun = reads_leave (IsBut store base) (state old).disk (state mid).disk first_each rested.disk.only
+    leaves_begun : (base : List ℕ) → v.content ≡ Some base → CrashLeaves (IsBut store base) (state old).disk (state mid).disk
+    leaves_begun base told =
+        let here : (state old).disk.content ≡ Some base = called.first.only.content_is ∙ told in
+        reads_leave (IsBut store base) (state old).disk (state mid).disk (λ c image. subst (IsBut store base) (sym (called.durable base here c image)) (but_here store base)) rested.disk.only
 
     -- ---- its steps, and the last one
 
@@ -150,8 +161,8 @@ module _ (C : Type 0) (state : C → CoreState) (v w : DiskView) (old new : C) (
       abbrev collects : Collects C state answer last new
       collects = sweeps.1.1.1
 
-      pub so_last : CollectedSoFar store index v (0 + releases phases) (state last)
-      so_last = all_steps store index v sized C state phases 0 mid last so_begun sweeps.1.1.0
+      pub so_last : CollectedSoFar store index v (state last)
+      so_last = all_steps store index v sized C state phases mid last so_begun sweeps.1.1.0
 
       pub ends : Steps (gc_event answer collects.0) (state last) (state new)
       ends = running_step (state last) (state new) (gc_event answer collects.0) so_last.stop_is collects.1
@@ -170,42 +181,37 @@ module _ (C : Type 0) (state : C → CoreState) (v w : DiskView) (old new : C) (
           subst (λ (n : ℕ). CountsFault (ending blames answer) v.faults n) (sym called.last.faults_are)
           (counts_on (ending blames answer) v.faults (state last).disk.faults (state new).disk.faults so_last.faults_are ends.made.effect.faults_are)
 
-      abbrev run_framed : (base : List ℕ) → v.content ≡ Some base → IsFramed store base (state last).disk × CrashLeaves (IsBut store base) (state mid).disk (state last).disk
-      run_framed base told = all_framed store index v sized C state base phases 0 mid last so_begun (framed_begun base told) sweeps.1.1.0
+      -- however the last one ends
+      ends_leave : (base : List ℕ) → v.content ≡ Some base → CrashLeaves (IsBut store base) (state last).disk (state new).disk
+      ends_leave base told = step_leaves store index v sized C state base told last new so_last answer collects
 
-      new_framed : (base : List ℕ) → v.content ≡ Some base → IsFramed store base (state new).disk
-      new_framed base told = step_framed store index v sized C state base (0 + releases phases) last new so_last (run_framed base told).0 answer collects
-
-      pub left_but : (base : List ℕ) → v.content ≡ Some base → (c : List ℕ) → (state new).disk.content ≡ Some c → IsBut store base c
-      left_but base told c is = (new_framed base told).each c ((state new).disk.as_read c is)
-
-      all_leave : (base : List ℕ) → v.content ≡ Some base → CrashLeaves (IsBut store base) (state old).disk (state new).disk
-      all_leave base told =
-          let run = run_framed base told in
+      run_leaves : (base : List ℕ) → v.content ≡ Some base → CrashLeaves (IsBut store base) (state old).disk (state new).disk
+      run_leaves base told =
           let IsSo : List ℕ → Type 0 = IsBut store base in
           leaves_on IsSo IsSo IsSo (state old).disk (state mid).disk (state new).disk rested.disk.only.later.clock_is (leaves_begun base told)
-          (leaves_on IsSo IsSo IsSo (state mid).disk (state last).disk (state new).disk (collection_later C state phases mid last sweeps.1.1.0).clock_is run.1
-          (step_leaves store index v sized C state base (0 + releases phases) last new so_last run.0 answer collects) (λ c but. but) (λ c but. but)) (λ c but. but) (λ c but. but)
+          (leaves_on IsSo IsSo IsSo (state mid).disk (state last).disk (state new).disk (collection_later C state phases mid last sweeps.1.1.0).clock_is (all_leave store index v sized C state base told phases mid last so_begun sweeps.1.1.0)
+          (ends_leave base told) (λ c but. but) (λ c but. but)) (λ c but. but) (λ c but. but)
 
-      but_gates : (base : List ℕ) → v.content ≡ Some base → (c : List ℕ) → IsBut store base c → KeepsButGates base c
-      but_gates base told c (slots, (had, same)) = record {
+      but_sweep : (base : List ℕ) → v.content ≡ Some base → (c : List ℕ) → IsBut store base c → KeepsButSweep base c
+      but_sweep base told c but = record {
         store = store;
         right = shown_content v (state old).disk (λ image. Encodes image store) base called.opened.right told;
         reserve = called.opened.reserve;
-        slots = slots;
-        had = had;
-        same = same;
+        freed = but.freed;
+        had = but.had;
+        filled = but.filled;
+        may = but.may;
+        same = but.same;
       }
 
       -- what is left of the bytes
       pub ends_frame : (over : Option reply.Ending) → KeepsOthers (Collect percent) over v w
       ends_frame over = record {
         content = λ base told.
-            let framed = new_framed base told in
-            let now = content_framed store base (state new).disk framed.told framed.each in
-            (now.0, called.last.only.content_is ∙ now.1, inr (but_gates base told now.0 now.2));
+            let now = since_old.tells base (called.first.only.content_is ∙ told) in
+            (now.0, called.last.only.content_is ∙ now.1, inr (but_sweep base told now.0 ((ends_leave base told).now now.0 ((state new).disk.as_read now.0 now.1))));
         crash = λ base told.
-            leaves_more (IsBut store base) (KeepsRest (Collect percent) over base) v w (λ c but. inr (but_gates base told c but)) (leaves_of C state v w old new called (IsBut store base) since_old (all_leave base told));
+            leaves_more (IsBut store base) (KeepsRest (Collect percent) over base) v w (λ c but. inr (but_sweep base told c but)) (leaves_of C state v w old new called (IsBut store base) since_old (run_leaves base told));
       }
 
     -- ---- it ended
@@ -214,36 +220,27 @@ module _ (C : Type 0) (state : C → CoreState) (v w : DiskView) (old new : C) (
       abbrev done : Result Answer Refusal
       done = Ok (answers.Done freed copied)
 
-      abbrev so_done : CollectedSoFar store index v (0 + releases sweeps.0) (state sweeps.1.0)
+      abbrev pub so_done : CollectedSoFar store index v (state sweeps.1.0)
       so_done = so_last done sweeps
 
-      abbrev as_many : HasEnded freed copied (state sweeps.1.0) (state new) × (freed ≡ 0 + releases sweeps.0) × (copied ≡ 0)
-      as_many = ended store index v sized C state (0 + releases sweeps.0) freed copied sweeps.1.0 new so_done sweeps.1.1.1
+      pub as_many : HasEnded freed copied (state sweeps.1.0) (state new) × (freed ≡ freed_in so_done.changes) × (copied ≡ copied_in so_done.changes)
+      as_many = ended store index v sized C state freed copied sweeps.1.0 new so_done sweeps.1.1.1
 
-      pub none_copied : copied ≡ 0
-      none_copied = as_many.2
-
-      pub freed_are : freed ≡ releases sweeps.0
-      freed_are = omega (arith, as_many.1)
-
-      given_back : HasGivenBack freed v w
-      given_back = record {
+      swept : HasSwept freed copied v w
+      swept = record {
         holds = ends_holds done sweeps;
-        slots = so_done.slots;
-        many = omega (arith, as_many.1, so_done.many);
-        after = so_done.after;
-        chain = so_done.chain;
+        changes = so_done.changes;
+        sweeps = record { each = so_done.each; after = so_done.after; chain = so_done.chain };
+        freed_are = as_many.1;
+        copied_are = as_many.2;
       }
 
       -- the last step only read
-      last_reads : OnlyReads (state sweeps.1.0).disk (state new).disk
-      last_reads = by_stage.only
-        where
-          touches : Touches as_many.0.before.stage (state sweeps.1.0).tables Done (state sweeps.1.0).disk (state new).disk
-          touches = subst (λ (o : Option Collection). TouchesBy o done (state sweeps.1.0) (state new).disk) as_many.0.ran (ends done sweeps).made.effect.touches
-
-          by_stage : Touches End (state sweeps.1.0).tables Done (state sweeps.1.0).disk (state new).disk
-          by_stage = subst (λ (stage : Stage). Touches stage (state sweeps.1.0).tables Done (state sweeps.1.0).disk (state new).disk) as_many.0.at_end touches
+      pub last_reads : OnlyReads (state sweeps.1.0).disk (state new).disk
+      last_reads =
+          let c : Collection = as_many.0.before in
+          (end_reads c (state sweeps.1.0).tables Done (state sweeps.1.0).disk (state new).disk as_many.0.at_end.0 as_many.0.at_end.1
+          (subst (λ (o : Option Collection). TouchesBy o done (state sweeps.1.0) (state new).disk) as_many.0.ran (ends done sweeps).made.effect.touches)).only
 
       is_settled : IsSettledDisk w
       is_settled slots is =
@@ -252,9 +249,9 @@ module _ (C : Type 0) (state : C → CoreState) (v w : DiskView) (old new : C) (
           let same : store.slots ≡ slots = omega (arith, sized, later.size_is, is) in
           subst (λ (n : ℕ). IsSettled n w) same now
 
-      done_wrote : (over : Option reply.Ending) (sink sink_now : SinkView) → IsReplied over sink sink_now → WroteReply (collected_line freed) over sink sink_now → WroteOnAny (Collect percent) [] over v w sink sink_now
-      done_wrote None sink sink_now replied wrote = (freed, (given_back, wrote))
-      done_wrote (Some Sink) sink sink_now replied wrote = (freed, (given_back, wrote))
+      done_wrote : (over : Option reply.Ending) (sink sink_now : SinkView) → IsReplied over sink sink_now → WroteReply (collected_line freed copied) over sink sink_now → WroteOnAny (Collect percent) [] over v w sink sink_now
+      done_wrote None sink sink_now replied wrote = (freed, copied, (swept, wrote))
+      done_wrote (Some Sink) sink sink_now replied wrote = (freed, copied, (swept, wrote))
       done_wrote (Some over) sink sink_now replied wrote = absurd replied
 
       done_caused : (over : Option reply.Ending) (source : SourceView) (sink sink_now : SinkView) → IsReplied over sink sink_now → IsCaused (Collect percent) [] v w source source sink sink_now over
@@ -272,7 +269,7 @@ module _ (C : Type 0) (state : C → CoreState) (v w : DiskView) (old new : C) (
       done_faults (Some Sink) sink sink_now replied = ends_faults done sweeps
       done_faults (Some over) sink sink_now replied = absurd replied
 
-      pub done_any : (over : Option reply.Ending) (source : SourceView) (sink sink_now : SinkView) → IsReplied over sink sink_now → WroteReply (collected_line freed) over sink sink_now
+      pub done_any : (over : Option reply.Ending) (source : SourceView) (sink sink_now : SinkView) → IsReplied over sink sink_now → WroteReply (collected_line freed copied) over sink sink_now
           → OnAnyDisk (Collect percent) [] over v w source source sink sink_now
       done_any over source sink sink_now replied wrote = record {
         took = (refl, refl);
@@ -299,32 +296,31 @@ module _ (C : Type 0) (state : C → CoreState) (v w : DiskView) (old new : C) (
     -- ---- a step was refused
 
     module _ (refusal : Refusal) (sweeps : Sweeps C state (Err refusal) mid new) where
-      abbrev so_far : CollectedSoFar store index v (0 + releases sweeps.0) (state sweeps.1.0)
+      abbrev so_far : CollectedSoFar store index v (state sweeps.1.0)
       so_far = so_last (Err refusal) sweeps
 
       abbrev at : CoreState
       at = state sweeps.1.0
 
-      -- a source's slot is one of the store's
-      source_within : (c : Collection) → at.collection ≡ Some c → (source slot : ℕ) → c.stage ≡ Copy source → get_or at.tables.held.ids.items slot 0 ≡ get_or c.sources.items source 0 → slot < store.slots
-      source_within c ran source slot is same =
-          let so_is = same_collection so_far.collection c at.collection so_far.runs ran in
-          let under = subst (λ (x : Collection). HasStage at.tables.held x x.stage) so_is (under_way store index v sized C state (0 + releases sweeps.0) sweeps.1.0 so_far).stage_is in
-          let there = subst (λ (stage : Stage). HasStage at.tables.held c stage) is under in
-          let is_some = some_id c.snapshot (get_or c.sources.items source 0) (there.1.old source (omega arith) there.0) in
-          let held = header_there so_far.after.held slot (subst (λ (ids : List ℕ). get_or ids slot 0 ≢ 0) so_far.represents.slots_hold.ids_are (λ none. is_some (sym same ∙ none))) in
-          let within = held_within store.held slot held.0 (had_first so_far.slots store so_far.after so_far.chain slot held.0 held.1) in
-          omega (arith, within, called.opened.valid.many)
-
       abbrev err : Result Answer Refusal
       err = Err refusal
+
+      -- no id is left by the tables, and so by the changes
+      pub no_id : LAST_ID ≤ at.tables.held.last_id → LAST_ID ≤ last_id store.held + written_in so_far.changes
+      no_id none = omega (arith, none, so_far.ids)
+
+      unwritten : LAST_ID ≤ at.tables.held.last_id → IsUnwritten store
+      unwritten none = record { changes = so_far.changes; sweeps = record { each = so_far.each; after = so_far.after; chain = so_far.chain }; ids = no_id none }
+
+      slots_many : length at.tables.held.ids.items ≡ store.slots
+      slots_many = omega (arith, ap (λ (ids : List ℕ). length ids) so_far.represents.slots_hold.ids_are, as_many_ids so_far.after.held, so_far.valid.many, so_far.slots_are)
 
       by_row : (r : Refusal) → IsNotMade r at (state new) → TouchesBy at.collection err at (state new).disk → (source : SourceView) (sink : SinkView) → IsCaused (Collect percent) [] v w source source sink sink (Some (Refused r))
       by_row r made touches source sink =
           let c = made.before in
           let so_is = same_collection so_far.collection c at.collection so_far.runs made.ran in
-          stage_cause percent v w source sink (ends_holds err sweeps) (at_moment at c) (state new).disk so_far.later (ends err sweeps).made.effect.later called.last store.slots (so_far.later.size_is ∙ sized)
-          index (called.opened.whole index called.opened.told.1) so_far.tells c.stage (λ marks. so_far.marks (subst (λ (x : Collection). IsMarking x.stage) (sym so_is) marks)) (λ source_no slot is. source_within c made.ran source_no slot is)
+          stage_cause percent v w source sink (ends_holds err sweeps) (at_moment at c) (state new).disk so_far.later (ends err sweeps).made.effect.later called.last store.slots (so_far.later.size_is ∙ sized) slots_many
+          index (called.opened.whole index called.opened.told.1) so_far.tells unwritten c.stage c.sweep.next (λ marks. so_far.marks (subst (λ (x : Collection). IsMarking x.stage) (sym so_is) marks))
           (ending blames err) (subst (λ (o : Option Collection). TouchesBy o err at (state new).disk) made.ran touches) r made.cause
 
       cause_of : (r : Refusal) → GcRow (Err r) at (state new) → TouchesBy at.collection err at (state new).disk → (source : SourceView) (sink : SinkView)

@@ -28,14 +28,14 @@ use Rattle.backup_engine.proofs.Saying.{line_then}
 two_actors : (percent : ℕ) (snapshot : ℕ) (last : Replied) → actor_of last.line ≡ None → (rs : List Replied) → rs ≡ collecting percent snapshot ∷ last ∷ [] → AreOfActors rs
 two_actors percent snapshot last none rs are = subst AreOfActors (sym are) (no_actor (lines.Gc percent) refl, (no_actor last.line none, tt))
 
-swept_actors : (percent freed : ℕ) (rs : List Replied) → singles.Sweeps percent freed rs → AreOfActors rs
-swept_actors percent freed rs is = two_actors percent is.0 (said lines.Sweep (replies.Collected freed 0)) refl rs is.1
+swept_actors : (percent freed copied : ℕ) (rs : List Replied) → singles.Sweeps percent freed copied rs → AreOfActors rs
+swept_actors percent freed copied rs is = two_actors percent is.0 (said lines.Sweep (replies.Collected freed copied)) refl rs is.1
 
 pub collect_actors : (percent : ℕ) (ending : Option Ending) (sink sink_now : SinkView) (rs : List Replied) → IsCollect percent ending sink sink_now rs → AreOfActors rs
-collect_actors percent None sink sink_now rs is = swept_actors percent is.0 rs is.1.0
-collect_actors percent (Some Sink) sink sink_now rs is = swept_actors percent is.0 rs is.1.0
+collect_actors percent None sink sink_now rs is = swept_actors percent is.0 is.1 rs is.2.0
+collect_actors percent (Some Sink) sink sink_now rs is = swept_actors percent is.0 is.1 rs is.2.0
 collect_actors percent (Some (Refused refusal)) sink sink_now rs (inl (memory, inl none), wrote) = no_line rs none
-collect_actors percent (Some (Refused refusal)) sink sink_now rs (inl (memory, inr swept), wrote) = swept_actors percent swept.0 rs swept.1
+collect_actors percent (Some (Refused refusal)) sink sink_now rs (inl (memory, inr swept), wrote) = swept_actors percent swept.0 swept.1 rs swept.2
 collect_actors percent (Some (Refused refusal)) sink sink_now rs (inr (inl one), wrote) = one_actor (lines.Gc percent) refl (replies.Refused refusal) rs one
 collect_actors percent (Some (Refused refusal)) sink sink_now rs (inr (inr stopped), wrote) = two_actors percent stopped.0 (refused lines.Sweep refusal) refl rs stopped.1
 collect_actors percent (Some ending) sink sink_now rs is = absurd is
@@ -57,34 +57,29 @@ module _ (C : Type 0) (state : C → CoreState) (percent : ℕ) where
           line_then C state (collecting percent snapshot) (refused lines.Sweep refusal ∷ []) (idle old) (idle mid) (idle new) refl (inl (admits old (lines.Gc percent) runs refl, (start, refl, refl)))
           (line_then C state (refused lines.Sweep refusal) [] (idle mid) (idle new) (idle new) refl (inl (admits mid lines.Sweep on refl, (sweeps, refl, refl))) refl)
 
-      swept_lines : (freed : ℕ) → Sweeps C state (Ok (answers.Done freed 0)) mid new → RunsLines C state (collecting percent snapshot ∷ said lines.Sweep (replies.Collected freed 0) ∷ []) (idle old) (idle new)
-      swept_lines freed sweeps =
-          line_then C state (collecting percent snapshot) (said lines.Sweep (replies.Collected freed 0) ∷ []) (idle old) (idle mid) (idle new) refl (inl (admits old (lines.Gc percent) runs refl, (start, refl, refl)))
-          (line_then C state (said lines.Sweep (replies.Collected freed 0)) [] (idle mid) (idle new) (idle new) refl (inl (admits mid lines.Sweep on refl, (sweeps, refl, refl))) refl)
+      swept_lines : (freed copied : ℕ) → Sweeps C state (Ok (answers.Done freed copied)) mid new → RunsLines C state (collecting percent snapshot ∷ said lines.Sweep (replies.Collected freed copied) ∷ []) (idle old) (idle new)
+      swept_lines freed copied sweeps =
+          line_then C state (collecting percent snapshot) (said lines.Sweep (replies.Collected freed copied) ∷ []) (idle old) (idle mid) (idle new) refl (inl (admits old (lines.Gc percent) runs refl, (start, refl, refl)))
+          (line_then C state (said lines.Sweep (replies.Collected freed copied)) [] (idle mid) (idle new) (idle new) refl (inl (admits mid lines.Sweep on refl, (sweeps, refl, refl))) refl)
 
-      abbrev lines_swept : ℕ → List Replied
-      lines_swept freed = collecting percent snapshot ∷ said lines.Sweep (replies.Collected freed 0) ∷ []
+      module _ (freed copied : ℕ) where
+        abbrev lines_swept : List Replied
+        lines_swept = collecting percent snapshot ∷ said lines.Sweep (replies.Collected freed copied) ∷ []
 
-      replied : (freed : ℕ) (result : Result Unit Ending) (sink sink_now : SinkView) → Sent (collected_line freed) result sink sink_now → IsCollect percent (ending_in result) sink sink_now (lines_swept freed)
-      replied freed (Ok u) sink sink_now sent = (freed, ((snapshot, refl), sent.0))
-      replied freed (Err Sink) sink sink_now sent = (freed, ((snapshot, refl), sent.0))
-      replied freed (Err ending) sink sink_now sent = absurd sent
+        replied : (result : Result Unit Ending) (sink sink_now : SinkView) → Sent (collected_line freed copied) result sink sink_now → IsCollect percent (ending_in result) sink sink_now lines_swept
+        replied (Ok u) sink sink_now sent = (freed, copied, ((snapshot, refl), sent.0))
+        replied (Err Sink) sink sink_now sent = (freed, copied, ((snapshot, refl), sent.0))
+        replied (Err ending) sink sink_now sent = absurd sent
 
-      told : (freed : ℕ) (result : Result Unit Ending) (sink sink_now : SinkView) → WritesCollected freed 0 result sink sink_now → IsCollect percent (ending_in result) sink sink_now (lines_swept freed)
-      told freed result sink sink_now (inl sent) = replied freed result sink sink_now sent
-      told freed result sink sink_now (inr (is, same)) =
-          subst (λ (r : Result Unit Ending). IsCollect percent (ending_in r) sink sink_now (lines_swept freed)) (sym is)
-          (inl (refl, inr (freed, (snapshot, refl))), subst (λ (s : SinkView). s.written ≡ sink.written) (sym same) refl)
+        told : (result : Result Unit Ending) (sink sink_now : SinkView) → WritesCollected freed copied result sink sink_now → IsCollect percent (ending_in result) sink sink_now lines_swept
+        told result sink sink_now (inl sent) = replied result sink sink_now sent
+        told result sink sink_now (inr (is, same)) =
+            subst (λ (r : Result Unit Ending). IsCollect percent (ending_in r) sink sink_now lines_swept) (sym is)
+            (inl (refl, inr (freed, copied, (snapshot, refl))), subst (λ (s : SinkView). s.written ≡ sink.written) (sym same) refl)
 
-      pub swept_run : (freed copied : ℕ) → copied ≡ 0 → Sweeps C state (Ok (answers.Done freed copied)) mid new → (result : Result Unit Ending) (sink sink_now : SinkView) → WritesCollected freed copied result sink sink_now
-          → RunsSingle C state (IsCollect percent (ending_in result) sink sink_now) old new
-      swept_run freed copied none sweeps result sink sink_now writes = (
-        lines_swept freed,
-        (
-          told freed result sink sink_now (subst (λ (n : ℕ). WritesCollected freed n result sink sink_now) none writes),
-          (idle new, (refl, swept_lines freed (subst (λ (n : ℕ). Sweeps C state (Ok (answers.Done freed n)) mid new) none sweeps))),
-        ),
-      )
+        pub swept_run : Sweeps C state (Ok (answers.Done freed copied)) mid new → (result : Result Unit Ending) (sink sink_now : SinkView) → WritesCollected freed copied result sink sink_now
+            → RunsSingle C state (IsCollect percent (ending_in result) sink sink_now) old new
+        swept_run sweeps result sink sink_now writes = (lines_swept, (told result sink sink_now writes, (idle new, (refl, swept_lines freed copied sweeps))))
 
       pub stopped_run : (refusal : Refusal) → Sweeps C state (Err refusal) mid new → (result : Result Unit Ending) (sink sink_now : SinkView) → IsStopped refusal result sink sink_now
           → RunsSingle C state (IsCollect percent (ending_in result) sink sink_now) old new

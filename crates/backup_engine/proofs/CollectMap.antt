@@ -1,202 +1,134 @@
 -- What a `collect` keeps of the map: all of it; and which containers it gives back.
-use Rattle.std.proofs.Common.{◌≡◌, ◌⊎◌, inl, inr, ◌+◌, ◌-◌, ℕ, zero, suc, List, [], ◌∷◌, ◌++◌, length, replicate, Option, None, Some, Result, Ok, Err, refl, sym, ◌∙◌, ap, ap₂, subst, arith}
+use Rattle.std.proofs.Common.{◌≡◌, ◌≢◌, ◌⊎◌, inl, inr, ◌+◌, ◌<◌, ◌≤◌, ℕ, List, [], ◌∷◌, ◌++◌, length, Option, None, Some, Result, Ok, Err, refl, sym, ◌∙◌, ap, subst, arith}
 use Rattle.std.specs.Prelude.{IfErr, slice_get}
-use Rattle.std.specs.List.{AllByRecursion}
-use Rattle.std.proofs.lemmas.Bool.{cases_lt}
 use Rattle.base_model.specs.Bytes.{range}
 use Rattle.base_model.specs.Known.{KnownWith}
-use Rattle.base_model.proofs.Ranges.{range-join}
 use Rattle.actor_parts.specs.declared.step.Answer.{Answer}
 use Rattle.actor_parts.specs.declared.step.Answer.TheVariants as answers
 use Rattle.actor_parts.specs.StepValue as asked
-use Rattle.actor_parts.specs.StepValue.{StepValue}
+use Rattle.container_meta.specs.Places.{PlaceMap}
 use Rattle.container_meta.specs.Spelling.{HeaderValue}
-use Rattle.dd_disk.specs.View.{CrashLeaves, DiskView}
+use Rattle.dd_disk.specs.Ending.{Done, Ending as DiskEnding, Reads, ending, ending_of}
+use Rattle.dd_disk.specs.View.{CrashLeaves, DiskView, OnlyReads}
+use Rattle.dd_disk.specs.Writes.{Both}
 use Rattle.dd_disk.proofs.Later.{leaves_weaker}
 use Rattle.dd_disk.proofs.Shows.{shown_content}
 use Rattle.dd_io.specs.Flow.{SinkView}
-use Rattle.disk_format.specs.Layout.{slot_at}
-use Rattle.disk_format.specs.declared.numbers.TheConstants.{SLOT_BYTES}
-use Rattle.refusals.specs.declared.refusal.Phase.{Phase}
-use Rattle.refusals.specs.declared.refusal.Phase.TheVariants as phase_kinds
+use Rattle.disk_format.specs.Layout.{size_of, slot_at}
+use Rattle.disk_format.specs.declared.numbers.TheConstants.{LAST_ID, RESERVE, SLOT_BYTES}
+use Rattle.gc_steps.specs.Stepping.{Touches}
+use Rattle.gc_steps.specs.UnderWay.{HasRoom, IsUnderWay}
+use Rattle.gc_steps.specs.declared.collection.Collection.{Collection}
+use Rattle.gc_steps.specs.declared.collection.Stage.{Stage}
+use Rattle.gc_steps.specs.declared.collection.Stage.TheVariants.{Mark, Filter, Select, Sweep as SweepStage}
+use Rattle.gc_steps.proofs.UnderWay.{at_stage}
+use Rattle.gc_sweep.specs.declared.sweep.Next.{Next}
+use Rattle.gc_sweep.specs.declared.sweep.Next.TheVariants.{Copy, Flush, Release, End}
+use Rattle.gc_sweep.specs.declared.sweep.Sweep.{Sweep}
+use Rattle.gc_sweep.specs.UnderWay.{free_in, taken_from}
 use Rattle.refusals.specs.declared.refusal.Refusal.{Refusal}
 use Rattle.refusals.specs.declared.refusal.Refusal.TheVariants as refusals
 use Rattle.reply_text.specs.declared.ending.Ending.{Ending}
 use Rattle.reply_text.specs.declared.ending.Ending.TheVariants.{Sink, Refused}
-use Rattle.script_runner.specs.Acts.{CollectionRun, Collects, Starts, Sweeps}
-use Rattle.script_runner.proofs.CollectCauses.{IsCollectCause, collect_cause}
-use Rattle.plain_machine.specs.Collections.{freed_by}
+use Rattle.script_runner.specs.Acts.{Collects, Starts, Sweeps}
+use Rattle.script_runner.proofs.CollectCauses.{IsCauseAt, IsCollectCause, cause_at, collect_cause}
+use Rattle.segment_index.specs.Changes.{SameBefore}
 use Rattle.store_model.specs.Collisions.{ByteSet, HasNoCollisions, IsIn, IsOf, OpensAs}
 use Rattle.store_model.specs.Files.{Files, Stored}
-use Rattle.store_model.specs.Freeing.{HasNoGate, with_freed}
 use Rattle.store_model.specs.Image.{Encodes, Store}
+use Rattle.store_model.specs.Reserve.{IsReachable, IsSpare}
+use Rattle.store_model.specs.Slots.{free_slots, last_id}
+use Rattle.store_model.specs.Standing.{IsStoreOf}
 use Rattle.store_model.specs.Steps.{StoreChange}
-use Rattle.store_model.proofs.Freed.{slot_held}
 use Rattle.store_model.proofs.Once.{store_once}
-use Rattle.store_core.specs.Collecting.{GcRow, IsNotMade, StartRow, at_moment}
+use Rattle.store_state.specs.Refused.{blames}
+use Rattle.store_state.specs.declared.tables.Tables.{Tables}
+use Rattle.store_core.specs.Collecting.{GcRow, HasEnded, IsNotMade, StartRow, TouchesBy, at_moment}
 use Rattle.store_core.specs.Core.{CoreStep, Steps, StopsAfter}
-use Rattle.store_core.specs.Runs.{ChangesTo, FileEvent, FileRun, FileStep, IsOnTheWay, stored_after, stored_by, stored_tried}
+use Rattle.store_core.specs.Releases.{SweepsSpare, copied_in, freed_in}
+use Rattle.store_core.specs.Runs.{AreChangesBy, ChangesTo, FileEvent, FileRun, FileStep, IsAt, IsOnTheWay}
 use Rattle.store_core.specs.Sound.{IsHarmless}
 use Rattle.store_core.specs.State.{CoreState, Event}
 use Rattle.store_core.proofs.AnySteps.{any_step}
-use Rattle.store_core.proofs.KeepingFiles.{run_running}
-use Rattle.store_core.proofs.Leading.{Leads}
-use Rattle.store_core.proofs.Releasing.{leaves_none_spare, releases_spare}
-use Rattle.store_core.specs.Releases.{AreGcSteps, FreesSpare, HasReleased, released_by, released_in}
-use Rattle.gc_steps.specs.Roots.{IsActorKey, IsPartKey}
-use Rattle.gc_steps.proofs.Sparing.{held_within}
-use Rattle.gc_steps.proofs.Started.{part_holds}
-use Rattle.actor_parts.specs.declared.actor.TheConstants.{ACTORS}
-use Rattle.actor_parts.specs.declared.part.Part.{Part}
-use Rattle.actor_parts.specs.declared.part.Part.TheVariants.{Idle}
-use Rattle.actor_parts.specs.Parts.{part_of}
-use Rattle.store_model.specs.Reserve.{IsReachable, IsSpare}
 use Rattle.store_core.proofs.CoreRuns.{running_step}
 use Rattle.store_core.proofs.Crashes.{leaves_on_the_way}
 use Rattle.store_core.proofs.Damage.{never_damaged}
-use Rattle.store_core.proofs.Reserves.{enough_after}
-use Rattle.backup_engine.specs.Collected.{Collected, CollectedAll, collected_line, frees}
+use Rattle.store_core.proofs.GcSteps.{end_reads}
+use Rattle.store_core.proofs.KeepingFiles.{run_running}
+use Rattle.store_core.proofs.Leading.{Leads}
+use Rattle.store_core.proofs.Releasing.{leaves_none_spare}
+use Rattle.store_core.proofs.Rooms.{free_held, room_ended}
+use Rattle.backup_engine.specs.Collected.{Collected, CollectedAll, HasNoIdLeft, collected_line, written_in}
+use Rattle.backup_engine.specs.Frame.{SameButSlotsOf}
 use Rattle.backup_engine.specs.Line.{Collect}
-use Rattle.backup_engine.specs.Promise.{EndsBy, GivesSlotsBack, IsLeftAs, IsLeftWith, KeepsEachMap, KeepsMap, MayBeMeanwhile, WroteReply}
+use Rattle.backup_engine.specs.Promise.{EndsBy, EndsFrom, GivesSlotsBack, IsLeftAs, IsLeftWith, KeepsEachMap, KeepsMap, MayBeMeanwhile, WroteReply}
 use Rattle.backup_engine.specs.Promise as promise
 use Rattle.backup_engine.proofs.Called.{Called, Starts as StartsAt, starts}
-use Rattle.backup_engine.proofs.CollectFrame.{IsBut}
-use Rattle.backup_engine.proofs.CollectKept.{ends, freed_are, left_but, since_old, so_last, start_event}
-use Rattle.backup_engine.proofs.CollectSteps.{gc_event, had_first, releases}
+use Rattle.backup_engine.proofs.CollectKept.{begun_is, ends, index, since_old, sized, so_begun, so_last, start_event, store}
+use Rattle.backup_engine.proofs.CollectMaps.{AreQuiet, DidSteps, MapSoFar, all_maps, did_steps, gc_file, none_held, quiet_then, run_then, start_file, still_on_the_way}
+use Rattle.backup_engine.proofs.CollectStays.{stays}
+use Rattle.backup_engine.proofs.CollectSteps.{CollectedSoFar, ended, gc_event, same_collection, under_way}
 use Rattle.backup_engine.proofs.DeleteMap.{IsDone}
 use Rattle.backup_engine.proofs.NotDone.{left_with, not_sink}
 use Rattle.backup_engine.proofs.Reading.{reads_map, wrote_nothing}
+use Rattle.backup_engine.proofs.SweptBytes.{but_before, content_framed}
 use Rattle.backup_engine.proofs.WholeCall.{all_reads, leaves_more, leaves_of}
 
--- ---- steps that change no file
+-- ---- the last step, by what comes next
 
-abbrev IsQuiet : StepValue → Type 0
-IsQuiet (asked.GcStart percent) = Unit {0}
-IsQuiet asked.GcStep = Unit {0}
-IsQuiet step = ⊥
+-- where it was refused, and no write failed, the slots of the reserve are closed
+room_at : (t : Tables) (c : Collection) → IsUnderWay t.held c → (stage : Stage) (next : Next) → c.stage ≡ stage → c.sweep.next ≡ next → (refusal : Refusal) → (refusal ≡ refusals.DiskWrite → ⊥) → IsCauseAt stage next t refusal → HasRoom t.held
+room_at t c under (Mark level slot) next is next_is refusal whole cause = (at_stage t.held c (Mark level slot) under is).4
+room_at t c under (Filter slot) next is next_is refusal whole cause = (at_stage t.held c (Filter slot) under is).2
+room_at t c under Select next is next_is refusal whole cause = (at_stage t.held c Select under is).1
+room_at t c under SweepStage (Release source entry) is next_is refusal whole cause = absurd (whole cause)
+room_at t c under SweepStage (Copy source entry) is next_is refusal whole cause =
+    let room : RESERVE ≤ free_in t.held + 0 = subst (λ (n : Next). RESERVE ≤ free_in t.held + taken_from n) next_is (at_stage t.held c SweepStage under is).room in
+    omega (arith, room)
+room_at t c under SweepStage (Flush source entry) is next_is refusal whole cause =
+    let room : RESERVE ≤ free_in t.held + 0 = subst (λ (n : Next). RESERVE ≤ free_in t.held + taken_from n) next_is (at_stage t.held c SweepStage under is).room in
+    omega (arith, room)
+room_at t c under SweepStage End is next_is refusal whole cause = absurd cause
 
-abbrev AreQuiet : List FileEvent → Type 0
-AreQuiet steps = AllByRecursion (λ f. IsQuiet f.event.step) steps
+both_reads : (place : ℕ) (a b : Option (List ℕ)) → b ≡ a → Both (SameBefore place) a b
+both_reads place None b same = subst (λ (o : Option (List ℕ)). Both (SameBefore place) None o) (sym same) tt
+both_reads place (Some x) b same = subst (λ (o : Option (List ℕ)). Both (SameBefore place) (Some x) o) (sym same) (record { size = refl; before = λ p n within. refl })
 
-still_by : (step : StepValue) (answer : Result Answer Refusal) (buf bytes : List ℕ) (actor : ℕ) (m : Stored) → IsQuiet step
-    → (stored_by (record { event = record { actor = actor; step = step; answer = answer; buf = buf }; bytes = bytes }) m ≡ m) × (stored_tried step answer bytes m ≡ m)
-still_by (asked.GcStart percent) answer buf bytes actor m quiet = (refl, refl)
-still_by asked.GcStep answer buf bytes actor m quiet = (refl, refl)
-still_by step answer buf bytes actor m quiet = absurd quiet
+-- and nothing before the end of the slots is another
+module _ (slots : ℕ) (t : Tables) (many : t.slots ≡ slots) (old new : DiskView) (sized : old.size ≡ size_of slots) where
+  flush_stays : (refusal : Refusal) (sweep : Sweep) (source entry : ℕ) → (refusal ≡ refusals.DiskWrite → ⊥) → IsCauseAt SweepStage (Flush source entry) t refusal
+      → Touches SweepStage (Flush source entry) sweep t (ending_of (blames refusal)) old new → Both (SameBefore (slot_at slots)) old.content new.content
+  flush_stays refusals.DiskWrite sweep source entry whole cause touches = absurd (whole refl)
+  flush_stays refusals.Numbers sweep source entry whole cause touches = subst (λ (n : ℕ). Both (SameBefore (slot_at n)) old.content new.content) many touches.0.left.content_is
+  flush_stays refusals.Memory sweep source entry whole cause touches = subst (λ (n : ℕ). Both (SameBefore (slot_at n)) old.content new.content) many touches.0.left.content_is
+  flush_stays refusals.DiskRead sweep source entry whole cause touches = subst (λ (n : ℕ). Both (SameBefore (slot_at n)) old.content new.content) many touches.0.left.content_is
+  flush_stays refusal sweep source entry whole cause touches = absurd cause
 
-stored_still : (f : FileEvent) (m : Stored) → IsQuiet f.event.step → stored_by f m ≡ m
-stored_still f m quiet = (still_by f.event.step f.event.answer f.event.buf f.bytes f.event.actor m quiet).0
+  refused_stays : (refusal : Refusal) (stage : Stage) (next : Next) (sweep : Sweep) → (refusal ≡ refusals.DiskWrite → ⊥) → IsCauseAt stage next t refusal
+      → Touches stage next sweep t (ending_of (blames refusal)) old new → Both (SameBefore (slot_at slots)) old.content new.content
+  refused_stays refusal (Mark level slot) next sweep whole cause touches = both_reads (slot_at slots) old.content new.content touches.only.content_is
+  refused_stays refusal (Filter slot) next sweep whole cause touches = both_reads (slot_at slots) old.content new.content touches.only.content_is
+  refused_stays refusal Select next sweep whole cause touches = both_reads (slot_at slots) old.content new.content touches.only.content_is
+  refused_stays refusal SweepStage (Copy source entry) sweep whole cause touches = (touches slots sized).content_is
+  refused_stays refusal SweepStage (Flush source entry) sweep whole cause touches = flush_stays refusal sweep source entry whole cause touches
+  refused_stays refusal SweepStage (Release source entry) sweep whole cause touches = absurd (whole cause)
+  refused_stays refusal SweepStage End sweep whole cause touches = absurd cause
 
-tried_still : (f : FileEvent) (m : Stored) → IsQuiet f.event.step → stored_tried f.event.step f.event.answer f.bytes m ≡ m
-tried_still f m quiet = (still_by f.event.step f.event.answer f.event.buf f.bytes f.event.actor m quiet).1
+-- no id is left where it was refused for that
+numbers_at : (stage : Stage) (next : Next) (t : Tables) → IsCauseAt stage next t refusals.Numbers → LAST_ID ≤ t.held.last_id
+numbers_at (Mark level slot) next t cause = absurd cause
+numbers_at (Filter slot) next t cause = absurd cause
+numbers_at Select next t cause = absurd cause
+numbers_at SweepStage (Copy source entry) t cause = absurd cause
+numbers_at SweepStage (Flush source entry) t cause = cause
+numbers_at SweepStage (Release source entry) t cause = absurd (let wrong : refusals.Numbers ≡ refusals.DiskWrite = cause in cc)
+numbers_at SweepStage End t cause = absurd cause
 
-still_after : (steps : List FileEvent) (m : Stored) → AreQuiet steps → stored_after steps m ≡ m
-still_after [] m quiet = refl
-still_after (f ∷ fs) m quiet = ap (λ (x : Stored). stored_after fs x) (stored_still f m quiet.0) ∙ still_after fs m quiet.1
+some_one : (a b : List ℕ) → Some a ≡ Some b → a ≡ b
+some_one a b is = cc
 
-still_on_the_way : (S : List ℕ → Type 0) (steps : List FileEvent) (m : Stored) (c : List ℕ) → AreQuiet steps → IsOnTheWay S steps m c → OpensAs S m c
-still_on_the_way S [] m c quiet is = is
-still_on_the_way S (f ∷ fs) m c quiet is = elim is [
-  | inl before ↦ before
-  | inr more ↦ elim more [
-    | inl tried ↦ subst (λ (x : Stored). OpensAs S x c) (tried_still f m quiet.0) tried
-    | inr rest ↦ still_on_the_way S fs m c quiet.1 (subst (λ (x : Stored). IsOnTheWay S fs x c) (stored_still f m quiet.0) rest)
-  ]
-]
-
--- ---- the steps of a collection, as those of a run
-
-abbrev gc_file : Result Answer Refusal → List ℕ → FileEvent
-gc_file answer buf = record { event = gc_event answer buf; bytes = [] }
-
-abbrev start_file : ℕ → Result Answer Refusal → List ℕ → FileEvent
-start_file percent answer buf = record { event = start_event percent answer buf; bytes = [] }
-
--- what one gives back
-one_released : (phase : Phase) → released_by (Ok (answers.Did phase)) ≡ freed_by phase
-one_released phase_kinds.Release = refl
-one_released phase = refl
-
--- steps that are not the last
-pub record DidSteps (C : Type 0) (state : C → CoreState) (S : List ℕ → Type 0) (phases : List Phase) (old new : C) : Type 0 where
-  pub steps : List FileEvent
-  pub run : FileRun C state S steps old new
-  pub quiet : AreQuiet steps
-  pub all : AreGcSteps steps
-  pub released : released_in steps ≡ releases phases
-
-module _ (C : Type 0) (state : C → CoreState) (S : List ℕ → Type 0) where
-  did_steps : (phases : List Phase) (old new : C) → CollectionRun C state phases old new → DidSteps C state S phases old new
-  did_steps [] old new run = record { steps = []; run = run; quiet = tt; all = tt; released = refl }
-  did_steps (phase ∷ phases) old new run =
-      let rest = did_steps phases run.0 new run.1.1 in
-      let f : FileEvent = gc_file (Ok (answers.Did phase)) run.1.0.0 in
-      let step : FileStep S f (state old) (state run.0) = record { asked = tt; given = tt; made = run.1.0.1 } in
-      record {
-        steps = f ∷ rest.steps;
-        run = (run.0, (step, rest.run));
-        quiet = (tt, rest.quiet);
-        all = (refl, rest.all);
-        released = ap₂ (λ (a b : ℕ). a + b) (one_released phase) rest.released;
-      }
-
-  run_then : (fs : List FileEvent) (f : FileEvent) (old mid new : C) → FileRun C state S fs old mid → FileStep S f (state mid) (state new) → FileRun C state S (fs ++ f ∷ []) old new
-  run_then [] f old mid new run step = subst (λ (c : C). FileRun C state S (f ∷ []) c new) run (new, (step, refl))
-  run_then (one ∷ fs) f old mid new run step = (run.0, (run.1.0, run_then fs f run.0 mid new run.1.1 step))
-
-quiet_then : (fs : List FileEvent) (f : FileEvent) → AreQuiet fs → IsQuiet f.event.step → AreQuiet (fs ++ f ∷ [])
-quiet_then [] f all last = (last, tt)
-quiet_then (one ∷ fs) f all last = (all.0, quiet_then fs f all.1 last)
-
-all_then : (fs : List FileEvent) (f : FileEvent) → AreGcSteps fs → f.event.step ≡ asked.GcStep → AreGcSteps (fs ++ f ∷ [])
-all_then [] f all last = (last, tt)
-all_then (one ∷ fs) f all last = (all.0, all_then fs f all.1 last)
-
-released_then : (fs : List FileEvent) (f : FileEvent) → released_by f.event.answer ≡ 0 → released_in (fs ++ f ∷ []) ≡ released_in fs
-released_then [] f none = omega (arith, none)
-released_then (one ∷ fs) f none = ap (λ (n : ℕ). released_by one.event.answer + n) (released_then fs f none)
-
--- containers that are given back are changes of a store
-frees_changes : (P : List ℕ → Type 0) (slots : List ℕ) (s t : Store) → FreesSpare P slots s t → ChangesTo (frees slots) s t
-frees_changes P [] s t chain = chain
-frees_changes P (slot ∷ slots) s t chain = ((chain.0.header, chain.0.holds), frees_changes P slots (with_freed slot s) t chain.1)
-
--- no actor that is idle holds a key
-idle_parts : (key : List ℕ) (n : ℕ) → AllByRecursion (λ part. IsPartKey part key → ⊥) (replicate n Idle)
-idle_parts key zero = tt
-idle_parts key (suc n) = (λ none. none, idle_parts key n)
-
-none_held : (parts : List Part) → parts ≡ replicate ACTORS Idle → (key : List ℕ) → ¬ (IsActorKey parts key)
-none_held parts idle key is =
-    part_holds (λ part. IsPartKey part key → ⊥) (replicate ACTORS Idle) is.0 (λ none. none) (idle_parts key ACTORS)
-    (subst (λ (ps : List Part). IsPartKey (part_of ps is.0) key) idle is.1.1)
-
--- ---- bytes
-
--- what lies after the header of a slot has no gate
-after_header : (slot : ℕ) (slots : List ℕ) → HasNoGate slots (slot_at slot + 49664) (SLOT_BYTES - 49664)
-after_header slot [] = tt
-after_header slot (other ∷ slots) = (
-  elim (cases_lt slot other) [
-    | inl below ↦ inl (omega (arith, below))
-    | inr above ↦ inr (omega (arith, above))
-  ],
-  after_header slot slots,
-)
-
--- a slot with a container, before and after
-slot_stays : (s : Store) (base now : List ℕ) (t : Store) → Encodes base s → Encodes now t → IsBut s base now → (slot : ℕ) (h : HeaderValue) → slice_get s.held slot ≡ Some (Some h) → slice_get t.held slot ≡ Some (Some h)
-    → range (slot_at slot) SLOT_BYTES now ≡ range (slot_at slot) SLOT_BYTES base
-slot_stays s base now t was is (slots, (had, but)) slot h first there =
-    let before = slot_held slot s.held (Some h) base was.slots_are first in
-    let after = slot_held slot t.held (Some h) now is.slots_are there in
-    let within = held_within s.held slot h first in
-    let rest = but.same (slot_at slot + 49664) (SLOT_BYTES - 49664) (omega (arith, within, was.many)) (after_header slot slots) in
-    let sum : 49664 + (SLOT_BYTES - 49664) ≡ SLOT_BYTES = omega arith in
-    subst (λ (n : ℕ). range (slot_at slot) n now ≡ range (slot_at slot) n base) sum
-    (sym (range-join (slot_at slot) 49664 (SLOT_BYTES - 49664) (slot_at slot + 49664) now refl)
-    ∙ ap₂ (λ (a b : List ℕ). a ++ b) (after.1 ∙ sym before.1) rest
-    ∙ range-join (slot_at slot) 49664 (SLOT_BYTES - 49664) (slot_at slot + 49664) base refl)
+both_told : (R : List ℕ → List ℕ → Type 0) (a b : List ℕ) (was now : Option (List ℕ)) → was ≡ Some a → now ≡ Some b → Both R was now → R a b
+both_told R a b was now is also both_are = subst (λ (o : Option (List ℕ)). Both R (Some a) o) also (subst (λ (o : Option (List ℕ)). Both R o now) is both_are)
 
 -- ---- over a map
 
@@ -229,6 +161,9 @@ module _ (C : Type 0) (state : C → CoreState) (v w : DiskView) (old new : C) (
       abbrev S : List ℕ → Type 0
       S = IsIn among
 
+      abbrev Needs : List ℕ → Type 0
+      Needs = IsReachable m.files
+
       abbrev at : StartsAt S m image (state old)
       at = starts C state v w old new called S m image told is
 
@@ -241,14 +176,17 @@ module _ (C : Type 0) (state : C → CoreState) (v w : DiskView) (old new : C) (
       abbrev last : FileEvent
       last = gc_file answer collects.0
 
-      abbrev did : DidSteps C state S sweeps.0 mid sweeps.1.0
+      abbrev did : DidSteps C state S mid sweeps.1.0
       did = did_steps C state S sweeps.0 mid sweeps.1.0 sweeps.1.1.0
 
       abbrev before : List FileEvent
       before = first ∷ did.steps
 
+      first_step : FileStep S first (state old) (state mid)
+      first_step = record { asked = tt; given = tt; made = start.1 }
+
       abbrev run_before : FileRun C state S before old sweeps.1.0
-      run_before = (mid, (record { asked = tt; given = tt; made = start.1 }, did.run))
+      run_before = (mid, (first_step, did.run))
 
       last_step : FileStep S last (state sweeps.1.0) (state new)
       last_step = record { asked = tt; given = tt; made = collects.1 }
@@ -256,11 +194,8 @@ module _ (C : Type 0) (state : C → CoreState) (v w : DiskView) (old new : C) (
       abbrev steps : List FileEvent
       steps = first ∷ (did.steps ++ last ∷ [])
 
-      run_on : FileRun C state S (did.steps ++ last ∷ []) mid new
-      run_on = run_then C state S did.steps last mid sweeps.1.0 new did.run last_step
-
       run : FileRun C state S steps old new
-      run = (mid, (run_before.1.0, run_on))
+      run = (mid, (first_step, run_then C state S did.steps last mid sweeps.1.0 new did.run last_step))
 
       quiet : AreQuiet steps
       quiet = (tt, quiet_then did.steps last did.quiet tt)
@@ -285,7 +220,7 @@ module _ (C : Type 0) (state : C → CoreState) (v w : DiskView) (old new : C) (
       left_so (Some (Refused refusals.DiskWrite)) c of = inl of
       left_so (Some ending) c of = of
 
-      pub keeps : (ending : Option Ending) (sink sink_now : SinkView) → EndsBy (Collect percent) [] m w.content ending → promise.Wrote (Collect percent) [] m ending sink sink_now
+      pub keeps : (ending : Option Ending) (sink sink_now : SinkView) → EndsFrom (Collect percent) [] m v.content w.content ending → promise.Wrote (Collect percent) [] m ending sink sink_now
           → ((store : Store) → Encodes image store → GivesSlotsBack (Collect percent) ending m.files store image w.content sink sink_now) → KeepsMap S (Collect percent) [] ending m v w sink sink_now
       keeps ending sink sink_now by_map wrote gave = record {
         by_map = by_map;
@@ -302,189 +237,285 @@ module _ (C : Type 0) (state : C → CoreState) (v w : DiskView) (old new : C) (
       }
         where
           one_image : (base : List ℕ) → v.content ≡ Some base → base ≡ image
-          one_image base known = let both : Some base ≡ Some image = sym known ∙ told in cc
+          one_image base known = some_one base image (sym known ∙ told)
 
-      -- ---- what was given back
+      -- ---- the steps but the last one
 
-      abbrev Needs : List ℕ → Type 0
-      Needs = IsReachable m.files
+      -- the store that was opened
+      abbrev opened : Store
+      opened = store C state v w old new called percent
 
-      -- the content, and each container that stays
-      now_collected : (freed : ℕ) (slots : List ℕ) (store after : Store) → freed ≡ length slots → Encodes image store → FreesSpare Needs slots store after → Encodes content_now.0 after
-          → Collected m.files freed store image content_now.0
-      now_collected freed slots store after many right chain right_now =
-          let opened_same = store_once image called.opened.store store (shown_content v (state old).disk (λ bytes. Encodes bytes called.opened.store) image called.opened.right told) right in
-          let but = subst (λ (s : Store). IsBut s image content_now.0) opened_same (left_but C state v w old new called percent snapshot mid start answer sweeps image told content_now.0 content_now.1.1) in
+      opened_right : Encodes image opened
+      opened_right = shown_content v (state old).disk (λ bytes. Encodes bytes opened) image called.opened.right told
+
+      begins : Steps first.event (state old) (state mid)
+      begins = running_step (state old) (state mid) first.event called.opened.stop_is start.1
+
+      -- the beginning leaves it
+      led : Leads S at.store first m (state old) (state mid)
+      led = any_step among distinct first at.store m (state old) (state mid) first_step at.is_at begins.stops
+
+      led_same : led.next.store ≡ opened
+      led_same = subst (λ (changes : List StoreChange). ChangesTo changes at.store led.next.store) led.changes_are led.next.chain ∙ store_once image at.store opened at.stands.holds.right opened_right
+
+      abbrev begun : CollectedSoFar opened (index C state v w old new called percent) v (state mid)
+      begun = so_begun C state v w old new called percent snapshot mid start
+
+      abbrev Far : C → Type 0
+      Far = MapSoFar opened (index C state v w old new called percent) v (sized C state v w old new called percent) C state among distinct m
+
+      far_begun : Far mid
+      far_begun =
+          let same = begun_is C state v w old new called percent snapshot mid start in
           record {
-            slots = slots;
-            many = many;
-            after = after;
-            chain = chain;
-            right = right_now;
-            stays = λ slot h there.
-                let had = had_first slots store after (frees_changes Needs slots store after chain) slot h there in
-                (had, slot_stays store image content_now.0 after right right_now but slot h had there);
+            so = begun;
+            is_at = subst (λ (s : Store). IsAt S s m (state mid)) (led_same ∙ sym same.0) led.next.is_at;
+            chain = subst (λ (changes : List StoreChange). SweepsSpare Needs changes opened begun.after) (sym same.1) same.0;
           }
 
-      module _ (none : released_by answer ≡ 0) (runs : (state new).stop ≡ None) where
-        begins : Steps first.event (state old) (state mid)
-        begins = running_step (state old) (state mid) first.event called.opened.stop_is start.1
+      pub far : Far sweeps.1.0
+      far = all_maps opened (index C state v w old new called percent) v (sized C state v w old new called percent) C state among distinct m sweeps.0 mid sweeps.1.0 far_begun sweeps.1.1.0
 
-        -- the beginning leaves the store
-        led : Leads S at.store first (stored_by first m) (state old) (state mid)
-        led = any_step among distinct first at.store m (state old) (state mid) (record { asked = tt; given = tt; made = start.1 }) at.is_at begins.stops
+      abbrev so : CollectedSoFar opened (index C state v w old new called percent) v (state sweeps.1.0)
+      so = far.so
 
-        released : HasReleased S m (released_in (did.steps ++ last ∷ [])) led.next.store (state new)
-        released = releases_spare C state among (did.steps ++ last ∷ []) led.next.store m mid new distinct led.next.is_at run_on (all_then did.steps last did.all refl) runs
+      ends_so : Steps (gc_event answer collects.0) (state sweeps.1.0) (state new)
+      ends_so = ends C state v w old new called percent snapshot mid start answer sweeps
 
-        right_after : Encodes content_now.0 released.store
-        right_after = (released.is_at.stands.each content_now.0 ((state new).disk.as_read content_now.0 content_now.1.1)).holds.right
+      under : IsUnderWay (state sweeps.1.0).tables.held so.collection
+      under = under_way opened (index C state v w old new called percent) v (sized C state v w old new called percent) C state sweeps.1.0 so
 
-        chain_from : (store : Store) → Encodes image store → FreesSpare Needs released.slots store released.store
-        chain_from store right =
-            subst (λ (s : Store). FreesSpare Needs released.slots s released.store) (subst (λ (changes : List StoreChange). ChangesTo changes at.store led.next.store) led.changes_are led.next.chain ∙ store_once image at.store store at.stands.holds.right right)
-            released.chain
+      -- ---- the last one, where the core runs on, changes nothing
 
-        -- a store of the map is left, with as many free slots as there were, or more
-        left_now : IsLeftWith m w.content (λ store. Unit {0})
-        left_now =
-            let enough = enough_after (frees released.slots) at.store released.store (frees_changes Needs released.slots at.store released.store (chain_from at.store at.stands.holds.right)) at.reserve in
-            (released.store, (content_now.0, content_now.1.0, (released.is_at.stands.each content_now.0 ((state new).disk.as_read content_now.0 content_now.1.1)).holds), enough, tt)
+      module _ (only : (changes : List StoreChange) → AreChangesBy asked.GcStep answer changes → changes ≡ []) (runs : (state new).stop ≡ None) where
+        led_last : Leads S so.after last m (state sweeps.1.0) (state new)
+        led_last = any_step among distinct last so.after m (state sweeps.1.0) (state new) last_step far.is_at runs
 
-        gave_one : (freed : ℕ) → freed ≡ releases sweeps.0 → (store : Store) → Encodes image store → Collected m.files freed store image content_now.0
-        gave_one freed as_many store right =
-            now_collected freed released.slots store released.store (as_many ∙ sym did.released ∙ sym (released_then did.steps last none) ∙ sym released.many) right (chain_from store right) right_after
+        same_last : led_last.next.store ≡ so.after
+        same_last = subst (λ (changes : List StoreChange). ChangesTo changes so.after led_last.next.store) (only led_last.changes led_last.changes_are) led_last.next.chain
 
-        gave_so : (freed : ℕ) → freed ≡ releases sweeps.0 → (store : Store) → Encodes image store → KnownWith w.content (Collected m.files freed store image)
-        gave_so freed as_many store right = (content_now.0, content_now.1.0, gave_one freed as_many store right)
+        pub at_last : IsAt S so.after m (state new)
+        at_last = subst (λ (s : Store). IsAt S s m (state new)) same_last led_last.next.is_at
 
-      -- where it came to its end
-      module _ (freed copied : ℕ) (done : answer ≡ Ok (answers.Done freed copied)) (runs : (state new).stop ≡ None) where
-        none_by : released_by answer ≡ 0
-        none_by = ap released_by done
+        holds_last : IsStoreOf so.after m.files content_now.0
+        holds_last = (at_last.stands.each content_now.0 ((state new).disk.as_read content_now.0 content_now.1.1)).holds
 
-        stays_before : (state sweeps.1.0).stop ≡ None
-        stays_before = run_running C state among (last ∷ []) sweeps.1.0 new (new, (last_step, refl)) runs
+        -- a store of the map is left, with two closed slots
+        module _ (room : HasRoom (state sweeps.1.0).tables.held) where
+          enough : RESERVE ≤ free_slots so.after.held
+          enough = omega (arith, room, free_held so.after.held (state sweeps.1.0).tables.held so.represents.slots_hold so.valid.headers)
 
-        so_far : HasReleased S m (released_in did.steps) (led none_by runs).next.store (state sweeps.1.0)
-        so_far = releases_spare C state among did.steps (led none_by runs).next.store m mid sweeps.1.0 distinct (led none_by runs).next.is_at did.run did.all stays_before
+          pub left_now : IsLeftWith m w.content (λ store. Unit {0})
+          left_now = (so.after, (content_now.0, content_now.1.0, holds_last), enough, tt)
 
-        none_before : (slot : ℕ) → ¬ (IsSpare Needs so_far.store.held slot)
+          -- no id was left by the tables
+          pub no_id_left : LAST_ID ≤ (state sweeps.1.0).tables.held.last_id → IsLeftWith m w.content (λ store. KnownWith v.content (HasNoIdLeft m.files store))
+          no_id_left over = (
+            so.after,
+            (content_now.0, content_now.1.0, holds_last),
+            enough,
+            (image, told, record { store = opened; was = opened_right; changes = so.changes; chain = far.chain; ids = omega (arith, over, so.ids) }),
+          )
+
+        -- and what was there before
+        module _ (kept : Both (SameBefore (slot_at opened.slots)) (state sweeps.1.0).disk.content (state new).disk.content) where
+          but_now : SameButSlotsOf opened so.freed so.filled image content_now.0
+          but_now =
+              let framed = content_framed opened so.freed so.filled image (state sweeps.1.0).disk (so.framed image told) in
+              but_before opened so.freed so.filled image framed.0 content_now.0 framed.2 (both_told (SameBefore (slot_at opened.slots)) framed.0 content_now.0 (state sweeps.1.0).disk.content (state new).disk.content framed.1 content_now.1.1 kept)
+
+          abbrev StaysFrom : Store → Type 0
+          StaysFrom s = (slot : ℕ) (h : HeaderValue) → slice_get so.after.held slot ≡ Some (Some h)
+              → ((slice_get s.held slot ≡ Some (Some h)) × (range (slot_at slot) SLOT_BYTES content_now.0 ≡ range (slot_at slot) SLOT_BYTES image)) ⊎ (last_id s.held < h.id)
+
+          one_store : (store : Store) → Encodes image store → opened ≡ store
+          one_store store right = store_once image opened store opened_right right
+
+          all_stay : (store : Store) → Encodes image store → StaysFrom store
+          all_stay store right = subst StaysFrom (one_store store right) (stays opened so.after so.freed so.filled image content_now.0 so.slots opened_right holds_last.right but_now)
+
+          all_chained : (store : Store) → Encodes image store → SweepsSpare Needs so.changes store so.after
+          all_chained store right = subst (λ (s : Store). SweepsSpare Needs so.changes s so.after) (one_store store right) far.chain
+
+          abbrev gave_one : (store : Store) → Encodes image store → Collected m.files (freed_in so.changes) (copied_in so.changes) store image content_now.0
+          gave_one store right = record {
+            changes = so.changes;
+            freed_are = refl;
+            copied_are = refl;
+            after = so.after;
+            chain = all_chained store right;
+            right = holds_last.right;
+            stays = all_stay store right;
+          }
+
+          pub gave_some : (store : Store) → Encodes image store → KnownWith w.content (Collected m.files (freed_in so.changes) (copied_in so.changes) store image)
+          gave_some store right = (content_now.0, content_now.1.0, gave_one store right)
+
+          pub gave_all : ((slot : ℕ) → ¬ (IsSpare Needs so.after.held slot)) → (store : Store) → Encodes image store → KnownWith w.content (CollectedAll m.files (freed_in so.changes) (copied_in so.changes) store image)
+          gave_all none store right = (content_now.0, content_now.1.0, record { collected = gave_one store right; none_spare = none })
+
+      -- ---- it came to its end
+
+      module _ (freed copied : ℕ) (done : answer ≡ Ok (answers.Done freed copied)) where
+        row_done : HasEnded freed copied (state sweeps.1.0) (state new) × (freed ≡ freed_in so.changes) × (copied ≡ copied_in so.changes)
+        row_done =
+            ended opened (index C state v w old new called percent) v (sized C state v w old new called percent) C state freed copied sweeps.1.0 new so (subst (λ (a : Result Answer Refusal). Collects C state a sweeps.1.0 new) done collects)
+
+        same_done : (c : Collection) → (state sweeps.1.0).collection ≡ Some c → so.collection ≡ c
+        same_done c ran = same_collection so.collection c (state sweeps.1.0).collection so.runs ran
+
+        only_done : (changes : List StoreChange) → AreChangesBy asked.GcStep answer changes → changes ≡ []
+        only_done changes are = subst (λ (a : Result Answer Refusal). AreChangesBy asked.GcStep a changes) done are
+
+        runs_done : (state new).stop ≡ None
+        runs_done = subst (λ (a : Result Answer Refusal). StopsAfter asked.GcStep a (state sweeps.1.0).acknowledged (state new).stop) done ends_so.stops
+
+        under_done : IsUnderWay (state sweeps.1.0).tables.held row_done.0.before
+        under_done = subst (λ (c : Collection). IsUnderWay (state sweeps.1.0).tables.held c) (same_done row_done.0.before row_done.0.ran) under
+
+        room_done : HasRoom (state sweeps.1.0).tables.held
+        room_done = room_ended (state sweeps.1.0).tables.held row_done.0.before row_done.0.at_end.0 row_done.0.at_end.1 under_done
+
+        touched_done : TouchesBy (Some row_done.0.before) (Ok (answers.Done freed copied)) (state sweeps.1.0) (state new).disk
+        touched_done =
+            subst (λ (o : Option Collection). TouchesBy o (Ok (answers.Done freed copied)) (state sweeps.1.0) (state new).disk) row_done.0.ran
+            (subst (λ (a : Result Answer Refusal). TouchesBy (state sweeps.1.0).collection a (state sweeps.1.0) (state new).disk) done ends_so.made.effect.touches)
+
+        kept_done : Both (SameBefore (slot_at opened.slots)) (state sweeps.1.0).disk.content (state new).disk.content
+        kept_done =
+            let reads : Reads Done (state sweeps.1.0).disk (state new).disk =
+            end_reads row_done.0.before (state sweeps.1.0).tables Done (state sweeps.1.0).disk (state new).disk row_done.0.at_end.0 row_done.0.at_end.1 touched_done in
+            both_reads (slot_at opened.slots) (state sweeps.1.0).disk.content (state new).disk.content reads.only.content_is
+
+        none_before : (slot : ℕ) → ¬ (IsSpare Needs so.after.held slot)
         none_before =
-            leaves_none_spare C state among 0 0 percent snapshot freed copied start.0 collects.0 did.steps at.store so_far.store m old mid sweeps.1.0 new distinct at.is_at (none_held (state old).parts called.opened.parts_are)
-            called.opened.stop_is start.1 did.run did.all stays_before (subst (λ (a : Result Answer Refusal). CoreStep (state sweeps.1.0) (gc_event a collects.0) (state new)) done collects.1) so_far.is_at
+            leaves_none_spare C state among 0 0 percent snapshot freed copied start.0 collects.0 did.steps at.store so.after m old mid sweeps.1.0 new distinct at.is_at (none_held (state old).parts called.opened.parts_are)
+            called.opened.stop_is start.1 did.run did.all so.stop_is (subst (λ (a : Result Answer Refusal). CoreStep (state sweeps.1.0) (gc_event a collects.0) (state new)) done collects.1) far.is_at
 
-        -- its last step leaves the store
-        last_same : (released none_by runs).store ≡ so_far.store
-        last_same =
-            let end = releases_spare C state among (last ∷ []) so_far.store m sweeps.1.0 new distinct so_far.is_at (new, (last_step, refl)) (refl, tt) runs in
-            let none : length end.slots ≡ 0 = end.many ∙ omega (arith, none_by) in
-            let right_end : Encodes content_now.0 end.store = (end.is_at.stands.each content_now.0 ((state new).disk.as_read content_now.0 content_now.1.1)).holds.right in
-            store_once content_now.0 (released none_by runs).store end.store (right_after none_by runs) right_end ∙ no_slots end.slots so_far.store end.store none end.chain
-          where
-            no_slots : (slots : List ℕ) (s t : Store) → length slots ≡ 0 → FreesSpare Needs slots s t → t ≡ s
-            no_slots [] s t none chain = chain
-            no_slots (slot ∷ slots) s t some chain = absurd (omega (arith, some))
+        pub done_left : IsLeftWith m w.content (λ store. Unit {0})
+        done_left = left_now only_done runs_done room_done
 
-        gave_all : freed ≡ releases sweeps.0 → (store : Store) → Encodes image store → KnownWith w.content (CollectedAll m.files freed store image)
-        unfolding gave_one now_collected
-        gave_all as_many store right = (
-          content_now.0,
-          content_now.1.0,
-          record {
-            collected = gave_one none_by runs freed as_many store right;
-            none_spare = subst (λ (s : Store). (slot : ℕ) → ¬ (IsSpare Needs s.held slot)) (sym last_same) none_before;
-          },
-        )
+        pub done_gave : (store : Store) → Encodes image store → KnownWith w.content (CollectedAll m.files freed copied store image)
+        done_gave store right =
+            subst (λ (n : ℕ). KnownWith w.content (CollectedAll m.files n copied store image)) (sym row_done.1)
+            (subst (λ (n : ℕ). KnownWith w.content (CollectedAll m.files (freed_in so.changes) n store image)) (sym row_done.2) (gave_all only_done runs_done kept_done none_before store right))
 
-      -- ---- why it was refused
+      -- ---- it was refused
 
       module _ (refusal : Refusal) (answer_is : answer ≡ Err refusal) where
         harmless : IsHarmless ⊥ refusal
-        harmless = so answer answer_is (never_damaged C state among before last at.store m old sweeps.1.0 new distinct at.is_at run_before last_step)
+        harmless = so_by answer answer_is (never_damaged C state among before last at.store m old sweeps.1.0 new distinct at.is_at run_before last_step)
           where
-            so : (a : Result Answer Refusal) → a ≡ Err refusal → IfErr a (λ r. IsHarmless ⊥ r) → IsHarmless ⊥ refusal
-            so a is known = subst (λ (x : Result Answer Refusal). IfErr x (λ r. IsHarmless ⊥ r)) is known
+            so_by : (a : Result Answer Refusal) → a ≡ Err refusal → IfErr a (λ r. IsHarmless ⊥ r) → IsHarmless ⊥ refusal
+            so_by a is known = subst (λ (x : Result Answer Refusal). IfErr x (λ r. IsHarmless ⊥ r)) is known
 
-        row_is : GcRow (Err refusal) (state sweeps.1.0) (state new)
-        row_is = subst (λ (a : Result Answer Refusal). GcRow a (state sweeps.1.0) (state new)) answer_is (ends C state v w old new called percent snapshot mid start answer sweeps).made.row
+        not_made : (r : Refusal) → GcRow (Err r) (state sweeps.1.0) (state new) → IsNotMade r (state sweeps.1.0) (state new)
+        not_made refusals.NotCollecting row = absurd (let wrong : None ≡ Some so.collection = sym row.0.none_ran ∙ so.runs in cc)
+        not_made r row = row.0
 
-        collects_on : (r : Refusal) → GcRow (Err r) (state sweeps.1.0) (state new) → IsHarmless ⊥ r → IsCollectCause r
-        collects_on refusals.NotCollecting row none =
-            absurd (let wrong : None ≡ Some (so_last C state v w old new called percent snapshot mid start answer sweeps).collection = sym row.0.none_ran ∙ (so_last C state v w old new called percent snapshot mid start answer sweeps).runs in cc)
-        collects_on r row none = by_row r row.0 none
-          where
-            by_row : (r : Refusal) → IsNotMade r (state sweeps.1.0) (state new) → IsHarmless ⊥ r → IsCollectCause r
-            by_row r made none = collect_cause (at_moment (state sweeps.1.0) made.before) (state new).disk made.before.stage r made.cause none
+        made : IsNotMade refusal (state sweeps.1.0) (state new)
+        made = not_made refusal (subst (λ (a : Result Answer Refusal). GcRow a (state sweeps.1.0) (state new)) answer_is ends_so.made.row)
+
+        abbrev c : Collection
+        c = made.before
+
+        under_made : IsUnderWay (state sweeps.1.0).tables.held c
+        under_made = subst (λ (x : Collection). IsUnderWay (state sweeps.1.0).tables.held x) (same_collection so.collection c (state sweeps.1.0).collection so.runs made.ran) under
+
+        cause : IsCauseAt c.stage c.sweep.next (state sweeps.1.0).tables refusal
+        cause = cause_at (at_moment (state sweeps.1.0) c) (state new).disk c.stage c.sweep.next refusal made.cause harmless
+
+        touched : Touches c.stage c.sweep.next c.sweep (state sweeps.1.0).tables (ending_of (blames refusal)) (state sweeps.1.0).disk (state new).disk
+        touched =
+            subst (λ (o : Option Collection). TouchesBy o (Err refusal) (state sweeps.1.0) (state new).disk) made.ran
+            (subst (λ (a : Result Answer Refusal). TouchesBy (state sweeps.1.0).collection a (state sweeps.1.0) (state new).disk) answer_is ends_so.made.effect.touches)
 
         stops_so : StopsAfter asked.GcStep (Err refusal) (state sweeps.1.0).acknowledged (state new).stop
-        stops_so = subst (λ (a : Result Answer Refusal). StopsAfter asked.GcStep a (state sweeps.1.0).acknowledged (state new).stop) answer_is (ends C state v w old new called percent snapshot mid start answer sweeps).stops
+        stops_so = subst (λ (a : Result Answer Refusal). StopsAfter asked.GcStep a (state sweeps.1.0).acknowledged (state new).stop) answer_is ends_so.stops
 
-        none_by_it : released_by answer ≡ 0
-        none_by_it = ap released_by answer_is
+        only_refused : (changes : List StoreChange) → AreChangesBy asked.GcStep answer changes → changes ≡ []
+        only_refused changes are = subst (λ (a : Result Answer Refusal). AreChangesBy asked.GcStep a changes) answer_is are
 
-        by_cause : (r : Refusal) → IsCollectCause r → StopsAfter asked.GcStep (Err r) (state sweeps.1.0).acknowledged (state new).stop → EndsBy (Collect percent) [] m w.content (Some (Refused r))
-        by_cause refusals.Memory cause stops = left_now none_by_it stops
-        by_cause refusals.DiskRead cause stops = left_now none_by_it stops
-        by_cause refusals.DiskWrite cause stops = tt
-        by_cause r cause stops = absurd cause
+        numbers : refusal ≡ refusals.Numbers → LAST_ID ≤ (state sweeps.1.0).tables.held.last_id
+        numbers is = numbers_at c.stage c.sweep.next (state sweeps.1.0).tables (subst (IsCauseAt c.stage c.sweep.next (state sweeps.1.0).tables) is cause)
 
-        pub stopped_by_map : EndsBy (Collect percent) [] m w.content (Some (Refused refusal))
-        stopped_by_map = by_cause refusal (collects_on refusal row_is harmless) stops_so
+        -- and no write failed
+        module _ (runs : (state new).stop ≡ None) where
+          stopped : StopsAfter asked.GcStep (Err refusals.DiskWrite) (state sweeps.1.0).acknowledged (state new).stop → ⊥
+          stopped stops = let both = sym runs ∙ stops in cc
+
+          whole : refusal ≡ refusals.DiskWrite → ⊥
+          whole is = stopped (subst (λ (r : Refusal). StopsAfter asked.GcStep (Err r) (state sweeps.1.0).acknowledged (state new).stop) is stops_so)
+
+          room : HasRoom (state sweeps.1.0).tables.held
+          room = room_at (state sweeps.1.0).tables c under_made c.stage c.sweep.next refl refl refusal whole cause
+
+          kept : Both (SameBefore (slot_at opened.slots)) (state sweeps.1.0).disk.content (state new).disk.content
+          kept =
+              refused_stays opened.slots (state sweeps.1.0).tables (so.represents.slots_are ∙ so.slots_are) (state sweeps.1.0).disk (state new).disk (so.later.size_is ∙ sized C state v w old new called percent) refusal c.stage c.sweep.next c.sweep
+              whole cause touched
+
+          pub refused_gave : (store : Store) → Encodes image store → KnownWith w.content (Collected m.files (freed_in so.changes) (copied_in so.changes) store image)
+          refused_gave = gave_some only_refused runs kept
+
+          pub refused_left : IsLeftWith m w.content (λ store. Unit {0})
+          refused_left = left_now only_refused runs room
+
+          pub refused_no_id : refusal ≡ refusals.Numbers → IsLeftWith m w.content (λ store. KnownWith v.content (HasNoIdLeft m.files store))
+          refused_no_id is = no_id_left only_refused runs room (numbers is)
+
+        -- by the refusal
+        ends_by : (r : Refusal) → r ≡ refusal → IsCollectCause r → StopsAfter asked.GcStep (Err r) (state sweeps.1.0).acknowledged (state new).stop → EndsFrom (Collect percent) [] m v.content w.content (Some (Refused r))
+        ends_by refusals.DiskWrite is why stops = tt
+        ends_by refusals.Memory is why stops = refused_left stops
+        ends_by refusals.DiskRead is why stops = refused_left stops
+        ends_by refusals.Numbers is why stops = refused_no_id stops (sym is)
+        ends_by r is why stops = absurd why
+
+        gave_by : (r : Refusal) → StopsAfter asked.GcStep (Err r) (state sweeps.1.0).acknowledged (state new).stop → (sink : SinkView) (store : Store) → Encodes image store
+            → GivesSlotsBack (Collect percent) (Some (Refused r)) m.files store image w.content sink sink
+        gave_by refusals.DiskWrite stops sink s right = tt
+        gave_by r stops sink s right = (freed_in so.changes, copied_in so.changes, refused_gave stops s right)
+
+        pub refused_map : (sink : SinkView) → KeepsMap S (Collect percent) [] (Some (Refused refusal)) m v w sink sink
+        refused_map sink =
+            keeps (Some (Refused refusal)) sink sink (ends_by refusal refl (collect_cause c.stage c.sweep.next (state sweeps.1.0).tables refusal cause) stops_so)
+            (wrote_nothing (Collect percent) [] m (Refused refusal) sink (not_sink refusal)) (gave_by refusal stops_so sink)
 
   -- ---- by each map
 
   module _ (snapshot : ℕ) (mid : C) (start : Starts C state percent (Ok snapshot) old mid) where
     -- a step was refused
-    module _ (refusal : Refusal) (sweeps : Sweeps C state (Err refusal) mid new) where
-      abbrev err : Result Answer Refusal
-      err = Err refusal
-
-      runs_or_not : (r : Refusal) → StopsAfter asked.GcStep (Err r) (state sweeps.1.0).acknowledged (state new).stop → (r ≡ refusals.DiskWrite) ⊎ ((state new).stop ≡ None)
-      runs_or_not refusals.DiskWrite stops = inl refl
-      runs_or_not r stops = inr stops
-
-      gave : (among : ByteSet) (m : Stored) (distinct : HasNoCollisions (IsIn among)) (image : List ℕ) (told : v.content ≡ Some image) (is : IsOf (IsIn among) m image) (r : Refusal)
-          → (r ≡ refusals.DiskWrite) ⊎ ((state new).stop ≡ None) → (sink : SinkView) (store : Store) → Encodes image store → GivesSlotsBack (Collect percent) (Some (Refused r)) m.files store image w.content sink sink
-      gave among m distinct image told is refusals.DiskWrite how sink store right = tt
-      gave among m distinct image told is r (inl broke) sink store right = absurd (let wrong = broke in cc)
-      gave among m distinct image told is r (inr runs) sink store right =
-          (releases sweeps.0, gave_so snapshot mid start err sweeps among m distinct image told is refl runs (releases sweeps.0) refl store right)
-
-      pub stopped_map : (sink : SinkView) → KeepsEachMap (Collect percent) [] (Some (Refused refusal)) v w sink sink
-      stopped_map sink = λ image told among m distinct segments is.
-          keeps snapshot mid start err sweeps among m distinct image told is (Some (Refused refusal)) sink sink (stopped_by_map snapshot mid start err sweeps among m distinct image told is refusal refl)
-          (wrote_nothing (Collect percent) [] m (Refused refusal) sink (not_sink refusal))
-          (gave among m distinct image told is refusal (runs_or_not refusal (ends C state v w old new called percent snapshot mid start err sweeps).stops) sink)
+    pub stopped_map : (refusal : Refusal) → Sweeps C state (Err refusal) mid new → (sink : SinkView) → KeepsEachMap (Collect percent) [] (Some (Refused refusal)) v w sink sink
+    stopped_map refusal sweeps sink = λ image told among m distinct segments is. refused_map snapshot mid start (Err refusal) sweeps among m distinct image told is refusal refl sink
 
     -- it ended
     module _ (freed copied : ℕ) (sweeps : Sweeps C state (Ok (answers.Done freed copied)) mid new) where
       abbrev done : Result Answer Refusal
       done = Ok (answers.Done freed copied)
 
-      gave_back : (among : ByteSet) (m : Stored) (distinct : HasNoCollisions (IsIn among)) (image : List ℕ) (told : v.content ≡ Some image) (is : IsOf (IsIn among) m image) (store : Store) → Encodes image store
-          → KnownWith w.content (CollectedAll m.files freed store image)
-      gave_back among m distinct image told is store right =
-          gave_all snapshot mid start done sweeps among m distinct image told is freed copied refl (ends C state v w old new called percent snapshot mid start done sweeps).stops
-          (freed_are C state v w old new called percent snapshot mid start freed copied sweeps) store right
+      module _ (among : ByteSet) (m : Stored) (distinct : HasNoCollisions (IsIn among)) (image : List ℕ) (told : v.content ≡ Some image) (is : IsOf (IsIn among) m image) where
+        all_gave : (store : Store) → Encodes image store → KnownWith w.content (CollectedAll m.files freed copied store image)
+        all_gave = done_gave snapshot mid start done sweeps among m distinct image told is freed copied refl
 
-      done_answer : (among : ByteSet) (m : Stored) (distinct : HasNoCollisions (IsIn among)) (image : List ℕ) (told : v.content ≡ Some image) (is : IsOf (IsIn among) m image) (ending : Option Ending) (sink sink_now : SinkView)
-          → IsDone ending → WroteReply (collected_line freed) ending sink sink_now → KeepsMap (IsIn among) (Collect percent) [] ending m v w sink sink_now
-      done_answer among m distinct image told is None sink sink_now over wrote =
-          keeps snapshot mid start done sweeps among m distinct image told is None sink sink_now tt (freed, wrote) (λ store right. (freed, (gave_back among m distinct image told is store right, wrote)))
-      done_answer among m distinct image told is (Some Sink) sink sink_now over wrote =
-          keeps snapshot mid start done sweeps among m distinct image told is (Some Sink) sink sink_now tt (freed, wrote) (λ store right. (freed, (gave_back among m distinct image told is store right, wrote)))
-      done_answer among m distinct image told is (Some ending) sink sink_now over wrote = absurd over
+        done_answer : (ending : Option Ending) (sink sink_now : SinkView) → IsDone ending → WroteReply (collected_line freed copied) ending sink sink_now → KeepsMap (IsIn among) (Collect percent) [] ending m v w sink sink_now
+        done_answer None sink sink_now over wrote =
+            keeps snapshot mid start done sweeps among m distinct image told is None sink sink_now tt (freed, copied, wrote) (λ store right. (freed, copied, (all_gave store right, wrote)))
+        done_answer (Some Sink) sink sink_now over wrote =
+            keeps snapshot mid start done sweeps among m distinct image told is (Some Sink) sink sink_now tt (freed, copied, wrote) (λ store right. (freed, copied, (all_gave store right, wrote)))
+        done_answer (Some ending) sink sink_now over wrote = absurd over
 
-      pub done_map : (ending : Option Ending) (sink sink_now : SinkView) → IsDone ending → WroteReply (collected_line freed) ending sink sink_now → KeepsEachMap (Collect percent) [] ending v w sink sink_now
+        some_gave : (store : Store) → Encodes image store → KnownWith w.content (Collected m.files freed copied store image)
+        some_gave store right = let all = all_gave store right in (all.0, all.1, all.2.collected)
+
+        untold_answer : (sink : SinkView) → KeepsMap (IsIn among) (Collect percent) [] (Some (Refused refusals.Memory)) m v w sink sink
+        untold_answer sink =
+            keeps snapshot mid start done sweeps among m distinct image told is (Some (Refused refusals.Memory)) sink sink (done_left snapshot mid start done sweeps among m distinct image told is freed copied refl)
+            (wrote_nothing (Collect percent) [] m (Refused refusals.Memory) sink (not_sink refusals.Memory)) (λ store right. (freed, copied, some_gave store right))
+
+      pub done_map : (ending : Option Ending) (sink sink_now : SinkView) → IsDone ending → WroteReply (collected_line freed copied) ending sink sink_now → KeepsEachMap (Collect percent) [] ending v w sink sink_now
       done_map ending sink sink_now over wrote = λ image told among m distinct segments is. done_answer among m distinct image told is ending sink sink_now over wrote
-
-      some_of : {files : Files} {store : Store} {image : List ℕ} → KnownWith w.content (CollectedAll files freed store image) → KnownWith w.content (Collected files freed store image)
-      some_of all = (all.0, all.1, all.2.collected)
 
       -- there was no memory for its reply
       pub untold_map : (sink : SinkView) → KeepsEachMap (Collect percent) [] (Some (Refused refusals.Memory)) v w sink sink
-      untold_map sink = λ image told among m distinct segments is.
-          keeps snapshot mid start done sweeps among m distinct image told is (Some (Refused refusals.Memory)) sink sink
-          (left_now snapshot mid start done sweeps among m distinct image told is refl (ends C state v w old new called percent snapshot mid start done sweeps).stops)
-          (wrote_nothing (Collect percent) [] m (Refused refusals.Memory) sink (not_sink refusals.Memory)) (λ store right. (freed, some_of (gave_back among m distinct image told is store right)))
+      untold_map sink = λ image told among m distinct segments is. untold_answer among m distinct image told is sink

@@ -1,118 +1,222 @@
--- The steps of a collection, one after the other, whatever the disk holds: which containers of the store were given back so far.
-use Rattle.std.proofs.Common.{◌≡◌, ◌≢◌, inl, inr, ◌+◌, ◌==◌, ◌&&◌, nat_lt, if◌then◌else◌, ℕ, zero, suc, Bool, true, false, not, List, [], ◌∷◌, ◌++◌, length, get_or, Option, Some, None, Result, Ok, refl, sym, ◌∙◌, ap, subst, arith, length-append}
-use Rattle.std.specs.Prelude.{slice_get}
-use Rattle.base_model.proofs.Checks.{both, not_true}
+-- The steps of a collection, one after the other, whatever the disk holds: what they changed of the store so far.
+use Rattle.std.proofs.Common.{◌≡◌, ◌≢◌, inl, inr, ◌+◌, ◌<◌, ◌≤◌, ◌==◌, ℕ, zero, suc, false, List, [], ◌∷◌, ◌++◌, length, get_or, Option, Some, None, Result, Ok, refl, sym, ◌∙◌, ap, subst, arith}
+use Rattle.std.specs.Prelude.{Contains, slice_get}
+use Rattle.std.specs.List.{AllByRecursion}
+use Rattle.std.proofs.lemmas.List.Elements.{Contains-append_right, Contains-get_or}
 use Rattle.actor_parts.specs.declared.step.Answer.{Answer}
 use Rattle.actor_parts.specs.declared.step.Answer.TheVariants as answers
 use Rattle.actor_parts.specs.StepValue as asked
 use Rattle.container_meta.specs.Places.{PlaceMap}
-use Rattle.container_meta.specs.Spelling.{HeaderValue}
+use Rattle.container_meta.specs.Segments.{Segment}
+use Rattle.container_meta.specs.Spelling.{HeaderValue, header_of}
 use Rattle.dd_disk.specs.Ending.{Ending}
 use Rattle.dd_disk.specs.Ending.{Done as Finished}
 use Rattle.dd_disk.specs.View.{DiskView, IsDurable, IsLater, OnlyReads}
 use Rattle.dd_disk.specs.Writes.{Both}
 use Rattle.dd_disk.proofs.Later.{later_here, later_on}
-use Rattle.gc_steps.specs.Stages.{filter_at, is_old_slot, sweep_from}
 use Rattle.disk_format.specs.Layout.{size_of, slot_at}
-use Rattle.gc_steps.specs.Stepping.{StepsTo, TablesAfter, Touches, answer_at, phase_at}
+use Rattle.gc_steps.specs.FewSources.{IsToChoose}
+use Rattle.gc_steps.specs.Stages.{filter_at, first_slot, is_old_slot, mark_from}
+use Rattle.gc_steps.specs.Stepping.{Moment, StepsTo, TablesAfter, Touches, answer_of, phase_at}
 use Rattle.gc_steps.specs.UnderWay.{HasStage, IsUnderWay}
 use Rattle.gc_steps.specs.declared.collection.Collection.{Collection}
 use Rattle.gc_steps.specs.declared.collection.Stage.{Stage}
-use Rattle.gc_steps.specs.declared.collection.Stage.TheVariants.{Mark, Filter, Select, Copy, Release, End}
+use Rattle.gc_steps.specs.declared.collection.Stage.TheVariants.{Mark, Filter, Select, Sweep as SweepStage}
 use Rattle.gc_steps.specs.declared.phase.StepDone.TheVariants.{Did}
+use Rattle.gc_sweep.specs.declared.sweep.Next.{Next}
+use Rattle.gc_sweep.specs.declared.sweep.Next.TheVariants.{Copy, Flush, Release, End}
+use Rattle.gc_sweep.specs.declared.sweep.Sweep.{Sweep}
+use Rattle.gc_sweep.specs.Beginning.{Begins}
+use Rattle.gc_sweep.specs.InTurn.{slot_in_turn}
+use Rattle.gc_sweep.specs.UnderWay.{HasNext, IsSweeping, sources_before}
+use Rattle.gc_sweep.proofs.InSlots.{IsSourceIn, stands_in}
 use Rattle.plain_machine.specs.Collections.{freed_by}
 use Rattle.refusals.specs.declared.refusal.Phase.{Phase}
 use Rattle.refusals.specs.declared.refusal.Refusal.{Refusal}
 use Rattle.script_runner.specs.Acts.{CollectionRun, Collects}
-use Rattle.script_runner.proofs.CollectCauses.{freed_on, phase_is}
+use Rattle.script_runner.specs.Follows.{HasCounted}
+use Rattle.script_runner.proofs.CollectCauses.{no_end}
+use Rattle.script_runner.proofs.CollectCounts.{copies_by, counted_on, snapshot_on}
 use Rattle.store_model.specs.Freeing.{with_freed}
-use Rattle.store_model.specs.Image.{Store}
-use Rattle.store_model.specs.Slots.{ids_of}
-use Rattle.store_model.specs.Steps.{CanFree, FreeContainer, StoreChange}
-use Rattle.store_model.proofs.Freed.{there_before}
+use Rattle.store_model.specs.Image.{IsValidFor, Store}
+use Rattle.store_model.specs.Slots.{HasFree, first_free, last_id}
+use Rattle.store_model.specs.Steps.{FlushContainer, FreeContainer, StoreChange, with_sealed}
+use Rattle.store_model.proofs.Free.{first_closed, same_free, some_free}
+use Rattle.store_model.proofs.Freed.{valid_freed}
+use Rattle.store_model.proofs.Valid.{valid_sealed}
 use Rattle.segment_index.specs.Changes.{Changes, SameBefore}
 use Rattle.store_state.specs.Settled.{IsSettled}
-use Rattle.store_state.specs.Tables.{Represents}
+use Rattle.store_state.specs.Tables.{Represents, Runs}
 use Rattle.store_state.specs.declared.tables.Tables.{Tables}
 use Rattle.store_core.specs.Collecting.{GoesOn, HasEnded, TouchesBy, at_moment}
 use Rattle.store_core.specs.Core.{Steps}
+use Rattle.store_core.specs.Frame.{HadContainer}
+use Rattle.store_core.specs.Releases.{copied_in, freed_in}
 use Rattle.store_core.specs.Runs.{ChangesTo}
 use Rattle.store_core.specs.State.{CoreState, Event, IsRunning, IsUnderWayIn}
 use Rattle.store_core.proofs.CoreRuns.{running_step}
+use Rattle.store_core.proofs.GcSteps.{phase_of}
 use Rattle.store_core.proofs.KeepingFiles.{chain_on}
 use Rattle.store_core.proofs.Opened.{durable_settled}
 use Rattle.store_core.proofs.RunningOn.{step_runs}
-use Rattle.backup_engine.specs.Collected.{frees}
+use Rattle.gc_steps.proofs.Safe.{early_from}
+use Rattle.gc_steps.proofs.UnderWay.{at_stage}
+use Rattle.backup_engine.specs.Collected.{IsOfCollection, written_in}
 use Rattle.backup_engine.proofs.FirstActor.{up_of}
 use Rattle.backup_engine.proofs.Returned.{one_later}
+use Rattle.backup_engine.specs.Frame.{MayFill, SameButSlotsOf}
+use Rattle.backup_engine.proofs.SweptBytes.{IsFramed, filled_with, freed_with, stage_so}
+use Rattle.backup_engine.proofs.SweptSlots.{SweptSlots, all-append, copied-append, freed-append, slots_filled, slots_freed, written-append}
 
--- ---- containers that are given back
+-- ---- counts
 
--- by some steps
-abbrev pub releases : List Phase → ℕ
-releases [] = 0
-releases (phase ∷ phases) = freed_by phase + releases phases
+-- so many containers were given back, and so many segments written
+abbrev pub CountsSo : Collection → List StoreChange → Type 0
+CountsSo c changes = HasCounted c.stage c.sweep (freed_in changes) (copied_in changes)
 
-pub frees-append : (first more : List ℕ) → frees (first ++ more) ≡ frees first ++ frees more
-frees-append [] more = refl
-frees-append (slot ∷ slots) more = ap (λ (changes : List StoreChange). FreeContainer slot ∷ changes) (frees-append slots more)
-
--- a slot that has a container still had it at first
-pub had_first : (slots : List ℕ) (s t : Store) → ChangesTo (frees slots) s t → (slot : ℕ) (h : HeaderValue) → slice_get t.held slot ≡ Some (Some h) → slice_get s.held slot ≡ Some (Some h)
-had_first [] s t chain slot h there = subst (λ (x : Store). slice_get x.held slot ≡ Some (Some h)) chain there
-had_first (one ∷ slots) s t chain slot h there = (there_before one slot h s.held (had_first slots (with_freed one s) t chain.1 slot h there)).1
+-- as it begins there is nothing to be counted
+pub none_counted : (stage : Stage) (t : _) (s : Sweep) → Begins t [] s → HasCounted stage s 0 0
+none_counted (Mark level slot) t s begins = (refl, refl)
+none_counted (Filter slot) t s begins = (refl, refl)
+none_counted Select t s begins = (refl, refl)
+none_counted SweepStage t s begins = (begins.none_freed, omega (arith, begins.none_copied, ap (λ (l : List Segment). length l) begins.empty))
 
 -- ---- the slot of a source that is ready
 
-pub some_id : (snapshot id : ℕ) → not (id == 0) && nat_lt id snapshot ≡ true → id ≢ 0
-some_id snapshot id old = λ none.
-    let other : (id == 0) ≡ false = not_true (id == 0) (both (not (id == 0)) (nat_lt id snapshot) old).0 in
-    let wrong : (0 == 0) ≡ false = subst (λ (n : ℕ). (n == 0) ≡ false) none other in
-    cc
+some_ready : (xs : List ℕ) → xs ≢ [] → Contains xs (get_or xs 0 0)
+some_ready [] some = absurd (some refl)
+some_ready (x ∷ xs) some = Contains-get_or (x ∷ xs) 0 0 (omega arith)
 
-pub header_there : (held : List (Option HeaderValue)) (slot : ℕ) → get_or (ids_of held) slot 0 ≢ 0 → (h : HeaderValue) × (slice_get held slot ≡ Some (Some h))
-header_there [] zero some = absurd (some refl)
-header_there [] (suc slot) some = absurd (some refl)
-header_there (None ∷ cs) zero some = absurd (some refl)
-header_there (Some h ∷ cs) zero some = (h, refl)
-header_there (None ∷ cs) (suc slot) some = header_there cs slot some
-header_there (Some h ∷ cs) (suc slot) some = header_there cs slot some
+-- ---- what a step changes
 
-module _ (old new : Tables) (s : Store) (c : Collection) (represents : Represents s None old) where
-  pub can_free : (slot : ℕ) → is_old_slot c.snapshot old.held slot ≡ true → CanFree slot s
-  can_free slot is_old =
-      header_there s.held slot (subst (λ (ids : List ℕ). get_or ids slot 0 ≢ 0) represents.slots_hold.ids_are (some_id c.snapshot (get_or old.held.ids.items slot 0) is_old))
+-- a container of copies is written, under the next id, or the source in turn is given back, or nothing is changed
+abbrev pub IsChangeOf : Stage → Next → Sweep → ℕ → Store → List StoreChange → Store → Type 0
+IsChangeOf SweepStage (Flush source entry) sweep last after changes now =
+    (changes ≡ FlushContainer (last + 1) sweep.buffer.kind sweep.buffer.segments ∷ []) × (now ≡ with_sealed (last + 1) sweep.buffer.kind sweep.buffer.segments after)
+IsChangeOf SweepStage (Release source entry) sweep last after changes now = (changes ≡ FreeContainer (slot_in_turn sweep) ∷ []) × (now ≡ with_freed (slot_in_turn sweep) after)
+IsChangeOf stage next sweep last after changes now = (changes ≡ []) × (now ≡ after)
 
-  -- what a step of a stage gives back
-  pub record Gives (phase : Phase) : Type 0 where
-    pub slots : List ℕ
-    pub many : length slots ≡ freed_by phase
-    pub after : Store
-    pub chain : ChangesTo (frees slots) s after
-    pub represents_now : Represents after None new
+module _ (s after : Store) (freed filled : List ℕ) (slots : SweptSlots s after freed filled) (old new : Moment) (represents : Represents after None old.tables) (valid : IsValidFor old.disk.size after)
+    (runs : Runs old.disk.size None old.tables) (under : IsUnderWay old.tables.held old.collection) (began : old.collection.snapshot ≤ last_id s.held + 1) (above : last_id s.held ≤ old.tables.held.last_id) where
+  abbrev c : Collection
+  c = old.collection
 
-  gives_none : (phase : Phase) → freed_by phase ≡ 0 → new ≡ old → Gives phase
-  gives_none phase none same = record {
-    slots = [];
-    many = sym none;
-    after = s;
+  pub has_free : HasFree after.held
+  has_free = omega (arith, runs.has_free, same_free after.held runs.store.held valid.headers runs.valid.headers (sym represents.slots_hold.ids_are ∙ runs.represents.slots_hold.ids_are))
+
+  -- The source that is given back next had its container at first.
+  module _ (source entry : ℕ) (stage_is : c.stage ≡ SweepStage) (next_is : c.sweep.next ≡ Release source entry) where
+    sweeping : IsSweeping old.tables.held c.snapshot c.sweep
+    sweeping = at_stage old.tables.held c SweepStage under stage_is
+
+    has_next : HasNext old.tables.held c.sweep (Release source entry)
+    has_next = subst (HasNext old.tables.held c.sweep) next_is sweeping.next_is
+
+    abbrev turn : ℕ
+    turn = slot_in_turn c.sweep
+
+    stands : IsSourceIn after.held c.snapshot c.sweep.sources.items (sources_before c.sweep c.sweep.next) turn
+    stands =
+        stands_in after.held old.tables.held c.snapshot c.sweep sweeping represents.slots_hold turn
+        (Contains-append_right c.sweep.waiting.items c.sweep.ready.items turn (some_ready c.sweep.ready.items has_next.0))
+
+    pub had_in_turn : HadContainer s turn
+    had_in_turn = elim (slots.there turn stands.header stands.there) [
+      | inl had ↦ (stands.header, had)
+      | inr later ↦ absurd (omega (arith, later, stands.old, began))
+    ]
+
+    pub free_in_turn : (h : HeaderValue) × (slice_get after.held turn ≡ Some (Some h))
+    free_in_turn = (stands.header, stands.there)
+
+  -- what a step of a stage changes
+  pub record Changed (stage : Stage) (next : Next) : Type 0 where
+    pub changes : List StoreChange
+    pub each : AllByRecursion IsOfCollection changes
+    pub freed_many : freed_in changes ≡ freed_by (phase_at stage next)
+    pub copied_many : copied_in changes ≡ copies_by stage next c.sweep
+    pub store_now : Store
+    pub change_is : IsChangeOf stage next c.sweep old.tables.held.last_id after changes store_now
+    pub chain : ChangesTo changes after store_now
+    pub represents_now : Represents store_now None new.tables
+    pub valid_now : IsValidFor old.disk.size store_now
+    pub slots_are : store_now.slots ≡ after.slots
+    pub freed_now : List ℕ
+    pub filled_now : List ℕ
+    pub freed_is : freed_with stage next c.sweep freed ≡ freed_now
+    pub filled_is : filled_with stage next after filled ≡ filled_now
+    pub swept : SweptSlots s store_now freed_now filled_now
+    pub ids_now : new.tables.held.last_id ≡ old.tables.held.last_id + written_in changes
+
+  changed_none : (stage : Stage) (next : Next) → freed_by (phase_at stage next) ≡ 0 → copies_by stage next c.sweep ≡ 0 → freed_with stage next c.sweep freed ≡ freed → filled_with stage next after filled ≡ filled
+      → IsChangeOf stage next c.sweep old.tables.held.last_id after [] after → new.tables ≡ old.tables → Changed stage next
+  changed_none stage next none_freed none_copied freed_same filled_same change same = record {
+    changes = [];
+    each = tt;
+    freed_many = sym none_freed;
+    copied_many = sym none_copied;
+    store_now = after;
+    change_is = change;
     chain = refl;
-    represents_now = subst (λ (t : Tables). Represents s None t) (sym same) represents;
+    represents_now = subst (λ (t : Tables). Represents after None t) (sym same) represents;
+    valid_now = valid;
+    slots_are = refl;
+    freed_now = freed;
+    filled_now = filled;
+    freed_is = freed_same;
+    filled_is = filled_same;
+    swept = slots;
+    ids_now = omega (arith, ap (λ (t : Tables). t.held.last_id) same);
   }
 
-  pub gives_by : (stage : Stage) → HasStage old.held c stage → TablesAfter stage old new → Gives (phase_at stage)
-  gives_by (Mark level slot) there same = gives_none (phase_at (Mark level slot)) refl same
-  gives_by (Filter slot) there same = gives_none (phase_at (Filter slot)) refl same
-  gives_by Select there same = gives_none (phase_at Select) refl same
-  gives_by (Copy source) there same = gives_none (phase_at (Copy source)) refl same
-  gives_by (Release next slot) there freed = record {
-    slots = slot ∷ [];
-    many = refl;
-    after = with_freed slot s;
-    chain = (can_free slot there.3.1, refl);
-    represents_now = freed.represents s None (λ places known. absurd (let wrong = known in cc)) represents;
-  }
-  gives_by End there same = gives_none (phase_at End) refl same
+  pub changed_by : (stage : Stage) (next : Next) → c.stage ≡ stage → c.sweep.next ≡ next → TablesAfter stage next old new → Changed stage next
+  changed_by (Mark level slot) next is next_is same = changed_none (Mark level slot) next refl refl refl refl (refl, refl) same
+  changed_by (Filter slot) next is next_is same = changed_none (Filter slot) next refl refl refl refl (refl, refl) same
+  changed_by Select next is next_is same = changed_none Select next refl refl refl refl (refl, refl) same
+  changed_by SweepStage (Copy source entry) is next_is same = changed_none SweepStage (Copy source entry) refl refl refl refl (refl, refl) same
+  changed_by SweepStage (Flush source entry) is next_is (slot, writes) =
+      let id : ℕ = old.tables.held.last_id + 1 in
+      let h : HeaderValue = header_of id c.sweep.buffer.kind c.sweep.buffer.segments in
+      let wrote = writes.written.alone.store_has after represents valid has_free in
+      record {
+        changes = FlushContainer id c.sweep.buffer.kind c.sweep.buffer.segments ∷ [];
+        each = (tt, tt);
+        freed_many = refl;
+        copied_many = omega arith;
+        store_now = with_sealed id c.sweep.buffer.kind c.sweep.buffer.segments after;
+        change_is = (refl, refl);
+        chain = (wrote.0, refl);
+        represents_now = wrote.1;
+        valid_now = valid_sealed id c.sweep.buffer.kind c.sweep.buffer.segments after wrote.0 old.disk.size valid;
+        slots_are = refl;
+        freed_now = freed;
+        filled_now = first_free after.held ∷ filled;
+        freed_is = refl;
+        filled_is = refl;
+        swept = slots_filled s after freed filled slots h has_free (omega (arith, above));
+        ids_now = omega (arith, writes.written.last_is);
+      }
+  changed_by SweepStage (Release source entry) is next_is gives =
+      let slot : ℕ = slot_in_turn c.sweep in
+      record {
+        changes = FreeContainer slot ∷ [];
+        each = (tt, tt);
+        freed_many = refl;
+        copied_many = refl;
+        store_now = with_freed slot after;
+        change_is = (refl, refl);
+        chain = (free_in_turn source entry is next_is, refl);
+        represents_now = gives.represents after None (λ places known. absurd (let wrong = known in cc)) represents;
+        valid_now = valid_freed old.disk.size slot after valid;
+        slots_are = refl;
+        freed_now = slot ∷ freed;
+        filled_now = filled;
+        freed_is = refl;
+        filled_is = refl;
+        swept = slots_freed s after freed filled slots slot (had_in_turn source entry is next_is);
+        ids_now = omega (arith, gives.last_stays);
+      }
+  changed_by SweepStage End is next_is same = changed_none SweepStage End refl refl refl refl (refl, refl) same
 
 -- ---- marking comes first
 
@@ -124,31 +228,31 @@ no_filter : (found : Option ℕ) → IsMarking (filter_at found) → ⊥
 no_filter None marks = marks
 no_filter (Some slot) marks = marks
 
-no_sweep : (sources : List ℕ) (source : ℕ) → IsMarking (sweep_from sources source) → ⊥
-no_sweep sources source = by_test (nat_lt source (length sources))
-  where
-    by_test : (b : Bool) → IsMarking (if b then Copy source else End) → ⊥
-    by_test true marks = marks
-    by_test false marks = marks
-
 stage_same : (a b : Collection) → a ≡ b → IsMarking a.stage → IsMarking b.stage
 stage_same a b same marks = subst (λ (c : Collection). IsMarking c.stage) same marks
 
--- once it is over it does not come again, and until then the map of the index stays
-still_marks : (old new : CoreState) (before after : Collection) (stage : Stage) (freed : ℕ) (phase : Phase) → answer_at stage freed ≡ Did phase → StepsTo stage (at_moment old before) (at_moment new after) → (index : PlaceMap)
-    → (IsMarking stage → old.known ≡ Some index) → IsMarking after.stage → new.known ≡ Some index
-still_marks old new before after (Mark level slot) freed phase is steps index marks now = steps.1 ∙ marks tt
-still_marks old new before after (Filter slot) freed phase is steps index marks now =
-    absurd (no_filter _ (stage_same after _ steps.0.collection_is now))
-still_marks old new before after Select freed phase is steps index marks now =
-    absurd (no_sweep after.sources.items 0 (stage_same after _ steps.0.collection_is now))
-still_marks old new before after (Copy source) freed phase is takes index marks now = absurd (elim takes.taken [
-  | inl up ↦ no_sweep before.sources.items (source + 1) (stage_same after _ up.collection_is now)
-  | inr out ↦ stage_same after _ out.collection_is now
-])
-still_marks old new before after (Release next slot) freed phase is steps index marks now =
-    absurd (no_sweep before.sources.items next (stage_same after _ steps.0 now))
-still_marks old new before after End freed phase is steps index marks now = absurd (let wrong = is in cc)
+module _ (old new : CoreState) (before after : Collection) where
+  -- a sweep goes on
+  on_sweep : before.stage ≡ SweepStage → after ≡ record before { sweep = after.sweep } → IsMarking after.stage → ⊥
+  on_sweep is same marks = subst IsMarking (ap (λ (c : Collection). c.stage) same ∙ is) marks
+
+  -- once it is over it does not come again, and until then the map of the index stays
+  still_marks : (stage : Stage) (next : Next) → before.stage ≡ stage → StepsTo stage next (at_moment old before) (at_moment new after) → (index : PlaceMap)
+      → (IsMarking stage → old.known ≡ Some index) → IsMarking after.stage → new.known ≡ Some index
+  still_marks (Mark level slot) next is steps index marks now = steps.1 ∙ marks tt
+  still_marks (Filter slot) next is steps index marks now = absurd (no_filter _ (stage_same after _ steps.0.collection_is now))
+  still_marks Select next is steps index marks now = absurd (stage_same after _ steps.0.collection_is now)
+  still_marks SweepStage (Copy source entry) is steps index marks now = absurd (on_sweep is steps.1 now)
+  still_marks SweepStage (Flush source entry) is steps index marks now = absurd (on_sweep is steps.sweeps now)
+  still_marks SweepStage (Release source entry) is steps index marks now = absurd (on_sweep is steps.1 now)
+  still_marks SweepStage End is steps index marks now = absurd (subst IsMarking (ap (λ (c : Collection). c.stage) steps.0 ∙ is) now)
+
+  -- a release ends durable
+  release_durable : (stage : Stage) (next : Next) → StepsTo stage next (at_moment old before) (at_moment new after) → (source entry : ℕ) → stage ≡ SweepStage → next ≡ Release source entry → IsDurable new.disk
+  release_durable stage next steps source entry is next_is =
+      let so : StepsTo SweepStage (Release source entry) (at_moment old before) (at_moment new after) =
+      subst (λ (n : Next). StepsTo SweepStage n (at_moment old before) (at_moment new after)) next_is (subst (λ (x : Stage). StepsTo x next (at_moment old before) (at_moment new after)) is steps) in
+      so.2
 
 -- ---- what the disk keeps
 
@@ -179,33 +283,39 @@ module _ (slots : ℕ) (old new : DiskView) (settled : IsSettled slots old) wher
       ]
 
   -- where a step was made
-  pub stage_settled : (stage : Stage) (t : Tables) (e : Ending) → old.size ≡ size_of slots → ((next slot : ℕ) → stage ≡ Release next slot → IsDurable new) → Touches stage t e old new → IsSettled slots new
-  stage_settled (Mark level slot) t e sized durable touches = reads_settled touches.only
-  stage_settled (Filter slot) t e sized durable touches = reads_settled touches.only
-  stage_settled Select t e sized durable touches = reads_settled touches.only
-  stage_settled (Copy source) t e sized durable touches = changes_settled e (touches slots sized)
-  stage_settled (Release next slot) t e sized durable touches = durable_settled slots new (durable next slot refl)
-  stage_settled End t e sized durable touches = reads_settled touches.only
-
--- a release ends durable
-pub release_durable : (old new : CoreState) (before after : Collection) (stage : Stage) → StepsTo stage (at_moment old before) (at_moment new after) → (next slot : ℕ) → stage ≡ Release next slot → IsDurable new.disk
-release_durable old new before after stage steps next slot is =
-    let so = subst (λ (x : Stage). StepsTo x (at_moment old before) (at_moment new after)) is steps in so.1
+  stage_settled : (stage : Stage) (next : Next) (s : Sweep) (t : Tables) → old.size ≡ size_of slots → t.slots ≡ slots → ((source entry : ℕ) → stage ≡ SweepStage → next ≡ Release source entry → IsDurable new)
+      → Touches stage next s t Finished old new → IsSettled slots new
+  stage_settled (Mark level slot) next s t sized many durable touches = reads_settled touches.only
+  stage_settled (Filter slot) next s t sized many durable touches = reads_settled touches.only
+  stage_settled Select next s t sized many durable touches = reads_settled touches.only
+  stage_settled SweepStage (Copy source entry) s t sized many durable touches = changes_settled Finished (touches slots sized)
+  stage_settled SweepStage (Flush source entry) s t sized many durable touches =
+      subst (λ (n : ℕ). IsSettled n old → IsSettled n new) many touches.0.left settled
+  stage_settled SweepStage (Release source entry) s t sized many durable touches = durable_settled slots new (durable source entry refl refl)
+  stage_settled SweepStage End s t sized many durable touches = reads_settled touches.only
 
 -- ---- so far
 
--- A collection runs, of a store of this index, and gave so many containers back.
-pub record CollectedSoFar (s : Store) (index : PlaceMap) (v : DiskView) (count : ℕ) (c : CoreState) : Type 0 where
+-- A collection runs, of a store of this index, and made these changes.
+pub record CollectedSoFar (s : Store) (index : PlaceMap) (v : DiskView) (c : CoreState) : Type 0 where
   pub stop_is : c.stop ≡ None
   pub running : IsRunning c
-  pub slots : List ℕ
-  pub many : length slots ≡ count
+  pub changes : List StoreChange
+  pub each : AllByRecursion IsOfCollection changes
   pub after : Store
-  pub chain : ChangesTo (frees slots) s after
+  pub chain : ChangesTo changes s after
   pub represents : Represents after None c.tables
+  pub valid : IsValidFor v.size after
+  pub slots_are : after.slots ≡ s.slots
+  pub freed : List ℕ
+  pub filled : List ℕ
+  pub slots : SweptSlots s after freed filled
+  pub framed : (base : List ℕ) → v.content ≡ Some base → IsFramed s freed filled base c.disk
+  pub ids : c.tables.held.last_id ≡ last_id s.held + written_in changes
   pub collection : Collection
   pub runs : c.collection ≡ Some collection
-  pub freed_is : collection.freed ≡ count
+  pub began : collection.snapshot ≤ last_id s.held + 1
+  pub counted : CountsSo collection changes
   pub marks : IsMarking collection.stage → c.known ≡ Some index
   pub tells : (places : PlaceMap) × (c.known ≡ Some places)
   pub faults_are : c.disk.faults ≡ v.faults
@@ -224,67 +334,155 @@ collection_later C state [] old new run = subst (λ (c : C). IsLater (state old)
 collection_later C state (phase ∷ phases) old new run =
     later_on (state old).disk (state run.0).disk (state new).disk (one_later C state _ old run.0 run.1.0.1) (collection_later C state phases run.0 new run.1.1)
 
+-- counts of other changes
+counts_as : (c : Collection) (f n g m : ℕ) → f ≡ n → g ≡ m → HasCounted c.stage c.sweep f g → HasCounted c.stage c.sweep n m
+counts_as c f n g m freed copied counted =
+    subst (λ (x : ℕ). HasCounted c.stage c.sweep x m) freed (subst (λ (y : ℕ). HasCounted c.stage c.sweep f y) copied counted)
+
 module _ (s : Store) (index : PlaceMap) (v : DiskView) (sized : v.size ≡ size_of s.slots) (C : Type 0) (state : C → CoreState) where
-  abbrev SoFar : ℕ → C → Type 0
-  SoFar count c = CollectedSoFar s index v count (state c)
+  abbrev SoFar : C → Type 0
+  SoFar c = CollectedSoFar s index v (state c)
 
-  pub under_way : (count : ℕ) (c : C) (so : SoFar count c) → IsUnderWay (state c).tables.held so.collection
-  under_way count c so = subst (IsUnderWayIn (state c).tables.held) so.runs (up_of (state c) so.stop_is so.running).under_way
+  pub under_way : (c : C) (so : SoFar c) → IsUnderWay (state c).tables.held so.collection
+  under_way c so = subst (IsUnderWayIn (state c).tables.held) so.runs (up_of (state c) so.stop_is so.running).under_way
 
-  one_more : (count : ℕ) (phase : Phase) (old new : C) → SoFar count old → Collects C state (Ok (answers.Did phase)) old new → SoFar (count + freed_by phase) new
-  one_more count phase old new so collects =
-      let e = gc_event (Ok (answers.Did phase)) collects.0 in
-      let steps : Steps e (state old) (state new) = running_step (state old) (state new) e so.stop_is collects.1 in
-      let goes : GoesOn phase (state old) (state new) = steps.made.row.0 in
-      let effect = steps.made.effect in
-      let same = same_collection so.collection goes.before (state old).collection so.runs goes.ran in
-      let under = subst (λ (c : Collection). IsUnderWay (state old).tables.held c) same (under_way count old so) in
-      let called_is = phase_is goes.before.stage goes.before.freed phase goes.phase_is in
-      let gives = gives_by (state old).tables (state new).tables so.after goes.before so.represents goes.before.stage under.stage_is goes.tables in
-      let as_many = ap freed_by called_is in
-      let here = so.tells in
-      record {
-        stop_is = steps.stops;
-        running = step_runs (state old) (state new) e collects.1 so.running;
-        slots = so.slots ++ gives.slots;
-        many = omega (arith, length-append so.slots gives.slots, so.many, gives.many, as_many);
-        after = gives.after;
-        chain = subst (λ (changes : List StoreChange). ChangesTo changes s gives.after) (sym (frees-append so.slots gives.slots))
-            (chain_on (frees so.slots) (frees gives.slots) s so.after gives.after so.chain gives.chain);
-        represents = gives.represents_now;
-        collection = goes.after;
-        runs = goes.runs;
-        freed_is =
-            let now = freed_on (at_moment (state old) goes.before) (at_moment (state new) goes.after) goes.before.stage goes.steps in
-            omega (arith, now, as_many, so.freed_is, ap (λ (c : Collection). c.freed) same);
-        marks = still_marks (state old) (state new) goes.before goes.after goes.before.stage goes.before.freed phase goes.phase_is goes.steps index
-            (λ marks. so.marks (stage_same goes.before so.collection (sym same) marks));
-        tells = effect.tells here.0 here.1;
-        faults_are = effect.faults_are ∙ so.faults_are;
-        later = later_on v (state old).disk (state new).disk so.later effect.later;
-        settled = stage_settled s.slots (state old).disk (state new).disk so.settled goes.before.stage (state old).tables Finished (so.later.size_is ∙ sized)
-            (release_durable (state old) (state new) goes.before goes.after goes.before.stage goes.steps)
-            (subst (λ (o : Option Collection). TouchesBy o (Ok (answers.Did phase)) (state old) (state new).disk) goes.ran effect.touches);
-      }
+  module _ (c : C) (so : SoFar c) where
+    pub valid_so : IsValidFor (state c).disk.size so.after
+    valid_so = subst (λ (n : ℕ). IsValidFor n so.after) (sym so.later.size_is) so.valid
 
-  pub all_steps : (phases : List Phase) (count : ℕ) (old new : C) → SoFar count old → CollectionRun C state phases old new → SoFar (count + releases phases) new
-  all_steps [] count old new so run =
-      let none : count ≡ count + 0 = omega arith in
-      subst (λ (n : ℕ). SoFar n new) none (subst (λ (c : C). SoFar count c) (sym run) so)
-  all_steps (phase ∷ phases) count old new so run =
-      let sum : count + freed_by phase + releases phases ≡ count + (freed_by phase + releases phases) = omega arith in
-      subst (λ (n : ℕ). SoFar n new) sum (all_steps phases (count + freed_by phase) run.0 new (one_more count phase old run.0 so run.1.0) run.1.1)
+    abbrev pub runs_so : Runs (state c).disk.size None (state c).tables
+    runs_so = (up_of (state c) so.stop_is so.running).runs
+
+    pub above_so : last_id s.held ≤ (state c).tables.held.last_id
+    above_so = omega (arith, so.ids)
+
+    pub free_so : HasFree so.after.held
+    free_so =
+        has_free s so.after so.freed so.filled so.slots (at_moment (state c) so.collection) (at_moment (state c) so.collection) so.represents valid_so runs_so (under_way c so) so.began above_so
+
+    pub had_so : (source entry : ℕ) → so.collection.stage ≡ SweepStage → so.collection.sweep.next ≡ Release source entry → HadContainer s (slot_in_turn so.collection.sweep)
+    had_so =
+        had_in_turn s so.after so.freed so.filled so.slots (at_moment (state c) so.collection) (at_moment (state c) so.collection) so.represents valid_so runs_so (under_way c so) so.began above_so
+
+    pub may_fill_so : MayFill s so.freed (first_free so.after.held)
+    may_fill_so = so.slots.closed (first_free so.after.held) (first_closed so.after.held (some_free so.after.held free_so))
+
+  module _ (phase : Phase) (old new : C) (so : SoFar old) (collects : Collects C state (Ok (answers.Did phase)) old new) where
+    abbrev e : Event
+    e = gc_event (Ok (answers.Did phase)) collects.0
+
+    pub one_step : Steps e (state old) (state new)
+    one_step = running_step (state old) (state new) e so.stop_is collects.1
+
+    pub goes : GoesOn phase (state old) (state new)
+    goes = one_step.made.row.0
+
+    abbrev pub before : Collection
+    before = goes.before
+
+    pub same : so.collection ≡ before
+    same = same_collection so.collection before (state old).collection so.runs goes.ran
+
+    pub under_before : IsUnderWay (state old).tables.held before
+    under_before = subst (λ (c : Collection). IsUnderWay (state old).tables.held c) same (under_way old so)
+
+    pub began_before : before.snapshot ≤ last_id s.held + 1
+    began_before = subst (λ (c : Collection). c.snapshot ≤ last_id s.held + 1) same so.began
+
+    abbrev pub was : Moment
+    was = at_moment (state old) before
+
+    abbrev pub now : Moment
+    now = at_moment (state new) goes.after
+
+    -- what it changed
+    abbrev pub ChangedSo : Type 0
+    ChangedSo = Changed s so.after so.freed so.filled so.slots was now so.represents (valid_so old so) (runs_so old so) under_before began_before (above_so old so) before.stage before.sweep.next
+
+    pub changed : ChangedSo
+    changed =
+        changed_by s so.after so.freed so.filled so.slots was now so.represents (valid_so old so) (runs_so old so) under_before
+        began_before (above_so old so) before.stage before.sweep.next refl refl goes.tables
+
+    pub touched : Touches before.stage before.sweep.next before.sweep (state old).tables Finished (state old).disk (state new).disk
+    touched = subst (λ (o : Option Collection). TouchesBy o (Ok (answers.Did phase)) (state old) (state new).disk) goes.ran one_step.made.effect.touches
+
+    framed_now : (base : List ℕ) → v.content ≡ Some base → IsFramed s changed.freed_now changed.filled_now base (state new).disk
+    framed_now base told =
+        let leaves = stage_so s so.after so.freed so.filled base (state old).disk (state new).disk (so.framed base told) (state old).tables (so.later.size_is ∙ sized) so.represents (valid_so old so) (free_so old so)
+        (so.represents.slots_are ∙ so.slots_are) before.stage before.sweep.next before.sweep Finished touched in
+        let content = one_step.made.effect.later.tells (so.framed base told).told.0 (so.framed base told).told.1 in
+        record {
+          told = (content.0, content.1);
+          each = λ c image.
+              subst (λ (l : List ℕ). SameButSlotsOf s changed.freed_now l base c) changed.filled_is
+              (subst (λ (l : List ℕ). SameButSlotsOf s l (filled_with before.stage before.sweep.next so.after so.filled) base c) changed.freed_is (leaves.now c image));
+        }
+
+    counted_now : CountsSo goes.after (so.changes ++ changed.changes)
+    counted_now =
+        counts_as goes.after _ (freed_in (so.changes ++ changed.changes)) _ (copied_in (so.changes ++ changed.changes))
+        (omega (arith, freed-append so.changes changed.changes, changed.freed_many)) (omega (arith, copied-append so.changes changed.changes, changed.copied_many))
+        (counted_on was now (freed_in so.changes) (copied_in so.changes) before.stage before.sweep.next refl refl
+        (subst (λ (c : Collection). CountsSo c so.changes) same so.counted) goes.steps (no_end before.stage before.sweep.next before.sweep.freed before.sweep.copied phase goes.phase_is))
+
+    pub one_more : SoFar new
+    one_more =
+        let effect = one_step.made.effect in
+        let here = so.tells in
+        record {
+          stop_is = one_step.stops;
+          running = step_runs (state old) (state new) e collects.1 so.running;
+          changes = so.changes ++ changed.changes;
+          each = all-append IsOfCollection so.changes changed.changes so.each changed.each;
+          after = changed.store_now;
+          chain = chain_on so.changes changed.changes s so.after changed.store_now so.chain changed.chain;
+          represents = changed.represents_now;
+          valid = subst (λ (n : ℕ). IsValidFor n changed.store_now) so.later.size_is changed.valid_now;
+          slots_are = changed.slots_are ∙ so.slots_are;
+          freed = changed.freed_now;
+          filled = changed.filled_now;
+          slots = changed.swept;
+          framed = framed_now;
+          ids = omega (arith, changed.ids_now, so.ids, written-append so.changes changed.changes);
+          collection = goes.after;
+          runs = goes.runs;
+          began = omega (arith, so.began, ap (λ (c : Collection). c.snapshot) same, snapshot_on was now (freed_in so.changes) (copied_in so.changes) before.stage before.sweep.next goes.steps);
+          counted = counted_now;
+          marks = still_marks (state old) (state new) before goes.after before.stage before.sweep.next refl goes.steps index (λ marks. so.marks (stage_same before so.collection (sym same) marks));
+          tells = effect.tells here.0 here.1;
+          faults_are = effect.faults_are ∙ so.faults_are;
+          later = later_on v (state old).disk (state new).disk so.later effect.later;
+          settled = stage_settled s.slots (state old).disk (state new).disk so.settled before.stage before.sweep.next before.sweep (state old).tables (so.later.size_is ∙ sized) (so.represents.slots_are ∙ so.slots_are)
+              (release_durable (state old) (state new) before goes.after before.stage before.sweep.next goes.steps) touched;
+        }
+
+    -- the store then, and the changes so far
+    pub more_is : (one_more.after ≡ changed.store_now) × (one_more.changes ≡ so.changes ++ changed.changes)
+    unfolding one_more
+    more_is = (refl, refl)
+
+  pub all_steps : (phases : List Phase) (old new : C) → SoFar old → CollectionRun C state phases old new → SoFar new
+  all_steps [] old new so run = subst SoFar (sym run) so
+  all_steps (phase ∷ phases) old new so run = all_steps phases run.0 new (one_more phase old run.0 so run.1.0) run.1.1
 
   -- ---- it ended
 
-  -- so many were given back
-  pub ended : (count freed copied : ℕ) (old new : C) → SoFar count old → Collects C state (Ok (answers.Done freed copied)) old new → HasEnded freed copied (state old) (state new) × (freed ≡ count) × (copied ≡ 0)
-  ended count freed copied old new so collects =
+  -- so many were given back, and so many copied
+  pub ended : (freed copied : ℕ) (old new : C) (so : SoFar old) → Collects C state (Ok (answers.Done freed copied)) old new
+      → HasEnded freed copied (state old) (state new) × (freed ≡ freed_in so.changes) × (copied ≡ copied_in so.changes)
+  ended freed copied old new so collects =
       let e = gc_event (Ok (answers.Done freed copied)) collects.0 in
       let steps : Steps e (state old) (state new) = running_step (state old) (state new) e so.stop_is collects.1 in
       let row : HasEnded freed copied (state old) (state new) = steps.made.row.0 in
-      let same = same_collection so.collection row.before (state old).collection so.runs row.ran in (
+      let c : Collection = row.before in
+      let same = same_collection so.collection c (state old).collection so.runs row.ran in
+      let under : IsUnderWay (state old).tables.held c = subst (λ (x : Collection). IsUnderWay (state old).tables.held x) same (under_way old so) in
+      let sweeping : IsSweeping (state old).tables.held c.snapshot c.sweep = at_stage (state old).tables.held c SweepStage under row.at_end.0 in
+      let at_end : HasNext (state old).tables.held c.sweep End = subst (HasNext (state old).tables.held c.sweep) row.at_end.1 sweeping.next_is in
+      let counted : HasCounted SweepStage c.sweep (freed_in so.changes) (copied_in so.changes) =
+      subst (λ (stage : Stage). HasCounted stage c.sweep (freed_in so.changes) (copied_in so.changes)) row.at_end.0 (subst (λ (x : Collection). CountsSo x so.changes) same so.counted) in (
         row,
-        row.freed_is ∙ ap (λ (c : Collection). c.freed) (sym same) ∙ so.freed_is,
-        row.copied_is,
+        row.freed_is ∙ counted.0,
+        omega (arith, row.copied_is, counted.1, ap (λ (l : List Segment). length l) at_end.1),
       )

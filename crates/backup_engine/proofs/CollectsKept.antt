@@ -18,7 +18,7 @@ use Rattle.backup_engine.specs.Saying.{RunsSingle}
 use Rattle.backup_engine.specs.Singles.{IsCollect}
 use Rattle.backup_engine.specs.TopCall.{Keeps, ending_in}
 use Rattle.backup_engine.proofs.Called.{Called}
-use Rattle.backup_engine.proofs.CollectKept.{done_any, ends_frame, none_copied, so_begun, stopped_any, unbegun_any, unbegun_frame, untold_any}
+use Rattle.backup_engine.proofs.CollectKept.{done_any, ends_frame, so_begun, stopped_any, unbegun_any, unbegun_frame, untold_any}
 use Rattle.backup_engine.proofs.CollectLines.{stopped_run, swept_run, unbegun_run}
 use Rattle.backup_engine.proofs.CollectMap.{done_map, stopped_map, unbegun_map, untold_map}
 use Rattle.backup_engine.proofs.CollectSteps.{collection_later}
@@ -56,11 +56,11 @@ module _ (C : Type 0) (state : C → CoreState) (v w : DiskView) (old new : C) (
     }
 
     module _ (freed copied : ℕ) (sweeps : Sweeps C state (Ok (answers.Done freed copied)) mid new) where
-      collected : (result : Result Unit Ending) (source : SourceView) (sink sink_now : SinkView) → Sent (collected_line freed) result sink sink_now → KeepsSo result source sink sink_now
+      collected : (result : Result Unit Ending) (source : SourceView) (sink sink_now : SinkView) → Sent (collected_line freed copied) result sink sink_now → KeepsSo result source sink sink_now
       collected result source sink sink_now sent =
           let ending = ending_in result in
-          let replied = replied_sent (collected_line freed) result sink sink_now sent in
-          let wrote = wrote_sent (collected_line freed) result sink sink_now sent in
+          let replied = replied_sent (collected_line freed copied) result sink sink_now sent in
+          let wrote = wrote_sent (collected_line freed copied) result sink sink_now sent in
           record {
             map = done_map C state v w old new called percent snapshot mid start freed copied sweeps ending sink sink_now (is_done ending sink sink_now replied) wrote;
             any = done_any C state v w old new called percent snapshot mid start freed copied sweeps ending source sink sink_now replied wrote;
@@ -78,22 +78,20 @@ module _ (C : Type 0) (state : C → CoreState) (v w : DiskView) (old new : C) (
         untouched = tt;
       }
 
-      ended : (result : Result Unit Ending) (source : SourceView) (sink sink_now : SinkView) → WritesCollected freed 0 result sink sink_now → KeepsSo result source sink sink_now
+      ended : (result : Result Unit Ending) (source : SourceView) (sink sink_now : SinkView) → WritesCollected freed copied result sink sink_now → KeepsSo result source sink sink_now
       ended result source sink sink_now (inl sent) = collected result source sink sink_now sent
       ended result source sink sink_now (inr none) = stopped_so Memory result source sink sink_now (untold source sink) none
 
     finished : (result : Result Unit Ending) (source : SourceView) (sink sink_now : SinkView) → FinishRun C state result mid new sink sink_now → KeepsSo result source sink sink_now
     finished result source sink sink_now (inl (refusal, (sweeps, is))) = stopped_so refusal result source sink sink_now (stopped refusal sweeps source sink) is
     finished result source sink sink_now (inr (freed, copied, (sweeps, writes))) =
-        ended freed copied sweeps result source sink sink_now
-        (subst (λ (n : ℕ). WritesCollected freed n result sink sink_now) (none_copied C state v w old new called percent snapshot mid start freed copied sweeps) writes)
+        ended freed copied sweeps result source sink sink_now writes
 
     finished_lines : (result : Result Unit Ending) (sink sink_now : SinkView) → FinishRun C state result mid new sink sink_now → RunsSingle C state (IsCollect percent (ending_in result) sink sink_now) old new
     finished_lines result sink sink_now (inl (refusal, (sweeps, is))) =
         stopped_run C state percent old new called.opened.stop_is snapshot mid start (so_begun C state v w old new called percent snapshot mid start).stop_is refusal sweeps result sink sink_now is
     finished_lines result sink sink_now (inr (freed, copied, (sweeps, writes))) =
-        swept_run C state percent old new called.opened.stop_is snapshot mid start (so_begun C state v w old new called percent snapshot mid start).stop_is freed copied
-        (none_copied C state v w old new called percent snapshot mid start freed copied sweeps) sweeps result sink sink_now writes
+        swept_run C state percent old new called.opened.stop_is snapshot mid start (so_begun C state v w old new called percent snapshot mid start).stop_is freed copied sweeps result sink sink_now writes
 
   pub collect_keeps : (result : Result Unit Ending) (source : SourceView) (sink sink_now : SinkView) → CollectRun C state percent result old new sink sink_now → KeepsSo result source sink sink_now
   collect_keeps result source sink sink_now (inl (refusal, (start, is))) = stopped_so refusal result source sink sink_now (unbegun refusal start source sink) is

@@ -14,7 +14,7 @@ use Rattle.segment_index.specs.Changes.{SameBefore}
 use Rattle.store_model.specs.Image.{Store, Encodes}
 use Rattle.store_model.specs.Slots.{HoldSlots, free_slots, first_free, with_slot}
 use Rattle.store_model.specs.Standing.{HasJournal}
-use Rattle.store_model.specs.Steps.{StoreChange, SealContainer, ChangeName, FreeContainer, changed, with_cell, with_change, with_other}
+use Rattle.store_model.specs.Steps.{StoreChange, SealContainer, ChangeName, FlushContainer, FreeContainer, changed, with_cell, with_change, with_other}
 use Rattle.store_core.specs.Runs.{ChangesTo}
 use Rattle.ingest_steps.specs.Naming.{StandsStill}
 use Rattle.ingest_steps.specs.Sealing.{SameButSlotOf}
@@ -77,6 +77,7 @@ free_sealed first base (SealContainer id kind segments ∷ changes) s t chain se
       free = closed_with (first_free s.held) 0 _ s.held base free.free;
     })
 free_sealed first base (ChangeName name change ∷ changes) s t chain seals free = absurd seals.0
+free_sealed first base (FlushContainer id kind segments ∷ changes) s t chain seals free = absurd seals.0
 free_sealed first base (FreeContainer slot ∷ changes) s t chain seals free = absurd seals.0
 
 -- the journal of the one is that of the other

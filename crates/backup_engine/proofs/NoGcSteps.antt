@@ -1,9 +1,14 @@
 -- The steps by which a file is stored are none of a collection.
-use Rattle.std.proofs.Common.{ℕ, List, [], ◌∷◌, ◌++◌}
+use Rattle.std.proofs.Common.{ℕ, List, [], ◌∷◌, ◌++◌, Result, Ok, sym, subst}
 use Rattle.std.specs.List.{AllByRecursion}
 use Rattle.actor_parts.specs.StepValue as asked
 use Rattle.actor_parts.specs.StepValue.{StepValue}
-use Rattle.store_core.specs.Runs.{AreNoGcSteps, FileEvent, IsNoGcStep, events_of}
+use Rattle.store_core.specs.Runs.{AreChangesOf, AreNoGcSteps, FileEvent, IsNoGcStep, changes_by, changes_of, events_of}
+use Rattle.store_core.proofs.AnySteps.{changes_told}
+use Rattle.store_model.specs.Steps.{FlushContainer, StoreChange}
+use Rattle.actor_parts.specs.declared.step.Answer.{Answer}
+use Rattle.actor_parts.specs.declared.step.Answer.TheVariants as answers
+use Rattle.refusals.specs.declared.refusal.Refusal.{Refusal}
 use Rattle.backup_engine.specs.Running.{IsAskedFor, IsPutStep}
 
 module _ (name given : List ℕ) where
@@ -22,3 +27,23 @@ module _ (name given : List ℕ) where
 pub no_gc_then : (fs : List FileEvent) (f : FileEvent) → AreNoGcSteps (events_of fs) → IsNoGcStep f.event.step → AreNoGcSteps (events_of (fs ++ f ∷ []))
 no_gc_then [] f before here = (here, tt)
 no_gc_then (g ∷ gs) f before here = (before.0, no_gc_then gs f before.1 here)
+
+-- ---- no container of copies is written by such steps
+
+abbrev pub NoneFlushed : List StoreChange → Type 0
+NoneFlushed [] = Unit {0}
+NoneFlushed (FlushContainer id kind segments ∷ rest) = ⊥
+NoneFlushed (change ∷ rest) = NoneFlushed rest
+
+none_by : (step : StepValue) (answer : Result Answer Refusal) (more : List StoreChange) → NoneFlushed more → NoneFlushed (changes_by step answer ++ more)
+none_by (asked.Seal filled) (Ok (answers.Sealed id)) more none = none
+none_by (asked.Commit name root) (Ok answer) more none = none
+none_by (asked.Delete name) (Ok answer) more none = none
+none_by step answer more none = none
+
+none_of : (fs : List FileEvent) → NoneFlushed (changes_of fs)
+none_of [] = tt
+none_of (f ∷ fs) = none_by f.event.step f.event.answer (changes_of fs) (none_of fs)
+
+pub none_flushed : (fs : List FileEvent) (changes : List StoreChange) → AreNoGcSteps (events_of fs) → AreChangesOf fs changes → NoneFlushed changes
+none_flushed fs changes others are = subst NoneFlushed (sym (changes_told fs changes others are)) (none_of fs)

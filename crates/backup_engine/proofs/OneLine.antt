@@ -24,6 +24,7 @@ use Rattle.backup_engine.specs.Lines.{RunsByMachine, RunsEachMap}
 use Rattle.backup_engine.specs.PlainMap.{CanBeDone}
 use Rattle.backup_engine.specs.Promise as promise
 use Rattle.backup_engine.specs.Promise.{EndsBy, GivesSlotsBack, IsLeftAs, KeepsMap, LeavesMeanwhile, MayBeMeanwhile}
+use Rattle.backup_engine.proofs.Reading.{ends_from}
 use Rattle.backup_engine.proofs.WholeCall.{leaves_more}
 use Rattle.backup_engine.specs.Singles.{said}
 
@@ -130,7 +131,7 @@ module _ (S : List ℕ → Type 0) (line : LineValue) (reply : ReplyValue) (m : 
       → ((found : Stored) (d : List ℕ) → MayBeFound one.last.state one.last.stored found → OpensAs S found d → IsLeftAs S command [] m ending d)
       → KeepsMap S command [] ending m v w sink sink_now
   keeps_map by_map wrote can adds gave leaves = record {
-    by_map = by_map;
+    by_map = ends_from command [] m v.content w.content ending by_map;
     wrote = wrote;
     added = λ old known store right. adds store (subst (λ (bytes : List ℕ). Encodes bytes store) (same_content old known) right);
     gave_back = λ old known store right.

@@ -16,7 +16,7 @@ use Rattle.refusals.specs.declared.refusal.Refusal.{Refusal}
 use Rattle.refusals.specs.declared.refusal.Refusal.TheVariants.{Memory, DiskWrite, Damaged}
 use Rattle.store_model.specs.Image.{Store, IsValidFor}
 use Rattle.store_model.specs.Slots.{HasFree, free_slots, first_free, with_slot}
-use Rattle.store_model.specs.Steps.{StoreChange, SealContainer, ChangeName, FreeContainer, CanChangeName, changed, with_change}
+use Rattle.store_model.specs.Steps.{StoreChange, SealContainer, ChangeName, FlushContainer, FreeContainer, CanChangeName, changed, with_change}
 use Rattle.store_state.specs.declared.tables.Tables.{Tables}
 use Rattle.store_state.specs.Tables.{Represents}
 use Rattle.store_core.specs.declared.stop.Stop.{Stop}
@@ -167,6 +167,7 @@ pub record IsOn (s : Store) (c : CoreState) : Type 0 where
 abbrev pub IsSeal : StoreChange → Type 0
 IsSeal (SealContainer id kind segments) = Unit {0}
 IsSeal (ChangeName name change) = ⊥
+IsSeal (FlushContainer id kind segments) = ⊥
 IsSeal (FreeContainer slot) = ⊥
 
 -- the core is on the store to which these seals lead from another one

@@ -39,7 +39,7 @@ use Rattle.backup_engine.proofs.Added.{adds_to, put_in}
 use Rattle.backup_engine.proofs.WholeCall.{leaves_more, leaves_of}
 use Rattle.backup_engine.proofs.Called.{Called, Starts, settled, starts}
 use Rattle.backup_engine.proofs.Clashes.{IsRight, RefusesBut, ends_by, not_unlike}
-use Rattle.backup_engine.proofs.NoGcSteps.{puts_no_gc}
+use Rattle.backup_engine.proofs.NoGcSteps.{none_flushed, puts_no_gc}
 use Rattle.backup_engine.proofs.PutEnds.{CanBe, CanTryBy, Left, LeftMeanwhile, maps_after, left_at_end, left_on_the_way}
 use Rattle.backup_engine.proofs.RightPuts.{file_run}
 use Rattle.backup_engine.proofs.PutStops.{RunsOn, refused_on, done_can, done_on, run_later, run_tries}
@@ -171,7 +171,7 @@ module _ (C : Type 0) (state : C → CoreState) (v w : DiskView) (old new : C) (
     at_end other =
         let end = reached C state v w old new was name given (Err refusal) ran among m image told distinct all is (runs_on other).runs in (
           end.store,
-          (subst (λ (stored : Stored). IsAt (IsIn among) end.store stored (state new)) (maps_after (IsIn among) name given m ran.steps (Err refusal) ran.each ran.ends) end.is_at, end.whole (puts_no_gc name given ran.steps ran.each) first.whole, enough_after end.changes first.store end.store end.chain first.reserve),
+          (subst (λ (stored : Stored). IsAt (IsIn among) end.store stored (state new)) (maps_after (IsIn among) name given m ran.steps (Err refusal) ran.each ran.ends) end.is_at, end.whole (puts_no_gc name given ran.steps ran.each) first.whole, enough_after end.changes first.store end.store (none_flushed ran.steps end.changes (puts_no_gc name given ran.steps ran.each) end.changes_are) end.chain first.reserve),
         )
 
     -- what is so of that store

@@ -5,7 +5,7 @@ use Rattle.std.specs.FinMap as finite
 use Rattle.base_model.specs.Known.{Known, Appended}
 use Rattle.dd_disk.specs.View.{DiskView, OnlyReads, IsDurable}
 use Rattle.dd_io.specs.Flow.{SinkView, AppendedPart}
-use Rattle.refusals.specs.declared.refusal.Refusal.TheVariants.{DiskWrite}
+use Rattle.refusals.specs.declared.refusal.Refusal.TheVariants.{DiskWrite, Numbers}
 use Rattle.reply_text.specs.declared.ending.Ending.{Ending}
 use Rattle.reply_text.specs.declared.ending.Ending.TheVariants.{Sink, Refused}
 use Rattle.store_model.proofs.FreedFiles.{opens_of}
@@ -17,7 +17,7 @@ use Rattle.backup_engine.specs.Adding.{Adds}
 use Rattle.backup_engine.specs.Line.{CommandLine, Format, Ingest, Restore, Delete, Collect}
 use Rattle.backup_engine.specs.Line as table
 use Rattle.backup_engine.specs.Promise as promise
-use Rattle.backup_engine.specs.Promise.{EndsBy, GivesSlotsBack, WroteFile, IsLeftAs, LeavesMeanwhile, SinceStart, NothingWritten, KeepsMap, KeepsEachMap}
+use Rattle.backup_engine.specs.Promise.{EndsBy, EndsFrom, GivesSlotsBack, WroteFile, IsLeftAs, LeavesMeanwhile, SinceStart, NothingWritten, KeepsMap, KeepsEachMap}
 use Rattle.backup_engine.specs.Frame.{KeepsRest, KeepsOthers}
 use Rattle.backup_engine.specs.TopCall.{IsSameDisk}
 
@@ -85,6 +85,11 @@ AnswersEach command given ending v w sink sink_now =
     Known v.content (λ old. (among : ByteSet) (m : Stored) → HasNoCollisions (IsIn among) → ((bytes : List ℕ) → IsSegmentOf given bytes → IsIn among bytes) → IsOf (IsIn among) m old
     → Answers command given ending m w.content sink sink_now)
 
+-- where it ended so by what is left it did, whatever the content was
+pub ends_from : (command : CommandLine) (given : List ℕ) (m : Stored) (before content : Option (List ℕ)) (ending : Option Ending) → EndsBy command given m content ending → EndsFrom command given m before content ending
+ends_from (Collect percent) given m before content (Some (Refused Numbers)) ends = absurd ends.3
+ends_from command given m before content ending ends = ends
+
 -- what was not done adds nothing to a content that stays
 pub added_none : (command : CommandLine) (given : List ℕ) (ending : Ending) (store : Store) (old : List ℕ) (content : Option (List ℕ)) → ¬ (ending ≡ Sink) → content ≡ Some old → Encodes old store → Adds command given (Some ending) store content
 added_none (Format slots) given ending store old content not told right = tt
@@ -104,7 +109,7 @@ pub gave_none : (command : CommandLine) (ending : Ending) (files : Files) (store
 gave_none (Collect percent) Sink files store old content sink sink_now not told right = absurd (not refl)
 gave_none (Collect percent) (Refused DiskWrite) files store old content sink sink_now not told right = tt
 gave_none (Collect percent) ending files store old content sink sink_now not told right =
-    (0, (old, told, record { slots = []; many = refl; after = store; chain = refl; right = right; stays = λ slot h is. (is, refl) }))
+    (0, 0, (old, told, record { changes = []; freed_are = refl; copied_are = refl; after = store; chain = refl; right = right; stays = λ slot h is. inl (is, refl) }))
 gave_none (Format slots) ending files store old content sink sink_now not told right = tt
 gave_none (Ingest name) ending files store old content sink sink_now not told right = tt
 gave_none (Restore name) ending files store old content sink sink_now not told right = tt
@@ -117,7 +122,7 @@ pub reads_map : (command : CommandLine) (given : List ℕ) (ending : Ending) (v 
 reads_map command given ending v w sink sink_now reads not answers old known among m distinct right is =
     let answer = answers old known among m distinct right is in
     record {
-      by_map = answer.by_map;
+      by_map = ends_from command given m v.content w.content (Some ending) answer.by_map;
       wrote = answer.wrote;
       added = λ first told store right. added_none command given ending store first w.content not (reads.content_is ∙ told) right;
       gave_back = λ first told store right. gave_none command ending m.files store first w.content sink sink_now not (reads.content_is ∙ told) right;
@@ -172,4 +177,4 @@ wrote_nothing (Delete name) given m ending sink not = refl
 wrote_nothing table.List given m Sink sink not = absurd (not refl)
 wrote_nothing table.List given m ending sink not = refl
 wrote_nothing (Collect percent) given m Sink sink not = absurd (not refl)
-wrote_nothing (Collect percent) given m ending sink not = (0, refl)
+wrote_nothing (Collect percent) given m ending sink not = (0, 0, refl)

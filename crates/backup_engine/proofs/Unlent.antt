@@ -15,7 +15,7 @@ use Rattle.journal_cells.specs.declared.fault.CellFault.{CellFault}
 use Rattle.recovery.specs.Opening.{IsOpenRefusal, IsSized, BreaksFormat, BreaksJournal, BreaksSlots, HasWrongSize}
 use Rattle.recovery.specs.Slots.{IsDamagedSlot}
 use Rattle.read_steps.specs.Walking.{WasRead, IsNextRefusal, IsTopRefusal, IsCopyRefusal, top_key}
-use Rattle.backup_engine.specs.AnyDisk.{Holds, HasAdded, HasGivenBack, ReadsSince, GivesBack, IsDeleted, IsStuck, IsRefused, IsStored, IsCaused, IsUncollected, SaysFreed, ShownSince, WroteOnAny, EndsDurable}
+use Rattle.backup_engine.specs.AnyDisk.{Holds, HasAdded, HasSwept, ReadsSince, GivesBack, IsDeleted, IsStuck, IsRefused, IsStored, IsCaused, IsUncollected, SaysSwept, ShownSince, WroteOnAny, EndsDurable}
 use Rattle.backup_engine.specs.Frame.{KeepsOthers}
 use Rattle.backup_engine.specs.Line.{CommandLine, Ingest, Restore, Delete, Collect}
 use Rattle.backup_engine.specs.Line as table
@@ -23,7 +23,7 @@ use Rattle.store_model.specs.Collisions.{ByteSet, IsIn}
 use Rattle.backup_engine.specs.Promise.{KeepsEachMap, IsLeftAs, Stands, NothingWritten}
 use Rattle.backup_engine.specs.TopCall.{Keeps}
 use Rattle.backup_engine.proofs.UnlikeNodes.{found, unlike_so}
-use Rattle.backup_engine.proofs.CollectFaults.{bad_header_so, unmarked_so}
+use Rattle.backup_engine.proofs.CollectFaults.{bad_header_so, uncopied_so, unmarked_so}
 
 module _ (loans loans_now : List ℕ) (v w : DiskView) where
   abbrev v' : DiskView
@@ -255,18 +255,20 @@ module _ (loans loans_now : List ℕ) (v w : DiskView) where
     list_wrote (Some Sink) is = (holds is.0, is.1)
     list_wrote (Some ending) is = is
 
-    given_back_so : (freed : ℕ) → HasGivenBack freed lent lent_now → HasGivenBack freed v w
-    given_back_so freed is = record { holds = holds is.holds; slots = is.slots; many = is.many; after = is.after; chain = is.chain }
+    swept_so : (freed copied : ℕ) → HasSwept freed copied lent lent_now → HasSwept freed copied v w
+    swept_so freed copied is = record { holds = holds is.holds; changes = is.changes; sweeps = is.sweeps; freed_are = is.freed_are; copied_are = is.copied_are }
 
-    says_freed : (ending : Option Ending) → SaysFreed ending lent lent_now sink sink_now → SaysFreed ending v w sink sink_now
-    says_freed ending is = (is.0, (given_back_so is.0 is.1.0, is.1.1))
+    says_swept : (ending : Option Ending) → SaysSwept ending lent lent_now sink sink_now → SaysSwept ending v w sink sink_now
+    says_swept ending is = (is.0, is.1, (swept_so is.0 is.1 is.2.0, is.2.1))
 
     shown_since : (P : List ℕ → Type 0) → ShownSince lent lent_now P → ShownSince v w P
     shown_since P is = record { parts = is.parts; returned = is.returned; known = is.known; shows = is.shows }
 
     uncollected : (is : Holds lent lent_now) (refusal : Refusal) → IsUncollected is refusal → IsUncollected (holds is) refusal
     uncollected is refusal (inl bad) = inl (bad_header_so lent lent_now v w shown_since refusal bad)
-    uncollected is refusal (inr (index, (all, unmarked))) = inr (index, (all, unmarked_so lent lent_now v w shown_since index refusal unmarked))
+    uncollected is refusal (inr (inl (index, (all, unmarked)))) = inr (inl (index, (all, unmarked_so lent lent_now v w shown_since index refusal unmarked)))
+    uncollected is refusal (inr (inr (inl uncopied))) = inr (inr (inl (uncopied_so lent lent_now v w shown_since refusal uncopied)))
+    uncollected is refusal (inr (inr (inr none))) = inr (inr (inr none))
 
     collect_refused : (percent : ℕ) (refusal : Refusal) → IsRefused (Collect percent) given lent lent_now source source_now sink sink_now refusal → IsRefused (Collect percent) given v w source source_now sink sink_now refusal
     collect_refused percent DiskRead is = is
@@ -283,8 +285,8 @@ module _ (loans loans_now : List ℕ) (v w : DiskView) where
     collect_caused percent (Some ending) is = absurd is
 
     collect_wrote : (percent : ℕ) (ending : Option Ending) → WroteOnAny (Collect percent) given ending lent lent_now sink sink_now → WroteOnAny (Collect percent) given ending v w sink sink_now
-    collect_wrote percent None is = says_freed None is
-    collect_wrote percent (Some Sink) is = says_freed (Some Sink) is
+    collect_wrote percent None is = says_swept None is
+    collect_wrote percent (Some Sink) is = says_swept (Some Sink) is
     collect_wrote percent (Some ending) is = is
 
     collect_durable : (percent : ℕ) (ending : Option Ending) → EndsDurable (Collect percent) ending lent_now → EndsDurable (Collect percent) ending w

@@ -21,7 +21,7 @@ module _ (shown other : (List ℕ → Type 0) → Type 0) (each : (P : List ℕ 
   pub found : (at count : ℕ) (digest : List ℕ) → WereFound shown at count digest → WereFound other at count digest
   found at count digest is = record { bytes = is.bytes; long = is.long; digest_is = is.digest_is; there = each _ is.there }
 
-  copy_refusal : (place : Place) (digest : List ℕ) (refusal : Refusal) → IsCopyRefusal shown place digest refusal → IsCopyRefusal other place digest refusal
+  pub copy_refusal : (place : Place) (digest : List ℕ) (refusal : Refusal) → IsCopyRefusal shown place digest refusal → IsCopyRefusal other place digest refusal
   copy_refusal place digest DiskRead is = is
   copy_refusal place digest (Corrupt slot offset count want got) is = (is.0, is.1, is.2, is.3, is.4, found _ count got is.5)
   copy_refusal place digest refusal is = absurd is

@@ -8,7 +8,7 @@ use Rattle.actor_parts.specs.StepValue.{StepValue}
 use Rattle.refusals.specs.declared.refusal.Refusal.{Refusal}
 use Rattle.refusals.specs.declared.refusal.Refusal.TheVariants.{Memory}
 use Rattle.store_model.specs.Image.{Store}
-use Rattle.store_model.specs.Steps.{StoreChange, SealContainer, ChangeName, FreeContainer, changed}
+use Rattle.store_model.specs.Steps.{StoreChange, SealContainer, ChangeName, FlushContainer, FreeContainer, changed}
 use Rattle.store_core.specs.Keeping.{kept_by, kept_of}
 use Rattle.store_core.specs.Runs.{ChangesTo, CoreRun, FileEvent, events_of}
 use Rattle.store_core.specs.State.{CoreState, Event}
@@ -54,6 +54,7 @@ adds_on file [] rest s t chain one two = subst (AddsOnce file rest) chain two
 adds_on file (SealContainer id kind segments ∷ changes) rest s t chain one two =
     (one.0, one.1, adds_on file changes rest (changed (SealContainer id kind segments) s) t chain.1 one.2 two)
 adds_on file (ChangeName name change ∷ changes) rest s t chain one two = absurd one
+adds_on file (FlushContainer id kind segments ∷ changes) rest s t chain one two = absurd one
 adds_on file (FreeContainer slot ∷ changes) rest s t chain one two = absurd one
 
 -- ---- how steps ended

@@ -23,6 +23,7 @@ use Rattle.store_state.specs.Refused.{fails}
 use Rattle.backup_engine.specs.Line.{CommandLine}
 use Rattle.backup_engine.specs.Promise.{IsLeftAs, KeepsEachMap, KeepsMap, LeavesMeanwhile, MayBeMeanwhile, NothingWritten, Stands}
 use Rattle.backup_engine.specs.Whole.{KeepsEachWhole, KeepsWhole}
+use Rattle.backup_engine.proofs.EarlierIds.{ends_earlier}
 use Rattle.backup_engine.proofs.NotDone.{not_sink}
 use Rattle.backup_engine.proofs.Reading.{reads_leave, wrote_nothing}
 use Rattle.backup_engine.proofs.WholeCall.{leaves_more}
@@ -112,7 +113,7 @@ module _ (command : CommandLine) (given : List ℕ) (ending : Option Ending) (si
 
     pub whole_made_of : KeepsMap S command given ending m mid w sink sink_now → KeepsWhole S command given ending m v w sink sink_now
     whole_made_of kept = record {
-      by_map = inl kept.by_map;
+      by_map = inl (ends_earlier v mid made old told among m opens command given w.content ending kept.by_map);
       wrote = kept.wrote;
       left = inl (left_made kept.left);
       crash = leaves_on (MayBeMeanwhile S command given m ending) v mid w made.later.clock_is

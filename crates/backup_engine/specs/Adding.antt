@@ -11,7 +11,7 @@ use Rattle.reply_text.specs.declared.ending.Ending.TheVariants.{Sink, Refused}
 use Rattle.store_model.specs.Image.{Store, Encodes}
 use Rattle.store_model.specs.Slots.{last_id, newest}
 use Rattle.store_model.specs.Pieces.{HasPieceOf}
-use Rattle.store_model.specs.Steps.{StoreChange, SealContainer, ChangeName, FreeContainer, with_sealed, with_change}
+use Rattle.store_model.specs.Steps.{StoreChange, SealContainer, ChangeName, FlushContainer, FreeContainer, with_sealed, with_change}
 use Rattle.store_model.specs.Trees.{root_of}
 use Rattle.store_core.specs.Runs.{ChangesTo}
 use Rattle.backup_engine.specs.Line.{CommandLine, Format, Ingest, Restore, Delete, Collect}
@@ -25,6 +25,7 @@ AddsOnce given (SealContainer id kind segments ∷ rest) store =
     × AllByRecursion (λ s. HasPieceOf given (record { kind = kind; segment = s }) × (newest 0 store.held (segment_key kind s) ≡ None)) segments
     × AddsOnce given rest (with_sealed id kind segments store)
 AddsOnce given (ChangeName name change ∷ rest) store = ⊥
+AddsOnce given (FlushContainer id kind segments ∷ rest) store = ⊥
 AddsOnce given (FreeContainer slot ∷ rest) store = ⊥
 
 -- The content is the store to which these containers lead, with what was put in it then: so all else of the store is as it was.
@@ -41,7 +42,7 @@ IsStore store content = KnownWith content (λ image. Encodes image store)
 
 -- What a command adds to the store that the content was: an `ingest` some pieces, and its name where it was done, but perhaps
 -- for its reply; a `delete` that was done a record of it, and nothing else. Of a write or a sync of these that failed it says nothing.
--- A `list` leaves the store. What a `collect` gives back is said beside its reply (Collected.antt).
+-- A `list` leaves the store. What a `collect` gives back and copies is said beside its reply (Collected.antt).
 abbrev pub Adds : CommandLine → List ℕ → Option Ending → Store → Option (List ℕ) → Type 0
 Adds (Format slots) given ending store content = Unit {0}
 Adds (Ingest name) given None store content = AddsTo given (with_change name (Put (root_of given))) store content

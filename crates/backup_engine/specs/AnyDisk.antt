@@ -1,5 +1,5 @@
 -- What the top call promises over any disk, also one that tells nothing, or lies (docs/MODEL.md, 'The promise').
-use Rattle.std.specs.Prelude.{◌≡◌, ◌≢◌, ◌⊎◌, ℕ, ◌≤◌, List, [], length, sum_by, is_some, Option, None, Some}
+use Rattle.std.specs.Prelude.{◌≡◌, ◌≢◌, ◌⊎◌, ℕ, ◌+◌, ◌≤◌, List, [], length, Contains, sum_by, is_some, Option, None, Some}
 use Rattle.std.specs.FinMap as finite
 use Rattle.std.specs.List.{AllByRecursion, concat}
 use Rattle.base_model.specs.Bytes.{byte_at}
@@ -7,7 +7,7 @@ use Rattle.base_model.specs.Fault.{Rose}
 use Rattle.base_model.specs.Known.{Known, KnownWith, Appended}
 use Rattle.container_log.specs.Faults.{IsDamage}
 use Rattle.container_log.specs.Parts.{header_bytes}
-use Rattle.disk_format.specs.declared.numbers.TheConstants.{FORMAT_GATE, RESERVE}
+use Rattle.disk_format.specs.declared.numbers.TheConstants.{FORMAT_GATE, LAST_ID, RESERVE}
 use Rattle.disk_format.specs.Layout.{IsSlotCount, size_of, slot_at}
 use Rattle.namespace.specs.Listing.{listing_of}
 use Rattle.disk_format.specs.Cells.{Root}
@@ -21,6 +21,7 @@ use Rattle.dd_io.specs.Flow.{SourceView, SinkView, AppendedPart}
 use Rattle.container_meta.specs.Places.{PlaceMap}
 use Rattle.container_meta.specs.Spelling.{HeaderValue, IsHeader}
 use Rattle.container_meta.specs.declared.kind.Kind.TheVariants.{Tree}
+use Rattle.container_meta.specs.declared.entry.Entry.{Entry}
 use Rattle.container_meta.specs.declared.place.Place.{Place}
 use Rattle.gc_enumerate.specs.Live.{LiveKeys}
 use Rattle.gc_enumerate.specs.Scanning.{IsScanFault}
@@ -31,26 +32,27 @@ use Rattle.merkle_file.specs.declared.top.Top.{Top}
 use Rattle.merkle_file.specs.Node.{Contents, node_digest, spelling}
 use Rattle.merkle_file.specs.Walk.{start_of}
 use Rattle.refusals.specs.declared.refusal.Refusal.{Refusal}
-use Rattle.refusals.specs.declared.refusal.Refusal.TheVariants.{Memory, DiskRead, DiskWrite, Damaged}
+use Rattle.refusals.specs.declared.refusal.Refusal.TheVariants.{Memory, DiskRead, DiskWrite, Numbers, Damaged}
 use Rattle.reply_text.specs.declared.ending.Ending.{Ending}
 use Rattle.reply_text.specs.declared.ending.Ending.TheVariants.{Words, Source, Sink, Line, Script, Refused}
 use Rattle.reply_text.specs.Text.{formatted_line, stored_line, deleted_line, listing_text}
 use Rattle.store_model.specs.Image.{Store, Encodes, names_of, last_sequence}
 use Rattle.store_model.specs.Pieces.{Node, IsPieceOf}
-use Rattle.store_model.specs.Slots.{Copy, HoldsSlot, IsIndexOf, free_slots, newest}
+use Rattle.store_model.specs.Slots.{Copy, HoldsSlot, IsIndexOf, free_slots, last_id, newest, place_of}
 use Rattle.store_model.specs.Standing.{HasJournal, IsFormatted}
 use Rattle.store_model.specs.Steps.{StoreChange, with_change}
 use Rattle.store_model.specs.Trees.{bytes_at, node_key, root_of}
-use Rattle.store_state.specs.Comparing.{IsNodeRefusal}
+use Rattle.store_state.specs.Comparing.{IsCopyRefusal, IsNodeRefusal}
 use Rattle.store_state.specs.Refused.{blames}
 use Rattle.store_state.specs.Settled.{IsSettled}
 use Rattle.recovery.specs.Opening.{IsOpenRefusal}
 use Rattle.recovery.specs.Formatting.{IsFormatRefusal}
 use Rattle.read_steps.specs.Opening.{HasRoot, top_of}
 use Rattle.read_steps.specs.Walking.{GivesAll, IsNextRefusal}
+use Rattle.store_core.specs.Releases.{copied_in, freed_in}
 use Rattle.store_core.specs.Runs.{ChangesTo}
 use Rattle.backup_engine.specs.Adding.{AddsOnce}
-use Rattle.backup_engine.specs.Collected.{collected_line, frees}
+use Rattle.backup_engine.specs.Collected.{IsOfCollection, collected_line, written_in}
 use Rattle.backup_engine.specs.Line.{CommandLine, Format, Ingest, Restore, Delete, Collect, name_of}
 use Rattle.backup_engine.specs.Line as table
 use Rattle.backup_engine.specs.PlainMap.{HasNumbers, Room, room, RefusesIngest, RefusesRestore, RefusesDelete, MayDelete, HasAll}
@@ -130,14 +132,20 @@ IsStuck {name} {ending} {disk} {disk_now} given refusal =
 
 -- ---- a collection
 
--- By the tables of the core the containers of some slots were given back, one after the other, so many, each of which stood there in its
--- turn.
-pub record HasGivenBack (freed : ℕ) (disk disk_now : DiskView) : Type 0 where
-  pub holds : Holds disk disk_now
-  pub slots : List ℕ
-  pub many : freed ≡ length slots
+-- By the tables of the core a collection changed the store so, each change where it could be made: it wrote containers of copies, and gave
+-- containers back, each of which stood there in its turn.
+pub record SweepsTo (store : Store) (changes : List StoreChange) : Type 0 where
+  pub each : AllByRecursion IsOfCollection changes
   pub after : Store
-  pub chain : ChangesTo (frees slots) holds.store after
+  pub chain : ChangesTo changes store after
+
+-- So many containers were given back, and so many segments copied.
+pub record HasSwept (freed copied : ℕ) (disk disk_now : DiskView) : Type 0 where
+  pub holds : Holds disk disk_now
+  pub changes : List StoreChange
+  pub sweeps : SweepsTo holds.store changes
+  pub freed_are : freed ≡ freed_in changes
+  pub copied_are : copied ≡ copied_in changes
 
 -- Reads since a moment returned parts by which each image of the disk's size that has them has P; where the disk tells its content
 -- now, the content has P.
@@ -169,11 +177,29 @@ pub record IsUnmarked (index : PlaceMap) (disk disk_now : DiskView) (refusal : R
   pub refusal_is : refusal ≡ step_refusal fault
   pub cause : IsScanFault (scan_for (Some index) live slot level header) (ShownThere disk disk_now) (λ at why. ⊥) header.entries fault
 
+-- Copying stopped in a container, by one of its entries: the bytes that are there have another digest.
+pub record IsUncopied (disk disk_now : DiskView) (refusal : Refusal) : Type 0 where
+  pub slot : ℕ
+  pub header : HeaderValue
+  pub shown : ShownSince disk disk_now (λ image. HoldsSlot image slot (Some header))
+  pub entry : Entry
+  pub one_of : Contains header.entries entry
+  pub cause : IsCopyRefusal (ShownSince disk disk_now) (place_of slot entry) entry.digest refusal
+
+-- Copies were not written, as no id is left for their container: the last id of the store, and one for each container of copies that was
+-- written, come to the last that there is.
+pub record IsUnwritten (store : Store) : Type 0 where
+  pub changes : List StoreChange
+  pub sweeps : SweepsTo store changes
+  pub ids : LAST_ID ≤ last_id store.held + written_in changes
+
 -- Why a collection of the store that the disk holds went no further. The index, while it marks, is that of the store.
 abbrev pub IsUncollected : {disk disk_now : DiskView} → Holds disk disk_now → Refusal → Type 0
 IsUncollected {disk} {disk_now} holds refusal =
     HasBadHeader disk disk_now refusal
     ⊎ ((index : PlaceMap) × (IsIndexOf holds.store.held index × IsUnmarked index disk disk_now refusal))
+    ⊎ IsUncopied disk disk_now refusal
+    ⊎ ((refusal ≡ Numbers) × IsUnwritten holds.store)
 
 -- ---- causes
 
@@ -253,10 +279,10 @@ abbrev pub ListsNames : Option Ending → DiskView → DiskView → SinkView →
 ListsNames ending disk disk_now sink sink_now =
     (holds : Holds disk disk_now) × WroteReply (listing_text (listing_of (names_of holds.store))) ending sink sink_now
 
--- It was said how many containers were given back.
-abbrev pub SaysFreed : Option Ending → DiskView → DiskView → SinkView → SinkView → Type 0
-SaysFreed ending disk disk_now sink sink_now =
-    (freed : ℕ) × (HasGivenBack freed disk disk_now × WroteReply (collected_line freed) ending sink sink_now)
+-- It was said how many containers were given back, and how many segments copied.
+abbrev pub SaysSwept : Option Ending → DiskView → DiskView → SinkView → SinkView → Type 0
+SaysSwept ending disk disk_now sink sink_now =
+    (freed copied : ℕ) × (HasSwept freed copied disk disk_now × WroteReply (collected_line freed copied) ending sink sink_now)
 
 abbrev pub WroteOnAny : CommandLine → List ℕ → Option Ending → DiskView → DiskView → SinkView → SinkView → Type 0
 WroteOnAny (Format slots) given ending disk disk_now sink sink_now = WroteReply (formatted_line slots) ending sink sink_now
@@ -269,8 +295,8 @@ WroteOnAny (Delete name) given ending disk disk_now sink sink_now = WroteReply (
 WroteOnAny table.List given None disk disk_now sink sink_now = ListsNames None disk disk_now sink sink_now
 WroteOnAny table.List given (Some Sink) disk disk_now sink sink_now = ListsNames (Some Sink) disk disk_now sink sink_now
 WroteOnAny table.List given (Some ending) disk disk_now sink sink_now = sink_now.written ≡ sink.written
-WroteOnAny (Collect percent) given None disk disk_now sink sink_now = SaysFreed None disk disk_now sink sink_now
-WroteOnAny (Collect percent) given (Some Sink) disk disk_now sink sink_now = SaysFreed (Some Sink) disk disk_now sink sink_now
+WroteOnAny (Collect percent) given None disk disk_now sink sink_now = SaysSwept None disk disk_now sink sink_now
+WroteOnAny (Collect percent) given (Some Sink) disk disk_now sink sink_now = SaysSwept (Some Sink) disk disk_now sink sink_now
 WroteOnAny (Collect percent) given (Some ending) disk disk_now sink sink_now = sink_now.written ≡ sink.written
 
 -- it was read to its end, where the command was done, but perhaps for its reply

@@ -1,39 +1,58 @@
--- What a `collect` gives back, and says of it (docs/MODEL.md, 'The promise').
-use Rattle.std.specs.Prelude.{◌≡◌, ℕ, List, [], ◌∷◌, length, slice_get, Some}
+-- What a `collect` gives back and copies, and says of it (docs/MODEL.md, 'The promise').
+use Rattle.std.specs.Prelude.{◌≡◌, ◌⊎◌, ◌+◌, ◌<◌, ◌≤◌, ℕ, List, [], ◌∷◌, slice_get, Some}
 use Rattle.base_model.specs.Bytes.{range}
 use Rattle.container_meta.specs.Spelling.{HeaderValue}
-use Rattle.disk_format.specs.declared.numbers.TheConstants.{SLOT_BYTES}
+use Rattle.disk_format.specs.declared.numbers.TheConstants.{LAST_ID, SLOT_BYTES}
 use Rattle.disk_format.specs.Layout.{slot_at}
 use Rattle.script_lines.specs.ReplyText.{reply_line}
 use Rattle.script_lines.specs.ReplyValue as replies
-use Rattle.store_core.specs.Releases.{FreesSpare}
+use Rattle.store_core.specs.Releases.{SweepsSpare, copied_in, freed_in}
 use Rattle.store_model.specs.Files.{Files}
 use Rattle.store_model.specs.Image.{Store, Encodes}
 use Rattle.store_model.specs.Reserve.{IsReachable, IsSpare}
-use Rattle.store_model.specs.Steps.{StoreChange, FreeContainer}
+use Rattle.store_model.specs.Slots.{last_id}
+use Rattle.store_model.specs.Steps.{StoreChange, FlushContainer, FreeContainer}
 
--- `collected freed F copied 0`: no segment is copied so far
-abbrev pub collected_line : ℕ → List ℕ
-collected_line freed = reply_line (replies.Collected freed 0)
+-- `collected freed F copied C`
+abbrev pub collected_line : ℕ → ℕ → List ℕ
+collected_line freed copied = reply_line (replies.Collected freed copied)
 
--- the containers of these slots are given back, one after the other
-abbrev pub frees : List ℕ → List StoreChange
-frees [] = []
-frees (slot ∷ more) = FreeContainer slot ∷ frees more
+-- a change that a collection makes: a container of copies is written, or one is given back
+abbrev pub IsOfCollection : StoreChange → Type 0
+IsOfCollection (FlushContainer id kind segments) = Unit {0}
+IsOfCollection (FreeContainer slot) = Unit {0}
+IsOfCollection change = ⊥
 
--- The content that was a store is one without some of its containers, so many, each of which held, in its turn, the newest copy of no key
--- that these files need; and all else of the store is as it was. So no container is added: each that is there now was there before, in the
--- same slot, byte for byte.
-pub record Collected (files : Files) (freed : ℕ) (store : Store) (old new : List ℕ) : Type 0 where
-  pub slots : List ℕ
-  pub many : freed ≡ length slots
+-- how many containers of copies changes write
+abbrev pub written_in : List StoreChange → ℕ
+written_in [] = 0
+written_in (FlushContainer id kind segments ∷ more) = 1 + written_in more
+written_in (change ∷ more) = written_in more
+
+-- The content that was a store is one to which such changes lead: containers of copies were written, with so many segments in all, and so
+-- many containers given back, each of which held, in its turn, the newest copy of no key that these files need. All else of the store is as
+-- it was: each container that is there now was there before, in the same slot, byte for byte, or came since, under an id above all of before.
+pub record Collected (files : Files) (freed copied : ℕ) (store : Store) (old new : List ℕ) : Type 0 where
+  pub changes : List StoreChange
+  pub freed_are : freed ≡ freed_in changes
+  pub copied_are : copied ≡ copied_in changes
   pub after : Store
-  pub chain : FreesSpare (IsReachable files) slots store after
+  pub chain : SweepsSpare (IsReachable files) changes store after
   pub right : Encodes new after
   pub stays : (slot : ℕ) (h : HeaderValue) → slice_get after.held slot ≡ Some (Some h)
-      → (slice_get store.held slot ≡ Some (Some h)) × (range (slot_at slot) SLOT_BYTES new ≡ range (slot_at slot) SLOT_BYTES old)
+      → ((slice_get store.held slot ≡ Some (Some h)) × (range (slot_at slot) SLOT_BYTES new ≡ range (slot_at slot) SLOT_BYTES old))
+      ⊎ (last_id store.held < h.id)
 
--- And none is left that holds the newest copy of no such key: just those were given back that the files don't need.
-pub record CollectedAll (files : Files) (freed : ℕ) (store : Store) (old new : List ℕ) : Type 0 where
-  pub collected : Collected files freed store old new
+-- And none is left that holds the newest copy of no such key: so all were given back that the files don't need.
+pub record CollectedAll (files : Files) (freed copied : ℕ) (store : Store) (old new : List ℕ) : Type 0 where
+  pub collected : Collected files freed copied store old new
   pub none_spare : (slot : ℕ) → ¬ (IsSpare (IsReachable files) collected.after.held slot)
+
+-- No id is left for a container of copies more, where the content that was is a store which such changes lead to this one: its last id, and
+-- one for each container that they write, come to the last that there is.
+pub record HasNoIdLeft (files : Files) (after : Store) (old : List ℕ) : Type 0 where
+  pub store : Store
+  pub was : Encodes old store
+  pub changes : List StoreChange
+  pub chain : SweepsSpare (IsReachable files) changes store after
+  pub ids : LAST_ID ≤ last_id store.held + written_in changes

@@ -1,5 +1,5 @@
 -- What commands never change, whatever the disk holds (docs/MODEL.md, 'The promise').
-use Rattle.std.specs.Prelude.{◌≡◌, ◌⊎◌, ℕ, ◌+◌, ◌-◌, ◌≤◌, ◌<◌, List, length, Option}
+use Rattle.std.specs.Prelude.{◌≡◌, ◌⊎◌, ℕ, ◌+◌, ◌-◌, ◌≤◌, ◌<◌, List, length, slice_get, Contains, Option, Some, None}
 use Rattle.std.specs.List.{AllByRecursion}
 use Rattle.base_model.specs.Bytes.{range, byte_at}
 use Rattle.base_model.specs.Frames.{SameOutside}
@@ -59,20 +59,32 @@ pub record KeepsButRecord (name : List ℕ) (ending : Option Ending) (old new : 
   pub same : SameButRecordOf store old new
   pub names : HasJournal store old → StandsStill HasJournal store new ⊎ HasJournal (with_change name Gone store) new
 
--- all before the end of a store's slots is as it was, but the gates of these
-pub record SameButGatesOf (store : Store) (slots : List ℕ) (old new : List ℕ) : Type 0 where
-  pub size_is : length new ≡ length old
-  pub same : (at count : ℕ) → at + count ≤ slot_at store.slots → HasNoGate slots at count → range at count new ≡ range at count old
+-- some bytes lie beside all of these slots
+abbrev pub LiesBeside : List ℕ → ℕ → ℕ → Type 0
+LiesBeside slots at count = AllByRecursion (λ slot. (at + count ≤ slot_at slot) ⊎ (slot_at slot + SLOT_BYTES ≤ at)) slots
 
--- The content held a store that is opened. But the gates of some slots, each of which had a container, all before the end of the slots is
--- as it was: so the format cell, the journal, and all that slots have after their gates.
-pub record KeepsButGates (old new : List ℕ) : Type 0 where
+-- a slot that a collection may have filled, where it gave back the containers of these: it was closed, or is one of them
+abbrev pub MayFill : Store → List ℕ → ℕ → Type 0
+MayFill store freed slot = (slice_get store.held slot ≡ Some None) ⊎ Contains freed slot
+
+-- all before the end of a store's slots is as it was, but the gates of some slots and all of others
+pub record SameButSlotsOf (store : Store) (freed filled : List ℕ) (old new : List ℕ) : Type 0 where
+  pub size_is : length new ≡ length old
+  pub same : (at count : ℕ) → at + count ≤ slot_at store.slots → HasNoGate freed at count → LiesBeside filled at count
+      → range at count new ≡ range at count old
+
+-- The content held a store that is opened. All before the end of the slots is as it was, but the gates of some slots, each of which had a
+-- container, and some slots as wholes, each of which was closed, or is one of the former: so the format cell, the journal, and all that the
+-- other slots have after their gates.
+pub record KeepsButSweep (old new : List ℕ) : Type 0 where
   pub store : Store
   pub right : Encodes old store
   pub reserve : RESERVE ≤ free_slots store.held
-  pub slots : List ℕ
-  pub had : AllByRecursion (HadContainer store) slots
-  pub same : SameButGatesOf store slots old new
+  pub freed : List ℕ
+  pub had : AllByRecursion (HadContainer store) freed
+  pub filled : List ℕ
+  pub may : AllByRecursion (MayFill store freed) filled
+  pub same : SameButSlotsOf store freed filled old new
 
 -- What a command leaves of any content. Of a disk with no store a `format` says itself what it leaves.
 abbrev pub KeepsRest : CommandLine → Option Ending → List ℕ → List ℕ → Type 0
@@ -81,7 +93,7 @@ KeepsRest (Ingest name) ending old new = (new ≡ old) ⊎ KeepsOpen name ending
 KeepsRest (Restore name) ending old new = new ≡ old
 KeepsRest (Delete name) ending old new = (new ≡ old) ⊎ KeepsButRecord name ending old new
 KeepsRest table.List ending old new = new ≡ old
-KeepsRest (Collect percent) ending old new = (new ≡ old) ⊎ KeepsButGates old new
+KeepsRest (Collect percent) ending old new = (new ≡ old) ⊎ KeepsButSweep old new
 
 -- And so it is of what a crash leaves at any moment, but for what one might have left before.
 pub record KeepsOthers (command : CommandLine) (ending : Option Ending) (disk disk_now : DiskView) : Type 0 where

@@ -68,9 +68,9 @@ slots_of word =
     if is_number word && nat_le LEAST_SLOTS (digits_value 10 word) && nat_le (digits_value 10 word) MOST_SLOTS
     then Some (digits_value 10 word) else None
 
--- the percentage that a word stands for: 0 alone so far, since only containers of which nothing is live are taken
+-- the percentage that a word stands for, 0 to 100
 abbrev pub percent_of : ListOf ℕ → Option ℕ
-percent_of word = if bytes_eq word (codes "0") then Some 0 else None
+percent_of word = if is_number word && nat_le (digits_value 10 word) 100 then Some (digits_value 10 word) else None
 
 abbrev pub command_of : ListOf ℕ → ListOf ℕ → Option CommandLine
 command_of command argument =

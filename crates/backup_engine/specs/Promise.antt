@@ -8,7 +8,7 @@ use Rattle.dd_io.specs.Flow.{SinkView, AppendedPart}
 use Rattle.merkle_file.specs.Node.{Contents, node_digest, spelling}
 use Rattle.refusals.specs.declared.refusal.Difference.{Difference}
 use Rattle.refusals.specs.declared.refusal.Difference.TheVariants.{Length, Byte}
-use Rattle.refusals.specs.declared.refusal.Refusal.TheVariants.{DiskWrite, Clash}
+use Rattle.refusals.specs.declared.refusal.Refusal.TheVariants.{DiskWrite, Clash, Numbers}
 use Rattle.reply_text.specs.declared.ending.Ending.{Ending}
 use Rattle.reply_text.specs.declared.ending.Ending.TheVariants.{Words, Source, Sink, Line, Script, Refused}
 use Rattle.reply_text.specs.Text.{stored_line, deleted_line, listing_text}
@@ -22,7 +22,7 @@ use Rattle.store_model.specs.Standing.{IsStoreOf, IsSegmentOf, file_listing}
 use Rattle.store_model.specs.Trees.{bytes_at, node_key, root_of}
 use Rattle.store_state.specs.Comparing.{FirstDifference}
 use Rattle.backup_engine.specs.Adding.{Adds}
-use Rattle.backup_engine.specs.Collected.{Collected, CollectedAll, collected_line}
+use Rattle.backup_engine.specs.Collected.{Collected, CollectedAll, HasNoIdLeft, collected_line}
 use Rattle.backup_engine.specs.Line.{CommandLine, Format, Ingest, Restore, Delete, Collect}
 use Rattle.backup_engine.specs.Line as table
 use Rattle.backup_engine.specs.PlainMap.{map_after, CanBeDone, Refuses, room_of}
@@ -75,6 +75,12 @@ EndsBy command given m content (Some (Refused (Clash key at))) = ⊥
 EndsBy command given m content (Some (Refused refusal)) =
     IsLeftWith m content (λ store. Refuses command given (room_of command m store) refusal)
 
+-- So it ended. But a collection wrote no more copies where no id was left for their container: that goes by what the content was as well.
+abbrev pub EndsFrom : CommandLine → List ℕ → Stored → Option (List ℕ) → Option (List ℕ) → Option Ending → Type 0
+EndsFrom (Collect percent) given m before content (Some (Refused Numbers)) =
+    IsLeftWith m content (λ store. KnownWith before (HasNoIdLeft m.files store))
+EndsFrom command given m before content ending = EndsBy command given m content ending
+
 -- ---- what was written
 
 -- of a file that is given back: all of it, or, where the command was not done, a first part
@@ -95,21 +101,22 @@ Wrote (Ingest name) given m ending sink sink_now = WroteReply (stored_line name 
 Wrote (Restore name) given m ending sink sink_now = WroteFile (finite.get m.files name) ending sink sink_now
 Wrote (Delete name) given m ending sink sink_now = WroteReply (deleted_line name) ending sink sink_now
 Wrote table.List given m ending sink sink_now = WroteReply (listing_text (file_listing m.files)) ending sink sink_now
-Wrote (Collect percent) given m ending sink sink_now = (freed : ℕ) × WroteReply (collected_line freed) ending sink sink_now
+Wrote (Collect percent) given m ending sink sink_now = (freed copied : ℕ) × WroteReply (collected_line freed copied) ending sink sink_now
 
 -- ---- what a collection gave back
 
--- A `collect` that was done, but perhaps for its reply, gave back just the containers that no file needs, and its reply says how many. One
--- that was refused may have given back some of them; of a write or a sync that failed this says nothing (what is left of the files is said
--- below, and of the bytes in Frame.antt).
+-- A `collect` that was done, but perhaps for its reply, gave back containers that no file needs, also such as it had copied from, and left
+-- no other such; and its reply says how many, and how many segments it copied. One that was refused may have given back some of them; of a
+-- write or a sync that failed this says nothing (what is left of the files is said below, and of the bytes in Frame.antt).
 abbrev pub GivesSlotsBack : CommandLine → Option Ending → Files → Store → List ℕ → Option (List ℕ) → SinkView → SinkView → Type 0
 GivesSlotsBack (Collect percent) None files store old content sink sink_now =
-    (freed : ℕ) × (KnownWith content (CollectedAll files freed store old) × WroteReply (collected_line freed) None sink sink_now)
+    (freed copied : ℕ) × (KnownWith content (CollectedAll files freed copied store old) × WroteReply (collected_line freed copied) None sink sink_now)
 GivesSlotsBack (Collect percent) (Some Sink) files store old content sink sink_now =
-    (freed : ℕ) × (KnownWith content (CollectedAll files freed store old) × WroteReply (collected_line freed) (Some Sink) sink sink_now)
+    (freed copied : ℕ) × (KnownWith content (CollectedAll files freed copied store old)
+    × WroteReply (collected_line freed copied) (Some Sink) sink sink_now)
 GivesSlotsBack (Collect percent) (Some (Refused DiskWrite)) files store old content sink sink_now = Unit {0}
 GivesSlotsBack (Collect percent) (Some ending) files store old content sink sink_now =
-    (freed : ℕ) × KnownWith content (Collected files freed store old)
+    (freed copied : ℕ) × KnownWith content (Collected files freed copied store old)
 GivesSlotsBack command ending files store old content sink sink_now = Unit {0}
 
 -- ---- what is left
@@ -153,7 +160,7 @@ pub record NothingWritten (ending : Option Ending) (disk disk_now : DiskView) : 
 -- it. (Where room has to be made first, it is so from then on; Whole.antt has the call from its beginning.)
 pub record KeepsMap (S : List ℕ → Type 0) (command : CommandLine) (given : List ℕ) (ending : Option Ending) (m : Stored)
     (disk disk_now : DiskView) (sink sink_now : SinkView) : Type 0 where
-  pub by_map : EndsBy command given m disk_now.content ending
+  pub by_map : EndsFrom command given m disk.content disk_now.content ending
   pub wrote : Wrote command given m ending sink sink_now
   pub added : Known disk.content (λ old. (store : Store) → Encodes old store → Adds command given ending store disk_now.content)
   pub gave_back : Known disk.content (λ old. (store : Store) → Encodes old store

@@ -161,20 +161,20 @@ IsListing (Some ending) sink sink_now rs = ⊥
 abbrev pub collecting : ℕ → ℕ → Replied
 collecting percent snapshot = said (lines.Gc percent) (replies.Collecting snapshot)
 
--- it began, went on to its end, and gave so many containers back
-abbrev pub Sweeps : ℕ → ℕ → List Replied → Type 0
-Sweeps percent freed rs =
-    (snapshot : ℕ) × (rs ≡ collecting percent snapshot ∷ said lines.Sweep (replies.Collected freed 0) ∷ [])
+-- it began, went on to its end, gave so many containers back, and copied so many segments
+abbrev pub Sweeps : ℕ → ℕ → ℕ → List Replied → Type 0
+Sweeps percent freed copied rs =
+    (snapshot : ℕ) × (rs ≡ collecting percent snapshot ∷ said lines.Sweep (replies.Collected freed copied) ∷ [])
 
--- The lines of a `collect`, and what was written: how many containers were given back. Where there was no memory for that, where a line was
--- refused, or none was run, nothing was.
+-- The lines of a `collect`, and what was written: how many containers were given back, and how many segments copied. Where there was no memory
+-- for that, where a line was refused, or none was run, nothing was.
 abbrev pub IsCollect : ℕ → Option Ending → SinkView → SinkView → List Replied → Type 0
 IsCollect percent None sink sink_now rs =
-    (freed : ℕ) × (Sweeps percent freed rs × WroteReply (collected_line freed) None sink sink_now)
+    (freed copied : ℕ) × (Sweeps percent freed copied rs × WroteReply (collected_line freed copied) None sink sink_now)
 IsCollect percent (Some Sink) sink sink_now rs =
-    (freed : ℕ) × (Sweeps percent freed rs × WroteReply (collected_line freed) (Some Sink) sink sink_now)
+    (freed copied : ℕ) × (Sweeps percent freed copied rs × WroteReply (collected_line freed copied) (Some Sink) sink sink_now)
 IsCollect percent (Some (Refused refusal)) sink sink_now rs =
-    (((refusal ≡ Memory) × ((rs ≡ []) ⊎ ((freed : ℕ) × Sweeps percent freed rs)))
+    (((refusal ≡ Memory) × ((rs ≡ []) ⊎ ((freed copied : ℕ) × Sweeps percent freed copied rs)))
     ⊎ IsOne (lines.Gc percent) (replies.Refused refusal) rs
     ⊎ ((snapshot : ℕ) × (rs ≡ collecting percent snapshot ∷ refused lines.Sweep refusal ∷ []))) × (sink_now.written ≡ sink.written)
 IsCollect percent (Some ending) sink sink_now rs = ⊥

@@ -17,7 +17,7 @@ use Rattle.store_model.specs.Standing.{IsSegmentOf}
 use Rattle.store_state.specs.Refused.{fails}
 use Rattle.backup_engine.specs.Line.{CommandLine}
 use Rattle.backup_engine.specs.Lines.{RunsByMachine}
-use Rattle.backup_engine.specs.Promise.{EndsBy, IsLeftAs, LeavesMeanwhile, MayBeMeanwhile, NothingWritten, Stands, Wrote}
+use Rattle.backup_engine.specs.Promise.{EndsFrom, IsLeftAs, LeavesMeanwhile, MayBeMeanwhile, NothingWritten, Stands, Wrote}
 
 -- it was not done, as there was no memory, or a call of the disk failed
 abbrev pub EndsFailing : Option Ending → Type 0
@@ -30,7 +30,7 @@ EndsFailing ending = (refusal : Refusal) × ((ending ≡ Some (Refused refusal))
 -- the end and at every moment before, but for what a crash might have left before it.
 pub record KeepsWhole (S : List ℕ → Type 0) (command : CommandLine) (given : List ℕ) (ending : Option Ending) (m : Stored)
     (disk disk_now : DiskView) (sink sink_now : SinkView) : Type 0 where
-  pub by_map : EndsBy command given m disk_now.content ending ⊎ EndsFailing ending
+  pub by_map : EndsFrom command given m disk.content disk_now.content ending ⊎ EndsFailing ending
   pub wrote : Wrote command given m ending sink sink_now
   pub left : Stands (IsLeftAs S command given m ending) disk_now ⊎ NothingWritten ending disk disk_now
   pub crash : LeavesMeanwhile (MayBeMeanwhile S command given m ending) disk disk_now

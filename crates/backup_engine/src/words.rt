@@ -24,7 +24,7 @@ pub(crate) enum Command<'a> {
     /// A name.
     Delete(&'a str),
     List,
-    /// A percentage: 0 alone so far.
+    /// A percentage.
     Collect(Percent),
 }
 
@@ -41,8 +41,8 @@ pub(crate) enum Line<'a> {
 /// clap reads them: a line comes only where clap took the words, and the line is the subcommand that it met, with its argument. No
 /// check by hand stands beside it, since clap's contract says for such a command which words it takes and what it finds in them, and
 /// these are proved to be the words and the values of the table (`line_of`): a last `--` is passed over, a word that begins with a dash
-/// is taken after `--` alone, and a request for help or a version is refused as any other word. Only how a word of `format` spells a
-/// number is looked at here (`slot_count`). Each error of clap's but want of memory says that the words are no line.
+/// is taken after `--` alone, and a request for help or a version is refused as any other word. Only how a word of `format` or `collect`
+/// spells a number is looked at here (`slot_count`, `percentage`). Each error of clap's but want of memory says that the words are no line.
 pub(crate) fn read_words<'a>(
     alloc: Global,
     words: &'a [String],
@@ -147,16 +147,6 @@ fn read_command<'a>(command: &str, argument: &'a str) -> Option<Command<'a>>
     }
 }
 
-// The percentage that a word stands for, if it does: 0 alone so far.
-fn percentage(word: &str) -> Option<Percent>
-    ensures { result ≡ percent_of word.now }
-{
-    match word {
-        "0" => Percent::new(0),
-        _ => None,
-    }
-}
-
 // Not empty, and no zero before another digit.
 fn begins_as_number(word: &str) -> bool
     ensures { result ≡ begins_as_number word.now }
@@ -198,6 +188,19 @@ fn slot_count(word: &str) -> Option<u32>
                 None
             }
         }
+        Err(_) => None,
+    }
+}
+
+// The percentage that a word stands for, if it does.
+fn percentage(word: &str) -> Option<Percent>
+    ensures { result ≡ percent_of word.now }
+{
+    if !is_number(word) {
+        return None;
+    }
+    match word.parse::<u32>() {
+        Ok(percent) => Percent::new(u64::from(percent)),
         Err(_) => None,
     }
 }

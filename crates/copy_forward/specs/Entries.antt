@@ -1,7 +1,6 @@
 -- Which entries of a container are live, and the copies that the index has (docs/MODEL.md, 'Collection').
-use Rattle.std.specs.Prelude.{◌≡◌, ◌⊎◌, ℕ, ◌+◌, ◌==◌, ◌&&◌, if◌then◌else◌, Bool, true, false, List, [], ◌∷◌, Option, None, Some}
+use Rattle.std.specs.Prelude.{◌≡◌, ◌⊎◌, ℕ, ◌+◌, ◌==◌, ◌&&◌, Bool, true, false, List, [], ◌∷◌, Option, None, Some}
 use Rattle.std.specs.FinMap as finite
-use Rattle.std.specs.List.{AllByRecursion}
 use Rattle.container_log.specs.Faults.{IsDamage}
 use Rattle.container_log.specs.Parts.{header_bytes, ReadAs}
 use Rattle.container_meta.specs.declared.entry.Entry.{Entry}
@@ -35,22 +34,14 @@ is_copy index kind slot e = is_place_found (finite.get index (entry_key kind e))
 abbrev pub IsLiveCopy : PlaceMap → LiveKeys → Kind → ℕ → Entry → Type 0
 IsLiveCopy index live kind slot e = (is_copy index kind slot e ≡ true) × IsLiveAt live (entry_key kind e) (place_of slot e)
 
--- the keys of those entries that are copies, in order
-abbrev pub copy_keys : PlaceMap → Kind → ℕ → List Entry → List (List ℕ)
-copy_keys index kind slot [] = []
-copy_keys index kind slot (e ∷ es) = if is_copy index kind slot e then entry_key kind e ∷ copy_keys index kind slot es else copy_keys index kind slot es
-
 -- some entry is a live copy
 abbrev pub HasLiveCopy : PlaceMap → LiveKeys → Kind → ℕ → List Entry → Type 0
 HasLiveCopy index live kind slot [] = ⊥
 HasLiveCopy index live kind slot (e ∷ es) = IsLiveCopy index live kind slot e ⊎ HasLiveCopy index live kind slot es
 
--- an entry isn't; none of them is
+-- an entry isn't
 abbrev pub IsDead : PlaceMap → LiveKeys → Kind → ℕ → Entry → Type 0
 IsDead index live kind slot e = IsLiveCopy index live kind slot e → ⊥
-
-abbrev pub AreDead : PlaceMap → LiveKeys → Kind → ℕ → List Entry → Type 0
-AreDead index live kind slot entries = AllByRecursion (IsDead index live kind slot) entries
 
 -- the sum of the lengths of those entries that are live copies
 abbrev pub SumsLive : PlaceMap → LiveKeys → Kind → ℕ → List Entry → ℕ → Type 0

@@ -37,7 +37,7 @@ fn add_again(
 }
 
 /// A container with the same segments. It fails for want of memory alone.
-pub fn same_again(alloc: Global, from: &OpenContainer) -> Result<OpenContainer, AllocError>
+pub(crate) fn same_again(alloc: Global, from: &OpenContainer) -> Result<OpenContainer, AllocError>
     ensures { IfOk result (λ copy. copy ≡ from.now) }
 {
     let mut copy = OpenContainer::new(alloc, from.kind())?;

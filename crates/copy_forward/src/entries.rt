@@ -11,8 +11,8 @@ ghost use Rattle.segment_index.specs.Places.{KnownMap, IsPlace};
 ghost use Rattle.store_model.specs.Slots.{HoldsSlot, place_of};
 ghost use Rattle.store_state.specs.Indexing.{Stays};
 ghost use Rattle.store_state.specs.Refused.{blames, fails};
-ghost use Rattle.copy_forward.specs.Entries.{is_place, is_copy as is_copy_in, copy_keys, without_keys, IsLiveCopy, HasLiveCopy, IsDead, AreDead, SumsLive};
-ghost use Rattle.copy_forward.specs.Entries.{IsHeaderRefusal, IsLookUpRefusal, IsScanRefusal, IsRemoveRefusal};
+ghost use Rattle.copy_forward.specs.Entries.{is_place, is_copy as is_copy_in, without_keys, IsLiveCopy, SumsLive};
+ghost use Rattle.copy_forward.specs.Entries.{IsHeaderRefusal, IsLookUpRefusal, IsRemoveRefusal};
 
 use container_log::{LogFault, read_meta};
 use container_meta::{Entry, Key, Kind, Meta, Place, key_of};
@@ -139,69 +139,9 @@ pub fn live_bytes<D: Disk, X: Index>(
     }
 }
 
-// Adds the key of an entry that is the copy that the index has, unless it is live. Whether it isn't.
-fn add_if_dead<D: Disk, X: Index>(
-    disk: &mut D,
-    index: &mut X,
-    live: &Live,
-    slot: u32,
-    kind: Kind,
-    entry: &Entry,
-    keys: &mut Vec<Key>,
-) -> Result<bool, Refusal>
-    requires { X.serves index.old (D.view disk.old).size }
-    ensures dead { result ≡ Ok true → KnownMap (X.places index.old (D.view disk.old).content)
-        (λ m. IsDead m live.now kind slot entry.now × (keys.new.items ≡ keys.old.items ++ copy_keys m kind slot (entry.now ∷ []))) }
-    ensures live { result ≡ Ok false → KnownMap (X.places index.old (D.view disk.old).content)
-        (λ m. IsLiveCopy m live.now kind slot entry.now) }
-    ensures map { X.places index.new (D.view disk.new).content ≡ X.places index.old (D.view disk.old).content }
-    ensures refused { IfErr result (IsScanRefusal (X.places index.old (D.view disk.old).content)) }
-    ensures reads { Reads (ending blames result) (D.view disk.old) (D.view disk.new) }
-    ensures served { X.serves index.new (D.view disk.new).size }
-{
-    if !is_copy(disk, index, slot, kind, entry)? {
-        return Ok(true);
-    }
-    let key = key_of(kind, &entry.digest);
-    if live.is_live(&key, &place_in(slot, entry)) {
-        return Ok(false);
-    }
-    keys.push(key)?;
-    Ok(true)
-}
-
-/// Adds the keys of those entries that are the copies that the index has, unless one of them is live. Whether none is.
-pub fn add_dead<D: Disk, X: Index>(
-    disk: &mut D,
-    index: &mut X,
-    live: &Live,
-    slot: u32,
-    kind: Kind,
-    entries: &[Entry],
-    keys: &mut Vec<Key>,
-) -> Result<bool, Refusal>
-    requires { X.serves index.old (D.view disk.old).size }
-    ensures dead { result ≡ Ok true → KnownMap (X.places index.old (D.view disk.old).content)
-        (λ m. AreDead m live.now kind slot entries.now × (keys.new.items ≡ keys.old.items ++ copy_keys m kind slot entries.now)) }
-    ensures live { result ≡ Ok false → KnownMap (X.places index.old (D.view disk.old).content)
-        (λ m. HasLiveCopy m live.now kind slot entries.now) }
-    ensures map { X.places index.new (D.view disk.new).content ≡ X.places index.old (D.view disk.old).content }
-    ensures refused { IfErr result (IsScanRefusal (X.places index.old (D.view disk.old).content)) }
-    ensures reads { Reads (ending blames result) (D.view disk.old) (D.view disk.new) }
-    ensures served { X.serves index.new (D.view disk.new).size }
-{
-    let Some((entry, rest)) = entries.split_first() else {
-        return Ok(true);
-    };
-    if !add_if_dead(disk, index, live, slot, kind, entry, keys)? {
-        return Ok(false);
-    }
-    add_dead(disk, index, live, slot, kind, rest, keys)
-}
-
 /// Takes keys out of the index, the first of them first. It takes no memory. After `DiskWrite`, and after `Damaged`, some may
 /// be out.
-pub fn remove_keys<D: Disk, X: Index>(
+pub(crate) fn remove_keys<D: Disk, X: Index>(
     disk: &mut D,
     index: &mut X,
     keys: &[Key],

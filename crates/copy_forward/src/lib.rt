@@ -9,9 +9,7 @@ mod flushing;
 mod plan;
 mod planning;
 
-pub use again::same_again;
 pub use copying::{copy_entries, same_kind};
-pub use entries::{add_dead, live_bytes, read_header, remove_keys, same_place};
+pub use entries::{live_bytes, read_header, same_place};
 pub use flushing::flush;
 pub use plan::Plan;
-pub use planning::plan_copies;

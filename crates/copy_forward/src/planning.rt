@@ -182,7 +182,7 @@ fn entries_from(meta: &Meta, from: usize) -> &[Entry]
 /// hold anything then.
 ///
 /// Refusals: `Memory`; `DiskRead`; `Damaged` for the index's own bytes; `Corrupt` for a live copy whose bytes have another digest.
-pub fn plan_copies<D: Disk, X: Index>(
+pub(crate) fn plan_copies<D: Disk, X: Index>(
     alloc: Global,
     disk: &mut D,
     index: &mut X,

@@ -1,8 +1,10 @@
 -- What a step of another actor leaves of a collection, where what it makes live is held whole, and its children are live.
-use Rattle.std.proofs.Common.{◌≡◌, ◌⊎◌, inl, inr, ℕ, List, Option, Some, refl, sym, ◌∙◌, ap}
+use Rattle.std.proofs.Common.{◌≡◌, ◌⊎◌, ◌<◌, ◌≤◌, inl, inr, ℕ, List, Option, Some, refl, sym, ◌∙◌, ap}
 use Rattle.std.specs.Prelude.{slice_get, get_or}
+use Rattle.std.specs.FinMap as finite
 use Rattle.std.specs.List.{All}
 use Rattle.actor_parts.specs.declared.part.Part.{Part}
+use Rattle.container_meta.specs.declared.place.Place.{Place}
 use Rattle.container_meta.specs.Places.{PlaceMap}
 use Rattle.container_meta.specs.Spelling.{HeaderValue}
 use Rattle.gc_enumerate.specs.Live.{LiveKeys}
@@ -16,10 +18,14 @@ use Rattle.store_model.specs.Trees.{HasNewest, bytes_at, node_key}
 use Rattle.store_model.proofs.Copies.{some_same}
 use Rattle.store_model.proofs.Counted.{tree_on}
 use Rattle.gc_steps.specs.declared.collection.Collection.{Collection}
-use Rattle.gc_steps.specs.LiveTrees.{IsLive, IsWhole, HoldsNode}
+use Rattle.gc_sweep.specs.Holding.{GoesOnBeside, IsLive}
+use Rattle.gc_steps.specs.LiveTrees.{IsWhole, HoldsNode}
 use Rattle.gc_steps.specs.MarksAreClosed.{IsPassed, MarksAreClosed, NewAreLive}
 use Rattle.gc_steps.specs.Roots.{IsRoot}
-use Rattle.gc_steps.specs.SweepIsSafe.{ReleasesReady, SweepIsSafe}
+use Rattle.gc_steps.specs.declared.collection.Stage.{Stage}
+use Rattle.gc_steps.specs.declared.collection.Stage.TheVariants.{Mark, Filter, Select, Sweep}
+use Rattle.gc_steps.specs.SweepIsSafe.{HoldsAt, SweepIsSafe}
+use Rattle.gc_sweep.proofs.HoldsBeside.{holds_beside, stand_beside}
 
 -- The tree of a key is held whole; and where the key is that of a node, the node's children are live.
 pub record IsGrown (index : PlaceMap) (live : LiveKeys) (held : List (Option HeaderValue)) (image key : List ℕ) : Type 0 where
@@ -37,6 +43,21 @@ pub record Carries (index later : PlaceMap) (live marked : LiveKeys) (s t : Stor
       → (IsLive index live key × (newest 0 t.held key ≡ newest 0 s.held key)) ⊎ IsGrown later marked t.held new key
   pub slots : (slot : ℕ) (h : HeaderValue) → slice_get t.held slot ≡ Some (Some h)
       → (slice_get s.held slot ≡ Some (Some h)) ⊎ All (λ e. IsLive later marked (entry_key h.kind e)) h.entries
+
+-- What the index has newly lies in containers that came after the collection began; and just those that came before stand where they stood.
+pub record MovesBeside (index later : PlaceMap) (s t : Store) (snapshot : ℕ) : Type 0 where
+  pub places : (key : List ℕ) (place : Place) → finite.get later key ≡ Some place
+      → (finite.get index key ≡ Some place) ⊎ ((h : HeaderValue) × ((slice_get t.held place.slot ≡ Some (Some h)) × (snapshot ≤ h.id)))
+  pub stand : (slot : ℕ) (h : HeaderValue) → slice_get s.held slot ≡ Some (Some h) → slice_get t.held slot ≡ Some (Some h)
+  pub stood : (slot : ℕ) (h : HeaderValue) → slice_get t.held slot ≡ Some (Some h) → h.id < snapshot → slice_get s.held slot ≡ Some (Some h)
+
+-- so it is where index and containers stay
+pub moves_none : (index : PlaceMap) (s t : Store) (snapshot : ℕ) → t.held ≡ s.held → MovesBeside index index s t snapshot
+moves_none index s t snapshot same = record {
+  places = λ key place is. inl is;
+  stand = λ slot h there. ap (λ (held : List (Option HeaderValue)). slice_get held slot) same ∙ there;
+  stood = λ slot h there old. ap (λ (held : List (Option HeaderValue)). slice_get held slot) (sym same) ∙ there;
+}
 
 -- A step leaves both invariants of a collection.
 abbrev pub KeepsBoth : PlaceMap → PlaceMap → Store → Store → List Part → List Part → List ℕ → List ℕ → Collection → Collection → Type 0
@@ -94,12 +115,23 @@ module _ (index later : PlaceMap) (c : Collection) (marked : LiveKeys) (s t : St
       by_node n copy holds passed (inl is) = all_on (child_keys n) (marks.passed_is_closed n copy (node_before n copy holds is.0 is.1) is.0 passed)
       by_node n copy holds passed (inr grown) = grown.children n copy holds refl
 
-  sweep_carried : (before : List Part) → (ReleasesReady index s.held c.snapshot c.stage → ReleasesReady later t.held c.snapshot c.stage) → SweepIsSafe index s before old c
-      → SweepIsSafe later t parts new (record c { live = marked })
-  sweep_carried before ready safe = record {
+  beside : MovesBeside index later s t c.snapshot → GoesOnBeside index later s.held t.held old new c.live marked c.snapshot
+  beside moves = record { keys = carries.live_still; places = moves.places; copies = carries.keeps; stand = moves.stand; stood = moves.stood }
+
+  holds_on : MovesBeside index later s t c.snapshot → (stage : Stage) → HoldsAt stage index s.held old c → HoldsAt stage later t.held new (record c { live = marked })
+  holds_on moves (Mark level slot) holds = tt
+  holds_on moves (Filter slot) holds = tt
+  holds_on moves Select holds = tt
+  holds_on moves Sweep holds = (
+    stand_beside s.held t.held c.snapshot c.sweep moves.stand holds.0,
+    holds_beside index later s.held t.held old new c.live marked c.snapshot c.sweep holds.0 (beside moves) holds.1,
+  )
+
+  sweep_carried : (before : List Part) → MovesBeside index later s t c.snapshot → SweepIsSafe index s before old c → SweepIsSafe later t parts new (record c { live = marked })
+  sweep_carried before moves safe = record {
     roots_are_live = carries.roots;
     live_is_closed = λ n copy holds is. by_node n copy holds (carries.each (node_key n) is);
-    releases_ready = ready safe.releases_ready;
+    sweep_holds = holds_on moves c.stage safe.sweep_holds;
     new_are_live = new_on safe.new_are_live;
   }
     where
@@ -109,11 +141,11 @@ module _ (index later : PlaceMap) (c : Collection) (marked : LiveKeys) (s t : St
       by_node n copy holds (inl is) = all_on (child_keys n) (safe.live_is_closed n copy (node_before n copy holds is.0 is.1) is.0)
       by_node n copy holds (inr grown) = grown.children n copy holds refl
 
--- Where the roots were live before it, and a source that was ready is so still, such a step leaves both.
+-- Where the roots were live before it, such a step leaves both.
 pub carried : (index later : PlaceMap) (c : Collection) (marked : LiveKeys) (s t : Store) (old new : List ℕ) (before after : List Part)
     → (((key : List ℕ) → IsRoot (names_of s) before key → IsLive index c.live key) → Carries index later c.live marked s t old new after)
-    → (ReleasesReady index s.held c.snapshot c.stage → ReleasesReady later t.held c.snapshot c.stage) → KeepsBoth index later s t before after old new c (record c { live = marked })
-carried index later c marked s t old new before after carries ready = (
+    → MovesBeside index later s t c.snapshot → KeepsBoth index later s t before after old new c (record c { live = marked })
+carried index later c marked s t old new before after carries moves = (
   λ marks. marks_carried index later c marked s t old new after (carries marks.roots_are_live) before marks,
-  λ safe. sweep_carried index later c marked s t old new after (carries safe.roots_are_live) before ready safe,
+  λ safe. sweep_carried index later c marked s t old new after (carries safe.roots_are_live) before moves safe,
 )

@@ -20,7 +20,7 @@ use Rattle.store_model.proofs.Indexing.{tied}
 use Rattle.store_state.specs.Invariant.{CoreInvariant}
 use Rattle.gc_steps.specs.declared.collection.Collection.{Collection}
 use Rattle.gc_steps.specs.Roots.{IsPartKey, Marks}
-use Rattle.gc_steps.proofs.Carried.{KeepsBoth}
+use Rattle.gc_steps.proofs.Carried.{KeepsBoth, moves_none}
 use Rattle.gc_steps.proofs.GainedPins.{Gains, Grows, gained}
 
 -- one key is another, or not
@@ -69,7 +69,7 @@ pub claimed_key : (index : PlaceMap) (store : Store) (image : List ℕ) (files :
     → CoreInvariant index store files (with_part parts actor (Writing (finite.insert pins key pin))) image → IsStoreOf store files image
     → KeepsBoth index index store store parts (with_part parts actor (Writing (finite.insert pins key pin))) image image c (record c { live = marked })
 claimed_key index store image files parts c marked actor pins key pin below there writing marks core holds =
-    gained (λ other. other ≡ key) index index store store image image files parts c marked actor pins (finite.insert pins key pin) below there writing gains grows core holds (λ ready. ready)
+    gained (λ other. other ≡ key) index index store store image image files parts c marked actor pins (finite.insert pins key pin) below there writing gains grows core holds (moves_none index store store c.snapshot refl)
   where
     gains : Gains (λ other. other ≡ key) c.live marked pins (finite.insert pins key pin)
     gains = record { marks = marks; pinned = one_more pins key pin; decided = one_or_other key }

@@ -1,5 +1,5 @@
 -- Where no root comes after a step, and no container came or went, a collection goes on.
-use Rattle.std.proofs.Common.{◌≡◌, inl, ℕ, List, Option, sym, ◌∙◌, ap, subst}
+use Rattle.std.proofs.Common.{◌≡◌, inl, ℕ, List, Option, sym, ◌∙◌, ap}
 use Rattle.std.specs.Prelude.{slice_get}
 use Rattle.actor_parts.specs.declared.part.Part.{Part}
 use Rattle.container_meta.specs.Places.{PlaceMap}
@@ -9,8 +9,7 @@ use Rattle.store_model.specs.Slots.{HasKey, newest}
 use Rattle.store_model.specs.Steps.{KeepsCopies}
 use Rattle.gc_steps.specs.declared.collection.Collection.{Collection}
 use Rattle.gc_steps.specs.Roots.{IsRoot}
-use Rattle.gc_steps.specs.SweepIsSafe.{ReleasesReady}
-use Rattle.gc_steps.proofs.Carried.{KeepsBoth, carried}
+use Rattle.gc_steps.proofs.Carried.{KeepsBoth, carried, moves_none}
 
 -- The store has the same containers, and the image the same copies of the keys that the index has; the roots after it are among those before.
 pub fewer_roots : (index : PlaceMap) (s t : Store) (old new : List ℕ) (before after : List Part) (c : Collection) → t.held ≡ s.held → KeepsCopies (HasKey index) s old t new
@@ -25,4 +24,4 @@ fewer_roots index s t old new before after c held keeps fewer =
       each = λ key is. inl (is, ap (λ (h : List (Option HeaderValue)). newest 0 h key) held);
       slots = λ slot h there. inl (ap (λ (l : List (Option HeaderValue)). slice_get l slot) (sym held) ∙ there);
     })
-    (λ ready. subst (λ (h : List (Option HeaderValue)). ReleasesReady index h c.snapshot c.stage) (sym held) ready)
+    (moves_none index s t c.snapshot held)

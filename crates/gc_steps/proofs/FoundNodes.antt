@@ -34,7 +34,8 @@ use Rattle.store_model.proofs.HeldSlots.{found_so, newest_so, nodes_so, IsNodeEn
 use Rattle.store_model.proofs.Lookups.{finds}
 use Rattle.store_model.proofs.OneNode.{one_spelling}
 use Rattle.store_model.proofs.Once.{slot_once}
-use Rattle.gc_steps.specs.LiveTrees.{HoldsNode, IsLive}
+use Rattle.gc_sweep.specs.Holding.{IsLive}
+use Rattle.gc_steps.specs.LiveTrees.{HoldsNode}
 use Rattle.gc_steps.specs.MarksAreClosed.{NewAreLive}
 use Rattle.gc_steps.specs.Marking.{scan_for}
 use Rattle.gc_steps.specs.Scanning.{ShowsAt}

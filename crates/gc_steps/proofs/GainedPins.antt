@@ -35,10 +35,9 @@ use Rattle.store_model.proofs.Copies.{some_same}
 use Rattle.store_model.proofs.HeldSlots.{same_kind}
 use Rattle.store_state.specs.Invariant.{ArePinsOf, CoreInvariant, HoldsPart}
 use Rattle.gc_steps.specs.declared.collection.Collection.{Collection}
-use Rattle.gc_steps.specs.LiveTrees.{IsLive}
+use Rattle.gc_sweep.specs.Holding.{IsLive}
 use Rattle.gc_steps.specs.Roots.{IsPartKey, IsRoot, Marks}
-use Rattle.gc_steps.specs.SweepIsSafe.{ReleasesReady}
-use Rattle.gc_steps.proofs.Carried.{Carries, IsGrown, KeepsBoth, carried}
+use Rattle.gc_steps.proofs.Carried.{Carries, IsGrown, KeepsBoth, MovesBeside, carried}
 use Rattle.gc_steps.proofs.PinnedTrees.{pin_found, pinned_whole}
 use Rattle.gc_steps.proofs.RootsAfter.{part_root}
 use Rattle.gc_steps.proofs.Started.{part_holds}
@@ -160,5 +159,5 @@ module _ (P : List ℕ → Type 0) (index later : PlaceMap) (s t : Store) (old n
     carries : Carries index later c.live marked s t old new after
     carries = record { roots = roots_live; keeps = grows.keeps; has_still = grows.has_still; live_still = live_still; each = each_live; slots = slots_live }
 
-  pub gained : (ReleasesReady index s.held c.snapshot c.stage → ReleasesReady later t.held c.snapshot c.stage) → KeepsBoth index later s t parts after old new c (record c { live = marked })
-  gained ready = carried index later c marked s t old new parts after carries ready
+  pub gained : MovesBeside index later s t c.snapshot → KeepsBoth index later s t parts after old new c (record c { live = marked })
+  gained moves = carried index later c marked s t old new parts after carries moves

@@ -1,5 +1,6 @@
 pub mod Carried
 pub mod ChildTrees
+pub mod Chosen
 pub mod ClaimedPin
 pub mod Faulted
 pub mod FewSources
@@ -9,8 +10,8 @@ pub mod FirstStage
 pub mod FoundNodes
 pub mod FreshMarks
 pub mod GainedPins
-pub mod GivenBack
 pub mod ListedKeys
+pub mod MakesSteps
 pub mod MapKept
 pub mod Marked
 pub mod MarkedAll
@@ -38,7 +39,7 @@ pub mod Sparing
 pub mod SparingStages
 pub mod Started
 pub mod StepSafe
-pub mod Swept
-pub mod Taken
+pub mod SweepSteps
+pub mod TablesRun
 pub mod UnderWay
 pub mod Unseen

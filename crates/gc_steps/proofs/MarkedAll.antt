@@ -5,14 +5,14 @@ use Rattle.container_meta.specs.Places.{PlaceMap}
 use Rattle.store_model.specs.Image.{Store}
 use Rattle.gc_steps.specs.declared.collection.Collection.{Collection}
 use Rattle.gc_steps.specs.MarksAreClosed.{MarksAreClosed, WasScanned}
-use Rattle.gc_steps.specs.SweepIsSafe.{SweepIsSafe, ReleasesReady}
+use Rattle.gc_steps.specs.SweepIsSafe.{HoldsAt, SweepIsSafe}
 
 -- Once each level was marked the sweep is safe.
 pub marked_all : (index : PlaceMap) (store : Store) (parts : List Part) (image : List ℕ) (c : Collection) → ((level slot : ℕ) → WasScanned c.stage level slot)
-    → ReleasesReady index store.held c.snapshot c.stage → MarksAreClosed index store parts image c → SweepIsSafe index store parts image c
-marked_all index store parts image c scanned ready marks = record {
+    → HoldsAt c.stage index store.held image c → MarksAreClosed index store parts image c → SweepIsSafe index store parts image c
+marked_all index store parts image c scanned sweep marks = record {
   roots_are_live = marks.roots_are_live;
   live_is_closed = λ n copy holds live. marks.passed_is_closed n copy holds live (inl (scanned n.level copy.place.slot));
-  releases_ready = ready;
+  sweep_holds = sweep;
   new_are_live = marks.new_are_live;
 }

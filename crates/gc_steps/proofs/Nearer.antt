@@ -1,18 +1,19 @@
 -- Each step of a collection leaves fewer to come.
-use Rattle.std.proofs.Common.{◌≡◌, ◌⊎◌, inl, inr, ℕ, zero, suc, ◌+◌, ◌-◌, ◌*◌, ◌<◌, ◌≤◌, Bool, true, false, [], ◌∷◌, ◌++◌, length, Option, Some, None, refl, sym, ◌∙◌, ap, subst, arith}
-use Rattle.std.specs.Prelude.{if◌then◌else◌, nat_lt}
+use Rattle.std.proofs.Common.{◌≡◌, ℕ, zero, suc, ◌+◌, ◌-◌, ◌*◌, ◌<◌, ◌≤◌, Bool, true, false, [], ◌∷◌, ◌++◌, length, Option, Some, None, refl, sym, ◌∙◌, ap, subst, arith}
+use Rattle.std.specs.Prelude.{if◌then◌else◌}
 use Rattle.container_meta.specs.Places.{PlaceMap}
 use Rattle.dd_disk.specs.View.{DiskView}
 use Rattle.disk_format.specs.declared.numbers.TheConstants.{MOST_LEVEL}
 use Rattle.store_state.specs.declared.slot_table.SlotTable.{SlotTable}
 use Rattle.gc_steps.specs.declared.collection.Collection.{Collection}
 use Rattle.gc_steps.specs.declared.collection.Stage.{Stage}
-use Rattle.gc_steps.specs.declared.collection.Stage.TheVariants.{Mark, Filter, Select, Copy, Release, End}
-use Rattle.gc_steps.specs.Copying.{Takes, GivesUp, Empties}
+use Rattle.gc_steps.specs.declared.collection.Stage.TheVariants.{Mark, Filter, Select, Sweep}
 use Rattle.gc_steps.specs.Filtering.{Records, Chooses, recorded}
 use Rattle.gc_steps.specs.Marking.{Scans}
-use Rattle.gc_steps.specs.Stages.{first_from, first_slot, filter_at, filter_from, is_old_slot, is_tree_slot, mark_at, mark_from, mark_level, mark_on, sweep_from}
+use Rattle.gc_steps.specs.Stages.{first_from, first_slot, filter_at, filter_from, is_old_slot, is_tree_slot, mark_at, mark_from, mark_level, mark_on}
 use Rattle.gc_steps.specs.StepsToCome.{count_from, filter_steps, old_from, steps_at, steps_to_come, trees_from}
+use Rattle.gc_sweep.specs.StepsLeft.{steps_left}
+use Rattle.gc_sweep.proofs.Nears.{begun_few}
 use Rattle.gc_steps.specs.UnderWay.{IsUnderWay}
 use Rattle.gc_steps.proofs.UnderWay.{at_stage}
 
@@ -78,12 +79,6 @@ module _ (chosen : ℕ) (t : SlotTable) (c : Collection) where
       by_found None many = omega (arith, to_level (level - 1))
       by_found (Some slot) many = omega (arith, many)
 
-  to_sweep : (source : ℕ) → steps_at chosen t c (sweep_from c.sources.items source) ≤ 2 * (length c.sources.items - source)
-  to_sweep source = elim (nat_lt source (length c.sources.items)) as (λ b. steps_at chosen t c (if b then Copy source else End) ≤ 2 * (length c.sources.items - source)) [
-    | true ↦ omega arith
-    | false ↦ omega arith
-  ]
-
 -- ---- the steps
 
 module _ (chosen : ℕ) (t now : SlotTable) (c after : Collection) (under : IsUnderWay t c) where
@@ -92,21 +87,11 @@ module _ (chosen : ℕ) (t now : SlotTable) (c after : Collection) (under : IsUn
   fewer stage new at is less =
       subst (λ (x : Collection). steps_to_come chosen now x < steps_to_come chosen t c) (sym is) (subst (λ (s : Stage). steps_to_come chosen now new < steps_at chosen t c s) (sym at) less)
 
-  pub fewer_to_take : (source : ℕ) (known after_known : Option PlaceMap) (old new : DiskView) → c.stage ≡ Copy source → Takes t known after_known old new source c after → steps_to_come chosen now after < steps_to_come chosen t c
-  fewer_to_take source known after_known old new at takes = by_way takes.taken
-    where
-      by_way : GivesUp known after_known takes.slot takes.header source c after ⊎ Empties known after_known takes.slot takes.header source c after → steps_to_come chosen now after < steps_to_come chosen t c
-      by_way (inl up) =
-          let next : Collection = record c { stage = sweep_from c.sources.items (source + 1) } in
-          fewer (Copy source) next at up.collection_is (omega (arith, to_sweep chosen now next (source + 1), (at_stage t c (Copy source) under at).0))
-      by_way (inr out) =
-          let next : Collection = record c { stage = Release (source + 1) takes.slot } in
-          fewer (Copy source) next at out.collection_is (omega (arith, (at_stage t c (Copy source) under at).0))
-
-  pub fewer_to_release : (source slot : ℕ) → c.stage ≡ Release source slot → after ≡ record c { stage = sweep_from c.sources.items source; freed = c.freed + 1 } → steps_to_come chosen now after < steps_to_come chosen t c
-  fewer_to_release source slot at is =
-      let next : Collection = record c { stage = sweep_from c.sources.items source; freed = c.freed + 1 } in
-      fewer (Release source slot) next at is (omega (arith, to_sweep chosen now next source))
+  -- the sweep goes on
+  pub fewer_to_sweep : c.stage ≡ Sweep → after ≡ record c { sweep = after.sweep } → steps_left after.sweep < steps_left c.sweep → steps_to_come chosen now after < steps_to_come chosen t c
+  fewer_to_sweep at is less =
+      let next : Collection = record c { sweep = after.sweep } in
+      fewer Sweep next at is (subst (λ (s : Stage). steps_at chosen now next s < steps_left c.sweep) (sym at) less)
 
 module _ (chosen : ℕ) (t : SlotTable) (c after : Collection) (under : IsUnderWay t c) where
   pub fewer_to_mark : (level slot : ℕ) (known : Option PlaceMap) (old new : DiskView) → c.stage ≡ Mark level slot → Scans t known old new level slot c after → steps_to_come chosen t after < steps_to_come chosen t c
@@ -123,14 +108,14 @@ module _ (chosen : ℕ) (t : SlotTable) (c after : Collection) (under : IsUnderW
       fewer chosen t t c after under (Filter slot) next at records.collection_is
       (omega (arith, to_filter chosen t next (slot + 1) (omega (arith, was.0.0)), one_fewer (is_old_slot c.snapshot t) (length t.ids.items) slot was.0.0 was.0.1))
 
-  pub fewer_to_choose : length after.sources.items ≤ chosen → c.stage ≡ Select → Chooses c after → steps_to_come chosen t after < steps_to_come chosen t c
+  pub fewer_to_choose : length after.sweep.sources.items ≤ chosen → c.stage ≡ Select → Chooses t c after → steps_to_come chosen t after < steps_to_come chosen t c
   fewer_to_choose most at chooses =
-      let next : Collection = record c { sources = after.sources; stage = sweep_from after.sources.items 0 } in
-      fewer chosen t t c after under Select next at chooses.collection_is (omega (arith, to_sweep chosen t next 0, most))
+      let next : Collection = record c { stage = Sweep; sweep = after.sweep } in
+      fewer chosen t t c after under Select next at chooses.collection_is (omega (arith, begun_few t after.sweep.sources.items after.sweep chooses.begins, most))
 
 -- ---- at the beginning
 
 pub begun : (chosen : ℕ) (t : SlotTable) (c : Collection) → c.stage ≡ mark_level c.snapshot t MOST_LEVEL
-    → steps_to_come chosen t c ≤ 6 * trees_from c.snapshot t 0 + old_from c.snapshot t 0 + 1 + 2 * chosen
+    → steps_to_come chosen t c ≤ 6 * trees_from c.snapshot t 0 + old_from c.snapshot t 0 + 1 + 4 * chosen
 begun chosen t c is =
-    subst (λ (s : Stage). steps_at chosen t c s ≤ 6 * trees_from c.snapshot t 0 + old_from c.snapshot t 0 + 1 + 2 * chosen) (sym is) (omega (arith, to_level chosen t c MOST_LEVEL))
+    subst (λ (s : Stage). steps_at chosen t c s ≤ 6 * trees_from c.snapshot t 0 + old_from c.snapshot t 0 + 1 + 4 * chosen) (sym is) (omega (arith, to_level chosen t c MOST_LEVEL))

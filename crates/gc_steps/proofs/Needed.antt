@@ -18,7 +18,8 @@ use Rattle.merkle_file.specs.Walk.{IsTree, AreBelow, contents_of}
 use Rattle.store_model.specs.Reserve.{AllKeys, tree_keys, keys_below}
 use Rattle.store_model.specs.Slots.{Copy}
 use Rattle.store_model.specs.Trees.{HoldsTree, HoldsTrees, leaf_key, node_key}
-use Rattle.gc_steps.specs.LiveTrees.{IsLive, IsRootOf, HoldsNode}
+use Rattle.gc_sweep.specs.Holding.{IsLive}
+use Rattle.gc_steps.specs.LiveTrees.{IsRootOf, HoldsNode}
 use Rattle.gc_steps.proofs.Marked.{contains_first, contains_none}
 
 -- a node names a tree below it by the key of that tree's root

@@ -30,7 +30,7 @@ use Rattle.merkle_file.specs.Node.{Contents, IsNode, spelling}
 use Rattle.merkle_file.specs.Reading.{any_node, first_fault, wrong}
 use Rattle.merkle_file.proofs.Nodes.{node_again}
 use Rattle.refusals.specs.declared.refusal.Refusal.{Refusal}
-use Rattle.refusals.specs.declared.refusal.Refusal.TheVariants.{Clash, Corrupt, Damaged, Missing}
+use Rattle.refusals.specs.declared.refusal.Refusal.TheVariants.{Clash, Corrupt, Damaged, Missing, Numbers}
 use Rattle.store_model.specs.Files.{Files}
 use Rattle.store_model.specs.Image.{Store}
 use Rattle.store_model.specs.Indexing.{entry_key}
@@ -42,13 +42,17 @@ use Rattle.store_model.proofs.Freed.{slot_held}
 use Rattle.store_model.proofs.HeldSlots.{IsNodeEntry, have_levels, newest_so, nodes_so}
 use Rattle.store_model.proofs.Lookups.{finds}
 use Rattle.store_state.specs.Tables.{Represents}
-use Rattle.store_state.specs.declared.slot_table.SlotTable.{SlotTable}
 use Rattle.store_state.specs.declared.tables.Tables.{Tables}
 use Rattle.gc_steps.specs.declared.collection.Collection.{Collection}
 use Rattle.gc_steps.specs.declared.collection.Stage.{Stage}
 use Rattle.gc_steps.specs.declared.collection.Stage.TheVariants as stages
-use Rattle.gc_steps.specs.Copying.{IsSourceRefusal, IsTakeRefusal}
 use Rattle.copy_forward.specs.Entries.{IsHeaderRefusal}
+use Rattle.gc_sweep.specs.declared.sweep.Next.{Next}
+use Rattle.gc_sweep.specs.declared.sweep.Next.TheVariants as nexts
+use Rattle.gc_sweep.specs.Flushing.{IsFlushStepRefusal}
+use Rattle.gc_sweep.proofs.CopyFailures.{IsFailure, copying_fails, flushing_fails}
+use Rattle.gc_sweep.proofs.InSlots.{old_id}
+use Rattle.gc_steps.specs.Filtering.{IsRecordRefusal}
 use Rattle.gc_steps.specs.Marking.{IsEntriesFault, IsMarkRefusal, scan_for}
 use Rattle.gc_steps.specs.MarksAreClosed.{MarksAreClosed}
 use Rattle.gc_steps.specs.Scanning.{ShowsAt, step_refusal}
@@ -57,7 +61,6 @@ use Rattle.gc_steps.specs.Stages.{is_old_slot}
 use Rattle.gc_steps.specs.Stepping.{IsStepRefusal, moment}
 use Rattle.gc_steps.specs.UnderWay.{HasStage, IsUnderWay}
 use Rattle.gc_steps.proofs.NoneMissing.{never_missing}
-use Rattle.gc_steps.proofs.UnderWay.{old_not_zero}
 
 -- a refusal tells of no damage, and of nothing that is missing
 abbrev pub IsClean : Refusal → Type 0
@@ -71,6 +74,23 @@ IsClean refusal = Unit {0}
 abbrev pub IsMarked : PlaceMap → Store → List Part → List ℕ → Collection → Stage → Type 0
 IsMarked index store parts image c (stages.Mark level slot) = MarksAreClosed index store parts image c
 IsMarked index store parts image c stage = Unit {0}
+
+-- where memory or the disk failed it tells of none
+failure_clean : (refusal : Refusal) → IsFailure refusal → IsClean refusal
+failure_clean (Corrupt slot offset count want got) is = is
+failure_clean (Missing key) is = is
+failure_clean (Damaged at why) is = is
+failure_clean (Clash key at) is = is
+failure_clean refusal is = tt
+
+-- nor where what was copied is not written
+flush_clean : (index : PlaceMap) (t : Tables) (refusal : Refusal) → IsFlushStepRefusal t (Some index) refusal → IsClean refusal
+flush_clean index t Numbers is = tt
+flush_clean index t (Corrupt slot offset count want got) is = flushing_fails index t (Corrupt slot offset count want got) (λ same. cc) is
+flush_clean index t (Missing key) is = flushing_fails index t (Missing key) (λ same. cc) is
+flush_clean index t (Damaged at why) is = flushing_fails index t (Damaged at why) (λ same. cc) is
+flush_clean index t (Clash key at) is = flushing_fails index t (Clash key at) (λ same. cc) is
+flush_clean index t refusal is = tt
 
 -- ---- a slot has a container where it has an id
 
@@ -141,21 +161,14 @@ module _ (index : PlaceMap) (store : Store) (files : Files) (image : List ℕ) (
   header_clean slot (Clash key at) has is = is
   header_clean slot refusal has is = tt
 
-  -- so a container is looked through
-  source_clean : (slot : ℕ) (refusal : Refusal) → HasHeader store.held slot → IsSourceRefusal (Some index) old new slot refusal → IsClean refusal
-  source_clean slot (Corrupt at offset count want got) has is = is
-  source_clean slot (Missing key) has is = is
-  source_clean slot (Damaged at why) has (inl header) = header_right slot why has header.1
-  source_clean slot (Damaged at why) has (inr unknown) = map_known unknown
-  source_clean slot (Clash key at) has is = is
-  source_clean slot refusal has is = tt
-
-  take_clean : (t : SlotTable) (id : ℕ) (refusal : Refusal) → ((slot : ℕ) → get_or t.ids.items slot 0 ≡ id → HasHeader store.held slot) → IsTakeRefusal t (Some index) old new id refusal → IsClean refusal
-  take_clean t id (Corrupt at offset count want got) has is = is.2
-  take_clean t id (Missing key) has is = is.2
-  take_clean t id (Damaged at why) has is = source_clean is.0 (Damaged at why) (has is.0 is.1) is.2
-  take_clean t id (Clash key at) has is = is.2
-  take_clean t id refusal has is = tt
+  -- so a container is recorded
+  record_clean : (slot : ℕ) (refusal : Refusal) → HasHeader store.held slot → IsRecordRefusal (Some index) old new slot refusal → IsClean refusal
+  record_clean slot (Corrupt at offset count want got) has is = is
+  record_clean slot (Missing key) has is = is
+  record_clean slot (Damaged at why) has (inl header) = header_right slot why has header.1
+  record_clean slot (Damaged at why) has (inr unknown) = map_known unknown
+  record_clean slot (Clash key at) has is = is
+  record_clean slot refusal has is = tt
 
   -- ---- an entry that is to be scanned
 
@@ -216,23 +229,26 @@ module _ (index : PlaceMap) (store : Store) (files : Files) (image : List ℕ) (
     old_has : (slot id : ℕ) → get_or t.held.ids.items slot 0 ≡ id → is_old c.snapshot id ≡ true → HasHeader store.held slot
     old_has slot id is was =
         header_there store.held slot
-        (λ none. old_not_zero c.snapshot id was (sym is ∙ ap (λ (ids : List ℕ). get_or ids slot 0) represents.slots_hold.ids_are ∙ none))
+        (λ none. (old_id c.snapshot id was).0 (sym is ∙ ap (λ (ids : List ℕ). get_or ids slot 0) represents.slots_hold.ids_are ∙ none))
 
-    by_stage : (stage : Stage) (refusal : Refusal) → HasStage t.held c stage → IsMarked index store parts image c stage → IsStepRefusal stage (moment t (Some index) old c) new refusal → IsClean refusal
-    by_stage (stages.Mark level slot) refusal has closed is =
+    by_stage : (stage : Stage) (next : Next) (refusal : Refusal) → c.sweep.next ≡ next → HasStage t.held c stage → IsMarked index store parts image c stage
+        → IsStepRefusal stage next (moment t (Some index) old c) new refusal → IsClean refusal
+    by_stage (stages.Mark level slot) next refusal at has closed is =
         let was = first_true (is_old_slot c.snapshot t.held slot) _ has.2.1 in
         mark_clean parts t level slot c represents closed has.0 refusal (old_has slot _ refl was) is
-    by_stage (stages.Filter slot) refusal has closed is = source_clean slot refusal (old_has slot _ refl has.0.1) is
-    by_stage stages.Select refusal has closed is = subst IsClean (sym is) tt
-    by_stage (stages.Copy source) refusal has closed is =
-        take_clean t.held (get_or c.sources.items source 0) refusal
-        (λ slot id_is. old_has slot (get_or c.sources.items source 0) id_is (has.1.old source (omega arith) has.0)) is
-    by_stage (stages.Release next slot) refusal has closed is = subst IsClean (sym is) tt
-    by_stage stages.End refusal has closed is = absurd is
+    by_stage (stages.Filter slot) next refusal at has closed is = record_clean slot refusal (old_has slot _ refl has.0.1) is
+    by_stage stages.Select next refusal at has closed is = subst IsClean (sym is) tt
+    by_stage stages.Sweep (nexts.Copy source entry) refusal at has closed is =
+        failure_clean refusal
+        (copying_fails index store.held image holds.right.slots_are holds.copies partial old new content t.held c.live c.snapshot source entry c.sweep represents.slots_hold has at refusal is)
+    by_stage stages.Sweep (nexts.Flush source entry) refusal at has closed is = flush_clean index t refusal is
+    by_stage stages.Sweep (nexts.Release source entry) refusal at has closed is = subst IsClean (sym is) tt
+    by_stage stages.Sweep nexts.End refusal at has closed is = absurd is
 
--- The next step of a collection that is under way finds no damage, neither of a header, nor of a node, nor of the index, and misses no key.
+-- The next step of a collection that is under way finds no damage, neither of a header, nor of a node, nor of a copy, nor of the index, and misses
+-- no key.
 pub no_damage : (index : PlaceMap) (store : Store) (files : Files) (parts : List Part) (image : List ℕ) (t : Tables) (old new : DiskView) (c : Collection) (refusal : Refusal) → IsStoreOf store files image
     → Represents store (Some index) t → old.content ≡ Some image → IsUnderWay t.held c → IsMarked index store parts image c c.stage
-    → IsStepRefusal c.stage (moment t (Some index) old c) new refusal → IsClean refusal
+    → IsStepRefusal c.stage c.sweep.next (moment t (Some index) old c) new refusal → IsClean refusal
 no_damage index store files parts image t old new c refusal holds represents content under closed is =
-    by_stage index store files image holds (represents.index_is_newest index refl) old new content parts t c represents c.stage refusal under.stage_is closed is
+    by_stage index store files image holds (represents.index_is_newest index refl) old new content parts t c represents c.stage c.sweep.next refusal refl under.stage_is closed is

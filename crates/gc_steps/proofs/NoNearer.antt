@@ -11,8 +11,9 @@ use Rattle.store_state.specs.declared.slot_table.SlotTable.{SlotTable}
 use Rattle.store_state.proofs.Taken.{counts_with, ids_with}
 use Rattle.gc_steps.specs.declared.collection.Collection.{Collection}
 use Rattle.gc_steps.specs.declared.collection.Stage.{Stage}
-use Rattle.gc_steps.specs.declared.collection.Stage.TheVariants.{Mark, Filter, Select, Copy, Release, End}
+use Rattle.gc_steps.specs.declared.collection.Stage.TheVariants.{Mark, Filter, Select, Sweep}
 use Rattle.gc_sweep.specs.UnderWay.{is_old}
+use Rattle.gc_sweep.proofs.Taken.{closed_slot, slice_get-set}
 use Rattle.gc_steps.specs.Stages.{is_old_slot, is_tree, is_tree_slot}
 use Rattle.gc_steps.specs.StepsToCome.{count_from, old_from, steps_at, steps_to_come}
 use Rattle.gc_steps.specs.UnderWay.{IsUnderWay}
@@ -44,13 +45,6 @@ get_set : (ids : List ℕ) (slot id : ℕ) → slot < length ids → get_or (set
 get_set [] slot id within = absurd (omega (arith, within))
 get_set (x ∷ xs) zero id within = refl
 get_set (x ∷ xs) (suc slot) id within = get_set xs slot id (omega (arith, within))
-
-slice_get-set : {X : Type 0} (xs : List X) (i j : ℕ) (x : X) → j ≢ i → slice_get (set xs i x) j ≡ slice_get xs j
-slice_get-set [] i j x other = refl
-slice_get-set (y ∷ ys) zero zero x other = absurd (other refl)
-slice_get-set (y ∷ ys) zero (suc j) x other = refl
-slice_get-set (y ∷ ys) (suc i) zero x other = refl
-slice_get-set (y ∷ ys) (suc i) (suc j) x other = slice_get-set ys i j x (λ same. other (ap suc same))
 
 module _ (t now : SlotTable) (snapshot slot id : ℕ) (count : SlotCount) (closed : get_or t.ids.items slot 0 ≡ 0) (within : slot < length t.ids.items) (above : snapshot ≤ id)
     (ids_are : now.ids.items ≡ set t.ids.items slot id) (counts_are : now.counts.items ≡ set t.counts.items slot count) where
@@ -99,23 +93,14 @@ module _ (t now : SlotTable) (snapshot slot id : ℕ) (count : SlotCount) (close
   steps_same chosen c at (Mark level other) = subst (λ (s : ℕ). (let d : Collection = record c { snapshot = s } in steps_at chosen now d (Mark level other) ≡ steps_at chosen t d (Mark level other))) (sym at) (
       let old = count_on (is_old_slot snapshot now) (is_old_slot snapshot t) old_same 0 in
       let tree = count_on (is_tree_slot snapshot now) (is_tree_slot snapshot t) tree_same in
-      ap (λ (n : ℕ). n + (level - 1) * count_from (is_tree_slot snapshot now) 0 (length now.ids.items - 0) + (count_from (is_old_slot snapshot now) 0 (length now.ids.items - 0) + 1 + 2 * chosen)) (tree other)
-      ∙ ap (λ (n : ℕ). count_from (is_tree_slot snapshot t) other (length t.ids.items - other) + (level - 1) * n + (count_from (is_old_slot snapshot now) 0 (length now.ids.items - 0) + 1 + 2 * chosen)) (tree 0)
-      ∙ ap (λ (n : ℕ). count_from (is_tree_slot snapshot t) other (length t.ids.items - other) + (level - 1) * count_from (is_tree_slot snapshot t) 0 (length t.ids.items - 0) + (n + 1 + 2 * chosen)) old
+      ap (λ (n : ℕ). n + (level - 1) * count_from (is_tree_slot snapshot now) 0 (length now.ids.items - 0) + (count_from (is_old_slot snapshot now) 0 (length now.ids.items - 0) + 1 + 4 * chosen)) (tree other)
+      ∙ ap (λ (n : ℕ). count_from (is_tree_slot snapshot t) other (length t.ids.items - other) + (level - 1) * n + (count_from (is_old_slot snapshot now) 0 (length now.ids.items - 0) + 1 + 4 * chosen)) (tree 0)
+      ∙ ap (λ (n : ℕ). count_from (is_tree_slot snapshot t) other (length t.ids.items - other) + (level - 1) * count_from (is_tree_slot snapshot t) 0 (length t.ids.items - 0) + (n + 1 + 4 * chosen)) old
       )
   steps_same chosen c at (Filter other) = subst (λ (s : ℕ). (let d : Collection = record c { snapshot = s } in steps_at chosen now d (Filter other) ≡ steps_at chosen t d (Filter other))) (sym at)
-      (ap (λ (n : ℕ). n + 1 + 2 * chosen) (count_on (is_old_slot snapshot now) (is_old_slot snapshot t) old_same other))
+      (ap (λ (n : ℕ). n + 1 + 4 * chosen) (count_on (is_old_slot snapshot now) (is_old_slot snapshot t) old_same other))
   steps_same chosen c at Select = refl
-  steps_same chosen c at (Copy source) = refl
-  steps_same chosen c at (Release source other) = refl
-  steps_same chosen c at End = refl
-
-closed_slot : (held : List (Option HeaderValue)) (slot : ℕ) → slice_get held slot ≡ Some None → get_or (ids_held held) slot 0 ≡ 0
-closed_slot [] slot is = refl
-closed_slot (None ∷ cs) zero is = refl
-closed_slot (Some h ∷ cs) zero is = absurd cc
-closed_slot (None ∷ cs) (suc slot) is = closed_slot cs slot is
-closed_slot (Some h ∷ cs) (suc slot) is = closed_slot cs slot is
+  steps_same chosen c at Sweep = refl
 
 many_ids : (held : List (Option HeaderValue)) → length (ids_held held) ≡ length held
 many_ids [] = refl

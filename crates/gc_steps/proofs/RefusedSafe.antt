@@ -1,13 +1,13 @@
 -- What a refusal of a step of a collection leaves, that is no failed write: it is safe, as are the store and its index.
-use Rattle.std.proofs.Common.{◌≡◌, ◌⊎◌, inl, inr, ℕ, List, Option, Some, refl, sym, ◌∙◌, ap, subst}
+use Rattle.std.proofs.Common.{◌≡◌, ◌⊎◌, ◌+◌, inl, inr, ℕ, List, Option, Some, refl, sym, ◌∙◌, ap, subst}
 use Rattle.actor_parts.specs.declared.part.Part.{Part}
 use Rattle.container_meta.specs.Places.{PlaceMap}
-use Rattle.dd_disk.specs.Ending.{Ending}
+use Rattle.dd_disk.specs.Ending.{Ending, Refused, Unread, ending_of}
 use Rattle.dd_disk.specs.Moves.{StandsFor}
 use Rattle.dd_disk.specs.View.{DiskView, OnlyReads}
 use Rattle.disk_format.specs.Layout.{slot_at}
 use Rattle.refusals.specs.declared.refusal.Refusal.{Refusal}
-use Rattle.refusals.specs.declared.refusal.Refusal.TheVariants.{Memory, DiskWrite, Damaged}
+use Rattle.refusals.specs.declared.refusal.Refusal.TheVariants.{Memory, DiskRead, DiskWrite, Damaged, Numbers}
 use Rattle.segment_index.specs.Changes.{Changes}
 use Rattle.store_model.specs.Collisions.{ByteSet, IsIn, Stands}
 use Rattle.store_model.specs.Files.{Files}
@@ -19,8 +19,18 @@ use Rattle.store_state.specs.Tables.{Represents}
 use Rattle.store_state.specs.declared.tables.Tables.{Tables}
 use Rattle.gc_steps.specs.declared.collection.Collection.{Collection}
 use Rattle.gc_steps.specs.declared.collection.Stage.{Stage}
-use Rattle.gc_steps.specs.declared.collection.Stage.TheVariants.{Mark, Filter, Select, Copy as CopyStage, Release, End}
-use Rattle.gc_steps.specs.Copying.{MapStays}
+use Rattle.gc_steps.specs.declared.collection.Stage.TheVariants.{Mark, Filter, Select, Sweep}
+use Rattle.copy_forward.specs.Entries.{MapStays}
+use Rattle.ingest_steps.specs.Sealing.{FitBeside, KeepsMap, SealsIndexed}
+use Rattle.store_model.specs.Steps.{MaySeal}
+use Rattle.std.specs.List.{AllByRecursion}
+use Rattle.store_state.specs.Refused.{blames}
+use Rattle.gc_sweep.specs.declared.sweep.Next.{Next}
+use Rattle.gc_sweep.specs.declared.sweep.Next.TheVariants.{Copy as CopyNext, Flush, Release, End}
+use Rattle.gc_sweep.specs.Flushing.{IsFlushStepRefusal}
+use Rattle.gc_sweep.specs.Holding.{HoldsSweep, SourcesStand}
+use Rattle.gc_sweep.proofs.HoldsRoom.{are_newest, may_flush}
+use Rattle.gc_steps.specs.SweepIsSafe.{HoldsAt, SweepIsSafe}
 use Rattle.gc_steps.specs.Marking.{KeepsMarks, MarksOnly}
 use Rattle.gc_steps.specs.MarksAreClosed.{MarksAreClosed}
 use Rattle.gc_steps.specs.Safety.{IsSafe, IsSafeAt}
@@ -90,18 +100,68 @@ module _ (index : PlaceMap) (store : Store) (files : Files) (parts : List Part) 
       marks_safe index store parts image d (refusal_keeps index store files parts image t old new level slot c d holds represents content is marks refusal keeps) (Mark level slot)
       (mark_stage level slot refusal keeps ∙ is) tt
 
-  by_stage : (stage : Stage) → c.stage ≡ stage → (e : Ending) (refusal : Refusal) → (refusal ≡ DiskWrite → ⊥) → IsSafe index store parts image c → IsSafeAt stage index store parts image c
-      → IsStepRefusal stage (moment t (Some index) old c) new refusal → Keeps stage (moment t (Some index) old c) (moment t known new d) refusal → Touches stage t e old new → Stays
-  by_stage (Mark level slot) is e refusal other safe marks cause keeps touches = stays_read keeps.1 touches.only (mark_safe level slot refusal is marks keeps.0)
-  by_stage (Filter slot) is e refusal other safe sweep cause keeps touches = stays_read keeps.1 touches.only (same_safe safe keeps.0)
-  by_stage Select is e refusal other safe sweep cause keeps touches = stays_read keeps.1 touches.only (same_safe safe keeps.0)
-  by_stage (CopyStage source) is e refusal other safe sweep cause keeps touches =
+  -- copies were not written
+  module _ (stage_is : c.stage ≡ Sweep) (safe : SweepIsSafe index store parts image c) where
+    was_held : HoldsSweep index store.held image c.live c.snapshot c.sweep
+    was_held =
+        let both : SourcesStand store.held c.snapshot c.sweep × HoldsSweep index store.held image c.live c.snapshot c.sweep = subst (λ (s : Stage). HoldsAt s index store.held image c) stage_is safe.sweep_holds in both.1
+
+    abbrev Writes : Ending → Type 0
+    Writes e = SealsIndexed t (t.held.last_id + 1) c.sweep.buffer e old new
+
+    abbrev Rests : Type 0
+    Rests = StandsFor (Stands (IsIn among) store files) new × Newest
+
+    here : Stands (IsIn among) store files image
+    here = stands.each image (old.as_read image content)
+
+    may : AllByRecursion (MaySeal (IsIn among) c.sweep.buffer.kind) c.sweep.buffer.segments
+    may = may_flush index store.held image c.live c.snapshot c.sweep was_held (IsIn among) here.holds.nodes here.among
+
+    fit : FitBeside (IsIn among) index c.sweep.buffer.kind c.sweep.buffer.segments store image
+    fit = inr (inr (are_newest index store.held image c.live c.snapshot c.sweep was_held))
+
+    still : OnlyReads old new ⊎ StandsFor (Stands (IsIn among) store files) new → StandsFor (Stands (IsIn among) store files) new
+    still (inl reads) = read_stands store files image now old new among content content_now stands reads
+    still (inr stands_now) = stands_now
+
+    rest_refused : Writes Refused → Rests
+    rest_refused moves = (
+      still (moves.moves among store (Some index) index files image represents content may core.files_are_indexed fit stands).arrives,
+      λ key level bytes has. moves.holds among store (Some index) index files image now represents content content_now here may fit key level bytes tt has,
+    )
+
+    rest_unread : Writes Unread → Rests
+    rest_unread moves = (
+      still (moves.moves among store (Some index) index files image represents content may core.files_are_indexed fit stands).arrives,
+      λ key level bytes has. moves.holds among store (Some index) index files image now represents content content_now here may fit key level bytes tt has,
+    )
+
+    rests : (refusal : Refusal) → (refusal ≡ DiskWrite → ⊥) → IsFlushStepRefusal t (Some index) refusal → KeepsMap (Some index) known refusal → Writes (ending_of (blames refusal)) → (known ≡ Some index) × Rests
+    rests Memory other cause map moves = (map, rest_refused moves)
+    rests Numbers other cause map moves = (map, rest_refused moves)
+    rests DiskRead other cause map moves = (map, rest_unread moves)
+    rests DiskWrite other cause map moves = absurd (other refl)
+    rests (Damaged at why) other cause map moves = absurd (let wrong = cause.1 in cc)
+    rests _ other cause map moves = absurd cause.1
+
+  by_stage : (stage : Stage) (next : Next) → c.stage ≡ stage → (refusal : Refusal) → (refusal ≡ DiskWrite → ⊥) → IsSafe index store parts image c → IsSafeAt stage index store parts image c
+      → IsStepRefusal stage next (moment t (Some index) old c) new refusal → Keeps stage next (moment t (Some index) old c) (moment t known new d) refusal
+      → Touches stage next c.sweep t (ending_of (blames refusal)) old new → Stays
+  by_stage (Mark level slot) next is refusal other safe marks cause keeps touches = stays_read keeps.1 touches.only (mark_safe level slot refusal is marks keeps.0)
+  by_stage (Filter slot) next is refusal other safe sweep cause keeps touches = stays_read keeps.1 touches.only (same_safe safe keeps.0)
+  by_stage Select next is refusal other safe sweep cause keeps touches = stays_read keeps.1 touches.only (same_safe safe keeps.0)
+  by_stage Sweep (CopyNext source entry) is refusal other safe sweep cause keeps touches =
+      let e : Ending = ending_of (blames refusal) in
       let changes : Changes (slot_at store.slots) e old new = touches store.slots valid.size_is in
       stays (map_stays index known refusal other keeps.1) (changed_stands store files image now old new among content content_now stands e changes)
       (changed_keeps store files image now old new among content content_now stands e changes) (same_safe safe keeps.0)
-  by_stage (Release next slot) is e refusal other safe sweep cause keeps touches = absurd (other cause)
-  by_stage End is e refusal other safe sweep cause keeps touches = absurd cause
+  by_stage Sweep (Flush source entry) is refusal other safe sweep cause keeps touches =
+      let so = rests is sweep refusal other cause keeps.1 touches.1 in stays so.0 so.1.0 so.1.1 (same_safe safe keeps.0)
+  by_stage Sweep (Release source entry) is refusal other safe sweep cause keeps touches = absurd (other cause)
+  by_stage Sweep End is refusal other safe sweep cause keeps touches = absurd cause
 
-  pub refused_safe : (e : Ending) (refusal : Refusal) → (refusal ≡ DiskWrite → ⊥) → IsSafe index store parts image c → IsStepRefusal c.stage (moment t (Some index) old c) new refusal
-      → Keeps c.stage (moment t (Some index) old c) (moment t known new d) refusal → Touches c.stage t e old new → StaysSafe index store files parts image now among known new d
-  refused_safe e refusal other safe cause keeps touches = by_stage c.stage refl e refusal other safe safe cause keeps touches
+  pub refused_safe : (refusal : Refusal) → (refusal ≡ DiskWrite → ⊥) → IsSafe index store parts image c → IsStepRefusal c.stage c.sweep.next (moment t (Some index) old c) new refusal
+      → Keeps c.stage c.sweep.next (moment t (Some index) old c) (moment t known new d) refusal → Touches c.stage c.sweep.next c.sweep t (ending_of (blames refusal)) old new
+      → StaysSafe index store files parts image now among known new d
+  refused_safe refusal other safe cause keeps touches = by_stage c.stage c.sweep.next refl refusal other safe safe cause keeps touches

@@ -18,14 +18,14 @@ use Rattle.store_state.specs.declared.slot_table.SlotTable.{SlotTable}
 use Rattle.store_state.specs.declared.tables.Tables.{Tables}
 use Rattle.gc_steps.specs.declared.collection.Collection.{Collection}
 use Rattle.gc_steps.specs.declared.collection.Stage.{Stage}
-use Rattle.gc_steps.specs.declared.collection.Stage.TheVariants.{Mark, Filter, Select, Copy, Release, End}
+use Rattle.gc_steps.specs.declared.collection.Stage.TheVariants.{Mark, Filter, Select, Sweep}
 use Rattle.gc_steps.specs.FewSources.{IsToChoose}
-use Rattle.gc_steps.specs.LiveTrees.{IsLive}
+use Rattle.gc_sweep.specs.Holding.{IsLive}
 use Rattle.gc_steps.specs.MarksAreClosed.{MarksAreClosed, NewAreLive, WasScanned}
 use Rattle.gc_steps.specs.Roots.{IsRoot}
 use Rattle.gc_steps.specs.Safety.{IsSafe, IsSafeAt}
 use Rattle.gc_steps.specs.Stages.{filter_at, filter_from, first_slot, is_old_slot, is_tree_slot, mark_at, mark_from, mark_level, mark_on}
-use Rattle.gc_steps.specs.SweepIsSafe.{ReleasesReady, SweepIsSafe}
+use Rattle.gc_steps.specs.SweepIsSafe.{HoldsAt, SweepIsSafe}
 use Rattle.gc_steps.proofs.Carried.{KeepsBoth}
 use Rattle.gc_steps.proofs.MarkedAll.{marked_all}
 use Rattle.gc_steps.proofs.Started.{started}
@@ -60,17 +60,15 @@ module _ (snapshot : ℕ) (t : SlotTable) where
 module _ (index : PlaceMap) (store : Store) (parts : List Part) (image : List ℕ) where
   -- closed marks, while it marks and right after it
   module _ (c : Collection) (marks : MarksAreClosed index store parts image c) where
-    over : ((level slot : ℕ) → WasScanned c.stage level slot) → ReleasesReady index store.held c.snapshot c.stage → SweepIsSafe index store parts image c
-    over scanned ready = marked_all index store parts image c scanned ready marks
+    over : ((level slot : ℕ) → WasScanned c.stage level slot) → HoldsAt c.stage index store.held image c → SweepIsSafe index store parts image c
+    over scanned sweep = marked_all index store parts image c scanned sweep marks
 
     marks_at : (stage : Stage) → c.stage ≡ stage → IsToChoose stage → IsSafeAt stage index store parts image c
     marks_at (Mark level slot) is early = marks
     marks_at (Filter slot) is early =
-        over (λ l s. subst (λ (x : Stage). WasScanned x l s) (sym is) tt) (subst (λ (x : Stage). ReleasesReady index store.held c.snapshot x) (sym is) tt)
-    marks_at Select is early = over (λ l s. subst (λ (x : Stage). WasScanned x l s) (sym is) tt) (subst (λ (x : Stage). ReleasesReady index store.held c.snapshot x) (sym is) tt)
-    marks_at (Copy source) is early = absurd early
-    marks_at (Release next slot) is early = absurd early
-    marks_at End is early = absurd early
+        over (λ l s. subst (λ (x : Stage). WasScanned x l s) (sym is) tt) (subst (λ (x : Stage). HoldsAt x index store.held image c) (sym is) tt)
+    marks_at Select is early = over (λ l s. subst (λ (x : Stage). WasScanned x l s) (sym is) tt) (subst (λ (x : Stage). HoldsAt x index store.held image c) (sym is) tt)
+    marks_at Sweep is early = absurd early
 
     pub marks_safe : (stage : Stage) → c.stage ≡ stage → IsToChoose stage → IsSafe index store parts image c
     marks_safe stage is early = marks_at c.stage refl (subst IsToChoose (sym is) early)
@@ -80,20 +78,18 @@ module _ (index : PlaceMap) (store : Store) (parts : List Part) (image : List �
   sweep_at c (Mark level slot) none safe = absurd (none level slot refl)
   sweep_at c (Filter slot) none safe = safe
   sweep_at c Select none safe = safe
-  sweep_at c (Copy source) none safe = safe
-  sweep_at c (Release next slot) none safe = safe
-  sweep_at c End none safe = safe
+  sweep_at c Sweep none safe = safe
 
   pub sweep_safe : (c : Collection) → ((level slot : ℕ) → c.stage ≡ Mark level slot → ⊥) → SweepIsSafe index store parts image c → IsSafe index store parts image c
   sweep_safe c none safe = sweep_at c c.stage none safe
 
   -- another stage, of the same live keys and the same snapshot
-  pub restaged : (c after : Collection) → after.live ≡ c.live → after.snapshot ≡ c.snapshot → ReleasesReady index store.held after.snapshot after.stage → SweepIsSafe index store parts image c
+  pub restaged : (c after : Collection) → after.live ≡ c.live → after.snapshot ≡ c.snapshot → HoldsAt after.stage index store.held image after → SweepIsSafe index store parts image c
       → SweepIsSafe index store parts image after
-  restaged c after live snapshot ready safe = record {
+  restaged c after live snapshot sweep safe = record {
     roots_are_live = λ key root. on key (safe.roots_are_live key root);
     live_is_closed = λ n copy holds is. all_on n (safe.live_is_closed n copy holds (subst (λ (l : LiveKeys). IsLive index l (node_key n)) live is));
-    releases_ready = ready;
+    sweep_holds = sweep;
     new_are_live = subst (λ (l : LiveKeys). NewAreLive index l after.snapshot store.held) (sym live) (subst (λ (s : ℕ). NewAreLive index c.live s store.held) (sym snapshot) safe.new_are_live);
   }
     where
@@ -120,6 +116,4 @@ others_safe index later s t before after old new c d keeps same safe = subst (λ
     by_stage (Mark level slot) marks = keeps.0 marks
     by_stage (Filter slot) sweep = keeps.1 sweep
     by_stage Select sweep = keeps.1 sweep
-    by_stage (Copy source) sweep = keeps.1 sweep
-    by_stage (Release next slot) sweep = keeps.1 sweep
-    by_stage End sweep = keeps.1 sweep
+    by_stage Sweep sweep = keeps.1 sweep

@@ -32,7 +32,8 @@ use Rattle.store_state.specs.declared.tables.Tables.{Tables}
 use Rattle.gc_steps.specs.declared.collection.Collection.{Collection}
 use Rattle.gc_steps.specs.declared.collection.Stage.{Stage}
 use Rattle.gc_steps.specs.declared.collection.Stage.TheVariants.{Mark}
-use Rattle.gc_steps.specs.LiveTrees.{HoldsNode, IsLive, IsWhole}
+use Rattle.gc_sweep.specs.Holding.{IsLive}
+use Rattle.gc_steps.specs.LiveTrees.{HoldsNode, IsWhole}
 use Rattle.gc_steps.specs.Marking.{KeepsMarks, MarksOnly, Scans, ScansEntries, ScansSome, scan_for}
 use Rattle.gc_steps.specs.MarksAreClosed.{IsPassed, MarksAreClosed, WasScanned}
 use Rattle.gc_steps.specs.Scanning.{ShowsAt}

@@ -1,22 +1,22 @@
 -- A container that is sealed while a collection is under way leaves it so.
-use Rattle.std.proofs.Common.{◌≡◌, ◌≢◌, ℕ, zero, suc, ◌<◌, ◌≤◌, max, Bool, true, false, cond, List, [], ◌∷◌, length, get_or, take, set, Option, Some, None, refl, sym, ◌∙◌, ap, subst, arith}
-use Rattle.std.specs.Prelude.{Contains, nat_eq, nat_lt, ◌&&◌, not, ◌==◌, slice_get}
+use Rattle.std.proofs.Common.{◌≡◌, ◌≢◌, ℕ, zero, suc, ◌<◌, ◌≤◌, max, Bool, true, false, cond, List, [], ◌∷◌, length, get_or, take, set, Option, Some, refl, sym, ◌∙◌, ap, subst, arith}
+use Rattle.std.specs.Prelude.{nat_eq, nat_lt, ◌&&◌, not, ◌==◌, slice_get}
 use Rattle.std.specs.List.{IsDistinct}
 use Rattle.std.proofs.lemmas.Bool.{ltb-true}
 use Rattle.std.proofs.lemmas.List.{get_or-set_other, length-set, take_all}
-use Rattle.container_meta.specs.Spelling.{HeaderValue}
-use Rattle.store_model.specs.Slots.{with_slot, ids_of as ids_held}
+use Rattle.container_meta.specs.Spelling.{HeaderValue, IsHeader}
+use Rattle.disk_format.specs.declared.numbers.TheConstants.{RESERVE}
+use Rattle.store_model.specs.Slots.{AreHeaders, with_slot}
 use Rattle.store_state.specs.Tables.{IsFirstFree, RepresentsSlots, count_of}
 use Rattle.store_state.specs.declared.slot_table.SlotCount.{SlotCount}
 use Rattle.store_state.specs.declared.slot_table.SlotTable.{SlotTable}
-use Rattle.store_state.proofs.Taken.{counts_with, ids_with}
 use Rattle.gc_steps.specs.declared.collection.Collection.{Collection}
 use Rattle.gc_steps.specs.declared.collection.Stage.{Stage}
-use Rattle.gc_steps.specs.declared.collection.Stage.TheVariants.{Mark, Filter, Select, Copy, Release, End}
-use Rattle.gc_sweep.specs.UnderWay.{is_old}
+use Rattle.gc_steps.specs.declared.collection.Stage.TheVariants.{Mark, Filter, Select, Sweep}
+use Rattle.gc_sweep.specs.UnderWay.{IsSweeping, free_in, is_old}
 use Rattle.gc_steps.specs.Stages.{is_old_slot, is_tree, is_tree_slot}
-use Rattle.gc_steps.specs.UnderWay.{AreSourcesLeft, HasStage, IsSlot, IsUnderWay, old_ids}
-use Rattle.gc_steps.proofs.UnderWay.{contains_set, old_not_zero}
+use Rattle.gc_steps.specs.UnderWay.{HasStage, IsSlot, IsUnderWay, old_ids}
+use Rattle.gc_sweep.proofs.Taken.{counts_set, free_less, ids_set, old_not_zero, sealed_by_other, slice_get-set, slot_closed}
 
 -- an id from the snapshot on is that of no container that was there
 not_old : (snapshot id : ℕ) → snapshot ≤ id → is_old snapshot id ≡ false
@@ -32,13 +32,6 @@ not_old snapshot id above = by_test (is_old snapshot id) refl
     by_test : (b : Bool) → is_old snapshot id ≡ b → b ≡ false
     by_test true old = absurd (omega (arith, above, ltb-true id snapshot (below old)))
     by_test false new = refl
-
-slice_get-set : {X : Type 0} (xs : List X) (i j : ℕ) (x : X) → j ≢ i → slice_get (set xs i x) j ≡ slice_get xs j
-slice_get-set [] i j x other = refl
-slice_get-set (y ∷ ys) zero zero x other = absurd (other refl)
-slice_get-set (y ∷ ys) zero (suc j) x other = refl
-slice_get-set (y ∷ ys) (suc i) zero x other = refl
-slice_get-set (y ∷ ys) (suc i) (suc j) x other = slice_get-set ys i j x (λ same. other (ap suc same))
 
 -- of the containers that were there, the same are in the first slots
 old_same : (snapshot : ℕ) (ids : List ℕ) (slot id n : ℕ) → get_or ids slot 0 ≡ 0 → is_old snapshot id ≡ false → old_ids snapshot (take n (set ids slot id)) ≡ old_ids snapshot (take n ids)
@@ -87,43 +80,31 @@ module _ (t now : SlotTable) (c : Collection) (slot id : ℕ) (count : SlotCount
             ∙ ap (λ (found : Option SlotCount). is_old_slot c.snapshot t other && is_tree found) count_same ∙ tree,
       )
 
-  left_same : (source : ℕ) → AreSourcesLeft t c.snapshot c.sources.items source → AreSourcesLeft now c.snapshot c.sources.items source
-  left_same source left = record {
-    once = left.once;
-    old = left.old;
-    there = λ i from within.
-        let differs : get_or t.ids.items slot 0 ≢ get_or c.sources.items i 0 = λ same. old_not_zero c.snapshot (get_or c.sources.items i 0) (left.old i from within) (sym same ∙ closed) in
-        subst (λ (ids : List ℕ). Contains ids (get_or c.sources.items i 0)) (sym ids_are) (contains_set t.ids.items slot id (get_or c.sources.items i 0) (left.there i from within) differs);
-  }
+  stage_same : RESERVE < free_in t → suc (free_in now) ≡ free_in t → (IsSweeping t c.snapshot c.sweep → IsSweeping now c.snapshot c.sweep) → (stage : Stage) → HasStage t c stage → HasStage now c stage
+  stage_same spare less sweeping (Mark level other) was = (was.0, was.1, tree_same other was.2, was.3, omega (arith, spare, less))
+  stage_same spare less sweeping (Filter other) was = (slot_same other was.0, was.1 ∙ sym (same_old other), omega (arith, spare, less))
+  stage_same spare less sweeping Select was = (
+    was.0 ∙ ap (old_ids c.snapshot) (take_all (length t.ids.items) t.ids.items (omega arith)) ∙ sym all_same ∙ ap (old_ids c.snapshot) (sym (take_all (length now.ids.items) now.ids.items (omega arith))),
+    omega (arith, spare, less),
+  )
+  stage_same spare less sweeping Sweep was = sweeping was
 
-  stage_same : (stage : Stage) → HasStage t c stage → HasStage now c stage
-  stage_same (Mark level other) was = (was.0, was.1, tree_same other was.2, was.3, was.4)
-  stage_same (Filter other) was = (slot_same other was.0, was.1 ∙ sym (same_old other), was.2)
-  stage_same Select was =
-      (was.0 ∙ ap (old_ids c.snapshot) (take_all (length t.ids.items) t.ids.items (omega arith)) ∙ sym all_same ∙ ap (old_ids c.snapshot) (sym (take_all (length now.ids.items) now.ids.items (omega arith))), was.1)
-  stage_same (Copy source) was = (was.0, left_same source was.1, was.2)
-  stage_same (Release source other) was = (was.0, left_same source was.1, was.2, slot_same other was.3, id_same other was.3.1 ∙ was.4)
-  stage_same End was = was
-
-  sealed_on : t.last_id ≤ now.last_id → IsUnderWay t c → IsUnderWay now c
-  sealed_on later under = record {
+  sealed_on : RESERVE < free_in t → suc (free_in now) ≡ free_in t → (IsSweeping t c.snapshot c.sweep → IsSweeping now c.snapshot c.sweep) → t.last_id ≤ now.last_id → IsUnderWay t c → IsUnderWay now c
+  sealed_on spare less sweeping later under = record {
     began = omega (arith, under.began, later);
     ids_differ = subst (IsDistinct nat_eq) (sym all_same) under.ids_differ;
-    stage_is = stage_same c.stage under.stage_is;
+    stage_is = stage_same spare less sweeping c.stage under.stage_is;
   }
 
--- a closed slot has no id
-closed_slot : (held : List (Option HeaderValue)) (slot : ℕ) → slice_get held slot ≡ Some None → get_or (ids_held held) slot 0 ≡ 0
-closed_slot [] slot is = refl
-closed_slot (None ∷ cs) zero is = refl
-closed_slot (Some h ∷ cs) zero is = absurd cc
-closed_slot (None ∷ cs) (suc slot) is = closed_slot cs slot is
-closed_slot (Some h ∷ cs) (suc slot) is = closed_slot cs slot is
+-- A container that is sealed into the first free slot under the next id, or a later one, beside the slots of the reserve.
+pub sealed : (held : List (Option HeaderValue)) (t now : SlotTable) (c : Collection) (slot : ℕ) (h : HeaderValue) → IsFirstFree slot held → AreHeaders held → IsHeader h → RepresentsSlots held t
+    → RepresentsSlots (with_slot slot h held) now → now.last_id ≡ max t.last_id h.id → t.last_id < h.id → RESERVE < free_in t → IsUnderWay t c → IsUnderWay now c
+sealed held t now c slot h free headers right was is last next spare under =
+    sealed_on t now c slot h.id (count_of (Some h)) (slot_closed held t now slot h free was is) (omega (arith, under.began, next)) (ids_set held t now slot h free was is)
+    (counts_set held t now slot h free was is) spare (free_less held t now slot h free was is headers right)
+    (λ sweeping. sealed_by_other held t now c.snapshot c.sweep slot h free headers right was is spare sweeping) (omega (arith, last)) under
 
--- A container that is sealed into the first free slot under the next id, or a later one.
-pub sealed : (held : List (Option HeaderValue)) (t now : SlotTable) (c : Collection) (slot : ℕ) (h : HeaderValue) → IsFirstFree slot held → RepresentsSlots held t → RepresentsSlots (with_slot slot h held) now
-    → now.last_id ≡ max t.last_id h.id → t.last_id < h.id → IsUnderWay t c → IsUnderWay now c
-sealed held t now c slot h free was is last next under =
-    sealed_on t now c slot h.id (count_of (Some h)) (ap (λ (ids : List ℕ). get_or ids slot 0) was.ids_are ∙ closed_slot held slot free.closed) (omega (arith, under.began, next))
-    (is.ids_are ∙ ids_with slot h held ∙ ap (λ (ids : List ℕ). set ids slot h.id) (sym was.ids_are))
-    (is.counts_are ∙ counts_with slot h held ∙ ap (λ (counts : List SlotCount). set counts slot (count_of (Some h))) (sym was.counts_are)) (omega (arith, last)) under
+-- So it leaves the slots of the reserve closed.
+pub room_on : (held : List (Option HeaderValue)) (t now : SlotTable) (slot : ℕ) (h : HeaderValue) → IsFirstFree slot held → AreHeaders held → IsHeader h → RepresentsSlots held t
+    → RepresentsSlots (with_slot slot h held) now → RESERVE < free_in t → RESERVE ≤ free_in now
+room_on held t now slot h free headers right was is spare = omega (arith, spare, free_less held t now slot h free was is headers right)

@@ -1,5 +1,5 @@
 -- A seal leaves both invariants of a collection, where the keys of what is sealed become live.
-use Rattle.std.proofs.Common.{◌≡◌, ◌≢◌, ◌⊎◌, ◌↔◌, ◌<◌, ◌+◌, inl, inr, ℕ, zero, suc, Bool, true, false, cond, List, [], ◌∷◌, length, map, get_or, option_map, Option, Some, None, refl, sym, ◌∙◌, ap, subst, arith}
+use Rattle.std.proofs.Common.{◌≡◌, ◌⊎◌, ◌↔◌, ◌<◌, ◌≤◌, ◌+◌, inl, inr, ℕ, zero, suc, Bool, true, false, cond, List, [], ◌∷◌, length, map, get_or, option_map, Option, Some, None, refl, sym, ◌∙◌, ap, subst, arith}
 use Rattle.std.specs.Prelude.{slice_get}
 use Rattle.std.specs.FinMap as finite
 use Rattle.std.specs.List.{All, Contains}
@@ -21,7 +21,7 @@ use Rattle.gc_enumerate.specs.Live.{LiveKeys}
 use Rattle.store_model.specs.Files.{Files}
 use Rattle.store_model.specs.Image.{Store}
 use Rattle.store_model.specs.Indexing.{entry_key}
-use Rattle.store_model.specs.Slots.{Copy, HasKey, IsPartialIndexOf, first_free, place_of, with_slot}
+use Rattle.store_model.specs.Slots.{Copy, HasKey, IsPartialIndexOf, first_free, free_slots, place_of, with_slot}
 use Rattle.store_model.specs.Standing.{IsStoreOf}
 use Rattle.store_model.specs.Steps.{CanSeal, KeepsCopies, with_sealed}
 use Rattle.store_model.proofs.Copies.{some_same}
@@ -30,11 +30,8 @@ use Rattle.store_model.proofs.Indexing.{entry_of}
 use Rattle.store_model.proofs.NewestSealed.{newest_with, newest_without}
 use Rattle.store_state.specs.Invariant.{CoreInvariant}
 use Rattle.gc_steps.specs.declared.collection.Collection.{Collection}
-use Rattle.gc_steps.specs.declared.collection.Stage.{Stage}
-use Rattle.gc_steps.specs.declared.collection.Stage.TheVariants.{Mark, Filter, Select, Copy as CopyStage, Release, End}
 use Rattle.gc_steps.specs.Roots.{IsPartKey, Marks}
-use Rattle.gc_steps.specs.SweepIsSafe.{IsReadySource, ReleasesReady}
-use Rattle.gc_steps.proofs.Carried.{KeepsBoth}
+use Rattle.gc_steps.proofs.Carried.{KeepsBoth, MovesBeside}
 use Rattle.gc_steps.proofs.GainedPins.{Grows, gained}
 use Rattle.gc_steps.proofs.Marked.{contains_first, contains_none}
 
@@ -45,7 +42,7 @@ IsSealedKey filled key = Contains (keys_of filled) key
 -- ---- its entry
 
 -- a key that an entry has is that of a segment
-key_found : (kind : Kind) (at : ℕ) (ss : List Segment) (key : List ℕ) (e : Entry) → entry_of kind (entries_from at ss) key ≡ Some e → Contains (map (segment_key kind) ss) key
+pub key_found : (kind : Kind) (at : ℕ) (ss : List Segment) (key : List ℕ) (e : Entry) → entry_of kind (entries_from at ss) key ≡ Some e → Contains (map (segment_key kind) ss) key
 key_found kind at [] key e found = absurd cc
 key_found kind at (s ∷ ss) key e found = by_test (bytes_eq (segment_key kind s) key) refl found (λ rest. key_found kind (at + length s.bytes) ss key e rest)
   where
@@ -75,7 +72,7 @@ key_lacking kind at (s ∷ ss) key none has =
     by_test false differ rest (inl same) others = absurd (let wrong : false ≡ true = sym differ ∙ (bytes_eq-Decides (segment_key kind s) key).1 (sym same) in cc)
 
 -- each entry has such a key
-entries_sealed : (kind : Kind) (at : ℕ) (ss : List Segment) → All (λ e. Contains (map (segment_key kind) ss) (entry_key kind e)) (entries_from at ss)
+pub entries_sealed : (kind : Kind) (at : ℕ) (ss : List Segment) → All (λ e. Contains (map (segment_key kind) ss) (entry_key kind e)) (entries_from at ss)
 entries_sealed kind at [] k d within = absurd (omega (arith, within))
 entries_sealed kind at (s ∷ ss) zero d within = in_head (segment_key kind s) (map (segment_key kind) ss)
 entries_sealed kind at (s ∷ ss) (suc k) d within =
@@ -84,28 +81,26 @@ entries_sealed kind at (s ∷ ss) (suc k) d within =
 
 -- ---- the slots
 
-with_there : (at : ℕ) (h : HeaderValue) (held : List (Option HeaderValue)) (slot : ℕ) (g : HeaderValue) → slice_get (with_slot at h held) slot ≡ Some (Some g) → (slice_get held slot ≡ Some (Some g)) ⊎ (h ≡ g)
+pub with_there : (at : ℕ) (h : HeaderValue) (held : List (Option HeaderValue)) (slot : ℕ) (g : HeaderValue) → slice_get (with_slot at h held) slot ≡ Some (Some g) → (slice_get held slot ≡ Some (Some g)) ⊎ (h ≡ g)
 with_there at h [] slot g is = absurd cc
 with_there zero h (c ∷ cs) zero g is = inr (some_same h g (some_same (Some h) (Some g) is))
 with_there zero h (c ∷ cs) (suc slot) g is = inl is
 with_there (suc at) h (c ∷ cs) zero g is = inl is
 with_there (suc at) h (c ∷ cs) (suc slot) g is = with_there at h cs slot g is
 
--- a container is in another slot than the first free one
-not_first : (held : List (Option HeaderValue)) (slot : ℕ) (g : HeaderValue) → slice_get held slot ≡ Some (Some g) → first_free held ≢ slot
-not_first [] slot g is = absurd cc
-not_first (None ∷ cs) zero g is = absurd (let wrong : None ≡ Some g = some_same None (Some g) is in cc)
-not_first (None ∷ cs) (suc slot) g is = λ same. omega (arith, same)
-not_first (Some h ∷ cs) zero g is = λ same. omega (arith, same)
-not_first (Some h ∷ cs) (suc slot) g is = λ same. not_first cs slot g is (omega (arith, same))
-
--- and stays there
+-- one that was there stays there
 stays_there : (h : HeaderValue) (held : List (Option HeaderValue)) (slot : ℕ) (g : HeaderValue) → slice_get held slot ≡ Some (Some g) → slice_get (with_slot (first_free held) h held) slot ≡ Some (Some g)
 stays_there h [] slot g is = absurd cc
 stays_there h (None ∷ cs) zero g is = absurd (let wrong : None ≡ Some g = some_same None (Some g) is in cc)
 stays_there h (None ∷ cs) (suc slot) g is = is
 stays_there h (Some x ∷ cs) zero g is = is
 stays_there h (Some x ∷ cs) (suc slot) g is = stays_there h cs slot g is
+
+-- the container is in that
+there_now : (h : HeaderValue) (held : List (Option HeaderValue)) → 1 ≤ free_slots held → slice_get (with_slot (first_free held) h held) (first_free held) ≡ Some (Some h)
+there_now h [] some = absurd (omega (arith, some))
+there_now h (None ∷ cs) some = refl
+there_now h (Some x ∷ cs) some = there_now h cs some
 
 -- ---- the index
 
@@ -155,34 +150,32 @@ module _ (store : Store) (id : ℕ) (filled : Contents) (can : CanSeal id filled
         let newest_is = newest_with 0 (first_free store.held) (header_of id filled.kind filled.segments) store.held key e (omega arith) (omega (arith, can.slot)) can.new_id found in
         ap (λ (p : Place). p.slot) (sym (some_same (place_of (first_free store.held) e) place (sym (ap (option_map (λ (c : Copy). c.place)) newest_is) ∙ partial key place has)))
 
-    -- a source that was ready is so still
-    ready_still : (snapshot next slot : ℕ) → IsReadySource index store.held snapshot next slot → IsReadySource later sealed_store.held snapshot next slot
-    ready_still snapshot next slot ready = record {
-      counted = ready.counted;
-      header = ready.header;
-      there = stays_there (header_of id filled.kind filled.segments) store.held slot ready.header ready.there;
-      came_before = ready.came_before;
-      is_empty = λ key place has. by_found key place has (entry_of filled.kind entries key) refl;
+    -- what the index has newly lies in the container
+    moves : (snapshot : ℕ) → snapshot ≤ id → MovesBeside index later store sealed_store snapshot
+    moves snapshot above = record {
+      places = λ key place has. by_found key place has (entry_of filled.kind entries key) refl;
+      stand = λ slot h there. stays_there (header_of id filled.kind filled.segments) store.held slot h there;
+      stood = λ slot h there old. by_slot slot h old (with_there (first_free store.held) (header_of id filled.kind filled.segments) store.held slot h there);
     }
       where
-        by_found : (key : List ℕ) (place : Place) → finite.get later key ≡ Some place → (found : Option Entry) → entry_of filled.kind entries key ≡ found → place.slot ≢ slot
-        by_found key place has None none = ready.is_empty key place (sym (others_same key (key_lacking filled.kind 0 filled.segments key none)) ∙ has)
-        by_found key place has (Some e) found = λ same. not_first store.held slot ready.header ready.there (sym (sealed_place key place e has found) ∙ same)
+        by_found : (key : List ℕ) (place : Place) → finite.get later key ≡ Some place → (found : Option Entry) → entry_of filled.kind entries key ≡ found
+            → (finite.get index key ≡ Some place) ⊎ ((h : HeaderValue) × ((slice_get sealed_store.held place.slot ≡ Some (Some h)) × (snapshot ≤ h.id)))
+        by_found key place has None none = inl (sym (others_same key (key_lacking filled.kind 0 filled.segments key none)) ∙ has)
+        by_found key place has (Some e) found = inr (
+          header_of id filled.kind filled.segments,
+          (ap (slice_get sealed_store.held) (sealed_place key place e has found) ∙ there_now (header_of id filled.kind filled.segments) store.held (omega (arith, can.slot)), above),
+        )
 
-    releases_still : (snapshot : ℕ) (stage : Stage) → ReleasesReady index store.held snapshot stage → ReleasesReady later sealed_store.held snapshot stage
-    releases_still snapshot (Mark level slot) ready = tt
-    releases_still snapshot (Filter slot) ready = tt
-    releases_still snapshot Select ready = tt
-    releases_still snapshot (CopyStage source) ready = tt
-    releases_still snapshot (Release next slot) ready = ready_still snapshot next slot ready
-    releases_still snapshot End ready = tt
+        by_slot : (slot : ℕ) (h : HeaderValue) → h.id < snapshot → (slice_get store.held slot ≡ Some (Some h)) ⊎ (header_of id filled.kind filled.segments ≡ h) → slice_get store.held slot ≡ Some (Some h)
+        by_slot slot h old (inl was) = was
+        by_slot slot h old (inr same) = absurd (omega (arith, above, old, ap (λ (g : HeaderValue). g.id) same))
 
     -- The container is in the first free slot; its keys are pinned, and marked.
-    pub sealed_safe : (old new : List ℕ) (files : Files) (parts : List Part) (c : Collection) (marked : LiveKeys) (actor : ℕ) (pins more : PinMap)
+    pub sealed_safe : (old new : List ℕ) (files : Files) (parts : List Part) (c : Collection) (marked : LiveKeys) (actor : ℕ) (pins more : PinMap) → c.snapshot ≤ id
         → actor < ACTORS → actor < length parts → part_of parts actor ≡ Writing pins → Marks (IsSealedKey filled) c.live marked
         → ((key : List ℕ) → IsPartKey (Writing more) key ↔ (IsPartKey (Writing pins) key ⊎ IsSealedKey filled key)) → KeepsCopies (HasKey index) store old sealed_store new
         → CoreInvariant later sealed_store files (with_part parts actor (Writing more)) new → IsStoreOf sealed_store files new
         → KeepsBoth index later store sealed_store parts (with_part parts actor (Writing more)) old new c (record c { live = marked })
-    sealed_safe old new files parts c marked actor pins more below there writing marks pinned keeps core holds =
+    sealed_safe old new files parts c marked actor pins more above below there writing marks pinned keeps core holds =
         gained (IsSealedKey filled) index later store sealed_store old new files parts c marked actor pins more below there writing
-        (record { marks = marks; pinned = pinned; decided = decided }) (grows old new keeps) core holds (releases_still c.snapshot c.stage)
+        (record { marks = marks; pinned = pinned; decided = decided }) (grows old new keeps) core holds (moves c.snapshot above)

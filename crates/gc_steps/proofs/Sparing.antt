@@ -1,59 +1,69 @@
 -- A collection that runs alone: only keys that are needed are live, and each container with a live copy is spared, and no other.
-use Rattle.std.proofs.Common.{◌≡◌, ◌≢◌, ◌⊎◌, inl, inr, ℕ, zero, suc, ◌+◌, ◌<◌, true, List, [], ◌∷◌, ◌++◌, length, get_or, Option, Some, None, refl, sym, ◌∙◌, ap, subst, arith}
+use Rattle.std.proofs.Common.{◌≡◌, ◌⊎◌, inl, inr, ℕ, zero, suc, ◌+◌, ◌<◌, true, List, [], ◌∷◌, ◌++◌, length, get_or, Option, Some, refl, sym, ◌∙◌, ap, subst, arith}
 use Rattle.std.specs.Prelude.{slice_get}
 use Rattle.std.specs.List.{Contains}
 use Rattle.std.proofs.lemmas.Bool.Decides.{eqb_tells}
-use Rattle.std.proofs.lemmas.Grind.{get_or_default_zero}
+use Rattle.actor_parts.specs.declared.part.Part.{Part}
 use Rattle.container_meta.specs.declared.entry.Entry.{Entry}
 use Rattle.container_meta.specs.declared.kind.Kind.{Kind}
 use Rattle.container_meta.specs.declared.place.Place.{Place}
 use Rattle.container_meta.specs.Places.{PlaceMap}
-use Rattle.container_meta.specs.Spelling.{HeaderValue, IsHeader}
+use Rattle.container_meta.specs.Segments.{entries_from}
+use Rattle.container_meta.specs.Spelling.{HeaderValue, IsHeader, header_of}
+use Rattle.copy_forward.specs.Entries.{HasLiveCopy}
 use Rattle.dd_disk.specs.View.{DiskView}
 use Rattle.dd_disk.proofs.Shows.{shown_content}
 use Rattle.disk_format.specs.declared.numbers.TheConstants.{MOST_LEVEL}
 use Rattle.gc_enumerate.specs.Live.{LiveKeys, IsLiveAt}
 use Rattle.gc_enumerate.specs.Marking.{IsAmong}
 use Rattle.gc_enumerate.specs.Scanning.{child_keys}
+use Rattle.gc_sweep.specs.declared.sweep.Next.{Next}
+use Rattle.gc_sweep.specs.declared.sweep.Next.TheVariants.{Copy as CopyNext, Flush, Release, End}
+use Rattle.gc_sweep.specs.Copying.{CopiesSource}
+use Rattle.gc_sweep.specs.Holding.{HoldsSweep}
+use Rattle.gc_sweep.specs.InTurn.{HasReleased, slot_in_turn}
+use Rattle.gc_sweep.specs.Releasing.{HasNoEntryIn}
+use Rattle.gc_sweep.specs.UnderWay.{HasNext, IsSweeping, sources_before}
+use Rattle.gc_sweep.proofs.Holds.{no_key}
+use Rattle.gc_sweep.proofs.HoldsCopied.{LeavesHeld}
+use Rattle.gc_sweep.proofs.InSlots.{copy_at, id_at, none_in, one_header}
+use Rattle.gc_sweep.proofs.Released.{none_held}
+use Rattle.gc_sweep.proofs.SourceRead.{header_in}
 use Rattle.merkle_file.specs.Node.{Contents}
+use Rattle.refusals.specs.declared.refusal.Refusal.{Refusal}
+use Rattle.refusals.specs.declared.refusal.Refusal.TheVariants.{Memory}
 use Rattle.store_model.specs.Files.{Files}
-use Rattle.store_model.specs.Image.{Store}
-use Rattle.store_model.specs.Indexing.{entry_key}
-use Rattle.store_model.specs.Slots.{Copy, DifferentIds, HoldSlots, HoldsSlot, IsPartialIndexOf, IsUnusedId, last_id, place_of, without_slot}
+use Rattle.store_model.specs.Image.{IsValidFor, Store}
+use Rattle.store_model.specs.Indexing.{entry_key, with_entries}
+use Rattle.store_model.specs.Reserve.{HoldsNone, IsReachable, IsSpare}
+use Rattle.store_model.specs.Slots.{Copy, HasFree, HoldSlots, HoldsSlot, IsPartialIndexOf, first_free, last_id, place_of, with_slot, without_slot}
 use Rattle.store_model.specs.Standing.{IsStoreOf}
 use Rattle.store_model.specs.Trees.{node_key}
 use Rattle.store_model.proofs.Copies.{some_same}
 use Rattle.store_model.proofs.Free.{as_many}
-use Rattle.store_model.proofs.Freed.{there_before}
 use Rattle.store_model.proofs.Lookups.{finds}
+use Rattle.store_state.specs.Invariant.{IndexesFiles}
 use Rattle.store_state.specs.Tables.{Represents, RepresentsSlots}
 use Rattle.store_state.specs.declared.slot_table.SlotTable.{SlotTable}
 use Rattle.store_state.specs.declared.tables.Tables.{Tables}
 use Rattle.gc_steps.specs.declared.collection.Collection.{Collection}
 use Rattle.gc_steps.specs.declared.collection.Stage.{Stage}
-use Rattle.gc_steps.specs.declared.collection.Stage.TheVariants.{Mark, Filter, Select, Copy as CopyStage, Release, End}
-use Rattle.gc_steps.specs.Copying.{Empties, GivesUp, Takes}
-use Rattle.copy_forward.specs.Entries.{AreDead, HasLiveCopy, copy_keys, without_keys}
+use Rattle.gc_steps.specs.declared.collection.Stage.TheVariants.{Mark, Filter, Select, Sweep as SweepStage}
 use Rattle.gc_steps.specs.Filtering.{Chooses, Records, recorded}
-use Rattle.gc_steps.specs.LiveTrees.{HoldsNode}
-use Rattle.gc_steps.specs.Marking.{MarksOnly, Scans, ScansEntries, ScansSome}
-use Rattle.gc_steps.specs.Sparing.{IsSpared, IsSparedAt, IsToBeTaken, IsWithin, Spares}
-use Rattle.gc_steps.specs.Stages.{filter_from, is_old_slot, mark_from, mark_level, sweep_from}
-use Rattle.gc_steps.specs.Stepping.{StepsTo, moment}
-use Rattle.gc_steps.specs.UnderWay.{IsUnderWay}
 use Rattle.gc_steps.specs.Fresh.{IsAsLive}
-use Rattle.gc_sweep.specs.Releasing.{HasNoEntryIn}
-use Rattle.store_model.specs.Reserve.{HoldsNone, IsReachable, IsSpare}
-use Rattle.store_state.specs.Invariant.{IndexesFiles}
-use Rattle.gc_sweep.proofs.Released.{none_held}
-use Rattle.gc_steps.proofs.UnderWay.{at_stage}
-use Rattle.std.specs.FinMap as finite
-use Rattle.gc_steps.proofs.FirstStage.{id_below, id_there, old_there}
-use Rattle.gc_steps.proofs.FoundNodes.{header_held}
+use Rattle.gc_steps.specs.LiveTrees.{HoldsNode}
+use Rattle.gc_steps.specs.Marking.{KeepsMarks, MarksOnly, Scans, ScansEntries, ScansSome}
+use Rattle.gc_steps.specs.Safety.{IsSafe, IsSafeAt}
+use Rattle.gc_steps.specs.Sparing.{CopiesAlone, IsSpared, IsSparedAt, IsWithin, Spares}
+use Rattle.gc_steps.specs.Stages.{filter_from, is_old_slot, mark_from, mark_level}
+use Rattle.gc_steps.specs.Stepping.{Flushes, Keeps, StepsTo, moment}
+use Rattle.gc_steps.specs.SweepIsSafe.{HoldsAt}
+use Rattle.gc_steps.specs.UnderWay.{IsUnderWay}
+use Rattle.gc_steps.proofs.FirstStage.{id_below, old_there}
 use Rattle.gc_steps.proofs.ScanKeeps.{IsNewKey, new_key, some_key}
-use Rattle.gc_steps.proofs.SparingStages.{IsChosen, chosen_on, filter_spared, level_spared, mark_spared, recorded_chosen, sweep_spared}
-use Rattle.gc_steps.proofs.StepSafe.{IsStoreAfter}
-use Rattle.gc_steps.proofs.Swept.{copy_is, had_before, is_copy_at, live_after}
+use Rattle.gc_steps.proofs.SparingStages.{AreAlone, IsChosen, IsSweptSo, begun_swept, chosen_on, copied_alone, copied_leaves, copied_swept, filter_alone, filter_spared, flushed_alone, flushed_swept, level_alone, level_spared, mark_alone, mark_spared, recorded_chosen, released_alone, released_swept}
+use Rattle.gc_steps.proofs.StepSafe.{IsFlushing, IsFreeing, IsStoreAfter}
+use Rattle.gc_steps.proofs.UnderWay.{at_stage}
 
 -- ---- slots
 
@@ -61,26 +71,6 @@ pub held_within : (held : List (Option HeaderValue)) (slot : ℕ) (h : HeaderVal
 held_within [] slot h is = absurd cc
 held_within (x ∷ xs) zero h is = omega arith
 held_within (x ∷ xs) (suc slot) h is = let rest = held_within xs slot h is in omega (arith, rest)
-
-unused_apart : (id : ℕ) (held : List (Option HeaderValue)) (slot : ℕ) (h : HeaderValue) → IsUnusedId id held → slice_get held slot ≡ Some (Some h) → h.id ≢ id
-unused_apart id [] slot h unused is = absurd cc
-unused_apart id (None ∷ cs) zero h unused is = absurd (let wrong : None ≡ Some h = some_same None (Some h) is in cc)
-unused_apart id (Some g ∷ cs) zero h unused is = λ same. unused.0 (ap (λ (x : HeaderValue). x.id) (some_same g h (some_same (Some g) (Some h) is)) ∙ same)
-unused_apart id (None ∷ cs) (suc slot) h unused is = unused_apart id cs slot h unused is
-unused_apart id (Some g ∷ cs) (suc slot) h unused is = unused_apart id cs slot h unused.1 is
-
--- two slots whose containers have one id are one
-one_slot : (held : List (Option HeaderValue)) (a b : ℕ) (g h : HeaderValue) → DifferentIds held → slice_get held a ≡ Some (Some g) → slice_get held b ≡ Some (Some h) → g.id ≡ h.id → a ≡ b
-one_slot [] a b g h differ is also same = absurd cc
-one_slot (c ∷ cs) zero zero g h differ is also same = refl
-one_slot (None ∷ cs) zero (suc b) g h differ is also same = absurd (let wrong : None ≡ Some g = some_same None (Some g) is in cc)
-one_slot (None ∷ cs) (suc a) zero g h differ is also same = absurd (let wrong : None ≡ Some h = some_same None (Some h) also in cc)
-one_slot (Some x ∷ cs) zero (suc b) g h differ is also same =
-    absurd (unused_apart x.id cs b h differ.0 also (sym same ∙ sym (ap (λ (y : HeaderValue). y.id) (some_same x g (some_same (Some x) (Some g) is)))))
-one_slot (Some x ∷ cs) (suc a) zero g h differ is also same =
-    absurd (unused_apart x.id cs a g differ.0 is (same ∙ sym (ap (λ (y : HeaderValue). y.id) (some_same x h (some_same (Some x) (Some h) also)))))
-one_slot (None ∷ cs) (suc a) (suc b) g h differ is also same = ap suc (one_slot cs a b g h differ is also same)
-one_slot (Some x ∷ cs) (suc a) (suc b) g h differ is also same = ap suc (one_slot cs a b g h differ.1 is also same)
 
 -- ---- which keys are live
 
@@ -110,16 +100,38 @@ pub spares_begun : (P : List ℕ → Type 0) (index : PlaceMap) (store : Store) 
     → c.stage ≡ mark_level c.snapshot t MOST_LEVEL → last_id store.held < c.snapshot → IsWithin P c.live → Spares P index store.held c
 spares_begun P index store image t c holds slots stage_is above within = record {
   within = within;
-  all_old = old;
   spared = λ slot h there. subst (λ (s : Stage). IsSparedAt s index c slot h) (sym stage_is)
       (level_spared index t c.snapshot c slot h (omega (arith, held_within store.held slot h there, ap length slots.ids_are, as_many store.held))
-      (old_there store.held image t c.snapshot holds slots slot h there (old slot h there)) MOST_LEVEL);
+      (old_there store.held image t c.snapshot holds slots slot h there (old slot h there)) (old slot h there) MOST_LEVEL);
+  alone = subst (λ (s : Stage). CopiesAlone s index store.held c) (sym stage_is) (level_alone index store.held t c.snapshot c MOST_LEVEL);
 }
   where
     old : (slot : ℕ) (h : HeaderValue) → slice_get store.held slot ≡ Some (Some h) → h.id < c.snapshot
     old slot h there = omega (arith, id_below store.held slot h there, above)
 
 -- ---- each of its steps
+
+-- what holds of the sweep of one that is safe
+pub held_at : (index : PlaceMap) (store : Store) (parts : List Part) (image : List ℕ) (c : Collection) → IsSafe index store parts image c → HoldsAt c.stage index store.held image c
+held_at index store parts image c = by_stage c.stage refl
+  where
+    by_stage : (stage : Stage) → c.stage ≡ stage → IsSafeAt stage index store parts image c → HoldsAt stage index store.held image c
+    by_stage (Mark level at) is safe = tt
+    by_stage (Filter at) is safe = tt
+    by_stage Select is safe = tt
+    by_stage SweepStage is safe = subst (λ (s : Stage). HoldsAt s index store.held image c) is safe.sweep_holds
+
+-- a sweep makes so of each container, and of what was copied
+swept_spares : (P : List ℕ → Type 0) (index : PlaceMap) (held : List (Option HeaderValue)) (c d : Collection) → IsWithin P c.live → c.stage ≡ SweepStage → d ≡ record c { sweep = d.sweep }
+    → ((slot : ℕ) (h : HeaderValue) → slice_get held slot ≡ Some (Some h) → IsSweptSo index c.live d.sweep slot h) → AreAlone index held d.sweep → Spares P index held d
+swept_spares P index held c d within stage_is same swept alone = subst (Spares P index held) (sym same) (record {
+  within = within;
+  spared = λ slot h there. subst (λ (s : Stage). IsSparedAt s index next slot h) (sym stage_is) (swept slot h there);
+  alone = subst (λ (s : Stage). CopiesAlone s index held next) (sym stage_is) alone;
+})
+  where
+    next : Collection
+    next = record c { sweep = d.sweep }
 
 module _ (P : List ℕ → Type 0) (index : PlaceMap) (store : Store) (files : Files) (image : List ℕ) (t : Tables) (known : Option PlaceMap) (old new : DiskView) (c d : Collection)
     (holds : IsStoreOf store files image) (represents : Represents store (Some index) t) (content : old.content ≡ Some image)
@@ -133,29 +145,28 @@ module _ (P : List ℕ → Type 0) (index : PlaceMap) (store : Store) (files : F
   within_table : (slot : ℕ) (h : HeaderValue) → slice_get store.held slot ≡ Some (Some h) → slot < length t.held.ids.items
   within_table slot h there = omega (arith, held_within store.held slot h there, ap length slots.ids_are, as_many store.held)
 
-  old_slot : (slot : ℕ) (h : HeaderValue) → slice_get store.held slot ≡ Some (Some h) → is_old_slot c.snapshot t.held slot ≡ true
-  old_slot slot h there = old_there store.held image t.held c.snapshot holds.right.slots_are slots slot h there (was.all_old slot h there)
+  old_slot : (slot : ℕ) (h : HeaderValue) → slice_get store.held slot ≡ Some (Some h) → h.id < c.snapshot → is_old_slot c.snapshot t.held slot ≡ true
+  old_slot slot h there low = old_there store.held image t.held c.snapshot holds.right.slots_are slots slot h there low
 
   id_in : (slot : ℕ) (h : HeaderValue) → slice_get store.held slot ≡ Some (Some h) → get_or t.held.ids.items slot 0 ≡ h.id
-  id_in slot h there = ap (λ (ids : List ℕ). get_or ids slot 0) slots.ids_are ∙ id_there store.held slot h there
+  id_in slot h there = ap (λ (ids : List ℕ). get_or ids slot 0) slots.ids_are ∙ id_at store.held slot h there
 
   spared_at : (stage : Stage) → c.stage ≡ stage → (slot : ℕ) (h : HeaderValue) → slice_get store.held slot ≡ Some (Some h) → IsSparedAt stage index c slot h
   spared_at stage is slot h there = subst (λ (s : Stage). IsSparedAt s index c slot h) is (was.spared slot h there)
 
   -- the header that reads showed is the store's
   header_there : (slot : ℕ) (h : HeaderValue) → slot < length t.held.ids.items → HoldsSlot image slot (Some h) → slice_get store.held slot ≡ Some (Some h)
-  header_there slot h within shown = header_held store.held image slot h holds.right.slots_are (omega (arith, within, ap length slots.ids_are, as_many store.held)) shown
-
-  same_header : (slot : ℕ) (g h : HeaderValue) → slice_get store.held slot ≡ Some (Some g) → slice_get store.held slot ≡ Some (Some h) → g ≡ h
-  same_header slot g h is also = some_same g h (some_same (Some g) (Some h) (sym is ∙ also))
+  header_there slot h within shown = header_in store.held image slot h holds.right.slots_are (omega (arith, within, ap length slots.ids_are, as_many store.held)) shown
 
   -- ---- marking
 
-  scanned_spares : (level at : ℕ) → at < length t.held.ids.items → Scans t.held (Some index) old new level at c d → Spares P index store.held d
-  scanned_spares level at within scans = subst (Spares P index store.held) (sym scans.collection_is) (record {
+  scanned_spares : (level at : ℕ) → c.stage ≡ Mark level at → at < length t.held.ids.items → Scans t.held (Some index) old new level at c d → Spares P index store.held d
+  scanned_spares level at stage_is within scans = subst (Spares P index store.held) (sym scans.collection_is) (record {
     within = within_scanned P index store files image holds partial closed old new content level at scans.header scans.right c.live d.live was.within scans.scanned;
-    all_old = was.all_old;
-    spared = λ slot h there. mark_spared index t.held c.snapshot next slot h (within_table slot h there) (old_slot slot h there) level (at + 1);
+    spared = λ slot h there.
+        let low : h.id < c.snapshot = spared_at (Mark level at) stage_is slot h there in
+        mark_spared index t.held c.snapshot next slot h (within_table slot h there) (old_slot slot h there low) low level (at + 1);
+    alone = mark_alone index store.held t.held c.snapshot next level (at + 1);
   })
     where
       next : Collection
@@ -165,8 +176,8 @@ module _ (P : List ℕ → Type 0) (index : PlaceMap) (store : Store) (files : F
   pub some_spares : (level at : ℕ) → c.stage ≡ Mark level at → MarksOnly (Some index) old new level at c d → Spares P index store.held d
   some_spares level at stage_is only = subst (Spares P index store.held) (sym only.collection_is) (record {
     within = within_some P index store files image holds partial closed old new content level at only.header only.right c.live d.live was.within only.scanned;
-    all_old = was.all_old;
-    spared = λ slot h there. subst (λ (s : Stage). IsSparedAt s index next slot h) (sym stage_is) tt;
+    spared = λ slot h there. subst (λ (s : Stage). IsSparedAt s index next slot h) (sym stage_is) (spared_at (Mark level at) stage_is slot h there);
+    alone = subst (λ (s : Stage). CopiesAlone s index store.held next) (sym stage_is) tt;
   })
     where
       next : Collection
@@ -177,8 +188,8 @@ module _ (P : List ℕ → Type 0) (index : PlaceMap) (store : Store) (files : F
   recorded_spares : (at : ℕ) → c.stage ≡ Filter at → at < length t.held.ids.items → Records t.held (Some index) old new at c d → Spares P index store.held d
   recorded_spares at stage_is within records = subst (Spares P index store.held) (sym records.collection_is) (record {
     within = was.within;
-    all_old = was.all_old;
-    spared = λ slot h there. filter_spared index t.held c.snapshot next slot h (within_table slot h there) (old_slot slot h there) (at + 1) (chosen slot h there);
+    spared = λ slot h there. filter_spared index t.held c.snapshot next slot h (within_table slot h there) (old_slot slot h there (low slot h there)) (low slot h there) (at + 1) (chosen slot h there);
+    alone = filter_alone index store.held t.held c.snapshot next (at + 1);
   })
     where
       next : Collection
@@ -190,178 +201,164 @@ module _ (P : List ℕ → Type 0) (index : PlaceMap) (store : Store) (files : F
       here : slice_get store.held at ≡ Some (Some records.header)
       here = header_there at records.header within shown
 
+      low : (slot : ℕ) (h : HeaderValue) → slice_get store.held slot ≡ Some (Some h) → h.id < c.snapshot
+      low slot h there = (spared_at (Filter at) stage_is slot h there).0
+
       chosen : (slot : ℕ) (h : HeaderValue) → slice_get store.held slot ≡ Some (Some h) → slot < at + 1 → IsChosen index next slot h
       chosen slot h there below = elim (eqb_tells slot at) [
         | inl same ↦
             let is : slice_get store.held at ≡ Some (Some h) = ap (slice_get store.held) (sym same.1) ∙ there in
-            let header : records.header ≡ h = same_header at records.header h here is in
+            let header : records.header ≡ h = one_header store.held at at records.header h refl here is in
             subst (λ (n : ℕ). IsChosen index next n h) (sym same.1)
             (subst (IsChosen index next at) header
-            (recorded_chosen index t.held c next at records.live records.header refl refl refl (was.all_old at records.header here) (id_in at records.header here) (records.live_is index refl)))
+            (recorded_chosen index t.held c next at records.live records.header refl refl refl (low at records.header here) (id_in at records.header here) (records.live_is index refl)))
         | inr other ↦ chosen_on index t.held c next at records.live records.header refl refl refl refl slot h
-            (spared_at (Filter at) stage_is slot h there (omega (arith, below, other.1)))
+            ((spared_at (Filter at) stage_is slot h there).1 (omega (arith, below, other.1)))
       ]
 
-  chosen_spares : c.stage ≡ Select → Chooses c d → Spares P index store.held d
+  chosen_spares : c.stage ≡ Select → Chooses t.held c d → Spares P index store.held d
   chosen_spares stage_is chooses = subst (Spares P index store.held) (sym chooses.collection_is) (record {
     within = was.within;
-    all_old = was.all_old;
-    spared = λ slot h there. sweep_spared index next slot h 0 (taken slot h (spared_at Select stage_is slot h there));
+    spared = λ slot h there. begun_swept t.held d.sweep.sources.items d.sweep index c.live slot h chooses.begins (taken slot h (spared_at Select stage_is slot h there).1);
+    alone = λ key place has found. absurd (no_key d.sweep.buffer key chooses.begins.empty has);
   })
     where
-      next : Collection
-      next = record c { sources = d.sources; stage = sweep_from d.sources.items 0 }
-
-      taken : (slot : ℕ) (h : HeaderValue) → IsChosen index c slot h → IsToBeTaken d.sources.items 0 h.id ⊎ IsSpared index next slot h
+      taken : (slot : ℕ) (h : HeaderValue) → IsChosen index c slot h → Contains d.sweep.sources.items h.id ⊎ IsSpared index c slot h
       taken slot h (inr spared) = inr spared
-      taken slot h (inl selected) =
-          let there = (chooses.which h.id).1 selected in
-          inl (there.0, (omega arith, there.1, sym (get_or_default_zero d.sources.items there.0 h.id there.1) ∙ there.2))
+      taken slot h (inl selected) = inl ((chooses.which h.id).1 selected)
 
-  -- ---- a source is taken
+  -- ---- the sweep
 
-  module _ (source : ℕ) (stage_is : c.stage ≡ CopyStage source) (m : PlaceMap) (known_is : known ≡ Some m) where
-    -- the next sources, but for the one that is taken
-    later : (slot : ℕ) (h : HeaderValue) → (get_or c.sources.items source 0 ≡ h.id → ⊥) → IsToBeTaken c.sources.items source h.id → IsToBeTaken c.sources.items (source + 1) h.id
-    later slot h other (i, (from, below, is)) = elim (eqb_tells i source) [
-      | inl same ↦ absurd (other (ap (λ (n : ℕ). get_or c.sources.items n 0) (sym same.1) ∙ is))
-      | inr differs ↦ (i, (omega (arith, from, differs.1), below, is))
-    ]
+  swept_at : c.stage ≡ SweepStage → (slot : ℕ) (h : HeaderValue) → slice_get store.held slot ≡ Some (Some h) → IsSweptSo index c.live c.sweep slot h
+  swept_at stage_is slot h there = spared_at SweepStage stage_is slot h there
 
-    given_up_spares : (at : ℕ) (g : HeaderValue) → slice_get store.held at ≡ Some (Some g) → get_or c.sources.items source 0 ≡ g.id → GivesUp (Some index) known at g source c d → Spares P m store.held d
-    given_up_spares at g here id up =
-        subst (λ (x : PlaceMap). Spares P x store.held d) (some_same index m (sym up.map_stays ∙ known_is))
-        (subst (Spares P index store.held) (sym up.collection_is) (record {
-          within = was.within;
-          all_old = was.all_old;
-          spared = λ slot h there. sweep_spared index next slot h (source + 1) (taken slot h there (spared_at (CopyStage source) stage_is slot h there));
-        }))
-      where
-        next : Collection
-        next = record c { stage = sweep_from c.sources.items (source + 1) }
+  alone_at : c.stage ≡ SweepStage → AreAlone index store.held c.sweep
+  alone_at stage_is = subst (λ (s : Stage). CopiesAlone s index store.held c) stage_is was.alone
 
-        -- the one that was given up holds a live copy
-        own : (slot : ℕ) (h : HeaderValue) → slice_get store.held slot ≡ Some (Some h) → g.id ≡ h.id → IsSpared index next slot h
-        own slot h there same =
-            let slot_is : at ≡ slot = one_slot store.held at slot g h holds.right.different here there same in
-            let header : g ≡ h = same_header slot g h (ap (slice_get store.held) (sym slot_is) ∙ here) there in
-            subst (λ (x : HeaderValue). HasLiveCopy index c.live x.kind slot x.entries) header
-            (subst (λ (n : ℕ). HasLiveCopy index c.live g.kind n g.entries) slot_is (up.live_is index refl))
+  -- what holds of it then
+  held_then : (m : PlaceMap) (held : List (Option HeaderValue)) (now : List ℕ) → c.stage ≡ SweepStage → d ≡ record c { sweep = d.sweep } → HoldsAt d.stage m held now d → HoldsSweep m held now c.live c.snapshot d.sweep
+  held_then m held now stage_is same is =
+      subst (λ (live : LiveKeys). HoldsSweep m held now live c.snapshot d.sweep) (ap (λ (x : Collection). x.live) same)
+      (subst (λ (n : ℕ). HoldsSweep m held now d.live n d.sweep) (ap (λ (x : Collection). x.snapshot) same)
+      (subst (λ (s : Stage). HoldsAt s m held now d) (ap (λ (x : Collection). x.stage) same ∙ stage_is) is).1)
 
-        taken : (slot : ℕ) (h : HeaderValue) → slice_get store.held slot ≡ Some (Some h) → IsToBeTaken c.sources.items source h.id ⊎ IsSpared index c slot h
-            → IsToBeTaken c.sources.items (source + 1) h.id ⊎ IsSpared index next slot h
-        taken slot h there (inr spared) = inr spared
-        taken slot h there (inl still) = elim (eqb_tells g.id h.id) [
-          | inl same ↦ inr (own slot h there same.1)
-          | inr differs ↦ inl (later slot h (λ wrong. differs.1 (sym id ∙ wrong)) still)
-        ]
+  module _ (valid : IsValidFor old.size store) (free : HasFree store.held) (under : IsUnderWay t.held c) (tables_now : Tables) where
+    module _ (stage_is : c.stage ≡ SweepStage) (sweeping : IsSweeping t.held c.snapshot c.sweep) (held : HoldsSweep index store.held image c.live c.snapshot c.sweep) (same : d ≡ record c { sweep = d.sweep }) where
+      -- a source was copied
+      copied_spares : (source entry : ℕ) → c.sweep.next ≡ CopyNext source entry → CopiesSource t.held c.live (Some index) known old new source entry c.sweep d.sweep
+          → (m : PlaceMap) → known ≡ Some m → Spares P m store.held d
+      copied_spares source entry next_is copies m known_is =
+          subst (λ (x : PlaceMap). Spares P x store.held d) (some_same leaves.later m (sym leaves.known_is ∙ known_is))
+          (swept_spares P leaves.later store.held c d was.within stage_is same
+          (λ slot h there.
+          copied_swept t.held index store.held image c.live c.snapshot source entry c.sweep d.sweep known old new slots holds.right.different holds.right.slots_are partial content sweeping next_is held copies slot h there
+          (swept_at stage_is slot h there))
+          (copied_alone t.held index store.held image c.live c.snapshot source entry c.sweep d.sweep known old new slots holds.right.different holds.right.slots_are partial content sweeping next_is held copies (alone_at stage_is)))
+        where
+          leaves : LeavesHeld index store.held image c.live c.snapshot known d.sweep
+          leaves =
+              copied_leaves t.held index store.held image c.live c.snapshot source entry c.sweep d.sweep known old new slots holds.right.different holds.right.slots_are partial content sweeping next_is held copies
 
-    -- a container with a live copy has it still
-    spared_on : (g : HeaderValue) (at : ℕ) → slice_get store.held at ≡ Some (Some g) → AreDead index c.live g.kind at g.entries → (kind : Kind) (slot : ℕ) (es : List Entry)
-        → HasLiveCopy index c.live kind slot es → HasLiveCopy (without_keys (copy_keys index g.kind at g.entries) index) c.live kind slot es
-    spared_on g at here dead kind slot [] has = has
-    spared_on g at here dead kind slot (e ∷ es) (inr rest) = inr (spared_on g at here dead kind slot es rest)
-    spared_on g at here dead kind slot (e ∷ es) (inl has) =
-        let before = copy_is c.live index kind slot e has.0 in
-        let on = live_after c.live store index at g here partial dead (entry_key kind e) (place_of slot e, (before, has.1)) in
-        let same : on.0 ≡ place_of slot e = place_stays on.0 on.1.0 in
-        inl (is_copy_at c.live (without_keys (copy_keys index g.kind at g.entries) index) kind slot e (on.1.0 ∙ ap Some same), has.1)
-      where
-        place_stays : (place : Place) → finite.get (without_keys (copy_keys index g.kind at g.entries) index) (entry_key kind e) ≡ Some place → place ≡ place_of slot e
-        place_stays place is =
-            some_same place (place_of slot e) (sym (had_before (copy_keys index g.kind at g.entries) index (entry_key kind e) place is) ∙ copy_is c.live index kind slot e has.0)
+      -- what was copied was written
+      flushed_spares : (source entry : ℕ) → c.sweep.next ≡ Flush source entry → (f : Flushes source entry (moment t (Some index) old c) (moment tables_now known new d)) → (m : PlaceMap) → known ≡ Some m
+          → (s : Store) (now : List ℕ) → IsFlushing c.sweep.buffer store s image → HoldsAt d.stage m s.held now d → Spares P m s.held d
+      flushed_spares source entry next_is f m known_is s now flushing then =
+          subst (λ (x : Store). Spares P m x.held d) (sym flushing.now_is)
+          (subst (λ (x : PlaceMap). Spares P x held_now d) map_is
+          (swept_spares P later held_now c d was.within stage_is same
+          (flushed_swept t.held index store.held image now c.live c.snapshot source entry flushing.id c.sweep d.sweep slots sweeping next_is f.flushed flushing.can.right held (alone_at stage_is) holds_now (swept_at stage_is))
+          (flushed_alone t.held index store.held image now c.live c.snapshot source entry flushing.id c.sweep d.sweep slots sweeping next_is f.flushed flushing.can.right held (alone_at stage_is))))
+        where
+          held_now : List (Option HeaderValue)
+          held_now = with_slot (first_free store.held) (header_of flushing.id c.sweep.buffer.kind c.sweep.buffer.segments) store.held
 
-    emptied_spares : (at : ℕ) (g : HeaderValue) → slice_get store.held at ≡ Some (Some g) → get_or c.sources.items source 0 ≡ g.id → Empties (Some index) known at g source c d → Spares P m store.held d
-    emptied_spares at g here id out =
-        subst (λ (x : PlaceMap). Spares P x store.held d) (some_same fewer m (sym (out.map_is index refl) ∙ known_is))
-        (subst (Spares P fewer store.held) (sym out.collection_is) (record {
-          within = was.within;
-          all_old = was.all_old;
-          spared = λ slot h there. taken slot h there (spared_at (CopyStage source) stage_is slot h there);
-        }))
-      where
-        fewer : PlaceMap
-        fewer = without_keys (copy_keys index g.kind at g.entries) index
+          later : PlaceMap
+          later = with_entries c.sweep.buffer.kind (first_free store.held) (entries_from 0 c.sweep.buffer.segments) index
 
-        next : Collection
-        next = record c { stage = Release (source + 1) at }
+          slot_is : f.slot ≡ first_free store.held
+          slot_is = ((f.writes.has_slot.slot_is old.size (Some index)).store_has store represents valid free).first
 
-        taken : (slot : ℕ) (h : HeaderValue) → slice_get store.held slot ≡ Some (Some h) → IsToBeTaken c.sources.items source h.id ⊎ IsSpared index c slot h
-            → (slot ≡ at) ⊎ IsToBeTaken c.sources.items (source + 1) h.id ⊎ IsSpared fewer next slot h
-        taken slot h there (inr spared) = inr (inr (spared_on g at here (out.dead index refl) h.kind slot h.entries spared))
-        taken slot h there (inl still) = elim (eqb_tells g.id h.id) [
-          | inl same ↦ inl (sym (one_slot store.held at slot g h holds.right.different here there same.1))
-          | inr differs ↦ inr (inl (later slot h (λ wrong. differs.1 (sym id ∙ wrong)) still))
-        ]
+          map_is : later ≡ m
+          map_is =
+              some_same later m
+              (ap (λ (n : ℕ). Some (with_entries c.sweep.buffer.kind n (entries_from 0 c.sweep.buffer.segments) index)) (sym slot_is) ∙ sym (f.places image content index refl) ∙ known_is)
 
-    taken_spares : Takes t.held (Some index) known old new source c d → Spares P m store.held d
-    taken_spares takes = by_way takes.taken
-      where
-        here : slice_get store.held takes.slot ≡ Some (Some takes.header)
-        here =
-            header_there takes.slot takes.header takes.within
-            (shown_content old new (λ (i : List ℕ). HoldsSlot i takes.slot (Some takes.header)) image takes.shown content)
+          holds_now : HoldsSweep later held_now now c.live c.snapshot d.sweep
+          holds_now =
+              subst (λ (x : PlaceMap). HoldsSweep x held_now now c.live c.snapshot d.sweep) (sym map_is)
+              (subst (λ (x : Store). HoldsSweep m x.held now c.live c.snapshot d.sweep) flushing.now_is (held_then m s.held now stage_is same then))
 
-        id : get_or c.sources.items source 0 ≡ takes.header.id
-        id = sym takes.id_is ∙ id_in takes.slot takes.header here
+      -- a source was given back
+      released_spares : (source entry : ℕ) → c.sweep.next ≡ Release source entry → HasReleased tables_now.held source entry c.sweep d.sweep → known ≡ Some index → (m : PlaceMap) → known ≡ Some m
+          → (s : Store) (now : List ℕ) → IsFreeing index (slot_in_turn c.sweep) store s → HoldsAt d.stage m s.held now d → Spares P m s.held d
+      released_spares source entry next_is released stays m known_is s now freeing then =
+          subst (λ (x : Store). Spares P m x.held d) (sym freeing.now_is)
+          (subst (λ (x : PlaceMap). Spares P x less d) map_is
+          (swept_spares P index less c d was.within stage_is same
+          (released_swept t.held tables_now.held index store.held now c.live c.snapshot source entry c.sweep d.sweep slots sweeping next_is released holds_now (swept_at stage_is))
+          (released_alone t.held tables_now.held index store.held now c.live c.snapshot source entry c.sweep d.sweep slots sweeping next_is released (alone_at stage_is))))
+        where
+          less : List (Option HeaderValue)
+          less = without_slot (slot_in_turn c.sweep) store.held
 
-        by_way : GivesUp (Some index) known takes.slot takes.header source c d ⊎ Empties (Some index) known takes.slot takes.header source c d → Spares P m store.held d
-        by_way (inl up) = given_up_spares takes.slot takes.header here id up
-        by_way (inr out) = emptied_spares takes.slot takes.header here id out
+          map_is : index ≡ m
+          map_is = some_same index m (sym stays ∙ known_is)
 
-  -- ---- a source is given back
+          holds_now : HoldsSweep index less now c.live c.snapshot d.sweep
+          holds_now =
+              subst (λ (x : PlaceMap). HoldsSweep x less now c.live c.snapshot d.sweep) (sym map_is)
+              (subst (λ (x : Store). HoldsSweep m x.held now c.live c.snapshot d.sweep) freeing.now_is (held_then m s.held now stage_is same then))
 
-  released_spares : (next at : ℕ) → c.stage ≡ Release next at → d ≡ record c { stage = sweep_from c.sources.items next; freed = c.freed + 1 } → Spares P index (without_slot at store.held) d
-  released_spares next at stage_is is = subst (Spares P index (without_slot at store.held)) (sym is) (record {
-    within = was.within;
-    all_old = λ slot h there. was.all_old slot h (there_before at slot h store.held there).1;
-    spared = λ slot h there. let before = there_before at slot h store.held there in
-        sweep_spared index then slot h next (taken slot h before.0 (spared_at (Release next at) stage_is slot h before.1));
-  })
-    where
-      then : Collection
-      then = record c { stage = sweep_from c.sources.items next; freed = c.freed + 1 }
+    -- ---- whatever the stage
 
-      taken : (slot : ℕ) (h : HeaderValue) → at ≢ slot → (slot ≡ at) ⊎ IsToBeTaken c.sources.items next h.id ⊎ IsSpared index c slot h → IsToBeTaken c.sources.items next h.id ⊎ IsSpared index then slot h
-      taken slot h other (inl same) = absurd (other (sym same))
-      taken slot h other (inr (inl still)) = inl still
-      taken slot h other (inr (inr spared)) = inr spared
+    abbrev After : Stage → Next → Type 0
+    After stage next =
+        (m : PlaceMap) → known ≡ Some m → (s : Store) (now : List ℕ) → IsStoreAfter stage next c.sweep index store s image → HoldsAt d.stage m s.held now d → Spares P m s.held d
 
-  -- ---- whatever the stage
+    -- where index and store stay
+    stays : known ≡ Some index → Spares P index store.held d → (m : PlaceMap) → known ≡ Some m → (s : Store) → s ≡ store → Spares P m s.held d
+    stays same spares m known_is s is =
+        subst (λ (x : Store). Spares P m x.held d) (sym is) (subst (λ (x : PlaceMap). Spares P x store.held d) (some_same index m (sym same ∙ known_is)) spares)
 
-  abbrev After : Stage → Type 0
-  After stage = (m : PlaceMap) → known ≡ Some m → (s : Store) → IsStoreAfter stage index store s → Spares P m s.held d
-
-  -- where index and store stay
-  stays : (stage : Stage) → ((next at : ℕ) → stage ≡ Release next at → ⊥) → known ≡ Some index → Spares P index store.held d → After stage
-  stays stage none same spares m known_is s (inl is) =
-      subst (λ (x : Store). Spares P m x.held d) (sym is.1) (subst (λ (x : PlaceMap). Spares P x store.held d) (some_same index m (sym same ∙ known_is)) spares)
-  stays stage none same spares m known_is s (inr frees) = absurd (none frees.next frees.slot frees.stage_is)
-
-  taken_after : (source : ℕ) → ((m : PlaceMap) → known ≡ Some m → Spares P m store.held d) → After (CopyStage source)
-  taken_after source spares m known_is s (inl is) = subst (λ (x : Store). Spares P m x.held d) (sym is.1) (spares m known_is)
-  taken_after source spares m known_is s (inr frees) = absurd (let wrong = frees.stage_is in cc)
-
-  released_after : (next at : ℕ) → known ≡ Some index → Spares P index (without_slot at store.held) d → After (Release next at)
-  released_after next at same spares m known_is s (inl is) = absurd (is.0 next at refl)
-  released_after next at same spares m known_is s (inr frees) =
-      let slot_is : at ≡ frees.slot = (let both : Release next at ≡ Release frees.next frees.slot = frees.stage_is in cc) in
-      subst (λ (x : Store). Spares P m x.held d) (sym frees.now_is)
-      (subst (λ (n : ℕ). Spares P m (without_slot n store.held) d) slot_is (subst (λ (x : PlaceMap). Spares P x (without_slot at store.held) d) (some_same index m (sym same ∙ known_is)) spares))
-
-  module _ (tables_now : Tables) (under : IsUnderWay t.held c) where
-    by_stage : (stage : Stage) → c.stage ≡ stage → StepsTo stage (moment t (Some index) old c) (moment tables_now known new d) → After stage
-    by_stage (Mark level at) is steps =
-        stays (Mark level at) (λ next slot wrong. cc) steps.1 (scanned_spares level at (at_stage t.held c (Mark level at) under is).2.0 steps.0)
-    by_stage (Filter at) is steps = stays (Filter at) (λ next slot wrong. cc) steps.1 (recorded_spares at is (at_stage t.held c (Filter at) under is).0.0 steps.0)
-    by_stage Select is steps = stays Select (λ next slot wrong. cc) steps.1 (chosen_spares is steps.0)
-    by_stage (CopyStage source) is steps = taken_after source (λ m known_is. taken_spares source is m known_is steps)
-    by_stage (Release next at) is steps = released_after next at (steps.2 image content) (released_spares next at is steps.0)
-    by_stage End is steps = stays End (λ next slot wrong. cc) steps.1 (subst (Spares P index store.held) (sym steps.0) was)
+    by_stage : (stage : Stage) (next : Next) → c.stage ≡ stage → c.sweep.next ≡ next → HoldsAt stage index store.held image c → StepsTo stage next (moment t (Some index) old c) (moment tables_now known new d)
+        → After stage next
+    by_stage (Mark level at) next is next_is held steps =
+        λ m known_is s now same then. stays steps.1 (scanned_spares level at is (at_stage t.held c (Mark level at) under is).2.0 steps.0) m known_is s same
+    by_stage (Filter at) next is next_is held steps =
+        λ m known_is s now same then. stays steps.1 (recorded_spares at is (at_stage t.held c (Filter at) under is).0.0 steps.0) m known_is s same
+    by_stage Select next is next_is held steps = λ m known_is s now same then. stays steps.1 (chosen_spares is steps.0) m known_is s same
+    by_stage SweepStage (CopyNext source entry) is next_is held steps = λ m known_is s now same then.
+        subst (λ (x : Store). Spares P m x.held d) (sym same) (copied_spares is (at_stage t.held c SweepStage under is) held.1 steps.1 source entry next_is steps.0 m known_is)
+    by_stage SweepStage (Flush source entry) is next_is held steps = flushed_spares is (at_stage t.held c SweepStage under is) held.1 steps.sweeps source entry next_is steps
+    by_stage SweepStage (Release source entry) is next_is held steps =
+        released_spares is (at_stage t.held c SweepStage under is) held.1 steps.1 source entry next_is steps.0 (steps.3 image content)
+    by_stage SweepStage End is next_is held steps = λ m known_is s now same then. stays steps.1 (subst (Spares P index store.held) (sym steps.0) was) m known_is s same
 
     -- Each step keeps it.
-    pub spares_step : StepsTo c.stage (moment t (Some index) old c) (moment tables_now known new d) → After c.stage
-    spares_step steps = by_stage c.stage refl steps
+    pub spares_step : HoldsAt c.stage index store.held image c → StepsTo c.stage c.sweep.next (moment t (Some index) old c) (moment tables_now known new d) → After c.stage c.sweep.next
+    spares_step held steps = by_stage c.stage c.sweep.next refl refl held steps
+
+  -- And so does each refusal, by the index of before.
+  module _ (tables_now : Tables) where
+    same_spares : d ≡ c → Spares P index store.held d
+    same_spares same = subst (Spares P index store.held) (sym same) was
+
+    marks_kept : (level at : ℕ) (refusal : Refusal) → c.stage ≡ Mark level at → KeepsMarks (Some index) old new level at c d refusal → Spares P index store.held d
+    marks_kept level at Memory is (inl same) = same_spares same
+    marks_kept level at Memory is (inr only) = some_spares level at is only
+    marks_kept level at _ is same = same_spares same
+
+    kept_by : (stage : Stage) (next : Next) (refusal : Refusal) → c.stage ≡ stage → Keeps stage next (moment t (Some index) old c) (moment tables_now known new d) refusal → Spares P index store.held d
+    kept_by (Mark level at) next refusal is keeps = marks_kept level at refusal is keeps.0
+    kept_by (Filter at) next refusal is keeps = same_spares keeps.0
+    kept_by Select next refusal is keeps = same_spares keeps.0
+    kept_by SweepStage (CopyNext source entry) refusal is keeps = same_spares keeps.0
+    kept_by SweepStage (Flush source entry) refusal is keeps = same_spares keeps.0
+    kept_by SweepStage (Release source entry) refusal is keeps = same_spares keeps
+    kept_by SweepStage End refusal is keeps = same_spares keeps.0
+
+    pub spares_refused : (refusal : Refusal) → Keeps c.stage c.sweep.next (moment t (Some index) old c) (moment tables_now known new d) refusal → Spares P index store.held d
+    spares_refused refusal keeps = kept_by c.stage c.sweep.next refusal refl keeps
 
 -- ---- at its end
 
@@ -372,15 +369,33 @@ module _ (P : List ℕ → Type 0) (index : PlaceMap) (store : Store) (live : Li
   spared_holds kind slot (e ∷ es) (inr rest) none = spared_holds kind slot es rest none
   spared_holds kind slot (e ∷ es) (inl has) none =
       let place : Place = place_of slot e in
-      let found = finds store index (entry_key kind e) place partial (copy_is live index kind slot e has.0) in
+      let found = finds store index (entry_key kind e) place partial (copy_at index kind slot e has.0) in
       none (entry_key kind e) found.0 (within (entry_key kind e) place has.1) found.1 (ap (λ (p : Place). p.slot) found.2)
 
--- So none is left that holds no such copy.
-pub spares_ended : (P : List ℕ → Type 0) (index : PlaceMap) (store : Store) (c : Collection) → IsPartialIndexOf store.held index → c.stage ≡ End → Spares P index store.held c
-    → (slot : ℕ) → ¬ (IsSpare P store.held slot)
-spares_ended P index store c partial ended was slot spare =
-    spared_holds P index store c.live partial was.within spare.header.kind slot spare.header.entries
-    (subst (λ (s : Stage). IsSparedAt s index c slot spare.header) ended (was.spared slot spare.header spare.holds)) spare.none
+module _ (P : List ℕ → Type 0) (index : PlaceMap) (store : Store) (t : SlotTable) (c : Collection) (under : IsUnderWay t c) (sweeps : c.stage ≡ SweepStage) (ended : c.sweep.next ≡ End)
+    (was : Spares P index store.held c) where
+  -- each container holds a live copy
+  pub ended_spared : (slot : ℕ) (h : HeaderValue) → slice_get store.held slot ≡ Some (Some h) → IsSpared index c slot h
+  ended_spared slot h there = by_way (subst (λ (s : Stage). IsSparedAt s index c slot h) sweeps (was.spared slot h there))
+    where
+      sweeping : IsSweeping t c.snapshot c.sweep
+      sweeping = at_stage t c SweepStage under sweeps
+
+      has : HasNext t c.sweep End
+      has = subst (HasNext t c.sweep) ended sweeping.next_is
+
+      none : c.sweep.waiting.items ++ c.sweep.ready.items ≡ []
+      none = ap (λ (xs : List ℕ). xs ++ c.sweep.ready.items) (sweeping.waits has.1) ∙ has.0
+
+      by_way : IsSparedAt SweepStage index c slot h → IsSpared index c slot h
+      by_way (inl (i, (from, below, is))) = absurd (omega (arith, from, below, ap (sources_before c.sweep) ended))
+      by_way (inr (inl freed)) = absurd (none_in (c.sweep.waiting.items ++ c.sweep.ready.items) slot none freed)
+      by_way (inr (inr spared)) = spared
+
+  -- So none is left that holds no such copy.
+  pub spares_ended : IsPartialIndexOf store.held index → (slot : ℕ) → ¬ (IsSpare P store.held slot)
+  spares_ended partial slot spare =
+      spared_holds P index store c.live partial was.within spare.header.kind slot spare.header.entries (ended_spared slot spare.header spare.holds) spare.none
 
 -- ---- what others leave
 
@@ -394,8 +409,8 @@ pub as_spared : (P : List ℕ → Type 0) (index : PlaceMap) (held : List (Optio
     → Spares P index held (record c { live = now })
 as_spared P index held c now same was = record {
   within = λ key place is. was.within key place ((same key place).0 is);
-  all_old = was.all_old;
   spared = λ slot h there. by_stage c.stage slot h (was.spared slot h there);
+  alone = alone_by c.stage was.alone;
 }
   where
     on : (slot : ℕ) (h : HeaderValue) → IsSpared index c slot h → IsSpared index (record c { live = now }) slot h
@@ -406,12 +421,16 @@ as_spared P index held c now same was = record {
     either f (inr b) = inr (f b)
 
     by_stage : (stage : Stage) (slot : ℕ) (h : HeaderValue) → IsSparedAt stage index c slot h → IsSparedAt stage index (record c { live = now }) slot h
-    by_stage (Mark level at) slot h is = tt
-    by_stage (Filter at) slot h is = λ below. either (on slot h) (is below)
-    by_stage Select slot h is = either (on slot h) is
-    by_stage (CopyStage source) slot h is = either (on slot h) is
-    by_stage (Release next at) slot h is = either (either (on slot h)) is
-    by_stage End slot h is = on slot h is
+    by_stage (Mark level at) slot h is = is
+    by_stage (Filter at) slot h is = (is.0, λ below. either (on slot h) (is.1 below))
+    by_stage Select slot h is = (is.0, either (on slot h) is.1)
+    by_stage SweepStage slot h is = either (either (on slot h)) is
+
+    alone_by : (stage : Stage) → CopiesAlone stage index held c → CopiesAlone stage index held (record c { live = now })
+    alone_by (Mark level at) is = tt
+    alone_by (Filter at) is = tt
+    alone_by Select is = tt
+    alone_by SweepStage is = is
 
 -- A container that is about to be given back holds the newest copy of no key that files need.
 pub ready_is_spare : (index : PlaceMap) (store : Store) (files : Files) (slot : ℕ) (h : HeaderValue) → slice_get store.held slot ≡ Some (Some h) → IsPartialIndexOf store.held index

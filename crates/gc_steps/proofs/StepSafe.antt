@@ -1,82 +1,100 @@
 -- What the next step of a collection leaves, when it is done: it is safe, and no key that is needed is lost.
-use Rattle.std.proofs.Common.{◌≡◌, ◌⊎◌, inl, inr, ℕ, ◌+◌, ◌<◌, ◌≤◌, Bool, true, false, List, length, get_or, Option, Some, None, refl, sym, ◌∙◌, ap, subst, arith}
-use Rattle.std.specs.Prelude.{if◌then◌else◌, nat_lt, slice_get, not, ◌==◌}
-use Rattle.std.proofs.lemmas.Bool.{ltb-true}
-use Rattle.base_model.proofs.Checks.{both}
+use Rattle.std.proofs.Common.{◌≡◌, ◌⊎◌, inl, inr, ℕ, ◌+◌, ◌≤◌, List, length, get_or, Option, Some, None, refl, sym, ◌∙◌, ap, subst}
+use Rattle.std.specs.Prelude.{slice_get}
+use Rattle.std.specs.List.{All, AllByRecursion}
 use Rattle.actor_parts.specs.declared.actor.TheConstants.{ACTORS}
 use Rattle.actor_parts.specs.declared.part.Part.{Part}
-use Rattle.container_log.specs.Writing.{SameButGate}
+use Rattle.container_meta.specs.declared.entry.Entry.{Entry}
 use Rattle.container_meta.specs.Places.{PlaceMap}
-use Rattle.container_meta.specs.Spelling.{HeaderValue}
+use Rattle.container_meta.specs.Segments.{Contents, entries_from, segment_key}
+use Rattle.container_meta.specs.Spelling.{HeaderValue, header_of}
 use Rattle.dd_disk.specs.Ending.{Ending, Done}
 use Rattle.dd_disk.specs.Moves.{StandsFor}
-use Rattle.dd_disk.specs.View.{DiskView, OnlyReads}
+use Rattle.dd_disk.specs.View.{DiskView, IsLater, OnlyReads}
 use Rattle.dd_disk.specs.Writes.{Both}
-use Rattle.dd_disk.proofs.Shows.{shown_content}
 use Rattle.disk_format.specs.Layout.{slot_at}
+use Rattle.gc_enumerate.specs.Live.{LiveKeys}
+use Rattle.gc_enumerate.specs.Scanning.{child_keys}
+use Rattle.ingest_steps.specs.Sealing.{SealsIndexed}
+use Rattle.merkle_file.specs.Node as node
+use Rattle.namespace.specs.Names.{NameMap}
 use Rattle.segment_index.specs.Changes.{Changes, SameBefore}
 use Rattle.store_model.specs.Collisions.{ByteSet, IsIn, Stands}
 use Rattle.store_model.specs.Files.{Files}
 use Rattle.store_model.specs.Freeing.{with_freed}
-use Rattle.store_model.specs.Image.{IsValidFor, Store}
-use Rattle.store_model.specs.Slots.{HasKey, HoldsSlot, IsPartialIndexOf}
+use Rattle.store_model.specs.Image.{IsValidFor, Store, names_of}
+use Rattle.store_model.specs.Indexing.{entry_key, with_entries}
+use Rattle.store_model.specs.Reserve.{HasReserve}
+use Rattle.store_model.specs.Slots.{AreHeaders, Copy, HasFree, HasKey, IsPartialIndexOf, first_free}
 use Rattle.store_model.specs.Standing.{IsStoreOf}
-use Rattle.store_model.specs.Steps.{KeepsCopies}
-use Rattle.store_model.specs.Trees.{HasNewest}
-use Rattle.store_model.proofs.Copies.{headers_of_right, some_same}
+use Rattle.store_model.specs.Steps.{CanFlush, with_sealed}
+use Rattle.store_model.specs.Trees.{HasNewest, bytes_at, node_key}
+use Rattle.store_model.proofs.Copies.{some_same}
 use Rattle.store_model.proofs.FramedTrees.{newest_framed, stands_framed}
-use Rattle.store_model.proofs.Free.{as_many}
-use Rattle.store_model.proofs.Freed.{free_freed, valid_freed}
-use Rattle.store_model.proofs.FreedFiles.{reserve_by, reserve_freed}
+use Rattle.store_model.proofs.Freed.{there_before}
+use Rattle.store_model.proofs.Indexing.{entry_of, put_none}
+use Rattle.store_model.proofs.Valid.{valid_sealed}
 use Rattle.store_state.specs.Invariant.{CoreInvariant}
-use Rattle.store_state.specs.Tables.{Represents}
+use Rattle.store_state.specs.Tables.{Represents, RepresentsSlots}
 use Rattle.store_state.specs.declared.tables.Tables.{Tables}
 use Rattle.store_state.proofs.Parts.{parts_kept}
+use Rattle.gc_sweep.specs.declared.sweep.Next.{Next}
+use Rattle.gc_sweep.specs.declared.sweep.Next.TheVariants.{Copy as CopyNext, Flush, Release, End}
+use Rattle.gc_sweep.specs.declared.sweep.Sweep.{Sweep as SweepValue}
+use Rattle.gc_sweep.specs.Copying.{CopiesSource}
+use Rattle.gc_sweep.specs.Holding.{HoldsSweep, IsLive, SourcesStand}
+use Rattle.gc_sweep.specs.InTurn.{HasReleased, slot_in_turn}
+use Rattle.gc_sweep.specs.Releasing.{GivesBack, HasFreed, HasNoEntryIn}
+use Rattle.gc_sweep.specs.UnderWay.{IsSweeping}
+use Rattle.gc_sweep.proofs.Holds.{begun_holds, in_turn}
+use Rattle.gc_sweep.proofs.HoldsCopied.{holds_copied, leaves_on_disk}
+use Rattle.gc_sweep.proofs.HoldsFlushed.{holds_flushed}
+use Rattle.gc_sweep.proofs.HoldsReleased.{holds_released}
+use Rattle.gc_sweep.proofs.HoldsRoom.{are_newest, has_reserve, may_flush, one_free}
+use Rattle.gc_sweep.proofs.InSlots.{copy_of, sources_stand}
+use Rattle.gc_sweep.proofs.Leaves.{LeavesStore, copy_leaves, flush_leaves, live_keys, release_leaves}
 use Rattle.gc_steps.specs.declared.collection.Collection.{Collection}
 use Rattle.gc_steps.specs.declared.collection.Stage.{Stage}
-use Rattle.gc_steps.specs.declared.collection.Stage.TheVariants.{Mark, Filter, Select, Copy as CopyStage, Release, End}
-use Rattle.gc_steps.specs.Copying.{Empties, GivesUp, Takes}
-use Rattle.copy_forward.specs.Entries.{AreDead, copy_keys, without_keys}
+use Rattle.gc_steps.specs.declared.collection.Stage.TheVariants.{Mark, Filter, Select, Sweep}
 use Rattle.gc_steps.specs.Filtering.{Chooses, Records}
-use Rattle.gc_steps.specs.LiveTrees.{IsLive, IsWhole}
+use Rattle.gc_steps.specs.LiveTrees.{HoldsNode, IsWhole}
 use Rattle.gc_steps.specs.Marking.{Scans}
-use Rattle.gc_steps.specs.MarksAreClosed.{MarksAreClosed}
-use Rattle.gc_sweep.specs.Releasing.{HasFreed}
+use Rattle.gc_steps.specs.MarksAreClosed.{MarksAreClosed, NewAreLive}
+use Rattle.gc_steps.specs.Roots.{IsRoot}
 use Rattle.gc_steps.specs.Safety.{IsNeeded, IsSafe, IsSafeAt}
-use Rattle.gc_sweep.specs.UnderWay.{is_old}
-use Rattle.gc_steps.specs.Stages.{filter_at, first_slot, is_old_slot, mark_from, sweep_from}
-use Rattle.gc_steps.specs.Stepping.{StepsTo, TablesAfter, Touches, moment}
-use Rattle.gc_sweep.specs.Releasing.{HasNoEntryIn}
-use Rattle.gc_steps.specs.SweepIsSafe.{IsReadySource, ReleasesReady, SweepIsSafe}
+use Rattle.gc_steps.specs.Stages.{filter_at, first_slot, is_old_slot, mark_from}
+use Rattle.gc_steps.specs.Stepping.{Flushes, StepsTo, TablesAfter, Touches, moment}
+use Rattle.gc_steps.specs.SweepIsSafe.{HoldsAt, SweepIsSafe}
 use Rattle.gc_steps.specs.UnderWay.{IsUnderWay}
 use Rattle.gc_steps.proofs.ChildTrees.{children_whole}
-use Rattle.gc_steps.proofs.FirstStage.{id_there}
-use Rattle.gc_steps.proofs.FoundNodes.{header_held}
-use Rattle.gc_steps.proofs.GivenBack.{given_back, none_ready}
 use Rattle.gc_steps.proofs.NeededKeys.{needed_has, parts_have, reachable_has}
-use Rattle.gc_steps.proofs.OtherSteps.{kept}
 use Rattle.gc_steps.proofs.RootTrees.{whole_indexed}
 use Rattle.gc_steps.proofs.Safe.{early_from, marks_safe, restaged, sweep_safe}
 use Rattle.gc_steps.proofs.ScanKeeps.{scan_keeps}
+use Rattle.gc_steps.proofs.SealedPins.{entries_sealed, key_found, with_there}
 use Rattle.gc_steps.proofs.Started.{root_whole}
-use Rattle.gc_sweep.proofs.Released.{none_held}
-use Rattle.gc_steps.proofs.Swept.{had_before, live_after, partial_after, swept}
 use Rattle.gc_steps.proofs.UnderWay.{at_stage}
 
 -- A container of a store is given back, in whose slot the index has no entry.
-pub record IsFreeing (stage : Stage) (index : PlaceMap) (store store_now : Store) : Type 0 where
-  pub next : ℕ
-  pub slot : ℕ
-  pub stage_is : stage ≡ Release next slot
+pub record IsFreeing (index : PlaceMap) (slot : ℕ) (store store_now : Store) : Type 0 where
   pub header : HeaderValue
   pub there : slice_get store.held slot ≡ Some (Some header)
   pub none : HasNoEntryIn index slot
   pub now_is : store_now ≡ with_freed slot store
 
--- The store stays; but where the source that is ready is given back, it is that with its slot closed.
-abbrev pub IsStoreAfter : Stage → PlaceMap → Store → Store → Type 0
-IsStoreAfter stage index store store_now =
-    (((next slot : ℕ) → stage ≡ Release next slot → ⊥) × (store_now ≡ store)) ⊎ IsFreeing stage index store store_now
+-- A container of copies is written, each of which is the newest copy of its key.
+pub record IsFlushing (filled : Contents) (store store_now : Store) (image : List ℕ) : Type 0 where
+  pub id : ℕ
+  pub can : CanFlush id filled.kind filled.segments store
+  pub newest : AllByRecursion (λ x. HasNewest store.held (segment_key filled.kind x) x.level x.bytes image) filled.segments
+  pub now_is : store_now ≡ with_sealed id filled.kind filled.segments store
+
+-- The store stays; but where copies are written it has their container, and where the source in turn is given back it is that with its slot
+-- closed.
+abbrev pub IsStoreAfter : Stage → Next → SweepValue → PlaceMap → Store → Store → List ℕ → Type 0
+IsStoreAfter Sweep (Flush source entry) s index store store_now image = IsFlushing s.buffer store store_now image
+IsStoreAfter Sweep (Release source entry) s index store store_now image = IsFreeing index (slot_in_turn s) store store_now
+IsStoreAfter stage next s index store store_now image = store_now ≡ store
 
 -- the keys that were needed are in the index, and their newest copies are what they were
 abbrev pub Spares : PlaceMap → Store → Store → List Part → List ℕ → List ℕ → Type 0
@@ -84,14 +102,14 @@ Spares later store store_now parts image now =
     (key : List ℕ) → IsNeeded store parts image key
     → HasKey later key × ((level : ℕ) (bytes : List ℕ) → HasNewest store.held key level bytes image → HasNewest store_now.held key level bytes now)
 
--- What a step of a stage leaves: the invariants of the running store, and of the collection, of the store and the map of the index that
--- there are then; and all that is needed.
-pub record LeavesSafe (stage : Stage) (index : PlaceMap) (store : Store) (files : Files) (parts : List Part) (image now : List ℕ) (among : ByteSet) (u : Tables) (known : Option PlaceMap) (new : DiskView)
+-- What a step leaves: the invariants of the running store, and of the collection, of the store and the map of the index that there are then; and
+-- all that is needed.
+pub record LeavesSafe (c : Collection) (index : PlaceMap) (store : Store) (files : Files) (parts : List Part) (image now : List ℕ) (among : ByteSet) (u : Tables) (known : Option PlaceMap) (new : DiskView)
     (d : Collection) : Type 0 where
   pub later : PlaceMap
   pub known_is : known ≡ Some later
   pub store_now : Store
-  pub store_is : IsStoreAfter stage index store store_now
+  pub store_is : IsStoreAfter c.stage c.sweep.next c.sweep index store store_now image
   pub represents : Represents store_now (Some later) u
   pub valid : IsValidFor new.size store_now
   pub stands : StandsFor (Stands (IsIn among) store_now files) new
@@ -99,22 +117,15 @@ pub record LeavesSafe (stage : Stage) (index : PlaceMap) (store : Store) (files 
   pub safe : IsSafe later store_now parts now d
   pub spares : Spares later store store_now parts image now
 
--- ---- stages that release nothing
+-- ---- lists
 
-filter_ready : (index : PlaceMap) (held : List (Option HeaderValue)) (snapshot : ℕ) (found : Option ℕ) → ReleasesReady index held snapshot (filter_at found)
-filter_ready index held snapshot None = tt
-filter_ready index held snapshot (Some slot) = tt
+filter_holds : (index : PlaceMap) (held : List (Option HeaderValue)) (image : List ℕ) (c : Collection) (found : Option ℕ) → HoldsAt (filter_at found) index held image c
+filter_holds index held image c None = tt
+filter_holds index held image c (Some slot) = tt
 
 filter_no_mark : (found : Option ℕ) (level slot : ℕ) → filter_at found ≡ Mark level slot → ⊥
 filter_no_mark None level slot is = cc
 filter_no_mark (Some other) level slot is = cc
-
-sweep_no_mark : (sources : List ℕ) (source level slot : ℕ) → sweep_from sources source ≡ Mark level slot → ⊥
-sweep_no_mark sources source level slot is = by_test (nat_lt source (length sources)) is
-  where
-    by_test : (b : Bool) → (if b then CopyStage source else End) ≡ Mark level slot → ⊥
-    by_test true is = cc
-    by_test false is = cc
 
 both_known : (R : List ℕ → List ℕ → Type 0) (a b : Option (List ℕ)) (old new : List ℕ) → Both R a b → a ≡ Some old → b ≡ Some new → R old new
 both_known R None b old new has is also = absurd cc
@@ -172,18 +183,28 @@ core_kept index store files parts image now core keeps = record {
 
 module _ (index : PlaceMap) (store : Store) (files : Files) (parts : List Part) (image now : List ℕ) (among : ByteSet) (t u : Tables) (known : Option PlaceMap) (old new : DiskView) (c d : Collection)
     (core : CoreInvariant index store files parts image) (few : length parts ≤ ACTORS) (represents : Represents store (Some index) t) (valid : IsValidFor old.size store)
-    (content : old.content ≡ Some image) (content_now : new.content ≡ Some now) (stands : StandsFor (Stands (IsIn among) store files) old) (under : IsUnderWay t.held c) where
-  abbrev Leaves : Stage → Type 0
-  Leaves stage = LeavesSafe stage index store files parts image now among u known new d
+    (content : old.content ≡ Some image) (content_now : new.content ≡ Some now) (stands : StandsFor (Stands (IsIn among) store files) old) (under : IsUnderWay t.held c) (under_now : IsUnderWay u.held d) where
+  abbrev Leaves : Stage → Next → Type 0
+  Leaves stage next = c.stage ≡ stage → c.sweep.next ≡ next → LeavesSafe c index store files parts image now among u known new d
 
   abbrev Newest : Type 0
   Newest = KeepsNewest store files image now old new among content content_now stands
 
+  abbrev Left : PlaceMap → Store → Type 0
+  Left later store_now = LeavesStore index later store store_now files parts image now among u new c.live
+
+  here : Stands (IsIn among) store files image
+  here = stands.each image (old.as_read image content)
+
   holds : IsStoreOf store files image
-  holds = store_of store files image now old new among content content_now stands
+  holds = here.holds
 
   partial : IsPartialIndexOf store.held index
   partial = core.index_is_newest
+
+  -- what is so of the store then, where this comes next
+  at_stage_next : (P : Stage → Next → Type 0) (stage : Stage) (next : Next) → c.stage ≡ stage → c.sweep.next ≡ next → P stage next → P c.stage c.sweep.next
+  at_stage_next P stage next stage_is next_is is = subst (λ (n : Next). P c.stage n) (sym next_is) (subst (λ (s : Stage). P s next) (sym stage_is) is)
 
   -- each key that is needed is in the index
   needed_indexed : (key : List ℕ) → IsNeeded store parts image key → HasKey index key
@@ -193,13 +214,13 @@ module _ (index : PlaceMap) (store : Store) (files : Files) (parts : List Part) 
       (λ n copy node whole k other within. (children_whole index store.held image n copy node whole k other within).is_whole) key needed)
 
   -- Where store, tables and index stay.
-  all_kept : (stage : Stage) → ((next slot : ℕ) → stage ≡ Release next slot → ⊥) → known ≡ Some index → u ≡ t → new.size ≡ old.size → StandsFor (Stands (IsIn among) store files) new → Newest
-      → IsSafe index store parts now d → Leaves stage
-  all_kept stage none known_is same size after keeps safe = record {
+  all_kept : IsStoreAfter c.stage c.sweep.next c.sweep index store store image → known ≡ Some index → u ≡ t → new.size ≡ old.size → StandsFor (Stands (IsIn among) store files) new → Newest
+      → IsSafe index store parts now d → LeavesSafe c index store files parts image now among u known new d
+  all_kept store_is known_is same size after keeps safe = record {
     later = index;
     known_is = known_is;
     store_now = store;
-    store_is = inl (none, refl);
+    store_is = store_is;
     represents = subst (λ (x : Tables). Represents store (Some index) x) (sym same) represents;
     valid = subst (λ (n : ℕ). IsValidFor n store) (sym size) valid;
     stands = after;
@@ -208,180 +229,250 @@ module _ (index : PlaceMap) (store : Store) (files : Files) (parts : List Part) 
     spares = λ key needed. (needed_indexed key needed, λ level bytes has. keeps key level bytes has);
   }
 
-  all_read : (stage : Stage) → ((next slot : ℕ) → stage ≡ Release next slot → ⊥) → known ≡ Some index → u ≡ t → OnlyReads old new → IsSafe index store parts image d → Leaves stage
-  all_read stage none known_is same only safe =
-      all_kept stage none known_is same only.later.size_is (read_stands store files image now old new among content content_now stands only)
+  all_read : IsStoreAfter c.stage c.sweep.next c.sweep index store store image → known ≡ Some index → u ≡ t → OnlyReads old new → IsSafe index store parts image d
+      → LeavesSafe c index store files parts image now among u known new d
+  all_read store_is known_is same only safe =
+      all_kept store_is known_is same only.later.size_is (read_stands store files image now old new among content content_now stands only)
       (read_keeps store files image now old new among content content_now stands only)
       (subst (λ (i : List ℕ). IsSafe index store parts i d) (sym (read_same store files image now old new among content content_now stands only)) safe)
 
-  mark_leaves : (level slot : ℕ) → c.stage ≡ Mark level slot → MarksAreClosed index store parts image c → Scans t.held (Some index) old new level slot c d → known ≡ Some index → u ≡ t → OnlyReads old new
-      → Leaves (Mark level slot)
-  mark_leaves level slot stage_is marks scans known_is same only =
-      all_read (Mark level slot) (λ next other wrong. cc) known_is same only
+  abbrev After : Stage → Next → Type 0
+  After stage next = IsStoreAfter stage next c.sweep index store store image
+
+  mark_leaves : (level slot : ℕ) (next : Next) → MarksAreClosed index store parts image c → Scans t.held (Some index) old new level slot c d → known ≡ Some index → u ≡ t → OnlyReads old new
+      → Leaves (Mark level slot) next
+  mark_leaves level slot next marks scans known_is same only stage_is next_is =
+      all_read (at_stage_next After (Mark level slot) next stage_is next_is refl) known_is same only
       (marks_safe index store parts image d
       (scan_keeps index store files parts image t old new level slot c d holds represents content stage_is marks (at_stage t.held c (Mark level slot) under stage_is).2.0 scans)
       (mark_from c.snapshot t.held level (slot + 1)) (ap (λ (x : Collection). x.stage) scans.collection_is) (early_from c.snapshot t.held level (slot + 1)))
 
-  filter_leaves : (slot : ℕ) → SweepIsSafe index store parts image c → Records t.held (Some index) old new slot c d → known ≡ Some index → u ≡ t → OnlyReads old new → Leaves (Filter slot)
-  filter_leaves slot safe records known_is same only =
+  filter_leaves : (slot : ℕ) (next : Next) → SweepIsSafe index store parts image c → Records t.held (Some index) old new slot c d → known ≡ Some index → u ≡ t → OnlyReads old new → Leaves (Filter slot) next
+  filter_leaves slot next safe records known_is same only stage_is next_is =
       let found : Option ℕ = first_slot t.held (is_old_slot c.snapshot t.held) (slot + 1) in
       let stage : d.stage ≡ filter_at found = ap (λ (x : Collection). x.stage) records.collection_is in
-      all_read (Filter slot) (λ next other wrong. cc) known_is same only
+      all_read (at_stage_next After (Filter slot) next stage_is next_is refl) known_is same only
       (sweep_safe index store parts image d (λ level other is. filter_no_mark found level other (sym stage ∙ is))
       (restaged index store parts image c d (ap (λ (x : Collection). x.live) records.collection_is) (ap (λ (x : Collection). x.snapshot) records.collection_is)
-      (subst (λ (s : Stage). ReleasesReady index store.held d.snapshot s) (sym stage) (filter_ready index store.held d.snapshot found)) safe))
+      (subst (λ (s : Stage). HoldsAt s index store.held image d) (sym stage) (filter_holds index store.held image d found)) safe))
 
-  -- the sources from one on come next
-  swept_on : (i : List ℕ) (sources : List ℕ) (source : ℕ) → d.stage ≡ sweep_from sources source → d.live ≡ c.live → d.snapshot ≡ c.snapshot → SweepIsSafe index store parts i c → IsSafe index store parts i d
-  swept_on i sources source stage live snapshot safe =
-      sweep_safe index store parts i d (λ level other is. sweep_no_mark sources source level other (sym stage ∙ is))
-      (restaged index store parts i c d live snapshot
-      (subst (λ (s : Stage). ReleasesReady index store.held d.snapshot s) (sym stage) (none_ready index store.held d.snapshot sources source)) safe)
+  -- the sweep that there is then holds
+  swept : (later : PlaceMap) (store_now : Store) (i : List ℕ) → RepresentsSlots store_now.held u.held → d.stage ≡ Sweep → HoldsSweep later store_now.held i d.live d.snapshot d.sweep
+      → HoldsAt d.stage later store_now.held i d
+  swept later store_now i slots stage holds_now =
+      subst (λ (s : Stage). HoldsAt s later store_now.held i d) (sym stage)
+      (sources_stand store_now.held u.held d.snapshot d.sweep (at_stage u.held d Sweep under_now stage) slots, holds_now)
 
-  select_leaves : SweepIsSafe index store parts image c → Chooses c d → known ≡ Some index → u ≡ t → OnlyReads old new → Leaves Select
-  select_leaves safe chooses known_is same only =
-      all_read Select (λ next other wrong. cc) known_is same only
-      (swept_on image d.sources.items 0 (ap (λ (x : Collection). x.stage) chooses.collection_is) (ap (λ (x : Collection). x.live) chooses.collection_is)
-      (ap (λ (x : Collection). x.snapshot) chooses.collection_is) safe)
+  select_leaves : (next : Next) → SweepIsSafe index store parts image c → Chooses t.held c d → known ≡ Some index → u ≡ t → OnlyReads old new → Leaves Select next
+  select_leaves next safe chooses known_is same only stage_is next_is =
+      let stage : d.stage ≡ Sweep = ap (λ (x : Collection). x.stage) chooses.collection_is in
+      all_read (at_stage_next After Select next stage_is next_is refl) known_is same only
+      (sweep_safe index store parts image d (λ level other is. let wrong = sym stage ∙ is in cc)
+      (restaged index store parts image c d (ap (λ (x : Collection). x.live) chooses.collection_is) (ap (λ (x : Collection). x.snapshot) chooses.collection_is)
+      (swept index store image (subst (λ (x : Tables). RepresentsSlots store.held x.held) (sym same) represents.slots_hold) stage
+      (begun_holds t.held d.sweep.sources.items d.sweep index store.held image d.live d.snapshot chooses.begins)) safe))
 
-  end_leaves : IsSafe index store parts image c → d ≡ c → known ≡ Some index → u ≡ t → OnlyReads old new → Leaves End
-  end_leaves safe is known_is same only =
-      all_read End (λ next other wrong. cc) known_is same only (subst (λ (x : Collection). IsSafe index store parts image x) (sym is) safe)
+  end_leaves : IsSafe index store parts image c → d ≡ c → known ≡ Some index → u ≡ t → OnlyReads old new → Leaves Sweep End
+  end_leaves safe is known_is same only stage_is next_is =
+      all_read (at_stage_next After Sweep End stage_is next_is refl) known_is same only (subst (λ (x : Collection). IsSafe index store parts image x) (sym is) safe)
 
-  -- A source was taken.
-  module _ (source : ℕ) (stage_is : c.stage ≡ CopyStage source) (safe : SweepIsSafe index store parts image c) (same : u ≡ t) (changes : Changes (slot_at store.slots) Done old new) where
-    keeps : Newest
-    keeps = changed_keeps store files image now old new among content content_now stands Done changes
+  -- ---- the sweep
 
-    safe_now : SweepIsSafe index store parts now c
-    safe_now = (kept index store image now parts c (λ key level bytes need has. keeps key level bytes has)).1 safe
+  module _ (safe : SweepIsSafe index store parts image c) (stage_is : c.stage ≡ Sweep) where
+    sweeping : IsSweeping t.held c.snapshot c.sweep
+    sweeping = at_stage t.held c Sweep under stage_is
 
-    after : StandsFor (Stands (IsIn among) store files) new
-    after = changed_stands store files image now old new among content content_now stands Done changes
+    was_held : SourcesStand store.held c.snapshot c.sweep × HoldsSweep index store.held image c.live c.snapshot c.sweep
+    was_held = subst (λ (s : Stage). HoldsAt s index store.held image c) stage_is safe.sweep_holds
 
-    given_up : (slot : ℕ) (h : HeaderValue) → GivesUp (Some index) known slot h source c d → Leaves (CopyStage source)
-    given_up slot h up =
-        all_kept (CopyStage source) (λ next other wrong. cc) up.map_stays same changes.later.size_is after keeps
-        (swept_on now c.sources.items (source + 1) (ap (λ (x : Collection). x.stage) up.collection_is) (ap (λ (x : Collection). x.live) up.collection_is)
-        (ap (λ (x : Collection). x.snapshot) up.collection_is) safe_now)
+    -- Where a step leaves the store, and just the live keys live, the sweep is safe, and nothing is lost that is needed.
+    module _ (later : PlaceMap) (store_now : Store) (left : Left later store_now) (on : d ≡ record c { sweep = d.sweep }) (names : names_of store_now ≡ names_of store) where
+      all_still : (keys : List (List ℕ)) → All (IsLive index c.live) keys → All (IsLive later d.live) keys
+      all_still keys all k other within = subst (λ (l : LiveKeys). IsLive later l (get_or keys k other)) (sym (ap (λ (x : Collection). x.live) on)) (left.stays (get_or keys k other) (all k other within))
 
-    module _ (slot : ℕ) (h : HeaderValue) (there : slice_get store.held slot ≡ Some (Some h)) (came_before : h.id < c.snapshot) (dead : AreDead index c.live h.kind slot h.entries) where
-      abbrev fewer : PlaceMap
-      fewer = without_keys (copy_keys index h.kind slot h.entries) index
+      live_before : (key : List ℕ) → IsLive later d.live key → IsLive index c.live key
+      live_before key is = left.was key (subst (λ (l : LiveKeys). IsLive later l key) (ap (λ (x : Collection). x.live) on) is)
 
-      still : Represents store (Some index) u
-      still = subst (λ (x : Tables). Represents store (Some index) x) (sym same) represents
+      closed : (n : node.Contents) (copy : Copy) → HoldsNode store_now.held now n copy → IsLive later d.live (node_key n) → All (IsLive later d.live) (child_keys n)
+      closed n copy there live =
+          let was = live_before (node_key n) live in
+          let found = copy_of store.held index partial (node_key n) was.0 was.1.0 in
+          let has : HasNewest store.held (node_key n) found.0.place.level (bytes_at found.0.place image) image = record { copy = found.0; copy_is = found.1.0; level_is = refl; bytes_are = refl } in
+          let then = left.copies (node_key n) found.0.place.level (bytes_at found.0.place image) was has in
+          let one : then.copy ≡ copy = some_same then.copy copy (sym then.copy_is ∙ there.copy_is) in
+          all_still (child_keys n)
+          (safe.live_is_closed n found.0 (record {
+            right = there.right;
+            copy_is = found.1.0;
+            bytes_are = sym then.bytes_are ∙ ap (λ (x : Copy). bytes_at x.place now) one ∙ there.bytes_are;
+          }) was)
 
-      live_has : (key : List ℕ) → IsLive index c.live key → HasKey fewer key
-      live_has key is = let on = live_after c.live store index slot h there partial dead key is in (on.0, on.1.0)
+      pub safe_on : HoldsSweep later store_now.held now c.live c.snapshot d.sweep → NewAreLive later c.live c.snapshot store_now.held → IsSafe later store_now parts now d
+      safe_on holds_now new_live =
+          let live : d.live ≡ c.live = ap (λ (x : Collection). x.live) on in
+          let snapshot : d.snapshot ≡ c.snapshot = ap (λ (x : Collection). x.snapshot) on in
+          let stage : d.stage ≡ Sweep = ap (λ (x : Collection). x.stage) on ∙ stage_is in
+          sweep_safe later store_now parts now d (λ level other is. let wrong = sym stage ∙ is in cc) (record {
+            roots_are_live = λ key root. subst (λ (l : LiveKeys). IsLive later l key) (sym live)
+                (left.stays key (safe.roots_are_live key (subst (λ (n : NameMap). IsRoot n parts key) names root)));
+            live_is_closed = closed;
+            sweep_holds = swept later store_now now left.represents.slots_hold stage
+                (subst (λ (l : LiveKeys). HoldsSweep later store_now.held now l d.snapshot d.sweep) (sym live)
+                (subst (λ (n : ℕ). HoldsSweep later store_now.held now c.live n d.sweep) (sym snapshot) holds_now));
+            new_are_live = subst (λ (l : LiveKeys). NewAreLive later l d.snapshot store_now.held) (sym live)
+                (subst (λ (n : ℕ). NewAreLive later c.live n store_now.held) (sym snapshot) new_live);
+          })
 
-      had : (key : List ℕ) → HasKey fewer key → HasKey index key
-      had key has = (has.0, had_before (copy_keys index h.kind slot h.entries) index key has.0 has.1)
+      needed_live : (key : List ℕ) → IsNeeded store parts image key → IsLive index c.live key
+      needed_live key needed = needed_has index store files parts image holds (IsLive index c.live) safe.roots_are_live safe.live_is_closed key needed
 
-      fewer_partial : IsPartialIndexOf store.held fewer
-      fewer_partial = partial_after c.live store index slot h there partial dead
-
-      emptied_leaves : known ≡ Some fewer → d ≡ record c { stage = Release (source + 1) slot } → Leaves (CopyStage source)
-      emptied_leaves known_is collection_is = record {
-        later = fewer;
+      pub left_safe : known ≡ Some later → IsStoreAfter c.stage c.sweep.next c.sweep index store store_now image → IsSafe later store_now parts now d → LeavesSafe c index store files parts image now among u known new d
+      left_safe known_is store_is safe_now = record {
+        later = later;
         known_is = known_is;
-        store_now = store;
-        store_is = inl ((λ next other wrong. cc), refl);
-        represents = record {
-          slots_are = still.slots_are;
-          names_are = still.names_are;
-          slots_hold = still.slots_hold;
-          index_is_newest = λ m is. subst (IsPartialIndexOf store.held) (some_same fewer m is) fewer_partial;
-        };
-        valid = subst (λ (n : ℕ). IsValidFor n store) (sym changes.later.size_is) valid;
-        stands = after;
-        core = record {
-          index_is_newest = fewer_partial;
-          files_are_indexed = λ key needed.
-              live_has key (reachable_has index store files parts image holds (IsLive index c.live) safe.roots_are_live safe.live_is_closed key needed);
-          pins_are_closed = parts_kept (IsLive index c.live) (HasKey fewer) store store image now (λ key level bytes need has. keeps key level bytes has) live_has parts
-              (parts_have index store files parts image holds (IsLive index c.live) safe.roots_are_live safe.live_is_closed few core.pins_are_closed);
-          reserve_holds = reserve_by (HasKey index) (HasKey fewer) store.held had core.reserve_holds;
-          has_free = core.has_free;
-        };
-        safe = subst (λ (x : Collection). IsSafe fewer store parts now x) (sym collection_is) (swept store index parts now c source slot h there came_before partial dead safe_now);
-        spares = λ key needed. (
-          live_has key (needed_has index store files parts image holds (IsLive index c.live) safe.roots_are_live safe.live_is_closed key needed),
-          λ level bytes has. keeps key level bytes has,
-        );
+        store_now = store_now;
+        store_is = store_is;
+        represents = left.represents;
+        valid = left.valid;
+        stands = left.stands;
+        core = left.core;
+        safe = safe_now;
+        spares = λ key needed.
+            let live = needed_live key needed in
+            let then = left.stays key live in ((then.0, then.1.0), λ level bytes has. left.copies key level bytes live has);
       }
 
-    taken_leaves : Takes t.held (Some index) known old new source c d → Leaves (CopyStage source)
-    taken_leaves takes = by_way takes.taken
-      where
-        shown : HoldsSlot image takes.slot (Some takes.header)
-        shown = shown_content old new (λ (i : List ℕ). HoldsSlot i takes.slot (Some takes.header)) image takes.shown content
+    -- live entries stay so
+    new_still : (later : PlaceMap) → ((key : List ℕ) → IsLive index c.live key → IsLive later c.live key) → NewAreLive later c.live c.snapshot store.held
+    new_still later stays slot h there above k other within = stays (entry_key h.kind (get_or h.entries k other)) (safe.new_are_live slot h there above k other within)
 
-        there : slice_get store.held takes.slot ≡ Some (Some takes.header)
-        there = header_held store.held image takes.slot takes.header holds.right.slots_are (omega (arith, takes.within, ap length represents.slots_hold.ids_are, as_many store.held)) shown
+    -- A source is copied.
+    copy_leaves_safe : (source entry : ℕ) → c.sweep.next ≡ CopyNext source entry → CopiesSource t.held c.live (Some index) known old new source entry c.sweep d.sweep → d ≡ record c { sweep = d.sweep } → u ≡ t
+        → Changes (slot_at store.slots) Done old new → LeavesSafe c index store files parts image now among u known new d
+    copy_leaves_safe source entry next_is copies on same changes =
+        let keeps : Newest = changed_keeps store files image now old new among content content_now stands Done changes in
+        let held = leaves_on_disk index store.held image now c.live c.snapshot known d.sweep keeps
+        (holds_copied t.held index store.held image c.live c.snapshot source entry c.sweep d.sweep known old new represents.slots_hold valid.different holds.right.slots_are partial content sweeping next_is was_held.1 copies) in
+        let left : Left held.later store =
+        copy_leaves index store files parts image now among t u old new c.live core represents valid content content_now stands held.later same changes.later.size_is
+        (changed_stands store files image now old new among content content_now stands Done changes) keeps held.stay held.were
+        (λ key needed. reachable_has index store files parts image holds (IsLive index c.live) safe.roots_are_live safe.live_is_closed key needed)
+        (parts_have index store files parts image holds (IsLive index c.live) safe.roots_are_live safe.live_is_closed few core.pins_are_closed) in
+        left_safe held.later store left on refl held.known_is (at_stage_next After Sweep (CopyNext source entry) stage_is next_is refl)
+        (safe_on held.later store left on refl held.sweep_holds (new_still held.later left.stays))
 
-        is_old_id : is_old c.snapshot (get_or c.sources.items source 0) ≡ true
-        is_old_id = let left = at_stage t.held c (CopyStage source) under stage_is in left.1.old source (omega arith) left.0
+    -- What was copied is written.
+    module _ (source entry : ℕ) (next_is : c.sweep.next ≡ Flush source entry) (flushes : Flushes source entry (moment t (Some index) old c) (moment u known new d)) (goes : IsLater old new)
+        (moves : SealsIndexed t (t.held.last_id + 1) c.sweep.buffer Done old new) where
+      abbrev filled : Contents
+      filled = c.sweep.buffer
 
-        id_is : get_or c.sources.items source 0 ≡ takes.header.id
-        id_is =
-            sym takes.id_is ∙ ap (λ (ids : List ℕ). get_or ids takes.slot 0) represents.slots_hold.ids_are ∙ id_there store.held takes.slot takes.header there
+      abbrev id : ℕ
+      id = t.held.last_id + 1
 
-        came_before : takes.header.id < c.snapshot
-        came_before =
-            let id : ℕ = get_or c.sources.items source 0 in
-            omega (arith, ltb-true id c.snapshot (both (not (id == 0)) (nat_lt id c.snapshot) is_old_id).1, id_is)
+      abbrev slot : ℕ
+      slot = flushes.slot
 
-        by_way : GivesUp (Some index) known takes.slot takes.header source c d ⊎ Empties (Some index) known takes.slot takes.header source c d → Leaves (CopyStage source)
-        by_way (inl up) = given_up takes.slot takes.header up
-        by_way (inr out) = emptied_leaves takes.slot takes.header there came_before (out.dead index refl) (out.map_is index refl) out.collection_is
+      abbrev written : Store
+      written = with_sealed id filled.kind filled.segments store
 
-  -- A source was given back.
-  release_leaves : (next slot : ℕ) → c.stage ≡ Release next slot → SweepIsSafe index store parts image c → HasFreed t slot u → Touches (Release next slot) t Done old new → known ≡ Some index
-      → d ≡ record c { stage = sweep_from c.sources.items next; freed = c.freed + 1 } → Leaves (Release next slot)
-  release_leaves next slot stage_is safe freed touches known_is collection_is = record {
-    later = index;
-    known_is = known_is;
-    store_now = with_freed slot store;
-    store_is = inr (record { next = next; slot = slot; stage_is = refl; header = ready.header; there = ready.there; none = ready.is_empty; now_is = refl });
-    represents = after;
-    valid = subst (λ (n : ℕ). IsValidFor n (with_freed slot store)) (sym touches.0.later.size_is) (valid_freed old.size slot store valid);
-    stands = (touches.1.moves among store index files represents core.files_are_indexed ready.is_empty stands).arrives;
-    core = record {
-      index_is_newest = after.index_is_newest index refl;
-      files_are_indexed = core.files_are_indexed;
-      pins_are_closed = parts_kept (HasKey index) (HasKey index) store (with_freed slot store) image now copies (λ key has. has) parts core.pins_are_closed;
-      reserve_holds = reserve_freed (HasKey index) slot store.held (none_held store index slot partial ready.is_empty) core.reserve_holds;
-      has_free = omega (arith, core.has_free, free_freed slot ready.header store.held ready.there);
-    };
-    safe = subst (λ (x : Collection). IsSafe index (with_freed slot store) parts now x) (sym collection_is)
-        (sweep_safe index (with_freed slot store) parts now (record c { stage = sweep_from c.sources.items next; freed = c.freed + 1 }) (λ level other is. sweep_no_mark c.sources.items next level other is)
-        (given_back store index parts image now c next slot (c.freed + 1) stage_is (headers_of_right image store holds.right) partial
-        (let gate = touches.2.content refl image content in subst (λ (v : List ℕ). SameButGate slot image v) (some_same gate.0 now (sym gate.1 ∙ content_now)) gate.2) safe));
-    spares = λ key needed. let has = needed_indexed key needed in (has, λ level bytes newest. copies key level bytes has newest);
-  }
-    where
-      ready : IsReadySource index store.held c.snapshot next slot
-      ready = subst (ReleasesReady index store.held c.snapshot) stage_is safe.releases_ready
+      abbrev more : PlaceMap
+      more = with_entries filled.kind slot (entries_from 0 filled.segments) index
 
-      after : Represents (with_freed slot store) (Some index) u
-      after = freed.represents store (Some index) (λ m is. subst (λ (x : PlaceMap). HasNoEntryIn x slot) (some_same index m is) ready.is_empty) represents
+      can : CanFlush id filled.kind filled.segments store
+      can = flushes.writes.written.can.store_has store represents valid core.has_free
 
-      copies : KeepsCopies (HasKey index) store image (with_freed slot store) now
-      copies =
-          touches.1.holds among store index files image now represents core.files_are_indexed ready.is_empty content content_now (stands.each image (old.as_read image content))
+      first : slot ≡ first_free store.held
+      first = ((flushes.writes.has_slot.slot_is old.size (Some index)).store_has store represents valid core.has_free).first
+
+      known_is : known ≡ Some more
+      known_is = flushes.places image content index refl
+
+      holds_now : HoldsSweep more written.held now c.live c.snapshot d.sweep
+      holds_now =
+          subst (λ (n : ℕ). HoldsSweep (with_entries filled.kind n (entries_from 0 filled.segments) index) written.held now c.live c.snapshot d.sweep) (sym first)
+          (holds_flushed t.held index store.held image now c.live c.snapshot source entry id c.sweep d.sweep represents.slots_hold sweeping next_is flushes.flushed can.right under.began core.has_free was_held.1)
+
+      after : Represents written (Some more) u
+      after = flushes.writes.written.represents.store_has store represents valid core.has_free
+
+      sweeping_now : IsSweeping u.held c.snapshot d.sweep
+      sweeping_now =
+          subst (λ (n : ℕ). IsSweeping u.held n d.sweep) (ap (λ (x : Collection). x.snapshot) flushes.sweeps) (at_stage u.held d Sweep under_now (ap (λ (x : Collection). x.stage) flushes.sweeps ∙ stage_is))
+
+      in_index : (key : List ℕ) → HasKey more key → HasKey index key
+      in_index key has = by_found (entry_of filled.kind (entries_from 0 filled.segments) key) refl
+        where
+          by_found : (found : Option Entry) → entry_of filled.kind (entries_from 0 filled.segments) key ≡ found → HasKey index key
+          by_found None none = (has.0, sym (put_none filled.kind slot (entries_from 0 filled.segments) index key none) ∙ has.1)
+          by_found (Some e) found =
+              let live = live_keys index c.live store.held image filled.kind filled.segments was_held.1.copied key (key_found filled.kind 0 filled.segments key e found) in (live.0, live.1.0)
+
+      headers : AreHeaders written.held
+      headers = (valid_sealed id filled.kind filled.segments store can old.size valid).headers
+
+      reserve : HasReserve (HasKey more) written.held
+      reserve =
+          has_reserve u.held more written.held now c.live c.snapshot d.sweep after.slots_hold headers sweeping_now (after.index_is_newest more refl) holds_now
+
+      free : HasFree written.held
+      free = one_free u.held more written.held now c.live c.snapshot d.sweep after.slots_hold headers sweeping_now
+
+      left : Left more written
+      left =
+          flush_leaves index store files parts image now among t u old new c.live core represents valid content content_now stands slot filled flushes.writes goes moves
+          (may_flush index store.held image c.live c.snapshot c.sweep was_held.1 (IsIn among) holds.nodes here.among) (inr (inr (are_newest index store.held image c.live c.snapshot c.sweep was_held.1))) in_index reserve free
+
+      new_live : NewAreLive more c.live c.snapshot written.held
+      new_live other h there above = by_slot (with_there (first_free store.held) (header_of id filled.kind filled.segments) store.held other h there)
+        where
+          each : All (λ e. IsLive more c.live (entry_key filled.kind e)) (entries_from 0 filled.segments)
+          each k d within =
+              left.stays (entry_key filled.kind (get_or (entries_from 0 filled.segments) k d))
+              (live_keys index c.live store.held image filled.kind filled.segments was_held.1.copied (entry_key filled.kind (get_or (entries_from 0 filled.segments) k d)) (entries_sealed filled.kind 0 filled.segments k d within))
+
+          by_slot : (slice_get store.held other ≡ Some (Some h)) ⊎ (header_of id filled.kind filled.segments ≡ h) → All (λ e. IsLive more c.live (entry_key h.kind e)) h.entries
+          by_slot (inl was) = new_still more left.stays other h was above
+          by_slot (inr same) = subst (λ (g : HeaderValue). All (λ e. IsLive more c.live (entry_key g.kind e)) g.entries) same each
+
+      flush_leaves_safe : LeavesSafe c index store files parts image now among u known new d
+      flush_leaves_safe =
+          left_safe more written left flushes.sweeps refl known_is
+          (at_stage_next (λ s n. IsStoreAfter s n c.sweep index store written image) Sweep (Flush source entry) stage_is next_is
+          (record { id = id; can = can; newest = are_newest index store.held image c.live c.snapshot c.sweep was_held.1; now_is = refl }))
+          (safe_on more written left flushes.sweeps refl holds_now new_live)
+
+    -- A source is given back.
+    release_leaves_safe : (source entry : ℕ) → c.sweep.next ≡ Release source entry → HasFreed t (slot_in_turn c.sweep) u → HasReleased u.held source entry c.sweep d.sweep → d ≡ record c { sweep = d.sweep }
+        → known ≡ Some index → IsLater old new → GivesBack t (slot_in_turn c.sweep) Done old new → LeavesSafe c index store files parts image now among u known new d
+    release_leaves_safe source entry next_is freed released on known_is goes gives =
+        let slot : ℕ = slot_in_turn c.sweep in
+        let turn = in_turn t.held index store.held image c.live c.snapshot source entry c.sweep represents.slots_hold sweeping next_is was_held.1 in
+        let fewer : Store = with_freed slot store in
+        let left : Left index fewer =
+        release_leaves index store files parts image now among t u old new c.live core represents valid content content_now stands slot turn.stands.header turn.stands.there turn.none freed goes gives in
+        left_safe index fewer left on refl known_is
+        (at_stage_next (λ s n. IsStoreAfter s n c.sweep index store fewer image) Sweep (Release source entry) stage_is next_is
+        (record { header = turn.stands.header; there = turn.stands.there; none = turn.none; now_is = refl }))
+        (safe_on index fewer left on refl
+        (holds_released t.held u.held index store.held image now c.live c.snapshot source entry c.sweep d.sweep represents.slots_hold sweeping next_is released was_held.1
+        (λ key level bytes has. gives.holds among store index files image now represents core.files_are_indexed turn.none content content_now here key level bytes has))
+        (λ other h there above. safe.new_are_live other h (there_before slot other h store.held there).1 above))
 
   -- ---- whatever the stage
 
-  by_stage : (stage : Stage) → c.stage ≡ stage → IsSafeAt stage index store parts image c → StepsTo stage (moment t (Some index) old c) (moment u known new d) → TablesAfter stage t u
-      → Touches stage t Done old new → Leaves stage
-  by_stage (Mark level slot) is safe steps same touches = mark_leaves level slot is safe steps.0 steps.1 same touches.only
-  by_stage (Filter slot) is safe steps same touches = filter_leaves slot safe steps.0 steps.1 same touches.only
-  by_stage Select is safe steps same touches = select_leaves safe steps.0 steps.1 same touches.only
-  by_stage (CopyStage source) is safe steps same touches = taken_leaves source is safe same (touches store.slots valid.size_is) steps
-  by_stage (Release next slot) is safe steps freed touches = release_leaves next slot is safe freed touches (steps.2 image content) steps.0
-  by_stage End is safe steps same touches = end_leaves (subst (λ (s : Stage). IsSafeAt s index store parts image c) (sym is) safe) steps.0 steps.1 same touches.only
+  by_stage : (stage : Stage) (next : Next) → IsSafeAt stage index store parts image c → StepsTo stage next (moment t (Some index) old c) (moment u known new d)
+      → TablesAfter stage next (moment t (Some index) old c) (moment u known new d) → Touches stage next c.sweep t Done old new → IsLater old new → Leaves stage next
+  by_stage (Mark level slot) next safe steps same touches goes is next_is = mark_leaves level slot next safe steps.0 steps.1 same touches.only is next_is
+  by_stage (Filter slot) next safe steps same touches goes is next_is = filter_leaves slot next safe steps.0 steps.1 same touches.only is next_is
+  by_stage Select next safe steps same touches goes is next_is = select_leaves next safe steps.0 steps.1 same touches.only is next_is
+  by_stage Sweep (CopyNext source entry) safe steps same touches goes is next_is = copy_leaves_safe safe is source entry next_is steps.0 steps.1 same (touches store.slots valid.size_is)
+  by_stage Sweep (Flush source entry) safe steps tables touches goes is next_is = flush_leaves_safe safe is source entry next_is steps goes touches.1
+  by_stage Sweep (Release source entry) safe steps freed touches goes is next_is = release_leaves_safe safe is source entry next_is freed steps.0 steps.1 (steps.3 image content) goes touches.1
+  by_stage Sweep End safe steps same touches goes is next_is =
+      end_leaves (subst (λ (s : Stage). IsSafeAt s index store parts image c) (sym is) safe) steps.0 steps.1 same touches.only is next_is
 
-  pub step_safe : IsSafe index store parts image c → StepsTo c.stage (moment t (Some index) old c) (moment u known new d) → TablesAfter c.stage t u → Touches c.stage t Done old new
-      → LeavesSafe c.stage index store files parts image now among u known new d
-  step_safe safe steps tables touches = by_stage c.stage refl safe steps tables touches
+  pub step_safe : IsSafe index store parts image c → StepsTo c.stage c.sweep.next (moment t (Some index) old c) (moment u known new d)
+      → TablesAfter c.stage c.sweep.next (moment t (Some index) old c) (moment u known new d) → Touches c.stage c.sweep.next c.sweep t Done old new → IsLater old new
+      → LeavesSafe c index store files parts image now among u known new d
+  step_safe safe steps tables touches goes = by_stage c.stage c.sweep.next safe steps tables touches goes refl refl

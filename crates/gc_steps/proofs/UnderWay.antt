@@ -1,13 +1,10 @@
 -- A collection stays under way from step to step.
-use Rattle.std.proofs.Common.{◌≡◌, ◌≢◌, ℕ, zero, suc, ◌+◌, ◌-◌, ◌<◌, ◌≤◌, Bool, true, false, cond, List, [], ◌∷◌, ◌++◌, length, get_or, take, set, Option, Some, None, refl, sym, ◌∙◌, ap, subst, arith}
-use Rattle.std.specs.Prelude.{Contains, nat_eq, nat_lt, if◌then◌else◌, slice_get}
+use Rattle.std.proofs.Common.{◌≡◌, ℕ, zero, suc, ◌+◌, ◌-◌, ◌<◌, ◌≤◌, Bool, true, false, cond, List, [], ◌∷◌, ◌++◌, length, get_or, take, Option, Some, None, refl, sym, ◌∙◌, ap, subst, arith}
+use Rattle.std.specs.Prelude.{nat_eq, if◌then◌else◌, slice_get}
 use Rattle.std.specs.List.{AllByRecursion, IsDistinct}
-use Rattle.std.proofs.lemmas.Bool.{ltb-true}
 use Rattle.std.proofs.lemmas.Bool.Decides.{Decides-eqb}
-use Rattle.std.proofs.lemmas.List.{append-nil, get_or-set_other, length-set, map_push, take_all, take_more}
-use Rattle.std.proofs.lemmas.List.Elements.{All-contains, All-contains_itself, All-filter, filter-append, filter_passes}
-use Rattle.std.proofs.lemmas.Grind.{get_or_default_zero}
-use Rattle.std.proofs.lemmas.Map.Made.{AllPairs-from_IsDistinct}
+use Rattle.std.proofs.lemmas.List.{append-nil, map_push, take_all, take_more}
+use Rattle.std.proofs.lemmas.List.Elements.{filter-append}
 use Rattle.container_meta.specs.Places.{PlaceMap}
 use Rattle.container_meta.specs.Spelling.{HeaderValue}
 use Rattle.disk_format.specs.declared.numbers.TheConstants.{MOST_LEVEL}
@@ -15,28 +12,22 @@ use Rattle.gc_enumerate.specs.Live.{LiveKeys}
 use Rattle.gc_select.specs.declared.liveness.ContainerLiveness.{ContainerLiveness}
 use Rattle.gc_select.specs.Selecting.{ids_of}
 use Rattle.store_model.specs.Slots.{DifferentIds, IsUnusedId, ids_of as ids_held}
-use Rattle.store_state.specs.Tables.{Represents, Runs}
+use Rattle.store_state.specs.Tables.{Runs}
 use Rattle.store_state.specs.declared.slot_table.SlotCount.{SlotCount}
 use Rattle.store_state.specs.declared.slot_table.SlotTable.{SlotTable}
 use Rattle.store_state.specs.declared.tables.Tables.{Tables}
-use Rattle.store_state.proofs.Taken.{ids_without}
 use Rattle.gc_steps.specs.declared.collection.Collection.{Collection}
 use Rattle.gc_steps.specs.declared.collection.Stage.{Stage}
-use Rattle.gc_steps.specs.declared.collection.Stage.TheVariants.{Mark, Filter, Select, Copy, Release, End}
+use Rattle.gc_steps.specs.declared.collection.Stage.TheVariants.{Mark, Filter, Select, Sweep}
 use Rattle.gc_steps.specs.Filtering.{Chooses, recorded, recorded_by}
-use Rattle.gc_sweep.specs.Releasing.{HasFreed}
-use Rattle.gc_sweep.specs.UnderWay.{is_old}
-use Rattle.gc_steps.specs.Stages.{first_from, first_slot, filter_at, filter_from, is_old_slot, is_tree_slot, mark_at, mark_from, mark_level, mark_on, sweep_from}
-use Rattle.gc_steps.specs.UnderWay.{AreSourcesLeft, HasStage, IsRecordedTo, IsUnderWay, old_ids}
+use Rattle.gc_sweep.specs.UnderWay.{IsSweeping, is_old}
+use Rattle.gc_steps.specs.Stages.{first_from, first_slot, filter_at, filter_from, is_old_slot, is_tree_slot, mark_at, mark_from, mark_level, mark_on}
+use Rattle.gc_steps.specs.UnderWay.{HasRoom, HasStage, IsRecordedTo, IsUnderWay, old_ids}
 
 pub at_stage : (t : SlotTable) (c : Collection) (stage : Stage) → IsUnderWay t c → c.stage ≡ stage → HasStage t c stage
 at_stage t c stage under is = subst (HasStage t c) is under.stage_is
 
 -- ---- the ids of containers that were there
-
-pub old_not_zero : (snapshot id : ℕ) → is_old snapshot id ≡ true → id ≢ 0
-old_not_zero snapshot zero old = absurd cc
-old_not_zero snapshot (suc id) old = λ zero. omega (arith, zero)
 
 module _ (snapshot : ℕ) where
   -- no container of an id that none has
@@ -112,7 +103,7 @@ first_found test from (suc count) end ends =
 -- ---- what comes next
 
 module _ (t : SlotTable) (c : Collection) where
-  stage_filter : (from : ℕ) → from ≤ length t.ids.items → IsRecordedTo t c from → c.freed ≡ 0 → HasStage t c (filter_from c.snapshot t from)
+  stage_filter : (from : ℕ) → from ≤ length t.ids.items → IsRecordedTo t c from → HasRoom t → HasStage t c (filter_from c.snapshot t from)
   stage_filter from within recorded none =
       by_found (first_slot t (is_old_slot c.snapshot t) from) (first_passed c.snapshot t.ids.items from (length t.ids.items - from) (omega (arith, within)))
     where
@@ -120,7 +111,7 @@ module _ (t : SlotTable) (c : Collection) where
       by_found None passed = (recorded ∙ sym passed ∙ ap (old_ids c.snapshot) (sym (take_all (length t.ids.items) t.ids.items (omega arith))), none)
       by_found (Some slot) passed = ((passed.0, passed.1), recorded ∙ sym passed.2, none)
 
-  stage_level : (level : ℕ) → level ≤ MOST_LEVEL → c.liveness ≡ [] → c.freed ≡ 0 → HasStage t c (mark_level c.snapshot t level)
+  stage_level : (level : ℕ) → level ≤ MOST_LEVEL → c.liveness ≡ [] → HasRoom t → HasStage t c (mark_level c.snapshot t level)
   stage_level zero most nothing none = stage_filter 0 (omega arith) (ap ids_of nothing) none
   stage_level (suc level) most nothing none =
       by_found (first_slot t (is_tree_slot c.snapshot t) 0) (first_found (is_tree_slot c.snapshot t) 0 (length t.ids.items - 0) (length t.ids.items) (omega arith))
@@ -129,7 +120,7 @@ module _ (t : SlotTable) (c : Collection) where
       by_found None is = stage_filter 0 (omega arith) (ap ids_of nothing) none
       by_found (Some slot) is = (omega arith, most, is, nothing, none)
 
-  stage_mark : (level from : ℕ) → 1 ≤ level → level ≤ MOST_LEVEL → from ≤ length t.ids.items → c.liveness ≡ [] → c.freed ≡ 0 → HasStage t c (mark_from c.snapshot t level from)
+  stage_mark : (level from : ℕ) → 1 ≤ level → level ≤ MOST_LEVEL → from ≤ length t.ids.items → c.liveness ≡ [] → HasRoom t → HasStage t c (mark_from c.snapshot t level from)
   stage_mark level from least most within nothing none =
       by_found (first_slot t (is_tree_slot c.snapshot t) from) (first_found (is_tree_slot c.snapshot t) from (length t.ids.items - from) (length t.ids.items) (omega (arith, within)))
     where
@@ -137,16 +128,9 @@ module _ (t : SlotTable) (c : Collection) where
       by_found None is = stage_level (level - 1) (omega (arith, most)) nothing none
       by_found (Some slot) is = (least, most, is, nothing, none)
 
-  stage_sweep : (source : ℕ) → AreSourcesLeft t c.snapshot c.sources.items source → c.freed ≤ source → c.freed ≤ length c.sources.items → HasStage t c (sweep_from c.sources.items source)
-  stage_sweep source left before all =
-      elim (nat_lt source (length c.sources.items)) as (λ b. nat_lt source (length c.sources.items) ≡ b → HasStage t c (if b then Copy source else End)) [
-        | true ↦ λ is. (ltb-true source (length c.sources.items) is, left, before)
-        | false ↦ λ is. all
-      ] refl
-
 -- ---- the steps
 
-pub started : (size : ℕ) (known : Option PlaceMap) (t : Tables) (c : Collection) → Runs size known t → c.snapshot ≤ t.held.last_id + 1 → c.liveness ≡ [] → c.freed ≡ 0
+pub started : (size : ℕ) (known : Option PlaceMap) (t : Tables) (c : Collection) → Runs size known t → c.snapshot ≤ t.held.last_id + 1 → c.liveness ≡ [] → HasRoom t.held
     → c.stage ≡ mark_level c.snapshot t.held MOST_LEVEL → IsUnderWay t.held c
 started size known t c runs began nothing none is = record {
   began = began;
@@ -183,27 +167,11 @@ module _ (t : SlotTable) (c : Collection) (under : IsUnderWay t c) where
       ∙ ap (λ (ids : List ℕ). ids ++ get_or t.ids.items slot 0 ∷ []) was.1 ∙ sym (more_old c.snapshot t.ids.items slot was.0.0 was.0.1) in
       subst (IsUnderWay t) (sym is) (goes_on new refl (stage_filter t new (slot + 1) (omega (arith, was.0.0)) all was.2))
 
-  pub chosen : (after : Collection) → c.stage ≡ Select → Chooses c after → IsUnderWay t after
-  chosen after at chooses =
-      let was = at_stage t c Select under at in
-      let new : Collection = record c { sources = after.sources; stage = sweep_from after.sources.items 0 } in
-      let whole : ids_of c.liveness ≡ old_ids c.snapshot t.ids.items = was.0 ∙ ap (old_ids c.snapshot) (take_all (length t.ids.items) t.ids.items (omega arith)) in
-      let each : (i : ℕ) → i < length after.sources.items → Contains (old_ids c.snapshot t.ids.items) (get_or after.sources.items i 0) =
-      λ i within.
-      let any = (chooses.which (get_or after.sources.items i 0)).0 (i, within, get_or_default_zero after.sources.items i (get_or after.sources.items i 0) within) in
-      subst (λ (ids : List ℕ). Contains ids (get_or after.sources.items i 0)) whole (id_there c.liveness (get_or after.sources.items i 0) any.0 any.1 any.2 any.3 any.4.0) in
-      let left : AreSourcesLeft t c.snapshot after.sources.items 0 = record {
-        once = chooses.apart (subst (IsDistinct nat_eq) (sym whole) under.ids_differ);
-        old = λ i from within. All-contains (λ id. is_old c.snapshot id ≡ true) (old_ids c.snapshot t.ids.items) (get_or after.sources.items i 0) (filter_passes (is_old c.snapshot) t.ids.items) (each i within);
-        there = λ i from within.
-            All-contains (Contains t.ids.items) (old_ids c.snapshot t.ids.items) (get_or after.sources.items i 0) (All-filter (is_old c.snapshot) (Contains t.ids.items) t.ids.items (All-contains_itself t.ids.items)) (each i within);
-      } in
-      subst (IsUnderWay t) (sym chooses.collection_is) (goes_on new refl (stage_sweep t new 0 left (omega (arith, was.1)) (omega (arith, was.1))))
-    where
-      id_there : (cs : List ContainerLiveness) (id k : ℕ) (one : ContainerLiveness) → k < length cs → get_or cs k one ≡ one → one.id ≡ id → Contains (ids_of cs) id
-      id_there [] id k one within is same = absurd (omega (arith, within))
-      id_there (x ∷ cs) id zero one within is same = (0, omega arith, ap (λ (y : ContainerLiveness). y.id) is ∙ same)
-      id_there (x ∷ cs) id (suc k) one within is same = let rest = id_there cs id k one (omega (arith, within)) is same in (suc rest.0, omega (arith, rest.1), rest.2)
+  -- the sources are chosen, and their sweep is under way
+  pub chosen : (after : Collection) → c.stage ≡ Select → Chooses t c after → IsSweeping t c.snapshot after.sweep → IsUnderWay t after
+  chosen after at chooses sweeping =
+      let new : Collection = record c { stage = Sweep; sweep = after.sweep } in
+      subst (IsUnderWay t) (sym chooses.collection_is) (goes_on new refl sweeping)
 
 -- ---- keys become live
 
@@ -214,51 +182,31 @@ live_on t c live under = record { began = under.began; ids_differ = under.ids_di
     by_stage (Mark level slot) was = was
     by_stage (Filter slot) was = was
     by_stage Select was = was
-    by_stage (Copy source) was = was
-    by_stage (Release source slot) was = was
-    by_stage End was = was
+    by_stage Sweep was = was
 
--- ---- a source is given back
+-- ---- the sweep goes on
 
-pub contains_set : (ids : List ℕ) (slot new id : ℕ) → Contains ids id → get_or ids slot 0 ≢ id → Contains (set ids slot new) id
-contains_set ids slot new id (k, within, is) other =
-    let apart : k ≢ slot = λ same. other (ap (λ (n : ℕ). get_or ids n 0) (sym same) ∙ sym (get_or_default_zero ids k id within) ∙ is) in
-    (k, subst (λ (n : ℕ). k < n) (sym (length-set ids slot new)) within, get_or-set_other ids slot k new id apart ∙ is)
+-- by tables that run, of which no less is the last id
+pub swept_on : (size : ℕ) (known : Option PlaceMap) (t : SlotTable) (now : Tables) (c after : Collection) → Runs size known now → t.last_id ≤ now.held.last_id → IsUnderWay t c → c.stage ≡ Sweep
+    → after ≡ record c { sweep = after.sweep } → IsSweeping now.held c.snapshot after.sweep → IsUnderWay now.held after
+swept_on size known t now c after runs last under stage is sweeping =
+    let next : Collection = record c { sweep = after.sweep } in
+    subst (IsUnderWay now.held) (sym is) (record {
+      began = omega (arith, under.began, last);
+      ids_differ = ids_apart c.snapshot size known now runs;
+      stage_is = subst (HasStage now.held next) (sym stage) sweeping;
+    })
 
-module _ (size : ℕ) (known : Option PlaceMap) (before now : Tables) (slot : ℕ) (runs : Runs size known before) (freed : HasFreed before slot now) where
-  represented : Represents runs.store None before
-  represented = record {
+-- tables run whatever the index has
+pub runs_alone : (size : ℕ) (known : Option PlaceMap) (t : Tables) → Runs size known t → Runs size None t
+runs_alone size known t runs = record {
+  store = runs.store;
+  represents = record {
     slots_are = runs.represents.slots_are;
     names_are = runs.represents.names_are;
     slots_hold = runs.represents.slots_hold;
     index_is_newest = λ index is. absurd cc;
-  }
-
-  ids_freed : now.held.ids.items ≡ set before.held.ids.items slot 0
-  ids_freed =
-      (freed.represents runs.store None (λ index is. absurd cc) represented).slots_hold.ids_are ∙ ids_without slot runs.store.held
-      ∙ ap (λ (ids : List ℕ). set ids slot 0) (sym runs.represents.slots_hold.ids_are)
-
-  now_apart : (snapshot : ℕ) → IsDistinct nat_eq (old_ids snapshot now.held.ids.items)
-  now_apart snapshot =
-      ids_apart snapshot size None now
-      (freed.runs size None (λ index is. absurd cc) (record { store = runs.store; represents = represented; valid = runs.valid; has_free = runs.has_free }))
-
-  pub released : (c after : Collection) (source : ℕ) → IsUnderWay before.held c → c.stage ≡ Release source slot
-      → after ≡ record c { stage = sweep_from c.sources.items source; freed = c.freed + 1 } → IsUnderWay now.held after
-  released c after source under at is =
-      let was = at_stage before.held c (Release source slot) under at in
-      let next : Collection = record c { stage = sweep_from c.sources.items source; freed = c.freed + 1 } in
-      let left : AreSourcesLeft now.held c.snapshot c.sources.items source = record {
-        once = was.1.once;
-        old = was.1.old;
-        there = λ i from within.
-            let other : get_or before.held.ids.items slot 0 ≢ get_or c.sources.items i 0 =
-            λ same. AllPairs-from_IsDistinct Decides-eqb c.sources.items was.1.once (source - 1) i 0 (omega (arith, from, was.2)) within (sym was.4 ∙ same) in
-            subst (λ (ids : List ℕ). Contains ids (get_or c.sources.items i 0)) (sym ids_freed) (contains_set before.held.ids.items slot 0 (get_or c.sources.items i 0) (was.1.there i from within) other);
-      } in
-      subst (IsUnderWay now.held) (sym is) (record {
-        began = subst (λ (n : ℕ). c.snapshot ≤ n + 1) (sym freed.last_stays) under.began;
-        ids_differ = now_apart c.snapshot;
-        stage_is = stage_sweep now.held next source left (omega (arith, was.2)) (omega (arith, was.2, was.0));
-      })
+  };
+  valid = runs.valid;
+  has_free = runs.has_free;
+}

@@ -7,8 +7,8 @@ use Rattle.container_meta.specs.Places.{PlaceMap}
 use Rattle.gc_enumerate.specs.Live.{LiveKeys, IsLiveAt}
 use Rattle.store_model.specs.Image.{Store}
 use Rattle.gc_steps.specs.declared.collection.Collection.{Collection}
-use Rattle.gc_steps.specs.LiveTrees.{IsLive}
-use Rattle.gc_steps.proofs.Carried.{KeepsBoth, carried}
+use Rattle.gc_sweep.specs.Holding.{IsLive}
+use Rattle.gc_steps.proofs.Carried.{KeepsBoth, carried, moves_none}
 
 -- Where keys are marked, or no longer, and the index has none of them, both invariants stay.
 pub marked_unseen : (index : PlaceMap) (store : Store) (image : List ℕ) (parts : List Part) (c : Collection) (marked : LiveKeys)
@@ -24,7 +24,7 @@ marked_unseen index store image parts c marked same =
       each = λ key is. inl (back key is, refl);
       slots = λ slot h there. inl there;
     })
-    (λ ready. ready)
+    (moves_none index store store c.snapshot refl)
   where
     on : (key : List ℕ) → IsLive index c.live key → IsLive index marked key
     on key (place, (found, is)) = (place, (found, (same key place found).1 is))

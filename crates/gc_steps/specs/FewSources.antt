@@ -3,7 +3,7 @@ use Rattle.std.specs.Prelude.{◌≤◌, ℕ, length}
 use Rattle.store_state.specs.declared.slot_table.SlotTable.{SlotTable}
 use Rattle.gc_steps.specs.declared.collection.Collection.{Collection}
 use Rattle.gc_steps.specs.declared.collection.Stage.{Stage}
-use Rattle.gc_steps.specs.declared.collection.Stage.TheVariants.{Mark, Filter, Select, Copy, Release, End}
+use Rattle.gc_steps.specs.declared.collection.Stage.TheVariants.{Mark, Filter, Select, Sweep}
 use Rattle.gc_steps.specs.StepsToCome.{old_from}
 
 -- the sources are still to be chosen
@@ -11,11 +11,9 @@ abbrev pub IsToChoose : Stage → Type 0
 IsToChoose (Mark level slot) = Unit {0}
 IsToChoose (Filter slot) = Unit {0}
 IsToChoose Select = Unit {0}
-IsToChoose (Copy source) = ⊥
-IsToChoose (Release next slot) = ⊥
-IsToChoose End = ⊥
+IsToChoose Sweep = ⊥
 
 -- As long as the sources are to be chosen, so many containers at most are there that were there when it began; no more sources are chosen.
 pub record HasFewSources (most : ℕ) (t : SlotTable) (c : Collection) : Type 0 where
   pub old : IsToChoose c.stage → old_from c.snapshot t 0 ≤ most
-  pub chosen : length c.sources.items ≤ most
+  pub chosen : length c.sweep.sources.items ≤ most

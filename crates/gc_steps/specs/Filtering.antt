@@ -1,12 +1,15 @@
 -- What recording a container, and choosing the sources, do to a collection (docs/MODEL.md, 'Collection').
-use Rattle.std.specs.Prelude.{◌≡◌, ◌↔◌, ℕ, ◌+◌, [], ◌∷◌, ◌++◌, get_or, slice_get, Option, None, Some, Contains, nat_eq}
+use Rattle.std.specs.Prelude.{◌≡◌, ◌⊎◌, ◌↔◌, ℕ, ◌+◌, [], ◌∷◌, ◌++◌, get_or, slice_get, Option, None, Some, Contains, nat_eq}
 use Rattle.std.specs.List.{IsDistinct}
 use Rattle.std.specs.List.Sorted.{IsPermutation}
+use Rattle.container_log.specs.Faults.{IsDamage}
+use Rattle.container_log.specs.Parts.{header_bytes, ReadAs}
 use Rattle.container_meta.specs.declared.kind.Kind.TheVariants.{Leaf}
 use Rattle.container_meta.specs.Places.{PlaceMap}
 use Rattle.container_meta.specs.Spelling.{HeaderValue, IsHeader}
 use Rattle.dd_disk.specs.Shows.{Shows}
 use Rattle.dd_disk.specs.View.{DiskView}
+use Rattle.disk_format.specs.Layout.{slot_at}
 use Rattle.gc_select.specs.declared.liveness.ContainerLiveness.{ContainerLiveness}
 use Rattle.gc_select.specs.Selecting.{AreSources, IsSelectedId, ids_of, selected, sources_of}
 use Rattle.segment_index.specs.Places.{KnownMap}
@@ -15,7 +18,11 @@ use Rattle.store_state.specs.declared.slot_table.SlotCount.{SlotCount}
 use Rattle.store_state.specs.declared.slot_table.SlotTable.{SlotTable}
 use Rattle.gc_steps.specs.declared.collection.Collection.{Collection}
 use Rattle.copy_forward.specs.Entries.{SumsLive}
-use Rattle.gc_steps.specs.Stages.{filter_from, sweep_from}
+use Rattle.refusals.specs.declared.refusal.Refusal.{Refusal}
+use Rattle.refusals.specs.declared.refusal.Refusal.TheVariants.{Memory, DiskRead, Damaged}
+use Rattle.gc_sweep.specs.Beginning.{Begins}
+use Rattle.gc_steps.specs.declared.collection.Stage.TheVariants.{Sweep}
+use Rattle.gc_steps.specs.Stages.{filter_from}
 
 -- what is recorded of the container of a slot, of which so many bytes are live: its id, its kind and all its bytes are those of the table
 abbrev pub recorded_by : ℕ → Option SlotCount → ℕ → ContainerLiveness
@@ -38,12 +45,21 @@ pub record Records (t : SlotTable) (known : Option PlaceMap) (old new : DiskView
     stage = filter_from before.snapshot t (slot + 1);
   }
 
+-- why it is not recorded: no memory; a read that failed; a header that breaks the format; or damage of the index, whose map is not known then
+abbrev pub IsRecordRefusal : Option PlaceMap → DiskView → DiskView → ℕ → Refusal → Type 0
+IsRecordRefusal known old new slot Memory = Unit {0}
+IsRecordRefusal known old new slot DiskRead = Unit {0}
+IsRecordRefusal known old new slot (Damaged at why) =
+    ((at ≡ slot_at slot) × IsDamage (ReadAs old new (header_bytes slot)) why) ⊎ (known ≡ None)
+IsRecordRefusal known old new slot refusal = ⊥
+
 -- The sources are chosen: just the containers that are selected, each as often as it was recorded, so each once where each was recorded once;
--- data before trees, and by rising id. There is one such list.
-pub record Chooses (before after : Collection) : Type 0 where
-  pub which : (id : ℕ) → Contains after.sources.items id ↔ IsSelectedId before.snapshot before.percent before.liveness id
-  pub each : IsPermutation (ids_of (selected before.snapshot before.percent before.liveness)) after.sources.items
-  pub apart : IsDistinct nat_eq (ids_of before.liveness) → IsDistinct nat_eq after.sources.items
-  pub in_order : AreSources (selected before.snapshot before.percent before.liveness) after.sources.items
-  pub sources_are : after.sources.items ≡ sources_of (selected before.snapshot before.percent before.liveness)
-  pub collection_is : after ≡ record before { sources = after.sources; stage = sweep_from after.sources.items 0 }
+-- data before trees, and by rising id. There is one such list. And a sweep of them begins.
+pub record Chooses (t : SlotTable) (before after : Collection) : Type 0 where
+  pub which : (id : ℕ) → Contains after.sweep.sources.items id ↔ IsSelectedId before.snapshot before.percent before.liveness id
+  pub each : IsPermutation (ids_of (selected before.snapshot before.percent before.liveness)) after.sweep.sources.items
+  pub apart : IsDistinct nat_eq (ids_of before.liveness) → IsDistinct nat_eq after.sweep.sources.items
+  pub in_order : AreSources (selected before.snapshot before.percent before.liveness) after.sweep.sources.items
+  pub sources_are : after.sweep.sources.items ≡ sources_of (selected before.snapshot before.percent before.liveness)
+  pub begins : Begins t after.sweep.sources.items after.sweep
+  pub collection_is : after ≡ record before { stage = Sweep; sweep = after.sweep }

@@ -1,4 +1,3 @@
-pub mod Copying
 pub mod FewSources
 pub mod Filtering
 pub mod Fresh

@@ -1,10 +1,7 @@
--- Live keys, and the trees that they are the roots of (docs/MODEL.md, 'Collection').
+-- The trees that live keys are the roots of (docs/MODEL.md, 'Collection').
 use Rattle.std.specs.Prelude.{◌≡◌, ℕ, List, Option, Some}
-use Rattle.std.specs.FinMap as finite
-use Rattle.container_meta.specs.declared.place.Place.{Place}
 use Rattle.container_meta.specs.Places.{PlaceMap}
 use Rattle.container_meta.specs.Spelling.{HeaderValue}
-use Rattle.gc_enumerate.specs.Live.{LiveKeys, IsLiveAt}
 use Rattle.merkle_file.specs.Node.{Contents, IsNode, spelling}
 use Rattle.merkle_file.specs.Tree as tree
 use Rattle.merkle_file.specs.Tree.{Tree}
@@ -12,10 +9,6 @@ use Rattle.merkle_file.specs.Walk.{IsTree, contents_of}
 use Rattle.store_model.specs.Reserve.{HoldsCounted}
 use Rattle.store_model.specs.Slots.{Copy, HasKey, newest}
 use Rattle.store_model.specs.Trees.{bytes_at, leaf_key, node_key}
-
--- a key is live: the index has a copy of it, and that is marked
-abbrev pub IsLive : PlaceMap → LiveKeys → List ℕ → Type 0
-IsLive index live key = (place : Place) × ((finite.get index key ≡ Some place) × IsLiveAt live key place)
 
 -- the key is that of the tree's root; the empty tree has none
 abbrev pub IsRootOf : List ℕ → Tree (List ℕ) → Type 0

@@ -14,7 +14,8 @@ use Rattle.store_model.specs.Trees.{node_key}
 use Rattle.gc_steps.specs.declared.collection.Collection.{Collection}
 use Rattle.gc_steps.specs.declared.collection.Stage.{Stage}
 use Rattle.gc_steps.specs.declared.collection.Stage.TheVariants.{Mark}
-use Rattle.gc_steps.specs.LiveTrees.{IsLive, IsWhole, HoldsNode}
+use Rattle.gc_sweep.specs.Holding.{IsLive}
+use Rattle.gc_steps.specs.LiveTrees.{IsWhole, HoldsNode}
 use Rattle.gc_steps.specs.Roots.{IsRoot}
 
 -- nodes of a level in the container of a slot were scanned: those of a level above the one that is being marked, those of that level in a

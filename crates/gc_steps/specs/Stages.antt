@@ -1,11 +1,11 @@
 -- What the steps of a collection do, one after the other (docs/MODEL.md, 'Collection').
-use Rattle.std.specs.Prelude.{ℕ, zero, suc, ◌+◌, ◌-◌, ◌==◌, ◌&&◌, nat_lt, if◌then◌else◌, Bool, false, List, length, get_or, slice_get, Option, None, Some}
+use Rattle.std.specs.Prelude.{ℕ, zero, suc, ◌+◌, ◌-◌, ◌==◌, ◌&&◌, if◌then◌else◌, Bool, false, length, get_or, slice_get, Option, None, Some}
 use Rattle.container_meta.specs.Format.{kind_byte}
 use Rattle.store_state.specs.declared.slot_table.SlotCount.{SlotCount}
 use Rattle.store_state.specs.declared.slot_table.SlotTable.{SlotTable}
 use Rattle.gc_sweep.specs.UnderWay.{is_old}
 use Rattle.gc_steps.specs.declared.collection.Stage.{Stage}
-use Rattle.gc_steps.specs.declared.collection.Stage.TheVariants.{Mark, Filter, Select, Copy, End}
+use Rattle.gc_steps.specs.declared.collection.Stage.TheVariants.{Mark, Filter, Select}
 
 -- ---- the containers that a collection goes over
 
@@ -57,7 +57,3 @@ mark_on snapshot t level (Some slot) = Mark level slot
 
 abbrev pub mark_from : ℕ → SlotTable → ℕ → ℕ → Stage
 mark_from snapshot t level from = mark_on snapshot t level (first_slot t (is_tree_slot snapshot t) from)
-
--- the sources from this one on are still to be taken
-abbrev pub sweep_from : List ℕ → ℕ → Stage
-sweep_from sources source = if nat_lt source (length sources) then Copy source else End

@@ -2,6 +2,7 @@
 
 use gc_enumerate::Live;
 use gc_select::Liveness;
+use gc_sweep::Sweep;
 
 /// Where a collection is: what its next step does.
 #[derive(Clone, Copy)]
@@ -12,12 +13,8 @@ pub enum Stage {
     Filter { slot: u32 },
     /// It chooses the sources.
     Select,
-    /// It takes the source of this number.
-    Copy { source: usize },
-    /// It gives back the source in a slot; the next source has this number.
-    Release { next: usize, slot: u32 },
-    /// It ends.
-    End,
+    /// It does what comes next in the sweep.
+    Sweep,
 }
 
 /// A collection that runs. Containers with an id below `snapshot` were there when it began; no other is scanned or given back.
@@ -31,10 +28,8 @@ pub struct Collection {
     pub live: Live,
     /// How much of each container is live, as far as that was recorded.
     pub liveness: Liveness,
-    /// The ids of the sources, in the order in which they are taken, once they are chosen.
-    pub sources: Vec<u64>,
     /// What the next step does.
     pub stage: Stage,
-    /// How many sources were given back.
-    pub freed: usize,
+    /// The sweep of the sources, once they are chosen; before, one of none.
+    pub sweep: Sweep,
 }

@@ -4,17 +4,16 @@ ghost use Rattle.dd_disk.specs.Ending.{ending, Reads};
 ghost use Rattle.refusals.specs.declared.refusal.Refusal.TheVariants.{Memory};
 ghost use Rattle.store_state.specs.Refused.{blames};
 ghost use Rattle.store_state.specs.Tables.{Runs};
-ghost use Rattle.store_state.specs.declared.slot_table.SlotTable.{SlotTable};
-ghost use Rattle.gc_steps.specs.Filtering.{Records, Chooses, recorded as recorded_of};
-ghost use Rattle.gc_steps.specs.Copying.{IsSourceRefusal};
+ghost use Rattle.gc_steps.specs.Filtering.{Records, Chooses, IsRecordRefusal, recorded as recorded_of};
 ghost use Rattle.gc_steps.specs.UnderWay.{IsUnderWay};
 ghost use Rattle.gc_steps.specs.declared.collection.Stage.TheVariants.{Filter, Select};
 
-use crate::collection::Collection;
-use crate::slots::{filter_from, sweep_from};
+use crate::collection::{Collection, Stage};
+use crate::slots::filter_from;
 use copy_forward::{live_bytes, read_header};
 use dd_disk::Disk;
 use gc_select::{ContainerLiveness, select};
+use gc_sweep::begin;
 use refusals::Refusal;
 use segment_index::Index;
 use std::alloc::Global;
@@ -55,7 +54,7 @@ pub(crate) fn record_container<D: Disk, X: Index>(
         slot collection.old collection.new) }
     ensures under_way { IsUnderWay tables.now.held collection.new }
     ensures unchanged { OnErr result (collection.new ≡ collection.old) }
-    ensures refused { IfErr result (IsSourceRefusal (X.places index.old (D.view disk.old).content) (D.view disk.old) (D.view disk.new)
+    ensures refused { IfErr result (IsRecordRefusal (X.places index.old (D.view disk.old).content) (D.view disk.old) (D.view disk.new)
         slot) }
     ensures map { X.places index.new (D.view disk.new).content ≡ X.places index.old (D.view disk.old).content }
     ensures reads { Reads (ending blames result) (D.view disk.old) (D.view disk.new) }
@@ -77,11 +76,17 @@ pub(crate) fn record_container<D: Disk, X: Index>(
     Ok(())
 }
 
-/// Chooses the sources. The one refusal is `Memory`, which leaves the collection as it was.
-pub(crate) fn choose_sources(alloc: Global, collection: &mut Collection) -> Result<(), Refusal>
+/// Chooses the sources, and begins to sweep them. The one refusal is `Memory`, which leaves the collection as it was.
+pub(crate) fn choose_sources(
+    alloc: Global,
+    tables: &Tables,
+    collection: &mut Collection,
+) -> Result<(), Refusal>
+    requires runs { (size : _) × (known : _) × Runs size known tables.now }
+    requires under_way { IsUnderWay tables.now.held collection.old }
     requires stage { collection.old.stage ≡ Select }
-    ensures ok { OnOk result (Chooses collection.old collection.new) }
-    ensures under_way { (t : SlotTable) → IsUnderWay t collection.old → IsUnderWay t collection.new }
+    ensures ok { OnOk result (Chooses tables.now.held collection.old collection.new) }
+    ensures under_way { IsUnderWay tables.now.held collection.new }
     ensures unchanged { OnErr result (collection.new ≡ collection.old) }
     ensures refused { IfErr result (λ refusal. refusal ≡ Memory) }
 {
@@ -91,7 +96,7 @@ pub(crate) fn choose_sources(alloc: Global, collection: &mut Collection) -> Resu
         collection.snapshot,
         collection.percent,
     )?;
-    collection.stage = sweep_from(&sources, 0);
-    collection.sources = sources;
+    collection.sweep = begin(alloc, &tables.held, sources)?;
+    collection.stage = Stage::Sweep;
     Ok(())
 }

@@ -1,8 +1,10 @@
 //! Laws of a collection that is under way (docs/MODEL.md, 'Collection').
 ghost use Rattle.std.specs.Prelude.{◌≡◌, ◌<◌, ℕ, List, Option, Contains, max};
-ghost use Rattle.container_meta.specs.Spelling.{HeaderValue};
+ghost use Rattle.container_meta.specs.Spelling.{HeaderValue, IsHeader};
+ghost use Rattle.disk_format.specs.declared.numbers.TheConstants.{RESERVE};
+ghost use Rattle.gc_sweep.specs.UnderWay.{free_in};
 ghost use Rattle.gc_enumerate.specs.Live.{LiveKeys};
-ghost use Rattle.store_model.specs.Slots.{with_slot};
+ghost use Rattle.store_model.specs.Slots.{AreHeaders, with_slot};
 ghost use Rattle.store_state.specs.Tables.{IsFirstFree, RepresentsSlots};
 ghost use Rattle.store_state.specs.declared.slot_table.SlotTable.{SlotTable};
 ghost use Rattle.gc_steps.specs.declared.collection.Collection.{Collection as CollectionValue};
@@ -11,11 +13,12 @@ ghost use Rattle.gc_steps.specs.Roots.{Marks};
 ghost use Rattle.gc_steps.specs.StepsToCome.{steps_to_come};
 ghost use Rattle.gc_steps.specs.UnderWay.{IsUnderWay};
 
-/// That a container leaves it under way which is sealed into the first free slot under an id that is greater than all before.
+/// That a container leaves it under way which is sealed into the first free slot, beside the slots of the reserve, under an id that is
+/// greater than all before.
 pub fn sealing_keeps_it_under_way()
     ensures { (held : List (Option HeaderValue)) (old new : SlotTable) (c : CollectionValue) (slot : ℕ) (h : HeaderValue)
-        → IsFirstFree slot held → RepresentsSlots held old → RepresentsSlots (with_slot slot h held) new
-        → new.last_id ≡ max old.last_id h.id → old.last_id < h.id → IsUnderWay old c → IsUnderWay new c }
+        → IsFirstFree slot held → AreHeaders held → IsHeader h → RepresentsSlots held old → RepresentsSlots (with_slot slot h held) new
+        → new.last_id ≡ max old.last_id h.id → old.last_id < h.id → RESERVE < free_in old → IsUnderWay old c → IsUnderWay new c }
 {}
 
 /// That as many steps come after such a sealing as before.

@@ -4,16 +4,15 @@
 
 mod collection;
 mod copies;
-mod copying;
 mod filtering;
 mod fresh;
 mod laws;
 mod marking;
 mod phase;
-mod releasing;
 mod slots;
 mod starting;
 mod stepping;
+mod sweeping;
 
 pub use collection::{Collection, Stage};
 pub use fresh::{mark_fresh, unmark};

@@ -3,7 +3,7 @@ ghost use Rattle.std.specs.Prelude.{◌≡◌, ◌<◌, ◌≤◌, length, get_o
 ghost use Rattle.disk_format.specs.declared.numbers.TheConstants.{MOST_SLOTS as MANY};
 ghost use Rattle.container_meta.specs.Format.{kind_byte};
 ghost use Rattle.gc_steps.specs.Stages.{first_slot, is_old_slot, is_tree, is_tree_slot};
-ghost use Rattle.gc_steps.specs.Stages.{filter_from as filter_stage, mark_from as mark_stage, mark_level as level_stage, sweep_from as sweep_stage};
+ghost use Rattle.gc_steps.specs.Stages.{filter_from as filter_stage, mark_from as mark_stage, mark_level as level_stage};
 
 use crate::collection::Stage;
 use container_meta::Kind;
@@ -98,16 +98,5 @@ pub(crate) fn mark_from(held: &SlotTable, snapshot: u64, level: u8, from: u32) -
     match next_tree(held, snapshot, from) {
         Some(slot) => Stage::Mark { level, slot },
         None => mark_level(held, snapshot, level - 1),
-    }
-}
-
-/// What comes next where the sources from this one on are to be taken.
-pub(crate) fn sweep_from(sources: &[u64], source: usize) -> Stage
-    ensures { result ≡ sweep_stage sources.now source }
-{
-    if source < sources.len() {
-        Stage::Copy { source }
-    } else {
-        Stage::End
     }
 }

@@ -1,7 +1,7 @@
 //! A collection begins.
 ghost use Rattle.std.specs.Prelude.{◌≡◌, ◌↔◌, ◌+◌, ◌-◌, ◌*◌, ◌^◌, ◌<◌, ◌≤◌, ℕ, List, [], min, length, Contains, map, IfOk, IfErr, OnOk, OnErr};
 ghost use Rattle.std.specs.FinMap as finite;
-ghost use Rattle.disk_format.specs.declared.numbers.TheConstants.{MOST_LEVEL};
+ghost use Rattle.disk_format.specs.declared.numbers.TheConstants.{MOST_LEVEL, RESERVE};
 ghost use Rattle.container_meta.specs.declared.place.Place.{Place as PlaceValue};
 ghost use Rattle.gc_enumerate.specs.Live.{IsLiveAt};
 ghost use Rattle.namespace.specs.Listing.{listed_value};
@@ -12,6 +12,8 @@ ghost use Rattle.gc_steps.specs.Stages.{mark_level as level_stage};
 ghost use Rattle.gc_steps.specs.StepsToCome.{old_from, steps_to_come, trees_from};
 ghost use Rattle.gc_steps.specs.UnderWay.{IsUnderWay};
 ghost use Rattle.store_state.specs.Tables.{Runs};
+ghost use Rattle.gc_sweep.specs.Beginning.{Begins};
+ghost use Rattle.gc_sweep.specs.UnderWay.{free_in};
 
 use crate::collection::Collection;
 use crate::slots::mark_level;
@@ -20,6 +22,7 @@ use container_meta::{Key, Kind, Place, key_of};
 use disk_format::MOST_LEVEL;
 use gc_enumerate::Live;
 use gc_select::Liveness;
+use gc_sweep::begin;
 use namespace::{ListedName, Names, Root};
 use refusals::Refusal;
 use std::alloc::{AllocError, Global};
@@ -147,28 +150,30 @@ pub fn start(
     percent: Percent,
 ) -> Result<Collection, Refusal>
     requires runs { (size : _) × (known : _) × Runs size known tables.now }
+    // The slots of the reserve are closed.
+    requires room { RESERVE ≤ free_in tables.now.held }
     ensures snapshot { IfOk result (λ c. c.snapshot ≡ min (tables.now.held.last_id + 1) (2 ^ 64 - 1)) }
     ensures percent { IfOk result (λ c. c.percent ≡ percent) }
     // These keys are live, and no others.
     ensures live { IfOk result (λ c. (key : List ℕ) (place : PlaceValue) → IsLiveAt c.live key place
         ↔ IsRoot tables.now.names parts.now key) }
-    ensures nothing_yet { IfOk result (λ c. (c.liveness ≡ []) × (c.sources.items ≡ []) × (c.freed ≡ 0)) }
+    ensures nothing_yet { IfOk result (λ c. (c.liveness ≡ []) × Begins tables.now.held [] c.sweep) }
     ensures stage { IfOk result (λ c. c.stage ≡ level_stage c.snapshot tables.now.held MOST_LEVEL) }
     ensures under_way { IfOk result (λ c. IsUnderWay tables.now.held c) }
-    // So many steps come at most: for each level the tree containers, a record of each container, the choice, and two for each source.
+    // So many steps come at most: for each level the tree containers, a record of each container, the choice, and four for each source.
     ensures steps { IfOk result (λ c. (chosen : ℕ) → steps_to_come chosen tables.now.held c
-        ≤ 6 * trees_from c.snapshot tables.now.held 0 + old_from c.snapshot tables.now.held 0 + 1 + 2 * chosen) }
+        ≤ 6 * trees_from c.snapshot tables.now.held 0 + old_from c.snapshot tables.now.held 0 + 1 + 4 * chosen) }
     ensures refused { IfErr result (λ refusal. refusal ≡ Memory) }
 {
     let snapshot = tables.held.last_id.saturating_add(1);
     let live = first_live(alloc, &tables.names, parts)?;
+    let sweep = begin(alloc, &tables.held, Vec::new(alloc))?;
     Ok(Collection {
         snapshot,
         percent: percent.number() as u8,
         live,
         liveness: Liveness::new(alloc),
-        sources: Vec::new(alloc),
         stage: mark_level(&tables.held, snapshot, MOST_LEVEL),
-        freed: 0,
+        sweep,
     })
 }

@@ -42,7 +42,11 @@ fn take_closed(tables: &mut Tables, slot: u32)
 
 /// Gives back the container in a slot, in which the index has no entry. The one refusal is `DiskWrite`, which leaves the tables
 /// as they were.
-pub fn give_back<D: Disk>(disk: &mut D, tables: &mut Tables, slot: u32) -> Result<(), Refusal>
+pub(crate) fn give_back<D: Disk>(
+    disk: &mut D,
+    tables: &mut Tables,
+    slot: u32,
+) -> Result<(), Refusal>
     requires runs { (known : _) × Runs (D.view disk.old).size known tables.old }
     requires within { slot < length tables.old.held.ids.items }
     requires there { get_or tables.old.held.ids.items slot 0 ≢ 0 }

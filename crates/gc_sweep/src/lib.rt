@@ -14,8 +14,6 @@ mod sweep;
 pub use beginning::begin;
 pub use copying::copy_source;
 pub use flushing::flush_copies;
-pub use giving_back::give_back;
 pub use laws::sealing_keeps_it_sweeping;
-pub use next::next_step;
 pub use releasing::release_source;
 pub use sweep::{Next, Sweep};

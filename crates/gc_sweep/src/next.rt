@@ -31,7 +31,7 @@ pub(crate) fn kind_of_slot(held: &SlotTable, slot: u32) -> Kind
 }
 
 /// What comes next where no source is ready, and the source of a number is to go on from the entry of a number.
-pub fn next_step(
+pub(crate) fn next_step(
     held: &SlotTable,
     sources: &[u64],
     buffer: &OpenContainer,

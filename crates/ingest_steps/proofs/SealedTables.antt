@@ -117,6 +117,7 @@ module _ {spares : ℕ} (t new : Tables) (slot id : ℕ) (filled : Contents) (ha
   has_sealed size known = record {
     number = next;
     last_is = last;
+    others_stay = others;
     can = record { store_has = λ store is valid free. can_seal store known is (at known store is valid free) };
     represents = record { store_has = λ store is valid free. represents_sealed store known is (at known store is valid free) };
     alone = record { store_has = λ store is valid free. (can_seal store None is (at None store is valid free), represents_sealed store None is (at None store is valid free)) };
@@ -133,6 +134,12 @@ module _ {spares : ℕ} (t new : Tables) (slot id : ℕ) (filled : Contents) (ha
     where
       at : (map : Option PlaceMap) (store : Store) → Represents store map t → IsValidFor size store → HasFree store.held → IsSlotOf spares slot store
       at map store is valid free = (has.slot_is size map).store_has store is valid free
+
+      others : new ≡ record t { held = new.held }
+      others =
+          ap (λ (s : ℕ). (let x : Tables = record new { slots = s } in x)) slots_are
+          ∙ ap (λ (j : JournalValue). (let x : Tables = record new { slots = t.slots; journal = j } in x)) journal_is
+          ∙ ap (λ (n : NameMap). (let x : Tables = record t { names = n; held = new.held } in x)) names_are
 
 -- ---- the disk, where the index is changed
 

@@ -194,6 +194,7 @@ pub record HasWritten (spares : ℕ) (old : Tables) (size : ℕ) (known : Option
     (id : ℕ) : Type 0 where
   pub number : id ≡ old.held.last_id + 1
   pub last_is : new.held.last_id ≡ id
+  pub others_stay : new ≡ record old { held = new.held }
   pub can : OfEach size known old (CanHold spares id filled.kind filled.segments)
   pub represents : OfEach size known old
       (λ store. Represents (with_sealed id filled.kind filled.segments store) (places_with filled slot known) new)

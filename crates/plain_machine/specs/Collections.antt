@@ -1,16 +1,16 @@
--- Collections: containers that no file needs are given back, step by step (docs/MODEL.md, 'The plain machine').
-use Rattle.std.specs.Prelude.{◌≡◌, ℕ, suc, ◌+◌, ◌*◌, Bool, true, false, List, [], ◌∷◌, Option, None, Some, IsSome}
+-- Collections: segments are copied, and containers that no file needs are given back, step by step (docs/MODEL.md, 'The plain machine').
+use Rattle.std.specs.Prelude.{◌≡◌, ℕ, suc, ◌+◌, ◌*◌, ◌<◌, ◌≤◌, Bool, true, false, List, [], ◌∷◌, Option, None, Some, IsSome}
 use Rattle.base_model.specs.Fault.{Rose}
 use Rattle.container_meta.specs.declared.kind.Kind.{Kind}
 use Rattle.container_meta.specs.declared.kind.Kind.TheVariants.{Leaf, Tree}
 use Rattle.container_meta.specs.Spelling.{HeaderValue}
 use Rattle.refusals.specs.declared.refusal.Phase.{Phase}
-use Rattle.refusals.specs.declared.refusal.Phase.TheVariants.{Copy, End, Filter, Mark, Release, Select}
+use Rattle.refusals.specs.declared.refusal.Phase.TheVariants.{Copy, End, Filter, Flush, Mark, Release, Select}
 use Rattle.refusals.specs.declared.refusal.Refusal.{Refusal}
-use Rattle.refusals.specs.declared.refusal.Refusal.TheVariants.{Memory, NotCollecting, DiskRead, DiskWrite}
-use Rattle.store_model.specs.Files.{Files}
+use Rattle.refusals.specs.declared.refusal.Refusal.TheVariants.{Memory, NotCollecting, DiskRead, DiskWrite, Numbers}
+use Rattle.disk_format.specs.declared.numbers.TheConstants.{LAST_ID}
 use Rattle.store_model.specs.Reserve.{IsReachable, IsSpare}
-use Rattle.plain_machine.specs.Content.{BreaksGate, FreesContainer, OfStore, SameStore}
+use Rattle.plain_machine.specs.Content.{AddsCopies, BreaksCopies, BreaksGate, FreesContainer, OfStore, SameStore}
 use Rattle.plain_machine.specs.Machine.{Collecting, Machine, Marking, Progress, Recording, Stopped, Sweeping, are_idle}
 use Rattle.plain_machine.specs.Turns.{Stays}
 
@@ -43,12 +43,21 @@ pub record BeginsCollection (snapshot : ℕ) (m n : Machine) : Type 0 where
   pub snapshot_is : snapshot ≡ suc m.last_id
   pub most : ℕ
   pub most_is : OfStore m.content (λ store. most ≡ most_steps store.held)
-  pub others : n ≡ record m { collecting = Some (record { progress = Marking; to_come = most; freed = 0; alone = are_idle m.parts }) }
+  pub others : n ≡ record m {
+    collecting = Some (record { snapshot = snapshot; progress = Marking; to_come = most; freed = 0; copied = 0; alone = are_idle m.parts });
+  }
 
--- what a step changes: a release gives a container back that no file needs, and no other step anything
-abbrev pub ChangesBy : Phase → Files → List ℕ → List ℕ → Type 0
-ChangesBy Release files old new = FreesContainer (IsReachable files) old new
-ChangesBy phase files old new = SameStore old new
+-- what a step changes: a flush adds a container of so many copies, a release gives a container back that came before the snapshot and that no
+-- file needs, and no other step anything
+abbrev pub ChangesBy : Phase → (snapshot copies : ℕ) → Machine → List ℕ → Type 0
+ChangesBy Flush snapshot copies m new = AddsCopies m.last_id copies m.content new
+ChangesBy Release snapshot copies m new = (copies ≡ 0) × FreesContainer (IsReachable m.stored.files) snapshot m.content new
+ChangesBy phase snapshot copies m new = (copies ≡ 0) × SameStore m.content new
+
+-- the last id is another after a flush
+abbrev pub last_by : Phase → ℕ → ℕ
+last_by Flush last = suc last
+last_by phase last = last
 
 abbrev pub freed_by : Phase → ℕ
 freed_by Release = 1
@@ -57,24 +66,27 @@ freed_by phase = 0
 -- from the first source on that is taken, keys may be out of the index
 abbrev pub forgets_by : Phase → Bool → Bool
 forgets_by Copy collected = true
+forgets_by Flush collected = true
 forgets_by Release collected = true
 forgets_by phase collected = collected
 
--- How far it is after a step: first come the marks, then the records, then the choice; and then each source is taken, and, where it is ready,
--- given back. No other step may come.
+-- How far it is after a step: first come the marks, then the records, then the choice; and then each source is copied, and given back once it is
+-- ready. It is ready at once where nothing of it was copied, and else once that is written. No other step may come.
 abbrev pub GoesTo : Phase → Progress → Progress → Type 0
 GoesTo Mark Marking next = next ≡ Marking
 GoesTo Filter Marking next = next ≡ Recording
 GoesTo Filter Recording next = next ≡ Recording
-GoesTo Select Marking next = next ≡ Sweeping false
-GoesTo Select Recording next = next ≡ Sweeping false
-GoesTo Copy (Sweeping false) next = (ready : Bool) × (next ≡ Sweeping ready)
-GoesTo Release (Sweeping true) next = next ≡ Sweeping false
+GoesTo Select Marking next = next ≡ Sweeping false false
+GoesTo Select Recording next = next ≡ Sweeping false false
+GoesTo Copy (Sweeping false filled) next =
+    (ready : Bool) × ((now : Bool) × ((next ≡ Sweeping ready now) × (filled ≡ true → now ≡ true) × (ready ≡ true → now ≡ filled)))
+GoesTo Flush (Sweeping false true) next = next ≡ Sweeping true false
+GoesTo Release (Sweeping true filled) next = (ready : Bool) × (next ≡ Sweeping ready filled)
 GoesTo phase progress next = ⊥
 
 -- its next step may be this one
 abbrev pub MayCome : Phase → Progress → Type 0
-MayCome End progress = progress ≡ Sweeping false
+MayCome End progress = progress ≡ Sweeping false false
 MayCome phase progress = (next : Progress) × GoesTo phase progress next
 
 -- one runs, whose next step may be this one
@@ -87,14 +99,26 @@ pub record StepsCollection (phase : Phase) (m n : Machine) : Type 0 where
   pub progress : Progress
   pub next : Progress
   pub goes : GoesTo phase progress next
+  pub snapshot : ℕ
   pub left : ℕ
   pub freed : ℕ
+  pub copied : ℕ
   pub alone : Bool
-  pub ran : m.collecting ≡ Some (record { progress = progress; to_come = suc left; freed = freed; alone = alone })
-  pub changes : ChangesBy phase m.stored.files m.content n.content
+  pub ran : m.collecting
+      ≡ Some (record { snapshot = snapshot; progress = progress; to_come = suc left; freed = freed; copied = copied; alone = alone })
+  pub copies : ℕ
+  pub changes : ChangesBy phase snapshot copies m n.content
   pub others : n ≡ record m {
     content = n.content;
-    collecting = Some (record { progress = next; to_come = left; freed = freed + freed_by phase; alone = alone });
+    last_id = last_by phase m.last_id;
+    collecting = Some (record {
+      snapshot = snapshot;
+      progress = next;
+      to_come = left;
+      freed = freed + freed_by phase;
+      copied = copied + copies;
+      alone = alone;
+    });
     collected = forgets_by phase m.collected;
   }
 
@@ -103,13 +127,15 @@ abbrev pub CollectionSteps : List Phase → Machine → Machine → Type 0
 CollectionSteps [] m n = n ≡ m
 CollectionSteps (phase ∷ phases) m n = (mid : Machine) × (StepsCollection phase m mid × CollectionSteps phases mid n)
 
--- It ends, where the sources were chosen and none is ready, and tells how many containers it gave back. It copies nothing so far. One that
--- ran alone leaves no container that holds the newest copy of no key that a file needs: so it gave back all of these, and no others.
+-- It ends, where the sources were chosen, none is ready and nothing is to be written, and tells how many containers it gave back and how many
+-- segments it copied. One that ran alone leaves no container that holds the newest copy of no key that a file needs: so it gave back all of
+-- these.
 pub record EndsCollection (freed copied : ℕ) (m n : Machine) : Type 0 where
+  pub snapshot : ℕ
   pub left : ℕ
   pub alone : Bool
-  pub ran : m.collecting ≡ Some (record { progress = Sweeping false; to_come = left; freed = freed; alone = alone })
-  pub copied_is : copied ≡ 0
+  pub ran : m.collecting
+      ≡ Some (record { snapshot = snapshot; progress = Sweeping false false; to_come = left; freed = freed; copied = copied; alone = alone })
   pub none_spare : alone ≡ true → OfStore m.content (λ store. (slot : ℕ) → ¬ (IsSpare (IsReachable m.stored.files) store.held slot))
   pub others : n ≡ record m { collecting = None }
 
@@ -119,13 +145,29 @@ Sweeps freed copied m n = (phases : List Phase) × ((mid : Machine) × (Collecti
 
 -- ---- what is refused
 
--- Why no step is made. Where a write or a sync failed the store is stopped.
+-- what a write that failed leaves of the content, by the step that had it; other steps write nothing
+abbrev pub BreaksBy : Phase → ℕ → Machine → List ℕ → Type 0
+BreaksBy Copy snapshot m new = SameStore m.content new
+BreaksBy Flush snapshot m new = (m.last_id < LAST_ID) × BreaksCopies m.content new
+BreaksBy Release snapshot m new = BreaksGate (IsReachable m.stored.files) snapshot m.content new
+BreaksBy phase snapshot m new = ⊥
+
+-- A step of the collection that runs, one that may come, broke off.
+pub record BreaksStep (m : Machine) (new : List ℕ) : Type 0 where
+  pub running : Collecting
+  pub ran : m.collecting ≡ Some running
+  pub phase : Phase
+  pub may : MayCome phase running.progress
+  pub breaks : BreaksBy phase running.snapshot m new
+
+-- Why no step is made. Copies are not written where no id is left. Where a write or a sync failed the store is stopped.
 abbrev pub RefusesCollectionStep : Refusal → Machine → Machine → Type 0
 RefusesCollectionStep NotCollecting m n = (m.collecting ≡ None) × (n ≡ m)
 RefusesCollectionStep Memory m n = IsSome m.collecting × Stays m n
+RefusesCollectionStep Numbers m n = IsCollecting Flush m.collecting × (LAST_ID ≤ m.last_id) × Stays m n
 RefusesCollectionStep DiskRead m n = IsSome m.collecting × Rose m.faults n.faults × SameStore m.content n.content
     × (n ≡ record m { content = n.content; faults = n.faults })
-RefusesCollectionStep DiskWrite m n = IsSome m.collecting × Rose m.faults n.faults × BreaksGate (IsReachable m.stored.files) m.content n.content
+RefusesCollectionStep DiskWrite m n = BreaksStep m n.content × Rose m.faults n.faults
     × (n ≡ record m { state = Stopped None; content = n.content; faults = n.faults })
 RefusesCollectionStep refusal m n = ⊥
 

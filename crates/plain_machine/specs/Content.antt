@@ -23,7 +23,7 @@ use Rattle.store_model.specs.Pieces.{Piece, Node, IsPieceOf, piece_segment}
 use Rattle.store_model.specs.Reserve.{IsReachable, IsSpare}
 use Rattle.store_model.specs.Slots.{Copy, newest, first_free, free_slots}
 use Rattle.store_model.specs.Freeing.{FreesSome, FreesTo, IsPartlyFreed, SameButGates, with_freed}
-use Rattle.store_model.specs.Steps.{CanChangeName, CanSeal, HasCellsFor, with_change, with_sealed}
+use Rattle.store_model.specs.Steps.{CanChangeName, CanFlush, CanSeal, HasCellsFor, with_change, with_sealed}
 use Rattle.store_model.specs.Trees.{HasNewest, bytes_at, node_key}
 
 -- P is so of the store that the content is: there is one
@@ -119,6 +119,19 @@ pub record AddsContainer (last id : ℕ) (filled : Contents) (old new : List ℕ
   pub held : AllByRecursion (λ s. Holds new (record { kind = filled.kind; segment = s })) filled.segments
   pub rest : SameBut (Unit {0}) (λ half cell. ⊥) (λ slot. slot ≡ first_free store.held) store.slots old new
 
+-- Copies were written: a container of so many segments, each of which was held, stands in the free slot of least number, under the id after the
+-- last one, and all else is as it was.
+pub record AddsCopies (last count : ℕ) (old new : List ℕ) : Type 0 where
+  pub store : Store
+  pub was : Encodes old store
+  pub filled : Contents
+  pub can : CanFlush (suc last) filled.kind filled.segments store
+  pub many : count ≡ length filled.segments
+  pub were_held : AllByRecursion (λ s. Holds old (record { kind = filled.kind; segment = s })) filled.segments
+  pub now : Encodes new (with_sealed (suc last) filled.kind filled.segments store)
+  pub held : AllByRecursion (λ s. Holds new (record { kind = filled.kind; segment = s })) filled.segments
+  pub rest : SameBut (Unit {0}) (λ half cell. ⊥) (λ slot. slot ≡ first_free store.held) store.slots old new
+
 -- A record of the change of a name stands in the next cell, and all else is as it was. Where the half had no cell for it, a
 -- checkpoint was made before: `now` says what the journal is then.
 pub record AddsRecord (name : List ℕ) (change : Change) (old new : List ℕ) : Type 0 where
@@ -133,21 +146,34 @@ pub record SameButGate (slot slots : ℕ) (old new : List ℕ) : Type 0 where
   pub rest : SameBut (Unit {0}) (λ half cell. ⊥) (λ other. other ≡ slot) slots old new
   pub slot_is : range (slot_at slot + 1) (SLOT_BYTES - 1) new ≡ range (slot_at slot + 1) (SLOT_BYTES - 1) old
 
--- A container is given back that holds the newest copy of no key of which P holds: the gate of its slot is closed, and all else is as it
--- was.
-pub record FreesContainer (P : List ℕ → Type 0) (old new : List ℕ) : Type 0 where
+-- A container of an id below this one is given back that holds the newest copy of no key of which P holds: the gate of its slot is closed, and
+-- all else is as it was.
+pub record FreesContainer (P : List ℕ → Type 0) (snapshot : ℕ) (old new : List ℕ) : Type 0 where
   pub store : Store
   pub was : Encodes old store
   pub slot : ℕ
   pub spare : IsSpare P store.held slot
+  pub came_before : spare.header.id < snapshot
   pub now : Encodes new (with_freed slot store)
   pub rest : SameButGate slot store.slots old new
 
--- A write of a collection broke off: all is as it was, but perhaps for the gate of a container that holds the newest copy of no key of which P
--- holds.
-abbrev pub BreaksGate : (List ℕ → Type 0) → List ℕ → List ℕ → Type 0
-BreaksGate P old new =
-    SameStore old new ⊎ OfStore old (λ store. (slot : ℕ) × (IsSpare P store.held slot × SameButGate slot store.slots old new))
+-- Copies were not written, as a write of them broke off: all is as it was, but perhaps for the free slot of least number, beside which another is
+-- free.
+pub record BreaksCopies (old new : List ℕ) : Type 0 where
+  pub store : Store
+  pub was : Encodes old store
+  pub slot : 1 < free_slots store.held
+  pub rest : SameBut (Unit {0}) (λ half cell. ⊥) (λ slot. slot ≡ first_free store.held) store.slots old new
+
+-- A container of an id below this one was not given back, as the write broke off: all is as it was, but perhaps for its gate. It holds the newest
+-- copy of no key of which P holds.
+pub record BreaksGate (P : List ℕ → Type 0) (snapshot : ℕ) (old new : List ℕ) : Type 0 where
+  pub store : Store
+  pub was : Encodes old store
+  pub slot : ℕ
+  pub spare : IsSpare P store.held slot
+  pub came_before : spare.header.id < snapshot
+  pub rest : SameButGate slot store.slots old new
 
 -- A write broke off: each container that was there is as it was; and so is each record, where the half had cells for so many more.
 pub record BreaksOff (records : ℕ) (old new : List ℕ) : Type 0 where

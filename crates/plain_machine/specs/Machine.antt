@@ -46,22 +46,25 @@ pub data RunState : Type 0 where
   Stopped : (other : Option Stored) → RunState
 
 -- How far a collection has come: it marks what is live; or it records how much of each container is; or the sources are chosen, and one of them
--- is ready to be given back, or none.
+-- is ready to be given back, or none, and something was copied that isn't written yet, or nothing.
 pub data Progress : Type 0 where
   Marking : Progress
   Recording : Progress
-  Sweeping : (ready : Bool) → Progress
+  Sweeping : (ready filled : Bool) → Progress
 
 -- the same, once it is stopped; a command that was in doubt stays so
 abbrev pub stopped_by : RunState → RunState
 stopped_by Running = Stopped None
 stopped_by (Stopped other) = Stopped other
 
--- A collection that runs: so far it has come, so many steps of it may come at most before its end, and so many containers were given back.
+-- A collection that runs: only containers of ids below its snapshot are given back; so far it has come, so many steps of it may come at most
+-- before its end, and so many containers were given back and so many segments copied and written.
 pub record Collecting : Type 0 where
+  pub snapshot : ℕ
   pub progress : Progress
   pub to_come : ℕ
   pub freed : ℕ
+  pub copied : ℕ
   -- no actor was at anything when it began, and since then no turn was answered, and no name has changed
   pub alone : Bool
 

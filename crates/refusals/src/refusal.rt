@@ -36,8 +36,10 @@ pub enum Phase {
     Filter,
     /// It chooses the sources.
     Select,
-    /// It takes a source.
+    /// It copies what is live of a source.
     Copy,
+    /// It writes what was copied.
+    Flush,
     /// It gives a source back.
     Release,
     /// It ends the collection.

@@ -9,7 +9,7 @@ use Rattle.refusals.specs.declared.refusal.Difference.TheVariants.{Length, Byte}
 use Rattle.refusals.specs.declared.refusal.PartKind.{PartKind}
 use Rattle.refusals.specs.declared.refusal.PartKind.TheVariants.{Idle, Writing, Finished, Reading}
 use Rattle.refusals.specs.declared.refusal.Phase.{Phase}
-use Rattle.refusals.specs.declared.refusal.Phase.TheVariants.{Mark, Filter, Select, Copy, Release, End}
+use Rattle.refusals.specs.declared.refusal.Phase.TheVariants.{Mark, Filter, Select, Copy, Flush, Release, End}
 use Rattle.disk_format.specs.declared.why.Why.{Why}
 use Rattle.disk_format.specs.declared.why.Why.TheVariants.{Digest, Field}
 use Rattle.refusals.specs.declared.refusal.Refusal.{Refusal}
@@ -66,6 +66,7 @@ phase_text Mark = codes "mark"
 phase_text Filter = codes "filter"
 phase_text Select = codes "select"
 phase_text Copy = codes "copy"
+phase_text Flush = codes "flush"
 phase_text Release = codes "release"
 phase_text End = codes "end"
 

@@ -224,6 +224,7 @@ pub fn phase_word(phase: &Phase) -> &'static [u8]
         Phase::Filter => b"filter",
         Phase::Select => b"select",
         Phase::Copy => b"copy",
+        Phase::Flush => b"flush",
         Phase::Release => b"release",
         Phase::End => b"end",
     }

@@ -33,11 +33,11 @@ name_has_none (byte ∷ name) each =
     or_from _ _ (not-true (is_line_end byte) ((and_parts _ (not (is_line_end byte)) parts.0).1)) (name_has_none name parts.1)
 
 two_have_none : (word line : List ℕ) (actor : ℕ) → HasNoLineEnd word → IsActor actor → line ≡ word ++ decimal actor → HasNoLineEnd line
-two_have_none word line actor none small is = subst HasNoLineEnd (sym is) (none_append word (decimal actor) none (number_has_no_line_end actor small))
+two_have_none word line actor none small is = subst HasNoLineEnd (sym is) (none_append word (decimal actor) none (number_has_no_line_end actor (omega (arith, small))))
 
 three_have_none : (word line argument : List ℕ) (actor : ℕ) → HasNoLineEnd word → IsActor actor → HasNoLineEnd argument → line ≡ word ++ decimal actor ++ codes " " ++ argument → HasNoLineEnd line
 three_have_none word line argument actor none small last is =
-    subst HasNoLineEnd (sym is) (none_append (word ++ decimal actor ++ codes " ") argument (none_append (word ++ decimal actor) (codes " ") (none_append word (decimal actor) none (number_has_no_line_end actor small)) refl) last)
+    subst HasNoLineEnd (sym is) (none_append (word ++ decimal actor ++ codes " ") argument (none_append (word ++ decimal actor) (codes " ") (none_append word (decimal actor) none (number_has_no_line_end actor (omega (arith, small)))) refl) last)
 
 line_has_none : (value : LineValue) (line : List ℕ) → IsLine value line → HasNoLineEnd line
 line_has_none (Begin a) line is = two_have_none (codes "begin ") line a refl is.0 is.1
@@ -130,7 +130,7 @@ actor : (number : ℕ) → IsOrNot (IsActor number)
 actor number = elim (cases_lt number 64) [ inl is ↦ inl is | inr more ↦ inr (λ is. omega arith) ]
 
 percent : (number : ℕ) → IsOrNot (IsPercent number)
-percent number = cases_eq number 0
+percent number = at_most number 100
 
 hex : (digits : List ℕ) → IsOrNot (IsHex digits)
 hex digits = elim (all_three (at_most 2 (length digits)) (cases_eq (length digits % 2) 0) (passes (list_all is_ascii_hexdigit digits))) [

@@ -1,6 +1,6 @@
 -- What a line says, got back from its bytes, whatever its digits and names are. It is no part of a contract: it shows that
 -- no line is another one too, and that bytes are no line.
-use Rattle.std.proofs.Common.{◌≡◌, ◌≢◌, ℕ, true, false, cond, List, [], ◌∷◌, ◌++◌, codes, decimal, Option, Some, None, refl, sym, ◌∙◌, ap, subst}
+use Rattle.std.proofs.Common.{◌≡◌, ◌≢◌, ℕ, true, false, cond, List, [], ◌∷◌, ◌++◌, codes, decimal, Option, Some, None, refl, sym, ◌∙◌, ap, subst, arith}
 use Rattle.std.specs.Str.{bytes_eq}
 use Rattle.std.proofs.lemmas.Bool.{false_from_ne_true}
 use Rattle.std.proofs.lemmas.List.{append_assoc}
@@ -74,12 +74,12 @@ module _ (word : List ℕ) (none : HasNoSpace word) (no_delete : bytes_eq word (
 
   pub two_words : (actor : ℕ) → IsActor actor → line_of (word ++ (32 ∷ decimal actor)) ≡ of_two word actor
   two_words actor small =
-      let plain = number_has_no_space actor small in
+      let plain = number_has_no_space actor (omega (arith, small)) in
       words_of (decimal actor) ∙ rw (before-all (decimal actor) plain, after-all (decimal actor) plain, actor_is actor small) refl
 
   pub three_words : (actor : ℕ) (argument : List ℕ) → IsActor actor → line_of (word ++ (32 ∷ (decimal actor ++ (32 ∷ argument)))) ≡ of_three word actor argument
   three_words actor argument small =
-      let plain = number_has_no_space actor small in
+      let plain = number_has_no_space actor (omega (arith, small)) in
       words_of (decimal actor ++ (32 ∷ argument)) ∙ rw (before-word (decimal actor) argument plain, after-word (decimal actor) argument plain, actor_is actor small) refl
 
   -- the second word is no actor's number

@@ -29,9 +29,9 @@ pub data LineValue : Type 0 where
 abbrev pub IsActor : ℕ → Type 0
 IsActor number = number < ACTORS
 
--- a percentage that a collection may have; only containers of which nothing is live are taken so far
+-- a percentage that a collection may have
 abbrev pub IsPercent : ℕ → Type 0
-IsPercent percent = percent ≡ 0
+IsPercent percent = percent ≤ 100
 
 -- hexadecimal digits of either case, an even number of them and two at least
 pub record IsHex (digits : List ℕ) : Type 0 where

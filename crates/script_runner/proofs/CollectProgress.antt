@@ -1,99 +1,274 @@
 -- How far a collection has come, by the machine, after a step of it.
-use Rattle.std.proofs.Common.{◌≡◌, inl, inr, ◌+◌, ℕ, Bool, true, false, List, length, Option, Some, None, refl, sym, ap, subst}
-use Rattle.std.specs.Prelude.{if◌then◌else◌, nat_lt}
+use Rattle.std.proofs.Common.{◌≡◌, ◌≢◌, inl, inr, ◌+◌, ◌≤◌, ℕ, Bool, true, false, List, [], ◌∷◌, length, Option, Some, None, refl, sym, ◌∙◌, ap, subst, arith}
+use Rattle.std.specs.Prelude.{nat_lt}
+use Rattle.std.proofs.lemmas.Bool.{eq-eqb, lt-ltb, ltb-true}
+use Rattle.container_meta.specs.declared.entry.Entry.{Entry}
+use Rattle.container_meta.specs.Segments.{Contents, Segment}
+use Rattle.copy_forward.specs.Copying.{PlansSource}
+use Rattle.copy_forward.specs.Planning.{IsPlan, Source, source_of}
+use Rattle.copy_forward.specs.declared.plan.Plan.{Plan}
+use Rattle.dd_disk.specs.Shows.{Shows}
 use Rattle.gc_steps.specs.declared.collection.Collection.{Collection}
 use Rattle.gc_steps.specs.declared.collection.Stage.{Stage}
 use Rattle.gc_steps.specs.declared.collection.Stage.TheVariants as stages
 use Rattle.gc_steps.specs.FewSources.{IsToChoose}
-use Rattle.gc_steps.specs.Stages.{filter_at, first_slot, is_old_slot, sweep_from}
+use Rattle.gc_steps.specs.Stages.{filter_at, first_slot, is_old_slot}
 use Rattle.gc_steps.specs.Stepping.{StepsTo, phase_at}
 use Rattle.gc_steps.proofs.Safe.{early_from}
+use Rattle.gc_sweep.specs.declared.sweep.Next.{Next}
+use Rattle.gc_sweep.specs.declared.sweep.Next.TheVariants.{Copy, Flush, Release, End}
+use Rattle.gc_sweep.specs.declared.sweep.Sweep.{Sweep as SweepValue}
+use Rattle.gc_sweep.specs.Copying.{CopiesSource, EndsBy, HasEnded, TakesBy}
+use Rattle.gc_sweep.specs.Next.{IsNext}
 use Rattle.refusals.specs.declared.refusal.Phase.{Phase}
+use Rattle.store_state.specs.declared.slot_table.SlotTable.{SlotTable}
 use Rattle.store_core.specs.Collecting.{at_moment}
 use Rattle.store_core.specs.State.{CoreState}
 use Rattle.plain_machine.specs.Collections.{GoesTo, MayCome}
 use Rattle.plain_machine.specs.Machine.{Marking, Progress, Recording, Sweeping}
-use Rattle.script_runner.specs.Follows.{IsAtProgress}
+use Rattle.script_runner.specs.Follows.{IsAtNext, IsAtProgress, IsAtStage, is_filled}
+use Rattle.script_runner.proofs.CollectCounts.{filling_many}
 
 -- where a step leads
-pub record Progresses (phase : Phase) (progress : Progress) (stage : Stage) : Type 0 where
+pub record Progresses (phase : Phase) (progress : Progress) (c : Collection) : Type 0 where
   pub next : Progress
   pub goes : GoesTo phase progress next
-  pub is_at : IsAtProgress next stage
+  pub is_at : IsAtProgress next c
 
-at_filter : (found : Option ℕ) → IsAtProgress Recording (filter_at found)
-at_filter None = tt
-at_filter (Some slot) = tt
+at_filter : (found : Option ℕ) (next : Next) (buffer : Contents) → IsAtStage Recording (filter_at found) next buffer
+at_filter None next buffer = tt
+at_filter (Some slot) next buffer = tt
 
-at_sweep : (sources : List ℕ) (source : ℕ) → IsAtProgress (Sweeping false) (sweep_from sources source)
-at_sweep sources source = by_test (nat_lt source (length sources))
-  where
-    by_test : (b : Bool) → IsAtProgress (Sweeping false) (if b then stages.Copy source else stages.End)
-    by_test true = refl
-    by_test false = refl
+-- ---- what is filled
 
--- the same stage by another name
-at_as : (progress : Progress) (stage now : Stage) → now ≡ stage → IsAtProgress progress stage → IsAtProgress progress now
-at_as progress stage now is at = subst (IsAtProgress progress) (sym is) at
+pub filled_some : (segments : List Segment) → segments ≢ [] → nat_lt 0 (length segments) ≡ true
+filled_some [] some = absurd (some refl)
+filled_some (x ∷ xs) some = lt-ltb 0 (length (x ∷ xs)) (omega arith)
+
+pub filled_none : (segments : List Segment) → segments ≡ [] → nat_lt 0 (length segments) ≡ false
+filled_none segments none = ap (λ (l : List Segment). nat_lt 0 (length l)) none
+
+-- where no source is ready
+next_at : (t : SlotTable) (sources : List ℕ) (buffer : Contents) (source entry : ℕ) (next : Next) → IsNext t sources buffer source entry next → IsAtNext false (is_filled buffer) next
+next_at t sources buffer source entry (Copy s e) is = refl
+next_at t sources buffer source entry (Flush s e) is = (refl, filled_some buffer.segments is.2)
+next_at t sources buffer source entry (Release s e) is = absurd is
+next_at t sources buffer source entry End is = (refl, filled_none buffer.segments is.0)
+
+-- a sweep that is so far
+pub record AtSweep (ready filled : Bool) (c : Collection) : Type 0 where
+  pub stage_is : c.stage ≡ stages.Sweep
+  pub next_is : IsAtNext ready filled c.sweep.next
+  pub filled_is : filled ≡ is_filled c.sweep.buffer
+
+at_sweep : (ready filled : Bool) (c : Collection) → AtSweep ready filled c → IsAtProgress (Sweeping ready filled) c
+at_sweep ready filled c at = subst (λ (stage : Stage). IsAtStage (Sweeping ready filled) stage c.sweep.next c.sweep.buffer) (sym at.stage_is) (at.next_is, at.filled_is)
+
+-- ---- a source that was copied
+
+-- whether it is ready, and whether something is filled then
+pub record Copied (filled : Bool) (after : SweepValue) : Type 0 where
+  pub ready : Bool
+  pub next_is : IsAtNext ready (is_filled after.buffer) after.next
+  pub stays : filled ≡ true → is_filled after.buffer ≡ true
+  pub at_once : ready ≡ true → is_filled after.buffer ≡ filled
+
+still_filled : (a b : ℕ) → nat_lt 0 a ≡ true → a ≤ b → nat_lt 0 b ≡ true
+still_filled a b is more = lt-ltb 0 b (omega (arith, ltb-true 0 a is, more))
+
+module _ (t : SlotTable) (slot source : ℕ) (before after : SweepValue) where
+  as_next : (ready : Bool) (buffer : Contents) (next : Next) → after.buffer ≡ buffer → after.next ≡ next → IsAtNext ready (is_filled buffer) next → IsAtNext ready (is_filled after.buffer) after.next
+  as_next ready buffer next buffer_is next_is at =
+      subst (λ (n : Next). IsAtNext ready (is_filled after.buffer) n) (sym next_is) (subst (λ (c : Contents). IsAtNext ready (is_filled c) next) (sym buffer_is) at)
+
+  module _ (plan : Plan) (filling : Contents) (fills : length filling.segments ≡ length before.buffer.segments) (many : length plan.buffer.segments ≡ length filling.segments + plan.copied) (buffer_is : after.buffer ≡ plan.buffer) where
+    lengths : length after.buffer.segments ≡ length before.buffer.segments + plan.copied
+    lengths = ap (λ (c : Contents). length c.segments) buffer_is ∙ many ∙ ap (λ (n : ℕ). n + plan.copied) fills
+
+    still : is_filled before.buffer ≡ true → is_filled after.buffer ≡ true
+    still is = still_filled (length before.buffer.segments) (length after.buffer.segments) is (omega (arith, lengths))
+
+    ended : HasEnded t slot source plan before after → Copied (is_filled before.buffer) after
+    ended (inl waits) = record {
+      ready = false;
+      next_is = subst (λ (c : Contents). IsAtNext false (is_filled c) after.next) (sym buffer_is) (next_at t before.sources.items plan.buffer (source + 1) 0 after.next waits.3);
+      stays = still;
+      at_once = λ wrong. absurd (let no : false ≡ true = wrong in cc);
+    }
+    ended (inr ready) = record {
+      ready = true;
+      next_is = as_next true plan.buffer (Release (source + 1) 0) buffer_is ready.3 refl;
+      stays = still;
+      at_once = λ is. ap (λ (n : ℕ). nat_lt 0 n) (let e : length after.buffer.segments ≡ length before.buffer.segments = omega (arith, lengths, ready.0) in e);
+    }
+
+    full : filling.segments ≢ [] → (after.waiting.items ≡ before.waiting.items) × (after.ready.items ≡ []) × (after.next ≡ Flush source plan.next) → Copied (is_filled before.buffer) after
+    full some stops = record {
+      ready = false;
+      next_is = as_next false plan.buffer (Flush source plan.next) buffer_is stops.2 (refl, still_filled (length filling.segments) (length plan.buffer.segments) (filled_some filling.segments some) (omega (arith, many)));
+      stays = still;
+      at_once = λ wrong. absurd (let no : false ≡ true = wrong in cc);
+    }
+
+    by_end : (b : Bool) → (b ≡ false → filling.segments ≢ []) → EndsBy b t slot source plan before after → Copied (is_filled before.buffer) after
+    by_end true some ends = ended ends
+    by_end false some ends = full (some refl) ends
 
 module _ (old new : CoreState) (before after : Collection) where
-  abbrev Leads : Stage → Progress → Type 0
-  Leads stage progress = Progresses (phase_at stage) progress after.stage
+  abbrev Leads : Stage → Next → Progress → Type 0
+  Leads stage next progress = Progresses (phase_at stage next) progress after
 
-  filtered : (slot : ℕ) → StepsTo (stages.Filter slot) (at_moment old before) (at_moment new after) → IsAtProgress Recording after.stage
-  filtered slot steps =
+  -- a source that doesn't end was not copied into an empty container
+  not_empty : (of : Source) (shown : (List ℕ → Type 0) → Type 0) (entries : List Entry) (from : ℕ) (filling : Contents) (plan : Plan) → IsPlan of shown entries from filling plan → plan.ended ≡ false → filling.segments ≢ []
+  not_empty of shown entries from filling plan is unended empty =
+      absurd (let wrong : true ≡ false = sym (eq-eqb plan.next (length entries) (is.whole empty)) ∙ sym is.ended_is ∙ unended in cc)
+
+  module _ (source entry : ℕ) (copies : CopiesSource old.tables.held before.live old.known new.known old.disk new.disk source entry before.sweep after.sweep) where
+    by_found : (found : Option Plan) → PlansSource old.known before.live copies.slot entry copies.filling old.disk new.disk found → TakesBy old.tables.held copies.slot source found before.sweep after.sweep
+        → Copied (is_filled before.sweep.buffer) after.sweep
+    by_found None plans takes = record {
+      ready = false;
+      next_is = subst (λ (c : Contents). IsAtNext false (is_filled c) after.sweep.next) (sym takes.0) (next_at old.tables.held before.sweep.sources.items before.sweep.buffer (source + 1) 0 after.sweep.next takes.4);
+      stays = λ is. ap is_filled takes.0 ∙ is;
+      at_once = λ wrong. absurd (let no : false ≡ true = wrong in cc);
+    }
+    by_found (Some plan) plans takes =
+        let is = plans.plans.1 in
+        by_end old.tables.held copies.slot source before.sweep after.sweep plan copies.filling (filling_many before.sweep.buffer copies.filling copies.kind copies.is_source.filling_is) is.copied_is takes.0 plan.ended
+        (not_empty (source_of old.known before.live copies.slot plans.header.kind) (Shows old.disk new.disk) plans.header.entries entry copies.filling plan is) takes.2
+
+    copied : Copied (is_filled before.sweep.buffer) after.sweep
+    copied = by_found copies.found copies.plans copies.takes
+
+  -- ---- the stage
+
+  filtered : (slot : ℕ) (next : Next) → StepsTo (stages.Filter slot) next (at_moment old before) (at_moment new after) → IsAtProgress Recording after
+  filtered slot next steps =
       let found : Option ℕ = first_slot old.tables.held (is_old_slot before.snapshot old.tables.held) (slot + 1) in
-      at_as Recording (filter_at found) after.stage (ap (λ (c : Collection). c.stage) steps.0.collection_is) (at_filter found)
+      subst (λ (stage : Stage). IsAtStage Recording stage after.sweep.next after.sweep.buffer) (sym (ap (λ (c : Collection). c.stage) steps.0.collection_is))
+      (at_filter found after.sweep.next after.sweep.buffer)
 
-  chosen : StepsTo stages.Select (at_moment old before) (at_moment new after) → IsAtProgress (Sweeping false) after.stage
-  chosen steps = at_as (Sweeping false) (sweep_from after.sources.items 0) after.stage (ap (λ (c : Collection). c.stage) steps.0.collection_is) (at_sweep after.sources.items 0)
+  chosen : (next : Next) → StepsTo stages.Select next (at_moment old before) (at_moment new after) → IsAtProgress (Sweeping false false) after
+  chosen next steps =
+      let begins = steps.0.begins in
+      let none : is_filled after.sweep.buffer ≡ false = filled_none after.sweep.buffer.segments begins.empty in
+      at_sweep false false after (record {
+        stage_is = ap (λ (c : Collection). c.stage) steps.0.collection_is;
+        next_is = subst (λ (b : Bool). IsAtNext false b after.sweep.next) none (next_at old.tables.held after.sweep.sources.items after.sweep.buffer 0 0 after.sweep.next begins.next_is);
+        filled_is = sym none;
+      })
 
-  taken : (source : ℕ) → StepsTo (stages.Copy source) (at_moment old before) (at_moment new after) → (ready : Bool) × IsAtProgress (Sweeping ready) after.stage
-  taken source steps = elim steps.taken [
-    | inl up ↦ (false, at_as (Sweeping false) (sweep_from before.sources.items (source + 1)) after.stage (ap (λ (c : Collection). c.stage) up.collection_is) (at_sweep before.sources.items (source + 1)))
-    | inr out ↦ (true, at_as (Sweeping true) (stages.Release (source + 1) steps.slot) after.stage (ap (λ (c : Collection). c.stage) out.collection_is) refl)
-  ]
+  taken : (source entry : ℕ) (filled : Bool) → before.stage ≡ stages.Sweep → filled ≡ is_filled before.sweep.buffer → StepsTo stages.Sweep (Copy source entry) (at_moment old before) (at_moment new after)
+      → Leads stages.Sweep (Copy source entry) (Sweeping false filled)
+  taken source entry filled is filled_is steps =
+      let one = copied source entry steps.0 in
+      record {
+        next = Sweeping one.ready (is_filled after.sweep.buffer);
+        goes = (one.ready, (is_filled after.sweep.buffer, (refl, (λ some. one.stays (sym filled_is ∙ some)), (λ ready. one.at_once ready ∙ sym filled_is))));
+        is_at = at_sweep one.ready (is_filled after.sweep.buffer) after (record { stage_is = ap (λ (c : Collection). c.stage) steps.1 ∙ is; next_is = one.next_is; filled_is = refl });
+      }
 
-  pub progresses : (stage : Stage) (progress : Progress) → IsAtProgress progress stage → StepsTo stage (at_moment old before) (at_moment new after) → (phase_at stage ≡ phase_at stages.End → ⊥) → Leads stage progress
-  progresses (stages.Mark level slot) Marking at steps other = record {
+  released : (source entry : ℕ) (filled : Bool) → before.stage ≡ stages.Sweep → filled ≡ is_filled before.sweep.buffer → StepsTo stages.Sweep (Release source entry) (at_moment old before) (at_moment new after)
+      → Leads stages.Sweep (Release source entry) (Sweeping true filled)
+  released source entry filled is filled_is steps = by_ready after.sweep.ready.items refl
+    where
+      stage_is : after.stage ≡ stages.Sweep
+      stage_is = ap (λ (c : Collection). c.stage) steps.1 ∙ is
+
+      same : filled ≡ is_filled after.sweep.buffer
+      same = filled_is ∙ ap is_filled (sym steps.0.buffer_is)
+
+      by_ready : (ready : List ℕ) → after.sweep.ready.items ≡ ready → Leads stages.Sweep (Release source entry) (Sweeping true filled)
+      by_ready [] none = record {
+        next = Sweeping false filled;
+        goes = (false, refl);
+        is_at = at_sweep false filled after (record {
+          stage_is = stage_is;
+          next_is = subst (λ (b : Bool). IsAtNext false b after.sweep.next) (sym filled_is) (next_at new.tables.held before.sweep.sources.items before.sweep.buffer source entry after.sweep.next (steps.0.goes_on none));
+          filled_is = same;
+        });
+      }
+      by_ready (slot ∷ more) some = record {
+        next = Sweeping true filled;
+        goes = (true, refl);
+        is_at = at_sweep true filled after (record {
+          stage_is = stage_is;
+          next_is = subst (λ (n : Next). IsAtNext true filled n) (sym (steps.0.next_is (λ none. let wrong : slot ∷ more ≡ [] = sym some ∙ none in cc))) refl;
+          filled_is = same;
+        });
+      }
+
+  flushed : (source entry : ℕ) → before.stage ≡ stages.Sweep → StepsTo stages.Sweep (Flush source entry) (at_moment old before) (at_moment new after) → Leads stages.Sweep (Flush source entry) (Sweeping false true)
+  flushed source entry is steps = record {
+    next = Sweeping true false;
+    goes = refl;
+    is_at = at_sweep true false after (record {
+      stage_is = ap (λ (c : Collection). c.stage) steps.sweeps ∙ is;
+      next_is = subst (λ (n : Next). IsAtNext true false n) (sym steps.flushed.next_is) refl;
+      filled_is = sym (filled_none after.sweep.buffer.segments steps.flushed.emptied);
+    });
+  }
+
+  by_stage : (stage : Stage) (next : Next) (progress : Progress) → before.stage ≡ stage → IsAtStage progress stage next before.sweep.buffer → StepsTo stage next (at_moment old before) (at_moment new after)
+      → (phase_at stage next ≡ phase_at stages.Sweep End → ⊥) → Leads stage next progress
+  by_stage (stages.Mark level slot) next Marking is at steps other = record {
     next = Marking;
     goes = refl;
     is_at = subst IsToChoose (sym (ap (λ (c : Collection). c.stage) steps.0.collection_is)) (early_from before.snapshot old.tables.held level (slot + 1));
   }
-  progresses (stages.Filter slot) Marking at steps other = record { next = Recording; goes = refl; is_at = filtered slot steps }
-  progresses (stages.Filter slot) Recording at steps other = record { next = Recording; goes = refl; is_at = filtered slot steps }
-  progresses stages.Select Marking at steps other = record { next = Sweeping false; goes = refl; is_at = chosen steps }
-  progresses stages.Select Recording at steps other = record { next = Sweeping false; goes = refl; is_at = chosen steps }
-  progresses (stages.Copy source) (Sweeping false) at steps other = let on = taken source steps in record { next = Sweeping on.0; goes = (on.0, refl); is_at = on.1 }
-  progresses (stages.Copy source) (Sweeping true) at steps other = absurd (let wrong : true ≡ false = at in cc)
-  progresses (stages.Release next slot) (Sweeping true) at steps other = record {
-    next = Sweeping false;
-    goes = refl;
-    is_at = at_as (Sweeping false) (sweep_from before.sources.items next) after.stage (ap (λ (c : Collection). c.stage) steps.0) (at_sweep before.sources.items next);
-  }
-  progresses (stages.Release next slot) (Sweeping false) at steps other = absurd (let wrong : false ≡ true = at in cc)
-  progresses stages.End progress at steps other = absurd (other refl)
-  progresses stage progress at steps other = absurd at
+  by_stage (stages.Filter slot) next Marking is at steps other = record { next = Recording; goes = refl; is_at = filtered slot next steps }
+  by_stage (stages.Filter slot) next Recording is at steps other = record { next = Recording; goes = refl; is_at = filtered slot next steps }
+  by_stage stages.Select next Marking is at steps other = record { next = Sweeping false false; goes = refl; is_at = chosen next steps }
+  by_stage stages.Select next Recording is at steps other = record { next = Sweeping false false; goes = refl; is_at = chosen next steps }
+  by_stage stages.Sweep (Copy source entry) (Sweeping false filled) is at steps other = taken source entry filled is at.1 steps
+  by_stage stages.Sweep (Copy source entry) (Sweeping true filled) is at steps other = absurd (let wrong : true ≡ false = at.0 in cc)
+  by_stage stages.Sweep (Flush source entry) (Sweeping false true) is at steps other = flushed source entry is steps
+  by_stage stages.Sweep (Flush source entry) (Sweeping false false) is at steps other = absurd (let wrong : false ≡ true = at.0.1 in cc)
+  by_stage stages.Sweep (Flush source entry) (Sweeping true filled) is at steps other = absurd (let wrong : true ≡ false = at.0.0 in cc)
+  by_stage stages.Sweep (Release source entry) (Sweeping true filled) is at steps other = released source entry filled is at.1 steps
+  by_stage stages.Sweep (Release source entry) (Sweeping false filled) is at steps other = absurd (let wrong : false ≡ true = at.0 in cc)
+  by_stage stages.Sweep End progress is at steps other = absurd (other refl)
+  by_stage stage next progress is at steps other = absurd at
 
--- one that is at its end has chosen, and none is ready
-pub at_end : (progress : Progress) → IsAtProgress progress stages.End → progress ≡ Sweeping false
-at_end Marking at = absurd at
-at_end Recording at = absurd at
-at_end (Sweeping ready) at = ap Sweeping at
+  pub progresses : (progress : Progress) → IsAtProgress progress before → StepsTo before.stage before.sweep.next (at_moment old before) (at_moment new after)
+      → (phase_at before.stage before.sweep.next ≡ phase_at stages.Sweep End → ⊥) → Leads before.stage before.sweep.next progress
+  progresses progress at steps other = by_stage before.stage before.sweep.next progress refl at steps other
+
+-- one that is at its end has chosen, none is ready, and nothing is to be written
+end_at : (progress : Progress) (buffer : Contents) → IsAtStage progress stages.Sweep End buffer → progress ≡ Sweeping false false
+end_at Marking buffer at = absurd at
+end_at Recording buffer at = absurd at
+end_at (Sweeping ready filled) buffer at = ap (λ (b : Bool). Sweeping b filled) at.0.0 ∙ ap (λ (b : Bool). Sweeping false b) at.0.1
+
+pub at_end : (progress : Progress) (c : Collection) → c.stage ≡ stages.Sweep → c.sweep.next ≡ End → IsAtProgress progress c → progress ≡ Sweeping false false
+at_end progress c stage_is next_is at =
+    end_at progress c.sweep.buffer
+    (subst (λ (n : Next). IsAtStage progress stages.Sweep n c.sweep.buffer) next_is (subst (λ (stage : Stage). IsAtStage progress stage c.sweep.next c.sweep.buffer) stage_is at))
 
 -- ---- the step that comes next
 
-may_choose : (stage : Stage) → IsToChoose stage → MayCome (phase_at stage) Marking
-may_choose (stages.Mark level slot) early = (Marking, refl)
-may_choose (stages.Filter slot) early = (Recording, refl)
-may_choose stages.Select early = (Sweeping false, refl)
-may_choose stage early = absurd early
+may_choose : (stage : Stage) (next : Next) → IsToChoose stage → MayCome (phase_at stage next) Marking
+may_choose (stages.Mark level slot) next early = (Marking, refl)
+may_choose (stages.Filter slot) next early = (Recording, refl)
+may_choose stages.Select next early = (Sweeping false false, refl)
+may_choose stages.Sweep next early = absurd early
 
-pub may_come : (progress : Progress) (stage : Stage) → IsAtProgress progress stage → MayCome (phase_at stage) progress
-may_come Marking stage at = may_choose stage at
-may_come Recording (stages.Filter slot) at = (Recording, refl)
-may_come Recording stages.Select at = (Sweeping false, refl)
-may_come (Sweeping ready) (stages.Copy source) at = subst (λ (b : Bool). MayCome (phase_at (stages.Copy source)) (Sweeping b)) (sym at) (Sweeping false, (false, refl))
-may_come (Sweeping ready) (stages.Release next slot) at = subst (λ (b : Bool). MayCome (phase_at (stages.Release next slot)) (Sweeping b)) (sym at) (Sweeping false, refl)
-may_come (Sweeping ready) stages.End at = ap Sweeping at
-may_come progress stage at = absurd at
+may_sweep : (ready filled : Bool) (next : Next) → IsAtNext ready filled next → MayCome (phase_at stages.Sweep next) (Sweeping ready filled)
+may_sweep false filled (Copy source entry) at = (Sweeping false filled, (false, (filled, (refl, (λ some. some), (λ wrong. refl)))))
+may_sweep true filled (Copy source entry) at = absurd (let wrong : true ≡ false = at in cc)
+may_sweep false true (Flush source entry) at = (Sweeping true false, refl)
+may_sweep false false (Flush source entry) at = absurd (let wrong : false ≡ true = at.1 in cc)
+may_sweep true filled (Flush source entry) at = absurd (let wrong : true ≡ false = at.0 in cc)
+may_sweep true filled (Release source entry) at = (Sweeping false filled, (false, refl))
+may_sweep false filled (Release source entry) at = absurd (let wrong : false ≡ true = at in cc)
+may_sweep ready filled End at = ap (λ (b : Bool). Sweeping b filled) at.0 ∙ ap (λ (b : Bool). Sweeping false b) at.1
+
+may_by : (progress : Progress) (stage : Stage) (next : Next) (buffer : Contents) → IsAtStage progress stage next buffer → MayCome (phase_at stage next) progress
+may_by Marking stage next buffer at = may_choose stage next at
+may_by Recording (stages.Filter slot) next buffer at = (Recording, refl)
+may_by Recording stages.Select next buffer at = (Sweeping false false, refl)
+may_by (Sweeping ready filled) stages.Sweep next buffer at = may_sweep ready filled next at.0
+may_by progress stage next buffer at = absurd at
+
+pub may_come : (progress : Progress) (c : Collection) → IsAtProgress progress c → MayCome (phase_at c.stage c.sweep.next) progress
+may_come progress c at = may_by progress c.stage c.sweep.next c.sweep.buffer at

@@ -42,6 +42,7 @@ use Rattle.plain_machine.specs.Collections.{BeginsCollection, most_steps}
 use Rattle.plain_machine.specs.Machine.{Collecting, Machine, Marking, are_idle, part_in}
 use Rattle.script_runner.specs.Follows.{FollowsCollecting, FollowsCollection, FollowsPart, SparesAlone}
 use Rattle.script_runner.specs.Sessions.{Sessions, session_of}
+use Rattle.script_runner.proofs.CollectCounts.{early_counted}
 use Rattle.script_runner.proofs.CollectStep.{none_collecting, same_some}
 use Rattle.script_runner.proofs.IdleParts.{none_at, roots_reachable}
 use Rattle.script_runner.proofs.LinesReopen.{still_follows}
@@ -162,16 +163,21 @@ module _ (C : Type 0) (state : C → CoreState) (among : ByteSet) (apart : HasNo
     slots_same = same_slots C state among apart m sessions old new at percent started buf made
 
     abbrev begins_so : Collecting
-    begins_so = record { progress = Marking; to_come = most_steps held.held; freed = 0; alone = are_idle m.parts }
+    begins_so = record { snapshot = snapshot; progress = Marking; to_come = most_steps held.held; freed = 0; copied = 0; alone = are_idle m.parts }
+
+    -- the sources are still to be chosen
+    early : IsToChoose begun.collection.stage
+    early = subst IsToChoose (sym begun.stage_is) (early_level begun.collection.snapshot (state old).tables.held MOST_LEVEL)
 
     now : FollowsCollecting begins_so (state new)
     now = record {
       collection = begun.collection;
       runs = begun.runs;
-      progress_is = subst IsToChoose (sym begun.stage_is) (early_level begun.collection.snapshot (state old).tables.held MOST_LEVEL);
-      freed_is = begun.nothing_yet.2;
+      snapshot_is = sym begun.snapshot_is;
+      progress_is = early;
+      counted = early_counted begun.collection.stage begun.collection.sweep 0 0 early refl refl;
       most = most;
-      few = subst (λ (t : SlotTable). HasFewSources most t begun.collection) (sym slots_same) (few_begun (state old).tables.held begun.collection begun.nothing_yet.1);
+      few = subst (λ (t : SlotTable). HasFewSources most t begun.collection) (sym slots_same) (few_begun (state old).tables.held begun.collection begun.nothing_yet.1.sources_are);
       nears = subst (λ (t : SlotTable). steps_to_come most t begun.collection ≤ most_steps held.held) (sym slots_same)
           (omega (arith, begun.steps most, steps_most begun.collection.snapshot held.held (state old).tables.held at.running.begins.is_at.represents.slots_hold));
     }

@@ -87,7 +87,8 @@ module _ (old new : CoreState) where
         collection = record c { live = is.0 };
         runs = is.1;
         progress_is = follows.progress_is;
-        freed_is = follows.freed_is;
+        snapshot_is = follows.snapshot_is;
+        counted = follows.counted;
         most = follows.most;
         few = with_live follows.most now c is.0 still.0;
         nears = omega (arith, follows.nears, still.1);

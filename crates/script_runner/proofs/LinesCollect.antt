@@ -16,12 +16,14 @@ use Rattle.plain_machine.specs.Refused.{IsAtRightPart, Refuses}
 use Rattle.script_runner.specs.Acts.{Acts, ActsOrNot, Admits, CollectionRun, RunnerState, Starts}
 use Rattle.script_runner.specs.Follows.{Follows, IsAtProgress}
 use Rattle.script_runner.proofs.CollectProgress.{may_come}
-use Rattle.gc_steps.specs.declared.collection.Collection.{Collection}
 use Rattle.script_runner.specs.Sessions.{Sessions}
 use Rattle.script_runner.proofs.Along.{GoesAlong}
 use Rattle.script_runner.proofs.CollectStart.{started_step, unstarted_memory, unstarted_running}
 use Rattle.script_runner.proofs.CollectStart as start
-use Rattle.script_runner.proofs.CollectStep.{After, did_step, ended_step, none_collecting, refused_step, same_some, some_collecting}
+use Rattle.script_runner.proofs.CollectEnd.{ended_step}
+use Rattle.script_runner.proofs.CollectMade.{did_step}
+use Rattle.script_runner.proofs.CollectRefused.{refused_step}
+use Rattle.script_runner.proofs.CollectStep.{none_collecting, same_some, some_collecting}
 use Rattle.script_runner.proofs.CollectStep as collect
 use Rattle.script_runner.proofs.LinesBarred.{right_part, taken_or_not}
 use Rattle.script_runner.proofs.LinesTurn.{line_keeps}
@@ -92,8 +94,8 @@ module _ (C : Type 0) (state : C → CoreState) (among : ByteSet) (distinct : Ha
       line_keeps C state S (lines.Gc percent) (replies.Refused (refusals.Collecting phase)) m r s is m (
         right_part S m r.sessions (state r.core) follows (at is).running (lines.Gc percent) admits,
         (
-          subst (IsCollecting phase) (sym has.is) (subst (λ (p : Phase). MayCome p has.collecting.progress) (sym so.made.row.0.1.1) (may_come has.collecting.progress so.made.row.0.0.stage
-              (subst (λ (c : Collection). IsAtProgress has.collecting.progress c.stage) (same_some has.follows.collection so.made.row.0.0 (state r.core).collection has.follows.runs so.made.row.0.1.0) has.follows.progress_is))),
+          subst (IsCollecting phase) (sym has.is) (subst (λ (p : Phase). MayCome p has.collecting.progress) (sym so.made.row.0.1.1) (may_come has.collecting.progress so.made.row.0.0
+              (subst (IsAtProgress has.collecting.progress) (same_some has.follows.collection so.made.row.0.0 (state r.core).collection has.follows.runs so.made.row.0.1.0) has.follows.progress_is))),
           refl,
         ),
       ) r.sessions sessions

@@ -109,7 +109,8 @@ module _ (old new : CoreState) (reads : OnlyReads old.disk new.disk) (tables_are
   still_follows (Some k) follows = record {
     collection = follows.collection;
     runs = collection_is ∙ follows.runs;
-    freed_is = follows.freed_is;
+    snapshot_is = follows.snapshot_is;
+    counted = follows.counted;
     progress_is = follows.progress_is;
     most = follows.most;
     few = subst (λ (tables : Tables). HasFewSources follows.most tables.held follows.collection) (sym tables_are) follows.few;

@@ -126,5 +126,5 @@ module _ (snapshot : ℕ) (held : List (Option HeaderValue)) (t : SlotTable) (is
       omega (arith, ap (count_from (is_tree_slot snapshot t) 0) many, count_weighed (is_tree_slot snapshot t) tree_by 0 held slot_tree, weigh_trees held)
 
   -- So many steps come at most at the beginning, where no more sources are chosen than containers were there.
-  pub steps_most : 6 * trees_from snapshot t 0 + old_from snapshot t 0 + 1 + 2 * old_from snapshot t 0 ≤ most_steps held
+  pub steps_most : 6 * trees_from snapshot t 0 + old_from snapshot t 0 + 1 + 4 * old_from snapshot t 0 ≤ most_steps held
   steps_most = omega (arith, old_most, trees_most)

@@ -1,5 +1,5 @@
 -- Lines of a collection leave what is named, on any disk.
-use Rattle.std.proofs.Common.{◌≡◌, inl, inr, ℕ, List, [], ◌∷◌, length, false, None, Result, Ok, Err, refl, sym, ◌∙◌, ap, subst, arith}
+use Rattle.std.proofs.Common.{◌≡◌, inl, inr, ℕ, List, [], ◌∷◌, length, false, Option, None, Result, Ok, Err, refl, sym, ◌∙◌, ap, subst, arith}
 use Rattle.actor_parts.specs.declared.part.Part as core_part
 use Rattle.actor_parts.specs.declared.step.Answer.{Answer}
 use Rattle.actor_parts.specs.declared.step.Answer.TheVariants as answers
@@ -11,8 +11,13 @@ use Rattle.gc_enumerate.specs.declared.fault.ScanFault.TheVariants as faults
 use Rattle.copy_forward.specs.Entries.{IsHeaderRefusal}
 use Rattle.gc_steps.specs.Scanning.{step_refusal}
 use Rattle.gc_steps.specs.Stepping.{IsStepRefusal, Moment, TablesAfter}
+use Rattle.gc_steps.specs.declared.collection.Collection.{Collection}
 use Rattle.gc_steps.specs.declared.collection.Stage.{Stage}
-use Rattle.gc_steps.specs.declared.collection.Stage.TheVariants.{Mark, Filter, Select, Copy, Release, End}
+use Rattle.gc_steps.specs.declared.collection.Stage.TheVariants.{Mark, Filter, Select, Sweep}
+use Rattle.gc_sweep.specs.declared.sweep.Next.{Next}
+use Rattle.gc_sweep.specs.declared.sweep.Next.TheVariants.{Copy, Flush, Release, End}
+use Rattle.gc_sweep.specs.Flushing.{IsFlushStepRefusal}
+use Rattle.container_meta.specs.Places.{PlaceMap}
 use Rattle.refusals.specs.declared.refusal.Phase.{Phase}
 use Rattle.refusals.specs.declared.refusal.Refusal.{Refusal}
 use Rattle.refusals.specs.declared.refusal.Refusal.TheVariants as refusals
@@ -28,6 +33,7 @@ use Rattle.store_core.proofs.RunningOn.{step_runs}
 use Rattle.script_runner.specs.Acts.{Acts, Admits, CollectionRun, Collects, RunnerState, Starts, Sweeps}
 use Rattle.script_runner.specs.Named.{Account, IsOfCollection, stops}
 use Rattle.script_runner.proofs.CollectStep.{counts_still, parts_still}
+use Rattle.script_runner.proofs.CopyRefused.{IsCopyCause, copying_cause}
 use Rattle.script_runner.proofs.NamedAt.{At, Told, no_actor, refuses, still, still_runs, told}
 use Rattle.script_runner.proofs.NamedSteps.{IsTold, Quiet, SameNames, Stands, done_stands, quiet_here, quiet_on, quiet_step, refused_stands}
 
@@ -46,25 +52,39 @@ of_scan (faults.Damaged at_byte why) refusal is = subst IsOfCollection (sym is) 
 of_scan (faults.Corrupt place offset count want got) refusal is = subst IsOfCollection (sym is) tt
 of_scan (faults.Missing key) refusal is = subst IsOfCollection (sym is) tt
 
-of_stage : (old : Moment) (new : DiskView) (stage : Stage) (refusal : Refusal) → IsStepRefusal stage old new refusal → IsOfCollection refusal
-of_stage old new (Mark level slot) refusal (inl cause) = of_header old.disk new slot refusal cause
-of_stage old new (Mark level slot) refusal (inr stopped) = of_scan stopped.fault refusal stopped.refusal_is
-of_stage old new (Filter slot) refusals.Memory cause = tt
-of_stage old new (Filter slot) refusals.DiskRead cause = tt
-of_stage old new (Filter slot) (refusals.Damaged at_byte why) cause = tt
-of_stage old new (Filter slot) refusal cause = absurd cause
-of_stage old new Select refusal cause = subst IsOfCollection (sym cause) tt
-of_stage old new (Copy source) refusals.DiskWrite cause = tt
-of_stage old new (Copy source) refusals.Memory cause = tt
-of_stage old new (Copy source) refusals.DiskRead cause = tt
-of_stage old new (Copy source) (refusals.Damaged at_byte why) cause = tt
-of_stage old new (Copy source) refusal cause = absurd cause.2
-of_stage old new (Release next slot) refusal cause = subst IsOfCollection (sym cause) tt
-of_stage old new End refusal cause = absurd cause
+of_copy : (refusal : Refusal) → IsCopyCause refusal → IsOfCollection refusal
+of_copy refusals.Memory cause = tt
+of_copy refusals.DiskRead cause = tt
+of_copy refusals.DiskWrite cause = tt
+of_copy (refusals.Corrupt place offset count want got) cause = tt
+of_copy (refusals.Damaged at_byte why) cause = tt
+of_copy refusal cause = absurd cause
+
+of_flush : (t : Tables) (known : Option PlaceMap) (refusal : Refusal) → IsFlushStepRefusal t known refusal → IsOfCollection refusal
+of_flush t known refusals.Memory cause = tt
+of_flush t known refusals.Numbers cause = tt
+of_flush t known refusals.DiskRead cause = tt
+of_flush t known refusals.DiskWrite cause = tt
+of_flush t known (refusals.Damaged at_byte why) cause = tt
+of_flush t known refusal cause = absurd cause.1
+
+of_stage : (old : Moment) (new : DiskView) (stage : Stage) (next : Next) (refusal : Refusal) → IsStepRefusal stage next old new refusal → IsOfCollection refusal
+of_stage old new (Mark level slot) next refusal (inl cause) = of_header old.disk new slot refusal cause
+of_stage old new (Mark level slot) next refusal (inr stopped) = of_scan stopped.fault refusal stopped.refusal_is
+of_stage old new (Filter slot) next refusals.Memory cause = tt
+of_stage old new (Filter slot) next refusals.DiskRead cause = tt
+of_stage old new (Filter slot) next (refusals.Damaged at_byte why) cause = tt
+of_stage old new (Filter slot) next refusal cause = absurd cause
+of_stage old new Select next refusal cause = subst IsOfCollection (sym cause) tt
+of_stage old new Sweep (Copy source entry) refusal cause =
+    of_copy refusal (copying_cause old.known old.disk new old.tables.held old.collection.live source entry old.collection.sweep refusal cause)
+of_stage old new Sweep (Flush source entry) refusal cause = of_flush old.tables old.known refusal cause
+of_stage old new Sweep (Release source entry) refusal cause = subst IsOfCollection (sym cause) tt
+of_stage old new Sweep End refusal cause = absurd cause
 
 of_collection : (old new : CoreState) (refusal : Refusal) → GcRow (Err refusal) old new → IsOfCollection refusal
 of_collection old new refusals.NotCollecting row = tt
-of_collection old new refusal row = of_stage (at_moment old row.0.before) new.disk row.0.before.stage refusal row.0.cause
+of_collection old new refusal row = of_stage (at_moment old row.0.before) new.disk row.0.before.stage row.0.before.sweep.next refusal row.0.cause
 
 -- ---- a step of a collection
 
@@ -75,21 +95,25 @@ module _ (old new : CoreState) where
   same_names : new.tables ≡ old.tables → SameNames old.tables new.tables
   same_names same = subst (λ (tables : Tables). SameNames old.tables tables) (sym same) (record { names = refl; records = refl; generation = refl; last = refl })
 
-  names_after : (stage : Stage) → TablesAfter stage old.tables new.tables → SameNames old.tables new.tables
-  names_after (Mark level slot) same = same_names same
-  names_after (Filter slot) same = same_names same
-  names_after Select same = same_names same
-  names_after (Copy source) same = same_names same
-  names_after (Release next slot) freed = record {
-    names = ap (λ (t : Tables). t.names) freed.others_stay;
-    records = ap (λ (t : Tables). t.journal.count) freed.others_stay;
-    generation = ap (λ (t : Tables). t.journal.generation) freed.others_stay;
-    last = ap (λ (t : Tables). t.journal.last) freed.others_stay;
+  held_alone : new.tables ≡ record old.tables { held = new.tables.held } → SameNames old.tables new.tables
+  held_alone stays = record {
+    names = ap (λ (t : Tables). t.names) stays;
+    records = ap (λ (t : Tables). t.journal.count) stays;
+    generation = ap (λ (t : Tables). t.journal.generation) stays;
+    last = ap (λ (t : Tables). t.journal.last) stays;
   }
-  names_after End same = same_names same
+
+  names_after : (stage : Stage) (next : Next) (before after : Collection) → TablesAfter stage next (at_moment old before) (at_moment new after) → SameNames old.tables new.tables
+  names_after (Mark level slot) next before after same = same_names same
+  names_after (Filter slot) next before after same = same_names same
+  names_after Select next before after same = same_names same
+  names_after Sweep (Copy source entry) before after same = same_names same
+  names_after Sweep (Flush source entry) before after writes = held_alone writes.1.written.others_stay
+  names_after Sweep (Release source entry) before after freed = held_alone freed.others_stay
+  names_after Sweep End before after same = same_names same
 
   names_still : (answer : Result Answer Refusal) → GcRow answer old new → SameNames old.tables new.tables
-  names_still (Ok (answers.Did phase)) row = names_after row.0.before.stage row.0.tables
+  names_still (Ok (answers.Did phase)) row = names_after row.0.before.stage row.0.before.sweep.next row.0.before row.0.after row.0.tables
   names_still (Ok (answers.Done freed copied)) row = same_names row.0.tables_are
   names_still (Err refusals.NotCollecting) row = same_names row.0.tables_are
   names_still (Err refusal) row = same_names row.0.tables_are
@@ -190,7 +214,7 @@ module _ (C : Type 0) (state : C → CoreState) (t : Account) (r s : RunnerState
       let answer : Result Answer Refusal = Ok (answers.Done freed copied) in
       let steps = running_step old new (gc_event answer acts.0.0) admits.runs acts.0.1 in
       still C state lines.GcStep (replies.Collected freed copied) t r s at 0 (omega arith) (gc_quiet old new answer acts.0.0 steps acts.0.1 at.running) t.stopped
-      (still_runs t r.sessions old at admits.runs new (steps.stops, gc_tells old new answer acts.0.0 steps (told t r.sessions old at admits.runs))) (steps.made.row.0.copied_is, refl) acts.1
+      (still_runs t r.sessions old at admits.runs new (steps.stops, gc_tells old new answer acts.0.0 steps (told t r.sessions old at admits.runs))) refl acts.1
       (first_part (parts_still old new answer steps.made.row))
   step_told (replies.Refused refusal) admits acts =
       let answer : Result Answer Refusal = Err refusal in
@@ -229,7 +253,7 @@ module _ (C : Type 0) (state : C → CoreState) (t : Account) (r s : RunnerState
       let answer : Result Answer Refusal = Ok (answers.Done freed copied) in
       let steps = last_steps answer admits acts.0 in
       still C state lines.Sweep (replies.Collected freed copied) t r s at 0 (omega arith) (all_quiet answer admits acts.0) t.stopped
-      (still_runs t r.sessions old at admits.runs new (steps.stops, still_known answer admits acts.0)) (steps.made.row.0.copied_is, refl) acts.1 (same_parts answer admits acts.0)
+      (still_runs t r.sessions old at admits.runs new (steps.stops, still_known answer admits acts.0)) refl acts.1 (same_parts answer admits acts.0)
   sweep_told (replies.Refused refusal) admits acts =
       let answer : Result Answer Refusal = Err refusal in
       let steps = last_steps answer admits acts.0 in

@@ -1,5 +1,5 @@
 -- A collection spares the same containers where the same keys are live.
-use Rattle.std.proofs.Common.{ℕ, ◌≡◌, inl, inr, List, [], ◌∷◌, Option, Some, None, refl, sym, ◌∙◌, subst}
+use Rattle.std.proofs.Common.{ℕ, ◌≡◌, ◌⊎◌, inl, inr, List, [], ◌∷◌, Option, Some, None, refl, sym, ◌∙◌, subst}
 use Rattle.container_meta.specs.declared.entry.Entry.{Entry}
 use Rattle.container_meta.specs.declared.kind.Kind.{Kind}
 use Rattle.container_meta.specs.declared.place.Place.{Place}
@@ -8,9 +8,9 @@ use Rattle.container_meta.specs.Spelling.{HeaderValue}
 use Rattle.gc_enumerate.specs.Live.{IsLiveAt, LiveKeys}
 use Rattle.gc_steps.specs.declared.collection.Collection.{Collection}
 use Rattle.gc_steps.specs.declared.collection.Stage.{Stage}
-use Rattle.gc_steps.specs.declared.collection.Stage.TheVariants.{Mark, Filter, Select, Copy, Release, End}
+use Rattle.gc_steps.specs.declared.collection.Stage.TheVariants.{Mark, Filter, Select, Sweep}
 use Rattle.copy_forward.specs.Entries.{HasLiveCopy}
-use Rattle.gc_steps.specs.Sparing.{IsSpared, IsSparedAt, Spares}
+use Rattle.gc_steps.specs.Sparing.{CopiesAlone, IsSpared, IsSparedAt, Spares}
 use Rattle.store_model.specs.Files.{Files}
 use Rattle.store_model.specs.Image.{Store}
 use Rattle.store_model.specs.Indexing.{entry_key}
@@ -39,23 +39,28 @@ module _ (index : PlaceMap) (c : Collection) (live : LiveKeys) (more : IsLiveIn 
   still : (slot : ℕ) (h : HeaderValue) → IsSpared index c slot h → IsSpared index d slot h
   still slot h is = live_copy h.kind slot h.entries is
 
+  either : {A B C : Type 0} → (B → C) → A ⊎ B → A ⊎ C
+  either f (inl a) = inl a
+  either f (inr b) = inr (f b)
+
   spared_at : (stage : Stage) (slot : ℕ) (h : HeaderValue) → IsSparedAt stage index c slot h → IsSparedAt stage index d slot h
-  spared_at (Mark level at) slot h is = tt
-  spared_at (Filter at) slot h is = λ before. elim (is before) [ inl chosen ↦ inl chosen | inr copy ↦ inr (still slot h copy) ]
-  spared_at Select slot h (inl chosen) = inl chosen
-  spared_at Select slot h (inr copy) = inr (still slot h copy)
-  spared_at (Copy source) slot h (inl taken) = inl taken
-  spared_at (Copy source) slot h (inr copy) = inr (still slot h copy)
-  spared_at (Release next at) slot h (inl here) = inl here
-  spared_at (Release next at) slot h (inr (inl taken)) = inr (inl taken)
-  spared_at (Release next at) slot h (inr (inr copy)) = inr (inr (still slot h copy))
-  spared_at End slot h is = still slot h is
+  spared_at (Mark level at) slot h is = is
+  spared_at (Filter at) slot h is = (is.0, λ before. either (still slot h) (is.1 before))
+  spared_at Select slot h is = (is.0, either (still slot h) is.1)
+  spared_at Sweep slot h is = either (either (still slot h)) is
+
+  -- what was copied is so alone
+  alone_at : (stage : Stage) (held : List (Option HeaderValue)) → CopiesAlone stage index held c → CopiesAlone stage index held d
+  alone_at (Mark level at) held alone = tt
+  alone_at (Filter at) held alone = tt
+  alone_at Select held alone = tt
+  alone_at Sweep held alone = alone
 
   pub spares_live : (P : List ℕ → Type 0) (held : List (Option HeaderValue)) → IsLiveIn live c.live → Spares P index held c → Spares P index held d
   spares_live P held back spares = record {
     within = λ key place is. spares.within key place (back key place is);
-    all_old = spares.all_old;
     spared = λ slot h there. spared_at c.stage slot h (spares.spared slot h there);
+    alone = alone_at c.stage held spares.alone;
   }
 
 -- ---- the collection of a core
@@ -109,7 +114,8 @@ follows_disturbed (Some k) c follows = record {
   collection = follows.collection;
   runs = follows.runs;
   progress_is = follows.progress_is;
-  freed_is = follows.freed_is;
+  snapshot_is = follows.snapshot_is;
+  counted = follows.counted;
   most = follows.most;
   few = follows.few;
   nears = follows.nears;

@@ -18,7 +18,7 @@ use Rattle.script_runner.specs.Acts.{CollectionRun, Collects}
 
 abbrev most_by : SlotTable → Option Collection → ℕ
 most_by t None = 0
-most_by t (Some c) = max (old_from c.snapshot t 0) (length c.sources.items)
+most_by t (Some c) = max (old_from c.snapshot t 0) (length c.sweep.sources.items)
 
 -- no more sources than these
 abbrev pub most_in : CoreState → ℕ

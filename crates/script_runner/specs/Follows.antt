@@ -1,11 +1,11 @@
 -- When a runner follows the plain machine, and what its lines do then (docs/MODEL.md, 'Scripts').
-use Rattle.std.specs.Prelude.{◌≡◌, ◌⊎◌, ◌<◌, ◌≤◌, ℕ, suc, Bool, true, false, List, [], ◌∷◌, ◌++◌, length, Option, Some, None}
+use Rattle.std.specs.Prelude.{◌≡◌, ◌⊎◌, ◌<◌, ◌≤◌, ◌+◌, ℕ, suc, Bool, true, false, nat_lt, List, [], ◌∷◌, ◌++◌, length, Option, Some, None}
 use Rattle.std.specs.FinMap as finite
 use Rattle.dd_disk.specs.View.{CrashLeaves}
 use Rattle.disk_format.specs.declared.numbers.TheConstants.{LAST_ID}
 use Rattle.container_meta.specs.declared.kind.Kind.{Kind}
 use Rattle.container_meta.specs.Places.{PlaceMap}
-use Rattle.container_meta.specs.Segments.{Segment, segment_key}
+use Rattle.container_meta.specs.Segments.{Contents, Segment, segment_key}
 use Rattle.merkle_file.specs.declared.top.Top.{Top}
 use Rattle.actor_parts.specs.declared.actor.TheConstants.{ACTORS}
 use Rattle.actor_parts.specs.declared.part.Part.TheVariants as core_parts
@@ -20,6 +20,9 @@ use Rattle.gc_steps.specs.StepsToCome.{steps_to_come}
 use Rattle.gc_steps.specs.declared.collection.Collection.{Collection}
 use Rattle.gc_steps.specs.declared.collection.Stage.{Stage}
 use Rattle.gc_steps.specs.declared.collection.Stage.TheVariants as stages
+use Rattle.gc_sweep.specs.declared.sweep.Next.{Next}
+use Rattle.gc_sweep.specs.declared.sweep.Next.TheVariants.{Copy, Flush, Release, End}
+use Rattle.gc_sweep.specs.declared.sweep.Sweep.{Sweep as SweepValue}
 use Rattle.ingest_session.specs.Facts.{IsKept}
 use Rattle.ingest_session.specs.History.{History, HasHistory}
 use Rattle.ingest_session.specs.State.{SessionState}
@@ -81,22 +84,41 @@ FollowsPart part session core c = ⊥
 
 -- ---- the store, and its collection
 
--- a collection has come so far
-abbrev pub IsAtProgress : Progress → Stage → Type 0
-IsAtProgress Marking stage = IsToChoose stage
-IsAtProgress Recording (stages.Filter slot) = Unit {0}
-IsAtProgress Recording stages.Select = Unit {0}
-IsAtProgress (Sweeping ready) (stages.Copy source) = ready ≡ false
-IsAtProgress (Sweeping ready) (stages.Release next slot) = ready ≡ true
-IsAtProgress (Sweeping ready) stages.End = ready ≡ false
-IsAtProgress progress stage = ⊥
+-- a container of copies has segments that are not written yet
+abbrev pub is_filled : Contents → Bool
+is_filled buffer = nat_lt 0 (length buffer.segments)
 
--- One runs that has come so far and gave so many containers back, and no more steps of it come.
+-- what comes next of a sweep, where a source is ready or none, and copies are to be written or none
+abbrev pub IsAtNext : Bool → Bool → Next → Type 0
+IsAtNext ready filled (Copy source entry) = ready ≡ false
+IsAtNext ready filled (Flush source entry) = (ready ≡ false) × (filled ≡ true)
+IsAtNext ready filled (Release source entry) = ready ≡ true
+IsAtNext ready filled End = (ready ≡ false) × (filled ≡ false)
+
+-- a collection has come so far: by its stage, and by what comes next of its sweep and what that fills
+abbrev pub IsAtStage : Progress → Stage → Next → Contents → Type 0
+IsAtStage Marking stage next buffer = IsToChoose stage
+IsAtStage Recording (stages.Filter slot) next buffer = Unit {0}
+IsAtStage Recording stages.Select next buffer = Unit {0}
+IsAtStage (Sweeping ready filled) stages.Sweep next buffer = IsAtNext ready filled next × (filled ≡ is_filled buffer)
+IsAtStage progress stage next buffer = ⊥
+
+abbrev pub IsAtProgress : Progress → Collection → Type 0
+IsAtProgress progress c = IsAtStage progress c.stage c.sweep.next c.sweep.buffer
+
+-- So many sources were given back, and so many segments copied and written: of those that were copied the others are to be written. None of
+-- either before it sweeps.
+abbrev pub HasCounted : Stage → SweepValue → ℕ → ℕ → Type 0
+HasCounted stages.Sweep s freed copied = (s.freed ≡ freed) × (s.copied ≡ copied + length s.buffer.segments)
+HasCounted stage s freed copied = (freed ≡ 0) × (copied ≡ 0)
+
+-- One runs, from that snapshot, that has come so far, gave so many containers back and wrote so many copies, and no more steps of it come.
 pub record FollowsCollecting (k : Collecting) (c : CoreState) : Type 0 where
   pub collection : Collection
   pub runs : c.collection ≡ Some collection
-  pub progress_is : IsAtProgress k.progress collection.stage
-  pub freed_is : collection.freed ≡ k.freed
+  pub snapshot_is : collection.snapshot ≡ k.snapshot
+  pub progress_is : IsAtProgress k.progress collection
+  pub counted : HasCounted collection.stage collection.sweep k.freed k.copied
   pub most : ℕ
   pub few : HasFewSources most c.tables.held collection
   pub nears : steps_to_come most c.tables.held collection ≤ k.to_come

@@ -170,8 +170,8 @@ Agrees (lines.Delete name) (replies.Deleted sequence) t u = MayDelete name t × 
 Agrees lines.ListNames (replies.Listed files) t u = (files ≡ listing_of t.names) × (u ≡ t)
 Agrees (lines.Gc percent) (replies.Collecting snapshot) t u = u ≡ t
 Agrees lines.GcStep (replies.Step phase) t u = u ≡ t
-Agrees lines.GcStep (replies.Collected freed copied) t u = (copied ≡ 0) × (u ≡ t)
-Agrees lines.Sweep (replies.Collected freed copied) t u = (copied ≡ 0) × (u ≡ t)
+Agrees lines.GcStep (replies.Collected freed copied) t u = u ≡ t
+Agrees lines.Sweep (replies.Collected freed copied) t u = u ≡ t
 Agrees lines.Stat (replies.Stat counted) t u = (counted.files ≡ finite.len t.names) × (u ≡ t)
 Agrees line reply t u = ⊥
 
@@ -214,6 +214,7 @@ IsOfNext next refusal = ⊥
 abbrev pub IsOfCollection : Refusal → Type 0
 IsOfCollection NotCollecting = Unit {0}
 IsOfCollection Memory = Unit {0}
+IsOfCollection Numbers = Unit {0}
 IsOfCollection DiskRead = Unit {0}
 IsOfCollection DiskWrite = Unit {0}
 IsOfCollection (Corrupt slot offset count want got) = Unit {0}

@@ -1,6 +1,5 @@
 -- How many steps a collection takes.
-use Rattle.std.proofs.Common.{◌≡◌, inl, inr, ◌≤◌, ℕ, ◌+◌, ◌*◌, Bool, true, false, List, [], ◌∷◌, length, Option, Some, None, Result, Ok, Err, refl, sym, ◌∙◌, ap, subst, arith}
-use Rattle.std.specs.Prelude.{if◌then◌else◌, nat_lt}
+use Rattle.std.proofs.Common.{◌≡◌, ◌≤◌, ℕ, ◌+◌, ◌*◌, List, [], ◌∷◌, length, Option, Some, None, Result, Ok, Err, Vec, Global, refl, sym, ◌∙◌, ap, subst, arith}
 use Rattle.actor_parts.specs.declared.step.Answer.{Answer}
 use Rattle.actor_parts.specs.declared.step.Answer.TheVariants as answers
 use Rattle.actor_parts.specs.StepValue as asked
@@ -10,10 +9,11 @@ use Rattle.container_meta.specs.Spelling.{header_of}
 use Rattle.gc_enumerate.specs.Live.{LiveKeys}
 use Rattle.gc_steps.specs.declared.collection.Collection.{Collection}
 use Rattle.gc_steps.specs.declared.collection.Stage.{Stage}
-use Rattle.gc_steps.specs.declared.collection.Stage.TheVariants.{Copy, End, Filter, Mark, Release, Select}
+use Rattle.gc_steps.specs.declared.collection.Stage.TheVariants.{Filter, Mark, Select, Sweep}
+use Rattle.gc_sweep.specs.declared.sweep.Next.{Next}
+use Rattle.gc_sweep.specs.declared.sweep.Next.TheVariants.{Copy, Flush, Release, End}
 use Rattle.gc_steps.specs.declared.phase.StepDone.TheVariants.{Did}
 use Rattle.gc_steps.specs.FewSources.{IsToChoose}
-use Rattle.gc_steps.specs.Stages.{sweep_from}
 use Rattle.gc_steps.specs.Stepping.{Keeps, StepsTo}
 use Rattle.gc_steps.specs.StepsToCome.{Nears, old_from, steps_to_come, trees_from}
 use Rattle.gc_steps.specs.UnderWay.{IsUnderWay}
@@ -30,6 +30,7 @@ use Rattle.store_core.specs.Collecting.{Begins, Collects, GcRow, GoesOn, IsKeptK
 use Rattle.store_core.specs.Core.{Effect, KeepsTables, Row, Steps, StepsOr, next_id}
 use Rattle.store_core.specs.Runs.{CoreRun}
 use Rattle.store_core.specs.State.{CoreState, Event, IsRunning, IsUnderWayIn, IsUp, UnlessStopped}
+use Rattle.store_core.proofs.Counted.{refused_live}
 use Rattle.store_core.proofs.CoreRuns.{running_step}
 use Rattle.store_core.proofs.RunningOn.{commit_held, delete_held, first_closed, first_within, step_runs, tables_kept}
 
@@ -57,12 +58,12 @@ refused_none asked.Stat refusal = refl
 record Leaves (step : StepValue) (answer : Result Answer Refusal) (b : Collection) (old new : CoreState) : Type 0 where
   a : Collection
   runs : new.collection ≡ Some a
-  more : length b.sources.items ≤ length a.sources.items
-  unchosen : IsToChoose a.stage → a.sources.items ≡ []
-  nears : (chosen : ℕ) → length a.sources.items ≤ chosen
+  more : length b.sweep.sources.items ≤ length a.sweep.sources.items
+  unchosen : IsToChoose a.stage → a.sweep.sources.items ≡ []
+  nears : (chosen : ℕ) → length a.sweep.sources.items ≤ chosen
       → made_by step answer + steps_to_come chosen new.tables.held a ≤ steps_to_come chosen old.tables.held b
 
-module _ (old new : CoreState) (b : Collection) (ran : old.collection ≡ Some b) (unchosen : IsToChoose b.stage → b.sources.items ≡ []) where
+module _ (old new : CoreState) (b : Collection) (ran : old.collection ≡ Some b) (unchosen : IsToChoose b.stage → b.sweep.sources.items ≡ []) where
   -- but for its live keys it is as it was, and as many steps come
   unchanged : (step : StepValue) (answer : Result Answer Refusal) → made_by step answer ≡ 0 → (live : LiveKeys) → new.collection ≡ Some (record b { live = live })
       → ((chosen : ℕ) → steps_to_come chosen new.tables.held b ≡ steps_to_come chosen old.tables.held b) → Leaves step answer b old new
@@ -121,57 +122,46 @@ module _ (old new : CoreState) (b : Collection) (ran : old.collection ≡ Some b
 
   -- ---- its own
 
-  abbrev Goes : Collection → Stage → Type 0
-  Goes a stage = StepsTo stage (at_moment old b) (at_moment new a)
+  abbrev Goes : Collection → Stage → Next → Type 0
+  Goes a stage next = StepsTo stage next (at_moment old b) (at_moment new a)
 
   -- no fewer sources; and none before they are chosen
   record Chosen (a : Collection) : Type 0 where
-    more : length b.sources.items ≤ length a.sources.items
-    none : IsToChoose a.stage → a.sources.items ≡ []
+    more : length b.sweep.sources.items ≤ length a.sweep.sources.items
+    none : IsToChoose a.stage → a.sweep.sources.items ≡ []
 
-  no_choice : (sources : List ℕ) (source : ℕ) → IsToChoose (sweep_from sources source) → ⊥
-  no_choice sources source = by_test (nat_lt source (length sources))
-    where
-      by_test : (t : Bool) → IsToChoose (if t then Copy source else End) → ⊥
-      by_test true early = early
-      by_test false early = early
-
-  same_sources : (a : Collection) → a.sources.items ≡ b.sources.items → (IsToChoose a.stage → b.sources.items ≡ []) → Chosen a
+  same_sources : (a : Collection) → a.sweep.sources.items ≡ b.sweep.sources.items → (IsToChoose a.stage → b.sweep.sources.items ≡ []) → Chosen a
   same_sources a same none = record { more = omega (arith, ap length same); none = λ early. same ∙ none early }
 
-  never : (a : Collection) (stage : Stage) → a.stage ≡ stage → (IsToChoose stage → ⊥) → IsToChoose a.stage → b.sources.items ≡ []
-  never a stage is none early = absurd (none (subst IsToChoose is early))
+  -- it sweeps
+  swept : (a : Collection) → b.stage ≡ Sweep → a ≡ record b { sweep = a.sweep } → a.sweep.sources ≡ b.sweep.sources → Chosen a
+  swept a stage is sources =
+      same_sources a (ap (λ (v : Vec ℕ Global). v.items) sources) (λ early. absurd (let none : ⊥ = subst IsToChoose (ap (λ (x : Collection). x.stage) is ∙ stage) early in none))
 
-  chosen_by : (a : Collection) (stage : Stage) → b.stage ≡ stage → Goes a stage → Chosen a
-  chosen_by a (Mark level slot) is goes =
-      same_sources a (ap (λ (x : Collection). x.sources.items) goes.0.collection_is) (λ early. unchosen (subst IsToChoose (sym is) tt))
-  chosen_by a (Filter slot) is goes =
-      same_sources a (ap (λ (x : Collection). x.sources.items) goes.0.collection_is) (λ early. unchosen (subst IsToChoose (sym is) tt))
-  chosen_by a Select is goes = record {
-    more = let none : length b.sources.items ≡ 0 = ap length (unchosen (subst IsToChoose (sym is) tt)) in omega (arith, none);
-    none = λ early. absurd (no_choice a.sources.items 0 (subst IsToChoose (ap (λ (x : Collection). x.stage) goes.0.collection_is) early));
+  chosen_by : (a : Collection) (stage : Stage) (next : Next) → b.stage ≡ stage → Goes a stage next → Chosen a
+  chosen_by a (Mark level slot) next is goes =
+      same_sources a (ap (λ (x : Collection). x.sweep.sources.items) goes.0.collection_is) (λ early. unchosen (subst IsToChoose (sym is) tt))
+  chosen_by a (Filter slot) next is goes =
+      same_sources a (ap (λ (x : Collection). x.sweep.sources.items) goes.0.collection_is) (λ early. unchosen (subst IsToChoose (sym is) tt))
+  chosen_by a Select next is goes = record {
+    more = let none : length b.sweep.sources.items ≡ 0 = ap length (unchosen (subst IsToChoose (sym is) tt)) in omega (arith, none);
+    none = λ early. absurd (let none : ⊥ = subst IsToChoose (ap (λ (x : Collection). x.stage) goes.0.collection_is) early in none);
   }
-  chosen_by a (Copy source) is goes = elim goes.taken [
-    | inl up ↦ same_sources a (ap (λ (x : Collection). x.sources.items) up.collection_is)
-        (never a (sweep_from b.sources.items (source + 1)) (ap (λ (x : Collection). x.stage) up.collection_is) (no_choice b.sources.items (source + 1)))
-    | inr out ↦ same_sources a (ap (λ (x : Collection). x.sources.items) out.collection_is)
-        (never a (Release (source + 1) goes.slot) (ap (λ (x : Collection). x.stage) out.collection_is) (λ early. early))
-  ]
-  chosen_by a (Release next slot) is goes =
-      same_sources a (ap (λ (x : Collection). x.sources.items) goes.0)
-      (never a (sweep_from b.sources.items next) (ap (λ (x : Collection). x.stage) goes.0) (no_choice b.sources.items next))
-  chosen_by a End is goes = same_sources a (ap (λ (x : Collection). x.sources.items) goes.0) (never a End (ap (λ (x : Collection). x.stage) goes.0 ∙ is) (λ early. early))
+  chosen_by a Sweep (Copy source entry) is goes = swept a is goes.1 goes.0.others.sources_are
+  chosen_by a Sweep (Flush source entry) is goes = swept a is goes.sweeps goes.flushed.sources_are
+  chosen_by a Sweep (Release source entry) is goes = swept a is goes.1 goes.0.sources_are
+  chosen_by a Sweep End is goes = same_sources a (ap (λ (x : Collection). x.sweep.sources.items) goes.0) (λ early. absurd (let none : ⊥ = subst IsToChoose (ap (λ (x : Collection). x.stage) goes.0 ∙ is) early in none))
 
   did_leaves : (phase : _) → GoesOn phase old new → Leaves asked.GcStep (Ok (answers.Did phase)) b old new
   did_leaves phase goes = by_before goes.before (same_some goes.before b old.collection goes.ran ran) goes.steps goes.nearer
     where
-      by_before : (before : Collection) → before ≡ b → StepsTo before.stage (at_moment old before) (at_moment new goes.after)
-          → ((chosen : ℕ) → length goes.after.sources.items ≤ chosen → Nears (Did phase) (steps_to_come chosen old.tables.held before) (steps_to_come chosen new.tables.held goes.after))
+      by_before : (before : Collection) → before ≡ b → StepsTo before.stage before.sweep.next (at_moment old before) (at_moment new goes.after)
+          → ((chosen : ℕ) → length goes.after.sweep.sources.items ≤ chosen → Nears (Did phase) (steps_to_come chosen old.tables.held before) (steps_to_come chosen new.tables.held goes.after))
           → Leaves asked.GcStep (Ok (answers.Did phase)) b old new
       by_before before same steps nearer =
-          let so : Goes goes.after b.stage = subst (λ (x : Collection). StepsTo x.stage (at_moment old x) (at_moment new goes.after)) same steps in
-          let near = subst (λ (x : Collection). (chosen : ℕ) → length goes.after.sources.items ≤ chosen → Nears (Did phase) (steps_to_come chosen old.tables.held x) (steps_to_come chosen new.tables.held goes.after)) same nearer in
-          let chosen = chosen_by goes.after b.stage refl so in
+          let so : Goes goes.after b.stage b.sweep.next = subst (λ (x : Collection). StepsTo x.stage x.sweep.next (at_moment old x) (at_moment new goes.after)) same steps in
+          let near = subst (λ (x : Collection). (chosen : ℕ) → length goes.after.sweep.sources.items ≤ chosen → Nears (Did phase) (steps_to_come chosen old.tables.held x) (steps_to_come chosen new.tables.held goes.after)) same nearer in
+          let chosen = chosen_by goes.after b.stage b.sweep.next refl so in
           record {
             a = goes.after;
             runs = goes.runs;
@@ -180,24 +170,13 @@ module _ (old new : CoreState) (b : Collection) (ran : old.collection ≡ Some b
             nears = λ many few. let fewer = near many few in omega (arith, fewer);
           }
 
-  -- what is refused leaves it, but for its live keys
-  refused_live : (stage : Stage) (refusal : Refusal) (a : Collection) → Keeps stage (at_moment old b) (at_moment new a) refusal → (live : LiveKeys) × (a ≡ record b { live = live })
-  refused_live (Mark level slot) refusals.Memory a (inl same, known) = (b.live, same)
-  refused_live (Mark level slot) refusals.Memory a (inr only, known) = (a.live, only.collection_is)
-  refused_live (Mark level slot) refusal a keeps = (b.live, keeps.0)
-  refused_live (Filter slot) refusal a keeps = (b.live, keeps.0)
-  refused_live Select refusal a keeps = (b.live, keeps.0)
-  refused_live (Copy source) refusal a keeps = (b.live, keeps.0)
-  refused_live (Release next slot) refusal a keeps = (b.live, keeps)
-  refused_live End refusal a keeps = (b.live, keeps.0)
-
   gc_leaves : (answer : Result Answer Refusal) → IsNoEnd answer → GcRow answer old new → Leaves asked.GcStep answer b old new
   gc_leaves (Ok (answers.Did phase)) goes_on row = did_leaves phase row.0
   gc_leaves (Ok (answers.Done freed copied)) goes_on row = absurd goes_on
   gc_leaves (Err refusals.NotCollecting) goes_on row = absurd (let wrong : None ≡ Some b = sym row.0.none_ran ∙ ran in cc)
   gc_leaves (Err refusal) goes_on row =
       let same = same_some row.0.before b old.collection row.0.ran ran in
-      let live = refused_live b.stage refusal row.0.after (subst (λ (x : Collection). Keeps x.stage (at_moment old x) (at_moment new row.0.after) refusal) same row.0.kept) in
+      let live = refused_live old new b b.stage b.sweep.next refusal row.0.after (subst (λ (x : Collection). Keeps x.stage x.sweep.next (at_moment old x) (at_moment new row.0.after) refusal) same row.0.kept) in
       unchanged asked.GcStep (Err refusal) refl live.0 (row.0.runs ∙ ap Some live.1) (same_steps (ap (λ (t : Tables). t.held) row.0.tables_are))
   gc_leaves answer goes_on row = absurd row
 
@@ -229,19 +208,19 @@ module _ (old new : CoreState) (b : Collection) (ran : old.collection ≡ Some b
 
 module _ (C : Type 0) (state : C → CoreState) where
   record Bounded (events : List Event) (b c : Collection) (mid new : C) : Type 0 where
-    more : length b.sources.items ≤ length c.sources.items
-    few : made_in events + steps_to_come (length c.sources.items) (state new).tables.held c ≤ steps_to_come (length c.sources.items) (state mid).tables.held b
+    more : length b.sweep.sources.items ≤ length c.sweep.sources.items
+    few : made_in events + steps_to_come (length c.sweep.sources.items) (state new).tables.held c ≤ steps_to_come (length c.sweep.sources.items) (state mid).tables.held b
 
   bounded : (events : List Event) (mid new : C) (b c : Collection) → IsRunning (state mid) → CoreRun C state events mid new → NoneEnds events → (state mid).collection ≡ Some b → (state new).collection ≡ Some c
-      → (IsToChoose b.stage → b.sources.items ≡ []) → Bounded events b c mid new
+      → (IsToChoose b.stage → b.sweep.sources.items ≡ []) → Bounded events b c mid new
   bounded [] mid new b c up run ends ran runs unchosen =
       let same : b ≡ c = same_some b c (state mid).collection ran (sym (ap (λ (x : C). (state x).collection) run) ∙ runs) in
       record {
-        more = omega (arith, ap (λ (x : Collection). length x.sources.items) same);
+        more = omega (arith, ap (λ (x : Collection). length x.sweep.sources.items) same);
         few =
             let tables : (state new).tables.held ≡ (state mid).tables.held = ap (λ (x : C). (state x).tables.held) run in
-            let steps : steps_to_come (length c.sources.items) (state new).tables.held c ≡ steps_to_come (length c.sources.items) (state mid).tables.held b =
-            ap (λ (t : SlotTable). steps_to_come (length c.sources.items) t c) tables ∙ ap (steps_to_come (length c.sources.items) (state mid).tables.held) (sym same) in
+            let steps : steps_to_come (length c.sweep.sources.items) (state new).tables.held c ≡ steps_to_come (length c.sweep.sources.items) (state mid).tables.held b =
+            ap (λ (t : SlotTable). steps_to_come (length c.sweep.sources.items) t c) tables ∙ ap (steps_to_come (length c.sweep.sources.items) (state mid).tables.held) (sym same) in
             omega (arith, steps);
       }
   bounded (e ∷ es) mid new b c up run ends ran runs unchosen =
@@ -250,7 +229,7 @@ module _ (C : Type 0) (state : C → CoreState) where
       let rest = bounded es next new one.a c (step_runs (state mid) (state next) e run.1.0 up) run.1.1 ends.1 one.runs runs one.unchosen in
       record {
         more = omega (arith, one.more, rest.more);
-        few = let fewer = one.nears (length c.sources.items) rest.more in omega (arith, fewer, rest.few);
+        few = let fewer = one.nears (length c.sweep.sources.items) rest.more in omega (arith, fewer, rest.few);
       }
 
   pub bounds_steps : BoundsSteps C state
@@ -258,10 +237,10 @@ module _ (C : Type 0) (state : C → CoreState) where
       let steps : Steps (starts actor percent snapshot buf) (state old) (state mid) = running_step (state old) (state mid) (starts actor percent snapshot buf) runs began in
       let begins : Begins percent snapshot (state old) (state mid) = steps.made.row.0 in
       let held : (state mid).tables.held ≡ (state old).tables.held = ap (λ (t : Tables). t.held) steps.made.effect.tables.tables_are in
-      let all = bounded events mid new begins.collection c (step_runs (state old) (state mid) (starts actor percent snapshot buf) began up) run ends begins.runs is (λ early. begins.nothing_yet.1) in
-      let first = begins.steps (length c.sources.items) in
-      let at : steps_to_come (length c.sources.items) (state mid).tables.held begins.collection ≡ steps_to_come (length c.sources.items) (state old).tables.held begins.collection =
-      ap (λ (t : SlotTable). steps_to_come (length c.sources.items) t begins.collection) held in
+      let all = bounded events mid new begins.collection c (step_runs (state old) (state mid) (starts actor percent snapshot buf) began up) run ends begins.runs is (λ early. begins.nothing_yet.1.sources_are) in
+      let first = begins.steps (length c.sweep.sources.items) in
+      let at : steps_to_come (length c.sweep.sources.items) (state mid).tables.held begins.collection ≡ steps_to_come (length c.sweep.sources.items) (state old).tables.held begins.collection =
+      ap (λ (t : SlotTable). steps_to_come (length c.sweep.sources.items) t begins.collection) held in
       let t : SlotTable = (state old).tables.held in
       let counted : 6 * trees_from snapshot t 0 + old_from snapshot t 0 ≡ 6 * trees_from begins.collection.snapshot t 0 + old_from begins.collection.snapshot t 0 =
       ap (λ (n : ℕ). 6 * trees_from n t 0 + old_from n t 0) begins.snapshot_is in

@@ -1,5 +1,5 @@
 -- What a crash leaves at any moment of a run.
-use Rattle.std.proofs.Common.{◌≡◌, ◌⊎◌, inl, inr, ℕ, List, [], ◌∷◌, ◌<◌, Option, Some, None, Result, Ok, Err, refl, sym, ◌∙◌, subst, arith, ap, suc}
+use Rattle.std.proofs.Common.{◌≡◌, ◌⊎◌, inl, inr, ℕ, List, [], ◌∷◌, ◌+◌, ◌<◌, ◌≤◌, Option, Some, None, Result, Ok, Err, refl, sym, ◌∙◌, subst, arith, ap, suc}
 use Rattle.dd_disk.specs.View.{OnlyReads, CrashLeaves, SteppedFrom}
 use Rattle.dd_disk.proofs.Later.{reads_here, reads_leave, leaves_on, leaves_weaker}
 use Rattle.container_meta.specs.Segments.{Contents}
@@ -21,9 +21,11 @@ use Rattle.store_model.proofs.NameChanges.{last_changed}
 use Rattle.store_core.specs.declared.stop.Stop.{Stop}
 use Rattle.store_core.specs.Core.{Effect, SealsOne, NamesOne, StepsOr, StopsAfter, next_id}
 use Rattle.store_core.specs.Runs.{FileEvent, FileStep, FileRun, IsAt, IsOnTheWay, IsGivenRight, IsRootOf, SurvivesCrashes, SurvivesSince, KeepsAcknowledged, stored_with, stored_by, stored_after, stored_tried, stored_tried_by, events_of, EndsWithAll, IsSafeIn}
-use Rattle.store_core.specs.State.{CoreState}
+use Rattle.store_core.specs.State.{CoreState, IsUnderWayIn}
 use Rattle.store_core.proofs.CoreRuns.{stopped_reads, core_run}
-use Rattle.gc_steps.specs.declared.collection.Stage.TheVariants.{Mark, Filter, Select, Copy as CopyStage, Release, End}
+use Rattle.gc_steps.specs.declared.collection.Stage.TheVariants.{Mark, Filter, Select, Sweep as SweepStage}
+use Rattle.gc_sweep.specs.declared.sweep.Next.{Next}
+use Rattle.gc_sweep.specs.declared.sweep.Next.TheVariants.{Copy as CopyNext, Flush, Release, End}
 use Rattle.store_core.proofs.AnySteps.{any_step, keeps_files}
 use Rattle.store_core.proofs.KeepingFiles.{may_seal_all}
 use Rattle.store_core.proofs.Stepping.{step_later}
@@ -31,7 +33,14 @@ use Rattle.segment_index.specs.Changes.{Changes, SameBefore}
 use Rattle.gc_steps.specs.declared.collection.Collection.{Collection}
 use Rattle.gc_sweep.specs.Releasing.{GivesBack}
 use Rattle.gc_sweep.specs.Releasing.{HasNoEntryIn}
-use Rattle.gc_steps.specs.SweepIsSafe.{ReleasesReady}
+use Rattle.gc_steps.specs.SweepIsSafe.{HoldsAt}
+use Rattle.gc_steps.specs.UnderWay.{HasStage, IsUnderWay}
+use Rattle.gc_sweep.specs.Holding.{HoldsSweep}
+use Rattle.gc_sweep.specs.InTurn.{slot_in_turn}
+use Rattle.gc_sweep.specs.UnderWay.{IsSweeping}
+use Rattle.gc_sweep.proofs.Holds.{in_turn}
+use Rattle.gc_sweep.proofs.HoldsRoom.{are_newest, may_flush}
+use Rattle.store_core.proofs.Flushed.{opens_flushed}
 use Rattle.gc_steps.specs.Safety.{IsSafeAt}
 use Rattle.container_meta.specs.Places.{PlaceMap}
 use Rattle.store_state.specs.Tables.{Represents}
@@ -47,9 +56,10 @@ use Rattle.disk_format.specs.declared.numbers.TheConstants.{RESERVE}
 use Rattle.container_meta.specs.Spelling.{header_of}
 use Rattle.store_model.specs.Slots.{HasKey, free_slots}
 use Rattle.store_model.proofs.Filled.{free_less}
-use Rattle.ingest_steps.specs.Sealing.{StandsSealed}
+use Rattle.ingest_steps.specs.Sealing.{SealsIndexed, StandsSealed}
 use Rattle.gc_sweep.proofs.Released.{none_held}
 use Rattle.store_model.proofs.FreedFiles.{free_reserve, reserve_by, reserve_freed}
+use Rattle.store_model.proofs.Copies.{headers_of_right}
 use Rattle.store_model.proofs.Reached.{reached_less, reached_put}
 use Rattle.store_model.specs.Reserve.{HasReserve, IsReachable}
 use Rattle.store_model.specs.Standing.{CanBeOpened}
@@ -203,18 +213,55 @@ module _ (among : ByteSet) (s : Store) (stored : Stored) (old new : CoreState) (
       (λ c stands. elim stands [ inl is ↦ inl (of_same s c opens refl is) | inr is ↦ inl (of_same (with_freed slot s) c (opens_freed slot none) refl is) ])
       (gives.moves among s at.index stored.files (subst (λ (known : Option PlaceMap). Represents s known old.tables) at.index_known at.represents) core.files_are_indexed none at.stands).leaves
 
-  by_stage : (answer : Result Answer Refusal) (c : Collection) (stage : Stage) (e : Ending) → IsSafeAt stage at.index s old.parts at.stands.known.0 c → c.stage ≡ stage → Touches stage old.tables e old.disk new.disk
-      → CrashLeaves (Either S asked.GcStep answer bytes stored) old.disk new.disk
-  by_stage answer c (Mark level slot) e safe is touches = by_reads asked.GcStep answer touches.only
-  by_stage answer c (Filter slot) e safe is touches = by_reads asked.GcStep answer touches.only
-  by_stage answer c Select e safe is touches = by_reads asked.GcStep answer touches.only
-  by_stage answer c (CopyStage source) e safe is touches = by_changes answer e (touches s.slots at.valid.size_is)
-  by_stage answer c (Release next slot) e safe is touches = by_release answer e slot (subst (ReleasesReady at.index s.held c.snapshot) is safe.releases_ready).is_empty touches.1
-  by_stage answer c End e safe is touches = by_reads asked.GcStep answer touches.only
+  -- a collection that sweeps
+  module _ (answer : Result Answer Refusal) (c : Collection) (source entry : ℕ) (under : IsSweeping old.tables.held c.snapshot c.sweep) (new_id : c.snapshot ≤ old.tables.held.last_id + 1)
+      (holds : HoldsSweep at.index s.held at.stands.known.0 c.live c.snapshot c.sweep) where
+    abbrev id : ℕ
+    id = old.tables.held.last_id + 1
 
-  by_gc : (answer : Result Answer Refusal) (running : Option Collection) → IsSafeIn at.index s old.parts at.stands.known.0 running → TouchesBy running answer old new.disk → CrashLeaves (Either S asked.GcStep answer bytes stored) old.disk new.disk
-  by_gc answer None safe touches = by_reads asked.GcStep answer touches.only
-  by_gc answer (Some c) safe touches = by_stage answer c c.stage (ending blames answer) safe refl touches
+    abbrev copied : Contents
+    copied = c.sweep.buffer
+
+    represents : Represents s (Some at.index) old.tables
+    represents = subst (λ (known : Option PlaceMap). Represents s known old.tables) at.index_known at.represents
+
+    -- what was copied is written: each image is of the same files, with its container, too
+    by_flush : c.sweep.next ≡ Flush source entry → (e : Ending) → SealsIndexed old.tables id copied e old.disk new.disk → CrashLeaves (Either S asked.GcStep answer bytes stored) old.disk new.disk
+    by_flush stage e seals =
+        let here = at.stands.each at.stands.known.0 (old.disk.as_read at.stands.known.0 at.stands.known.1) in
+        let may = may_flush at.index s.held at.stands.known.0 c.live c.snapshot c.sweep holds S here.holds.nodes here.among in
+        leaves_weaker (λ image. Stands S s stored.files image ⊎ Stands S (with_sealed id copied.kind copied.segments s) stored.files image) (Either S asked.GcStep answer bytes stored) old.disk new.disk
+        (λ image stands. elim stands [
+          | inl is ↦ inl (of_same s image opens refl is)
+          | inr is ↦ inl (of_same (with_sealed id copied.kind copied.segments s) image
+              (opens_flushed old.tables.held at.index s stored.files at.stands.known.0 image c.live c.snapshot source entry id c.sweep at.represents.slots_hold at.valid.headers under stage holds core.index_is_newest
+              (omega (arith, at.represents.slots_hold.last_id_is)) new_id core.files_are_indexed (headers_of_right image (with_sealed id copied.kind copied.segments s) is.holds.right)) refl is)
+        ])
+        (seals.moves among s (Some at.index) at.index stored.files at.stands.known.0 represents at.stands.known.1 may core.files_are_indexed
+        (inr (inr (are_newest at.index s.held at.stands.known.0 c.live c.snapshot c.sweep holds))) at.stands).leaves
+
+    -- the source in turn is given back
+    by_turn : c.sweep.next ≡ Release source entry → (e : Ending) → GivesBack old.tables (slot_in_turn c.sweep) e old.disk new.disk → CrashLeaves (Either S asked.GcStep answer bytes stored) old.disk new.disk
+    by_turn stage e gives =
+        by_release answer e (slot_in_turn c.sweep)
+        (in_turn old.tables.held at.index s.held at.stands.known.0 c.live c.snapshot source entry c.sweep at.represents.slots_hold under stage holds).none gives
+
+  by_stage : (answer : Result Answer Refusal) (c : Collection) (stage : Stage) (next : Next) (e : Ending) → IsUnderWay old.tables.held c → IsSafeAt stage at.index s old.parts at.stands.known.0 c → c.stage ≡ stage → c.sweep.next ≡ next
+      → Touches stage next c.sweep old.tables e old.disk new.disk → CrashLeaves (Either S asked.GcStep answer bytes stored) old.disk new.disk
+  by_stage answer c (Mark level slot) next e under safe is at_next touches = by_reads asked.GcStep answer touches.only
+  by_stage answer c (Filter slot) next e under safe is at_next touches = by_reads asked.GcStep answer touches.only
+  by_stage answer c Select next e under safe is at_next touches = by_reads asked.GcStep answer touches.only
+  by_stage answer c SweepStage (CopyNext source entry) e under safe is at_next touches = by_changes answer e (touches s.slots at.valid.size_is)
+  by_stage answer c SweepStage (Flush source entry) e under safe is at_next touches =
+      by_flush answer c source entry (subst (HasStage old.tables.held c) is under.stage_is) under.began (subst (λ (stage : Stage). HoldsAt stage at.index s.held at.stands.known.0 c) is safe.sweep_holds).1 at_next e touches.1
+  by_stage answer c SweepStage (Release source entry) e under safe is at_next touches =
+      by_turn answer c source entry (subst (HasStage old.tables.held c) is under.stage_is) under.began (subst (λ (stage : Stage). HoldsAt stage at.index s.held at.stands.known.0 c) is safe.sweep_holds).1 at_next e touches.1
+  by_stage answer c SweepStage End e under safe is at_next touches = by_reads asked.GcStep answer touches.only
+
+  by_gc : (answer : Result Answer Refusal) (running : Option Collection) → IsUnderWayIn old.tables.held running → IsSafeIn at.index s old.parts at.stands.known.0 running → TouchesBy running answer old new.disk
+      → CrashLeaves (Either S asked.GcStep answer bytes stored) old.disk new.disk
+  by_gc answer None under safe touches = by_reads asked.GcStep answer touches.only
+  by_gc answer (Some c) under safe touches = by_stage answer c c.stage c.sweep.next (ending blames answer) under safe refl refl touches
 
   by_effect : (step : StepValue) (answer : Result Answer Refusal) → Effect step answer old new → IsStep step → IsGivenRight S step answer bytes old → CrashLeaves (Either S step answer bytes stored) old.disk new.disk
   by_effect asked.Begin answer effect right given = by_reads asked.Begin answer effect.disk.only
@@ -228,7 +275,7 @@ module _ (among : ByteSet) (s : Store) (stored : Stored) (old new : CoreState) (
   by_effect (asked.Delete name) answer effect right given = by_delete name answer effect
   by_effect asked.ListNames answer effect right given = by_reads asked.ListNames answer effect.disk.only
   by_effect (asked.GcStart percent) answer effect right given = by_reads (asked.GcStart percent) answer effect.disk.only
-  by_effect asked.GcStep answer effect right given = by_gc answer old.collection (at.safe at.stands.known.0 at.stands.known.1) effect.touches
+  by_effect asked.GcStep answer effect right given = by_gc answer old.collection at.under_way (at.safe at.stands.known.0 at.stands.known.1) effect.touches
   by_effect asked.Stat answer effect right given = by_reads asked.Stat answer effect.disk.only
 
   by_stop : (stop : Option Stop) (f : FileEvent) → f.bytes ≡ bytes → StepsOr stop f.event old new → IsStep f.event.step → IsGivenRight S f.event.step f.event.answer bytes old

@@ -46,7 +46,7 @@ use Rattle.store_core.specs.State.{CoreState, IsUnderWayIn}
 use Rattle.store_core.proofs.AnySteps.{keeps_files}
 use Rattle.store_core.proofs.OwnParts.{stuck_held}
 use Rattle.gc_steps.specs.declared.collection.Collection.{Collection}
-use Rattle.gc_steps.specs.declared.collection.Stage.TheVariants.{Copy as CopyStage, End, Filter, Mark, Release, Select}
+use Rattle.gc_steps.specs.declared.collection.Stage.TheVariants.{Filter, Mark, Select, Sweep}
 use Rattle.store_core.specs.Collecting.{GcRow, IsNotMade, StartRow}
 use Rattle.gc_steps.proofs.NoDamage.{IsClean, no_damage, IsMarked}
 use Rattle.gc_steps.specs.Safety.{IsSafeAt}
@@ -263,16 +263,14 @@ module _ (among : ByteSet) (s : Store) (stored : Stored) (old new : CoreState) (
     marked_at c (Mark level slot) safe = safe
     marked_at c (Filter slot) safe = tt
     marked_at c Select safe = tt
-    marked_at c (CopyStage source) safe = tt
-    marked_at c (Release next slot) safe = tt
-    marked_at c End safe = tt
+    marked_at c Sweep safe = tt
 
     gc_clean : (refusal : Refusal) → IsNotMade refusal old new → IsClean refusal
     gc_clean refusal row =
         let c = row.before in
         no_damage at.index s stored.files old.parts image old.tables old.disk new.disk c refusal stands_here.holds (subst (λ (known : Option PlaceMap). Represents s known old.tables) at.index_known at.represents) here
         (subst (IsUnderWayIn old.tables.held) row.ran at.under_way) (marked_at c c.stage (subst (IsSafeIn at.index s old.parts image) row.ran (at.safe image here)))
-        (subst (λ (k : Option PlaceMap). IsStepRefusal c.stage (moment old.tables k old.disk c) new.disk refusal) at.index_known row.cause)
+        (subst (λ (k : Option PlaceMap). IsStepRefusal c.stage c.sweep.next (moment old.tables k old.disk c) new.disk refusal) at.index_known row.cause)
 
     gc_harmless : (refusal : Refusal) → GcRow (Err refusal) old new → IsHarmless ⊥ refusal
     gc_harmless (refusals.Clash key d) row = gc_clean (refusals.Clash key d) row.0

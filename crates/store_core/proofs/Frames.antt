@@ -31,7 +31,7 @@ use Rattle.store_model.specs.Files.{Stored}
 use Rattle.store_model.specs.Image.{Store, IsValidFor}
 use Rattle.store_model.specs.Slots.{free_slots, first_free, with_slot}
 use Rattle.store_model.specs.Standing.{HasJournal}
-use Rattle.store_model.specs.Steps.{HasCellsFor, StoreChange, SealContainer, ChangeName, appended, changed, record_of, with_change, FreeContainer}
+use Rattle.store_model.specs.Steps.{HasCellsFor, StoreChange, SealContainer, ChangeName, FlushContainer, FreeContainer, appended, changed, record_of, with_change}
 use Rattle.store_model.specs.Steps.{has_cell as store_has_cell}
 use Rattle.store_model.proofs.Cells.{cell_here, cell_anew, with_cell_is}
 use Rattle.store_model.proofs.Filled.{free_less}
@@ -78,7 +78,7 @@ other_with zero h (Some x ∷ cs) differ = refl
 other_with (suc slot) h (Some x ∷ cs) differ = other_with slot h cs (λ is. differ (ap suc is))
 
 -- the first that was closed holds the container
-first_with : (h : HeaderValue) (held : List (Option HeaderValue)) → 1 ≤ free_slots held → slice_get (with_slot (first_free held) h held) (first_free held) ≡ Some (Some h)
+pub first_with : (h : HeaderValue) (held : List (Option HeaderValue)) → 1 ≤ free_slots held → slice_get (with_slot (first_free held) h held) (first_free held) ≡ Some (Some h)
 first_with h [] some = absurd (omega (arith, some))
 first_with h (None ∷ cs) some = refl
 first_with h (Some x ∷ cs) some = first_with h cs some
@@ -179,6 +179,7 @@ abbrev names_in : List StoreChange → ℕ
 names_in [] = 0
 names_in (SealContainer id kind segments ∷ rest) = names_in rest
 names_in (ChangeName name change ∷ rest) = suc (names_in rest)
+names_in (FlushContainer id kind segments ∷ rest) = names_in rest
 names_in (FreeContainer slot ∷ rest) = names_in rest
 
 few_names : (step : StepValue) (answer : Result Answer Refusal) → names_in (changes_by step answer) ≤ commands_of step

@@ -13,13 +13,17 @@ use Rattle.store_model.specs.Slots.{HasKey}
 use Rattle.store_state.specs.Invariant.{CoreInvariant}
 use Rattle.store_core.specs.State.{CoreState, IsUnderWayIn}
 use Rattle.gc_steps.specs.declared.phase.StepDone.TheVariants.{Did}
-use Rattle.dd_disk.specs.Ending.{Done, Reads, ending_of}
-use Rattle.gc_steps.specs.declared.collection.Stage.TheVariants.{Copy, End, Filter, Mark, Release, Select}
-use Rattle.std.proofs.Common.{[], inl, inr, Err, List, None, Ok, Option, Result, Some, ap, arith, length, refl, subst, sym, ℕ, ◌∙◌, ◌∷◌, ◌≡◌, ◌≤◌}
-use Rattle.store_model.specs.Steps.{FreeContainer, StoreChange}
+use Rattle.dd_disk.specs.Ending.{Done, Ending, Reads, ending_of}
+use Rattle.gc_steps.specs.declared.collection.Stage.TheVariants.{Filter, Mark, Select, Sweep as SweepStage}
+use Rattle.gc_sweep.specs.declared.sweep.Next.{Next}
+use Rattle.gc_sweep.specs.declared.sweep.Next.TheVariants.{Copy, Flush, Release, End}
+use Rattle.gc_sweep.specs.declared.sweep.Sweep.{Sweep}
+use Rattle.gc_sweep.specs.InTurn.{slot_in_turn}
+use Rattle.std.proofs.Common.{[], Err, List, None, Ok, Option, Result, Some, ap, arith, length, refl, subst, sym, ℕ, ◌∙◌, ◌∷◌, ◌≡◌, ◌≤◌}
+use Rattle.store_model.specs.Steps.{FlushContainer, FreeContainer, StoreChange}
 use Rattle.store_core.specs.Collecting.{GcEffect, GcRow, IsNotMade, NoneRuns, TouchesBy, GoesOn, HasEnded, at_moment}
 use Rattle.store_model.specs.Trees.{HasNewest}
-use Rattle.dd_disk.specs.View.{IsLater, OnlyReads}
+use Rattle.dd_disk.specs.View.{DiskView, IsLater, OnlyReads}
 use Rattle.gc_steps.specs.Safety.{IsNeeded, IsSafe}
 use Rattle.gc_steps.proofs.StepSafe.{IsStoreAfter, step_safe}
 use Rattle.store_model.specs.Standing.{IsStoreOf}
@@ -34,7 +38,7 @@ use Rattle.refusals.specs.declared.refusal.Refusal.{Refusal}
 use Rattle.store_state.specs.Tables.{Represents}
 use Rattle.gc_steps.specs.declared.collection.Stage.{Stage}
 use Rattle.dd_disk.specs.Moves.{StandsFor}
-use Rattle.gc_steps.specs.Stepping.{phase_at, StepsTo, TablesAfter, Touches, answer_at, Keeps, IsStepRefusal, moment}
+use Rattle.gc_steps.specs.Stepping.{IsStepRefusal, Keeps, Moment, StepsTo, TablesAfter, Touches, answer_at, answer_of, moment, phase_at}
 use Rattle.store_core.specs.Core.{StopsAfter}
 use Rattle.store_model.specs.Files.{Stored}
 use Rattle.store_state.specs.declared.tables.Tables.{Tables}
@@ -43,43 +47,53 @@ use Rattle.dd_disk.proofs.Moves.{stands_reads}
 
 -- ---- the store
 
--- what a step of a stage is called
-pub phase_is : (stage : Stage) (freed : ℕ) (phase : Phase) → answer_at stage freed ≡ Did phase → phase_at stage ≡ phase
-phase_is (Mark level slot) freed phase is = cc
-phase_is (Filter slot) freed phase is = cc
-phase_is Select freed phase is = cc
-phase_is (Copy source) freed phase is = cc
-phase_is (Release next slot) freed phase is = cc
-phase_is End freed phase is = absurd (let wrong = is in cc)
+-- what a step is called
+pub phase_is : (stage : Stage) (next : Next) (freed copied : ℕ) (phase : Phase) → answer_at stage next freed copied ≡ Did phase → phase_at stage next ≡ phase
+phase_is (Mark level slot) next freed copied phase is = cc
+phase_is (Filter slot) next freed copied phase is = cc
+phase_is Select next freed copied phase is = cc
+phase_is SweepStage (Copy source entry) freed copied phase is = cc
+phase_is SweepStage (Flush source entry) freed copied phase is = cc
+phase_is SweepStage (Release source entry) freed copied phase is = cc
+phase_is SweepStage End freed copied phase is = absurd (let wrong = is in cc)
 
--- where it gives nothing back, the store stays
-stays_same : (stage : Stage) (index : PlaceMap) (s t : Store) → ((next slot : ℕ) → stage ≡ Release next slot → ⊥) → IsStoreAfter stage index s t → t ≡ s
-stays_same stage index s t none (inl same) = same.1
-stays_same stage index s t none (inr frees) = absurd (none frees.next frees.slot frees.stage_is)
+pub phase_of : (c : Collection) (phase : Phase) → answer_of c ≡ Did phase → phase_at c.stage c.sweep.next ≡ phase
+phase_of c phase is = phase_is c.stage c.sweep.next c.sweep.freed c.sweep.copied phase is
 
--- the changes of a step of a stage: the container of a slot is closed exactly where one is given back
-stage_changes : (stage : Stage) (index : PlaceMap) (s t : Store) → IsStoreAfter stage index s t → (changes : List StoreChange) × (AreChangesBy asked.GcStep (Ok (answers.Did (phase_at stage))) changes × ChangesTo changes s t)
-stage_changes (Mark level slot) index s t after = ([], (refl, stays_same (Mark level slot) index s t (λ next other is. let wrong = is in cc) after))
-stage_changes (Filter slot) index s t after = ([], (refl, stays_same (Filter slot) index s t (λ next other is. let wrong = is in cc) after))
-stage_changes Select index s t after = ([], (refl, stays_same Select index s t (λ next other is. let wrong = is in cc) after))
-stage_changes (Copy source) index s t after = ([], (refl, stays_same (Copy source) index s t (λ next other is. let wrong = is in cc) after))
-stage_changes (Release next slot) index s t (inl same) = absurd (same.0 next slot refl)
-stage_changes (Release next slot) index s t (inr frees) = (FreeContainer frees.slot ∷ [], ((frees.slot, refl), ((frees.header, frees.there), frees.now_is)))
-stage_changes End index s t after = ([], (refl, stays_same End index s t (λ next other is. let wrong = is in cc) after))
+-- the changes of a step: a container is written, or that of a slot is given back, just where the sweep comes to that
+stage_changes : (stage : Stage) (next : Next) (sweep : Sweep) (index : PlaceMap) (s t : Store) (image : List ℕ) → IsStoreAfter stage next sweep index s t image
+    → (changes : List StoreChange) × (AreChangesBy asked.GcStep (Ok (answers.Did (phase_at stage next))) changes × ChangesTo changes s t)
+stage_changes (Mark level slot) next sweep index s t image same = ([], (refl, same))
+stage_changes (Filter slot) next sweep index s t image same = ([], (refl, same))
+stage_changes Select next sweep index s t image same = ([], (refl, same))
+stage_changes SweepStage (Copy source entry) sweep index s t image same = ([], (refl, same))
+stage_changes SweepStage (Flush source entry) sweep index s t image flushes = (
+  FlushContainer flushes.id sweep.buffer.kind sweep.buffer.segments ∷ [],
+  ((flushes.id, sweep.buffer.kind, sweep.buffer.segments, refl), (flushes.can, flushes.now_is)),
+)
+stage_changes SweepStage (Release source entry) sweep index s t image frees = (FreeContainer (slot_in_turn sweep) ∷ [], ((slot_in_turn sweep, refl), ((frees.header, frees.there), frees.now_is)))
+stage_changes SweepStage End sweep index s t image same = ([], (refl, same))
 
-did_changes : (stage : Stage) (freed : ℕ) (phase : Phase) (index : PlaceMap) (s t : Store) → answer_at stage freed ≡ Did phase → IsStoreAfter stage index s t
+did_changes : (c : Collection) (phase : Phase) (index : PlaceMap) (s t : Store) (image : List ℕ) → answer_of c ≡ Did phase → IsStoreAfter c.stage c.sweep.next c.sweep index s t image
     → (changes : List StoreChange) × (AreChangesBy asked.GcStep (Ok (answers.Did phase)) changes × ChangesTo changes s t)
-did_changes stage freed phase index s t is after =
-    subst (λ (p : Phase). (changes : List StoreChange) × (AreChangesBy asked.GcStep (Ok (answers.Did p)) changes × ChangesTo changes s t)) (phase_is stage freed phase is) (stage_changes stage index s t after)
+did_changes c phase index s t image is after =
+    subst (λ (p : Phase). (changes : List StoreChange) × (AreChangesBy asked.GcStep (Ok (answers.Did p)) changes × ChangesTo changes s t)) (phase_of c phase is)
+    (stage_changes c.stage c.sweep.next c.sweep index s t image after)
 
 -- the journal is what it was
-journal_same : (stage : Stage) (t u : Tables) → TablesAfter stage t u → u.journal ≡ t.journal
-journal_same (Mark level slot) t u after = ap (λ (x : Tables). x.journal) after
-journal_same (Filter slot) t u after = ap (λ (x : Tables). x.journal) after
-journal_same Select t u after = ap (λ (x : Tables). x.journal) after
-journal_same (Copy source) t u after = ap (λ (x : Tables). x.journal) after
-journal_same (Release next slot) t u after = ap (λ (x : Tables). x.journal) after.others_stay
-journal_same End t u after = ap (λ (x : Tables). x.journal) after
+journal_same : (stage : Stage) (next : Next) (old new : Moment) → TablesAfter stage next old new → new.tables.journal ≡ old.tables.journal
+journal_same (Mark level slot) next old new after = ap (λ (x : Tables). x.journal) after
+journal_same (Filter slot) next old new after = ap (λ (x : Tables). x.journal) after
+journal_same Select next old new after = ap (λ (x : Tables). x.journal) after
+journal_same SweepStage (Copy source entry) old new after = ap (λ (x : Tables). x.journal) after
+journal_same SweepStage (Flush source entry) old new after = ap (λ (x : Tables). x.journal) after.1.written.others_stay
+journal_same SweepStage (Release source entry) old new after = ap (λ (x : Tables). x.journal) after.others_stay
+journal_same SweepStage End old new after = ap (λ (x : Tables). x.journal) after
+
+-- at its end it only reads
+pub end_reads : (c : Collection) (t : Tables) (e : Ending) (old new : DiskView) → c.stage ≡ SweepStage → c.sweep.next ≡ End → Touches c.stage c.sweep.next c.sweep t e old new → Reads e old new
+end_reads c t e old new stage next touches =
+    subst (λ (n : Next). Touches SweepStage n c.sweep t e old new) next (subst (λ (s : Stage). Touches s c.sweep.next c.sweep t e old new) stage touches)
 
 -- ---- a step
 
@@ -148,18 +162,21 @@ module _ (among : ByteSet) (s : Store) (stored : Stored) (old new : CoreState) (
         let c = row.before in
         let safe : IsSafe at.index s old.parts image c = subst (IsSafeIn at.index s old.parts image) row.ran (at.safe image here) in
         let under : IsUnderWay old.tables.held c = subst (IsUnderWayIn old.tables.held) row.ran at.under_way in
-        let steps : StepsTo c.stage (moment old.tables (Some at.index) old.disk c) (at_moment new row.after) = subst (λ (k : Option PlaceMap). StepsTo c.stage (moment old.tables k old.disk c) (at_moment new row.after)) at.index_known row.steps in
-        let touched : Touches c.stage old.tables Done old.disk new.disk = subst (λ (o : Option Collection). TouchesBy o (Ok (answers.Did phase)) old new.disk) row.ran touches in
+        let steps : StepsTo c.stage c.sweep.next (moment old.tables (Some at.index) old.disk c) (at_moment new row.after) =
+        subst (λ (k : Option PlaceMap). StepsTo c.stage c.sweep.next (moment old.tables k old.disk c) (at_moment new row.after)) at.index_known row.steps in
+        let tables : TablesAfter c.stage c.sweep.next (moment old.tables (Some at.index) old.disk c) (at_moment new row.after) =
+        subst (λ (k : Option PlaceMap). TablesAfter c.stage c.sweep.next (moment old.tables k old.disk c) (at_moment new row.after)) at.index_known row.tables in
+        let touched : Touches c.stage c.sweep.next c.sweep old.tables Done old.disk new.disk = subst (λ (o : Option Collection). TouchesBy o (Ok (answers.Did phase)) old new.disk) row.ran touches in
         let leaves = step_safe at.index s stored.files old.parts image now among old.tables new.tables new.known old.disk new.disk c row.after
-        (at.invariant image here) few represents at.valid here told at.stands under safe steps row.tables touched in
-        let changes = did_changes c.stage c.freed phase at.index s leaves.store_now row.phase_is leaves.store_is in
+        (at.invariant image here) few represents at.valid here told at.stands under (subst (IsUnderWayIn new.tables.held) row.runs under_way) safe steps tables touched goes in
+        let changes = did_changes c phase at.index s leaves.store_now image row.phase_is leaves.store_is in
         record {
           changes = changes.0;
           changes_are = changes.1.0;
           next = record {
             store = leaves.store_now;
             chain = changes.1.1;
-            is_at = at_now leaves.store_now leaves.later leaves.known_is leaves.represents leaves.valid leaves.stands (journal_same c.stage old.tables new.tables row.tables)
+            is_at = at_now leaves.store_now leaves.later leaves.known_is leaves.represents leaves.valid leaves.stands (journal_same c.stage c.sweep.next (at_moment old c) (at_moment new row.after) row.tables)
                 leaves.core
                 (subst (IsSafeIn leaves.later leaves.store_now old.parts now) (sym row.runs) leaves.safe);
           };
@@ -184,8 +201,8 @@ module _ (among : ByteSet) (s : Store) (stored : Stored) (old new : CoreState) (
 
     ended_led : (freed copied : ℕ) → HasEnded freed copied old new → TouchesBy old.collection (Ok (answers.Done freed copied)) old new.disk → Led (Ok (answers.Done freed copied))
     ended_led freed copied row touches =
-        let touched : Touches row.before.stage old.tables Done old.disk new.disk = subst (λ (o : Option Collection). TouchesBy o (Ok (answers.Done freed copied)) old new.disk) row.ran touches in
-        let reads : Reads Done old.disk new.disk = subst (λ (stage : Stage). Touches stage old.tables Done old.disk new.disk) row.at_end touched in
+        let touched = subst (λ (o : Option Collection). TouchesBy o (Ok (answers.Done freed copied)) old new.disk) row.ran touches in
+        let reads : Reads Done old.disk new.disk = end_reads row.before old.tables Done old.disk new.disk row.at_end.0 row.at_end.1 touched in
         read_led (Ok (answers.Done freed copied)) refl row.index_is row.tables_are reads.only (λ safe. subst (IsSafeIn at.index s old.parts image) (sym row.ended) tt)
 
     none_led : NoneRuns old new → TouchesBy old.collection (Err refusals.NotCollecting) old new.disk → Led (Err refusals.NotCollecting)
@@ -198,12 +215,12 @@ module _ (among : ByteSet) (s : Store) (stored : Stored) (old new : CoreState) (
     refused_led refusal none other row touches =
         let c = row.before in
         let safe : IsSafe at.index s old.parts image c = subst (IsSafeIn at.index s old.parts image) row.ran (at.safe image here) in
-        let cause = subst (λ (k : Option PlaceMap). IsStepRefusal c.stage (moment old.tables k old.disk c) new.disk refusal) at.index_known row.cause in
-        let keeps = subst (λ (k : Option PlaceMap). Keeps c.stage (moment old.tables k old.disk c) (at_moment new row.after) refusal) at.index_known row.kept in
-        let kept = subst (λ (t : Tables). Keeps c.stage (moment old.tables (Some at.index) old.disk c) (moment t new.known new.disk row.after) refusal) row.tables_are keeps in
-        let touched : Touches c.stage old.tables (ending_of (blames refusal)) old.disk new.disk = subst (λ (o : Option Collection). TouchesBy o (Err refusal) old new.disk) row.ran touches in
+        let cause = subst (λ (k : Option PlaceMap). IsStepRefusal c.stage c.sweep.next (moment old.tables k old.disk c) new.disk refusal) at.index_known row.cause in
+        let keeps = subst (λ (k : Option PlaceMap). Keeps c.stage c.sweep.next (moment old.tables k old.disk c) (at_moment new row.after) refusal) at.index_known row.kept in
+        let kept = subst (λ (t : Tables). Keeps c.stage c.sweep.next (moment old.tables (Some at.index) old.disk c) (moment t new.known new.disk row.after) refusal) row.tables_are keeps in
+        let touched : Touches c.stage c.sweep.next c.sweep old.tables (ending_of (blames refusal)) old.disk new.disk = subst (λ (o : Option Collection). TouchesBy o (Err refusal) old new.disk) row.ran touches in
         let still = refused_safe at.index s stored.files old.parts image now among old.tables new.known old.disk new.disk c row.after (at.invariant image here) represents at.valid here told at.stands
-        (ending_of (blames refusal)) refusal other safe cause kept touched in
+        refusal other safe cause kept touched in
         same_led (Err refusal) none still.known_is row.tables_are still.stands still.core (subst (IsSafeIn at.index s old.parts now) (sym row.runs) still.safe) still.keeps
 
   not_broken : (refusal : Refusal) → StopsAfter asked.GcStep (Err refusal) old.acknowledged new.stop → refusal ≡ refusals.DiskWrite → ⊥

@@ -25,7 +25,7 @@ use Rattle.store_model.specs.Collisions.{HasNoCollisions, ByteSet, IsIn, IsAmong
 use Rattle.store_model.specs.Files.{Files, Stored}
 use Rattle.store_model.specs.Image.{Store}
 use Rattle.store_model.specs.Slots.{Copy, HasKey, newest}
-use Rattle.store_model.specs.Steps.{StoreChange, SealContainer, ChangeName, with_sealed, with_change, FreeContainer}
+use Rattle.store_model.specs.Steps.{StoreChange, SealContainer, ChangeName, FlushContainer, FreeContainer, with_sealed, with_change}
 use Rattle.store_model.specs.Trees.{HasNewest, bytes_at}
 use Rattle.store_model.proofs.Copies.{copy_digest, headers_of_right}
 use Rattle.store_model.proofs.FramedTrees.{newest_framed}
@@ -42,8 +42,11 @@ use Rattle.store_core.specs.Keeping.{kept_by, kept_of, IsHeldIn, KeepsSegments, 
 use Rattle.store_core.specs.Runs.{FileEvent, FileStep, FileRun, IsAt, IsGivenRight, ChangesTo, changes_by, stored_by, stored_after, AreNoGcSteps, IsNoGcStep, events_of}
 use Rattle.store_core.specs.State.{CoreState}
 use Rattle.store_core.proofs.CoreRuns.{running_step}
-use Rattle.gc_steps.specs.declared.collection.Stage.TheVariants.{Mark, Filter, Select, Copy as CopyStage, Release, End}
+use Rattle.gc_steps.specs.declared.collection.Stage.TheVariants.{Mark, Filter, Select, Sweep as SweepStage}
+use Rattle.gc_sweep.specs.declared.sweep.Next.{Next}
+use Rattle.gc_sweep.specs.declared.sweep.Next.TheVariants.{Copy as CopyNext, Flush, Release, End}
 use Rattle.store_core.proofs.AnySteps.{any_step, gc_or_not, other_leads, with_step}
+use Rattle.store_core.proofs.GcSteps.{end_reads}
 use Rattle.store_core.proofs.Leading.{Leads}
 use Rattle.store_core.proofs.KeepingFiles.{file_step, run_running, only_reads, seal_holds, NextOn}
 use Rattle.store_core.proofs.Sealing.{one_map}
@@ -165,35 +168,43 @@ module _ (old new : CoreState) (stays : new.stop ≡ None) (given : List ℕ) (h
   changes_settled : (e : Ending) → old.disk.size ≡ size_of old.tables.slots → ((slots : ℕ) → old.disk.size ≡ size_of slots → Changes (slot_at slots) e old.disk new.disk) → Settled
   changes_settled e sized changes = let changed = changes old.tables.slots sized in counts_settled (record { content_is = changed.content_is; leaves = changed.leaves })
 
-  did_settled : (before after : Collection) (stage : Stage) → old.disk.size ≡ size_of old.tables.slots → StepsTo stage (at_moment old before) (at_moment new after) → Touches stage old.tables Done old.disk new.disk → Settled
-  did_settled before after (Mark level slot) sized steps touches = reads_settled touches.only
-  did_settled before after (Filter slot) sized steps touches = reads_settled touches.only
-  did_settled before after Select sized steps touches = reads_settled touches.only
-  did_settled before after (CopyStage source) sized steps touches = changes_settled Done sized touches
-  did_settled before after (Release next slot) sized steps touches = durable_settled steps.1
-  did_settled before after End sized steps touches = reads_settled touches.only
+  did_settled : (before after : Collection) (stage : Stage) (next : Next) → old.disk.size ≡ size_of old.tables.slots → StepsTo stage next (at_moment old before) (at_moment new after)
+      → Touches stage next before.sweep old.tables Done old.disk new.disk → Settled
+  did_settled before after (Mark level slot) next sized steps touches = reads_settled touches.only
+  did_settled before after (Filter slot) next sized steps touches = reads_settled touches.only
+  did_settled before after Select next sized steps touches = reads_settled touches.only
+  did_settled before after SweepStage (CopyNext source entry) sized steps touches = changes_settled Done sized touches
+  did_settled before after SweepStage (Flush source entry) sized steps touches = touches.0.left settled
+  did_settled before after SweepStage (Release source entry) sized steps touches = durable_settled steps.2
+  did_settled before after SweepStage End sized steps touches = reads_settled touches.only
 
-  refused_settled : (before : Collection) (stage : Stage) (refusal : Refusal) (e : Ending) → StopsAfter asked.GcStep (Err refusal) old.acknowledged new.stop → old.disk.size ≡ size_of old.tables.slots
-      → IsStepRefusal stage (at_moment old before) new.disk refusal → Touches stage old.tables e old.disk new.disk → Settled
-  refused_settled before (Mark level slot) refusal e stops sized cause touches = reads_settled touches.only
-  refused_settled before (Filter slot) refusal e stops sized cause touches = reads_settled touches.only
-  refused_settled before Select refusal e stops sized cause touches = reads_settled touches.only
-  refused_settled before (CopyStage source) refusal e stops sized cause touches = changes_settled e sized touches
-  refused_settled before (Release next slot) refusal e stops sized cause touches = absurd (broken (subst (λ (x : Refusal). StopsAfter asked.GcStep (Err x) old.acknowledged new.stop) cause stops))
-    where
-      broken : StopsAfter asked.GcStep (Err refusals.DiskWrite) old.acknowledged new.stop → ⊥
-      broken is = let both = sym stays ∙ is in cc
-  refused_settled before End refusal e stops sized cause touches = absurd cause
+  broken : StopsAfter asked.GcStep (Err refusals.DiskWrite) old.acknowledged new.stop → ⊥
+  broken is = let both = sym stays ∙ is in cc
+
+  flush_settled : (refusal : Refusal) → StopsAfter asked.GcStep (Err refusal) old.acknowledged new.stop → Left old.tables.slots (ending_of (blames refusal)) old.disk new.disk → Settled
+  flush_settled refusals.DiskWrite stops left = absurd (broken stops)
+  flush_settled refusals.DiskRead stops left = counts_settled left
+  flush_settled refusal stops left = counts_settled left
+
+  refused_settled : (before : Collection) (stage : Stage) (next : Next) (refusal : Refusal) → StopsAfter asked.GcStep (Err refusal) old.acknowledged new.stop → old.disk.size ≡ size_of old.tables.slots
+      → IsStepRefusal stage next (at_moment old before) new.disk refusal → Touches stage next before.sweep old.tables (ending_of (blames refusal)) old.disk new.disk → Settled
+  refused_settled before (Mark level slot) next refusal stops sized cause touches = reads_settled touches.only
+  refused_settled before (Filter slot) next refusal stops sized cause touches = reads_settled touches.only
+  refused_settled before Select next refusal stops sized cause touches = reads_settled touches.only
+  refused_settled before SweepStage (CopyNext source entry) refusal stops sized cause touches = changes_settled (ending_of (blames refusal)) sized touches
+  refused_settled before SweepStage (Flush source entry) refusal stops sized cause touches = flush_settled refusal stops touches.0.left
+  refused_settled before SweepStage (Release source entry) refusal stops sized cause touches = absurd (broken (subst (λ (x : Refusal). StopsAfter asked.GcStep (Err x) old.acknowledged new.stop) cause stops))
+  refused_settled before SweepStage End refusal stops sized cause touches = absurd cause
 
   pub gc_settled : (answer : Result Answer Refusal) → old.disk.size ≡ size_of old.tables.slots → StopsAfter asked.GcStep answer old.acknowledged new.stop → GcRow answer old new → GcEffect answer old new → Settled
   gc_settled (Ok (answers.Did phase)) sized stops row effect =
-      did_settled row.0.before row.0.after row.0.before.stage sized row.0.steps (subst (λ (o : Option Collection). TouchesBy o (Ok (answers.Did phase)) old new.disk) row.0.ran effect.touches)
+      did_settled row.0.before row.0.after row.0.before.stage row.0.before.sweep.next sized row.0.steps (subst (λ (o : Option Collection). TouchesBy o (Ok (answers.Did phase)) old new.disk) row.0.ran effect.touches)
   gc_settled (Ok (answers.Done freed copied)) sized stops row effect =
       let touched = subst (λ (o : Option Collection). TouchesBy o (Ok (answers.Done freed copied)) old new.disk) row.0.ran effect.touches in
-      reads_settled (subst (λ (stage : Stage). Touches stage old.tables Done old.disk new.disk) row.0.at_end touched).only
+      reads_settled (end_reads row.0.before old.tables Done old.disk new.disk row.0.at_end.0 row.0.at_end.1 touched).only
   gc_settled (Err refusals.NotCollecting) sized stops row effect = reads_settled (subst (λ (o : Option Collection). TouchesBy o (Err refusals.NotCollecting) old new.disk) row.0.none_ran effect.touches).only
   gc_settled (Err refusal) sized stops row effect =
-      refused_settled row.0.before row.0.before.stage refusal (ending_of (blames refusal)) stops sized row.0.cause (subst (λ (o : Option Collection). TouchesBy o (Err refusal) old new.disk) row.0.ran effect.touches)
+      refused_settled row.0.before row.0.before.stage row.0.before.sweep.next refusal stops sized row.0.cause (subst (λ (o : Option Collection). TouchesBy o (Err refusal) old new.disk) row.0.ran effect.touches)
   gc_settled answer sized stops row effect = absurd row
 
 -- changes leave the number of slots
@@ -201,6 +212,7 @@ same_slots : (changes : List StoreChange) (s t : Store) → ChangesTo changes s 
 same_slots [] s t chain = ap (λ (store : Store). store.slots) chain
 same_slots (SealContainer id kind segments ∷ rest) s t chain = same_slots rest (with_sealed id kind segments s) t chain.1
 same_slots (ChangeName name change ∷ rest) s t chain = same_slots rest (with_change name change s) t chain.1
+same_slots (FlushContainer id kind segments ∷ rest) s t chain = same_slots rest (with_sealed id kind segments s) t chain.1
 same_slots (FreeContainer slot ∷ rest) s t chain = same_slots rest (with_freed slot s) t chain.1
 
 -- ---- along a run

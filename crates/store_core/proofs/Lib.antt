@@ -3,8 +3,10 @@ pub mod Bounded
 pub mod CheckedReads
 pub mod Committing
 pub mod CoreRuns
+pub mod Counted
 pub mod Crashes
 pub mod Damage
+pub mod Flushed
 pub mod Frames
 pub mod GcSteps
 pub mod GivingFiles
@@ -20,7 +22,9 @@ pub mod OwnParts
 pub mod RunningOn
 pub mod Releasing
 pub mod Reserves
+pub mod Rooms
 pub mod SafeSteps
 pub mod Sealing
 pub mod SparedRest
 pub mod Stepping
+pub mod Tallied

@@ -1,9 +1,15 @@
 -- What the steps of a collection make of a core.
-use Rattle.std.proofs.Common.{◌≡◌, ◌≤◌, inl, inr, ℕ, List, length, Option, Some, None, Result, Ok, Err, refl, sym, ◌∙◌, subst}
-use Rattle.dd_disk.specs.Ending.{CountsFault, Done, ending, ending_of}
-use Rattle.dd_disk.specs.View.{DiskView, IsLater}
+use Rattle.std.proofs.Common.{◌≡◌, inl, inr, ℕ, List, [], ◌∷◌, Option, Some, None, Result, Ok, Err, refl, sym, ◌∙◌, subst}
+use Rattle.std.specs.Prelude.{drop}
+use Rattle.dd_disk.specs.Ending.{Done, ending, ending_of}
+use Rattle.dd_disk.specs.Shows.{Shows}
+use Rattle.dd_disk.specs.View.{DiskView}
 use Rattle.dd_disk.proofs.Later.{later_here, reads_here}
 use Rattle.container_meta.specs.Places.{PlaceMap}
+use Rattle.container_meta.specs.Segments.{Contents}
+use Rattle.container_meta.specs.declared.entry.Entry.{Entry}
+use Rattle.copy_forward.specs.Copying.{IsCopyRefusal}
+use Rattle.copy_forward.specs.Planning.{IsStuck, Planned, Source, planned, source_of}
 use Rattle.actor_parts.specs.declared.step.Answer.{Answer}
 use Rattle.actor_parts.specs.declared.step.Answer.TheVariants as answers
 use Rattle.actor_parts.specs.StepValue as asked
@@ -13,35 +19,49 @@ use Rattle.refusals.specs.declared.refusal.Refusal.TheVariants as refusals
 use Rattle.gc_enumerate.specs.Live.{LiveKeys}
 use Rattle.gc_enumerate.specs.declared.fault.ScanFault.{ScanFault}
 use Rattle.gc_enumerate.specs.declared.fault.ScanFault.TheVariants as faults
+use Rattle.gc_sweep.specs.declared.sweep.Next.{Next}
+use Rattle.gc_sweep.specs.declared.sweep.Next.TheVariants.{Copy, Flush, Release, End}
 use Rattle.gc_steps.specs.declared.collection.Collection.{Collection}
 use Rattle.gc_steps.specs.declared.collection.Stage.{Stage}
-use Rattle.gc_steps.specs.declared.collection.Stage.TheVariants.{Copy, End, Filter, Mark, Release, Select}
+use Rattle.gc_steps.specs.declared.collection.Stage.TheVariants.{Filter, Mark, Select, Sweep}
 use Rattle.gc_steps.specs.declared.phase.StepDone.{StepDone}
 use Rattle.gc_steps.specs.declared.phase.StepDone.TheVariants.{Did, Done as EndsWith}
 use Rattle.gc_steps.specs.Marking.{IsMarkRefusal}
 use Rattle.gc_steps.specs.Scanning.{step_refusal}
-use Rattle.gc_steps.specs.Stepping.{IsStepRefusal, Keeps, Moment, StepsTo, TablesAfter, Touches, answer_at, phase_at}
+use Rattle.gc_steps.specs.Stepping.{GoesBy, IsStepRefusal, Makes, Moment, Refuses, StepsTo, TablesAfter, Touches, answer_at, phase_at}
 use Rattle.gc_steps.specs.StepsToCome.{Nears, steps_to_come}
-use Rattle.gc_steps.specs.UnderWay.{IsUnderWay}
+use Rattle.gc_steps.specs.UnderWay.{HasRoom, IsUnderWay}
 use Rattle.store_state.specs.Refused.{blames}
+use Rattle.store_state.specs.declared.tables.Tables.{Tables}
 use Rattle.store_core.specs.Collecting.{GcRow, IsNotMade, TouchesBy, at_moment}
 use Rattle.store_core.specs.Core.{Made}
 use Rattle.store_core.specs.State.{CoreState, IsUnderWayIn}
 use Rattle.store_core.specs.declared.stop.Stop.{Stop}
+use Rattle.store_core.proofs.Rooms.{room_ended}
 
 -- ---- the end
 
--- it ends at its last stage alone
-at_end : (stage : Stage) (freed count : ℕ) → EndsWith count ≡ answer_at stage freed → (stage ≡ End) × (count ≡ freed)
-at_end (Mark level slot) freed count is = absurd (let wrong = is in cc)
-at_end (Filter slot) freed count is = absurd (let wrong = is in cc)
-at_end Select freed count is = absurd (let wrong = is in cc)
-at_end (Copy source) freed count is = absurd (let wrong = is in cc)
-at_end (Release next slot) freed count is = absurd (let wrong = is in cc)
-at_end End freed count is = (refl, one_count count freed is)
+-- where it ends
+record IsEnd (stage : Stage) (next : Next) (freed copied count many : ℕ) : Type 0 where
+  stage_is : stage ≡ Sweep
+  next_is : next ≡ End
+  freed_is : count ≡ freed
+  copied_is : many ≡ copied
+
+at_end : (stage : Stage) (next : Next) (freed copied count many : ℕ) → EndsWith count many ≡ answer_at stage next freed copied → IsEnd stage next freed copied count many
+at_end (Mark level slot) next freed copied count many is = absurd (let wrong = is in cc)
+at_end (Filter slot) next freed copied count many is = absurd (let wrong = is in cc)
+at_end Select next freed copied count many is = absurd (let wrong = is in cc)
+at_end Sweep (Copy source entry) freed copied count many is = absurd (let wrong = is in cc)
+at_end Sweep (Flush source entry) freed copied count many is = absurd (let wrong = is in cc)
+at_end Sweep (Release source entry) freed copied count many is = absurd (let wrong = is in cc)
+at_end Sweep End freed copied count many is = record { stage_is = refl; next_is = refl; freed_is = first count freed many copied is; copied_is = second count freed many copied is }
   where
-    one_count : (a b : ℕ) → EndsWith a ≡ EndsWith b → a ≡ b
-    one_count a b same = cc
+    first : (a b x y : ℕ) → EndsWith a x ≡ EndsWith b y → a ≡ b
+    first a b x y same = cc
+
+    second : (a b x y : ℕ) → EndsWith a x ≡ EndsWith b y → x ≡ y
+    second a b x y same = cc
 
 -- ---- why a step is refused
 
@@ -57,63 +77,69 @@ mark_runs : (known : Option PlaceMap) (old new : DiskView) (level slot : ℕ) (l
 mark_runs known old new level slot live (inl none) = none
 mark_runs known old new level slot live (inr stops) = stop_runs stops.fault stops.refusal_is
 
-runs_still : (stage : Stage) (old : Moment) (new : DiskView) → IsStepRefusal stage old new refusals.NotCollecting → ⊥
-runs_still (Mark level slot) old new is = mark_runs old.known old.disk new level slot old.collection.live is
-runs_still (Filter slot) old new is = is
-runs_still Select old new is = let wrong = is in cc
-runs_still (Copy source) old new is = is.2
-runs_still (Release next slot) old new is = let wrong = is in cc
-runs_still End old new is = is
+stuck_runs : (s : Source) (shown : (List ℕ → Type 0) → Type 0) (es : List Entry) (before : Planned) → IsStuck s shown es before refusals.NotCollecting → ⊥
+stuck_runs s shown [] before is = is
+stuck_runs s shown (e ∷ es) before (inl one) = one.1.1
+stuck_runs s shown (e ∷ es) before (inr more) = stuck_runs s shown es more.0 more.1.1
+
+copy_runs : (known : Option PlaceMap) (live : LiveKeys) (slot from : ℕ) (buffer : Contents) (old new : DiskView) → IsCopyRefusal known live slot from buffer old new refusals.NotCollecting → ⊥
+copy_runs known live slot from buffer old new (inl (inl header)) = header
+copy_runs known live slot from buffer old new (inl (inr (h, shown, kind, within, stuck))) = stuck_runs (source_of known live slot h.kind) (Shows old new) (drop from h.entries) (planned buffer []) stuck
+copy_runs known live slot from buffer old new (inr remove) = remove
+
+runs_still : (stage : Stage) (next : Next) (old : Moment) (new : DiskView) → IsStepRefusal stage next old new refusals.NotCollecting → ⊥
+runs_still (Mark level slot) next old new is = mark_runs old.known old.disk new level slot old.collection.live is
+runs_still (Filter slot) next old new is = is
+runs_still Select next old new is = let wrong = is in cc
+runs_still Sweep (Copy source entry) old new is = copy_runs old.known old.collection.live is.slot entry is.filling old.disk new is.cause
+runs_still Sweep (Flush source entry) old new is = is.1
+runs_still Sweep (Release source entry) old new is = let wrong = is in cc
+runs_still Sweep End old new is = is
 
 refused_row : (refusal : Refusal) (old new : CoreState) → IsNotMade refusal old new → new.parts ≡ old.parts → GcRow (Err refusal) old new
-refused_row refusals.NotCollecting old new is parts = absurd (runs_still is.before.stage (at_moment old is.before) new.disk is.cause)
+refused_row refusals.NotCollecting old new is parts = absurd (runs_still is.before.stage is.before.sweep.next (at_moment old is.before) new.disk is.cause)
 refused_row refusal old new is parts = (is, parts)
 
 -- ---- a step
 
-module _ (actor : ℕ) (buf : List ℕ) (old new : CoreState) (c after : Collection) (ran : old.collection ≡ Some c) (parts : new.parts ≡ old.parts) (served : old.served → new.served) (later : IsLater old.disk new.disk)
+module _ (actor : ℕ) (buf : List ℕ) (old new : CoreState) (c after : Collection) (ran : old.collection ≡ Some c) (parts : new.parts ≡ old.parts) (served : old.served → new.served)
     (tells : (places : PlaceMap) × (new.known ≡ Some places)) where
-  touched : (answer : Result Answer Refusal) → Touches c.stage old.tables (ending blames answer) old.disk new.disk → TouchesBy old.collection answer old new.disk
+  touched : (answer : Result Answer Refusal) → Touches c.stage c.sweep.next c.sweep old.tables (ending blames answer) old.disk new.disk → TouchesBy old.collection answer old new.disk
   touched answer touches = subst (λ (o : Option Collection). TouchesBy o answer old new.disk) (sym ran) touches
 
   module _ (runs : new.collection ≡ Some after) (under_way : IsUnderWay new.tables.held after) where
-    pub made_did : (phase : Phase) (done : StepDone) → done ≡ Did phase → done ≡ answer_at c.stage c.freed → StepsTo c.stage (at_moment old c) (at_moment new after) → TablesAfter c.stage old.tables new.tables
-        → Touches c.stage old.tables Done old.disk new.disk → CountsFault Done old.disk.faults new.disk.faults
-        → ((chosen : ℕ) → length after.sources.items ≤ chosen → Nears done (steps_to_come chosen old.tables.held c) (steps_to_come chosen new.tables.held after))
-        → Made asked.GcStep actor (Ok (answers.Did phase)) buf old new
-    made_did phase done did is steps tables touches faults nearer = record {
+    pub made_did : (phase : Phase) (done : StepDone) → done ≡ Did phase → Makes (at_moment old c) (at_moment new after) done → GoesBy c old.tables Done old.disk new.disk → Made asked.GcStep actor (Ok (answers.Did phase)) buf old new
+    made_did phase done did made goes = record {
       row = (
         record {
           before = c;
           ran = ran;
           after = after;
           runs = runs;
-          phase_is = sym is ∙ did;
-          steps = steps;
-          tables = tables;
-          nearer = λ chosen fits. subst (λ (d : StepDone). Nears d (steps_to_come chosen old.tables.held c) (steps_to_come chosen new.tables.held after)) did (nearer chosen fits);
+          phase_is = sym made.answer_is ∙ did;
+          steps = made.steps;
+          tables = made.tables;
+          nearer = λ chosen fits. subst (λ (d : StepDone). Nears d (steps_to_come chosen old.tables.held c) (steps_to_come chosen new.tables.held after)) did (made.nearer chosen fits);
         },
         parts,
       );
       effect = record {
-        later = later;
-        faults_are = faults;
-        touches = touched (Ok (answers.Did phase)) touches;
+        later = goes.later;
+        faults_are = goes.faults_are;
+        touches = touched (Ok (answers.Did phase)) goes.touches;
         under_way = λ was. subst (IsUnderWayIn new.tables.held) (sym runs) under_way;
         tells = λ before is. tells;
       };
       served = served;
     }
 
-    pub made_refused : (refusal : Refusal) → IsStepRefusal c.stage (at_moment old c) new.disk refusal → Keeps c.stage (at_moment old c) (at_moment new after) refusal → new.tables ≡ old.tables
-        → Touches c.stage old.tables (ending_of (blames refusal)) old.disk new.disk → CountsFault (ending_of (blames refusal)) old.disk.faults new.disk.faults
-        → Made asked.GcStep actor (Err refusal) buf old new
-    made_refused refusal cause kept tables touches faults = record {
-      row = refused_row refusal old new (record { before = c; ran = ran; after = after; runs = runs; cause = cause; kept = kept; tables_are = tables }) parts;
+    pub made_refused : (refusal : Refusal) → Refuses (at_moment old c) (at_moment new after) refusal → GoesBy c old.tables (ending_of (blames refusal)) old.disk new.disk → Made asked.GcStep actor (Err refusal) buf old new
+    made_refused refusal is goes = record {
+      row = refused_row refusal old new (record { before = c; ran = ran; after = after; runs = runs; cause = is.cause; kept = is.kept; tables_are = is.tables_kept }) parts;
       effect = record {
-        later = later;
-        faults_are = faults;
-        touches = touched (Err refusal) touches;
+        later = goes.later;
+        faults_are = goes.faults_are;
+        touches = touched (Err refusal) goes.touches;
         under_way = λ was. subst (IsUnderWayIn new.tables.held) (sym runs) under_way;
         tells = λ before is. tells;
       };
@@ -121,33 +147,40 @@ module _ (actor : ℕ) (buf : List ℕ) (old new : CoreState) (c after : Collect
     }
 
   -- it ran to its end, and runs no more
-  pub made_done : (freed : ℕ) (done : StepDone) → new.collection ≡ None → done ≡ EndsWith freed → done ≡ answer_at c.stage c.freed → StepsTo c.stage (at_moment old c) (at_moment new after) → TablesAfter c.stage old.tables new.tables
-      → Touches c.stage old.tables Done old.disk new.disk → CountsFault Done old.disk.faults new.disk.faults → Made asked.GcStep actor (Ok (answers.Done freed 0)) buf old new
-  made_done freed done ended ends is steps tables touches faults =
-      let end = at_end c.stage c.freed freed (sym ends ∙ is) in
+  pub made_done : (freed copied : ℕ) (done : StepDone) → new.collection ≡ None → done ≡ EndsWith freed copied → Makes (at_moment old c) (at_moment new after) done → GoesBy c old.tables Done old.disk new.disk
+      → Made asked.GcStep actor (Ok (answers.Done freed copied)) buf old new
+  made_done freed copied done ended ends made goes = record {
+    row = (
       record {
-        row = (
-          record {
-            before = c;
-            ran = ran;
-            at_end = end.0;
-            ended = ended;
-            freed_is = end.1;
-            copied_is = refl;
-            tables_are = subst (λ (stage : Stage). TablesAfter stage old.tables new.tables) end.0 tables;
-            index_is = (subst (λ (stage : Stage). StepsTo stage (at_moment old c) (at_moment new after)) end.0 steps).1;
-          },
-          parts,
-        );
-        effect = record {
-          later = later;
-          faults_are = faults;
-          touches = touched (Ok (answers.Done freed 0)) touches;
-          under_way = λ was. subst (IsUnderWayIn new.tables.held) (sym ended) tt;
-          tells = λ before is. tells;
-        };
-        served = served;
-      }
+        before = c;
+        ran = ran;
+        at_end = (end.stage_is, end.next_is);
+        ended = ended;
+        freed_is = end.freed_is;
+        copied_is = end.copied_is;
+        tables_are = tables;
+        index_is = (let at : StepsTo Sweep End (at_moment old c) (at_moment new after) = by_end (λ stage next. StepsTo stage next (at_moment old c) (at_moment new after)) made.steps in at.1);
+      },
+      parts,
+    );
+    effect = record {
+      later = goes.later;
+      faults_are = goes.faults_are;
+      touches = touched (Ok (answers.Done freed copied)) goes.touches;
+      under_way = λ was. subst (IsUnderWayIn new.tables.held) (sym ended) (subst (λ (t : Tables). HasRoom t.held) (sym tables) (room_ended old.tables.held c end.stage_is end.next_is (subst (IsUnderWayIn old.tables.held) ran was)));
+      tells = λ before is. tells;
+    };
+    served = served;
+  }
+    where
+      end : IsEnd c.stage c.sweep.next c.sweep.freed c.sweep.copied freed copied
+      end = at_end c.stage c.sweep.next c.sweep.freed c.sweep.copied freed copied (sym ends ∙ made.answer_is)
+
+      by_end : (P : Stage → Next → Type 0) → P c.stage c.sweep.next → P Sweep End
+      by_end P is = subst (P Sweep) end.next_is (subst (λ (stage : Stage). P stage c.sweep.next) end.stage_is is)
+
+      tables : new.tables ≡ old.tables
+      tables = by_end (λ stage next. TablesAfter stage next (at_moment old c) (at_moment new after)) made.tables
 
 -- ---- none runs, or one runs already
 
@@ -166,7 +199,7 @@ made_none actor buf old none stop count = record {
   served = λ served. served;
 }
 
-pub made_running : (percent actor : ℕ) (phase : Phase) (c : Collection) (buf : List ℕ) (old : CoreState) → old.collection ≡ Some c → phase ≡ phase_at c.stage → (stop : Option Stop) (count : ℕ)
+pub made_running : (percent actor : ℕ) (phase : Phase) (c : Collection) (buf : List ℕ) (old : CoreState) → old.collection ≡ Some c → phase ≡ phase_at c.stage c.sweep.next → (stop : Option Stop) (count : ℕ)
     → Made (asked.GcStart percent) actor (Err (refusals.Collecting phase)) buf old (record old { stop = stop; acknowledged = count })
 made_running percent actor phase c buf old runs is stop count = record {
   row = ((c, (runs, is)), refl, refl);

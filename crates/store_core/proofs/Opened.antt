@@ -37,6 +37,7 @@ use Rattle.store_core.specs.Core.{IndexesAll}
 use Rattle.store_core.specs.Opening.{IsNew, IsKept, BeginsAt, IsNewAt, IsNotRead, IsReadFrom, LeavesUnread, OpensCore, OpensNone, StaysOrStops, WritesUnread}
 use Rattle.store_core.specs.Runs.{IsSafeIn}
 use Rattle.store_core.specs.State.{CoreState, IsUnderWayIn, IsUp, UnlessStopped, IsRunning}
+use Rattle.store_core.proofs.Rooms.{has_room}
 use Rattle.store_core.proofs.SafeSteps.{alone}
 
 pub new_core : (shown : (List ℕ → Type 0) → Type 0) (size : ℕ) (o : OpenStore) (c : CoreState) → IsOpened shown size o → c.disk.size ≡ size
@@ -63,7 +64,7 @@ new_runs shown size c same is = subst (λ (stop : Option Stop). UnlessStopped st
   runs = record { store = is.store; represents = alone is.store c.known c.tables is.represents; valid = subst (λ (n : ℕ). IsValidFor n is.store) (sym same) is.valid; has_free = omega (arith, is.reserve) };
   many = ap length is.parts_are ∙ length-replicate ACTORS Idle;
   served = is.served;
-  under_way = subst (IsUnderWayIn c.tables.held) (sym is.collection_is) tt;
+  under_way = subst (IsUnderWayIn c.tables.held) (sym is.collection_is) (has_room is.store.held c.tables.held is.represents.slots_hold is.valid.headers is.reserve);
 })
 
 -- ---- one over a store that was opened, with room that may have been made
@@ -214,7 +215,7 @@ begins_at S stored image v c new durable reads told is =
           has_free = omega (arith, is.reserve);
         };
         many = ap length new.parts_are ∙ length-replicate ACTORS Idle;
-        under_way = subst (IsUnderWayIn c.tables.held) (sym new.collection_is) tt;
+        under_way = subst (IsUnderWayIn c.tables.held) (sym new.collection_is) (has_room new.store.held c.tables.held new.represents.slots_hold new.valid.headers new.reserve);
         safe = λ bytes told_here. subst (IsSafeIn new.told.0 is.store c.parts bytes) (sym new.collection_is) tt;
       };
       reserve = is.reserve;

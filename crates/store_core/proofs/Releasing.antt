@@ -1,19 +1,23 @@
 -- What the steps of a collection give back, where no other steps come between them.
-use Rattle.std.proofs.Common.{◌≡◌, inl, inr, ℕ, ◌+◌, List, [], ◌∷◌, ◌++◌, length, Option, Some, None, Result, Ok, Err, refl, sym, ◌∙◌, ap, ap₂, subst}
-use Rattle.std.proofs.lemmas.List.{length-append}
+use Rattle.std.proofs.Common.{◌≡◌, ℕ, ◌+◌, List, [], ◌∷◌, ◌++◌, Option, Some, None, Result, Ok, Err, refl, sym, ◌∙◌, ap, ap₂, subst}
 use Rattle.actor_parts.specs.declared.step.Answer.{Answer}
 use Rattle.actor_parts.specs.declared.step.Answer.TheVariants as answers
 use Rattle.actor_parts.specs.StepValue as asked
 use Rattle.actor_parts.specs.StepValue.{StepValue}
 use Rattle.container_meta.specs.Places.{PlaceMap}
+use Rattle.dd_disk.specs.View.{IsLater}
 use Rattle.gc_steps.specs.declared.collection.Collection.{Collection}
 use Rattle.gc_steps.specs.declared.collection.Stage.{Stage}
-use Rattle.gc_steps.specs.declared.collection.Stage.TheVariants.{Copy, End, Filter, Mark, Release, Select}
+use Rattle.gc_steps.specs.declared.collection.Stage.TheVariants.{Filter, Mark, Select, Sweep as SweepStage}
+use Rattle.gc_sweep.specs.declared.sweep.Next.{Next}
+use Rattle.gc_sweep.specs.declared.sweep.Next.TheVariants.{Copy, Flush, Release, End}
+use Rattle.gc_sweep.specs.InTurn.{slot_in_turn}
 use Rattle.gc_steps.specs.Sparing.{Spares}
-use Rattle.gc_steps.specs.Stepping.{phase_at}
+use Rattle.gc_steps.specs.Stepping.{Keeps, phase_at}
 use Rattle.gc_steps.proofs.Sparing.{ready_is_spare}
 use Rattle.gc_steps.proofs.StepSafe.{IsStoreAfter}
 use Rattle.refusals.specs.declared.refusal.Phase.{Phase}
+use Rattle.refusals.specs.declared.refusal.Phase.TheVariants as phases
 use Rattle.refusals.specs.declared.refusal.Refusal.{Refusal}
 use Rattle.refusals.specs.declared.refusal.Refusal.TheVariants as refusals
 use Rattle.store_model.specs.Collisions.{HasNoCollisions, ByteSet, IsIn}
@@ -21,48 +25,45 @@ use Rattle.store_model.specs.Files.{Stored}
 use Rattle.store_model.specs.Freeing.{with_freed}
 use Rattle.store_model.specs.Image.{Store}
 use Rattle.store_model.specs.Reserve.{IsReachable, IsSpare}
-use Rattle.store_model.specs.Steps.{StoreChange}
+use Rattle.store_model.specs.Steps.{StoreChange, SealContainer, ChangeName, FlushContainer, FreeContainer, with_sealed}
 use Rattle.store_core.specs.Bounds.{starts}
-use Rattle.store_core.specs.Collecting.{GcEffect, GcRow, GoesOn, HasEnded, IsNotMade, TouchesBy}
+use Rattle.store_core.specs.Collecting.{GcEffect, GcRow, GoesOn, HasEnded, IsNotMade, TouchesBy, at_moment}
 use Rattle.store_core.specs.Core.{Steps, StopsAfter}
-use Rattle.store_core.specs.Releases.{AreGcSteps, FreesSpare, LeavesNoneSpare, ReleasesSpare, ends_with, released_by}
+use Rattle.store_core.specs.Releases.{AreGcSteps, LeavesNoneSpare, ReleasesSpare, SweepsSpare, ends_with, freed_in, released_by}
 use Rattle.store_core.specs.Runs.{AreChangesBy, ChangesTo, FileEvent, FileRun, FileStep, IsAt, stored_by, stored_with}
 use Rattle.store_core.specs.State.{CoreState}
 use Rattle.store_core.proofs.AnySteps.{any_step, with_step}
+use Rattle.store_core.proofs.Counted.{Counts, IsQuiet, changed_by, counts_refused, counts_step, freed_then}
 use Rattle.store_core.proofs.CoreRuns.{running_step, was_running}
 use Rattle.store_core.proofs.KeepingFiles.{run_running}
 use Rattle.store_core.proofs.SafeSteps.{one_map_at}
 use Rattle.store_model.proofs.Once.{store_once}
 use Rattle.store_state.specs.Invariant.{CoreInvariant}
-use Rattle.store_core.proofs.GcSteps.{phase_is}
+use Rattle.store_core.proofs.GcSteps.{phase_of}
 use Rattle.store_core.proofs.Leading.{Leads}
-use Rattle.store_core.proofs.SparedRest.{begun_spares, did_spares, ended_spares, led_to, refused_known, refused_spares}
+use Rattle.store_core.proofs.SparedRest.{same_some, begun_spares, did_spares, ended_spares, led_to, refused_known, refused_spares}
 
--- ---- lists of containers that are given back
+-- ---- what a collection changes alone
 
-frees_then : (P : List ℕ → Type 0) (slots more : List ℕ) (s t u : Store) → FreesSpare P slots s t → FreesSpare P more t u → FreesSpare P (slots ++ more) s u
-frees_then P [] more s t u first rest = subst (λ (x : Store). FreesSpare P more x u) first rest
-frees_then P (slot ∷ slots) more s t u first rest = (first.0, frees_then P slots more (with_freed slot s) t u first.1 rest)
+pub sweeps_then : (P : List ℕ → Type 0) (changes more : List StoreChange) (s t u : Store) → SweepsSpare P changes s t → SweepsSpare P more t u → SweepsSpare P (changes ++ more) s u
+sweeps_then P [] more s t u first rest = subst (λ (x : Store). SweepsSpare P more x u) first rest
+sweeps_then P (SealContainer id kind segments ∷ changes) more s t u first rest = absurd first
+sweeps_then P (ChangeName name change ∷ changes) more s t u first rest = absurd first
+sweeps_then P (FlushContainer id kind segments ∷ changes) more s t u first rest = (first.0, sweeps_then P changes more (with_sealed id kind segments s) t u first.1 rest)
+sweeps_then P (FreeContainer slot ∷ changes) more s t u first rest = (first.0, sweeps_then P changes more (with_freed slot s) t u first.1 rest)
 
 -- ---- a step
 
--- none is given back but at a release
-no_release : (stage : Stage) → ((next slot : ℕ) → stage ≡ Release next slot → ⊥) → released_by (Ok (answers.Did (phase_at stage))) ≡ 0
-no_release (Mark level slot) none = refl
-no_release (Filter slot) none = refl
-no_release Select none = refl
-no_release (Copy source) none = refl
-no_release (Release next slot) none = absurd (none next slot refl)
-no_release End none = refl
+-- the collection that runs, if one does, counts these changes
+abbrev pub CountsIn : List StoreChange → Option Collection → Option Collection → Type 0
+CountsIn changes was now = (before after : Collection) → was ≡ Some before → now ≡ Some after → IsQuiet before → Counts changes before after
 
--- What a step gave back: one container, or none.
-record Gives (P : List ℕ → Type 0) (answer : Result Answer Refusal) (s t : Store) : Type 0 where
-  slots : List ℕ
-  many : length slots ≡ released_by answer
-  chain : FreesSpare P slots s t
-
-gives_none : (P : List ℕ → Type 0) (answer : Result Answer Refusal) (s t : Store) → released_by answer ≡ 0 → t ≡ s → Gives P answer s t
-gives_none P answer s t none same = record { slots = []; many = sym none; chain = same }
+-- What a step of a collection changed: it gave a container back, or wrote one, or nothing; and the collection counts it.
+pub record Gives (P : List ℕ → Type 0) (answer : Result Answer Refusal) (s t : Store) (was now : Option Collection) : Type 0 where
+  pub changes : List StoreChange
+  pub many : freed_in changes ≡ released_by answer
+  pub chain : SweepsSpare P changes s t
+  pub counts : CountsIn changes was now
 
 -- the collection that runs, if one does, spares what is needed
 abbrev SparesIn : (List ℕ → Type 0) → PlaceMap → Store → Option Collection → Type 0
@@ -74,13 +75,13 @@ module _ (among : ByteSet) (distinct : HasNoCollisions (IsIn among)) (f : FileEv
   abbrev Needs : List ℕ → Type 0
   Needs = IsReachable stored.files
 
-  leads : Leads (IsIn among) s f (stored_by f stored) old new
+  pub leads : Leads (IsIn among) s f (stored_by f stored) old new
   leads = any_step among distinct f s stored old new step at stays
 
   abbrev t : Store
   t = leads.next.store
 
-  after : IsAt (IsIn among) t stored new
+  pub after : IsAt (IsIn among) t stored new
   after = subst (λ (x : Stored). IsAt (IsIn among) t x new) (ap (λ (st : StepValue). stored_with st f.event.answer f.bytes stored) is) leads.next.is_at
 
   steps : Steps (with_step f asked.GcStep).event old new
@@ -96,36 +97,92 @@ module _ (among : ByteSet) (distinct : HasNoCollisions (IsIn among)) (f : FileEv
   was = at.invariant at.stands.known.0 at.stands.known.1
 
   -- that was made
-  module _ (phase : Phase) (goes : GoesOn phase old new) (touches : TouchesBy old.collection (Ok (answers.Did phase)) old new.disk) where
-    stage_of : phase_at goes.before.stage ≡ phase
-    stage_of = phase_is goes.before.stage goes.before.freed phase goes.phase_is
+  module _ (phase : Phase) (goes : GoesOn phase old new) (touches : TouchesBy old.collection (Ok (answers.Did phase)) old new.disk) (later : IsLater old.disk new.disk) where
+    abbrev c : Collection
+    c = goes.before
 
-    by_store : IsStoreAfter goes.before.stage at.index s t → Gives Needs (Ok (answers.Did phase)) s t
-    by_store (inl same) =
-        gives_none Needs (Ok (answers.Did phase)) s t
-        (ap (λ (p : Phase). released_by (Ok (answers.Did p))) (sym stage_of) ∙ no_release goes.before.stage same.0) same.1
-    by_store (inr frees) = record {
-      slots = frees.slot ∷ [];
-      many = ap (λ (stage : Stage). released_by (Ok (answers.Did (phase_at stage)))) (sym frees.stage_is) ∙ ap (λ (p : Phase). released_by (Ok (answers.Did p))) stage_of;
-      chain = (ready_is_spare at.index s stored.files frees.slot frees.header frees.there was.index_is_newest was.files_are_indexed frees.none, frees.now_is);
+    counted : (id : ℕ) → CountsIn (changed_by c.stage c.sweep.next c.sweep id) old.collection new.collection
+    counted id b a ran runs quiet =
+        let same_before : c ≡ b = same_some c b old.collection goes.ran ran in
+        let same_after : goes.after ≡ a = same_some goes.after a new.collection goes.runs runs in
+        subst (λ (x : Collection). Counts (changed_by c.stage c.sweep.next c.sweep id) x a) same_before
+        (subst (λ (x : Collection). Counts (changed_by c.stage c.sweep.next c.sweep id) c x) same_after
+        (counts_step old new c goes.after (subst IsQuiet (sym same_before) quiet) id c.stage c.sweep.next refl goes.steps))
+
+    abbrev Given : Stage → Next → Type 0
+    Given stage next = ((id : ℕ) → CountsIn (changed_by stage next c.sweep id) old.collection new.collection) → Gives Needs (Ok (answers.Did (phase_at stage next))) s t old.collection new.collection
+
+    none_given : (phase : Phase) → released_by (Ok (answers.Did phase)) ≡ 0 → t ≡ s → CountsIn [] old.collection new.collection → Gives Needs (Ok (answers.Did phase)) s t old.collection new.collection
+    none_given phase none same counts = record { changes = []; many = sym none; chain = same; counts = counts }
+
+    by_stage : (stage : Stage) (next : Next) → IsStoreAfter stage next c.sweep at.index s t at.stands.known.0 → Given stage next
+    by_stage (Mark level slot) next same counts = none_given phases.Mark refl same (counts 0)
+    by_stage (Filter slot) next same counts = none_given phases.Filter refl same (counts 0)
+    by_stage Select next same counts = none_given phases.Select refl same (counts 0)
+    by_stage SweepStage (Copy source entry) same counts = none_given phases.Copy refl same (counts 0)
+    by_stage SweepStage (Flush source entry) flushes counts = record {
+      changes = FlushContainer flushes.id c.sweep.buffer.kind c.sweep.buffer.segments ∷ [];
+      many = refl;
+      chain = (flushes.can, flushes.now_is);
+      counts = counts flushes.id;
     }
+    by_stage SweepStage (Release source entry) frees counts = record {
+      changes = FreeContainer (slot_in_turn c.sweep) ∷ [];
+      many = refl;
+      chain = (ready_is_spare at.index s stored.files (slot_in_turn c.sweep) frees.header frees.there was.index_is_newest was.files_are_indexed frees.none, frees.now_is);
+      counts = counts 0;
+    }
+    by_stage SweepStage End same counts = none_given phases.End refl same (counts 0)
 
-    did_gives : Gives Needs (Ok (answers.Did phase)) s t
-    did_gives = by_store (led_to among s stored old new at t after phase goes touches)
+    did_gives : Gives Needs (Ok (answers.Did phase)) s t old.collection new.collection
+    did_gives =
+        subst (λ (p : Phase). Gives Needs (Ok (answers.Did p)) s t old.collection new.collection) (phase_of c phase goes.phase_is)
+        (by_stage c.stage c.sweep.next (led_to among s stored old new at t after phase goes touches later) counted)
 
     did_on : SparesIn Needs at.index s old.collection → SparesIn Needs after.index t new.collection
     did_on spares =
         subst (SparesIn Needs after.index t) (sym goes.runs)
-        (did_spares among s stored old new at t after phase goes touches after.index after.index_known (subst (SparesIn Needs at.index s) goes.ran spares))
+        (did_spares among s stored old new at t after phase goes touches later after.index after.index_known (subst (SparesIn Needs at.index s) goes.ran spares))
 
-  gives_by : (a : Result Answer Refusal) → AreChangesBy asked.GcStep a leads.changes → GcRow a old new → GcEffect a old new → Gives Needs a s t
-  gives_by (Ok (answers.Did phase)) are row effect = did_gives phase row.0 effect.touches
-  gives_by (Ok (answers.Done freed copied)) are row effect = gives_none Needs (Ok (answers.Done freed copied)) s t refl (same_store are)
-  gives_by (Err refusal) are row effect = gives_none Needs (Err refusal) s t refl (same_store are)
+  -- that was refused, where one runs
+  refused_counts : (refusal : Refusal) → IsNotMade refusal old new → CountsIn [] old.collection new.collection
+  refused_counts refusal row b a ran runs quiet =
+      let same_before : row.before ≡ b = same_some row.before b old.collection row.ran ran in
+      let same_after : row.after ≡ a = same_some row.after a new.collection row.runs runs in
+      counts_refused old new b a refusal quiet
+      (subst (λ (x : Collection). Keeps b.stage b.sweep.next (at_moment old b) (at_moment new x) refusal) same_after
+      (subst (λ (x : Collection). Keeps x.stage x.sweep.next (at_moment old x) (at_moment new row.after) refusal) same_before row.kept))
+
+  gives_by : (a : Result Answer Refusal) → AreChangesBy asked.GcStep a leads.changes → GcRow a old new → GcEffect a old new → Gives Needs a s t old.collection new.collection
+  gives_by (Ok (answers.Did phase)) are row effect = did_gives phase row.0 effect.touches effect.later
+  gives_by (Ok (answers.Done freed copied)) are row effect = record {
+    changes = [];
+    many = refl;
+    chain = same_store are;
+    counts = λ b a ran runs. absurd (let wrong : None ≡ Some a = sym row.0.ended ∙ runs in cc);
+  }
+  gives_by (Err refusals.NotCollecting) are row effect = record {
+    changes = [];
+    many = refl;
+    chain = same_store are;
+    counts = λ b a ran runs. absurd (let wrong : None ≡ Some b = sym row.0.none_ran ∙ ran in cc);
+  }
+  gives_by (Err refusal) are row effect = record { changes = []; many = refl; chain = same_store are; counts = refused_counts refusal row.0 }
   gives_by a are row effect = absurd row
 
-  gives : Gives Needs f.event.answer s t
+  pub gives : Gives Needs f.event.answer s t old.collection new.collection
   gives = gives_by f.event.answer told steps.made.row steps.made.effect
+
+  -- where none runs, none does
+  idle_by : (a : Result Answer Refusal) → GcRow a old new → old.collection ≡ None → new.collection ≡ None
+  idle_by (Ok (answers.Did phase)) row none = absurd (let wrong : None ≡ Some row.0.before = sym none ∙ row.0.ran in cc)
+  idle_by (Ok (answers.Done freed copied)) row none = row.0.ended
+  idle_by (Err refusals.NotCollecting) row none = row.0.none_runs
+  idle_by (Err refusal) row none = absurd (let wrong : None ≡ Some row.0.before = sym none ∙ row.0.ran in cc)
+  idle_by a row none = absurd row
+
+  pub idle_on : old.collection ≡ None → new.collection ≡ None
+  idle_on = idle_by f.event.answer steps.made.row
 
   -- that was refused
   whole : (refusal : Refusal) → StopsAfter asked.GcStep (Err refusal) old.acknowledged new.stop → refusal ≡ refusals.DiskWrite → ⊥
@@ -144,7 +201,7 @@ module _ (among : ByteSet) (distinct : HasNoCollisions (IsIn among)) (f : FileEv
 
   spares_by : (a : Result Answer Refusal) → AreChangesBy asked.GcStep a leads.changes → GcRow a old new → GcEffect a old new → StopsAfter asked.GcStep a old.acknowledged new.stop
       → SparesIn Needs at.index s old.collection → SparesIn Needs after.index t new.collection
-  spares_by (Ok (answers.Did phase)) are row effect stops spares = did_on phase row.0 effect.touches spares
+  spares_by (Ok (answers.Did phase)) are row effect stops spares = did_on phase row.0 effect.touches effect.later spares
   spares_by (Ok (answers.Done freed copied)) are row effect stops spares = subst (SparesIn Needs after.index t) (sym row.0.ended) tt
   spares_by (Err refusals.NotCollecting) are row effect stops spares = subst (SparesIn Needs after.index t) (sym row.0.none_runs) tt
   spares_by (Err refusal) are row effect stops spares = refused_on refusal are row.0 stops spares
@@ -160,7 +217,7 @@ module _ (C : Type 0) (state : C → CoreState) where
   releases_spare among [] s stored old new distinct at run all stays = record {
     store = s;
     is_at = subst (λ (c : C). IsAt (IsIn among) s stored (state c)) (sym run) at;
-    slots = [];
+    changes = [];
     many = refl;
     chain = refl;
   }
@@ -172,9 +229,9 @@ module _ (C : Type 0) (state : C → CoreState) where
       record {
         store = rest.store;
         is_at = rest.is_at;
-        slots = one.slots ++ rest.slots;
-        many = length-append one.slots rest.slots ∙ ap₂ (λ (a b : ℕ). a + b) one.many rest.many;
-        chain = frees_then (IsReachable stored.files) one.slots rest.slots s (leads among distinct f s stored (state old) (state run.0) all.0 run.1.0 at on).next.store rest.store one.chain rest.chain;
+        changes = one.changes ++ rest.changes;
+        many = freed_then one.changes rest.changes ∙ ap₂ (λ (a b : ℕ). a + b) one.many rest.many;
+        chain = sweeps_then (IsReachable stored.files) one.changes rest.changes s (leads among distinct f s stored (state old) (state run.0) all.0 run.1.0 at on).next.store rest.store one.chain rest.chain;
       }
 
   -- where the steps lead the collection that runs spares what is needed

@@ -13,6 +13,7 @@ use Rattle.disk_format.specs.Cells.Change.{Delete, Put}
 use Rattle.disk_format.specs.Layout.{half_cells, size_of, slot_at}
 use Rattle.disk_format.specs.declared.numbers.TheConstants.{HEADER_BYTES, RESERVE, SLOT_BYTES}
 use Rattle.actor_parts.specs.declared.step.Answer.{Answer}
+use Rattle.actor_parts.specs.declared.step.Answer.TheVariants as answers
 use Rattle.actor_parts.specs.StepValue as asked
 use Rattle.actor_parts.specs.StepValue.{StepValue}
 use Rattle.journal_cells.specs.Journal.{JournalValue}
@@ -21,7 +22,7 @@ use Rattle.refusals.specs.declared.refusal.Refusal.TheVariants as refusals
 use Rattle.store_model.specs.Image.{Store, Encodes}
 use Rattle.store_model.specs.Freeing.{with_freed}
 use Rattle.store_model.specs.Slots.{HoldsSlot, first_free, free_slots, without_slot}
-use Rattle.store_model.specs.Steps.{StoreChange, SealContainer, ChangeName, FreeContainer, with_change, with_sealed}
+use Rattle.store_model.specs.Steps.{StoreChange, SealContainer, ChangeName, FlushContainer, FreeContainer, with_change, with_sealed}
 use Rattle.store_model.proofs.Valid.{free_sealed}
 use Rattle.store_model.proofs.Freed.{slot_held}
 use Rattle.store_state.specs.Settled.{IsSettled}
@@ -140,13 +141,26 @@ free_more zero (Some h ∷ cs) = omega arith
 free_more (suc slot) (None ∷ cs) = omega (arith, free_more slot cs)
 free_more (suc slot) (Some h ∷ cs) = free_more slot cs
 
--- changes leave as many slots as the reserve has
-pub enough_after : (changes : List StoreChange) (s t : Store) → ChangesTo changes s t → RESERVE ≤ free_slots s.held → RESERVE ≤ free_slots t.held
-enough_after [] s t chain enough = subst (λ (x : Store). RESERVE ≤ free_slots x.held) (sym chain) enough
-enough_after (SealContainer id kind segments ∷ rest) s t chain enough =
-    enough_after rest (with_sealed id kind segments s) t chain.1 (omega (arith, chain.0.slot, free_sealed id kind segments s chain.0))
-enough_after (ChangeName name change ∷ rest) s t chain enough = enough_after rest (with_change name change s) t chain.1 enough
-enough_after (FreeContainer slot ∷ rest) s t chain enough = enough_after rest (with_freed slot s) t chain.1 (omega (arith, enough, free_more slot s.held))
+-- no container of copies is written
+abbrev NoneFlushed : List StoreChange → Type 0
+NoneFlushed [] = Unit {0}
+NoneFlushed (FlushContainer id kind segments ∷ rest) = ⊥
+NoneFlushed (change ∷ rest) = NoneFlushed rest
+
+none_flushed : (step : StepValue) (answer : Result Answer Refusal) → NoneFlushed (changes_by step answer)
+none_flushed (asked.Seal filled) (Ok (answers.Sealed id)) = tt
+none_flushed (asked.Commit name root) (Ok answer) = tt
+none_flushed (asked.Delete name) (Ok answer) = tt
+none_flushed step answer = tt
+
+-- other changes leave as many slots as the reserve has
+pub enough_after : (changes : List StoreChange) (s t : Store) → NoneFlushed changes → ChangesTo changes s t → RESERVE ≤ free_slots s.held → RESERVE ≤ free_slots t.held
+enough_after [] s t none chain enough = subst (λ (x : Store). RESERVE ≤ free_slots x.held) (sym chain) enough
+enough_after (SealContainer id kind segments ∷ rest) s t none chain enough =
+    enough_after rest (with_sealed id kind segments s) t none chain.1 (omega (arith, chain.0.slot, free_sealed id kind segments s chain.0))
+enough_after (ChangeName name change ∷ rest) s t none chain enough = enough_after rest (with_change name change s) t none chain.1 enough
+enough_after (FlushContainer id kind segments ∷ rest) s t none chain enough = absurd none
+enough_after (FreeContainer slot ∷ rest) s t none chain enough = enough_after rest (with_freed slot s) t none chain.1 (omega (arith, enough, free_more slot s.held))
 
 module _ (t : Store) (given : List ℕ) (old new : CoreState) (roomy : IsRoomy t given old) where
   abbrev on : IsOn t old
@@ -187,7 +201,7 @@ module _ (t : Store) (given : List ℕ) (old new : CoreState) (roomy : IsRoomy t
                 let below : slot < length t.held = omega (arith, within next.after.held slot None is, many) in
                 let was = was_closed next slot is (there t.held slot below) in
                 still_closed slot given bytes (adds.slots slot (subst (λ (n : ℕ). slot < n) on.valid.many below) (is ∙ sym was)) (roomy.closed slot was (λ no. no));
-            enough = enough_after (changes_by e.step e.answer) t next.after next.chain roomy.enough;
+            enough = enough_after (changes_by e.step e.answer) t next.after (none_flushed e.step e.answer) next.chain roomy.enough;
           },
         ),
       )

@@ -1,5 +1,5 @@
 -- A core that runs runs on, or is stopped.
-use Rattle.gc_steps.proofs.Sealed.{sealed}
+use Rattle.gc_steps.proofs.Sealed.{room_on, sealed}
 use Rattle.actor_parts.specs.declared.step.Answer.TheVariants as answers
 use Rattle.std.proofs.Common.{◌≡◌, ℕ, List, [], ◌∷◌, length, Option, Some, None, Result, Ok, Err, refl, sym, ◌∙◌, ap, subst, arith, ◌<◌, ◌≤◌, slice_get}
 use Rattle.dd_disk.specs.View.{IsLater}
@@ -15,17 +15,23 @@ use Rattle.container_meta.specs.Segments.{Contents, KindSegment}
 use Rattle.store_state.specs.declared.tables.Tables.{Tables}
 use Rattle.store_state.specs.Tables.{Runs, IsFirstFree}
 use Rattle.store_core.specs.declared.stop.Stop.{Stop}
-use Rattle.store_core.specs.Core.{Effect, KeepsTables, KeepsUnlessBroken, StopsAfter, Steps, StepsOr, CoreStep, CommitRow, DeleteRow, Makes, NamesOne, Rests, Row, SealRow, SealsOne, next_id}
+use Rattle.store_core.specs.Core.{Effect, KeepsTables, KeepsUnlessBroken, StopsAfter, Steps, StepsOr, CoreStep, CommitRow, DeleteRow, Makes, MakesAlone, NamesOne, Rests, Row, SealRow, SealsOne, next_id}
 use Rattle.store_core.specs.Runs.{RunsOn}
 use Rattle.store_core.specs.State.{CoreState, Event, IsUp, UnlessStopped, IsRunning, IsUnderWayIn}
+use Rattle.store_core.proofs.Rooms.{free_held}
 use Rattle.store_core.proofs.Stepping.{ChangesOne, row_one}
 use Rattle.gc_steps.specs.declared.collection.Collection.{Collection}
-use Rattle.store_core.specs.Collecting.{Collects, GcRow, IsKeptKey, MarksIn, StartRow}
+use Rattle.store_core.specs.Collecting.{Collects, GcRow, IsKeptKey, MarksIn, StartRow, at_moment}
 use Rattle.store_model.specs.Slots.{free_slots, first_free}
 use Rattle.disk_format.specs.Cells.Change.{Delete, Put}
-use Rattle.gc_steps.specs.declared.collection.Stage.TheVariants.{End, Filter, Mark, Release, Select, Copy}
+use Rattle.gc_steps.specs.declared.collection.Stage.TheVariants.{Filter, Mark, Select, Sweep as SweepStage}
+use Rattle.gc_sweep.specs.declared.sweep.Next.{Next}
+use Rattle.gc_sweep.specs.declared.sweep.Next.TheVariants.{Copy as CopyNext, Flush, Release, End}
+use Rattle.gc_sweep.specs.UnderWay.{free_in}
+use Rattle.disk_format.specs.declared.numbers.TheConstants.{RESERVE}
 use Rattle.container_meta.specs.Spelling.{HeaderValue, header_of}
 use Rattle.disk_format.specs.Cells.{Root}
+use Rattle.store_model.specs.Image.{Store}
 use Rattle.store_model.specs.Steps.{SealContainer}
 use Rattle.store_state.specs.declared.slot_table.SlotTable.{SlotTable}
 use Rattle.gc_steps.specs.declared.collection.Stage.{Stage}
@@ -47,17 +53,19 @@ module _ (old new : CoreState) where
   tables_kept refusal kept = kept.tables_are
 
   -- a step of a collection, by its stage
-  stage_runs : (stage : Stage) → IsLater old.disk new.disk → TablesAfter stage old.tables new.tables → Runs old.disk.size None old.tables → Runs new.disk.size None new.tables
-  stage_runs (Mark level slot) later after runs = same_runs later after runs
-  stage_runs (Filter slot) later after runs = same_runs later after runs
-  stage_runs Select later after runs = same_runs later after runs
-  stage_runs (Copy source) later after runs = same_runs later after runs
-  stage_runs (Release next slot) later after runs =
+  stage_runs : (stage : Stage) (next : Next) (c d : Collection) → IsLater old.disk new.disk → TablesAfter stage next (at_moment old c) (at_moment new d) → Runs old.disk.size None old.tables → Runs new.disk.size None new.tables
+  stage_runs (Mark level slot) next c d later after runs = same_runs later after runs
+  stage_runs (Filter slot) next c d later after runs = same_runs later after runs
+  stage_runs Select next c d later after runs = same_runs later after runs
+  stage_runs SweepStage (CopyNext source entry) c d later after runs = same_runs later after runs
+  stage_runs SweepStage (Flush source entry) c d later after runs =
+      subst (λ (size : ℕ). Runs size None new.tables) (sym later.size_is) (after.1.written.runs None (omega arith) runs)
+  stage_runs SweepStage (Release source entry) c d later after runs =
       subst (λ (size : ℕ). Runs size None new.tables) (sym later.size_is) (after.runs old.disk.size None (λ index is. absurd cc) runs)
-  stage_runs End later after runs = same_runs later after runs
+  stage_runs SweepStage End c d later after runs = same_runs later after runs
 
   gc_runs : (answer : Result Answer Refusal) → IsLater old.disk new.disk → GcRow answer old new → Runs old.disk.size None old.tables → Runs new.disk.size None new.tables
-  gc_runs (Ok (answers.Did phase)) later row = stage_runs row.0.before.stage later row.0.tables
+  gc_runs (Ok (answers.Did phase)) later row = stage_runs row.0.before.stage row.0.before.sweep.next row.0.before row.0.after later row.0.tables
   gc_runs (Ok (answers.Done freed copied)) later row = same_runs later row.0.tables_are
   gc_runs (Err refusals.NotCollecting) later row = same_runs later row.0.tables_are
   gc_runs (Err refusal) later row = same_runs later row.0.tables_are
@@ -92,7 +100,7 @@ module _ (old new : CoreState) (stays : new.stop ≡ None) where
 
 -- whichever keys became live
 marked_on : (P : List ℕ → Type 0) (t : SlotTable) (was now : Option Collection) → MarksIn P was now → IsUnderWayIn t was → IsUnderWayIn t now
-marked_on P t None now marks under_way = subst (IsUnderWayIn t) (sym marks) tt
+marked_on P t None now marks under_way = subst (IsUnderWayIn t) (sym marks) under_way
 marked_on P t (Some c) now marks under_way = subst (IsUnderWayIn t) (sym marks.1.0) (live_on t c marks.0 under_way)
 
 -- the closed slot of least number is one
@@ -107,19 +115,31 @@ first_closed (None ∷ cs) some = refl
 first_closed (Some h ∷ cs) some = first_closed cs some
 
 -- a container that is sealed, of any store that the tables alone are of
-sealed_on : (filled : Contents) (id : ℕ) (old new : CoreState) (collection : Option Collection) → Runs old.disk.size None old.tables → Makes (SealContainer (next_id old) filled.kind filled.segments) old new
-    → id ≡ next_id old → new.tables.held.last_id ≡ id → IsUnderWayIn old.tables.held collection → IsUnderWayIn new.tables.held collection
-sealed_on filled id old new None runs made id_is last under_way = tt
-sealed_on filled id old new (Some c) runs made id_is last under_way =
-    let s = runs.store in
-    let now = made.alone.store_has s runs.represents runs.valid runs.has_free in
-    let h : HeaderValue = header_of (next_id old) filled.kind filled.segments in
-    let first : IsFirstFree (first_free s.held) s.held = record {
-      first = refl;
-      within = first_within s.held runs.has_free;
-      closed = first_closed s.held runs.has_free;
-    } in
-    sealed s.held old.tables.held new.tables.held c (first_free s.held) h first runs.represents.slots_hold now.represents.slots_hold (omega (arith, id_is, last)) (omega arith) under_way
+module _ (filled : Contents) (id : ℕ) (old new : CoreState) (runs : Runs old.disk.size None old.tables) (made : Makes (SealContainer (next_id old) filled.kind filled.segments) old new) where
+  abbrev s : Store
+  s = runs.store
+
+  abbrev h : HeaderValue
+  h = header_of (next_id old) filled.kind filled.segments
+
+  now : MakesAlone (SealContainer (next_id old) filled.kind filled.segments) s new.disk.size new.tables
+  now = made.alone.store_has s runs.represents runs.valid runs.has_free
+
+  first : IsFirstFree (first_free s.held) s.held
+  first = record {
+    first = refl;
+    within = first_within s.held runs.has_free;
+    closed = first_closed s.held runs.has_free;
+  }
+
+  spare : RESERVE < free_in old.tables.held
+  spare = omega (arith, now.can.slot, free_held s.held old.tables.held runs.represents.slots_hold runs.valid.headers)
+
+  sealed_on : (collection : Option Collection) → id ≡ next_id old → new.tables.held.last_id ≡ id → IsUnderWayIn old.tables.held collection → IsUnderWayIn new.tables.held collection
+  sealed_on None id_is last under_way =
+      room_on s.held old.tables.held new.tables.held (first_free s.held) h first runs.valid.headers now.can.right runs.represents.slots_hold now.represents.slots_hold spare
+  sealed_on (Some c) id_is last under_way =
+      sealed s.held old.tables.held new.tables.held c (first_free s.held) h first runs.valid.headers now.can.right runs.represents.slots_hold now.represents.slots_hold (omega (arith, id_is, last)) (omega arith) spare under_way
 
 module _ (old new : CoreState) where
   -- nothing of it changes
@@ -137,7 +157,7 @@ module _ (old new : CoreState) where
   sealed_answer : (filled : Contents) (actor : ℕ) (answer : Result Answer Refusal) → Runs old.disk.size None old.tables → SealRow filled actor answer old new → SealsOne filled answer old new → Collects (asked.Seal filled) answer old new
       → IsUnderWayIn old.tables.held old.collection → IsUnderWayIn new.tables.held new.collection
   sealed_answer filled actor (Ok (answers.Sealed id)) runs row effect collects under_way =
-      marked_on (IsKeptKey (asked.Seal filled) (Ok (answers.Sealed id))) new.tables.held old.collection new.collection collects (sealed_on filled id old new old.collection runs effect.made row.id_is row.last_is under_way)
+      marked_on (IsKeptKey (asked.Seal filled) (Ok (answers.Sealed id))) new.tables.held old.collection new.collection collects (sealed_on filled id old new runs effect.made old.collection row.id_is row.last_is under_way)
   sealed_answer filled actor (Err refusal) runs row effect collects under_way =
       subst (λ (t : Tables). IsUnderWayIn t.held new.collection) (sym (tables_kept old new refusal effect.kept)) (marked_on (IsKeptKey (asked.Seal filled) (Err refusal)) old.tables.held old.collection new.collection collects under_way)
   sealed_answer filled actor answer runs row effect collects under_way = absurd row

@@ -15,9 +15,9 @@ use Rattle.gc_steps.specs.declared.collection.Collection.{Collection}
 use Rattle.store_core.specs.Collecting.{Collects, IsKeptKey, MarksIn, StartRow}
 use Rattle.store_model.specs.Slots.{HasKey}
 use Rattle.store_state.specs.Invariant.{CoreInvariant}
-use Rattle.store_core.specs.State.{CoreState}
+use Rattle.store_core.specs.State.{CoreState, IsUnderWayIn}
 use Rattle.disk_format.specs.Cells.Change.{Delete, Put}
-use Rattle.gc_steps.specs.declared.collection.Stage.TheVariants.{End, Filter, Mark, Release, Select, Copy}
+use Rattle.gc_steps.specs.declared.collection.Stage.TheVariants.{Filter, Mark, Select, Sweep}
 use Rattle.std.proofs.Common.{[], Err, List, None, Ok, Option, Result, Some, ap, arith, map, refl, subst, true, ℕ, ◌<◌, ◌↔◌, ◌∙◌, ◌∷◌, ◌≡◌, ◌≢◌, ◌⊎◌, zero, suc, inl, inr, sym, length}
 use Rattle.actor_parts.specs.declared.part.Part.TheVariants.{Idle, Writing}
 use Rattle.store_core.specs.Runs.{IsAt, IsSafeIn}
@@ -91,9 +91,7 @@ module _ (index later : PlaceMap) (s t : Store) (before after : List Part) (old 
   safe_at (Mark level slot) c d both = both.0
   safe_at (Filter slot) c d both = both.1
   safe_at Select c d both = both.1
-  safe_at (Copy source) c d both = both.1
-  safe_at (Release next slot) c d both = both.1
-  safe_at End c d both = both.1
+  safe_at Sweep c d both = both.1
 
   -- the collection is the same
   pub unchanged_safe : (was now : Option Collection) → ((c : Collection) → KeepsBoth index later s t before after old new c c) → now ≡ was → IsSafeIn index s before old was → IsSafeIn later t after new now
@@ -101,11 +99,11 @@ module _ (index later : PlaceMap) (s t : Store) (before after : List Part) (old 
   unchanged_safe (Some c) now both same safe = subst (IsSafeIn later t after new) (sym same) (safe_at c.stage c c (both c) safe)
 
   -- some keys became live
-  pub marked_safe : (P : List ℕ → Type 0) (was now : Option Collection) → ((c : Collection) (live : LiveKeys) → Marks P c.live live → KeepsBoth index later s t before after old new c (record c { live = live })) → MarksIn P was now
+  pub marked_safe : (P : List ℕ → Type 0) (was now : Option Collection) → ((c : Collection) (live : LiveKeys) → was ≡ Some c → Marks P c.live live → KeepsBoth index later s t before after old new c (record c { live = live })) → MarksIn P was now
       → IsSafeIn index s before old was → IsSafeIn later t after new now
   marked_safe P None now both marks safe = subst (IsSafeIn later t after new) (sym marks) tt
   marked_safe P (Some c) now both marks safe =
-      subst (IsSafeIn later t after new) (sym marks.1.0) (safe_at c.stage c (record c { live = marks.0 }) (both c marks.0 marks.1.1) safe)
+      subst (IsSafeIn later t after new) (sym marks.1.0) (safe_at c.stage c (record c { live = marks.0 }) (both c marks.0 refl marks.1.1) safe)
 
 -- no key became live
 unseen : (index : PlaceMap) (store : Store) (parts : List Part) (image : List ℕ) (c : Collection) (live : LiveKeys) → Marks (λ key. ⊥) c.live live
@@ -251,15 +249,15 @@ module _ (among : ByteSet) (s : Store) (stored : Stored) (old new : CoreState) (
       let more : List Part = with_part old.parts actor (Writing (finite.insert may.pins key (pin_of seg))) in
       let within = there (Writing may.pins) may.writing (λ is. cc) in
       marked_safe at.index at.index s s old.parts new.parts image image (IsKeptKey (asked.Claim seg) (Ok answers.Held)) old.collection new.collection
-      (λ c live marks. subst (λ (p : List Part). KeepsBoth at.index at.index s s old.parts p image image c (record c { live = live })) (sym row.claimed.parts_are)
+      (λ c live ran marks. subst (λ (p : List Part). KeepsBoth at.index at.index s s old.parts p image image c (record c { live = live })) (sym row.claimed.parts_are)
       (claimed_key at.index s image stored.files old.parts c live actor may.pins key (pin_of seg) (omega (arith, within, at.many)) within may.writing marks
       (subst (λ (p : List Part). CoreInvariant at.index s stored.files p image) row.claimed.parts_are core) holds)) collects
   claimed_here seg (Ok answers.Absent) row collects core holds =
       marked_safe at.index at.index s s old.parts new.parts image image (IsKeptKey (asked.Claim seg) (Ok answers.Absent)) old.collection new.collection
-      (λ c live marks. none_marked c live marks row.claimed.parts_are) collects
+      (λ c live ran marks. none_marked c live marks row.claimed.parts_are) collects
   claimed_here seg (Err refusal) row collects core holds =
       marked_safe at.index at.index s s old.parts new.parts image image (IsKeptKey (asked.Claim seg) (Err refusal)) old.collection new.collection
-      (λ c live marks. none_marked c live marks row.1) collects
+      (λ c live ran marks. none_marked c live marks row.1) collects
   claimed_here seg answer row collects core holds = absurd row
 
   pub claim_safe : (seg : KindSegment) (answer : Result Answer Refusal) → ClaimRow seg actor answer old new → Rests answer old new → Collects (asked.Claim seg) answer old new → IsSafeFor at.index s stored new
@@ -275,7 +273,7 @@ module _ (among : ByteSet) (s : Store) (stored : Stored) (old new : CoreState) (
       → IsSafeIn at.index s new.parts after new.collection
   unsealed_safe filled refusal row collects after keeps =
       marked_safe at.index at.index s s old.parts new.parts image after (IsKeptKey (asked.Seal filled) (Err refusal)) old.collection new.collection
-      (λ c live marks. both_on at.index at.index at.index s s s old.parts old.parts new.parts image after after c c (record c { live = live }) (kept at.index s image after old.parts c keeps)
+      (λ c live ran marks. both_on at.index at.index at.index s s s old.parts old.parts new.parts image after after c c (record c { live = live }) (kept at.index s image after old.parts c keeps)
       (subst (λ (p : List Part). KeepsBoth at.index at.index s s old.parts p after after c (record c { live = live })) (sym row.1) (unseen at.index s old.parts after c live marks))) collects (at.safe image here)
 
   pub sealed_safe_in : (filled : Contents) (id : ℕ) → SealRow filled actor (Ok (answers.Sealed id)) old new → SealsOne filled (Ok (answers.Sealed id)) old new → Collects (asked.Seal filled) (Ok (answers.Sealed id)) old new
@@ -289,10 +287,10 @@ module _ (among : ByteSet) (s : Store) (stored : Stored) (old new : CoreState) (
       let within = there (Writing may.pins) may.writing (λ is. cc) in
       let here_core = subst (λ (p : List Part). CoreInvariant then t stored.files p after) row.parts_are core in
       marked_safe at.index then s t old.parts new.parts image after (IsKeptKey (asked.Seal filled) (Ok (answers.Sealed id))) old.collection new.collection
-      (λ c live marks. subst (λ (p : List Part). KeepsBoth at.index then s t old.parts p image after c (record c { live = live })) (sym row.parts_are)
+      (λ c live ran marks. subst (λ (p : List Part). KeepsBoth at.index then s t old.parts p image after c (record c { live = live })) (sym row.parts_are)
       (sealed_safe s (next_id old) filled (effect.made.can.store_has s at.represents at.valid (at.invariant image here).has_free) at.index then (effect.made.keeps_keys at.index at.index_known then then_is)
       (λ key none. effect.made.keeps_others at.index at.index_known then then_is key (none_added filled.kind key filled.segments none)) core.index_is_newest
-      image after stored.files old.parts c live actor may.pins more (omega (arith, within, at.many)) within may.writing marks (pins_more filled.kind filled.segments may.pins) keeps here_core holds)) collects (at.safe image here)
+      image after stored.files old.parts c live actor may.pins more (subst (IsUnderWayIn old.tables.held) ran at.under_way).began (omega (arith, within, at.many)) within may.writing marks (pins_more filled.kind filled.segments may.pins) keeps here_core holds)) collects (at.safe image here)
 
   -- ---- a name
 

@@ -7,16 +7,20 @@ use Rattle.container_meta.specs.Places.{PlaceMap}
 use Rattle.gc_enumerate.specs.Scanning.{child_keys}
 use Rattle.gc_steps.specs.declared.collection.Collection.{Collection}
 use Rattle.gc_steps.specs.declared.collection.Stage.{Stage}
-use Rattle.gc_steps.specs.declared.collection.Stage.TheVariants.{Copy, End, Filter, Mark, Release, Select}
+use Rattle.gc_steps.specs.declared.collection.Stage.TheVariants.{Filter, Mark, Select, Sweep}
+use Rattle.gc_sweep.specs.declared.sweep.Next.{Next}
+use Rattle.gc_sweep.specs.declared.sweep.Next.TheVariants.{Copy, Flush, Release, End}
 use Rattle.gc_steps.specs.LiveTrees.{HoldsNode}
+use Rattle.gc_steps.specs.Safety.{IsSafe}
 use Rattle.gc_steps.specs.Roots.{IsActorKey, IsNameKey, IsRoot}
 use Rattle.gc_steps.specs.Stages.{mark_level}
+use Rattle.dd_disk.specs.View.{IsLater}
 use Rattle.disk_format.specs.declared.numbers.TheConstants.{MOST_LEVEL}
 use Rattle.gc_steps.specs.Sparing.{IsWithin, Spares}
-use Rattle.gc_steps.specs.Stepping.{IsStepRefusal, Keeps, StepsTo, moment}
+use Rattle.gc_steps.specs.Stepping.{IsStepRefusal, Keeps, StepsTo, TablesAfter, moment}
 use Rattle.gc_steps.specs.UnderWay.{IsUnderWay}
 use Rattle.gc_steps.proofs.FileKeys.{name_reachable, reachable_closed}
-use Rattle.gc_steps.proofs.Sparing.{some_spares, spares_begun, spares_ended, spares_step}
+use Rattle.gc_steps.proofs.Sparing.{held_at, spares_begun, spares_ended, spares_refused, spares_step}
 use Rattle.gc_steps.proofs.StepSafe.{IsStoreAfter, LeavesSafe, step_safe}
 use Rattle.merkle_file.specs.Node.{Contents}
 use Rattle.namespace.specs.Names.{NameMap}
@@ -35,11 +39,12 @@ use Rattle.store_model.proofs.Once.{store_once}
 use Rattle.store_model.proofs.Sound.{last_within}
 use Rattle.store_state.specs.Tables.{Represents}
 use Rattle.store_state.specs.declared.tables.Tables.{Tables}
+use Rattle.store_core.proofs.SafeSteps.{one_map_at}
 use Rattle.store_core.specs.Collecting.{Begins, GoesOn, HasEnded, IsNotMade, TouchesBy, at_moment}
 use Rattle.store_core.specs.Runs.{IsAt, IsSafeIn}
 use Rattle.store_core.specs.State.{CoreState, IsUnderWayIn}
 
-same_some : (a b : Collection) (o : Option Collection) → o ≡ Some a → o ≡ Some b → a ≡ b
+pub same_some : (a b : Collection) (o : Option Collection) → o ≡ Some a → o ≡ Some b → a ≡ b
 same_some a b o one two = let both : Some a ≡ Some b = sym one ∙ two in cc
 
 -- ---- it begins, where no actor is at anything
@@ -91,7 +96,7 @@ module _ (among : ByteSet) (s : Store) (stored : Stored) (old new : CoreState) (
   few = omega (arith, at.many)
 
   -- that was made
-  module _ (t : Store) (after : IsAt (IsIn among) t stored new) (phase : Phase) (goes : GoesOn phase old new) (touches : TouchesBy old.collection (Ok (answers.Did phase)) old new.disk) where
+  module _ (t : Store) (after : IsAt (IsIn among) t stored new) (phase : Phase) (goes : GoesOn phase old new) (touches : TouchesBy old.collection (Ok (answers.Did phase)) old new.disk) (later : IsLater old.disk new.disk) where
     abbrev now : List ℕ
     now = after.stands.known.0
 
@@ -101,60 +106,58 @@ module _ (among : ByteSet) (s : Store) (stored : Stored) (old new : CoreState) (
     under : IsUnderWay old.tables.held c
     under = subst (IsUnderWayIn old.tables.held) goes.ran at.under_way
 
-    steps : StepsTo c.stage (moment old.tables (Some at.index) old.disk c) (at_moment new goes.after)
-    steps = subst (λ (k : Option PlaceMap). StepsTo c.stage (moment old.tables k old.disk c) (at_moment new goes.after)) at.index_known goes.steps
+    steps : StepsTo c.stage c.sweep.next (moment old.tables (Some at.index) old.disk c) (at_moment new goes.after)
+    steps = subst (λ (k : Option PlaceMap). StepsTo c.stage c.sweep.next (moment old.tables k old.disk c) (at_moment new goes.after)) at.index_known goes.steps
 
-    pub leaves : LeavesSafe c.stage at.index s stored.files old.parts content now among new.tables new.known new.disk goes.after
+    tables : TablesAfter c.stage c.sweep.next (moment old.tables (Some at.index) old.disk c) (at_moment new goes.after)
+    tables = subst (λ (k : Option PlaceMap). TablesAfter c.stage c.sweep.next (moment old.tables k old.disk c) (at_moment new goes.after)) at.index_known goes.tables
+
+    pub leaves : LeavesSafe c at.index s stored.files old.parts content now among new.tables new.known new.disk goes.after
     leaves =
         step_safe at.index s stored.files old.parts content now among old.tables new.tables new.known old.disk new.disk c goes.after (at.invariant content told) few shows at.valid told after.stands.known.1 at.stands under
-        (subst (IsSafeIn at.index s old.parts content) goes.ran (at.safe content told)) steps goes.tables (subst (λ (o : Option Collection). TouchesBy o (Ok (answers.Did phase)) old new.disk) goes.ran touches)
+        (subst (IsUnderWayIn new.tables.held) goes.runs after.under_way) (subst (IsSafeIn at.index s old.parts content) goes.ran (at.safe content told)) steps tables (subst (λ (o : Option Collection). TouchesBy o (Ok (answers.Did phase)) old new.disk) goes.ran touches) later
 
     -- the store that it is at is the one that the stage leads to
-    pub led_to : IsStoreAfter c.stage at.index s t
+    pub led_to : IsStoreAfter c.stage c.sweep.next c.sweep at.index s t content
     led_to =
-        subst (IsStoreAfter c.stage at.index s)
+        subst (λ (x : Store). IsStoreAfter c.stage c.sweep.next c.sweep at.index s x content)
         (store_once now leaves.store_now t (leaves.stands.each now (new.disk.as_read now after.stands.known.1)).holds.right (after.stands.each now (new.disk.as_read now after.stands.known.1)).holds.right) leaves.store_is
 
     pub did_spares : (index : PlaceMap) → new.known ≡ Some index → Spares (IsReachable stored.files) at.index s.held c → Spares (IsReachable stored.files) index t.held goes.after
     did_spares index known was =
-        spares_step (IsReachable stored.files) at.index s stored.files content old.tables new.known old.disk new.disk c goes.after stands_for shows told closed was new.tables under steps index known t led_to
+        spares_step (IsReachable stored.files) at.index s stored.files content old.tables new.known old.disk new.disk c goes.after stands_for shows told closed was at.valid (at.invariant content told).has_free under new.tables
+        (held_at at.index s old.parts content c (subst (IsSafeIn at.index s old.parts content) goes.ran (at.safe content told))) steps index known t now led_to
+        (held_at index t new.parts now goes.after
+        (subst (λ (m : PlaceMap). IsSafe m t new.parts now goes.after) (one_map_at after.index index (sym after.index_known ∙ known)) (subst (IsSafeIn after.index t new.parts now) goes.runs (after.safe now after.stands.known.1))))
 
   -- that was refused
-  module _ (refusal : Refusal) (row : IsNotMade refusal old new) (was : Spares (IsReachable stored.files) at.index s.held row.before) where
-    by_stage : (stage : Stage) → row.before.stage ≡ stage → (r : Refusal) → Keeps stage (moment old.tables (Some at.index) old.disk row.before) (at_moment new row.after) r
-        → Spares (IsReachable stored.files) at.index s.held row.after
-    by_stage (Mark level slot) is refusals.Memory (inl same, known) = subst (Spares (IsReachable stored.files) at.index s.held) (sym same) was
-    by_stage (Mark level slot) is refusals.Memory (inr only, known) =
-        some_spares (IsReachable stored.files) at.index s stored.files content old.tables new.known old.disk new.disk row.before row.after stands_for shows told closed was level slot is only
-    by_stage (Mark level slot) is r keeps = subst (Spares (IsReachable stored.files) at.index s.held) (sym keeps.0) was
-    by_stage (Filter slot) is r keeps = subst (Spares (IsReachable stored.files) at.index s.held) (sym keeps.0) was
-    by_stage Select is r keeps = subst (Spares (IsReachable stored.files) at.index s.held) (sym keeps.0) was
-    by_stage (Copy source) is r keeps = subst (Spares (IsReachable stored.files) at.index s.held) (sym keeps.0) was
-    by_stage (Release next slot) is r keeps = subst (Spares (IsReachable stored.files) at.index s.held) (sym keeps) was
-    by_stage End is r keeps = subst (Spares (IsReachable stored.files) at.index s.held) (sym keeps.0) was
-
-    pub refused_spares : Spares (IsReachable stored.files) at.index s.held row.after
-    refused_spares =
-        by_stage row.before.stage refl refusal (subst (λ (k : Option PlaceMap). Keeps row.before.stage (moment old.tables k old.disk row.before) (at_moment new row.after) refusal) at.index_known row.kept)
+  pub refused_spares : (refusal : Refusal) (row : IsNotMade refusal old new) → Spares (IsReachable stored.files) at.index s.held row.before → Spares (IsReachable stored.files) at.index s.held row.after
+  refused_spares refusal row was =
+      spares_refused (IsReachable stored.files) at.index s stored.files content old.tables new.known old.disk new.disk row.before row.after stands_for shows told closed was new.tables refusal
+      (subst (λ (k : Option PlaceMap). Keeps row.before.stage row.before.sweep.next (moment old.tables k old.disk row.before) (at_moment new row.after) refusal) at.index_known row.kept)
 
   -- and the map of the index stays, where no write failed
-  known_by : (stage : Stage) (r : Refusal) (c d : Collection) → (r ≡ refusals.DiskWrite → ⊥) → IsStepRefusal stage (moment old.tables (Some at.index) old.disk c) new.disk r
-      → Keeps stage (moment old.tables (Some at.index) old.disk c) (at_moment new d) r → new.known ≡ Some at.index
-  known_by (Mark level slot) r c d whole cause keeps = keeps.1
-  known_by (Filter slot) r c d whole cause keeps = keeps.1
-  known_by Select r c d whole cause keeps = keeps.1
-  known_by (Copy source) refusals.DiskWrite c d whole cause keeps = absurd (whole refl)
-  known_by (Copy source) (refusals.Damaged at_byte why) c d whole cause keeps = keeps.1 at.index refl
-  known_by (Copy source) r c d whole cause keeps = keeps.1
-  known_by (Release next slot) r c d whole cause keeps = absurd (whole cause)
-  known_by End r c d whole cause keeps = absurd cause
+  known_by : (stage : Stage) (next : Next) (r : Refusal) (c d : Collection) → (r ≡ refusals.DiskWrite → ⊥) → IsStepRefusal stage next (moment old.tables (Some at.index) old.disk c) new.disk r
+      → Keeps stage next (moment old.tables (Some at.index) old.disk c) (at_moment new d) r → new.known ≡ Some at.index
+  known_by (Mark level slot) next r c d whole cause keeps = keeps.1
+  known_by (Filter slot) next r c d whole cause keeps = keeps.1
+  known_by Select next r c d whole cause keeps = keeps.1
+  known_by Sweep (Copy source entry) refusals.DiskWrite c d whole cause keeps = absurd (whole refl)
+  known_by Sweep (Copy source entry) (refusals.Damaged at_byte why) c d whole cause keeps = keeps.1 at.index refl
+  known_by Sweep (Copy source entry) r c d whole cause keeps = keeps.1
+  known_by Sweep (Flush source entry) refusals.DiskWrite c d whole cause keeps = absurd (whole refl)
+  known_by Sweep (Flush source entry) (refusals.Damaged at_byte why) c d whole cause keeps = absurd (let wrong = cause.1 in cc)
+  known_by Sweep (Flush source entry) r c d whole cause keeps = keeps.1
+  known_by Sweep (Release source entry) r c d whole cause keeps = absurd (whole cause)
+  known_by Sweep End r c d whole cause keeps = absurd cause
 
   pub refused_known : (refusal : Refusal) (row : IsNotMade refusal old new) → (refusal ≡ refusals.DiskWrite → ⊥) → new.known ≡ Some at.index
   refused_known refusal row whole =
-      known_by row.before.stage refusal row.before row.after whole
-      (subst (λ (k : Option PlaceMap). IsStepRefusal row.before.stage (moment old.tables k old.disk row.before) new.disk refusal) at.index_known row.cause)
-      (subst (λ (k : Option PlaceMap). Keeps row.before.stage (moment old.tables k old.disk row.before) (at_moment new row.after) refusal) at.index_known row.kept)
+      known_by row.before.stage row.before.sweep.next refusal row.before row.after whole
+      (subst (λ (k : Option PlaceMap). IsStepRefusal row.before.stage row.before.sweep.next (moment old.tables k old.disk row.before) new.disk refusal) at.index_known row.cause)
+      (subst (λ (k : Option PlaceMap). Keeps row.before.stage row.before.sweep.next (moment old.tables k old.disk row.before) (at_moment new row.after) refusal) at.index_known row.kept)
 
   -- that ended it
   pub ended_spares : (freed copied : ℕ) (row : HasEnded freed copied old new) → Spares (IsReachable stored.files) at.index s.held row.before → (slot : ℕ) → ¬ (IsSpare (IsReachable stored.files) s.held slot)
-  ended_spares freed copied row was = spares_ended (IsReachable stored.files) at.index s row.before (shows.index_is_newest at.index refl) row.at_end was
+  ended_spares freed copied row was =
+      spares_ended (IsReachable stored.files) at.index s old.tables.held row.before (subst (IsUnderWayIn old.tables.held) row.ran at.under_way) row.at_end.0 row.at_end.1 was (shows.index_is_newest at.index refl)

@@ -15,12 +15,14 @@ use Rattle.refusals.specs.declared.refusal.Refusal.{Refusal}
 use Rattle.refusals.specs.declared.refusal.Refusal.TheVariants as refusals
 use Rattle.gc_enumerate.specs.Live.{IsLiveAt, LiveKeys}
 use Rattle.gc_steps.specs.declared.collection.Collection.{Collection}
-use Rattle.gc_steps.specs.declared.collection.Stage.TheVariants.{End}
+use Rattle.gc_sweep.specs.declared.sweep.Next.TheVariants.{End}
+use Rattle.gc_sweep.specs.Beginning.{Begins as SweepBegins}
+use Rattle.gc_steps.specs.declared.collection.Stage.TheVariants.{Sweep}
 use Rattle.gc_steps.specs.declared.phase.StepDone.TheVariants.{Did}
 use Rattle.gc_steps.specs.Fresh.{IsAsLive, Unmarks}
 use Rattle.gc_steps.specs.Roots.{IsRoot, Marks}
 use Rattle.gc_steps.specs.Stages.{mark_level}
-use Rattle.gc_steps.specs.Stepping.{IsStepRefusal, Keeps, Moment, StepsTo, TablesAfter, Touches, answer_at, moment, phase_at}
+use Rattle.gc_steps.specs.Stepping.{IsStepRefusal, Keeps, Moment, StepsTo, TablesAfter, Touches, answer_of, moment, phase_at}
 use Rattle.gc_steps.specs.StepsToCome.{Nears, old_from, steps_to_come, trees_from}
 use Rattle.segment_index.specs.Places.{KnownMap}
 use Rattle.store_state.specs.Refused.{blames}
@@ -70,16 +72,16 @@ pub record Begins (percent snapshot : ℕ) (old new : CoreState) : Type 0 where
   pub next_is : collection.snapshot ≡ min (old.tables.held.last_id + 1) (2 ^ 64 - 1)
   pub percent_is : collection.percent ≡ percent
   pub live : (key : List ℕ) (place : Place) → IsLiveAt collection.live key place ↔ IsRoot old.tables.names old.parts key
-  pub nothing_yet : (collection.liveness ≡ []) × (collection.sources.items ≡ []) × (collection.freed ≡ 0)
+  pub nothing_yet : (collection.liveness ≡ []) × SweepBegins old.tables.held [] collection.sweep
   pub under_way : IsUnderWay old.tables.held collection
   pub stage_is : collection.stage ≡ mark_level collection.snapshot old.tables.held MOST_LEVEL
-  -- So many steps come at most: for each level the tree containers, a record of each container, the choice, and two for each source.
+  -- So many steps come at most: for each level the tree containers, a record of each container, the choice, and four for each source.
   pub steps : (chosen : ℕ) → steps_to_come chosen old.tables.held collection
-      ≤ 6 * trees_from collection.snapshot old.tables.held 0 + old_from collection.snapshot old.tables.held 0 + 1 + 2 * chosen
+      ≤ 6 * trees_from collection.snapshot old.tables.held 0 + old_from collection.snapshot old.tables.held 0 + 1 + 4 * chosen
 
 -- one runs, whose next step does this
 abbrev pub IsCollecting : Phase → Option Collection → Type 0
-IsCollecting phase running = (c : Collection) × ((running ≡ Some c) × (phase ≡ phase_at c.stage))
+IsCollecting phase running = (c : Collection) × ((running ≡ Some c) × (phase ≡ phase_at c.stage c.sweep.next))
 
 abbrev pub StartRow : ℕ → Result Answer Refusal → CoreState → CoreState → Type 0
 StartRow percent (Ok (answers.Started snapshot)) old new = Begins percent snapshot old new × (new.parts ≡ old.parts)
@@ -100,20 +102,20 @@ pub record GoesOn (phase : Phase) (old new : CoreState) : Type 0 where
   pub ran : old.collection ≡ Some before
   pub after : Collection
   pub runs : new.collection ≡ Some after
-  pub phase_is : answer_at before.stage before.freed ≡ Did phase
-  pub steps : StepsTo before.stage (at_moment old before) (at_moment new after)
-  pub tables : TablesAfter before.stage old.tables new.tables
-  pub nearer : (chosen : ℕ) → length after.sources.items ≤ chosen
+  pub phase_is : answer_of before ≡ Did phase
+  pub steps : StepsTo before.stage before.sweep.next (at_moment old before) (at_moment new after)
+  pub tables : TablesAfter before.stage before.sweep.next (at_moment old before) (at_moment new after)
+  pub nearer : (chosen : ℕ) → length after.sweep.sources.items ≤ chosen
       → Nears (Did phase) (steps_to_come chosen old.tables.held before) (steps_to_come chosen new.tables.held after)
 
--- It was at its end, and runs no more. Nothing is copied so far.
+-- It was at its end, and runs no more; so many containers were given back, and so many segments copied.
 pub record HasEnded (freed copied : ℕ) (old new : CoreState) : Type 0 where
   pub before : Collection
   pub ran : old.collection ≡ Some before
-  pub at_end : before.stage ≡ End
+  pub at_end : (before.stage ≡ Sweep) × (before.sweep.next ≡ End)
   pub ended : new.collection ≡ None
-  pub freed_is : freed ≡ before.freed
-  pub copied_is : copied ≡ 0
+  pub freed_is : freed ≡ before.sweep.freed
+  pub copied_is : copied ≡ before.sweep.copied
   pub tables_are : new.tables ≡ old.tables
   pub index_is : new.known ≡ old.known
 
@@ -123,8 +125,8 @@ pub record IsNotMade (refusal : Refusal) (old new : CoreState) : Type 0 where
   pub ran : old.collection ≡ Some before
   pub after : Collection
   pub runs : new.collection ≡ Some after
-  pub cause : IsStepRefusal before.stage (at_moment old before) new.disk refusal
-  pub kept : Keeps before.stage (at_moment old before) (at_moment new after) refusal
+  pub cause : IsStepRefusal before.stage before.sweep.next (at_moment old before) new.disk refusal
+  pub kept : Keeps before.stage before.sweep.next (at_moment old before) (at_moment new after) refusal
   pub tables_are : new.tables ≡ old.tables
 
 -- none runs
@@ -144,7 +146,7 @@ GcRow answer old new = ⊥
 -- What it does to the disk, however it ends.
 abbrev pub TouchesBy : Option Collection → Result Answer Refusal → CoreState → DiskView → Type 0
 TouchesBy None answer old new = Reads (ending blames answer) old.disk new
-TouchesBy (Some c) answer old new = Touches c.stage old.tables (ending blames answer) old.disk new
+TouchesBy (Some c) answer old new = Touches c.stage c.sweep.next c.sweep old.tables (ending blames answer) old.disk new
 
 pub record GcEffect (answer : Result Answer Refusal) (old new : CoreState) : Type 0 where
   pub later : IsLater old.disk new.disk

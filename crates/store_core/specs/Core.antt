@@ -33,7 +33,7 @@ use Rattle.store_model.specs.Standing.{IsStoreOf}
 use Rattle.namespace.specs.Listing.{listing_of}
 use Rattle.store_model.specs.Collisions.{ByteSet}
 use Rattle.store_model.specs.Slots.{HasKey, IsIndexOf}
-use Rattle.store_model.specs.Steps.{AnyKey, StoreChange, SealContainer, ChangeName, FreeContainer, CanChange, KeepsCopies, changed}
+use Rattle.store_model.specs.Steps.{AnyKey, StoreChange, SealContainer, ChangeName, FlushContainer, FreeContainer, CanChange, KeepsCopies, changed}
 use Rattle.store_state.specs.Refused.{blames}
 use Rattle.store_state.specs.Settled as settled
 use Rattle.store_state.specs.declared.tables.Tables.{Tables}
@@ -244,12 +244,14 @@ OfEachIndexed size known t P = OfEach size known t (λ store. IndexesAll store k
 abbrev pub IndexesAdded : StoreChange → PlaceMap → Type 0
 IndexesAdded (SealContainer id kind segments) index = AllByRecursion (λ s. HasKey index (segment_key kind s)) segments
 IndexesAdded (ChangeName name change) index = Unit {0}
+IndexesAdded (FlushContainer id kind segments) index = AllByRecursion (λ s. HasKey index (segment_key kind s)) segments
 IndexesAdded (FreeContainer slot) index = Unit {0}
 
 -- a change adds no copy of this key
 abbrev pub AddsNone : StoreChange → List ℕ → Type 0
 AddsNone (SealContainer id kind segments) key = AllByRecursion (λ s. segment_key kind s ≢ key) segments
 AddsNone (ChangeName name change) key = Unit {0}
+AddsNone (FlushContainer id kind segments) key = AllByRecursion (λ s. segment_key kind s ≢ key) segments
 AddsNone (FreeContainer slot) key = Unit {0}
 
 -- It can be made to this store, and the tables, whatever the index has, are those of the changed one.

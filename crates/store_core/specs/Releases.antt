@@ -12,15 +12,31 @@ use Rattle.store_model.specs.Files.{Stored}
 use Rattle.store_model.specs.Freeing.{with_freed}
 use Rattle.store_model.specs.Image.{Store}
 use Rattle.store_model.specs.Reserve.{IsReachable, IsSpare}
+use Rattle.store_model.specs.Steps.{CanFlush, FlushContainer, FreeContainer, StoreChange, with_sealed}
 use Rattle.store_core.specs.Bounds.{starts}
 use Rattle.store_core.specs.Core.{CoreStep}
 use Rattle.store_core.specs.Runs.{FileEvent, FileRun, IsAt}
 use Rattle.store_core.specs.State.{CoreState, Event}
 
--- The containers of these slots are given back, one after the other; each holds the newest copy of no key of which P holds.
-abbrev pub FreesSpare : (List ℕ → Type 0) → List ℕ → Store → Store → Type 0
-FreesSpare P [] s t = t ≡ s
-FreesSpare P (slot ∷ more) s t = IsSpare P s.held slot × FreesSpare P more (with_freed slot s) t
+-- What a collection changes alone, one after the other: a container is given back that holds the newest copy of no key of which P holds, or one
+-- of copies is written beside a slot to spare.
+abbrev pub SweepsSpare : (List ℕ → Type 0) → List StoreChange → Store → Store → Type 0
+SweepsSpare P [] s t = t ≡ s
+SweepsSpare P (FreeContainer slot ∷ more) s t = IsSpare P s.held slot × SweepsSpare P more (with_freed slot s) t
+SweepsSpare P (FlushContainer id kind segments ∷ more) s t =
+    CanFlush id kind segments s × SweepsSpare P more (with_sealed id kind segments s) t
+SweepsSpare P (change ∷ more) s t = ⊥
+
+-- how many containers changes give back, and how many segments those have that they write
+abbrev pub freed_in : List StoreChange → ℕ
+freed_in [] = 0
+freed_in (FreeContainer slot ∷ more) = 1 + freed_in more
+freed_in (change ∷ more) = freed_in more
+
+abbrev pub copied_in : List StoreChange → ℕ
+copied_in [] = 0
+copied_in (FlushContainer id kind segments ∷ more) = length segments + copied_in more
+copied_in (change ∷ more) = copied_in more
 
 -- each is a step of a collection
 abbrev pub AreGcSteps : List FileEvent → Type 0
@@ -35,13 +51,13 @@ abbrev pub released_in : List FileEvent → ℕ
 released_in [] = 0
 released_in (f ∷ fs) = released_by f.event.answer + released_in fs
 
--- The core has come to a store of the same files without some containers, so many, none of which these files need.
+-- The core has come to a store of the same files by such changes: so many containers were given back, none of which these files need.
 pub record HasReleased (S : List ℕ → Type 0) (stored : Stored) (count : ℕ) (s : Store) (c : CoreState) : Type 0 where
   pub store : Store
   pub is_at : IsAt S store stored c
-  pub slots : List ℕ
-  pub many : length slots ≡ count
-  pub chain : FreesSpare (IsReachable stored.files) slots s store
+  pub changes : List StoreChange
+  pub many : freed_in changes ≡ count
+  pub chain : SweepsSpare (IsReachable stored.files) changes s store
 
 -- So it is after steps of a collection, done and refused, where the core isn't stopped: just those that answered so gave a container back.
 abbrev pub ReleasesSpare : (C : Type 0) → (C → CoreState) → Type 0
@@ -63,3 +79,19 @@ LeavesNoneSpare C state = (among : ByteSet) (actor last_actor percent snapshot f
     → FileRun C state (IsIn among) steps mid new → AreGcSteps steps → (state new).stop ≡ None
     → CoreStep (state new) (ends_with last_actor freed copied last_buf) (state last)
     → IsAt (IsIn among) t stored (state new) → (slot : ℕ) → ¬ (IsSpare (IsReachable stored.files) t.held slot)
+
+-- It has come to it by changes that give back so many containers, none of which these files need, and write so many segments.
+pub record HasCollected (S : List ℕ → Type 0) (stored : Stored) (freed copied : ℕ) (s : Store) (c : CoreState) : Type 0 where
+  pub released : HasReleased S stored freed s c
+  pub written : copied_in released.changes ≡ copied
+
+-- So it is where one began, and came to its end with no other steps between: it answers how many containers it gave back, and how many segments
+-- those have that it wrote.
+abbrev pub CollectsAsAnswered : (C : Type 0) → (C → CoreState) → Type 0
+CollectsAsAnswered C state = (among : ByteSet) (actor last_actor percent snapshot freed copied : ℕ) (buf last_buf : List ℕ)
+    (steps : List FileEvent) (s : Store) (stored : Stored) (old mid new last : C)
+    → HasNoCollisions (IsIn among) → IsAt (IsIn among) s stored (state old) → (state old).stop ≡ None
+    → CoreStep (state old) (starts actor percent snapshot buf) (state mid)
+    → FileRun C state (IsIn among) steps mid new → AreGcSteps steps → (state new).stop ≡ None
+    → CoreStep (state new) (ends_with last_actor freed copied last_buf) (state last)
+    → HasCollected (IsIn among) stored freed copied s (state last)

@@ -7,7 +7,9 @@ use Rattle.disk_format.specs.Cells.{Root}
 use Rattle.disk_format.specs.Cells.Change.{Delete, Put}
 use Rattle.dd_disk.specs.Moves.{StandsFor}
 use Rattle.dd_disk.specs.View.{CrashLeaves}
+use Rattle.container_meta.specs.declared.kind.Kind.{Kind}
 use Rattle.container_meta.specs.Places.{PlaceMap}
+use Rattle.container_meta.specs.Segments.{Segment}
 use Rattle.merkle_file.specs.declared.top.Top.{Top}
 use Rattle.merkle_file.specs.Walk.{start_of}
 use Rattle.actor_parts.specs.declared.step.Answer.{Answer}
@@ -24,7 +26,7 @@ use Rattle.store_model.specs.Image.{Store, IsValidFor}
 use Rattle.store_model.specs.Reserve.{AllKeys}
 use Rattle.store_model.specs.Slots.{HasKey}
 use Rattle.segment_index.specs.Places.{KnownMap}
-use Rattle.store_model.specs.Steps.{StoreChange, SealContainer, ChangeName, FreeContainer, CanChange, changed}
+use Rattle.store_model.specs.Steps.{StoreChange, SealContainer, ChangeName, FlushContainer, FreeContainer, CanChange, changed}
 use Rattle.store_model.specs.Trees.{root_of, file_tree, HoldsTree}
 use Rattle.store_state.specs.Invariant.{CoreInvariant}
 use Rattle.store_state.specs.Tables.{Represents}
@@ -136,8 +138,11 @@ abbrev pub changes_of : List FileEvent → List StoreChange
 changes_of [] = []
 changes_of (f ∷ fs) = changes_by f.event.step f.event.answer ++ changes_of fs
 
--- These are the changes of a step: those that its answer tells, and, where a collection gives a container back, of some slot.
+-- These are the changes of a step: those that its answer tells, and, where a collection writes copies or gives a container back, one of
+-- some container or slot.
 abbrev pub AreChangesBy : StepValue → Result Answer Refusal → List StoreChange → Type 0
+AreChangesBy asked.GcStep (Ok (answers.Did phases.Flush)) changes =
+    (id : ℕ) × (kind : Kind) × (segments : List Segment) × (changes ≡ FlushContainer id kind segments ∷ [])
 AreChangesBy asked.GcStep (Ok (answers.Did phases.Release)) changes = (slot : ℕ) × (changes ≡ FreeContainer slot ∷ [])
 AreChangesBy step answer changes = changes ≡ changes_by step answer
 

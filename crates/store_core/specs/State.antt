@@ -14,7 +14,7 @@ use Rattle.store_state.specs.declared.slot_table.SlotTable.{SlotTable}
 use Rattle.store_state.specs.declared.tables.Tables.{Tables}
 use Rattle.store_state.specs.Tables.{Runs}
 use Rattle.gc_steps.specs.declared.collection.Collection.{Collection}
-use Rattle.gc_steps.specs.UnderWay.{IsUnderWay}
+use Rattle.gc_steps.specs.UnderWay.{HasRoom, IsUnderWay}
 use Rattle.store_core.specs.declared.stop.Stop.{Stop}
 
 pub record CoreState : Type 1 where
@@ -34,9 +34,9 @@ pub record CoreState : Type 1 where
   -- how many puts and deletes were acknowledged since the opening
   pub acknowledged : ℕ
 
--- a collection, if one runs, is under way
+-- a collection, if one runs, is under way; else the slots of the reserve are closed
 abbrev pub IsUnderWayIn : SlotTable → Option Collection → Type 0
-IsUnderWayIn t None = Unit {0}
+IsUnderWayIn t None = HasRoom t
 IsUnderWayIn t (Some c) = IsUnderWay t c
 
 -- The tables are those of a store that the disk may hold, with a slot free; the index serves it; each actor has a

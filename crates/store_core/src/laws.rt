@@ -3,7 +3,7 @@ ghost use Rattle.store_core.specs.Bounds.{BoundsSteps};
 ghost use Rattle.store_core.specs.Frame.{AddsAlone, ReserveStays, WrittenStays};
 ghost use Rattle.store_core.specs.Keeping.{KeepsSegments, StaysHeld, StaysSettled};
 ghost use Rattle.store_core.specs.Opening.{IsNewAt};
-ghost use Rattle.store_core.specs.Releases.{LeavesNoneSpare, ReleasesSpare};
+ghost use Rattle.store_core.specs.Releases.{CollectsAsAnswered, LeavesNoneSpare, ReleasesSpare};
 ghost use Rattle.store_core.specs.Runs.{RunsOn, KeepsFiles, GivesTheFile, ReadsAreChecked, EndsAreWhole, SurvivesCrashes, SurvivesSince, KeepsAcknowledged, EndsWithAll};
 ghost use Rattle.store_core.specs.Sound.{NeverDamaged, FindsFiles};
 
@@ -30,10 +30,11 @@ pub fn a_core_bounds_collections<C: HasState>()
 
 /// Over data without collisions, of a core that began at a store: steps of a collection alone give back just containers that the files
 /// don't need, each that answers so one; and where one began while no actor held a key, and came to its end by such steps, none is left.
-/// The function does nothing.
+/// At its end it answers how many it gave back, and how many segments it copied. The function does nothing.
 pub fn a_core_collects_the_rest<C: HasState>()
     ensures spare { ReleasesSpare C C.state }
     ensures none { LeavesNoneSpare C C.state }
+    ensures answered { CollectsAsAnswered C C.state }
 {}
 
 /// Over data without collisions, a core that began at a store and isn't stopped has made exactly the commits, the deletes and

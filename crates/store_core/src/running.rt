@@ -355,7 +355,7 @@ impl<D: Disk, M: Summary> Core<D, M> {
     {
         if let Some(running) = &self.collection {
             return Err(Refusal::Collecting {
-                phase: phase_of(&running.stage),
+                phase: phase_of(running),
             });
         }
         let begun = start(self.alloc, &self.tables, &self.parts, percent)?;
@@ -383,11 +383,11 @@ impl<D: Disk, M: Summary> Core<D, M> {
             buf.bytes_mut(),
         )? {
             StepDone::Did(phase) => Ok(Answer::Did { phase }),
-            StepDone::Done { freed } => {
+            StepDone::Done { freed, copied } => {
                 self.collection = None;
                 Ok(Answer::Done {
                     freed: freed as u64,
-                    copied: 0,
+                    copied: copied as u64,
                 })
             }
         }

@@ -37,6 +37,10 @@ pub record CanHold (spare : ℕ) (id : ℕ) (kind : Kind) (segments : List Segme
 abbrev pub CanSeal : ℕ → Kind → List Segment → Store → Type 0
 CanSeal id kind segments store = CanHold RESERVE id kind segments store
 
+-- one that is filled with copies, which a collection writes, leaves one slot
+abbrev pub CanFlush : ℕ → Kind → List Segment → Store → Type 0
+CanFlush id kind segments store = CanHold 1 id kind segments store
+
 -- a segment that may be sealed: it is of its kind, and, as data, among S
 pub record MaySeal (S : List ℕ → Type 0) (kind : Kind) (s : Segment) : Type 0 where
   pub of_kind : IsOfKind kind s.level s.bytes
@@ -131,18 +135,21 @@ CanFree slot store = (h : HeaderValue) × (slice_get store.held slot ≡ Some (S
 pub data StoreChange : Type 0 where
   SealContainer : (id : ℕ) → (kind : Kind) → (segments : List Segment) → StoreChange
   ChangeName : (name : List ℕ) → (change : Change) → StoreChange
+  FlushContainer : (id : ℕ) → (kind : Kind) → (segments : List Segment) → StoreChange
   FreeContainer : (slot : ℕ) → StoreChange
 
 -- the store after a change
 abbrev pub changed : StoreChange → Store → Store
 changed (SealContainer id kind segments) store = with_sealed id kind segments store
 changed (ChangeName name change) store = with_change name change store
+changed (FlushContainer id kind segments) store = with_sealed id kind segments store
 changed (FreeContainer slot) store = with_freed slot store
 
 -- it can be made
 abbrev pub CanChange : StoreChange → Store → Type 0
 CanChange (SealContainer id kind segments) store = CanSeal id kind segments store
 CanChange (ChangeName name change) store = CanChangeName name change store × IsChange change
+CanChange (FlushContainer id kind segments) store = CanFlush id kind segments store
 CanChange (FreeContainer slot) store = CanFree slot store
 
 -- One store comes from another by a change. Each step of the core names its own.

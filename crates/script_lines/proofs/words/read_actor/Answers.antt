@@ -1,13 +1,22 @@
-use Rattle.std.proofs.Common.{arith, rules}
-use Rattle.std.proofs.lemmas.Bool.Decides.{nat_tests}
-use Rattle.script_lines.proofs.Numbers.{length_is}
+use Rattle.std.proofs.Common.{ltb, sym, ◌∙◌, arith}
+use Rattle.std.proofs.lemmas.Bool.{ltb-true, lt-ltb}
+use Rattle.script_lines.specs.Grammar.{IsActor}
+use Rattle.script_lines.proofs.Numbers.{made_is, made_not, one_number}
 use Rattle.script_lines.proofs.words.read_actor.Goals as goal
-use Rattle.script_lines.proofs.words.read_actor.Goals.{in_default-via-then-word-lt1, in_default-via-else-word-lt1+else-word-lt2+else-word-lt3}
 
-pub returns-in_default-clause-none : goal.returns-in_default-clause-none
-returns-in_default-clause-none c = λ actor small is.
-    let sizes = length_is actor c.args.word.now small is in
-    elim c.in_default.branch [
-      | in_default-via-then-word-lt1 w ↦ search (rules, sizes.0, sizes.1)
-      | in_default-via-else-word-lt1+else-word-lt2+else-word-lt3 w ↦ grind (arith, nat_tests, sizes.0, sizes.1)
-    ]
+pub returns-clause-found : goal.returns-clause-found
+returns-clause-found c =
+    let n = c.in_ok-read_number.field-0 in
+    let read = c.in_ok-read_number.ensures.found in
+    made_is (ltb n 64) c.new.result IsActor n c.args.word.now c.new.ensures (ltb-true n 64) read.1
+
+pub returns-clause-none : goal.returns-clause-none
+returns-clause-none c =
+    let n = c.in_ok-read_number.field-0 in
+    let read = c.in_ok-read_number.ensures.found in
+    made_not (ltb n 64) c.new.result IsActor n c.args.word.now c.new.ensures (lt-ltb n 64)
+    (λ m actor spelled. one_number m n (sym spelled ∙ read.1) (omega (arith, actor)) (omega (arith, read.0)))
+
+pub returns-in_err-read_number-clause-none : goal.returns-in_err-read_number-clause-none
+returns-in_err-read_number-clause-none c =
+    rw c.from_residual.ensures (λ actor small is. c.in_err-read_number.ensures.none actor (omega (arith, small)) is)

@@ -1,0 +1,75 @@
+-- A collection that ran out of ids once room was made: so it is from the store on of which room was made.
+use Rattle.std.proofs.Common.{◌≡◌, ◌+◌, ◌≤◌, ℕ, List, [], ◌∷◌, ◌++◌, Option, Some, sym, ◌∙◌, subst, arith}
+use Rattle.base_model.specs.Known.{KnownWith}
+use Rattle.dd_disk.specs.View.{DiskView}
+use Rattle.dd_disk.proofs.Shows.{shown_content}
+use Rattle.disk_format.specs.declared.numbers.TheConstants.{LAST_ID}
+use Rattle.recovery.specs.Room.{RoomMade}
+use Rattle.refusals.specs.declared.refusal.Refusal.TheVariants.{Numbers}
+use Rattle.reply_text.specs.declared.ending.Ending.{Ending}
+use Rattle.reply_text.specs.declared.ending.Ending.TheVariants.{Refused}
+use Rattle.store_core.specs.Releases.{SweepsSpare}
+use Rattle.store_model.specs.Collisions.{ByteSet, IsIn, OpensAs}
+use Rattle.store_model.specs.Files.{Files, Stored}
+use Rattle.store_model.specs.Freeing.{FreesTo, with_all_freed, with_freed}
+use Rattle.store_model.specs.Image.{Store, Encodes}
+use Rattle.store_model.specs.Slots.{last_id}
+use Rattle.store_model.specs.Steps.{FreeContainer, StoreChange}
+use Rattle.store_model.proofs.Once.{store_once}
+use Rattle.store_state.proofs.Taken.{last_without}
+use Rattle.backup_engine.specs.Collected.{HasNoIdLeft, written_in}
+use Rattle.backup_engine.specs.Line.{CommandLine, Collect}
+use Rattle.backup_engine.specs.Promise.{EndsFrom}
+
+-- containers that were given back, as changes of a store
+frees : List ℕ → List StoreChange
+frees [] = []
+frees (slot ∷ slots) = FreeContainer slot ∷ frees slots
+
+written_frees : (slots : List ℕ) (more : List StoreChange) → written_in (frees slots ++ more) ≡ written_in more
+unfolding frees
+written_frees [] more = omega arith
+written_frees (slot ∷ slots) more = written_frees slots more
+
+module _ (P : List ℕ → Type 0) where
+  all_freed : (slots : List ℕ) (s t : Store) → FreesTo P slots s t → t ≡ with_all_freed slots s
+  all_freed [] s t frees_to = frees_to.0
+  all_freed (slot ∷ slots) s t frees_to = all_freed slots (with_freed slot s) t frees_to.2
+
+  last_freed : (slots : List ℕ) (s t : Store) → FreesTo P slots s t → last_id t.held ≤ last_id s.held
+  last_freed [] s t frees_to = subst (λ (x : Store). last_id x.held ≤ last_id s.held) (sym frees_to.0) (omega arith)
+  last_freed (slot ∷ slots) s t frees_to = omega (arith, last_freed slots (with_freed slot s) t frees_to.2, last_without slot s.held)
+
+  sweeps_from : (slots : List ℕ) (more : List StoreChange) (s t u : Store) → FreesTo P slots s t → SweepsSpare P more t u → SweepsSpare P (frees slots ++ more) s u
+  unfolding frees
+  sweeps_from [] more s t u frees_to sweeps = subst (λ (x : Store). SweepsSpare P more x u) frees_to.0 sweeps
+  sweeps_from (slot ∷ slots) more s t u frees_to sweeps =
+      (record { header = frees_to.1.header; holds = frees_to.1.holds; none = frees_to.1.none }, sweeps_from slots more (with_freed slot s) t u frees_to.2 sweeps)
+
+same_list : (a b : List ℕ) → Some a ≡ Some b → a ≡ b
+same_list a b is = cc
+
+module _ (v mid : DiskView) (made : RoomMade v mid) (old : List ℕ) (told : v.content ≡ Some old) (among : ByteSet) (m : Stored) (opens : OpensAs (IsIn among) m old) where
+  no_id_earlier : (after : Store) → KnownWith mid.content (HasNoIdLeft m.files after) → KnownWith v.content (HasNoIdLeft m.files after)
+  no_id_earlier after (now, now_told, none) =
+      let content = made.content old told in
+      let right : Encodes now made.after = subst (λ (b : List ℕ). Encodes b made.after) (same_list content.0 now (sym content.1 ∙ now_told)) content.2.0 in
+      let spares = content.2.2.spares among m opens in
+      let same : none.store ≡ with_all_freed made.freed made.short.store = store_once now none.store made.after none.was right ∙ all_freed _ made.freed made.short.store made.after made.frees in
+      let first : LAST_ID ≤ last_id (with_all_freed made.freed made.short.store).held + written_in none.changes = subst (λ (s : Store). LAST_ID ≤ last_id s.held + written_in none.changes) same none.ids in (
+        old,
+        told,
+        record {
+          store = made.short.store;
+          was = shown_content v mid (λ image. Encodes image made.short.store) old made.short.right told;
+          changes = frees made.freed ++ none.changes;
+          chain = sweeps_from _ made.freed none.changes made.short.store (with_all_freed made.freed made.short.store) after spares
+              (subst (λ (s : Store). SweepsSpare _ none.changes s after) same none.chain);
+          ids = omega (arith, first, written_frees made.freed none.changes, last_freed _ made.freed made.short.store (with_all_freed made.freed made.short.store) spares);
+        },
+      )
+
+  -- how it ended, by what the content was before
+  pub ends_earlier : (command : CommandLine) (given : List ℕ) (content : Option (List ℕ)) (ending : Option Ending) → EndsFrom command given m mid.content content ending → EndsFrom command given m v.content content ending
+  ends_earlier (Collect percent) given content (Some (Refused Numbers)) ends = (ends.0, ends.1, ends.2, no_id_earlier ends.0 ends.3)
+  ends_earlier command given content ending ends = ends

@@ -1,0 +1,119 @@
+-- What a step of a collection leaves of the bytes, whatever they are: all before the end of the slots, but gates of containers that were given
+-- back, and slots that were filled.
+use Rattle.std.proofs.Common.{◌≡◌, inl, inr, ◌+◌, ◌≤◌, ℕ, List, [], ◌∷◌, Option, Some, None, refl, ◌∙◌, subst, arith}
+use Rattle.base_model.specs.Bytes.{range}
+use Rattle.base_model.specs.Frames.{SameOutside}
+use Rattle.base_model.specs.Known.{KnownWith}
+use Rattle.dd_disk.specs.Ending.{Ending}
+use Rattle.dd_disk.specs.View.{CrashLeaves, DiskView, OnlyReads, SteppedFrom}
+use Rattle.dd_disk.proofs.Later.{leaves_weaker, reads_leave}
+use Rattle.disk_format.specs.Layout.{size_of, slot_at}
+use Rattle.gc_steps.specs.Stepping.{Touches}
+use Rattle.gc_steps.specs.declared.collection.Stage.{Stage}
+use Rattle.gc_steps.specs.declared.collection.Stage.TheVariants.{Mark, Filter, Select, Sweep as SweepStage}
+use Rattle.gc_sweep.specs.declared.sweep.Next.{Next}
+use Rattle.gc_sweep.specs.declared.sweep.Next.TheVariants.{Copy, Flush, Release, End}
+use Rattle.gc_sweep.specs.declared.sweep.Sweep.{Sweep}
+use Rattle.gc_sweep.specs.InTurn.{slot_in_turn}
+use Rattle.ingest_steps.specs.Sealing.{ChangesSlotAlone, SameButSlotOf}
+use Rattle.segment_index.specs.Changes.{Changes, SameBefore}
+use Rattle.store_model.specs.Freeing.{HasNoGate}
+use Rattle.store_model.specs.Image.{IsValidFor, Store}
+use Rattle.store_model.specs.Slots.{HasFree, first_free}
+use Rattle.store_state.specs.Tables.{Represents}
+use Rattle.store_state.specs.declared.tables.Tables.{Tables}
+use Rattle.backup_engine.specs.Frame.{LiesBeside, SameButSlotsOf}
+
+-- ---- bytes
+
+pub same_slots : (s : Store) (base : List ℕ) → SameButSlotsOf s [] [] base base
+same_slots s base = record { size_is = refl; same = λ at count within none beside. refl }
+
+module _ (s : Store) (freed filled : List ℕ) (base d c : List ℕ) (but : SameButSlotsOf s freed filled base d) where
+  -- where nothing before the end of the slots is another
+  pub but_before : SameBefore (slot_at s.slots) d c → SameButSlotsOf s freed filled base c
+  but_before same = record { size_is = same.size ∙ but.size_is; same = λ at count within none beside. same.before at count within ∙ but.same at count within none beside }
+
+  -- one gate more may be another
+  but_gate : (slot : ℕ) → SameOutside (slot_at slot) 1 d c → SameButSlotsOf s (slot ∷ freed) filled base c
+  but_gate slot same = record { size_is = same.size ∙ but.size_is; same = kept }
+    where
+      kept : (at count : ℕ) → at + count ≤ slot_at s.slots → HasNoGate (slot ∷ freed) at count → LiesBeside filled at count → range at count c ≡ range at count base
+      kept at count within none beside = elim none.0 [
+        | inl before ↦ same.before at count before ∙ but.same at count within none.1 beside
+        | inr past ↦ same.after at count (omega (arith, past)) ∙ but.same at count within none.1 beside
+      ]
+
+  -- or one slot more
+  but_slot : (slot : ℕ) → SameButSlotOf s.slots slot d c → SameButSlotsOf s freed (slot ∷ filled) base c
+  but_slot slot same = record { size_is = same.size ∙ but.size_is; same = kept }
+    where
+      kept : (at count : ℕ) → at + count ≤ slot_at s.slots → HasNoGate freed at count → LiesBeside (slot ∷ filled) at count → range at count c ≡ range at count base
+      kept at count within none beside = elim beside.0 [
+        | inl before ↦ same.before at count before ∙ but.same at count within none beside.1
+        | inr past ↦ same.after at count (omega (arith, past)) within ∙ but.same at count within none beside.1
+      ]
+
+  more_freed : (slot : ℕ) → SameButSlotsOf s (slot ∷ freed) filled base d
+  more_freed slot = record { size_is = but.size_is; same = λ at count within none beside. but.same at count within none.1 beside }
+
+  more_filled : (slot : ℕ) → SameButSlotsOf s freed (slot ∷ filled) base d
+  more_filled slot = record { size_is = but.size_is; same = λ at count within none beside. but.same at count within none beside.1 }
+
+-- ---- the disk
+
+-- The disk tells its content, which, as each image of it, is the first one but for these slots.
+pub record IsFramed (s : Store) (freed filled : List ℕ) (base : List ℕ) (v : DiskView) : Type 0 where
+  pub told : (bytes : List ℕ) × (v.content ≡ Some bytes)
+  pub each : (c : List ℕ) → v.images c → SameButSlotsOf s freed filled base c
+
+pub content_framed : (s : Store) (freed filled : List ℕ) (base : List ℕ) (v : DiskView) → IsFramed s freed filled base v → KnownWith v.content (SameButSlotsOf s freed filled base)
+content_framed s freed filled base v framed = (framed.told.0, framed.told.1, framed.each framed.told.0 (v.as_read framed.told.0 framed.told.1))
+
+module _ (s : Store) (freed filled : List ℕ) (base : List ℕ) (old new : DiskView) (framed : IsFramed s freed filled base old) where
+  abbrev Leaves : (List ℕ → Type 0) → Type 0
+  Leaves P = CrashLeaves P old new
+
+  -- ---- by what a step does to it
+
+  reads_so : OnlyReads old new → Leaves (SameButSlotsOf s freed filled base)
+  reads_so reads = reads_leave (SameButSlotsOf s freed filled base) old new framed.each reads
+
+  pub framed_reads : OnlyReads old new → IsFramed s freed filled base new
+  framed_reads reads = record { told = (framed.told.0, reads.content_is ∙ framed.told.1); each = λ c image. framed.each c (reads.images_are c image) }
+
+  changes_so : (e : Ending) → Changes (slot_at s.slots) e old new → Leaves (SameButSlotsOf s freed filled base)
+  changes_so e changes = leaves_weaker (SteppedFrom (SameBefore (slot_at s.slots)) old) (SameButSlotsOf s freed filled base) old new
+      (λ c stepped. elim stepped [ inl was ↦ framed.each c was | inr (d, was, same) ↦ but_before s freed filled base d c (framed.each d was) same ]) changes.leaves
+
+  gate_so : (slot : ℕ) → CrashLeaves (SteppedFrom (SameOutside (slot_at slot) 1) old) old new → Leaves (SameButSlotsOf s (slot ∷ freed) filled base)
+  gate_so slot leaves = leaves_weaker (SteppedFrom (SameOutside (slot_at slot) 1) old) (SameButSlotsOf s (slot ∷ freed) filled base) old new
+      (λ c stepped. elim stepped [ inl was ↦ more_freed s freed filled base c c (framed.each c was) slot | inr (d, was, same) ↦ but_gate s freed filled base d c (framed.each d was) slot same ]) leaves
+
+  slot_so : (slot : ℕ) → CrashLeaves (SteppedFrom (SameButSlotOf s.slots slot) old) old new → Leaves (SameButSlotsOf s freed (slot ∷ filled) base)
+  slot_so slot leaves = leaves_weaker (SteppedFrom (SameButSlotOf s.slots slot) old) (SameButSlotsOf s freed (slot ∷ filled) base) old new
+      (λ c stepped. elim stepped [ inl was ↦ more_filled s freed filled base c c (framed.each c was) slot | inr (d, was, same) ↦ but_slot s freed filled base d c (framed.each d was) slot same ]) leaves
+
+-- which slots were given back, and filled, once a step of a stage was tried
+abbrev pub freed_with : Stage → Next → Sweep → List ℕ → List ℕ
+freed_with SweepStage (Release source entry) sweep freed = slot_in_turn sweep ∷ freed
+freed_with stage next sweep freed = freed
+
+abbrev pub filled_with : Stage → Next → Store → List ℕ → List ℕ
+filled_with SweepStage (Flush source entry) after filled = first_free after.held ∷ filled
+filled_with stage next after filled = filled
+
+module _ (s after : Store) (freed filled : List ℕ) (base : List ℕ) (old new : DiskView) (framed : IsFramed s freed filled base old) (t : Tables) (sized : old.size ≡ size_of s.slots) (represents : Represents after None t) (valid : IsValidFor old.size after)
+    (has_free : HasFree after.held) (slots_are : t.slots ≡ s.slots) where
+  -- what it leaves, by the stage
+  pub stage_so : (stage : Stage) (next : Next) (sweep : Sweep) (e : Ending) → Touches stage next sweep t e old new → CrashLeaves (SameButSlotsOf s (freed_with stage next sweep freed) (filled_with stage next after filled) base) old new
+  stage_so (Mark level slot) next sweep e touches = reads_so s freed filled base old new framed touches.only
+  stage_so (Filter slot) next sweep e touches = reads_so s freed filled base old new framed touches.only
+  stage_so Select next sweep e touches = reads_so s freed filled base old new framed touches.only
+  stage_so SweepStage (Copy source entry) sweep e touches = changes_so s freed filled base old new framed e (touches s.slots sized)
+  stage_so SweepStage (Flush source entry) sweep e touches =
+      let alone : ChangesSlotAlone s.slots (first_free after.held) old new =
+      subst (λ (n : ℕ). ChangesSlotAlone n (first_free after.held) old new) slots_are ((touches.1.frame None).store_has after represents valid has_free) in
+      slot_so s freed filled base old new framed (first_free after.held) (alone.leaves framed.told.0 framed.told.1)
+  stage_so SweepStage (Release source entry) sweep e touches = gate_so s freed filled base old new framed (slot_in_turn sweep) (touches.2.leaves framed.told.0 framed.told.1)
+  stage_so SweepStage End sweep e touches = reads_so s freed filled base old new framed touches.only

@@ -1,0 +1,150 @@
+-- What the changes of a collection make of the slots of a store, whatever the disk holds: which were closed, and which filled.
+use Rattle.std.proofs.Common.{◌≡◌, ◌⊎◌, inl, inr, ◌+◌, ◌<◌, ◌≤◌, ℕ, zero, suc, List, [], ◌∷◌, ◌++◌, length, max, Option, Some, None, refl, sym, ◌∙◌, ap, subst, arith}
+use Rattle.std.specs.Prelude.{Contains, slice_get}
+use Rattle.std.specs.List.{AllByRecursion}
+use Rattle.std.proofs.lemmas.List.Elements.{Contains-append_right, Contains-get_or}
+use Rattle.container_meta.specs.Spelling.{HeaderValue}
+use Rattle.store_core.specs.Frame.{HadContainer}
+use Rattle.store_core.specs.Releases.{copied_in, freed_in}
+use Rattle.store_model.specs.Freeing.{with_freed}
+use Rattle.store_model.specs.Image.{Store}
+use Rattle.store_model.specs.Slots.{first_free, free_slots, last_id, with_slot, without_slot}
+use Rattle.store_model.specs.Steps.{StoreChange, SealContainer, ChangeName, FlushContainer, FreeContainer}
+use Rattle.store_model.proofs.Copies.{some_same}
+use Rattle.store_model.proofs.Free.{first_closed, some_free}
+use Rattle.store_model.proofs.Freed.{there_before}
+use Rattle.backup_engine.specs.Collected.{IsOfCollection, written_in}
+use Rattle.backup_engine.specs.Frame.{MayFill}
+
+-- ---- changes, one after the other
+
+pub freed-append : (first more : List StoreChange) → freed_in (first ++ more) ≡ freed_in first + freed_in more
+freed-append [] more = omega arith
+freed-append (SealContainer id kind segments ∷ changes) more = freed-append changes more
+freed-append (ChangeName name change ∷ changes) more = freed-append changes more
+freed-append (FlushContainer id kind segments ∷ changes) more = freed-append changes more
+freed-append (FreeContainer slot ∷ changes) more = omega (arith, freed-append changes more)
+
+pub copied-append : (first more : List StoreChange) → copied_in (first ++ more) ≡ copied_in first + copied_in more
+copied-append [] more = omega arith
+copied-append (SealContainer id kind segments ∷ changes) more = copied-append changes more
+copied-append (ChangeName name change ∷ changes) more = copied-append changes more
+copied-append (FlushContainer id kind segments ∷ changes) more = omega (arith, copied-append changes more)
+copied-append (FreeContainer slot ∷ changes) more = copied-append changes more
+
+pub written-append : (first more : List StoreChange) → written_in (first ++ more) ≡ written_in first + written_in more
+written-append [] more = omega arith
+written-append (SealContainer id kind segments ∷ changes) more = written-append changes more
+written-append (ChangeName name change ∷ changes) more = written-append changes more
+written-append (FlushContainer id kind segments ∷ changes) more = omega (arith, written-append changes more)
+written-append (FreeContainer slot ∷ changes) more = written-append changes more
+
+pub all-append : {A : Type 0} (P : A → Type 0) (first more : List A) → AllByRecursion P first → AllByRecursion P more → AllByRecursion P (first ++ more)
+all-append P [] more one two = two
+all-append P (x ∷ xs) more one two = (one.0, all-append P xs more one.1 two)
+
+pub all-more : {A : Type 0} (P Q : A → Type 0) (xs : List A) → ((x : A) → P x → Q x) → AllByRecursion P xs → AllByRecursion Q xs
+all-more P Q [] each all = tt
+all-more P Q (x ∷ xs) each all = (each x all.0, all-more P Q xs each all.1)
+
+-- ---- one slot
+
+-- what a slot has once a container is in one of them, or one of them is closed
+with_there : (place slot : ℕ) (h g : HeaderValue) (held : List (Option HeaderValue)) → slice_get (with_slot place h held) slot ≡ Some (Some g) → (g ≡ h) ⊎ (slice_get held slot ≡ Some (Some g))
+with_there place slot h g [] there = inr there
+with_there zero zero h g (c ∷ cs) there = inl (sym (some_same h g (some_same (Some h) (Some g) there)))
+with_there zero (suc slot) h g (c ∷ cs) there = inr there
+with_there (suc place) zero h g (c ∷ cs) there = inr there
+with_there (suc place) (suc slot) h g (c ∷ cs) there = with_there place slot h g cs there
+
+with_closed : (place slot : ℕ) (h : HeaderValue) (held : List (Option HeaderValue)) → slice_get (with_slot place h held) slot ≡ Some None → slice_get held slot ≡ Some None
+with_closed place slot h [] closed = closed
+with_closed zero zero h (c ∷ cs) closed = absurd (let wrong : Some h ≡ None = some_same (Some h) None closed in cc)
+with_closed zero (suc slot) h (c ∷ cs) closed = closed
+with_closed (suc place) zero h (c ∷ cs) closed = closed
+with_closed (suc place) (suc slot) h (c ∷ cs) closed = with_closed place slot h cs closed
+
+-- the slot of the container has no other
+with_one : (h g : HeaderValue) (held : List (Option HeaderValue)) → 1 ≤ free_slots held → slice_get (with_slot (first_free held) h held) (first_free held) ≡ Some (Some g) → g ≡ h
+with_one h g [] some there = absurd (omega (arith, some))
+with_one h g (None ∷ cs) some there = sym (some_same h g (some_same (Some h) (Some g) there))
+with_one h g (Some x ∷ cs) some there = with_one h g cs some there
+
+without_closed : (place slot : ℕ) (held : List (Option HeaderValue)) → slice_get (without_slot place held) slot ≡ Some None → (place ≡ slot) ⊎ (slice_get held slot ≡ Some None)
+without_closed place slot [] closed = inr closed
+without_closed zero zero (c ∷ cs) closed = inl refl
+without_closed zero (suc slot) (c ∷ cs) closed = inr closed
+without_closed (suc place) zero (c ∷ cs) closed = inr closed
+without_closed (suc place) (suc slot) (c ∷ cs) closed = elim (without_closed place slot cs closed) [ inl same ↦ inl (ap suc same) | inr was ↦ inr was ]
+
+-- ---- all of them
+
+-- the slot has no container of before
+abbrev pub IsRenewed : Store → Store → ℕ → Type 0
+IsRenewed s after slot = (h : HeaderValue) → slice_get after.held slot ≡ Some (Some h) → last_id s.held < h.id
+
+-- A store came from another by changes of a collection. Each slot that was closed by them had a container of the first store, and each that was
+-- filled was closed in it, or by them.
+pub record SweptSlots (s after : Store) (freed filled : List ℕ) : Type 0 where
+  pub had : AllByRecursion (HadContainer s) freed
+  pub may : AllByRecursion (MayFill s freed) filled
+  pub there : (slot : ℕ) (h : HeaderValue) → slice_get after.held slot ≡ Some (Some h) → (slice_get s.held slot ≡ Some (Some h)) ⊎ (last_id s.held < h.id)
+  pub closed : (slot : ℕ) → slice_get after.held slot ≡ Some None → MayFill s freed slot
+  pub renewed : AllByRecursion (IsRenewed s after) filled
+
+pub no_slots : (s : Store) → SweptSlots s s [] []
+no_slots s = record { had = tt; may = tt; there = λ slot h there. inl there; closed = λ slot closed. inl closed; renewed = tt }
+
+-- where more slots were closed
+pub may_more : (s : Store) (slot : ℕ) (freed : List ℕ) (other : ℕ) → MayFill s freed other → MayFill s (slot ∷ freed) other
+may_more s slot freed other (inl closed) = inl closed
+may_more s slot freed other (inr one) = inr (Contains-append_right (slot ∷ []) freed other one)
+
+module _ (s after : Store) (freed filled : List ℕ) (slots : SweptSlots s after freed filled) where
+  -- a container is given back that was there at first
+  pub slots_freed : (slot : ℕ) → HadContainer s slot → SweptSlots s (with_freed slot after) (slot ∷ freed) filled
+  slots_freed slot had = record {
+    had = (had, slots.had);
+    may = all-more (MayFill s freed) (MayFill s (slot ∷ freed)) filled (may_more s slot freed) slots.may;
+    there = λ other h there. slots.there other h (there_before slot other h after.held there).1;
+    closed = λ other closed. elim (without_closed slot other after.held closed) [
+      | inl same ↦ inr (subst (Contains (slot ∷ freed)) same (Contains-get_or (slot ∷ freed) 0 0 (omega arith)))
+      | inr was ↦ may_more s slot freed other (slots.closed other was)
+    ];
+    renewed = all-more (IsRenewed s after) (IsRenewed s (with_freed slot after)) filled (λ other new h there. new h (there_before slot other h after.held there).1) slots.renewed;
+  }
+
+  -- or one is written, under an id above all of before
+  module _ (h : HeaderValue) (some : 1 ≤ free_slots after.held) (above : last_id s.held < h.id) where
+    abbrev place : ℕ
+    place = first_free after.held
+
+    abbrev pub filled_store : Store
+    filled_store = record after { held = with_slot place h after.held }
+
+    new_there : (slot : ℕ) (g : HeaderValue) → slice_get (with_slot place h after.held) slot ≡ Some (Some g) → (slice_get s.held slot ≡ Some (Some g)) ⊎ (last_id s.held < g.id)
+    new_there slot g there = elim (with_there place slot h g after.held there) [
+      | inl same ↦ inr (omega (arith, above, ap (λ (x : HeaderValue). x.id) same))
+      | inr was ↦ slots.there slot g was
+    ]
+
+    still_renewed : (slot : ℕ) → IsRenewed s after slot → IsRenewed s filled_store slot
+    still_renewed slot new g there = elim (with_there place slot h g after.held there) [
+      | inl same ↦ omega (arith, above, ap (λ (x : HeaderValue). x.id) same)
+      | inr was ↦ new g was
+    ]
+
+    pub was_closed : MayFill s freed place
+    was_closed = slots.closed place (first_closed after.held (some_free after.held some))
+
+    pub slots_filled : SweptSlots s filled_store freed (place ∷ filled)
+    slots_filled = record {
+      had = slots.had;
+      may = (was_closed, slots.may);
+      there = new_there;
+      closed = λ slot closed. slots.closed slot (with_closed place slot h after.held closed);
+      renewed = (
+        λ g there. omega (arith, above, ap (λ (x : HeaderValue). x.id) (with_one h g after.held some there)),
+        all-more (IsRenewed s after) (IsRenewed s filled_store) filled still_renewed slots.renewed,
+      );
+    }

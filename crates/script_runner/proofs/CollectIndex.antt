@@ -1,0 +1,41 @@
+-- A step of a collection that is refused leaves the map of the index, where the store runs on.
+use Rattle.std.proofs.Common.{◌≡◌}
+use Rattle.refusals.specs.declared.refusal.Refusal.{Refusal}
+use Rattle.refusals.specs.declared.refusal.Refusal.TheVariants as refusals
+use Rattle.gc_steps.specs.declared.collection.Collection.{Collection}
+use Rattle.gc_steps.specs.declared.collection.Stage.{Stage}
+use Rattle.gc_steps.specs.declared.collection.Stage.TheVariants.{Mark, Filter, Select, Sweep}
+use Rattle.gc_steps.specs.Stepping.{Keeps}
+use Rattle.gc_sweep.specs.declared.sweep.Next.{Next}
+use Rattle.gc_sweep.specs.declared.sweep.Next.TheVariants.{Copy, Flush, Release, End}
+use Rattle.store_state.specs.declared.tables.Tables.{Tables}
+use Rattle.store_core.specs.Collecting.{IsNotMade, at_moment}
+use Rattle.store_core.specs.State.{CoreState}
+use Rattle.script_runner.proofs.CollectCauses.{IsCauseAt, IsRestCause}
+
+no_release : (refusal : Refusal) → IsRestCause refusal → refusal ≡ refusals.DiskWrite → ⊥
+no_release refusals.Memory rests is = cc
+no_release refusals.DiskRead rests is = cc
+no_release refusals.Numbers rests is = cc
+no_release refusal rests is = absurd rests
+
+module _ (old new : CoreState) where
+  -- the map of the index stays
+  index_kept : (stage : Stage) (next : Next) (t : Tables) (refusal : Refusal) (before after : Collection) → IsRestCause refusal → IsCauseAt stage next t refusal
+      → Keeps stage next (at_moment old before) (at_moment new after) refusal → new.known ≡ old.known
+  index_kept (Mark level slot) next t refusal before after rests cause keeps = keeps.1
+  index_kept (Filter slot) next t refusal before after rests cause keeps = keeps.1
+  index_kept Select next t refusal before after rests cause keeps = keeps.1
+  index_kept Sweep (Copy source entry) t refusals.Memory before after rests cause keeps = keeps.1
+  index_kept Sweep (Copy source entry) t refusals.DiskRead before after rests cause keeps = keeps.1
+  index_kept Sweep (Copy source entry) t refusals.Numbers before after rests cause keeps = keeps.1
+  index_kept Sweep (Copy source entry) t refusal before after rests cause keeps = absurd rests
+  index_kept Sweep (Flush source entry) t refusals.Memory before after rests cause keeps = keeps.1
+  index_kept Sweep (Flush source entry) t refusals.DiskRead before after rests cause keeps = keeps.1
+  index_kept Sweep (Flush source entry) t refusals.Numbers before after rests cause keeps = keeps.1
+  index_kept Sweep (Flush source entry) t refusal before after rests cause keeps = absurd rests
+  index_kept Sweep (Release source entry) t refusal before after rests cause keeps = absurd (no_release refusal rests cause)
+  index_kept Sweep End t refusal before after rests cause keeps = keeps.1
+
+  pub rest_index : (refusal : Refusal) (row : IsNotMade refusal old new) → IsRestCause refusal → IsCauseAt row.before.stage row.before.sweep.next old.tables refusal → new.known ≡ old.known
+  rest_index refusal row rests cause = index_kept row.before.stage row.before.sweep.next old.tables refusal row.before row.after rests cause row.kept

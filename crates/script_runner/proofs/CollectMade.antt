@@ -1,0 +1,281 @@
+-- A step of a collection that was made is one of the machine, and the runner follows it.
+use Rattle.std.proofs.Common.{◌≡◌, ◌+◌, ◌-◌, ◌<◌, ◌≤◌, ℕ, suc, List, Option, Some, Result, Ok, refl, sym, ◌∙◌, ap, subst, arith, true, false}
+use Rattle.container_meta.specs.Places.{PlaceMap}
+use Rattle.dd_disk.specs.Ending.{Done}
+use Rattle.disk_format.specs.declared.numbers.TheConstants.{LAST_ID}
+use Rattle.actor_parts.specs.declared.step.Answer.{Answer}
+use Rattle.actor_parts.specs.declared.step.Answer.TheVariants as answers
+use Rattle.refusals.specs.declared.refusal.Phase.{Phase}
+use Rattle.refusals.specs.declared.refusal.Refusal.{Refusal}
+use Rattle.gc_steps.specs.declared.collection.Collection.{Collection}
+use Rattle.gc_steps.specs.declared.collection.Stage.{Stage}
+use Rattle.gc_steps.specs.declared.collection.Stage.TheVariants.{Mark, Filter, Select, Sweep}
+use Rattle.gc_steps.specs.Safety.{IsSafe}
+use Rattle.gc_steps.specs.Sparing.{Spares}
+use Rattle.gc_steps.specs.Stepping.{StepsTo, TablesAfter, Touches, moment, phase_at}
+use Rattle.gc_steps.specs.UnderWay.{IsUnderWay}
+use Rattle.gc_steps.proofs.Sparing as sparing
+use Rattle.gc_steps.proofs.StepSafe.{IsStoreAfter, LeavesSafe, step_safe}
+use Rattle.gc_sweep.specs.declared.sweep.Next.{Next}
+use Rattle.gc_sweep.specs.declared.sweep.Next.TheVariants.{Copy, Flush, Release, End}
+use Rattle.store_model.specs.Collisions.{HasNoCollisions, ByteSet, IsIn}
+use Rattle.store_model.specs.Image.{Encodes, Store}
+use Rattle.store_model.specs.Reserve.{IsReachable}
+use Rattle.store_model.proofs.Once.{store_once}
+use Rattle.store_state.specs.Invariant.{CoreInvariant}
+use Rattle.store_core.specs.Collecting.{GoesOn, at_moment}
+use Rattle.store_core.specs.Core.{CoreStep, IndexesAll}
+use Rattle.store_core.specs.Runs.{IsAt, IsSafeIn}
+use Rattle.store_core.specs.State.{CoreState, IsUnderWayIn}
+use Rattle.store_core.proofs.Leading.{Leads}
+use Rattle.plain_machine.specs.Collections.{ChangesBy, GoesTo, StepsCollection, forgets_by, freed_by, last_by}
+use Rattle.plain_machine.specs.Content.{SameStore}
+use Rattle.plain_machine.specs.Machine.{Collecting, Machine}
+use Rattle.script_runner.specs.Follows.{FollowsCollecting, HasCounted, IsAtProgress, SparesAlone}
+use Rattle.script_runner.specs.Sessions.{Sessions}
+use Rattle.script_runner.proofs.CollectBytes.{GivesNothing}
+use Rattle.script_runner.proofs.CollectCauses.{no_end, phase_is}
+use Rattle.script_runner.proofs.CollectCounts.{copies_by, counted_on, snapshot_on}
+use Rattle.script_runner.proofs.CollectNeeds.{needs_closed, needs_here, told_here}
+use Rattle.script_runner.proofs.CollectParts.{gc_event}
+use Rattle.script_runner.proofs.CollectProgress.{Progresses, progresses}
+use Rattle.script_runner.proofs.CollectStep.{HasCollecting, Stepped, image, last_after, leads, low_after, runs_then, same_index, same_so, same_some, some_collecting, steps, told, touched, under}
+use Rattle.script_runner.proofs.SweepContent.{copies_added, freed}
+use Rattle.script_runner.proofs.Sweeping.{IsFewIn, few_after, few_by, left_by, left_on}
+use Rattle.script_runner.proofs.TurnHolds.{right_here}
+use Rattle.script_runner.proofs.TurnRunning.{RunsAt}
+
+module _ (C : Type 0) (state : C → CoreState) (among : ByteSet) (apart : HasNoCollisions (IsIn among)) (m : Machine) (sessions : Sessions) (old new : C) (at : RunsAt (IsIn among) m sessions (state old)) (buf : List ℕ)
+    (phase : Phase) (made : CoreStep (state old) (gc_event 0 (Ok (answers.Did phase)) buf).event (state new)) where
+  abbrev did : Result Answer Refusal
+  did = Ok (answers.Did phase)
+
+  abbrev S : List ℕ → Type 0
+  S = IsIn among
+
+  abbrev goes : GoesOn phase (state old) (state new)
+  goes = (steps C state among apart m sessions old new at did buf made).made.row.0
+
+  abbrev image_now : List ℕ
+  image_now = image C state among apart m sessions old new at did buf made
+
+  abbrev told_now : (state new).disk.content ≡ Some image_now
+  told_now = told C state among apart m sessions old new at did buf made
+
+  has : HasCollecting m (state old)
+  has = some_collecting m (state old) goes.before goes.ran at.running.begins.collects
+
+  same : has.follows.collection ≡ goes.before
+  same = same_some has.follows.collection goes.before (state old).collection has.follows.runs goes.ran
+
+  few : IsFewIn has.follows.most (state old)
+  few = subst (few_by has.follows.most (state old).tables.held) (sym has.follows.runs) has.follows.few
+
+  fewer : left_by has.follows.most (state new).tables.held (state new).collection < has.collecting.to_come
+  fewer =
+      let one = left_on has.follows.most phase (state old) (state new) at.running.up.under_way few goes in
+      omega (arith, one, has.follows.nears, ap (left_by has.follows.most (state old).tables.held) has.follows.runs)
+
+  abbrev left : ℕ
+  left = has.collecting.to_come - 1
+
+  -- ---- what it was, and how far it has come
+
+  stage_phase : phase_at goes.before.stage goes.before.sweep.next ≡ phase
+  stage_phase = phase_is goes.before.stage goes.before.sweep.next goes.before.sweep.freed goes.before.sweep.copied phase goes.phase_is
+
+  not_end : phase_at goes.before.stage goes.before.sweep.next ≡ phase_at Sweep End → ⊥
+  not_end ends = no_end goes.before.stage goes.before.sweep.next goes.before.sweep.freed goes.before.sweep.copied phase goes.phase_is ends
+
+  at_before : IsAtProgress has.collecting.progress goes.before
+  at_before = subst (IsAtProgress has.collecting.progress) same has.follows.progress_is
+
+  snapshot_before : goes.before.snapshot ≡ has.collecting.snapshot
+  snapshot_before = subst (λ (c : Collection). c.snapshot ≡ has.collecting.snapshot) same has.follows.snapshot_is
+
+  counted_before : HasCounted goes.before.stage goes.before.sweep has.collecting.freed has.collecting.copied
+  counted_before = subst (λ (c : Collection). HasCounted c.stage c.sweep has.collecting.freed has.collecting.copied) same has.follows.counted
+
+  leads_on : Progresses (phase_at goes.before.stage goes.before.sweep.next) has.collecting.progress goes.after
+  leads_on = progresses (state old) (state new) goes.before goes.after has.collecting.progress at_before goes.steps not_end
+
+  abbrev copies : ℕ
+  copies = copies_by goes.before.stage goes.before.sweep.next goes.before.sweep
+
+  abbrev goes_so : Collecting
+  goes_so = record { snapshot = has.collecting.snapshot; progress = leads_on.next; to_come = left; freed = has.collecting.freed + freed_by phase; copied = has.collecting.copied + copies; alone = has.collecting.alone }
+
+  counted_now : HasCounted goes.after.stage goes.after.sweep (has.collecting.freed + freed_by phase) (has.collecting.copied + copies)
+  counted_now =
+      subst (λ (p : Phase). HasCounted goes.after.stage goes.after.sweep (has.collecting.freed + freed_by p) (has.collecting.copied + copies)) stage_phase
+      (counted_on (at_moment (state old) goes.before) (at_moment (state new) goes.after) has.collecting.freed has.collecting.copied goes.before.stage goes.before.sweep.next refl refl counted_before goes.steps not_end)
+
+  now : FollowsCollecting goes_so (state new)
+  now = record {
+    collection = goes.after;
+    runs = goes.runs;
+    snapshot_is = snapshot_on (at_moment (state old) goes.before) (at_moment (state new) goes.after) has.collecting.freed has.collecting.copied goes.before.stage goes.before.sweep.next goes.steps ∙ snapshot_before;
+    progress_is = leads_on.is_at;
+    counted = counted_now;
+    most = has.follows.most;
+    few = few_after has.follows.most phase (state old) (state new) at.running.up.under_way few goes;
+    nears = omega (arith, fewer, ap (left_by has.follows.most (state new).tables.held) goes.runs);
+  }
+
+  ran : m.collecting ≡ Some (record { snapshot = has.collecting.snapshot; progress = has.collecting.progress; to_come = suc left; freed = has.collecting.freed; copied = has.collecting.copied; alone = has.collecting.alone })
+  ran = has.is ∙ ap (λ (n : ℕ). let k : Collecting = record { snapshot = has.collecting.snapshot; progress = has.collecting.progress; to_come = n; freed = has.collecting.freed; copied = has.collecting.copied; alone = has.collecting.alone } in Some k) (let e : has.collecting.to_come ≡ suc left = omega (arith, fewer) in e)
+
+  -- ---- the last id
+
+  last_now : (state new).tables.held.last_id ≡ last_by phase m.last_id
+  last_now =
+      last_after (state old) (state new) goes.before.stage goes.before.sweep.next goes.before goes.after goes.tables
+      ∙ ap (λ (p : Phase). last_by p (state old).tables.held.last_id) stage_phase ∙ ap (last_by phase) at.running.begins.last_id_is
+
+  low_now : last_by phase m.last_id ≤ LAST_ID
+  low_now =
+      subst (λ (n : ℕ). last_by phase n ≤ LAST_ID) at.running.begins.last_id_is
+      (subst (λ (p : Phase). last_by p (state old).tables.held.last_id ≤ LAST_ID) stage_phase
+      (low_after (state old) (state new) goes.before.stage goes.before.sweep.next goes.before goes.after goes.tables
+      (subst (λ (n : ℕ). n ≤ LAST_ID) (sym at.running.begins.last_id_is) at.running.begins.low)))
+
+  -- ---- what it leaves
+
+  abbrev begins : IsAt S at.running.begins.store m.stored (state old)
+  begins = at.running.begins.is_at
+
+  abbrev touches : Touches goes.before.stage goes.before.sweep.next goes.before.sweep (state old).tables Done (state old).disk (state new).disk
+  touches = touched C state among apart m sessions old new at did buf made goes.before goes.ran
+
+  invariant : CoreInvariant begins.index at.running.begins.store m.stored.files (state old).parts m.content
+  invariant = begins.invariant m.content at.content_is
+
+  steps_known : StepsTo goes.before.stage goes.before.sweep.next (moment (state old).tables (Some begins.index) (state old).disk goes.before) (at_moment (state new) goes.after)
+  steps_known =
+      subst (λ (known : Option PlaceMap). StepsTo goes.before.stage goes.before.sweep.next (moment (state old).tables known (state old).disk goes.before) (at_moment (state new) goes.after)) begins.index_known goes.steps
+
+  tables_known : TablesAfter goes.before.stage goes.before.sweep.next (moment (state old).tables (Some begins.index) (state old).disk goes.before) (at_moment (state new) goes.after)
+  tables_known =
+      subst (λ (known : Option PlaceMap). TablesAfter goes.before.stage goes.before.sweep.next (moment (state old).tables known (state old).disk goes.before) (at_moment (state new) goes.after)) begins.index_known goes.tables
+
+  safe_before : IsSafe begins.index at.running.begins.store (state old).parts m.content goes.before
+  safe_before = subst (IsSafeIn begins.index at.running.begins.store (state old).parts m.content) goes.ran (begins.safe m.content at.content_is)
+
+  abbrev led : Leads S at.running.begins.store (gc_event 0 did buf) m.stored (state old) (state new)
+  led = leads C state among apart m sessions old new at did buf made (steps C state among apart m sessions old new at did buf made).stops
+
+  under_now : IsUnderWay (state new).tables.held goes.after
+  under_now = subst (IsUnderWayIn (state new).tables.held) goes.runs led.next.is_at.under_way
+
+  leaves : LeavesSafe goes.before begins.index at.running.begins.store m.stored.files (state old).parts m.content image_now among (state new).tables (state new).known (state new).disk goes.after
+  leaves =
+      step_safe begins.index at.running.begins.store m.stored.files (state old).parts m.content image_now among (state old).tables (state new).tables (state new).known (state old).disk (state new).disk goes.before goes.after
+      invariant (omega (arith, begins.many)) (told_here S at.running.begins.store m.stored (state old) begins) begins.valid at.content_is
+      told_now begins.stands (under C state among apart m sessions old new at did buf made goes.before goes.ran) under_now
+      safe_before steps_known tables_known touches (steps C state among apart m sessions old new at did buf made).made.effect.later
+
+  encodes_now : Encodes image_now leaves.store_now
+  encodes_now = (leaves.stands.each image_now ((state new).disk.as_read image_now told_now)).holds.right
+
+  -- ---- where it runs alone
+
+  abbrev Needs : List ℕ → Type 0
+  Needs = IsReachable m.stored.files
+
+  abbrev led_to : Store
+  led_to = led.next.store
+
+  -- the store is that which the step leaves
+  led_is : leaves.store_now ≡ led_to
+  led_is = store_once image_now leaves.store_now led_to encodes_now (right_here S led_to m.stored (state new) led.next.is_at image_now told_now)
+
+  spared : has.collecting.alone ≡ true → Spares Needs begins.index at.running.begins.store.held goes.before
+  spared alone =
+      let spares = subst (λ (o : Option Collecting). SparesAlone m.stored.files at.running.begins.store o (state old)) has.is at.running.begins.spares in
+      spares alone begins.index goes.before begins.index_known goes.ran
+
+  spares_step : Spares Needs begins.index at.running.begins.store.held goes.before → Spares Needs leaves.later leaves.store_now.held goes.after
+  spares_step spares =
+      sparing.spares_step Needs begins.index at.running.begins.store m.stored.files m.content (state old).tables (state new).known (state old).disk (state new).disk goes.before goes.after
+      (needs_here S at.running.begins.store m.stored (state old) begins m.content at.content_is) (told_here S at.running.begins.store m.stored (state old) begins) at.content_is (needs_closed S at.running.begins.store m.stored (state old) begins m.content at.content_is) spares
+      begins.valid invariant.has_free (under C state among apart m sessions old new at did buf made goes.before goes.ran) (state new).tables
+      (sparing.held_at begins.index at.running.begins.store (state old).parts m.content goes.before safe_before) steps_known
+      leaves.later leaves.known_is leaves.store_now image_now leaves.store_is (sparing.held_at leaves.later leaves.store_now (state old).parts image_now goes.after leaves.safe)
+
+  spares_now : SparesAlone m.stored.files led_to (Some goes_so) (state new)
+  spares_now = λ alone index collection known runs.
+      subst (λ (s : Store). Spares Needs index s.held collection) led_is
+      (subst (λ (i : PlaceMap). Spares Needs i leaves.store_now.held collection) (same_index leaves.later index (state new).known leaves.known_is known)
+      (subst (λ (c : Collection). Spares Needs leaves.later leaves.store_now.held c) (same_some goes.after collection (state new).collection goes.runs runs) (spares_step (spared alone))))
+
+  -- ---- the content
+
+  abbrev Touched : Stage → Next → Type 0
+  Touched stage next = Touches stage next goes.before.sweep (state old).tables Done (state old).disk (state new).disk
+
+  nothing : (stage : Stage) (next : Next) → GivesNothing stage next → Touched stage next → SameStore m.content image_now
+  nothing stage next none touch = same_so C state among apart m sessions old new at did buf made goes.before goes.ran stage next Done none touch
+
+  changes_at : (stage : Stage) (next : Next) → goes.before.stage ≡ stage → goes.before.sweep.next ≡ next → Touched stage next → TablesAfter stage next (at_moment (state old) goes.before) (at_moment (state new) goes.after)
+      → (phase_at stage next ≡ phase_at Sweep End → ⊥) → ChangesBy (phase_at stage next) has.collecting.snapshot (copies_by stage next goes.before.sweep) m image_now
+  changes_at (Mark level slot) next is next_is touch tables other = (refl, nothing (Mark level slot) next tt touch)
+  changes_at (Filter slot) next is next_is touch tables other = (refl, nothing (Filter slot) next tt touch)
+  changes_at Select next is next_is touch tables other = (refl, nothing Select next tt touch)
+  changes_at Sweep (Copy source entry) is next_is touch tables other = (refl, nothing Sweep (Copy source entry) tt touch)
+  changes_at Sweep (Flush source entry) is next_is touch tables other =
+      copies_added among at.running.begins.store m.stored (state old) (state new) begins at.running.begins.settled m.content image_now at.content_is told_now goes.before goes.ran is source entry next_is tables.0 tables.1
+      touch m.last_id at.running.begins.last_id_is
+  changes_at Sweep (Release source entry) is next_is touch tables other =
+      (refl, freed among at.running.begins.store m.stored (state old) (state new) begins at.running.begins.settled m.content image_now at.content_is told_now goes.before goes.ran is source entry next_is touch has.collecting.snapshot snapshot_before)
+  changes_at Sweep End is next_is touch tables other = absurd (other refl)
+
+  changes : ChangesBy phase has.collecting.snapshot copies m image_now
+  changes =
+      subst (λ (p : Phase). ChangesBy p has.collecting.snapshot copies m image_now) stage_phase (changes_at goes.before.stage goes.before.sweep.next refl refl touches goes.tables not_end)
+
+  -- ---- the index
+
+  abbrev Then : Stage → Next → Type 0
+  Then stage next = IsStoreAfter stage next goes.before.sweep begins.index at.running.begins.store leaves.store_now m.content
+
+  -- where no source is copied or given back, and no copies are written, it has all that it had
+  all_stays : leaves.store_now ≡ at.running.begins.store → (state new).known ≡ (state old).known → m.collected ≡ false → IndexesAll led_to (state new).known
+  all_stays stays same un =
+      subst (λ (s : Store). IndexesAll s (state new).known) (sym stays ∙ led_is) (subst (IndexesAll at.running.begins.store) (sym same) (at.running.begins.whole un))
+
+  all_at : (stage : Stage) (next : Next) → Then stage next → StepsTo stage next (at_moment (state old) goes.before) (at_moment (state new) goes.after) → (phase_at stage next ≡ phase_at Sweep End → ⊥)
+      → forgets_by (phase_at stage next) m.collected ≡ false → IndexesAll led_to (state new).known
+  all_at (Mark level slot) next store_is steps other un = all_stays store_is steps.1 un
+  all_at (Filter slot) next store_is steps other un = all_stays store_is steps.1 un
+  all_at Select next store_is steps other un = all_stays store_is steps.1 un
+  all_at Sweep (Copy source entry) store_is steps other un = absurd (let wrong : true ≡ false = un in cc)
+  all_at Sweep (Flush source entry) store_is steps other un = absurd (let wrong : true ≡ false = un in cc)
+  all_at Sweep (Release source entry) store_is steps other un = absurd (let wrong : true ≡ false = un in cc)
+  all_at Sweep End store_is steps other un = absurd (other refl)
+
+  all_now : forgets_by phase m.collected ≡ false → IndexesAll led_to (state new).known
+  all_now un =
+      all_at goes.before.stage goes.before.sweep.next leaves.store_is goes.steps not_end (subst (λ (p : Phase). forgets_by p m.collected ≡ false) (sym stage_phase) un)
+
+  pub did_step : Stepped S m sessions (StepsCollection phase m) (state new)
+  did_step = record {
+    next = record m { content = image_now; last_id = last_by phase m.last_id; collecting = Some goes_so; collected = forgets_by phase m.collected };
+    is = record {
+      progress = has.collecting.progress;
+      next = leads_on.next;
+      goes = subst (λ (p : Phase). GoesTo p has.collecting.progress leads_on.next) stage_phase leads_on.goes;
+      snapshot = has.collecting.snapshot;
+      left = left;
+      freed = has.collecting.freed;
+      copied = has.collecting.copied;
+      alone = has.collecting.alone;
+      ran = ran;
+      copies = copies;
+      changes = changes;
+      others = refl;
+    };
+    at = runs_then C state among apart m sessions old new at did buf made (steps C state among apart m sessions old new at did buf made).stops image_now m.faults (last_by phase m.last_id)
+        (Some goes_so) (forgets_by phase m.collected) told_now
+        ((steps C state among apart m sessions old new at did buf made).made.effect.faults_are ∙ at.faults_are) last_now low_now now spares_now all_now;
+    stored_is = refl;
+  }

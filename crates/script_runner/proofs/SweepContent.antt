@@ -1,0 +1,199 @@
+-- What a sweep leaves of the content, by the machine: copies that it writes, and a container that it gives back.
+use Rattle.std.proofs.Common.{◌≡◌, ◌∙◌, inr, ◌+◌, ◌<◌, ◌≤◌, ℕ, suc, List, length, Some, refl, sym, ap, subst, arith}
+use Rattle.std.specs.Prelude.{count_by, ◌==◌}
+use Rattle.std.specs.List.{AllByRecursion}
+use Rattle.container_meta.specs.Places.{PlaceMap}
+use Rattle.container_meta.specs.Segments.{Contents, segment_key}
+use Rattle.container_meta.specs.Spelling.{HeaderValue}
+use Rattle.dd_disk.specs.Ending.{Broken, Done}
+use Rattle.dd_disk.specs.Moves.{StandsFor}
+use Rattle.disk_format.specs.declared.numbers.TheConstants.{RESERVE}
+use Rattle.gc_steps.specs.declared.collection.Collection.{Collection}
+use Rattle.gc_steps.specs.declared.collection.Stage.{Stage}
+use Rattle.gc_steps.specs.declared.collection.Stage.TheVariants.{Sweep}
+use Rattle.gc_steps.specs.Safety.{IsSafeAt}
+use Rattle.gc_steps.specs.Stepping.{Touches}
+use Rattle.gc_steps.specs.SweepIsSafe.{HoldsAt, SweepIsSafe}
+use Rattle.gc_steps.proofs.Sparing.{held_within, ready_is_spare}
+use Rattle.gc_steps.proofs.UnderWay.{at_stage}
+use Rattle.gc_sweep.specs.declared.sweep.Next.{Next}
+use Rattle.gc_sweep.specs.declared.sweep.Next.TheVariants.{Flush, Release}
+use Rattle.gc_sweep.specs.Flushing.{WritesCopies}
+use Rattle.gc_sweep.specs.Holding.{HoldsSweep, SourcesStand}
+use Rattle.gc_sweep.specs.InTurn.{slot_in_turn}
+use Rattle.gc_sweep.specs.UnderWay.{IsSweeping, free_in, taken_from}
+use Rattle.gc_sweep.proofs.Holds.{IsInTurn, in_turn}
+use Rattle.gc_sweep.proofs.HoldsRoom.{are_newest, may_flush}
+use Rattle.gc_sweep.proofs.KeyLists.{each_so}
+use Rattle.ingest_steps.specs.Sealing.{FitBeside}
+use Rattle.store_model.specs.Collisions.{ByteSet, IsIn, Stands}
+use Rattle.store_model.specs.Files.{Stored}
+use Rattle.store_model.specs.Freeing.{with_freed}
+use Rattle.store_model.specs.Image.{Encodes, Store}
+use Rattle.store_model.specs.Reserve.{IsReachable, IsSpare}
+use Rattle.store_model.specs.Slots.{first_free, free_slots}
+use Rattle.store_model.specs.Steps.{CanFlush, MaySeal, with_sealed}
+use Rattle.store_model.specs.Trees.{HasNewest}
+use Rattle.store_model.proofs.Free.{some_free, zeros_free}
+use Rattle.store_state.specs.Invariant.{CoreInvariant}
+use Rattle.store_state.specs.Settled.{IsSettled}
+use Rattle.store_state.specs.Tables.{Represents}
+use Rattle.store_core.specs.Runs.{IsAt, IsSafeIn}
+use Rattle.store_core.specs.State.{CoreState, IsUnderWayIn}
+use Rattle.plain_machine.specs.Content.{AddsCopies, BreaksCopies, BreaksGate, FreesContainer, Holds}
+use Rattle.script_runner.proofs.CollectBytes.{flush_changes, gate_broke, gate_changed}
+use Rattle.script_runner.proofs.CollectNeeds.{told_here}
+use Rattle.script_runner.proofs.TurnHolds.{right_here}
+use Rattle.script_runner.proofs.TurnKept.{of_kind}
+
+module _ (among : ByteSet) (store : Store) (stored : Stored) (old new : CoreState) (at : IsAt (IsIn among) store stored old) (settled : IsSettled old.tables.slots old.disk)
+    (content image : List ℕ) (here : old.disk.content ≡ Some content) (told : new.disk.content ≡ Some image) (c : Collection) (runs : old.collection ≡ Some c) (stage_is : c.stage ≡ Sweep) where
+  abbrev S : List ℕ → Type 0
+  S = IsIn among
+
+  abbrev index : PlaceMap
+  index = at.index
+
+  stands : Stands S store stored.files content
+  stands = at.stands.each content (old.disk.as_read content here)
+
+  right : Encodes content store
+  right = right_here S store stored old at content here
+
+  invariant : CoreInvariant index store stored.files old.parts content
+  invariant = at.invariant content here
+
+  represents : Represents store (Some index) old.tables
+  represents = told_here S store stored old at
+
+  was_held : HoldsSweep index store.held content c.live c.snapshot c.sweep
+  was_held =
+      let safe = subst (IsSafeIn index store old.parts content) runs (at.safe content here) in
+      let sweep : SweepIsSafe index store old.parts content c = subst (λ (stage : Stage). IsSafeAt stage index store old.parts content c) stage_is safe in
+      let both : SourcesStand store.held c.snapshot c.sweep × HoldsSweep index store.held content c.live c.snapshot c.sweep =
+      subst (λ (stage : Stage). HoldsAt stage index store.held content c) stage_is sweep.sweep_holds in both.1
+
+  sweeping : IsSweeping old.tables.held c.snapshot c.sweep
+  sweeping = at_stage old.tables.held c Sweep (subst (IsUnderWayIn old.tables.held) runs at.under_way) stage_is
+
+  settled_so : IsSettled store.slots old.disk
+  settled_so = subst (λ (n : ℕ). IsSettled n old.disk) at.represents.slots_are settled
+
+  free_is : free_in old.tables.held ≡ free_slots store.held
+  free_is = ap (λ (ids : List ℕ). count_by (λ id. id == 0) ids) at.represents.slots_hold.ids_are ∙ zeros_free store.held at.valid.headers
+
+  -- an image that is a store of the same files
+  right_now : (after : Store) → StandsFor (Stands S after stored.files) new.disk → Encodes image after
+  right_now after stands_now = (stands_now.each image (new.disk.as_read image told)).holds.right
+
+  -- ---- copies that are written
+
+  module _ (source entry : ℕ) (next_is : c.sweep.next ≡ Flush source entry) where
+    abbrev filled : Contents
+    filled = c.sweep.buffer
+
+    abbrev id : ℕ
+    id = old.tables.held.last_id + 1
+
+    abbrev written : Store
+    written = with_sealed id filled.kind filled.segments store
+
+    room : 1 < free_slots store.held
+    room = let two : RESERVE ≤ free_in old.tables.held + 0 = subst (λ (n : Next). RESERVE ≤ free_in old.tables.held + taken_from n) next_is sweeping.room in omega (arith, two, free_is)
+
+    within : first_free store.held < store.slots
+    within = omega (arith, some_free store.held (omega (arith, room)), at.valid.many)
+
+    newest : AllByRecursion (λ x. HasNewest store.held (segment_key filled.kind x) x.level x.bytes content) filled.segments
+    newest = are_newest index store.held content c.live c.snapshot c.sweep was_held
+
+    may : AllByRecursion (MaySeal S filled.kind) filled.segments
+    may = may_flush index store.held content c.live c.snapshot c.sweep was_held S stands.holds.nodes stands.among
+
+    fit : FitBeside S index filled.kind filled.segments store content
+    fit = inr (inr newest)
+
+    module _ (slot : ℕ) (writes : WritesCopies old.tables old.disk.size old.known slot filled new.tables) (touches : Touches Sweep (Flush source entry) c.sweep old.tables Done old.disk new.disk) where
+      can : CanFlush id filled.kind filled.segments store
+      can = writes.written.can.store_has store at.represents at.valid invariant.has_free
+
+      now : Encodes image written
+      now = right_now written (touches.1.moves among store (Some index) index stored.files content represents here may invariant.files_are_indexed fit at.stands).arrives
+
+      newest_now : AllByRecursion (λ x. HasNewest written.held (segment_key filled.kind x) x.level x.bytes image) filled.segments
+      newest_now = (touches.1.holds among store (Some index) index stored.files content image represents here told stands may fit).1
+
+      were_held : AllByRecursion (λ x. Holds content (of_kind filled.kind x)) filled.segments
+      were_held = each_so (λ x. HasNewest store.held (segment_key filled.kind x) x.level x.bytes content) (λ x. Holds content (of_kind filled.kind x)) filled.segments (λ x has. (store, (right, has))) newest
+
+      are_held : AllByRecursion (λ x. Holds image (of_kind filled.kind x)) filled.segments
+      are_held = each_so (λ x. HasNewest written.held (segment_key filled.kind x) x.level x.bytes image) (λ x. Holds image (of_kind filled.kind x)) filled.segments (λ x has. (written, (now, has))) newest_now
+
+      pub copies_added : (last : ℕ) → old.tables.held.last_id ≡ last → AddsCopies last (length filled.segments) content image
+      copies_added last last_is = record {
+        store = store;
+        was = right;
+        filled = filled;
+        can = subst (λ (n : ℕ). CanFlush n filled.kind filled.segments store) id_is can;
+        many = refl;
+        were_held = were_held;
+        now = subst (λ (n : ℕ). Encodes image (with_sealed n filled.kind filled.segments store)) id_is now;
+        held = are_held;
+        rest = flush_changes store.slots old.tables c.sweep old.disk new.disk content image here told at.valid.size_is source entry at.represents.slots_are Done old.known store at.represents at.valid invariant.has_free settled_so
+            within touches;
+      }
+        where
+          id_is : id ≡ suc last
+          id_is = omega (arith, last_is)
+
+    -- where a write broke off
+    pub copies_broke : Touches Sweep (Flush source entry) c.sweep old.tables Broken old.disk new.disk → BreaksCopies content image
+    copies_broke touches = record {
+      store = store;
+      was = right;
+      slot = room;
+      rest = flush_changes store.slots old.tables c.sweep old.disk new.disk content image here told at.valid.size_is source entry at.represents.slots_are Broken old.known store at.represents at.valid invariant.has_free settled_so
+          within touches;
+    }
+
+  -- ---- a container that is given back
+
+  module _ (source entry : ℕ) (next_is : c.sweep.next ≡ Release source entry) where
+    abbrev turned : ℕ
+    turned = slot_in_turn c.sweep
+
+    turn : IsInTurn index store.held c.snapshot c.sweep
+    turn = in_turn old.tables.held index store.held content c.live c.snapshot source entry c.sweep represents.slots_hold sweeping next_is was_held
+
+    spare : IsSpare (IsReachable stored.files) store.held turned
+    spare = ready_is_spare index store stored.files turned turn.stands.header turn.stands.there invariant.index_is_newest invariant.files_are_indexed turn.none
+
+    there : turned < store.slots
+    there = omega (arith, held_within store.held turned turn.stands.header turn.stands.there, at.valid.many)
+
+    before_now : (snapshot : ℕ) → c.snapshot ≡ snapshot → spare.header.id < snapshot
+    before_now snapshot is =
+        let same : turn.stands.header ≡ spare.header = (let both : Some (Some turn.stands.header) ≡ Some (Some spare.header) = sym turn.stands.there ∙ spare.holds in cc) in
+        subst (λ (n : ℕ). spare.header.id < n) is (subst (λ (h : HeaderValue). h.id < c.snapshot) same turn.stands.old)
+
+    pub freed : Touches Sweep (Release source entry) c.sweep old.tables Done old.disk new.disk → (snapshot : ℕ) → c.snapshot ≡ snapshot → FreesContainer (IsReachable stored.files) snapshot content image
+    freed touches snapshot is = record {
+      store = store;
+      was = right;
+      slot = turned;
+      spare = spare;
+      came_before = before_now snapshot is;
+      now = right_now (with_freed turned store) (touches.1.moves among store index stored.files represents invariant.files_are_indexed turn.none at.stands).arrives;
+      rest = gate_changed store.slots old.tables c.sweep old.disk new.disk content image here told at.valid.size_is source entry there touches;
+    }
+
+    -- where a write broke off
+    pub freeing_broke : Touches Sweep (Release source entry) c.sweep old.tables Broken old.disk new.disk → (snapshot : ℕ) → c.snapshot ≡ snapshot → BreaksGate (IsReachable stored.files) snapshot content image
+    freeing_broke touches snapshot is = record {
+      store = store;
+      was = right;
+      slot = turned;
+      spare = spare;
+      came_before = before_now snapshot is;
+      rest = gate_broke store.slots old.tables c.sweep old.disk new.disk content image here told at.valid.size_is source entry there settled_so touches;
+    }

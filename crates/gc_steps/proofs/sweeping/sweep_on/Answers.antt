@@ -68,7 +68,7 @@ returns-in_ok-flush_copies-in-Flush-clause-under_way g c =
     let alone = runs_alone (view c.args.disk.now).size c.requires.runs.0 c.args.tables.now runs in
     let writes = did.written.1 in
     swept_on (view c.args.disk.now).size _ c.args.tables.now.held c.flush_copies.new.tables now (swept now c.flush_copies.new.sweep) (writes.written.runs None (omega arith) alone)
-    (omega (arith, writes.written.last_is)) c.requires.under_way c.requires.stage refl
+    (omega (arith, writes.written.last_is)) c.requires.under_way c.requires.stage refl did.sweep.sources_are
     (did.under_way now.snapshot (at_stage c.args.tables.now.held now Sweep c.requires.under_way c.requires.stage))
 
 pub returns-in_ok-release_source-in-Release-clause-made : goal.returns-in_ok-release_source-in-Release-clause-made
@@ -93,5 +93,5 @@ returns-in_ok-release_source-in-Release-clause-under_way g c =
     let now = c.args.collection.now in
     let alone = runs_alone (view c.args.disk.now).size c.requires.runs.0 c.args.tables.now c.requires.runs.1 in
     swept_on (view c.args.disk.now).size None c.args.tables.now.held c.release_source.new.tables now (swept now c.release_source.new.sweep) (did.tables.runs (view c.args.disk.now).size None (λ index is. absurd cc) alone)
-    (omega (arith, did.tables.last_stays)) c.requires.under_way c.requires.stage refl
+    (omega (arith, did.tables.last_stays)) c.requires.under_way c.requires.stage refl did.sweep.sources_are
     (did.under_way now.snapshot (at_stage c.args.tables.now.held now Sweep c.requires.under_way c.requires.stage))

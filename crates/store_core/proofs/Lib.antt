@@ -6,6 +6,8 @@ pub mod CoreRuns
 pub mod Counted
 pub mod Crashes
 pub mod Damage
+pub mod Finished
+pub mod FinishedStores
 pub mod Flushed
 pub mod Frames
 pub mod GcSteps

@@ -1,7 +1,10 @@
 -- What a collection has done once it has ended, whatever steps of others came between its own.
-use Rattle.std.proofs.Common.{◌≡◌, inl, inr, ℕ, ◌<◌, ◌≤◌, List, [], ◌∷◌, ◌++◌, length, get_or, Option, Some, None, Result, Ok, Err, Vec, Global, refl, sym, ◌∙◌, ap, subst, arith}
+use Rattle.std.proofs.Common.{◌≡◌, inl, inr, ℕ, ◌<◌, ◌≤◌, true, false, List, [], ◌∷◌, ◌++◌, append-nil, length, get_or, Option, Some, None, Result, Ok, Err, Vec, Global, refl, sym, ◌∙◌, ap, subst, arith}
+use Rattle.container_meta.specs.Spelling.{HeaderValue, header_of}
+use Rattle.container_meta.specs.Places.{PlaceMap}
+use Rattle.std.specs.Str.{bytes_eq}
 use Rattle.std.specs.Prelude.{Contains}
-use Rattle.std.specs.List.{AllByRecursion}
+use Rattle.std.specs.List.{AllByRecursion, IsDistinct}
 use Rattle.std.proofs.lemmas.Grind.{get_or_default_zero}
 use Rattle.std.proofs.lemmas.List.Elements.{Contains-get_or}
 use Rattle.actor_parts.specs.declared.step.Answer.{Answer}
@@ -9,7 +12,7 @@ use Rattle.actor_parts.specs.declared.step.Answer.TheVariants as answers
 use Rattle.actor_parts.specs.StepValue as asked
 use Rattle.actor_parts.specs.StepValue.{StepValue}
 use Rattle.container_meta.specs.declared.kind.Kind.{Kind}
-use Rattle.container_meta.specs.Segments.{Segment}
+use Rattle.container_meta.specs.Segments.{Segment, has_key, keys_of}
 use Rattle.dd_disk.specs.View.{IsLater}
 use Rattle.gc_enumerate.specs.Live.{LiveKeys}
 use Rattle.gc_select.specs.Selecting.{selected, sources_of}
@@ -17,37 +20,41 @@ use Rattle.gc_steps.specs.declared.collection.Collection.{Collection}
 use Rattle.gc_steps.specs.declared.collection.Stage.{Stage}
 use Rattle.gc_steps.specs.declared.collection.Stage.TheVariants.{Filter, Mark, Select, Sweep as SweepStage}
 use Rattle.gc_steps.specs.FewSources.{IsToChoose}
-use Rattle.gc_steps.specs.Stepping.{Keeps, StepsTo, phase_at}
+use Rattle.gc_steps.specs.Stepping.{Keeps, StepsTo, moment, phase_at}
 use Rattle.gc_steps.specs.SweepIsSafe.{HoldsAt}
 use Rattle.gc_steps.specs.UnderWay.{HasChosen, HasStage, IsUnderWay}
 use Rattle.gc_steps.proofs.Chosen.{chosen_which}
+use Rattle.gc_steps.proofs.CopiedOn.{GoesWell, IsCounted, begun_counted, goes_well}
 use Rattle.gc_steps.proofs.Sparing.{held_at}
 use Rattle.gc_steps.proofs.StepSafe.{IsStoreAfter}
 use Rattle.gc_sweep.specs.declared.sweep.Next.{Next}
 use Rattle.gc_sweep.specs.declared.sweep.Next.TheVariants.{Copy, Flush, Release, End}
 use Rattle.gc_sweep.specs.InTurn.{slot_in_turn}
-use Rattle.gc_sweep.specs.UnderWay.{HasNext, IsSweeping}
-use Rattle.gc_sweep.proofs.Holds.{none_left}
-use Rattle.gc_sweep.proofs.KeyLists.{each_so}
+use Rattle.gc_sweep.specs.UnderWay.{HasNext, IsSweeping, sources_before}
+use Rattle.gc_sweep.proofs.Holds.{no_key, none_left}
+use Rattle.gc_sweep.proofs.KeyLists.{each_so, listed, none_distinct}
 use Rattle.refusals.specs.declared.refusal.Phase.{Phase}
 use Rattle.refusals.specs.declared.refusal.Refusal.{Refusal}
 use Rattle.refusals.specs.declared.refusal.Refusal.TheVariants as refusals
 use Rattle.store_model.specs.Collisions.{HasNoCollisions, ByteSet, IsIn}
 use Rattle.store_model.specs.Files.{Stored}
 use Rattle.store_model.specs.Image.{Store}
+use Rattle.store_model.specs.Slots.{first_free}
 use Rattle.store_model.specs.Steps.{StoreChange, SealContainer, ChangeName, FlushContainer, FreeContainer}
 use Rattle.store_core.specs.declared.stop.Stop.{Stop}
 use Rattle.store_core.specs.Bounds.{IsNoEnd, NoneEnds, starts}
 use Rattle.store_core.specs.Collecting.{Begins, Collects, GcEffect, GcRow, GoesOn, HasEnded, IsKeptKey, IsNotMade, MarksIn, StartRow, TouchesBy, at_moment}
 use Rattle.store_core.specs.Core.{Row, Steps, StepsOr, next_id}
-use Rattle.store_core.specs.Finished.{AreCopiesOf, CollectsInAll, IsOfCopies, WereCopies}
+use Rattle.store_core.specs.Finished.{AreCopiesOf, CollectsInAll, IsOfCopies, WereCopies, copied_keys}
 use Rattle.store_core.specs.Releases.{copied_in, ends_with, freed_in}
 use Rattle.store_core.specs.Runs.{AreChangesBy, AreChangesOf, ChangesTo, FileEvent, FileRun, FileStep, IsAt, IsNoGcStep, IsSafeIn, changes_by, events_of, stored_after, stored_by, stored_with}
 use Rattle.store_core.specs.State.{CoreState, Event, IsUnderWayIn}
 use Rattle.store_core.proofs.AnySteps.{any_step, changes_only, gc_or_not, with_step}
+use Rattle.store_core.proofs.CopiesOnce.{HoldsNewer, IsNoneOf, distinct_then, keys_then, listed_found, newer_on, none_listed, not_old}
 use Rattle.store_core.proofs.CoreRuns.{running_step, was_running}
 use Rattle.store_core.proofs.Counted.{Counts, CountsOn, IsQuiet, changed_by, counts_none, counts_same, counts_step, counts_then, refused_live, unwritten}
 use Rattle.store_core.proofs.FinishedStores.{Sweeps, added_stands, all_then, stands_on, stood, sweeps_then}
+use Rattle.store_core.proofs.Frames.{first_with}
 use Rattle.store_core.proofs.GcSteps.{phase_of}
 use Rattle.store_core.proofs.KeepingFiles.{chain_on, run_running}
 use Rattle.store_core.proofs.Leading.{Leads}
@@ -112,6 +119,12 @@ module _ (old new : CoreState) (b a : Collection) where
 
 -- ---- a step
 
+-- A key is copied no more: a container that came after the collection began holds it, and it is none of those that are filled.
+record IsSettled (s : Store) (c : Collection) (key : List ℕ) : Type 0 where
+  sweeps : c.stage ≡ SweepStage
+  newer : HoldsNewer s.held c.snapshot key
+  unfilled : has_key c.sweep.buffer key ≡ true → ⊥
+
 -- What a step leaves of a collection that runs, and of the containers.
 record Goes (among : ByteSet) (f : FileEvent) (b : Collection) (s : Store) (stored : Stored) (old new : CoreState) : Type 0 where
   a : Collection
@@ -125,6 +138,10 @@ record Goes (among : ByteSet) (f : FileEvent) (b : Collection) (s : Store) (stor
   copies : AllByRecursion (IsOfCopies (AreCopiesOf (IsIn among) old)) changes
   counts : Counts changes b a
   keeps : KeepsOn b a
+  counted : IsCounted b.sweep → IsCounted a.sweep
+  once : IsDistinct bytes_eq (copied_keys changes)
+  others : (key : List ℕ) → IsSettled s b key → IsNoneOf (copied_keys changes) key × IsSettled store a key
+  settles : (key : List ℕ) → listed (copied_keys changes) key ≡ true → IsSettled store a key
 
 module _ (old new : CoreState) (b : Collection) (ran : old.collection ≡ Some b) where
   -- it is as it was, but for its live keys
@@ -164,20 +181,21 @@ record Adds (P : Kind → List Segment → Type 0) (snapshot : ℕ) (sources : L
   none_copied : AllByRecursion (IsOfCopies P) changes
   freed_is : freed_in changes ≡ 0
   copied_is : copied_in changes ≡ 0
+  no_keys : copied_keys changes ≡ []
 
 module _ (P : Kind → List Segment → Type 0) (snapshot : ℕ) (sources : List ℕ) (s t : Store) (old new : CoreState) (actor : ℕ) (buf : List ℕ) (began : snapshot ≤ next_id old) where
   nothing : t ≡ s → Adds P snapshot sources [] s t
-  nothing same = record { sweeps = same; none_copied = tt; freed_is = refl; copied_is = refl }
+  nothing same = record { sweeps = same; none_copied = tt; freed_is = refl; copied_is = refl; no_keys = refl }
 
   adds : (step : StepValue) (answer : Result Answer Refusal) → IsNoGcStep step → Row step actor answer buf old new → ChangesTo (changes_by step answer) s t → Adds P snapshot sources (changes_by step answer) s t
   adds asked.GcStep answer other row chain = absurd other
   adds (asked.Seal filled) (Ok (answers.Sealed id)) other row chain =
-      record { sweeps = ((omega (arith, began, row.id_is), omega (arith, chain.0.slot)), chain.1); none_copied = (tt, tt); freed_is = refl; copied_is = refl }
+      record { sweeps = ((omega (arith, began, row.id_is), omega (arith, chain.0.slot)), chain.1); none_copied = (tt, tt); freed_is = refl; copied_is = refl; no_keys = refl }
   adds (asked.Seal filled) (Err refusal) other row chain = nothing chain
   adds (asked.Seal filled) answer other row chain = absurd row
-  adds (asked.Commit name root) (Ok answer) other row chain = record { sweeps = chain.1; none_copied = (tt, tt); freed_is = refl; copied_is = refl }
+  adds (asked.Commit name root) (Ok answer) other row chain = record { sweeps = chain.1; none_copied = (tt, tt); freed_is = refl; copied_is = refl; no_keys = refl }
   adds (asked.Commit name root) (Err refusal) other row chain = nothing chain
-  adds (asked.Delete name) (Ok answer) other row chain = record { sweeps = chain.1; none_copied = (tt, tt); freed_is = refl; copied_is = refl }
+  adds (asked.Delete name) (Ok answer) other row chain = record { sweeps = chain.1; none_copied = (tt, tt); freed_is = refl; copied_is = refl; no_keys = refl }
   adds (asked.Delete name) (Err refusal) other row chain = nothing chain
   adds asked.Begin answer other row chain = nothing chain
   adds (asked.Claim seg) answer other row chain = nothing chain
@@ -203,6 +221,32 @@ module _ (among : ByteSet) (distinct : HasNoCollisions (IsIn among)) (f : FileEv
   under : IsUnderWay old.tables.held b
   under = subst (IsUnderWayIn old.tables.held) ran at.under_way
 
+  abbrev image : List ℕ
+  image = at.stands.known.0
+
+  abbrev told : old.disk.content ≡ Some image
+  told = at.stands.known.1
+
+  -- what holds of the sweep
+  holds_at : (content : List ℕ) → old.disk.content ≡ Some content → HoldsAt b.stage at.index s.held content b
+  holds_at content is = held_at at.index s old.parts content b (subst (IsSafeIn at.index s old.parts content) ran (at.safe content is))
+
+  holds_sweep : b.stage ≡ SweepStage → (content : List ℕ) → old.disk.content ≡ Some content → HoldsAt SweepStage at.index s.held content b
+  holds_sweep sweeps content is = subst (λ (st : Stage). HoldsAt st at.index s.held content b) sweeps (holds_at content is)
+
+  -- each source came before
+  sources_old : b.stage ≡ SweepStage → (id : ℕ) → b.snapshot ≤ id → Contains b.sweep.sources.items id → ⊥
+  sources_old sweeps id above source =
+      let below : get_or b.sweep.sources.items source.0 0 < b.snapshot = (holds_sweep sweeps image told).0.old source.0 source.1 in
+      let here : get_or b.sweep.sources.items source.0 0 ≡ id = sym (get_or_default_zero b.sweep.sources.items source.0 id source.1) ∙ source.2 in
+      omega (arith, above, below, here)
+
+  -- a container that came after the collection began stands on
+  newer_then : (changes : List StoreChange) (key : List ℕ) → ((sources : List ℕ) → (b.stage ≡ SweepStage → sources ≡ b.sweep.sources.items) → Sweeps b.snapshot sources changes s t) → IsSettled s b key
+      → HoldsNewer t.held b.snapshot key
+  newer_then changes key sweeps settled =
+      newer_on b.snapshot b.sweep.sources.items changes s t key (sweeps b.sweep.sources.items (λ stage. refl)) (sources_old settled.sweeps) settled.newer
+
   -- but for its live keys it is as it was
   unchanged : (changes : List StoreChange) → AreChangesBy f.event.step f.event.answer changes → ChangesTo changes s t → ((sources : List ℕ) → Adds Copies b.snapshot sources changes s t) → Stays old new b ran
       → Goes among f b s stored old new
@@ -221,6 +265,17 @@ module _ (among : ByteSet) (distinct : HasNoCollisions (IsIn among)) (f : FileEv
       quiet = quiet;
     };
     keeps = record { snapshot_is = refl; percent_is = refl; chosen = λ stage. (stage, refl) };
+    counted = λ counted. counted;
+    once = subst (IsDistinct bytes_eq) (sym (adds []).no_keys) none_distinct;
+    others = λ key settled. (
+        subst (λ (keys : List (List ℕ)). IsNoneOf keys key) (sym (adds []).no_keys) tt,
+        (let now : IsSettled t (record b { live = on.0 }) key = record {
+          sweeps = settled.sweeps;
+          newer = newer_then changes key (λ sources chosen. (adds sources).sweeps) settled;
+          unfilled = settled.unfilled;
+        } in now),
+      );
+    settles = λ key has. absurd (let wrong : false ≡ true = ap (λ (keys : List (List ℕ)). listed keys key) (sym (adds []).no_keys) ∙ has in cc);
   }
 
   -- ---- of another kind
@@ -263,14 +318,9 @@ module _ (among : ByteSet) (distinct : HasNoCollisions (IsIn among)) (f : FileEv
       is_at = at;
       collection = b;
       runs = ran;
-      each = λ image told. (holds image told).1.copied;
-      once = (holds at.stands.known.0 at.stands.known.1).1.once;
+      each = λ content is. (holds_sweep sweeps content is).1.copied;
+      once = (holds_sweep sweeps image told).1.once;
     }
-      where
-        holds : (image : List ℕ) → old.disk.content ≡ Some image → HoldsAt SweepStage at.index s.held image b
-        holds image told =
-            subst (λ (st : Stage). HoldsAt st at.index s.held image b) sweeps
-            (held_at at.index s old.parts image b (subst (IsSafeIn at.index s old.parts image) ran (at.safe image told)))
 
     makes : (stage : Stage) (next : Next) → b.stage ≡ stage → IsStoreAfter stage next b.snapshot b.sweep at.index s t at.stands.known.0 → Makes stage next
     makes (Mark level slot) next stage_is same = record { id = 0; changes_are = refl; chain = same; sweeps = λ sources chosen. same; copies = tt }
@@ -303,6 +353,58 @@ module _ (among : ByteSet) (distinct : HasNoCollisions (IsIn among)) (f : FileEv
     }
     makes SweepStage End stage_is same = record { id = 0; changes_are = refl; chain = same; sweeps = λ sources chosen. same; copies = tt }
 
+    -- what it does to the keys that are copied
+    record Keys (changes : List StoreChange) (a : Collection) : Type 0 where
+      once : IsDistinct bytes_eq (copied_keys changes)
+      others : (key : List ℕ) → IsSettled s b key → IsNoneOf (copied_keys changes) key
+      newer : (key : List ℕ) → listed (copied_keys changes) key ≡ true → (b.stage ≡ SweepStage) × HoldsNewer t.held b.snapshot key
+      unfilled : (key : List ℕ) → listed (copied_keys changes) key ≡ true → has_key a.sweep.buffer key ≡ true → ⊥
+
+    no_keys : (changes : List StoreChange) (a : Collection) → copied_keys changes ≡ [] → Keys changes a
+    no_keys changes a none = record {
+      once = subst (IsDistinct bytes_eq) (sym none) none_distinct;
+      others = λ key settled. subst (λ (keys : List (List ℕ)). IsNoneOf keys key) (sym none) tt;
+      newer = λ key has. absurd (let wrong : false ≡ true = ap (λ (keys : List (List ℕ)). listed keys key) (sym none) ∙ has in cc);
+      unfilled = λ key has filled. (let wrong : false ≡ true = ap (λ (keys : List (List ℕ)). listed keys key) (sym none) ∙ has in cc);
+    }
+
+    keys_by : (a : Collection) (id : ℕ) (stage : Stage) (next : Next) → b.stage ≡ stage → StepsTo stage next (at_moment old b) (at_moment new a) → ChangesTo (changed_by stage next b.sweep id) s t
+        → Sweeps b.snapshot b.sweep.sources.items (changed_by stage next b.sweep id) s t → Keys (changed_by stage next b.sweep id) a
+    keys_by a id (Mark level slot) next stage_is steps chain sweeps = no_keys [] a refl
+    keys_by a id (Filter slot) next stage_is steps chain sweeps = no_keys [] a refl
+    keys_by a id Select next stage_is steps chain sweeps = no_keys [] a refl
+    keys_by a id SweepStage (Copy source entry) stage_is steps chain sweeps = no_keys [] a refl
+    keys_by a id SweepStage (Flush source entry) stage_is steps chain sweeps =
+        let keys : List (List ℕ) = keys_of b.sweep.buffer in
+        let whole : keys ++ [] ≡ keys = append-nil keys in
+        record {
+          once = subst (IsDistinct bytes_eq) (sym whole) (holds_sweep stage_is image told).1.once;
+          others = λ key settled. subst (λ (ks : List (List ℕ)). IsNoneOf ks key) (sym whole) (none_listed keys key settled.unfilled);
+          newer = λ key has.
+              let entry = listed_found b.sweep.buffer.kind 0 b.sweep.buffer.segments key (ap (λ (ks : List (List ℕ)). listed ks key) (sym whole) ∙ has) in
+              let h : HeaderValue = header_of id b.sweep.buffer.kind b.sweep.buffer.segments in
+              (
+                stage_is,
+                subst (λ (x : Store). HoldsNewer x.held b.snapshot key) (sym sweeps.1) (record {
+                  slot = first_free s.held;
+                  header = h;
+                  there = first_with h s.held sweeps.0.1;
+                  new = sweeps.0.0;
+                  entry = entry.0;
+                  found = entry.1;
+                }),
+              );
+          unfilled = λ key has filled. no_key a.sweep.buffer key steps.flushed.emptied filled;
+        }
+    keys_by a id SweepStage (Release source entry) stage_is steps chain sweeps = no_keys (FreeContainer (slot_in_turn b.sweep) ∷ []) a refl
+    keys_by a id SweepStage End stage_is steps chain sweeps = no_keys [] a refl
+
+    well : (a : Collection) → StepsTo b.stage b.sweep.next (at_moment old b) (at_moment new a) → GoesWell at.index s.held b a
+    well a steps =
+        goes_well old.tables new.tables at.index s.held image new.known old.disk new.disk b a at.represents.slots_hold at.valid.different (at.stands.each image (old.disk.as_read image told)).holds.right.slots_are
+        (at.invariant image told).index_is_newest told under (holds_at image told)
+        (subst (λ (k : Option PlaceMap). StepsTo b.stage b.sweep.next (moment old.tables k old.disk b) (at_moment new a)) at.index_known steps)
+
     -- one was made
     did_goes : (phase : Phase) → f.event.answer ≡ Ok (answers.Did phase) → GoesOn phase old new → TouchesBy old.collection (Ok (answers.Did phase)) old new.disk → IsLater old.disk new.disk → Goes among f b s stored old new
     did_goes phase answer_is goes touches later =
@@ -315,6 +417,16 @@ module _ (among : ByteSet) (distinct : HasNoCollisions (IsIn among)) (f : FileEv
             let steps_here = subst (λ (x : Collection). StepsTo x.stage x.sweep.next (at_moment old x) (at_moment new goes.after)) same steps in
             let phase_here = subst (λ (x : Collection). phase_at x.stage x.sweep.next ≡ phase) same phase_is in
             let made = makes b.stage b.sweep.next refl (subst (λ (x : Collection). IsStoreAfter x.stage x.sweep.next x.snapshot x.sweep at.index s t at.stands.known.0) same led) in
+            let changes : List StoreChange = changed_by b.stage b.sweep.next b.sweep made.id in
+            let keeps : KeepsOn b goes.after = keeps_step old new b goes.after b.stage b.sweep.next refl steps_here in
+            let keys : Keys changes goes.after = keys_by goes.after made.id b.stage b.sweep.next refl steps_here made.chain (made.sweeps b.sweep.sources.items (λ stage. refl)) in
+            let here : GoesWell at.index s.held b goes.after = well goes.after steps_here in
+            let settled : (key : List ℕ) → b.stage ≡ SweepStage → HoldsNewer t.held b.snapshot key → (has_key goes.after.sweep.buffer key ≡ true → ⊥) → IsSettled t goes.after key =
+            λ key stage newer unfilled. (let now : IsSettled t goes.after key = record {
+              sweeps = (keeps.chosen stage).0;
+              newer = subst (λ (n : ℕ). HoldsNewer t.held n key) (sym keeps.snapshot_is) newer;
+              unfilled = unfilled;
+            } in now) in
             record {
               a = goes.after;
               runs = goes.runs;
@@ -327,7 +439,18 @@ module _ (among : ByteSet) (distinct : HasNoCollisions (IsIn among)) (f : FileEv
               sweeps = made.sweeps;
               copies = made.copies;
               counts = counts_step old new b goes.after quiet made.id b.stage b.sweep.next refl steps_here;
-              keeps = keeps_step old new b goes.after b.stage b.sweep.next refl steps_here;
+              keeps = keeps;
+              counted = here.counted;
+              once = keys.once;
+              others = λ key was. (
+                  keys.others key was,
+                  settled key was.sweeps (newer_then changes key made.sweeps was)
+                      (λ filled. elim (here.filled key filled) [
+                        | inl before ↦ was.unfilled before
+                        | inr old_one ↦ not_old s.held at.index key b.snapshot (at.invariant image told).index_is_newest was.newer old_one
+                      ]),
+                );
+              settles = λ key has. let is = keys.newer key has in settled key is.0 is.1 (keys.unfilled key has);
             }
 
     -- one was refused
@@ -337,7 +460,7 @@ module _ (among : ByteSet) (distinct : HasNoCollisions (IsIn among)) (f : FileEv
         let live = refused_live old new b b.stage b.sweep.next refusal row.after (subst (λ (x : Collection). Keeps x.stage x.sweep.next (at_moment old x) (at_moment new row.after) refusal) same row.kept) in
         let stands : t ≡ s = subst (λ (changes : List StoreChange). ChangesTo changes s t) none leads.next.chain in
         unchanged leads.changes leads.changes_are leads.next.chain
-        (λ sources. subst (λ (changes : List StoreChange). Adds Copies b.snapshot sources changes s t) (sym none) (record { sweeps = stands; none_copied = tt; freed_is = refl; copied_is = refl }))
+        (λ sources. subst (λ (changes : List StoreChange). Adds Copies b.snapshot sources changes s t) (sym none) (record { sweeps = stands; none_copied = tt; freed_is = refl; copied_is = refl; no_keys = refl }))
         (live.0, row.runs ∙ ap Some live.1)
 
     gc_by : (answer : Result Answer Refusal) → f.event.answer ≡ answer → IsNoEnd answer → GcRow answer old new → GcEffect answer old new → AreChangesBy asked.GcStep answer leads.changes → Goes among f b s stored old new
@@ -370,6 +493,9 @@ module _ (C : Type 0) (state : C → CoreState) where
     copies : AllByRecursion (IsOfCopies (WereCopies C state (IsIn among) steps mid new run)) changes
     on : CountsOn changes b.sweep c.sweep
     keeps : KeepsOn b c
+    counted : IsCounted b.sweep → IsCounted c.sweep
+    once : IsDistinct bytes_eq (copied_keys changes)
+    others : (key : List ℕ) → IsSettled s b key → IsNoneOf (copied_keys changes) key
 
   went : (among : ByteSet) (steps : List FileEvent) (s : Store) (stored : Stored) (mid new : C) (b c : Collection) → HasNoCollisions (IsIn among) → IsAt (IsIn among) s stored (state mid)
       → (run : FileRun C state (IsIn among) steps mid new) → NoneEnds (events_of steps) → (state new).stop ≡ None → (state mid).collection ≡ Some b → (state new).collection ≡ Some c → IsQuiet b
@@ -386,6 +512,9 @@ module _ (C : Type 0) (state : C → CoreState) where
         copies = tt;
         on = counts_same b.sweep c.sweep (ap (λ (x : Collection). x.sweep) same);
         keeps = keeps_same b c same;
+        counted = λ counted. subst (λ (x : Collection). IsCounted x.sweep) (sym same) counted;
+        once = none_distinct;
+        others = λ key settled. tt;
       }
   went among (f ∷ fs) s stored mid new b c distinct at run ends stays ran runs quiet =
       let on : (state run.0).stop ≡ None = run_running C state among fs run.0 new run.1.1 stays in
@@ -409,6 +538,13 @@ module _ (C : Type 0) (state : C → CoreState) where
             (λ kind segments were. (let now : WereCopies C state (IsIn among) (f ∷ fs) mid new run kind segments = record { here = were.here; on_run = inr were.on_run; copies = were.copies } in now)) change is) rest.copies);
         on = counts_then one.changes rest.changes b.sweep one.a.sweep c.sweep one.counts.on rest.on;
         keeps = keeps;
+        counted = λ counted. rest.counted (one.counted counted);
+        once = subst (IsDistinct bytes_eq) (sym (keys_then one.changes rest.changes))
+            (distinct_then (copied_keys one.changes) (copied_keys rest.changes) one.once rest.once (λ key has. rest.others key (one.settles key has)));
+        others = λ key settled.
+            let now = one.others key settled in
+            subst (λ (keys : List (List ℕ)). IsNoneOf keys key) (sym (keys_then one.changes rest.changes))
+            (all_then (λ k. bytes_eq key k ≡ false) (copied_keys one.changes) (copied_keys rest.changes) now.0 (rest.others key now.1));
       }
 
   -- a core that ends a collection isn't stopped
@@ -473,6 +609,10 @@ module _ (C : Type 0) (state : C → CoreState) where
             omega (arith, above, below, here, snapshot_is)) all.changes s all.store h sweeps is;
         no_other = λ slot h there. stood snapshot c.sweep.sources.items all.changes s all.store slot h sweeps there;
         copies = all.copies;
-        freed_is = omega (arith, all.on.freed_on, none.none_freed, row.freed_is);
+        once = all.once;
+        freed_is =
+            let counted : IsCounted c.sweep = all.counted (begun_counted (state old).tables.held [] b.sweep row_first.nothing_yet.1) in
+            omega (arith, counted, row.freed_is, ap (sources_before c.sweep) row.at_end.1, ap length (sweeping.waits has.1), ap length has.0);
+        given_back = omega (arith, all.on.freed_on, none.none_freed, row.freed_is);
         copied_is = omega (arith, all.on.copied_on, none.none_copied, none.none_unwritten, written, row.copied_is);
       }

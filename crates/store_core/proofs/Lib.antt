@@ -2,6 +2,7 @@ pub mod AnySteps
 pub mod Bounded
 pub mod CheckedReads
 pub mod Committing
+pub mod CopiesOnce
 pub mod CoreRuns
 pub mod Counted
 pub mod Crashes

@@ -1,5 +1,5 @@
 -- What a collection has done once it has ended, whatever steps of others came between its own (docs/MODEL.md, 'The core').
-use Rattle.std.specs.Prelude.{◌≡◌, ◌⊎◌, ℕ, ◌≤◌, List, [], ◌∷◌, map, slice_get, Some}
+use Rattle.std.specs.Prelude.{◌≡◌, ◌⊎◌, ℕ, ◌≤◌, List, [], ◌∷◌, map, slice_get, Some, ◌++◌, length}
 use Rattle.std.specs.List.{AllByRecursion, IsDistinct}
 use Rattle.std.specs.Str.{bytes_eq}
 use Rattle.base_model.specs.Known.{Known}
@@ -55,6 +55,12 @@ abbrev pub IsOfCopies : (Kind → List Segment → Type 0) → StoreChange → T
 IsOfCopies P (FlushContainer id kind segments) = P kind segments
 IsOfCopies P change = Unit {0}
 
+-- the keys of the copies that changes write, one after the other
+abbrev pub copied_keys : List StoreChange → List (List ℕ)
+copied_keys [] = []
+copied_keys (FlushContainer id kind segments ∷ more) = map (segment_key kind) segments ++ copied_keys more
+copied_keys (change ∷ more) = copied_keys more
+
 -- The collection that ended, and what the steps of its run made of the store that it began at.
 pub record Collected (C : Type 0) (state : C → CoreState) (S : List ℕ → Type 0) (percent snapshot freed copied : ℕ) (steps : List FileEvent)
     (s : Store) (stored : Stored) (begun new last : C) (run : FileRun C state S steps begun new) : Type 0 where
@@ -82,10 +88,12 @@ pub record Collected (C : Type 0) (state : C → CoreState) (S : List ℕ → Ty
   -- No other container stands.
   pub no_other : (slot : ℕ) (h : HeaderValue) → slice_get store.held slot ≡ Some (Some h)
       → (slice_get s.held slot ≡ Some (Some h)) ⊎ IsAdded changes h
-  -- What was written with copies were live segments, as the store held them, each key once.
+  -- What was written with copies were live segments, as the store held them; and no key was copied twice.
   pub copies : AllByRecursion (IsOfCopies (WereCopies C state S steps begun new run)) changes
-  -- It answered how many containers it gave back, and how many segments those have that it wrote.
-  pub freed_is : freed ≡ freed_in changes
+  pub once : IsDistinct bytes_eq (copied_keys changes)
+  -- It answered how many sources there were, each of which was given back, and how many segments those containers have that it wrote.
+  pub freed_is : freed ≡ length collection.sweep.sources.items
+  pub given_back : freed ≡ freed_in changes
   pub copied_is : copied ≡ copied_in changes
 
 -- A collection that began at a store and came to its end has collected, whatever steps of any actors were made between, where no other one

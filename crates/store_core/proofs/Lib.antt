@@ -2,10 +2,13 @@ pub mod AnySteps
 pub mod Bounded
 pub mod CheckedReads
 pub mod Committing
+pub mod CopiesOnce
 pub mod CoreRuns
 pub mod Counted
 pub mod Crashes
 pub mod Damage
+pub mod Finished
+pub mod FinishedStores
 pub mod Flushed
 pub mod Frames
 pub mod GcSteps

@@ -1,5 +1,6 @@
 //! Laws of steps of a core, one after the other (docs/MODEL.md, 'The core').
 ghost use Rattle.store_core.specs.Bounds.{BoundsSteps};
+ghost use Rattle.store_core.specs.Finished.{CollectsInAll};
 ghost use Rattle.store_core.specs.Frame.{AddsAlone, ReserveStays, WrittenStays};
 ghost use Rattle.store_core.specs.Keeping.{KeepsSegments, StaysHeld, StaysSettled};
 ghost use Rattle.store_core.specs.Opening.{IsNewAt};
@@ -35,6 +36,12 @@ pub fn a_core_collects_the_rest<C: HasState>()
     ensures spare { ReleasesSpare C C.state }
     ensures none { LeavesNoneSpare C C.state }
     ensures answered { CollectsAsAnswered C C.state }
+{}
+
+/// Over data without collisions, of a core that began at a store: a collection that ended has given back each container that it selected and no
+/// other, whatever steps were made between its own; it has written only live segments, as they were held. The function does nothing.
+pub fn a_core_collects_what_it_selected<C: HasState>()
+    ensures { CollectsInAll C C.state }
 {}
 
 /// Over data without collisions, a core that began at a store and isn't stopped has made exactly the commits, the deletes and

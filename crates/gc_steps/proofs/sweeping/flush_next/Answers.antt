@@ -21,5 +21,5 @@ returns-clause-under_way g c =
     let alone = runs_alone (view c.args.disk.now).size c.requires.runs.0 c.args.tables.now runs in
     let writes = did.written.1 in
     swept_on (view c.args.disk.now).size _ c.args.tables.now.held c.flush_copies.new.tables now (swept now c.flush_copies.new.sweep) (writes.written.runs None (omega arith) alone)
-    (omega (arith, writes.written.last_is)) c.requires.under_way c.requires.stage refl
+    (omega (arith, writes.written.last_is)) c.requires.under_way c.requires.stage refl did.sweep.sources_are
     (did.under_way now.snapshot (at_stage c.args.tables.now.held now Sweep c.requires.under_way c.requires.stage))

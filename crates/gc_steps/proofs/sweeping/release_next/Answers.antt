@@ -29,5 +29,5 @@ returns-clause-under_way g c =
     let now = c.args.collection.now in
     let alone = runs_alone (view c.args.disk.now).size c.requires.runs.0 c.args.tables.now c.requires.runs.1 in
     swept_on (view c.args.disk.now).size None c.args.tables.now.held c.release_source.new.tables now (swept now c.release_source.new.sweep) (did.tables.runs (view c.args.disk.now).size None (λ index is. absurd cc) alone)
-    (omega (arith, did.tables.last_stays)) c.requires.under_way c.requires.stage refl
+    (omega (arith, did.tables.last_stays)) c.requires.under_way c.requires.stage refl did.sweep.sources_are
     (did.under_way now.snapshot (at_stage c.args.tables.now.held now Sweep c.requires.under_way c.requires.stage))

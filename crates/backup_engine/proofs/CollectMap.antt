@@ -1,15 +1,14 @@
 -- What a `collect` keeps of the map: all of it; and which containers it gives back.
-use Rattle.std.proofs.Common.{◌≡◌, ◌≢◌, ◌⊎◌, inl, inr, ◌+◌, ◌<◌, ◌≤◌, ℕ, List, [], ◌∷◌, ◌++◌, length, Option, None, Some, Result, Ok, Err, refl, sym, ◌∙◌, ap, subst, arith}
+use Rattle.std.proofs.Common.{◌≡◌, ◌⊎◌, inl, ◌+◌, ◌<◌, ◌≤◌, ℕ, List, [], ◌∷◌, ◌++◌, Option, None, Some, Result, Ok, Err, refl, sym, ◌∙◌, subst, arith}
 use Rattle.std.specs.Prelude.{IfErr, slice_get}
 use Rattle.base_model.specs.Bytes.{range}
 use Rattle.base_model.specs.Known.{KnownWith}
 use Rattle.actor_parts.specs.declared.step.Answer.{Answer}
 use Rattle.actor_parts.specs.declared.step.Answer.TheVariants as answers
 use Rattle.actor_parts.specs.StepValue as asked
-use Rattle.container_meta.specs.Places.{PlaceMap}
 use Rattle.container_meta.specs.Spelling.{HeaderValue}
-use Rattle.dd_disk.specs.Ending.{Done, Ending as DiskEnding, Reads, ending, ending_of}
-use Rattle.dd_disk.specs.View.{CrashLeaves, DiskView, OnlyReads}
+use Rattle.dd_disk.specs.Ending.{Done, Reads, ending, ending_of}
+use Rattle.dd_disk.specs.View.{CrashLeaves, DiskView}
 use Rattle.dd_disk.specs.Writes.{Both}
 use Rattle.dd_disk.proofs.Later.{leaves_weaker}
 use Rattle.dd_disk.proofs.Shows.{shown_content}
@@ -34,7 +33,7 @@ use Rattle.script_runner.specs.Acts.{Collects, Starts, Sweeps}
 use Rattle.script_runner.proofs.CollectCauses.{IsCauseAt, IsCollectCause, cause_at, collect_cause}
 use Rattle.segment_index.specs.Changes.{SameBefore}
 use Rattle.store_model.specs.Collisions.{ByteSet, HasNoCollisions, IsIn, IsOf, OpensAs}
-use Rattle.store_model.specs.Files.{Files, Stored}
+use Rattle.store_model.specs.Files.{Stored}
 use Rattle.store_model.specs.Image.{Encodes, Store}
 use Rattle.store_model.specs.Reserve.{IsReachable, IsSpare}
 use Rattle.store_model.specs.Slots.{free_slots, last_id}
@@ -54,17 +53,16 @@ use Rattle.store_core.proofs.CoreRuns.{running_step}
 use Rattle.store_core.proofs.Crashes.{leaves_on_the_way}
 use Rattle.store_core.proofs.Damage.{never_damaged}
 use Rattle.store_core.proofs.GcSteps.{end_reads}
-use Rattle.store_core.proofs.KeepingFiles.{run_running}
 use Rattle.store_core.proofs.Leading.{Leads}
 use Rattle.store_core.proofs.Releasing.{leaves_none_spare}
 use Rattle.store_core.proofs.Rooms.{free_held, room_ended}
-use Rattle.backup_engine.specs.Collected.{Collected, CollectedAll, HasNoIdLeft, collected_line, written_in}
+use Rattle.backup_engine.specs.Collected.{Collected, CollectedAll, HasNoIdLeft, collected_line}
 use Rattle.backup_engine.specs.Frame.{SameButSlotsOf}
 use Rattle.backup_engine.specs.Line.{Collect}
 use Rattle.backup_engine.specs.Promise.{EndsBy, EndsFrom, GivesSlotsBack, IsLeftAs, IsLeftWith, KeepsEachMap, KeepsMap, MayBeMeanwhile, WroteReply}
 use Rattle.backup_engine.specs.Promise as promise
 use Rattle.backup_engine.proofs.Called.{Called, Starts as StartsAt, starts}
-use Rattle.backup_engine.proofs.CollectKept.{begun_is, ends, index, since_old, sized, so_begun, so_last, start_event, store}
+use Rattle.backup_engine.proofs.CollectKept.{begun_is, ends, index, since_old, sized, so_begun, start_event, store}
 use Rattle.backup_engine.proofs.CollectMaps.{AreQuiet, DidSteps, MapSoFar, all_maps, did_steps, gc_file, none_held, quiet_then, run_then, start_file, still_on_the_way}
 use Rattle.backup_engine.proofs.CollectStays.{stays}
 use Rattle.backup_engine.proofs.CollectSteps.{CollectedSoFar, ended, gc_event, same_collection, under_way}

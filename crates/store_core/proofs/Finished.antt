@@ -548,7 +548,7 @@ module _ (C : Type 0) (state : C → CoreState) where
       }
 
   -- a core that ends a collection isn't stopped
-  ended_runs : (stop : Option Stop) (e : Event) (freed copied : ℕ) (old new : CoreState) → old.stop ≡ stop → e.answer ≡ Ok (answers.Done freed copied) → StepsOr stop e old new → old.stop ≡ None
+  pub ended_runs : (stop : Option Stop) (e : Event) (freed copied : ℕ) (old new : CoreState) → old.stop ≡ stop → e.answer ≡ Ok (answers.Done freed copied) → StepsOr stop e old new → old.stop ≡ None
   ended_runs None e freed copied old new is answer_is steps = is
   ended_runs (Some stop) e freed copied old new is answer_is steps = absurd (let wrong = sym answer_is ∙ steps.answer_is in cc)
 

@@ -13,6 +13,7 @@ pub mod Flushed
 pub mod Frames
 pub mod GcSteps
 pub mod GivingFiles
+pub mod JustNeeded
 pub mod KeepingFiles
 pub mod KeepingSegments
 pub mod Leading

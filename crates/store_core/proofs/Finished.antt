@@ -268,13 +268,13 @@ module _ (among : ByteSet) (distinct : HasNoCollisions (IsIn among)) (f : FileEv
     counted = λ counted. counted;
     once = subst (IsDistinct bytes_eq) (sym (adds []).no_keys) none_distinct;
     others = λ key settled. (
-        subst (λ (keys : List (List ℕ)). IsNoneOf keys key) (sym (adds []).no_keys) tt,
-        (let now : IsSettled t (record b { live = on.0 }) key = record {
-          sweeps = settled.sweeps;
-          newer = newer_then changes key (λ sources chosen. (adds sources).sweeps) settled;
-          unfilled = settled.unfilled;
-        } in now),
-      );
+      subst (λ (keys : List (List ℕ)). IsNoneOf keys key) (sym (adds []).no_keys) tt,
+      (let now : IsSettled t (record b { live = on.0 }) key = record {
+        sweeps = settled.sweeps;
+        newer = newer_then changes key (λ sources chosen. (adds sources).sweeps) settled;
+        unfilled = settled.unfilled;
+      } in now),
+    );
     settles = λ key has. absurd (let wrong : false ≡ true = ap (λ (keys : List (List ℕ)). listed keys key) (sym (adds []).no_keys) ∙ has in cc);
   }
 
@@ -339,16 +339,16 @@ module _ (among : ByteSet) (distinct : HasNoCollisions (IsIn among)) (f : FileEv
       changes_are = (slot_in_turn b.sweep, refl);
       chain = ((frees.header, frees.there), frees.now_is);
       sweeps = λ sources chosen. (
+        (
+          frees.header,
           (
-            frees.header,
-            (
-              frees.there,
-              subst (λ (ids : List ℕ). Contains ids frees.header.id) (sym (chosen stage_is))
-                  (subst (Contains b.sweep.sources.items) (sym frees.id_is) (Contains-get_or b.sweep.sources.items frees.number 0 frees.within)),
-            ),
+            frees.there,
+            subst (λ (ids : List ℕ). Contains ids frees.header.id) (sym (chosen stage_is))
+                (subst (Contains b.sweep.sources.items) (sym frees.id_is) (Contains-get_or b.sweep.sources.items frees.number 0 frees.within)),
           ),
-          frees.now_is,
-        );
+        ),
+        frees.now_is,
+      );
       copies = (tt, tt);
     }
     makes SweepStage End stage_is same = record { id = 0; changes_are = refl; chain = same; sweeps = λ sources chosen. same; copies = tt }
@@ -382,8 +382,7 @@ module _ (among : ByteSet) (distinct : HasNoCollisions (IsIn among)) (f : FileEv
           others = λ key settled. subst (λ (ks : List (List ℕ)). IsNoneOf ks key) (sym whole) (none_listed keys key settled.unfilled);
           newer = λ key has.
               let entry = listed_found b.sweep.buffer.kind 0 b.sweep.buffer.segments key (ap (λ (ks : List (List ℕ)). listed ks key) (sym whole) ∙ has) in
-              let h : HeaderValue = header_of id b.sweep.buffer.kind b.sweep.buffer.segments in
-              (
+              let h : HeaderValue = header_of id b.sweep.buffer.kind b.sweep.buffer.segments in (
                 stage_is,
                 subst (λ (x : Store). HoldsNewer x.held b.snapshot key) (sym sweeps.1) (record {
                   slot = first_free s.held;
@@ -443,13 +442,13 @@ module _ (among : ByteSet) (distinct : HasNoCollisions (IsIn among)) (f : FileEv
               counted = here.counted;
               once = keys.once;
               others = λ key was. (
-                  keys.others key was,
-                  settled key was.sweeps (newer_then changes key made.sweeps was)
-                      (λ filled. elim (here.filled key filled) [
-                        | inl before ↦ was.unfilled before
-                        | inr old_one ↦ not_old s.held at.index key b.snapshot (at.invariant image told).index_is_newest was.newer old_one
-                      ]),
-                );
+                keys.others key was,
+                settled key was.sweeps (newer_then changes key made.sweeps was)
+                    (λ filled. elim (here.filled key filled) [
+                      | inl before ↦ was.unfilled before
+                      | inr old_one ↦ not_old s.held at.index key b.snapshot (at.invariant image told).index_is_newest was.newer old_one
+                    ]),
+              );
               settles = λ key has. let is = keys.newer key has in settled key is.0 is.1 (keys.unfilled key has);
             }
 

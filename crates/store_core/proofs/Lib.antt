@@ -25,6 +25,7 @@ pub mod Opened
 pub mod OwnParts
 pub mod RunningOn
 pub mod Releasing
+pub mod RecordedAll
 pub mod Reserves
 pub mod Rooms
 pub mod SafeSteps

@@ -6,16 +6,17 @@ use Rattle.base_model.specs.Known.{Known}
 use Rattle.container_meta.specs.declared.kind.Kind.{Kind}
 use Rattle.container_meta.specs.Segments.{Segment, segment_key}
 use Rattle.container_meta.specs.Spelling.{HeaderValue, header_of}
-use Rattle.gc_select.specs.Selecting.{IsSelectedId, selected, sources_of}
+use Rattle.gc_select.specs.Selecting.{IsSelectedId, ids_of, selected, sources_of}
 use Rattle.gc_steps.specs.declared.collection.Collection.{Collection}
 use Rattle.gc_steps.specs.Roots.{IsActorKey}
+use Rattle.gc_steps.specs.UnderWay.{old_ids}
 use Rattle.gc_sweep.specs.Holding.{IsCopied}
 use Rattle.store_model.specs.Collisions.{HasNoCollisions, ByteSet, IsIn}
 use Rattle.store_model.specs.Files.{Files, Stored}
 use Rattle.store_model.specs.Image.{Store}
 use Rattle.store_model.specs.Indexing.{entry_key}
 use Rattle.store_model.specs.Reserve.{IsReachable}
-use Rattle.store_model.specs.Slots.{Copy, newest, place_of}
+use Rattle.store_model.specs.Slots.{Copy, ids_of as ids_held, newest, place_of}
 use Rattle.store_model.specs.Steps.{StoreChange, SealContainer, FlushContainer}
 use Rattle.store_core.specs.Bounds.{NoneEnds, starts}
 use Rattle.store_core.specs.Core.{CoreStep}
@@ -73,6 +74,8 @@ pub record Collected (C : Type 0) (state : C → CoreState) (S : List ℕ → Ty
   pub ran : (state new).collection ≡ Some collection
   pub snapshot_is : collection.snapshot ≡ snapshot
   pub percent_is : collection.percent ≡ percent
+  -- It recorded each container that was there when it began, once, in the order of their slots.
+  pub recorded : ids_of collection.liveness ≡ old_ids snapshot (ids_held s.held)
   -- Its sources were the containers that are selected by what it recorded, in their order.
   pub sources_are : collection.sweep.sources.items ≡ sources_of (selected snapshot percent collection.liveness)
   -- The core is at a store, to which the steps led by these changes; that the collection ended changed nothing.

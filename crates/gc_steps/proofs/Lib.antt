@@ -44,3 +44,4 @@ pub mod SweepSteps
 pub mod TablesRun
 pub mod UnderWay
 pub mod Unseen
+pub mod WholeCopies

@@ -1,5 +1,8 @@
 -- What a collection has done once it has ended, whatever steps of others came between its own.
-use Rattle.std.proofs.Common.{◌≡◌, inl, inr, ℕ, ◌<◌, ◌≤◌, true, false, List, [], ◌∷◌, ◌++◌, append-nil, length, get_or, Option, Some, None, Result, Ok, Err, Vec, Global, refl, sym, ◌∙◌, ap, subst, arith}
+use Rattle.std.proofs.Common.{◌≡◌, inl, inr, ℕ, ◌<◌, ◌≤◌, true, false, List, [], ◌∷◌, ◌++◌, append-nil, length, get_or, Option, Some, None, Result, Ok, Err, Vec, Global, refl, sym, ◌∙◌, ap, subst, arith, ◌⊎◌, ◌+◌}
+use Rattle.store_core.proofs.RecordedAll.{filter_early, level_early, mark_early, old_same}
+use Rattle.disk_format.specs.declared.numbers.TheConstants.{MOST_LEVEL}
+use Rattle.gc_steps.specs.Stages.{first_slot, is_old_slot}
 use Rattle.container_meta.specs.Spelling.{HeaderValue, header_of}
 use Rattle.container_meta.specs.Places.{PlaceMap}
 use Rattle.std.specs.Str.{bytes_eq}
@@ -15,15 +18,15 @@ use Rattle.container_meta.specs.declared.kind.Kind.{Kind}
 use Rattle.container_meta.specs.Segments.{Segment, has_key, keys_of}
 use Rattle.dd_disk.specs.View.{IsLater}
 use Rattle.gc_enumerate.specs.Live.{LiveKeys}
-use Rattle.gc_select.specs.Selecting.{selected, sources_of}
+use Rattle.gc_select.specs.Selecting.{selected, sources_of, ids_of}
 use Rattle.gc_steps.specs.declared.collection.Collection.{Collection}
 use Rattle.gc_steps.specs.declared.collection.Stage.{Stage}
 use Rattle.gc_steps.specs.declared.collection.Stage.TheVariants.{Filter, Mark, Select, Sweep as SweepStage}
 use Rattle.gc_steps.specs.FewSources.{IsToChoose}
 use Rattle.gc_steps.specs.Stepping.{Keeps, StepsTo, moment, phase_at}
 use Rattle.gc_steps.specs.SweepIsSafe.{HoldsAt}
-use Rattle.gc_steps.specs.UnderWay.{HasChosen, HasStage, IsUnderWay}
-use Rattle.gc_steps.proofs.Chosen.{chosen_which}
+use Rattle.gc_steps.specs.UnderWay.{HasChosen, HasStage, IsUnderWay, old_ids}
+use Rattle.gc_steps.proofs.Chosen.{chosen_which, whole}
 use Rattle.gc_steps.proofs.CopiedOn.{GoesWell, IsCounted, begun_counted, goes_well}
 use Rattle.gc_steps.proofs.Sparing.{held_at}
 use Rattle.gc_steps.proofs.StepSafe.{IsStoreAfter}
@@ -39,7 +42,7 @@ use Rattle.refusals.specs.declared.refusal.Refusal.TheVariants as refusals
 use Rattle.store_model.specs.Collisions.{HasNoCollisions, ByteSet, IsIn}
 use Rattle.store_model.specs.Files.{Stored}
 use Rattle.store_model.specs.Image.{Store}
-use Rattle.store_model.specs.Slots.{first_free}
+use Rattle.store_model.specs.Slots.{first_free, ids_of as ids_held}
 use Rattle.store_model.specs.Steps.{StoreChange, SealContainer, ChangeName, FlushContainer, FreeContainer}
 use Rattle.store_core.specs.declared.stop.Stop.{Stop}
 use Rattle.store_core.specs.Bounds.{IsNoEnd, NoneEnds, starts}
@@ -125,6 +128,14 @@ record IsSettled (s : Store) (c : Collection) (key : List ℕ) : Type 0 where
   newer : HoldsNewer s.held c.snapshot key
   unfilled : has_key c.sweep.buffer key ≡ true → ⊥
 
+-- Its sources are still to be chosen, or each container that is there was recorded; and once they are, what was recorded stays.
+record Records (s : Store) (b a : Collection) : Type 0 where
+  early : IsToChoose b.stage → IsToChoose a.stage ⊎ ((a.stage ≡ SweepStage) × (ids_of a.liveness ≡ old_ids b.snapshot (ids_held s.held)))
+  late : b.stage ≡ SweepStage → a.liveness ≡ b.liveness
+
+records_same : (s : Store) (b a : Collection) → a.stage ≡ b.stage → a.liveness ≡ b.liveness → Records s b a
+records_same s b a stage liveness = record { early = λ early. inl (subst IsToChoose (sym stage) early); late = λ sweeps. liveness }
+
 -- What a step leaves of a collection that runs, and of the containers.
 record Goes (among : ByteSet) (f : FileEvent) (b : Collection) (s : Store) (stored : Stored) (old new : CoreState) : Type 0 where
   a : Collection
@@ -139,6 +150,7 @@ record Goes (among : ByteSet) (f : FileEvent) (b : Collection) (s : Store) (stor
   counts : Counts changes b a
   keeps : KeepsOn b a
   counted : IsCounted b.sweep → IsCounted a.sweep
+  records : Records s b a
   once : IsDistinct bytes_eq (copied_keys changes)
   others : (key : List ℕ) → IsSettled s b key → IsNoneOf (copied_keys changes) key × IsSettled store a key
   settles : (key : List ℕ) → listed (copied_keys changes) key ≡ true → IsSettled store a key
@@ -266,15 +278,16 @@ module _ (among : ByteSet) (distinct : HasNoCollisions (IsIn among)) (f : FileEv
     };
     keeps = record { snapshot_is = refl; percent_is = refl; chosen = λ stage. (stage, refl) };
     counted = λ counted. counted;
+    records = records_same s b (record b { live = on.0 }) refl refl;
     once = subst (IsDistinct bytes_eq) (sym (adds []).no_keys) none_distinct;
     others = λ key settled. (
-        subst (λ (keys : List (List ℕ)). IsNoneOf keys key) (sym (adds []).no_keys) tt,
-        (let now : IsSettled t (record b { live = on.0 }) key = record {
-          sweeps = settled.sweeps;
-          newer = newer_then changes key (λ sources chosen. (adds sources).sweeps) settled;
-          unfilled = settled.unfilled;
-        } in now),
-      );
+      subst (λ (keys : List (List ℕ)). IsNoneOf keys key) (sym (adds []).no_keys) tt,
+      (let now : IsSettled t (record b { live = on.0 }) key = record {
+        sweeps = settled.sweeps;
+        newer = newer_then changes key (λ sources chosen. (adds sources).sweeps) settled;
+        unfilled = settled.unfilled;
+      } in now),
+    );
     settles = λ key has. absurd (let wrong : false ≡ true = ap (λ (keys : List (List ℕ)). listed keys key) (sym (adds []).no_keys) ∙ has in cc);
   }
 
@@ -339,16 +352,16 @@ module _ (among : ByteSet) (distinct : HasNoCollisions (IsIn among)) (f : FileEv
       changes_are = (slot_in_turn b.sweep, refl);
       chain = ((frees.header, frees.there), frees.now_is);
       sweeps = λ sources chosen. (
+        (
+          frees.header,
           (
-            frees.header,
-            (
-              frees.there,
-              subst (λ (ids : List ℕ). Contains ids frees.header.id) (sym (chosen stage_is))
-                  (subst (Contains b.sweep.sources.items) (sym frees.id_is) (Contains-get_or b.sweep.sources.items frees.number 0 frees.within)),
-            ),
+            frees.there,
+            subst (λ (ids : List ℕ). Contains ids frees.header.id) (sym (chosen stage_is))
+                (subst (Contains b.sweep.sources.items) (sym frees.id_is) (Contains-get_or b.sweep.sources.items frees.number 0 frees.within)),
           ),
-          frees.now_is,
-        );
+        ),
+        frees.now_is,
+      );
       copies = (tt, tt);
     }
     makes SweepStage End stage_is same = record { id = 0; changes_are = refl; chain = same; sweeps = λ sources chosen. same; copies = tt }
@@ -382,8 +395,7 @@ module _ (among : ByteSet) (distinct : HasNoCollisions (IsIn among)) (f : FileEv
           others = λ key settled. subst (λ (ks : List (List ℕ)). IsNoneOf ks key) (sym whole) (none_listed keys key settled.unfilled);
           newer = λ key has.
               let entry = listed_found b.sweep.buffer.kind 0 b.sweep.buffer.segments key (ap (λ (ks : List (List ℕ)). listed ks key) (sym whole) ∙ has) in
-              let h : HeaderValue = header_of id b.sweep.buffer.kind b.sweep.buffer.segments in
-              (
+              let h : HeaderValue = header_of id b.sweep.buffer.kind b.sweep.buffer.segments in (
                 stage_is,
                 subst (λ (x : Store). HoldsNewer x.held b.snapshot key) (sym sweeps.1) (record {
                   slot = first_free s.held;
@@ -404,6 +416,28 @@ module _ (among : ByteSet) (distinct : HasNoCollisions (IsIn among)) (f : FileEv
         goes_well old.tables new.tables at.index s.held image new.known old.disk new.disk b a at.represents.slots_hold at.valid.different (at.stands.each image (old.disk.as_read image told)).holds.right.slots_are
         (at.invariant image told).index_is_newest told under (holds_at image told)
         (subst (λ (k : Option PlaceMap). StepsTo b.stage b.sweep.next (moment old.tables k old.disk b) (at_moment new a)) at.index_known steps)
+
+    no_sweep : (a : Collection) (stage : Stage) → b.stage ≡ stage → IsToChoose stage → IsToChoose a.stage → Records s b a
+    no_sweep a stage is early now = record { early = λ was. inl now; late = λ sweeps. absurd (let wrong : ⊥ = subst IsToChoose (sym is ∙ sweeps) early in wrong) }
+
+    records_by : (a : Collection) (stage : Stage) (next : Next) → b.stage ≡ stage → StepsTo stage next (at_moment old b) (at_moment new a) → Records s b a
+    records_by a (Mark level slot) next is steps =
+        no_sweep a (Mark level slot) is tt (subst IsToChoose (sym (ap (λ (x : Collection). x.stage) steps.0.collection_is)) (mark_early b.snapshot old.tables.held level (slot + 1)))
+    records_by a (Filter slot) next is steps =
+        no_sweep a (Filter slot) is tt
+        (subst IsToChoose (sym (ap (λ (x : Collection). x.stage) steps.0.collection_is)) (filter_early (first_slot old.tables.held (is_old_slot b.snapshot old.tables.held) (slot + 1))))
+    records_by a Select next is steps = record {
+      early = λ was. inr (
+        ap (λ (x : Collection). x.stage) steps.0.collection_is,
+        ap (λ (x : Collection). ids_of x.liveness) steps.0.collection_is ∙ whole old.tables.held b [] (subst (HasStage old.tables.held b) is under.stage_is).0
+            ∙ ap (old_ids b.snapshot) at.represents.slots_hold.ids_are,
+      );
+      late = λ sweeps. ap (λ (x : Collection). x.liveness) steps.0.collection_is;
+    }
+    records_by a SweepStage (Copy source entry) is steps = records_same s b a (ap (λ (x : Collection). x.stage) steps.1) (ap (λ (x : Collection). x.liveness) steps.1)
+    records_by a SweepStage (Flush source entry) is steps = records_same s b a (ap (λ (x : Collection). x.stage) steps.sweeps) (ap (λ (x : Collection). x.liveness) steps.sweeps)
+    records_by a SweepStage (Release source entry) is steps = records_same s b a (ap (λ (x : Collection). x.stage) steps.1) (ap (λ (x : Collection). x.liveness) steps.1)
+    records_by a SweepStage End is steps = records_same s b a (ap (λ (x : Collection). x.stage) steps.0) (ap (λ (x : Collection). x.liveness) steps.0)
 
     -- one was made
     did_goes : (phase : Phase) → f.event.answer ≡ Ok (answers.Did phase) → GoesOn phase old new → TouchesBy old.collection (Ok (answers.Did phase)) old new.disk → IsLater old.disk new.disk → Goes among f b s stored old new
@@ -441,15 +475,16 @@ module _ (among : ByteSet) (distinct : HasNoCollisions (IsIn among)) (f : FileEv
               counts = counts_step old new b goes.after quiet made.id b.stage b.sweep.next refl steps_here;
               keeps = keeps;
               counted = here.counted;
+              records = records_by goes.after b.stage b.sweep.next refl steps_here;
               once = keys.once;
               others = λ key was. (
-                  keys.others key was,
-                  settled key was.sweeps (newer_then changes key made.sweeps was)
-                      (λ filled. elim (here.filled key filled) [
-                        | inl before ↦ was.unfilled before
-                        | inr old_one ↦ not_old s.held at.index key b.snapshot (at.invariant image told).index_is_newest was.newer old_one
-                      ]),
-                );
+                keys.others key was,
+                settled key was.sweeps (newer_then changes key made.sweeps was)
+                    (λ filled. elim (here.filled key filled) [
+                      | inl before ↦ was.unfilled before
+                      | inr old_one ↦ not_old s.held at.index key b.snapshot (at.invariant image told).index_is_newest was.newer old_one
+                    ]),
+              );
               settles = λ key has. let is = keys.newer key has in settled key is.0 is.1 (keys.unfilled key has);
             }
 
@@ -494,6 +529,8 @@ module _ (C : Type 0) (state : C → CoreState) where
     on : CountsOn changes b.sweep c.sweep
     keeps : KeepsOn b c
     counted : IsCounted b.sweep → IsCounted c.sweep
+    recorded : IsToChoose b.stage → c.stage ≡ SweepStage → ids_of c.liveness ≡ old_ids b.snapshot (ids_held s.held)
+    recorded_still : b.stage ≡ SweepStage → c.liveness ≡ b.liveness
     once : IsDistinct bytes_eq (copied_keys changes)
     others : (key : List ℕ) → IsSettled s b key → IsNoneOf (copied_keys changes) key
 
@@ -513,6 +550,8 @@ module _ (C : Type 0) (state : C → CoreState) where
         on = counts_same b.sweep c.sweep (ap (λ (x : Collection). x.sweep) same);
         keeps = keeps_same b c same;
         counted = λ counted. subst (λ (x : Collection). IsCounted x.sweep) (sym same) counted;
+        recorded = λ early sweeps. absurd (let wrong : ⊥ = subst IsToChoose (sym (ap (λ (x : Collection). x.stage) same) ∙ sweeps) early in wrong);
+        recorded_still = λ stage. ap (λ (x : Collection). x.liveness) same;
         once = none_distinct;
         others = λ key settled. tt;
       }
@@ -539,6 +578,13 @@ module _ (C : Type 0) (state : C → CoreState) where
         on = counts_then one.changes rest.changes b.sweep one.a.sweep c.sweep one.counts.on rest.on;
         keeps = keeps;
         counted = λ counted. rest.counted (one.counted counted);
+        recorded = λ early sweeps. elim (one.records.early early) [
+          | inl still ↦
+              rest.recorded still sweeps ∙ ap (λ (n : ℕ). old_ids n (ids_held one.store.held)) one.keeps.snapshot_is
+              ∙ old_same b.snapshot one.changes s one.store (one.sweeps [] (λ stage. absurd (let wrong : ⊥ = subst IsToChoose stage early in wrong)))
+          | inr now ↦ ap ids_of (rest.recorded_still now.0) ∙ now.1
+        ];
+        recorded_still = λ stage. rest.recorded_still (one.keeps.chosen stage).0 ∙ one.records.late stage;
         once = subst (IsDistinct bytes_eq) (sym (keys_then one.changes rest.changes))
             (distinct_then (copied_keys one.changes) (copied_keys rest.changes) one.once rest.once (λ key has. rest.others key (one.settles key has)));
         others = λ key settled.
@@ -548,7 +594,7 @@ module _ (C : Type 0) (state : C → CoreState) where
       }
 
   -- a core that ends a collection isn't stopped
-  ended_runs : (stop : Option Stop) (e : Event) (freed copied : ℕ) (old new : CoreState) → old.stop ≡ stop → e.answer ≡ Ok (answers.Done freed copied) → StepsOr stop e old new → old.stop ≡ None
+  pub ended_runs : (stop : Option Stop) (e : Event) (freed copied : ℕ) (old new : CoreState) → old.stop ≡ stop → e.answer ≡ Ok (answers.Done freed copied) → StepsOr stop e old new → old.stop ≡ None
   ended_runs None e freed copied old new is answer_is steps = is
   ended_runs (Some stop) e freed copied old new is answer_is steps = absurd (let wrong = sym answer_is ∙ steps.answer_is in cc)
 
@@ -591,6 +637,9 @@ module _ (C : Type 0) (state : C → CoreState) where
         ran = row.ran;
         snapshot_is = snapshot_is;
         percent_is = percent_is;
+        recorded =
+            all.recorded (subst IsToChoose (sym row_first.stage_is) (level_early b.snapshot (state old).tables.held MOST_LEVEL)) row.at_end.0
+            ∙ ap (λ (n : ℕ). old_ids n (ids_held s.held)) (sym row_first.snapshot_is);
         sources_are = sources;
         store = all.store;
         is_at = subst (λ (x : Store). IsAt (IsIn among) x (stored_after steps stored) (state last)) same_last over.next.is_at;

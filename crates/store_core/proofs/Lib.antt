@@ -13,6 +13,7 @@ pub mod Flushed
 pub mod Frames
 pub mod GcSteps
 pub mod GivingFiles
+pub mod JustNeeded
 pub mod KeepingFiles
 pub mod KeepingSegments
 pub mod Leading
@@ -24,6 +25,7 @@ pub mod Opened
 pub mod OwnParts
 pub mod RunningOn
 pub mod Releasing
+pub mod RecordedAll
 pub mod Reserves
 pub mod Rooms
 pub mod SafeSteps

@@ -1,21 +1,26 @@
 -- What a collection has done once it has ended, whatever steps of others came between its own (docs/MODEL.md, 'The core').
-use Rattle.std.specs.Prelude.{◌≡◌, ◌⊎◌, ℕ, ◌≤◌, List, [], ◌∷◌, map, slice_get, Some, ◌++◌, length}
+use Rattle.std.specs.Prelude.{◌≡◌, ◌⊎◌, ℕ, ◌≤◌, List, [], ◌∷◌, map, slice_get, Some, ◌++◌, length, Option, option_map}
 use Rattle.std.specs.List.{AllByRecursion, IsDistinct}
 use Rattle.std.specs.Str.{bytes_eq}
 use Rattle.base_model.specs.Known.{Known}
 use Rattle.container_meta.specs.declared.kind.Kind.{Kind}
 use Rattle.container_meta.specs.Segments.{Segment, segment_key}
 use Rattle.container_meta.specs.Spelling.{HeaderValue, header_of}
-use Rattle.gc_select.specs.Selecting.{IsSelectedId, selected, sources_of}
+use Rattle.gc_select.specs.Selecting.{IsSelectedId, ids_of, selected, sources_of}
 use Rattle.gc_steps.specs.declared.collection.Collection.{Collection}
+use Rattle.gc_steps.specs.Roots.{IsActorKey}
+use Rattle.gc_steps.specs.UnderWay.{old_ids}
 use Rattle.gc_sweep.specs.Holding.{IsCopied}
 use Rattle.store_model.specs.Collisions.{HasNoCollisions, ByteSet, IsIn}
-use Rattle.store_model.specs.Files.{Stored}
+use Rattle.store_model.specs.Files.{Files, Stored}
 use Rattle.store_model.specs.Image.{Store}
+use Rattle.store_model.specs.Indexing.{entry_key}
+use Rattle.store_model.specs.Reserve.{IsReachable}
+use Rattle.store_model.specs.Slots.{Copy, ids_of as ids_held, newest, place_of}
 use Rattle.store_model.specs.Steps.{StoreChange, SealContainer, FlushContainer}
 use Rattle.store_core.specs.Bounds.{NoneEnds, starts}
 use Rattle.store_core.specs.Core.{CoreStep}
-use Rattle.store_core.specs.Releases.{copied_in, ends_with, freed_in}
+use Rattle.store_core.specs.Releases.{AreGcSteps, copied_in, ends_with, freed_in}
 use Rattle.store_core.specs.Runs.{AreChangesOf, ChangesTo, FileEvent, FileRun, IsAt, events_of, stored_after}
 use Rattle.store_core.specs.State.{CoreState}
 
@@ -69,6 +74,8 @@ pub record Collected (C : Type 0) (state : C → CoreState) (S : List ℕ → Ty
   pub ran : (state new).collection ≡ Some collection
   pub snapshot_is : collection.snapshot ≡ snapshot
   pub percent_is : collection.percent ≡ percent
+  -- It recorded each container that was there when it began, once, in the order of their slots.
+  pub recorded : ids_of collection.liveness ≡ old_ids snapshot (ids_held s.held)
   -- Its sources were the containers that are selected by what it recorded, in their order.
   pub sources_are : collection.sweep.sources.items ≡ sources_of (selected snapshot percent collection.liveness)
   -- The core is at a store, to which the steps led by these changes; that the collection ended changed nothing.
@@ -106,3 +113,21 @@ CollectsInAll C state = (among : ByteSet) (actor last_actor percent snapshot fre
     → (run : FileRun C state (IsIn among) steps begun new) → NoneEnds (events_of steps)
     → CoreStep (state new) (ends_with last_actor freed copied last_buf) (state last)
     → Collected C state (IsIn among) percent snapshot freed copied steps s stored begun new last run
+
+-- The containers hold just what the files need, and each key of that once: each entry of each container is the newest copy of such a key, and of
+-- each such key there is a copy.
+pub record HoldsJustNeeded (files : Files) (held : List (Option HeaderValue)) : Type 0 where
+  pub each : (slot : ℕ) (h : HeaderValue) → slice_get held slot ≡ Some (Some h)
+      → AllByRecursion (λ e. IsReachable files (entry_key h.kind e)
+      × (option_map (λ c. c.place) (newest 0 held (entry_key h.kind e)) ≡ Some (place_of slot e))) h.entries
+  pub all : (key : List ℕ) → IsReachable files key → (copy : Copy) × (newest 0 held key ≡ Some copy)
+
+-- So it is where one of the percentage 100 began while no actor held a key, and came to its end with no other steps between.
+abbrev pub LeavesJustNeeded : (C : Type 0) → (C → CoreState) → Type 0
+LeavesJustNeeded C state = (among : ByteSet) (actor last_actor snapshot freed copied : ℕ) (buf last_buf : List ℕ)
+    (steps : List FileEvent) (s t : Store) (stored : Stored) (old begun new last : C)
+    → HasNoCollisions (IsIn among) → IsAt (IsIn among) s stored (state old) → ((key : List ℕ) → ¬ (IsActorKey (state old).parts key))
+    → CoreStep (state old) (starts actor 100 snapshot buf) (state begun)
+    → FileRun C state (IsIn among) steps begun new → AreGcSteps steps
+    → CoreStep (state new) (ends_with last_actor freed copied last_buf) (state last)
+    → IsAt (IsIn among) t stored (state last) → HoldsJustNeeded stored.files t.held

@@ -28,7 +28,7 @@ use Rattle.store_core.specs.State.{CoreState}
 use Rattle.store_core.proofs.CoreRuns.{running_step}
 use Rattle.backup_engine.specs.Frame.{MayFill, SameButSlotsOf}
 use Rattle.backup_engine.proofs.CollectSteps.{CollectedSoFar, free_so, gc_event, had_so, may_fill_so, one_more, valid_so}
-use Rattle.backup_engine.proofs.SweptBytes.{IsFramed, filled_with, freed_with, same_slots, stage_so}
+use Rattle.backup_engine.proofs.SweptBytes.{filled_with, freed_with, same_slots, stage_so}
 use Rattle.backup_engine.proofs.SweptSlots.{all-more, may_more}
 
 -- but the gates of some slots that had a container, and some slots that were closed, all before the end of the slots is as it was

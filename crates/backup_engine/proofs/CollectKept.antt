@@ -1,5 +1,5 @@
 -- What a `collect` keeps, whatever the disk holds.
-use Rattle.std.proofs.Common.{◌≡◌, ◌≢◌, inr, ◌+◌, ◌≤◌, ℕ, List, [], length, Option, None, Some, Result, Ok, Err, refl, sym, ◌∙◌, ap, subst, arith}
+use Rattle.std.proofs.Common.{◌≡◌, inr, ◌+◌, ◌≤◌, ℕ, List, [], length, Option, None, Some, Result, Ok, Err, refl, sym, ◌∙◌, ap, subst, arith}
 use Rattle.actor_parts.specs.declared.step.Answer.{Answer}
 use Rattle.actor_parts.specs.declared.step.Answer.TheVariants as answers
 use Rattle.actor_parts.specs.StepValue as asked
@@ -12,9 +12,7 @@ use Rattle.dd_disk.proofs.Shows.{shown_content}
 use Rattle.dd_io.specs.Flow.{SourceView, SinkView}
 use Rattle.disk_format.specs.Layout.{size_of}
 use Rattle.disk_format.specs.declared.numbers.TheConstants.{LAST_ID}
-use Rattle.gc_steps.specs.Stepping.{Touches}
 use Rattle.gc_steps.specs.declared.collection.Collection.{Collection}
-use Rattle.gc_sweep.specs.declared.sweep.Next.TheVariants.{End}
 use Rattle.refusals.specs.declared.refusal.Phase.{Phase}
 use Rattle.refusals.specs.declared.refusal.Refusal.{Refusal}
 use Rattle.refusals.specs.declared.refusal.Refusal.TheVariants as refusals
@@ -42,7 +40,7 @@ use Rattle.backup_engine.specs.Line.{Collect}
 use Rattle.backup_engine.specs.Promise.{WroteReply}
 use Rattle.backup_engine.proofs.Called.{Called, settled}
 use Rattle.backup_engine.proofs.CollectCauses.{stage_cause}
-use Rattle.backup_engine.proofs.CollectFrame.{IsBut, all_leave, but_here, each_but, step_leaves}
+use Rattle.backup_engine.proofs.CollectFrame.{IsBut, all_leave, but_here, step_leaves}
 use Rattle.backup_engine.proofs.CollectSteps.{CollectedSoFar, IsMarking, all_steps, collection_later, ended, gc_event, none_counted, reads_settled, same_collection}
 use Rattle.backup_engine.proofs.SweptBytes.{IsFramed, framed_reads, same_slots}
 use Rattle.backup_engine.proofs.SweptSlots.{no_slots}

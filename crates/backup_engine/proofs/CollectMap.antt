@@ -1,15 +1,14 @@
 -- What a `collect` keeps of the map: all of it; and which containers it gives back.
-use Rattle.std.proofs.Common.{◌≡◌, ◌≢◌, ◌⊎◌, inl, inr, ◌+◌, ◌<◌, ◌≤◌, ℕ, List, [], ◌∷◌, ◌++◌, length, Option, None, Some, Result, Ok, Err, refl, sym, ◌∙◌, ap, subst, arith}
+use Rattle.std.proofs.Common.{◌≡◌, ◌⊎◌, inl, ◌+◌, ◌<◌, ◌≤◌, ℕ, List, [], ◌∷◌, ◌++◌, Option, None, Some, Result, Ok, Err, refl, sym, ◌∙◌, subst, arith}
 use Rattle.std.specs.Prelude.{IfErr, slice_get}
 use Rattle.base_model.specs.Bytes.{range}
 use Rattle.base_model.specs.Known.{KnownWith}
 use Rattle.actor_parts.specs.declared.step.Answer.{Answer}
 use Rattle.actor_parts.specs.declared.step.Answer.TheVariants as answers
 use Rattle.actor_parts.specs.StepValue as asked
-use Rattle.container_meta.specs.Places.{PlaceMap}
 use Rattle.container_meta.specs.Spelling.{HeaderValue}
-use Rattle.dd_disk.specs.Ending.{Done, Ending as DiskEnding, Reads, ending, ending_of}
-use Rattle.dd_disk.specs.View.{CrashLeaves, DiskView, OnlyReads}
+use Rattle.dd_disk.specs.Ending.{Done, Reads, ending, ending_of}
+use Rattle.dd_disk.specs.View.{CrashLeaves, DiskView}
 use Rattle.dd_disk.specs.Writes.{Both}
 use Rattle.dd_disk.proofs.Later.{leaves_weaker}
 use Rattle.dd_disk.proofs.Shows.{shown_content}
@@ -34,7 +33,7 @@ use Rattle.script_runner.specs.Acts.{Collects, Starts, Sweeps}
 use Rattle.script_runner.proofs.CollectCauses.{IsCauseAt, IsCollectCause, cause_at, collect_cause}
 use Rattle.segment_index.specs.Changes.{SameBefore}
 use Rattle.store_model.specs.Collisions.{ByteSet, HasNoCollisions, IsIn, IsOf, OpensAs}
-use Rattle.store_model.specs.Files.{Files, Stored}
+use Rattle.store_model.specs.Files.{Stored}
 use Rattle.store_model.specs.Image.{Encodes, Store}
 use Rattle.store_model.specs.Reserve.{IsReachable, IsSpare}
 use Rattle.store_model.specs.Slots.{free_slots, last_id}
@@ -54,17 +53,19 @@ use Rattle.store_core.proofs.CoreRuns.{running_step}
 use Rattle.store_core.proofs.Crashes.{leaves_on_the_way}
 use Rattle.store_core.proofs.Damage.{never_damaged}
 use Rattle.store_core.proofs.GcSteps.{end_reads}
-use Rattle.store_core.proofs.KeepingFiles.{run_running}
 use Rattle.store_core.proofs.Leading.{Leads}
+use Rattle.store_core.specs.Bounds as bounds
+use Rattle.store_core.specs.Finished.{HoldsJustNeeded}
+use Rattle.store_core.proofs.JustNeeded.{leaves_just_needed}
 use Rattle.store_core.proofs.Releasing.{leaves_none_spare}
 use Rattle.store_core.proofs.Rooms.{free_held, room_ended}
-use Rattle.backup_engine.specs.Collected.{Collected, CollectedAll, HasNoIdLeft, collected_line, written_in}
+use Rattle.backup_engine.specs.Collected.{Collected, CollectedAll, HasNoIdLeft, collected_line}
 use Rattle.backup_engine.specs.Frame.{SameButSlotsOf}
 use Rattle.backup_engine.specs.Line.{Collect}
 use Rattle.backup_engine.specs.Promise.{EndsBy, EndsFrom, GivesSlotsBack, IsLeftAs, IsLeftWith, KeepsEachMap, KeepsMap, MayBeMeanwhile, WroteReply}
 use Rattle.backup_engine.specs.Promise as promise
 use Rattle.backup_engine.proofs.Called.{Called, Starts as StartsAt, starts}
-use Rattle.backup_engine.proofs.CollectKept.{begun_is, ends, index, since_old, sized, so_begun, so_last, start_event, store}
+use Rattle.backup_engine.proofs.CollectKept.{begun_is, ends, index, since_old, sized, so_begun, start_event, store}
 use Rattle.backup_engine.proofs.CollectMaps.{AreQuiet, DidSteps, MapSoFar, all_maps, did_steps, gc_file, none_held, quiet_then, run_then, start_file, still_on_the_way}
 use Rattle.backup_engine.proofs.CollectStays.{stays}
 use Rattle.backup_engine.proofs.CollectSteps.{CollectedSoFar, ended, gc_event, same_collection, under_way}
@@ -351,8 +352,8 @@ module _ (C : Type 0) (state : C → CoreState) (v w : DiskView) (old new : C) (
           pub gave_some : (store : Store) → Encodes image store → KnownWith w.content (Collected m.files (freed_in so.changes) (copied_in so.changes) store image)
           gave_some store right = (content_now.0, content_now.1.0, gave_one store right)
 
-          pub gave_all : ((slot : ℕ) → ¬ (IsSpare Needs so.after.held slot)) → (store : Store) → Encodes image store → KnownWith w.content (CollectedAll m.files (freed_in so.changes) (copied_in so.changes) store image)
-          gave_all none store right = (content_now.0, content_now.1.0, record { collected = gave_one store right; none_spare = none })
+          pub gave_all : ((slot : ℕ) → ¬ (IsSpare Needs so.after.held slot)) → (percent ≡ 100 → HoldsJustNeeded m.files so.after.held) → (store : Store) → Encodes image store → KnownWith w.content (CollectedAll m.files percent (freed_in so.changes) (copied_in so.changes) store image)
+          gave_all none full store right = (content_now.0, content_now.1.0, record { collected = gave_one store right; none_spare = none; full = full })
 
       -- ---- it came to its end
 
@@ -392,13 +393,20 @@ module _ (C : Type 0) (state : C → CoreState) (v w : DiskView) (old new : C) (
             leaves_none_spare C state among 0 0 percent snapshot freed copied start.0 collects.0 did.steps at.store so.after m old mid sweeps.1.0 new distinct at.is_at (none_held (state old).parts called.opened.parts_are)
             called.opened.stop_is start.1 did.run did.all so.stop_is (subst (λ (a : Result Answer Refusal). CoreStep (state sweeps.1.0) (gc_event a collects.0) (state new)) done collects.1) far.is_at
 
+        -- one of 100 leaves just what the files need
+        full_now : percent ≡ 100 → HoldsJustNeeded m.files so.after.held
+        full_now full =
+            leaves_just_needed C state among 0 0 snapshot freed copied start.0 collects.0 did.steps at.store so.after m old mid sweeps.1.0 new distinct at.is_at (none_held (state old).parts called.opened.parts_are)
+            (subst (λ (p : ℕ). CoreStep (state old) (bounds.starts 0 p snapshot start.0) (state mid)) full start.1) did.run did.all
+            (subst (λ (a : Result Answer Refusal). CoreStep (state sweeps.1.0) (gc_event a collects.0) (state new)) done collects.1) (at_last only_done runs_done)
+
         pub done_left : IsLeftWith m w.content (λ store. Unit {0})
         done_left = left_now only_done runs_done room_done
 
-        pub done_gave : (store : Store) → Encodes image store → KnownWith w.content (CollectedAll m.files freed copied store image)
+        pub done_gave : (store : Store) → Encodes image store → KnownWith w.content (CollectedAll m.files percent freed copied store image)
         done_gave store right =
-            subst (λ (n : ℕ). KnownWith w.content (CollectedAll m.files n copied store image)) (sym row_done.1)
-            (subst (λ (n : ℕ). KnownWith w.content (CollectedAll m.files (freed_in so.changes) n store image)) (sym row_done.2) (gave_all only_done runs_done kept_done none_before store right))
+            subst (λ (n : ℕ). KnownWith w.content (CollectedAll m.files percent n copied store image)) (sym row_done.1)
+            (subst (λ (n : ℕ). KnownWith w.content (CollectedAll m.files percent (freed_in so.changes) n store image)) (sym row_done.2) (gave_all only_done runs_done kept_done none_before full_now store right))
 
       -- ---- it was refused
 
@@ -495,7 +503,7 @@ module _ (C : Type 0) (state : C → CoreState) (v w : DiskView) (old new : C) (
       done = Ok (answers.Done freed copied)
 
       module _ (among : ByteSet) (m : Stored) (distinct : HasNoCollisions (IsIn among)) (image : List ℕ) (told : v.content ≡ Some image) (is : IsOf (IsIn among) m image) where
-        all_gave : (store : Store) → Encodes image store → KnownWith w.content (CollectedAll m.files freed copied store image)
+        all_gave : (store : Store) → Encodes image store → KnownWith w.content (CollectedAll m.files percent freed copied store image)
         all_gave = done_gave snapshot mid start done sweeps among m distinct image told is freed copied refl
 
         done_answer : (ending : Option Ending) (sink sink_now : SinkView) → IsDone ending → WroteReply (collected_line freed copied) ending sink sink_now → KeepsMap (IsIn among) (Collect percent) [] ending m v w sink sink_now

@@ -1,6 +1,6 @@
 -- The steps of a collection over a map: the core stays at it, at the store to which they lead whatever the disk holds, and what they give back
 -- no file needs.
-use Rattle.std.proofs.Common.{◌≡◌, ◌⊎◌, inl, inr, ◌+◌, ◌≤◌, ℕ, zero, suc, List, [], ◌∷◌, ◌++◌, get_or, replicate, Option, None, Some, Result, Ok, refl, sym, ◌∙◌, ap, subst, arith}
+use Rattle.std.proofs.Common.{◌≡◌, inl, inr, ◌+◌, ◌≤◌, ℕ, zero, suc, List, [], ◌∷◌, ◌++◌, get_or, replicate, Option, None, Result, Ok, refl, sym, ◌∙◌, ap, subst, arith}
 use Rattle.std.specs.List.{AllByRecursion}
 use Rattle.actor_parts.specs.declared.actor.TheConstants.{ACTORS}
 use Rattle.actor_parts.specs.declared.part.Part.{Part}
@@ -189,11 +189,11 @@ module _ (s : Store) (index : PlaceMap) (v : DiskView) (sized : v.size ≡ size_
     abbrev image : List ℕ
     image = far.is_at.stands.known.0
 
-    to : IsStoreAfter row.before.stage row.before.sweep.next row.before.sweep far.is_at.index so.after t image
+    to : IsStoreAfter row.before.stage row.before.sweep.next row.before.snapshot row.before.sweep far.is_at.index so.after t image
     to = led_to among so.after m (state old) (state new) far.is_at t led.next.is_at phase row steps.made.effect.touches steps.made.effect.later
 
     -- whatever the disk holds it led there
-    same_by : (stage : Stage) (next : Next) (sweep : Sweep) (changes : List StoreChange) (now : Store) → IsStoreAfter stage next sweep far.is_at.index so.after t image
+    same_by : (stage : Stage) (next : Next) (sweep : Sweep) (changes : List StoreChange) (now : Store) → IsStoreAfter stage next row.before.snapshot sweep far.is_at.index so.after t image
         → IsChangeOf stage next sweep (state old).tables.held.last_id so.after changes now → Represents now None (state new).tables → t ≡ now
     same_by (Mark level slot) next sweep changes now is change represents = is ∙ sym change.1
     same_by (Filter slot) next sweep changes now is change represents = is ∙ sym change.1
@@ -217,7 +217,7 @@ module _ (s : Store) (index : PlaceMap) (v : DiskView) (sized : v.size ≡ size_
     nothing changes now none same = subst (λ (l : List StoreChange). SweepsSpare Needs l so.after now) (sym none) same
 
     -- what it gave back the files don't need
-    alone_by : (stage : Stage) (next : Next) (sweep : Sweep) (last : ℕ) (changes : List StoreChange) (now : Store) → IsStoreAfter stage next sweep far.is_at.index so.after t image
+    alone_by : (stage : Stage) (next : Next) (sweep : Sweep) (last : ℕ) (changes : List StoreChange) (now : Store) → IsStoreAfter stage next row.before.snapshot sweep far.is_at.index so.after t image
         → IsChangeOf stage next sweep last so.after changes now → ChangesTo changes so.after now → SweepsSpare Needs changes so.after now
     alone_by (Mark level slot) next sweep last changes now is change chain = nothing changes now change.0 change.1
     alone_by (Filter slot) next sweep last changes now is change chain = nothing changes now change.0 change.1

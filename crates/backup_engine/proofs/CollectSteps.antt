@@ -1,5 +1,5 @@
 -- The steps of a collection, one after the other, whatever the disk holds: what they changed of the store so far.
-use Rattle.std.proofs.Common.{◌≡◌, ◌≢◌, inl, inr, ◌+◌, ◌<◌, ◌≤◌, ◌==◌, ℕ, zero, suc, false, List, [], ◌∷◌, ◌++◌, length, get_or, Option, Some, None, Result, Ok, refl, sym, ◌∙◌, ap, subst, arith}
+use Rattle.std.proofs.Common.{◌≡◌, ◌≢◌, inl, inr, ◌+◌, ◌≤◌, ℕ, List, [], ◌∷◌, ◌++◌, length, get_or, Option, Some, None, Result, Ok, refl, sym, ◌∙◌, ap, subst, arith}
 use Rattle.std.specs.Prelude.{Contains, slice_get}
 use Rattle.std.specs.List.{AllByRecursion}
 use Rattle.std.proofs.lemmas.List.Elements.{Contains-append_right, Contains-get_or}
@@ -15,14 +15,12 @@ use Rattle.dd_disk.specs.View.{DiskView, IsDurable, IsLater, OnlyReads}
 use Rattle.dd_disk.specs.Writes.{Both}
 use Rattle.dd_disk.proofs.Later.{later_here, later_on}
 use Rattle.disk_format.specs.Layout.{size_of, slot_at}
-use Rattle.gc_steps.specs.FewSources.{IsToChoose}
-use Rattle.gc_steps.specs.Stages.{filter_at, first_slot, is_old_slot, mark_from}
-use Rattle.gc_steps.specs.Stepping.{Moment, StepsTo, TablesAfter, Touches, answer_of, phase_at}
-use Rattle.gc_steps.specs.UnderWay.{HasStage, IsUnderWay}
+use Rattle.gc_steps.specs.Stages.{filter_at}
+use Rattle.gc_steps.specs.Stepping.{Moment, StepsTo, TablesAfter, Touches, phase_at}
+use Rattle.gc_steps.specs.UnderWay.{IsUnderWay}
 use Rattle.gc_steps.specs.declared.collection.Collection.{Collection}
 use Rattle.gc_steps.specs.declared.collection.Stage.{Stage}
 use Rattle.gc_steps.specs.declared.collection.Stage.TheVariants.{Mark, Filter, Select, Sweep as SweepStage}
-use Rattle.gc_steps.specs.declared.phase.StepDone.TheVariants.{Did}
 use Rattle.gc_sweep.specs.declared.sweep.Next.{Next}
 use Rattle.gc_sweep.specs.declared.sweep.Next.TheVariants.{Copy, Flush, Release, End}
 use Rattle.gc_sweep.specs.declared.sweep.Sweep.{Sweep}
@@ -55,11 +53,9 @@ use Rattle.store_core.specs.Releases.{copied_in, freed_in}
 use Rattle.store_core.specs.Runs.{ChangesTo}
 use Rattle.store_core.specs.State.{CoreState, Event, IsRunning, IsUnderWayIn}
 use Rattle.store_core.proofs.CoreRuns.{running_step}
-use Rattle.store_core.proofs.GcSteps.{phase_of}
 use Rattle.store_core.proofs.KeepingFiles.{chain_on}
 use Rattle.store_core.proofs.Opened.{durable_settled}
 use Rattle.store_core.proofs.RunningOn.{step_runs}
-use Rattle.gc_steps.proofs.Safe.{early_from}
 use Rattle.gc_steps.proofs.UnderWay.{at_stage}
 use Rattle.backup_engine.specs.Collected.{IsOfCollection, written_in}
 use Rattle.backup_engine.proofs.FirstActor.{up_of}

@@ -10,7 +10,7 @@ use Rattle.reply_text.specs.declared.ending.Ending.{Ending}
 use Rattle.reply_text.specs.declared.ending.Ending.TheVariants.{Refused}
 use Rattle.store_core.specs.Releases.{SweepsSpare}
 use Rattle.store_model.specs.Collisions.{ByteSet, IsIn, OpensAs}
-use Rattle.store_model.specs.Files.{Files, Stored}
+use Rattle.store_model.specs.Files.{Stored}
 use Rattle.store_model.specs.Freeing.{FreesTo, with_all_freed, with_freed}
 use Rattle.store_model.specs.Image.{Store, Encodes}
 use Rattle.store_model.specs.Slots.{last_id}

@@ -1,6 +1,6 @@
 -- What a step of a collection leaves of the bytes, whatever they are: all before the end of the slots, but gates of containers that were given
 -- back, and slots that were filled.
-use Rattle.std.proofs.Common.{◌≡◌, inl, inr, ◌+◌, ◌≤◌, ℕ, List, [], ◌∷◌, Option, Some, None, refl, ◌∙◌, subst, arith}
+use Rattle.std.proofs.Common.{◌≡◌, inl, inr, ◌+◌, ◌≤◌, ℕ, List, [], ◌∷◌, Some, None, refl, ◌∙◌, subst, arith}
 use Rattle.base_model.specs.Bytes.{range}
 use Rattle.base_model.specs.Frames.{SameOutside}
 use Rattle.base_model.specs.Known.{KnownWith}

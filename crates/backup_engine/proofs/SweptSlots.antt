@@ -1,5 +1,5 @@
 -- What the changes of a collection make of the slots of a store, whatever the disk holds: which were closed, and which filled.
-use Rattle.std.proofs.Common.{◌≡◌, ◌⊎◌, inl, inr, ◌+◌, ◌<◌, ◌≤◌, ℕ, zero, suc, List, [], ◌∷◌, ◌++◌, length, max, Option, Some, None, refl, sym, ◌∙◌, ap, subst, arith}
+use Rattle.std.proofs.Common.{◌≡◌, ◌⊎◌, inl, inr, ◌+◌, ◌<◌, ◌≤◌, ℕ, zero, suc, List, [], ◌∷◌, ◌++◌, Option, Some, None, refl, sym, ap, subst, arith}
 use Rattle.std.specs.Prelude.{Contains, slice_get}
 use Rattle.std.specs.List.{AllByRecursion}
 use Rattle.std.proofs.lemmas.List.Elements.{Contains-append_right, Contains-get_or}
@@ -13,7 +13,7 @@ use Rattle.store_model.specs.Steps.{StoreChange, SealContainer, ChangeName, Flus
 use Rattle.store_model.proofs.Copies.{some_same}
 use Rattle.store_model.proofs.Free.{first_closed, some_free}
 use Rattle.store_model.proofs.Freed.{there_before}
-use Rattle.backup_engine.specs.Collected.{IsOfCollection, written_in}
+use Rattle.backup_engine.specs.Collected.{written_in}
 use Rattle.backup_engine.specs.Frame.{MayFill}
 
 -- ---- changes, one after the other

@@ -8,7 +8,11 @@ use Rattle.std.proofs.lemmas.List.{take_all}
 use Rattle.std.proofs.lemmas.List.Elements.{All-contains, All-contains_itself, All-filter, filter_passes}
 use Rattle.std.proofs.lemmas.List.Sorted.{length_permutation}
 use Rattle.gc_select.specs.declared.liveness.ContainerLiveness.{ContainerLiveness}
-use Rattle.gc_select.specs.Selecting.{AreSources, IsSelectedId, ids_of, is_selected, selected, sources_of}
+use Rattle.container_meta.specs.declared.kind.Kind.TheVariants.{Leaf, Tree}
+use Rattle.gc_select.specs.Rising.{rising}
+use Rattle.gc_select.specs.Selecting.{AreSources, IsSelectedId, ids_of, is_selected, of_kind, selected, sources_of}
+use Rattle.gc_select.proofs.RisingOnce.{rising_moves, rising_order}
+use Rattle.gc_select.proofs.Selected.{sources_moved, which_ids}
 use Rattle.store_state.specs.declared.slot_table.SlotTable.{SlotTable}
 use Rattle.gc_sweep.specs.declared.sweep.Sweep.{Sweep as SweepValue}
 use Rattle.gc_sweep.specs.Beginning.{Begins}
@@ -72,6 +76,26 @@ module _ (t : SlotTable) (c : Collection) (sources : List ℕ) (recorded : IsRec
 
   pub once : IsDistinct nat_eq (old_ids c.snapshot t.ids.items) → (IsDistinct nat_eq (ids_of c.liveness) → IsDistinct nat_eq sources) → IsDistinct nat_eq sources
   once differ apart = apart (subst (IsDistinct nat_eq) (sym whole) differ)
+
+-- the containers that are selected, in their order, are sources
+are_sources : (containers : List ContainerLiveness) → AreSources containers (sources_of containers)
+unfolding sources_of
+are_sources containers = record {
+  data_ids = rising (ids_of (of_kind Leaf containers));
+  tree_ids = rising (ids_of (of_kind Tree containers));
+  data_first = refl;
+  all_data = rising_moves (ids_of (of_kind Leaf containers));
+  all_trees = rising_moves (ids_of (of_kind Tree containers));
+  data_rising = rising_order (ids_of (of_kind Leaf containers));
+  trees_rising = rising_order (ids_of (of_kind Tree containers));
+}
+
+-- an id is a source's just where that of a container that is selected is it
+pub chosen_which : (snapshot percent : ℕ) (containers : List ContainerLiveness) (sources : List ℕ) → sources ≡ sources_of (selected snapshot percent containers)
+    → (id : ℕ) → Contains sources id ↔ IsSelectedId snapshot percent containers id
+chosen_which snapshot percent containers sources are =
+    let chosen = selected snapshot percent containers in
+    which_ids snapshot percent containers sources (subst (IsPermutation (ids_of chosen)) (sym are) (sources_moved chosen (sources_of chosen) (are_sources chosen)))
 
 -- what is so of the sources that are chosen
 pub record AreChosen (c : Collection) (sources : List ℕ) : Type 0 where

@@ -2,6 +2,7 @@ pub mod Carried
 pub mod ChildTrees
 pub mod Chosen
 pub mod ClaimedPin
+pub mod CopiedOn
 pub mod Faulted
 pub mod FewSources
 pub mod FewerRoots
@@ -43,3 +44,4 @@ pub mod SweepSteps
 pub mod TablesRun
 pub mod UnderWay
 pub mod Unseen
+pub mod WholeCopies

@@ -94,6 +94,7 @@ module _ (t now : SlotTable) (c : Collection) (slot id : ℕ) (count : SlotCount
     began = omega (arith, under.began, later);
     ids_differ = subst (IsDistinct nat_eq) (sym all_same) under.ids_differ;
     stage_is = stage_same spare less sweeping c.stage under.stage_is;
+    sources_are = under.sources_are;
   }
 
 -- A container that is sealed into the first free slot under the next id, or a later one, beside the slots of the reserve.

@@ -261,7 +261,7 @@ module _ (P : List ℕ → Type 0) (index : PlaceMap) (store : Store) (files : F
 
       -- what was copied was written
       flushed_spares : (source entry : ℕ) → c.sweep.next ≡ Flush source entry → (f : Flushes source entry (moment t (Some index) old c) (moment tables_now known new d)) → (m : PlaceMap) → known ≡ Some m
-          → (s : Store) (now : List ℕ) → IsFlushing c.sweep.buffer store s image → HoldsAt d.stage m s.held now d → Spares P m s.held d
+          → (s : Store) (now : List ℕ) → IsFlushing c.snapshot c.sweep.buffer store s image → HoldsAt d.stage m s.held now d → Spares P m s.held d
       flushed_spares source entry next_is f m known_is s now flushing then =
           subst (λ (x : Store). Spares P m x.held d) (sym flushing.now_is)
           (subst (λ (x : PlaceMap). Spares P x held_now d) map_is
@@ -290,7 +290,7 @@ module _ (P : List ℕ → Type 0) (index : PlaceMap) (store : Store) (files : F
 
       -- a source was given back
       released_spares : (source entry : ℕ) → c.sweep.next ≡ Release source entry → HasReleased tables_now.held source entry c.sweep d.sweep → known ≡ Some index → (m : PlaceMap) → known ≡ Some m
-          → (s : Store) (now : List ℕ) → IsFreeing index (slot_in_turn c.sweep) store s → HoldsAt d.stage m s.held now d → Spares P m s.held d
+          → (s : Store) (now : List ℕ) → IsFreeing index c.sweep (slot_in_turn c.sweep) store s → HoldsAt d.stage m s.held now d → Spares P m s.held d
       released_spares source entry next_is released stays m known_is s now freeing then =
           subst (λ (x : Store). Spares P m x.held d) (sym freeing.now_is)
           (subst (λ (x : PlaceMap). Spares P x less d) map_is
@@ -313,7 +313,7 @@ module _ (P : List ℕ → Type 0) (index : PlaceMap) (store : Store) (files : F
 
     abbrev After : Stage → Next → Type 0
     After stage next =
-        (m : PlaceMap) → known ≡ Some m → (s : Store) (now : List ℕ) → IsStoreAfter stage next c.sweep index store s image → HoldsAt d.stage m s.held now d → Spares P m s.held d
+        (m : PlaceMap) → known ≡ Some m → (s : Store) (now : List ℕ) → IsStoreAfter stage next c.snapshot c.sweep index store s image → HoldsAt d.stage m s.held now d → Spares P m s.held d
 
     -- where index and store stay
     stays : known ≡ Some index → Spares P index store.held d → (m : PlaceMap) → known ≡ Some m → (s : Store) → s ≡ store → Spares P m s.held d

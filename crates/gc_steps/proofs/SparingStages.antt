@@ -134,11 +134,11 @@ module _ (index : PlaceMap) (held : List (Option HeaderValue)) (t : SlotTable) (
 
 -- ---- a container that is recorded
 
-recorded_id_by : (id : ℕ) (count : Option SlotCount) (live : ℕ) → (recorded_by id count live).id ≡ id
+pub recorded_id_by : (id : ℕ) (count : Option SlotCount) (live : ℕ) → (recorded_by id count live).id ≡ id
 recorded_id_by id None live = refl
 recorded_id_by id (Some c) live = refl
 
-recorded_live_by : (id : ℕ) (count : Option SlotCount) (live : ℕ) → (recorded_by id count live).live ≡ live
+pub recorded_live_by : (id : ℕ) (count : Option SlotCount) (live : ℕ) → (recorded_by id count live).live ≡ live
 recorded_live_by id None live = refl
 recorded_live_by id (Some c) live = refl
 
@@ -159,10 +159,10 @@ some_live index live kind slot (e ∷ es) sum (inl here) some = inl here.0
 some_live index live kind slot (e ∷ es) sum (inr other) some = inr (some_live index live kind slot es sum other.1 some)
 
 -- what some record is stays so with one more
-more_selected : (snapshot percent id : ℕ) (rs : List ContainerLiveness) (r : ContainerLiveness) → IsSelectedId snapshot percent rs id → IsSelectedId snapshot percent (rs ++ r ∷ []) id
+pub more_selected : (snapshot percent id : ℕ) (rs : List ContainerLiveness) (r : ContainerLiveness) → IsSelectedId snapshot percent rs id → IsSelectedId snapshot percent (rs ++ r ∷ []) id
 more_selected snapshot percent id rs r (k, one, below, is, passes) = (k, one, grind (arith, common_steps), grind (arith, common_steps), passes)
 
-last_selected : (snapshot percent id : ℕ) (rs : List ContainerLiveness) (r : ContainerLiveness) → r.id ≡ id → is_selected snapshot percent r ≡ true → IsSelectedId snapshot percent (rs ++ r ∷ []) id
+pub last_selected : (snapshot percent id : ℕ) (rs : List ContainerLiveness) (r : ContainerLiveness) → r.id ≡ id → is_selected snapshot percent r ≡ true → IsSelectedId snapshot percent (rs ++ r ∷ []) id
 last_selected snapshot percent id rs r same passes = (length rs, r, grind (arith, common_steps), grind (arith, common_steps), (same, passes))
 
 module _ (index : PlaceMap) (t : SlotTable) (c d : Collection) (slot live : ℕ) (h : HeaderValue) where
@@ -347,7 +347,7 @@ module _ (t : SlotTable) (index : PlaceMap) (held : List (Option HeaderValue)) (
 -- ---- what was copied is written
 
 -- a slot that has a container now had it, or that is the new one
-with_place : (at : ℕ) (h : HeaderValue) (held : List (Option HeaderValue)) (slot : ℕ) (g : HeaderValue) → slice_get (with_slot at h held) slot ≡ Some (Some g)
+pub with_place : (at : ℕ) (h : HeaderValue) (held : List (Option HeaderValue)) (slot : ℕ) (g : HeaderValue) → slice_get (with_slot at h held) slot ≡ Some (Some g)
     → ((at ≡ slot) × (h ≡ g)) ⊎ (slice_get held slot ≡ Some (Some g))
 with_place at h [] slot g there = absurd cc
 with_place zero h (c ∷ cs) zero g there = inl (refl, some_same h g (some_same (Some h) (Some g) there))
@@ -359,7 +359,7 @@ with_place (suc at) h (c ∷ cs) (suc slot) g there = elim (with_place at h cs s
 ]
 
 -- it has no entry for a key that was not filled
-entry_none : (kind : Kind) (offset : ℕ) (ss : List Segment) (key : List ℕ) → listed (map (segment_key kind) ss) key ≡ false → entry_of kind (entries_from offset ss) key ≡ None
+pub entry_none : (kind : Kind) (offset : ℕ) (ss : List Segment) (key : List ℕ) → listed (map (segment_key kind) ss) key ≡ false → entry_of kind (entries_from offset ss) key ≡ None
 entry_none kind offset [] key lacks = refl
 entry_none kind offset (x ∷ xs) key lacks = by_test (bytes_eq (segment_key kind x) key) lacks (entry_none kind (offset + length x.bytes) xs key)
   where

@@ -1,5 +1,5 @@
 -- What the next step of a collection leaves, when it is done: it is safe, and no key that is needed is lost.
-use Rattle.std.proofs.Common.{◌≡◌, ◌⊎◌, inl, inr, ℕ, ◌+◌, ◌≤◌, List, length, get_or, Option, Some, None, refl, sym, ◌∙◌, ap, subst}
+use Rattle.std.proofs.Common.{◌≡◌, ◌⊎◌, inl, inr, ℕ, ◌+◌, ◌<◌, ◌≤◌, List, length, get_or, Option, Some, None, refl, sym, ◌∙◌, ap, subst, arith}
 use Rattle.std.specs.Prelude.{slice_get}
 use Rattle.std.specs.List.{All, AllByRecursion}
 use Rattle.actor_parts.specs.declared.actor.TheConstants.{ACTORS}
@@ -75,26 +75,30 @@ use Rattle.gc_steps.proofs.SealedPins.{entries_sealed, key_found, with_there}
 use Rattle.gc_steps.proofs.Started.{root_whole}
 use Rattle.gc_steps.proofs.UnderWay.{at_stage}
 
--- A container of a store is given back, in whose slot the index has no entry.
-pub record IsFreeing (index : PlaceMap) (slot : ℕ) (store store_now : Store) : Type 0 where
+-- A container of a store is given back: one of the sources, in whose slot the index has no entry.
+pub record IsFreeing (index : PlaceMap) (s : SweepValue) (slot : ℕ) (store store_now : Store) : Type 0 where
   pub header : HeaderValue
   pub there : slice_get store.held slot ≡ Some (Some header)
+  pub number : ℕ
+  pub within : number < length s.sources.items
+  pub id_is : header.id ≡ get_or s.sources.items number 0
   pub none : HasNoEntryIn index slot
   pub now_is : store_now ≡ with_freed slot store
 
--- A container of copies is written, each of which is the newest copy of its key.
-pub record IsFlushing (filled : Contents) (store store_now : Store) (image : List ℕ) : Type 0 where
+-- A container of copies is written, each of which is the newest copy of its key, under an id from the snapshot on.
+pub record IsFlushing (snapshot : ℕ) (filled : Contents) (store store_now : Store) (image : List ℕ) : Type 0 where
   pub id : ℕ
+  pub new : snapshot ≤ id
   pub can : CanFlush id filled.kind filled.segments store
   pub newest : AllByRecursion (λ x. HasNewest store.held (segment_key filled.kind x) x.level x.bytes image) filled.segments
   pub now_is : store_now ≡ with_sealed id filled.kind filled.segments store
 
 -- The store stays; but where copies are written it has their container, and where the source in turn is given back it is that with its slot
 -- closed.
-abbrev pub IsStoreAfter : Stage → Next → SweepValue → PlaceMap → Store → Store → List ℕ → Type 0
-IsStoreAfter Sweep (Flush source entry) s index store store_now image = IsFlushing s.buffer store store_now image
-IsStoreAfter Sweep (Release source entry) s index store store_now image = IsFreeing index (slot_in_turn s) store store_now
-IsStoreAfter stage next s index store store_now image = store_now ≡ store
+abbrev pub IsStoreAfter : Stage → Next → ℕ → SweepValue → PlaceMap → Store → Store → List ℕ → Type 0
+IsStoreAfter Sweep (Flush source entry) snapshot s index store store_now image = IsFlushing snapshot s.buffer store store_now image
+IsStoreAfter Sweep (Release source entry) snapshot s index store store_now image = IsFreeing index s (slot_in_turn s) store store_now
+IsStoreAfter stage next snapshot s index store store_now image = store_now ≡ store
 
 -- the keys that were needed are in the index, and their newest copies are what they were
 abbrev pub Spares : PlaceMap → Store → Store → List Part → List ℕ → List ℕ → Type 0
@@ -109,7 +113,7 @@ pub record LeavesSafe (c : Collection) (index : PlaceMap) (store : Store) (files
   pub later : PlaceMap
   pub known_is : known ≡ Some later
   pub store_now : Store
-  pub store_is : IsStoreAfter c.stage c.sweep.next c.sweep index store store_now image
+  pub store_is : IsStoreAfter c.stage c.sweep.next c.snapshot c.sweep index store store_now image
   pub represents : Represents store_now (Some later) u
   pub valid : IsValidFor new.size store_now
   pub stands : StandsFor (Stands (IsIn among) store_now files) new
@@ -214,7 +218,7 @@ module _ (index : PlaceMap) (store : Store) (files : Files) (parts : List Part) 
       (λ n copy node whole k other within. (children_whole index store.held image n copy node whole k other within).is_whole) key needed)
 
   -- Where store, tables and index stay.
-  all_kept : IsStoreAfter c.stage c.sweep.next c.sweep index store store image → known ≡ Some index → u ≡ t → new.size ≡ old.size → StandsFor (Stands (IsIn among) store files) new → Newest
+  all_kept : IsStoreAfter c.stage c.sweep.next c.snapshot c.sweep index store store image → known ≡ Some index → u ≡ t → new.size ≡ old.size → StandsFor (Stands (IsIn among) store files) new → Newest
       → IsSafe index store parts now d → LeavesSafe c index store files parts image now among u known new d
   all_kept store_is known_is same size after keeps safe = record {
     later = index;
@@ -229,7 +233,7 @@ module _ (index : PlaceMap) (store : Store) (files : Files) (parts : List Part) 
     spares = λ key needed. (needed_indexed key needed, λ level bytes has. keeps key level bytes has);
   }
 
-  all_read : IsStoreAfter c.stage c.sweep.next c.sweep index store store image → known ≡ Some index → u ≡ t → OnlyReads old new → IsSafe index store parts image d
+  all_read : IsStoreAfter c.stage c.sweep.next c.snapshot c.sweep index store store image → known ≡ Some index → u ≡ t → OnlyReads old new → IsSafe index store parts image d
       → LeavesSafe c index store files parts image now among u known new d
   all_read store_is known_is same only safe =
       all_kept store_is known_is same only.later.size_is (read_stands store files image now old new among content content_now stands only)
@@ -237,7 +241,7 @@ module _ (index : PlaceMap) (store : Store) (files : Files) (parts : List Part) 
       (subst (λ (i : List ℕ). IsSafe index store parts i d) (sym (read_same store files image now old new among content content_now stands only)) safe)
 
   abbrev After : Stage → Next → Type 0
-  After stage next = IsStoreAfter stage next c.sweep index store store image
+  After stage next = IsStoreAfter stage next c.snapshot c.sweep index store store image
 
   mark_leaves : (level slot : ℕ) (next : Next) → MarksAreClosed index store parts image c → Scans t.held (Some index) old new level slot c d → known ≡ Some index → u ≡ t → OnlyReads old new
       → Leaves (Mark level slot) next
@@ -326,7 +330,7 @@ module _ (index : PlaceMap) (store : Store) (files : Files) (parts : List Part) 
       needed_live : (key : List ℕ) → IsNeeded store parts image key → IsLive index c.live key
       needed_live key needed = needed_has index store files parts image holds (IsLive index c.live) safe.roots_are_live safe.live_is_closed key needed
 
-      pub left_safe : known ≡ Some later → IsStoreAfter c.stage c.sweep.next c.sweep index store store_now image → IsSafe later store_now parts now d → LeavesSafe c index store files parts image now among u known new d
+      pub left_safe : known ≡ Some later → IsStoreAfter c.stage c.sweep.next c.snapshot c.sweep index store store_now image → IsSafe later store_now parts now d → LeavesSafe c index store files parts image now among u known new d
       left_safe known_is store_is safe_now = record {
         later = later;
         known_is = known_is;
@@ -438,8 +442,8 @@ module _ (index : PlaceMap) (store : Store) (files : Files) (parts : List Part) 
       flush_leaves_safe : LeavesSafe c index store files parts image now among u known new d
       flush_leaves_safe =
           left_safe more written left flushes.sweeps refl known_is
-          (at_stage_next (λ s n. IsStoreAfter s n c.sweep index store written image) Sweep (Flush source entry) stage_is next_is
-          (record { id = id; can = can; newest = are_newest index store.held image c.live c.snapshot c.sweep was_held.1; now_is = refl }))
+          (at_stage_next (λ s n. IsStoreAfter s n c.snapshot c.sweep index store written image) Sweep (Flush source entry) stage_is next_is
+          (record { id = id; new = omega (arith, under.began); can = can; newest = are_newest index store.held image c.live c.snapshot c.sweep was_held.1; now_is = refl }))
           (safe_on more written left flushes.sweeps refl holds_now new_live)
 
     -- A source is given back.
@@ -452,8 +456,8 @@ module _ (index : PlaceMap) (store : Store) (files : Files) (parts : List Part) 
         let left : Left index fewer =
         release_leaves index store files parts image now among t u old new c.live core represents valid content content_now stands slot turn.stands.header turn.stands.there turn.none freed goes gives in
         left_safe index fewer left on refl known_is
-        (at_stage_next (λ s n. IsStoreAfter s n c.sweep index store fewer image) Sweep (Release source entry) stage_is next_is
-        (record { header = turn.stands.header; there = turn.stands.there; none = turn.none; now_is = refl }))
+        (at_stage_next (λ s n. IsStoreAfter s n c.snapshot c.sweep index store fewer image) Sweep (Release source entry) stage_is next_is
+        (record { header = turn.stands.header; there = turn.stands.there; number = turn.stands.number; within = omega (arith, turn.stands.below, sweeping.before); id_is = turn.stands.id_is; none = turn.none; now_is = refl }))
         (safe_on index fewer left on refl
         (holds_released t.held u.held index store.held image now c.live c.snapshot source entry c.sweep d.sweep represents.slots_hold sweeping next_is released was_held.1
         (λ key level bytes has. gives.holds among store index files image now represents core.files_are_indexed turn.none content content_now here key level bytes has))

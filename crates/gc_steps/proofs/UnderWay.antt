@@ -1,5 +1,5 @@
 -- A collection stays under way from step to step.
-use Rattle.std.proofs.Common.{◌≡◌, ℕ, zero, suc, ◌+◌, ◌-◌, ◌<◌, ◌≤◌, Bool, true, false, cond, List, [], ◌∷◌, ◌++◌, length, get_or, take, Option, Some, None, refl, sym, ◌∙◌, ap, subst, arith}
+use Rattle.std.proofs.Common.{◌≡◌, ℕ, zero, suc, ◌+◌, ◌-◌, ◌<◌, ◌≤◌, Bool, true, false, cond, List, [], ◌∷◌, ◌++◌, length, get_or, take, Option, Some, None, Vec, Global, refl, sym, ◌∙◌, ap, subst, arith}
 use Rattle.std.specs.Prelude.{nat_eq, if◌then◌else◌, slice_get}
 use Rattle.std.specs.List.{AllByRecursion, IsDistinct}
 use Rattle.std.proofs.lemmas.Bool.Decides.{Decides-eqb}
@@ -22,7 +22,7 @@ use Rattle.gc_steps.specs.declared.collection.Stage.TheVariants.{Mark, Filter, S
 use Rattle.gc_steps.specs.Filtering.{Chooses, recorded, recorded_by}
 use Rattle.gc_sweep.specs.UnderWay.{IsSweeping, is_old}
 use Rattle.gc_steps.specs.Stages.{first_from, first_slot, filter_at, filter_from, is_old_slot, is_tree_slot, mark_at, mark_from, mark_level, mark_on}
-use Rattle.gc_steps.specs.UnderWay.{HasRoom, HasStage, IsRecordedTo, IsUnderWay, old_ids}
+use Rattle.gc_steps.specs.UnderWay.{HasChosen, HasRoom, HasStage, IsRecordedTo, IsUnderWay, old_ids}
 
 pub at_stage : (t : SlotTable) (c : Collection) (stage : Stage) → IsUnderWay t c → c.stage ≡ stage → HasStage t c stage
 at_stage t c stage under is = subst (HasStage t c) is under.stage_is
@@ -128,6 +128,27 @@ module _ (t : SlotTable) (c : Collection) where
       by_found None is = stage_level (level - 1) (omega (arith, most)) nothing none
       by_found (Some slot) is = (least, most, is, nothing, none)
 
+-- no sources are chosen before it sweeps
+module _ (c : Collection) where
+  filter_chose : (found : Option ℕ) → HasChosen (filter_at found) c
+  filter_chose None = tt
+  filter_chose (Some slot) = tt
+
+  level_chose : (t : SlotTable) (level : ℕ) → HasChosen (mark_level c.snapshot t level) c
+  level_chose t zero = filter_chose (first_slot t (is_old_slot c.snapshot t) 0)
+  level_chose t (suc level) = by_found (first_slot t (is_tree_slot c.snapshot t) 0)
+    where
+      by_found : (found : Option ℕ) → HasChosen (mark_at c.snapshot t (suc level) found) c
+      by_found None = filter_chose (first_slot t (is_old_slot c.snapshot t) 0)
+      by_found (Some slot) = tt
+
+  mark_chose : (t : SlotTable) (level from : ℕ) → HasChosen (mark_from c.snapshot t level from) c
+  mark_chose t level from = by_found (first_slot t (is_tree_slot c.snapshot t) from)
+    where
+      by_found : (found : Option ℕ) → HasChosen (mark_on c.snapshot t level found) c
+      by_found None = level_chose t (level - 1)
+      by_found (Some slot) = tt
+
 -- ---- the steps
 
 pub started : (size : ℕ) (known : Option PlaceMap) (t : Tables) (c : Collection) → Runs size known t → c.snapshot ≤ t.held.last_id + 1 → c.liveness ≡ [] → HasRoom t.held
@@ -136,22 +157,24 @@ started size known t c runs began nothing none is = record {
   began = began;
   ids_differ = ids_apart c.snapshot size known t runs;
   stage_is = subst (HasStage t.held c) (sym is) (stage_level t.held c MOST_LEVEL (omega arith) nothing none);
+  sources_are = subst (λ (s : Stage). HasChosen s c) (sym is) (level_chose c t.held MOST_LEVEL);
 }
 
 module _ (t : SlotTable) (c : Collection) (under : IsUnderWay t c) where
   -- as it was, but for its stage, and what that says
-  goes_on : (after : Collection) → after.snapshot ≡ c.snapshot → HasStage t after after.stage → IsUnderWay t after
-  goes_on after same is = record {
+  goes_on : (after : Collection) → after.snapshot ≡ c.snapshot → HasStage t after after.stage → HasChosen after.stage after → IsUnderWay t after
+  goes_on after same is chose = record {
     began = subst (λ (n : ℕ). n ≤ t.last_id + 1) (sym same) under.began;
     ids_differ = subst (λ (n : ℕ). IsDistinct nat_eq (old_ids n t.ids.items)) (sym same) under.ids_differ;
     stage_is = is;
+    sources_are = chose;
   }
 
   pub marked : (after : Collection) (level slot : ℕ) → c.stage ≡ Mark level slot → after ≡ record c { live = after.live; stage = mark_from c.snapshot t level (slot + 1) } → IsUnderWay t after
   marked after level slot at is =
       let was = at_stage t c (Mark level slot) under at in
       let new : Collection = record c { live = after.live; stage = mark_from c.snapshot t level (slot + 1) } in
-      subst (IsUnderWay t) (sym is) (goes_on new refl (stage_mark t new level (slot + 1) was.0 was.1 (omega (arith, was.2.0)) was.3 was.4))
+      subst (IsUnderWay t) (sym is) (goes_on new refl (stage_mark t new level (slot + 1) was.0 was.1 (omega (arith, was.2.0)) was.3 was.4) (mark_chose new t level (slot + 1)))
 
   recorded_id : (id live : ℕ) (found : Option SlotCount) → (recorded_by id found live).id ≡ id
   recorded_id id live None = refl
@@ -165,19 +188,25 @@ module _ (t : SlotTable) (c : Collection) (under : IsUnderWay t c) where
       map_push (λ (x : ContainerLiveness). x.id) c.liveness (recorded t slot live)
       ∙ ap (λ (id : ℕ). ids_of c.liveness ++ id ∷ []) (recorded_id (get_or t.ids.items slot 0) live (slice_get t.counts.items slot))
       ∙ ap (λ (ids : List ℕ). ids ++ get_or t.ids.items slot 0 ∷ []) was.1 ∙ sym (more_old c.snapshot t.ids.items slot was.0.0 was.0.1) in
-      subst (IsUnderWay t) (sym is) (goes_on new refl (stage_filter t new (slot + 1) (omega (arith, was.0.0)) all was.2))
+      subst (IsUnderWay t) (sym is) (goes_on new refl (stage_filter t new (slot + 1) (omega (arith, was.0.0)) all was.2) (filter_chose new (first_slot t (is_old_slot c.snapshot t) (slot + 1))))
 
   -- the sources are chosen, and their sweep is under way
   pub chosen : (after : Collection) → c.stage ≡ Select → Chooses t c after → IsSweeping t c.snapshot after.sweep → IsUnderWay t after
   chosen after at chooses sweeping =
       let new : Collection = record c { stage = Sweep; sweep = after.sweep } in
-      subst (IsUnderWay t) (sym chooses.collection_is) (goes_on new refl sweeping)
+      subst (IsUnderWay t) (sym chooses.collection_is) (goes_on new refl sweeping chooses.sources_are)
 
 -- ---- keys become live
 
 pub live_on : (t : SlotTable) (c : Collection) (live : LiveKeys) → IsUnderWay t c → IsUnderWay t (record c { live = live })
-live_on t c live under = record { began = under.began; ids_differ = under.ids_differ; stage_is = by_stage c.stage under.stage_is }
+live_on t c live under = record { began = under.began; ids_differ = under.ids_differ; stage_is = by_stage c.stage under.stage_is; sources_are = chose c.stage under.sources_are }
   where
+    chose : (stage : Stage) → HasChosen stage c → HasChosen stage (record c { live = live })
+    chose (Mark level slot) was = was
+    chose (Filter slot) was = was
+    chose Select was = was
+    chose Sweep was = was
+
     by_stage : (stage : Stage) → HasStage t c stage → HasStage t (record c { live = live }) stage
     by_stage (Mark level slot) was = was
     by_stage (Filter slot) was = was
@@ -186,15 +215,17 @@ live_on t c live under = record { began = under.began; ids_differ = under.ids_di
 
 -- ---- the sweep goes on
 
--- by tables that run, of which no less is the last id
+-- by tables that run, of which no less is the last id; the sources stay
 pub swept_on : (size : ℕ) (known : Option PlaceMap) (t : SlotTable) (now : Tables) (c after : Collection) → Runs size known now → t.last_id ≤ now.held.last_id → IsUnderWay t c → c.stage ≡ Sweep
-    → after ≡ record c { sweep = after.sweep } → IsSweeping now.held c.snapshot after.sweep → IsUnderWay now.held after
-swept_on size known t now c after runs last under stage is sweeping =
+    → after ≡ record c { sweep = after.sweep } → after.sweep.sources ≡ c.sweep.sources → IsSweeping now.held c.snapshot after.sweep → IsUnderWay now.held after
+swept_on size known t now c after runs last under stage is sources sweeping =
     let next : Collection = record c { sweep = after.sweep } in
     subst (IsUnderWay now.held) (sym is) (record {
       began = omega (arith, under.began, last);
       ids_differ = ids_apart c.snapshot size known now runs;
       stage_is = subst (HasStage now.held next) (sym stage) sweeping;
+      sources_are = subst (λ (s : Stage). HasChosen s next) (sym stage)
+          (ap (λ (v : Vec ℕ Global). v.items) sources ∙ subst (λ (s : Stage). HasChosen s c) stage under.sources_are);
     })
 
 -- tables run whatever the index has

@@ -2,7 +2,7 @@
 use Rattle.std.specs.Prelude.{◌≡◌, ℕ, ◌+◌, ◌<◌, ◌≤◌, Bool, true, List, [], length, take, filter, nat_eq}
 use Rattle.std.specs.List.{IsDistinct}
 use Rattle.disk_format.specs.declared.numbers.TheConstants.{MOST_LEVEL, RESERVE}
-use Rattle.gc_select.specs.Selecting.{ids_of}
+use Rattle.gc_select.specs.Selecting.{ids_of, selected, sources_of}
 use Rattle.store_state.specs.declared.slot_table.SlotTable.{SlotTable}
 use Rattle.gc_steps.specs.declared.collection.Collection.{Collection}
 use Rattle.gc_steps.specs.declared.collection.Stage.{Stage}
@@ -37,9 +37,15 @@ HasStage t c (Filter slot) = IsSlot t (is_old_slot c.snapshot t) slot × IsRecor
 HasStage t c Select = IsRecordedTo t c (length t.ids.items) × HasRoom t
 HasStage t c Sweep = IsSweeping t c.snapshot c.sweep
 
--- A collection is under way: its snapshot is no greater than the next id; no two of the containers that were there have one id; and what its
--- stage says holds.
+-- once it sweeps, its sources are those that are selected by what was recorded
+abbrev pub HasChosen : Stage → Collection → Type 0
+HasChosen Sweep c = c.sweep.sources.items ≡ sources_of (selected c.snapshot c.percent c.liveness)
+HasChosen stage c = Unit {0}
+
+-- A collection is under way: its snapshot is no greater than the next id; no two of the containers that were there have one id; what its
+-- stage says holds; and so it is of its sources, once they are chosen.
 pub record IsUnderWay (t : SlotTable) (c : Collection) : Type 0 where
   pub began : c.snapshot ≤ t.last_id + 1
   pub ids_differ : IsDistinct nat_eq (old_ids c.snapshot t.ids.items)
   pub stage_is : HasStage t c c.stage
+  pub sources_are : HasChosen c.stage c

@@ -236,7 +236,7 @@ module _ (C : Type 0) (state : C → CoreState) (among : ByteSet) (apart : HasNo
   -- ---- the index
 
   abbrev Then : Stage → Next → Type 0
-  Then stage next = IsStoreAfter stage next goes.before.sweep begins.index at.running.begins.store leaves.store_now m.content
+  Then stage next = IsStoreAfter stage next goes.before.snapshot goes.before.sweep begins.index at.running.begins.store leaves.store_now m.content
 
   -- where no source is copied or given back, and no copies are written, it has all that it had
   all_stays : leaves.store_now ≡ at.running.begins.store → (state new).known ≡ (state old).known → m.collected ≡ false → IndexesAll led_to (state new).known

@@ -61,24 +61,24 @@ pub phase_of : (c : Collection) (phase : Phase) → answer_of c ≡ Did phase �
 phase_of c phase is = phase_is c.stage c.sweep.next c.sweep.freed c.sweep.copied phase is
 
 -- the changes of a step: a container is written, or that of a slot is given back, just where the sweep comes to that
-stage_changes : (stage : Stage) (next : Next) (sweep : Sweep) (index : PlaceMap) (s t : Store) (image : List ℕ) → IsStoreAfter stage next sweep index s t image
+stage_changes : (stage : Stage) (next : Next) (snapshot : ℕ) (sweep : Sweep) (index : PlaceMap) (s t : Store) (image : List ℕ) → IsStoreAfter stage next snapshot sweep index s t image
     → (changes : List StoreChange) × (AreChangesBy asked.GcStep (Ok (answers.Did (phase_at stage next))) changes × ChangesTo changes s t)
-stage_changes (Mark level slot) next sweep index s t image same = ([], (refl, same))
-stage_changes (Filter slot) next sweep index s t image same = ([], (refl, same))
-stage_changes Select next sweep index s t image same = ([], (refl, same))
-stage_changes SweepStage (Copy source entry) sweep index s t image same = ([], (refl, same))
-stage_changes SweepStage (Flush source entry) sweep index s t image flushes = (
+stage_changes (Mark level slot) next snapshot sweep index s t image same = ([], (refl, same))
+stage_changes (Filter slot) next snapshot sweep index s t image same = ([], (refl, same))
+stage_changes Select next snapshot sweep index s t image same = ([], (refl, same))
+stage_changes SweepStage (Copy source entry) snapshot sweep index s t image same = ([], (refl, same))
+stage_changes SweepStage (Flush source entry) snapshot sweep index s t image flushes = (
   FlushContainer flushes.id sweep.buffer.kind sweep.buffer.segments ∷ [],
   ((flushes.id, sweep.buffer.kind, sweep.buffer.segments, refl), (flushes.can, flushes.now_is)),
 )
-stage_changes SweepStage (Release source entry) sweep index s t image frees = (FreeContainer (slot_in_turn sweep) ∷ [], ((slot_in_turn sweep, refl), ((frees.header, frees.there), frees.now_is)))
-stage_changes SweepStage End sweep index s t image same = ([], (refl, same))
+stage_changes SweepStage (Release source entry) snapshot sweep index s t image frees = (FreeContainer (slot_in_turn sweep) ∷ [], ((slot_in_turn sweep, refl), ((frees.header, frees.there), frees.now_is)))
+stage_changes SweepStage End snapshot sweep index s t image same = ([], (refl, same))
 
-did_changes : (c : Collection) (phase : Phase) (index : PlaceMap) (s t : Store) (image : List ℕ) → answer_of c ≡ Did phase → IsStoreAfter c.stage c.sweep.next c.sweep index s t image
+did_changes : (c : Collection) (phase : Phase) (index : PlaceMap) (s t : Store) (image : List ℕ) → answer_of c ≡ Did phase → IsStoreAfter c.stage c.sweep.next c.snapshot c.sweep index s t image
     → (changes : List StoreChange) × (AreChangesBy asked.GcStep (Ok (answers.Did phase)) changes × ChangesTo changes s t)
 did_changes c phase index s t image is after =
     subst (λ (p : Phase). (changes : List StoreChange) × (AreChangesBy asked.GcStep (Ok (answers.Did p)) changes × ChangesTo changes s t)) (phase_of c phase is)
-    (stage_changes c.stage c.sweep.next c.sweep index s t image after)
+    (stage_changes c.stage c.sweep.next c.snapshot c.sweep index s t image after)
 
 -- the journal is what it was
 journal_same : (stage : Stage) (next : Next) (old new : Moment) → TablesAfter stage next old new → new.tables.journal ≡ old.tables.journal

@@ -2,14 +2,18 @@ pub mod AnySteps
 pub mod Bounded
 pub mod CheckedReads
 pub mod Committing
+pub mod CopiesOnce
 pub mod CoreRuns
 pub mod Counted
 pub mod Crashes
 pub mod Damage
+pub mod Finished
+pub mod FinishedStores
 pub mod Flushed
 pub mod Frames
 pub mod GcSteps
 pub mod GivingFiles
+pub mod JustNeeded
 pub mod KeepingFiles
 pub mod KeepingSegments
 pub mod Leading
@@ -21,6 +25,7 @@ pub mod Opened
 pub mod OwnParts
 pub mod RunningOn
 pub mod Releasing
+pub mod RecordedAll
 pub mod Reserves
 pub mod Rooms
 pub mod SafeSteps

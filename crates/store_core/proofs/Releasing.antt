@@ -115,7 +115,7 @@ module _ (among : ByteSet) (distinct : HasNoCollisions (IsIn among)) (f : FileEv
     none_given : (phase : Phase) → released_by (Ok (answers.Did phase)) ≡ 0 → t ≡ s → CountsIn [] old.collection new.collection → Gives Needs (Ok (answers.Did phase)) s t old.collection new.collection
     none_given phase none same counts = record { changes = []; many = sym none; chain = same; counts = counts }
 
-    by_stage : (stage : Stage) (next : Next) → IsStoreAfter stage next c.sweep at.index s t at.stands.known.0 → Given stage next
+    by_stage : (stage : Stage) (next : Next) → IsStoreAfter stage next c.snapshot c.sweep at.index s t at.stands.known.0 → Given stage next
     by_stage (Mark level slot) next same counts = none_given phases.Mark refl same (counts 0)
     by_stage (Filter slot) next same counts = none_given phases.Filter refl same (counts 0)
     by_stage Select next same counts = none_given phases.Select refl same (counts 0)

@@ -118,9 +118,9 @@ module _ (among : ByteSet) (s : Store) (stored : Stored) (old new : CoreState) (
         (subst (IsUnderWayIn new.tables.held) goes.runs after.under_way) (subst (IsSafeIn at.index s old.parts content) goes.ran (at.safe content told)) steps tables (subst (λ (o : Option Collection). TouchesBy o (Ok (answers.Did phase)) old new.disk) goes.ran touches) later
 
     -- the store that it is at is the one that the stage leads to
-    pub led_to : IsStoreAfter c.stage c.sweep.next c.sweep at.index s t content
+    pub led_to : IsStoreAfter c.stage c.sweep.next c.snapshot c.sweep at.index s t content
     led_to =
-        subst (λ (x : Store). IsStoreAfter c.stage c.sweep.next c.sweep at.index s x content)
+        subst (λ (x : Store). IsStoreAfter c.stage c.sweep.next c.snapshot c.sweep at.index s x content)
         (store_once now leaves.store_now t (leaves.stands.each now (new.disk.as_read now after.stands.known.1)).holds.right (after.stands.each now (new.disk.as_read now after.stands.known.1)).holds.right) leaves.store_is
 
     pub did_spares : (index : PlaceMap) → new.known ≡ Some index → Spares (IsReachable stored.files) at.index s.held c → Spares (IsReachable stored.files) index t.held goes.after

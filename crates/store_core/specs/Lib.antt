@@ -1,6 +1,7 @@
 pub mod Bounds
 pub mod Collecting
 pub mod Core
+pub mod Finished
 pub mod Frame
 pub mod Keeping
 pub mod Opening

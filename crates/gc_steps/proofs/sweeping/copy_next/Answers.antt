@@ -1,0 +1,47 @@
+use Rattle.std.proofs.Common.{refl}
+use Rattle.base_model.proofs.Outcome.{passed_on}
+use Rattle.dd_disk.specs.Ending.{Done, ending_of}
+use Rattle.dd_disk.proofs.Moves.{passed}
+use Rattle.store_state.specs.Refused.{blames}
+use Rattle.gc_steps.specs.Stepping.{GoesBy, Refuses, moment}
+use Rattle.gc_steps.proofs.SweepSteps.{copy_goes, copy_made, copy_refused, swept}
+use Rattle.gc_steps.proofs.sweeping.copy_next.Goals as goal
+
+pub returns-in_err-copy_source-clause-refused : goal.returns-in_err-copy_source-clause-refused
+returns-in_err-copy_source-clause-refused g c =
+    let view = g.D.Disk.view in
+    let before = moment c.args.tables.now (g.X.Index.places c.args.index.now (view c.args.disk.now).content) (view c.args.disk.now) c.args.collection.now in
+    let after = moment c.args.tables.now (g.X.Index.places c.copy_source.new.index (view c.copy_source.new.disk).content) (view c.copy_source.new.disk) (swept c.args.collection.now c.copy_source.new.sweep) in
+    let did = c.in_err-copy_source.ensures in
+    let runs = c.requires.runs.1 in
+    passed_on c.from_residual.result (Refuses before after) c.in_err-copy_source.field-0.0 c.from_residual.ensures.1
+    (copy_refused c.args.tables.now c.args.tables.now (g.X.Index.places c.args.index.now (view c.args.disk.now).content) (g.X.Index.places c.copy_source.new.index (view c.copy_source.new.disk).content)
+    (view c.args.disk.now) (view c.copy_source.new.disk) c.args.collection.now c.copy_source.new.sweep c.args.source c.args.entry c.requires.stage c.requires.under_way c.requires.next refl
+    (did.changes runs.store.slots runs.valid.size_is).later.size_is c.in_err-copy_source.field-0.0 did.unchanged did.refused did.kept)
+
+pub returns-in_err-copy_source-clause-disk : goal.returns-in_err-copy_source-clause-disk
+returns-in_err-copy_source-clause-disk g c =
+    let view = g.D.Disk.view in
+    let e = c.in_err-copy_source.field-0.0 in
+    let runs = c.requires.runs.1 in
+    passed (λ x. GoesBy c.args.collection.now c.args.tables.now x (view c.args.disk.now) (view c.copy_source.new.disk)) blames c.from_residual.result e c.from_residual.ensures.1
+    (copy_goes c.args.tables.now c.args.tables.now (g.X.Index.places c.args.index.now (view c.args.disk.now).content) (g.X.Index.places c.copy_source.new.index (view c.copy_source.new.disk).content)
+    (view c.args.disk.now) (view c.copy_source.new.disk) c.args.collection.now c.copy_source.new.sweep c.args.source c.args.entry c.requires.stage c.requires.under_way c.requires.next
+    (ending_of (blames e)) runs.store.slots runs.valid.size_is (c.in_err-copy_source.ensures.changes))
+
+pub returns-clause-made : goal.returns-clause-made
+returns-clause-made g c =
+    let view = g.D.Disk.view in
+    let did = c.in_ok-copy_source.ensures in
+    let runs = c.requires.runs.1 in
+    copy_made c.args.tables.now c.args.tables.now (g.X.Index.places c.args.index.now (view c.args.disk.now).content) (g.X.Index.places c.copy_source.new.index (view c.copy_source.new.disk).content)
+    (view c.args.disk.now) (view c.copy_source.new.disk) c.args.collection.now c.copy_source.new.sweep c.args.source c.args.entry c.requires.stage c.requires.under_way c.requires.next refl
+    (did.changes runs.store.slots runs.valid.size_is).later.size_is did.ok
+
+pub returns-clause-disk : goal.returns-clause-disk
+returns-clause-disk g c =
+    let view = g.D.Disk.view in
+    let runs = c.requires.runs.1 in
+    copy_goes c.args.tables.now c.args.tables.now (g.X.Index.places c.args.index.now (view c.args.disk.now).content) (g.X.Index.places c.copy_source.new.index (view c.copy_source.new.disk).content)
+    (view c.args.disk.now) (view c.copy_source.new.disk) c.args.collection.now c.copy_source.new.sweep c.args.source c.args.entry c.requires.stage c.requires.under_way c.requires.next
+    Done runs.store.slots runs.valid.size_is (c.in_ok-copy_source.ensures.changes)

@@ -1,0 +1,667 @@
+-- What a collection has done once it has ended, whatever steps of others came between its own.
+use Rattle.std.proofs.Common.{◌≡◌, inl, inr, ℕ, ◌<◌, ◌≤◌, true, false, List, [], ◌∷◌, ◌++◌, append-nil, length, get_or, Option, Some, None, Result, Ok, Err, Vec, Global, refl, sym, ◌∙◌, ap, subst, arith, ◌⊎◌, ◌+◌}
+use Rattle.store_core.proofs.RecordedAll.{filter_early, level_early, mark_early, old_same}
+use Rattle.disk_format.specs.declared.numbers.TheConstants.{MOST_LEVEL}
+use Rattle.gc_steps.specs.Stages.{first_slot, is_old_slot}
+use Rattle.container_meta.specs.Spelling.{HeaderValue, header_of}
+use Rattle.container_meta.specs.Places.{PlaceMap}
+use Rattle.std.specs.Str.{bytes_eq}
+use Rattle.std.specs.Prelude.{Contains}
+use Rattle.std.specs.List.{AllByRecursion, IsDistinct}
+use Rattle.std.proofs.lemmas.Grind.{get_or_default_zero}
+use Rattle.std.proofs.lemmas.List.Elements.{Contains-get_or}
+use Rattle.actor_parts.specs.declared.step.Answer.{Answer}
+use Rattle.actor_parts.specs.declared.step.Answer.TheVariants as answers
+use Rattle.actor_parts.specs.StepValue as asked
+use Rattle.actor_parts.specs.StepValue.{StepValue}
+use Rattle.container_meta.specs.declared.kind.Kind.{Kind}
+use Rattle.container_meta.specs.Segments.{Segment, has_key, keys_of}
+use Rattle.dd_disk.specs.View.{IsLater}
+use Rattle.gc_enumerate.specs.Live.{LiveKeys}
+use Rattle.gc_select.specs.Selecting.{selected, sources_of, ids_of}
+use Rattle.gc_steps.specs.declared.collection.Collection.{Collection}
+use Rattle.gc_steps.specs.declared.collection.Stage.{Stage}
+use Rattle.gc_steps.specs.declared.collection.Stage.TheVariants.{Filter, Mark, Select, Sweep as SweepStage}
+use Rattle.gc_steps.specs.FewSources.{IsToChoose}
+use Rattle.gc_steps.specs.Stepping.{Keeps, StepsTo, moment, phase_at}
+use Rattle.gc_steps.specs.SweepIsSafe.{HoldsAt}
+use Rattle.gc_steps.specs.UnderWay.{HasChosen, HasStage, IsUnderWay, old_ids}
+use Rattle.gc_steps.proofs.Chosen.{chosen_which, whole}
+use Rattle.gc_steps.proofs.CopiedOn.{GoesWell, IsCounted, begun_counted, goes_well}
+use Rattle.gc_steps.proofs.Sparing.{held_at}
+use Rattle.gc_steps.proofs.StepSafe.{IsStoreAfter}
+use Rattle.gc_sweep.specs.declared.sweep.Next.{Next}
+use Rattle.gc_sweep.specs.declared.sweep.Next.TheVariants.{Copy, Flush, Release, End}
+use Rattle.gc_sweep.specs.InTurn.{slot_in_turn}
+use Rattle.gc_sweep.specs.UnderWay.{HasNext, IsSweeping, sources_before}
+use Rattle.gc_sweep.proofs.Holds.{no_key, none_left}
+use Rattle.gc_sweep.proofs.KeyLists.{each_so, listed, none_distinct}
+use Rattle.refusals.specs.declared.refusal.Phase.{Phase}
+use Rattle.refusals.specs.declared.refusal.Refusal.{Refusal}
+use Rattle.refusals.specs.declared.refusal.Refusal.TheVariants as refusals
+use Rattle.store_model.specs.Collisions.{HasNoCollisions, ByteSet, IsIn}
+use Rattle.store_model.specs.Files.{Stored}
+use Rattle.store_model.specs.Image.{Store}
+use Rattle.store_model.specs.Slots.{first_free, ids_of as ids_held}
+use Rattle.store_model.specs.Steps.{StoreChange, SealContainer, ChangeName, FlushContainer, FreeContainer}
+use Rattle.store_core.specs.declared.stop.Stop.{Stop}
+use Rattle.store_core.specs.Bounds.{IsNoEnd, NoneEnds, starts}
+use Rattle.store_core.specs.Collecting.{Begins, Collects, GcEffect, GcRow, GoesOn, HasEnded, IsKeptKey, IsNotMade, MarksIn, StartRow, TouchesBy, at_moment}
+use Rattle.store_core.specs.Core.{Row, Steps, StepsOr, next_id}
+use Rattle.store_core.specs.Finished.{AreCopiesOf, CollectsInAll, IsOfCopies, WereCopies, copied_keys}
+use Rattle.store_core.specs.Releases.{copied_in, ends_with, freed_in}
+use Rattle.store_core.specs.Runs.{AreChangesBy, AreChangesOf, ChangesTo, FileEvent, FileRun, FileStep, IsAt, IsNoGcStep, IsSafeIn, changes_by, events_of, stored_after, stored_by, stored_with}
+use Rattle.store_core.specs.State.{CoreState, Event, IsUnderWayIn}
+use Rattle.store_core.proofs.AnySteps.{any_step, changes_only, gc_or_not, with_step}
+use Rattle.store_core.proofs.CopiesOnce.{HoldsNewer, IsNoneOf, distinct_then, keys_then, listed_found, newer_on, none_listed, not_old}
+use Rattle.store_core.proofs.CoreRuns.{running_step, was_running}
+use Rattle.store_core.proofs.Counted.{Counts, CountsOn, IsQuiet, changed_by, counts_none, counts_same, counts_step, counts_then, refused_live, unwritten}
+use Rattle.store_core.proofs.FinishedStores.{Sweeps, added_stands, all_then, stands_on, stood, sweeps_then}
+use Rattle.store_core.proofs.Frames.{first_with}
+use Rattle.store_core.proofs.GcSteps.{phase_of}
+use Rattle.store_core.proofs.KeepingFiles.{chain_on, run_running}
+use Rattle.store_core.proofs.Leading.{Leads}
+use Rattle.store_core.proofs.SparedRest.{led_to, same_some}
+
+-- what one container of copies was, another may be called
+copies_so : (P Q : Kind → List Segment → Type 0) → ((kind : Kind) (segments : List Segment) → P kind segments → Q kind segments) → (change : StoreChange) → IsOfCopies P change → IsOfCopies Q change
+copies_so P Q so (SealContainer id kind segments) is = tt
+copies_so P Q so (ChangeName name change) is = tt
+copies_so P Q so (FlushContainer id kind segments) is = so kind segments is
+copies_so P Q so (FreeContainer slot) is = tt
+
+-- ---- what stays of a collection
+
+-- Snapshot and percentage; and its sources, once they are chosen.
+record KeepsOn (b a : Collection) : Type 0 where
+  snapshot_is : a.snapshot ≡ b.snapshot
+  percent_is : a.percent ≡ b.percent
+  chosen : b.stage ≡ SweepStage → (a.stage ≡ SweepStage) × (a.sweep.sources.items ≡ b.sweep.sources.items)
+
+keeps_same : (b a : Collection) → a ≡ b → KeepsOn b a
+keeps_same b a is = record {
+  snapshot_is = ap (λ (x : Collection). x.snapshot) is;
+  percent_is = ap (λ (x : Collection). x.percent) is;
+  chosen = λ stage. (ap (λ (x : Collection). x.stage) is ∙ stage, ap (λ (x : Collection). x.sweep.sources.items) is);
+}
+
+keeps_then : (b a c : Collection) → KeepsOn b a → KeepsOn a c → KeepsOn b c
+keeps_then b a c first rest = record {
+  snapshot_is = rest.snapshot_is ∙ first.snapshot_is;
+  percent_is = rest.percent_is ∙ first.percent_is;
+  chosen = λ stage. let now = first.chosen stage in let then = rest.chosen now.0 in (then.0, then.1 ∙ now.1);
+}
+
+module _ (old new : CoreState) (b a : Collection) where
+  -- where it doesn't sweep yet
+  keeps_early : (stage : Stage) → b.stage ≡ stage → IsToChoose stage → a.snapshot ≡ b.snapshot → a.percent ≡ b.percent → KeepsOn b a
+  keeps_early stage is early snapshot percent = record {
+    snapshot_is = snapshot;
+    percent_is = percent;
+    chosen = λ sweeps. absurd (let wrong : ⊥ = subst IsToChoose (sym is ∙ sweeps) early in wrong);
+  }
+
+  -- and where it does
+  keeps_swept : a ≡ record b { sweep = a.sweep } → a.sweep.sources ≡ b.sweep.sources → KeepsOn b a
+  keeps_swept is sources = record {
+    snapshot_is = ap (λ (x : Collection). x.snapshot) is;
+    percent_is = ap (λ (x : Collection). x.percent) is;
+    chosen = λ stage. (ap (λ (x : Collection). x.stage) is ∙ stage, ap (λ (v : Vec ℕ Global). v.items) sources);
+  }
+
+  keeps_step : (stage : Stage) (next : Next) → b.stage ≡ stage → StepsTo stage next (at_moment old b) (at_moment new a) → KeepsOn b a
+  keeps_step (Mark level slot) next is steps =
+      keeps_early (Mark level slot) is tt (ap (λ (x : Collection). x.snapshot) steps.0.collection_is) (ap (λ (x : Collection). x.percent) steps.0.collection_is)
+  keeps_step (Filter slot) next is steps =
+      keeps_early (Filter slot) is tt (ap (λ (x : Collection). x.snapshot) steps.0.collection_is) (ap (λ (x : Collection). x.percent) steps.0.collection_is)
+  keeps_step Select next is steps = keeps_early Select is tt (ap (λ (x : Collection). x.snapshot) steps.0.collection_is) (ap (λ (x : Collection). x.percent) steps.0.collection_is)
+  keeps_step SweepStage (Copy source entry) is steps = keeps_swept steps.1 steps.0.others.sources_are
+  keeps_step SweepStage (Flush source entry) is steps = keeps_swept steps.sweeps steps.flushed.sources_are
+  keeps_step SweepStage (Release source entry) is steps = keeps_swept steps.1 steps.0.sources_are
+  keeps_step SweepStage End is steps = keeps_same b a steps.0
+
+-- ---- a step
+
+-- A key is copied no more: a container that came after the collection began holds it, and it is none of those that are filled.
+record IsSettled (s : Store) (c : Collection) (key : List ℕ) : Type 0 where
+  sweeps : c.stage ≡ SweepStage
+  newer : HoldsNewer s.held c.snapshot key
+  unfilled : has_key c.sweep.buffer key ≡ true → ⊥
+
+-- Its sources are still to be chosen, or each container that is there was recorded; and once they are, what was recorded stays.
+record Records (s : Store) (b a : Collection) : Type 0 where
+  early : IsToChoose b.stage → IsToChoose a.stage ⊎ ((a.stage ≡ SweepStage) × (ids_of a.liveness ≡ old_ids b.snapshot (ids_held s.held)))
+  late : b.stage ≡ SweepStage → a.liveness ≡ b.liveness
+
+records_same : (s : Store) (b a : Collection) → a.stage ≡ b.stage → a.liveness ≡ b.liveness → Records s b a
+records_same s b a stage liveness = record { early = λ early. inl (subst IsToChoose (sym stage) early); late = λ sweeps. liveness }
+
+-- What a step leaves of a collection that runs, and of the containers.
+record Goes (among : ByteSet) (f : FileEvent) (b : Collection) (s : Store) (stored : Stored) (old new : CoreState) : Type 0 where
+  a : Collection
+  runs : new.collection ≡ Some a
+  store : Store
+  is_at : IsAt (IsIn among) store (stored_by f stored) new
+  changes : List StoreChange
+  changes_are : AreChangesBy f.event.step f.event.answer changes
+  chain : ChangesTo changes s store
+  sweeps : (sources : List ℕ) → (b.stage ≡ SweepStage → sources ≡ b.sweep.sources.items) → Sweeps b.snapshot sources changes s store
+  copies : AllByRecursion (IsOfCopies (AreCopiesOf (IsIn among) old)) changes
+  counts : Counts changes b a
+  keeps : KeepsOn b a
+  counted : IsCounted b.sweep → IsCounted a.sweep
+  records : Records s b a
+  once : IsDistinct bytes_eq (copied_keys changes)
+  others : (key : List ℕ) → IsSettled s b key → IsNoneOf (copied_keys changes) key × IsSettled store a key
+  settles : (key : List ℕ) → listed (copied_keys changes) key ≡ true → IsSettled store a key
+
+module _ (old new : CoreState) (b : Collection) (ran : old.collection ≡ Some b) where
+  -- it is as it was, but for its live keys
+  abbrev Stays : Type 0
+  Stays = (live : LiveKeys) × (new.collection ≡ Some (record b { live = live }))
+
+  same_stays : new.collection ≡ old.collection → Stays
+  same_stays same = (b.live, same ∙ ran)
+
+  marked_stays : (P : List ℕ → Type 0) → MarksIn P old.collection new.collection → Stays
+  marked_stays P marks = let so = subst (λ (o : Option Collection). MarksIn P o new.collection) ran marks in (so.0, so.1.0)
+
+  start_stays : (percent : ℕ) (answer : Result Answer Refusal) → StartRow percent answer old new → Stays
+  start_stays percent (Ok (answers.Started snapshot)) row = absurd (let wrong : None ≡ Some b = sym row.0.none_ran ∙ ran in cc)
+  start_stays percent (Err (refusals.Collecting phase)) row = same_stays row.1
+  start_stays percent (Err refusals.Memory) row = absurd (let wrong : None ≡ Some b = sym row.0 ∙ ran in cc)
+  start_stays percent answer row = absurd row
+
+  other_stays : (actor : ℕ) (buf : List ℕ) (step : StepValue) (answer : Result Answer Refusal) → IsNoGcStep step → Row step actor answer buf old new → Collects step answer old new → Stays
+  other_stays actor buf asked.GcStep answer other row collects = absurd other
+  other_stays actor buf asked.Begin answer other row collects = same_stays collects
+  other_stays actor buf (asked.Claim seg) answer other row collects = marked_stays (IsKeptKey (asked.Claim seg) answer) collects
+  other_stays actor buf (asked.Seal filled) answer other row collects = marked_stays (IsKeptKey (asked.Seal filled) answer) collects
+  other_stays actor buf (asked.Commit name root) answer other row collects = same_stays collects
+  other_stays actor buf asked.Abort answer other row collects = same_stays collects
+  other_stays actor buf (asked.OpenRead name) answer other row collects = same_stays collects
+  other_stays actor buf asked.ReadNext answer other row collects = same_stays collects
+  other_stays actor buf asked.EndRead answer other row collects = same_stays collects
+  other_stays actor buf (asked.Delete name) answer other row collects = same_stays collects
+  other_stays actor buf asked.ListNames answer other row collects = same_stays collects
+  other_stays actor buf (asked.GcStart percent) answer other row collects = start_stays percent answer row
+  other_stays actor buf asked.Stat answer other row collects = same_stays collects
+
+-- What a step changes that no collection makes: it gives nothing back, and writes no copies.
+record Adds (P : Kind → List Segment → Type 0) (snapshot : ℕ) (sources : List ℕ) (changes : List StoreChange) (s t : Store) : Type 0 where
+  sweeps : Sweeps snapshot sources changes s t
+  none_copied : AllByRecursion (IsOfCopies P) changes
+  freed_is : freed_in changes ≡ 0
+  copied_is : copied_in changes ≡ 0
+  no_keys : copied_keys changes ≡ []
+
+module _ (P : Kind → List Segment → Type 0) (snapshot : ℕ) (sources : List ℕ) (s t : Store) (old new : CoreState) (actor : ℕ) (buf : List ℕ) (began : snapshot ≤ next_id old) where
+  nothing : t ≡ s → Adds P snapshot sources [] s t
+  nothing same = record { sweeps = same; none_copied = tt; freed_is = refl; copied_is = refl; no_keys = refl }
+
+  adds : (step : StepValue) (answer : Result Answer Refusal) → IsNoGcStep step → Row step actor answer buf old new → ChangesTo (changes_by step answer) s t → Adds P snapshot sources (changes_by step answer) s t
+  adds asked.GcStep answer other row chain = absurd other
+  adds (asked.Seal filled) (Ok (answers.Sealed id)) other row chain =
+      record { sweeps = ((omega (arith, began, row.id_is), omega (arith, chain.0.slot)), chain.1); none_copied = (tt, tt); freed_is = refl; copied_is = refl; no_keys = refl }
+  adds (asked.Seal filled) (Err refusal) other row chain = nothing chain
+  adds (asked.Seal filled) answer other row chain = absurd row
+  adds (asked.Commit name root) (Ok answer) other row chain = record { sweeps = chain.1; none_copied = (tt, tt); freed_is = refl; copied_is = refl; no_keys = refl }
+  adds (asked.Commit name root) (Err refusal) other row chain = nothing chain
+  adds (asked.Delete name) (Ok answer) other row chain = record { sweeps = chain.1; none_copied = (tt, tt); freed_is = refl; copied_is = refl; no_keys = refl }
+  adds (asked.Delete name) (Err refusal) other row chain = nothing chain
+  adds asked.Begin answer other row chain = nothing chain
+  adds (asked.Claim seg) answer other row chain = nothing chain
+  adds asked.Abort answer other row chain = nothing chain
+  adds (asked.OpenRead name) answer other row chain = nothing chain
+  adds asked.ReadNext answer other row chain = nothing chain
+  adds asked.EndRead answer other row chain = nothing chain
+  adds asked.ListNames answer other row chain = nothing chain
+  adds (asked.GcStart percent) answer other row chain = nothing chain
+  adds asked.Stat answer other row chain = nothing chain
+
+module _ (among : ByteSet) (distinct : HasNoCollisions (IsIn among)) (f : FileEvent) (s : Store) (stored : Stored) (old new : CoreState) (step : FileStep (IsIn among) f old new) (at : IsAt (IsIn among) s stored old)
+    (stays : new.stop ≡ None) (b : Collection) (ran : old.collection ≡ Some b) (quiet : IsQuiet b) where
+  abbrev leads : Leads (IsIn among) s f (stored_by f stored) old new
+  leads = any_step among distinct f s stored old new step at stays
+
+  abbrev t : Store
+  t = leads.next.store
+
+  abbrev Copies : Kind → List Segment → Type 0
+  Copies = AreCopiesOf (IsIn among) old
+
+  under : IsUnderWay old.tables.held b
+  under = subst (IsUnderWayIn old.tables.held) ran at.under_way
+
+  abbrev image : List ℕ
+  image = at.stands.known.0
+
+  abbrev told : old.disk.content ≡ Some image
+  told = at.stands.known.1
+
+  -- what holds of the sweep
+  holds_at : (content : List ℕ) → old.disk.content ≡ Some content → HoldsAt b.stage at.index s.held content b
+  holds_at content is = held_at at.index s old.parts content b (subst (IsSafeIn at.index s old.parts content) ran (at.safe content is))
+
+  holds_sweep : b.stage ≡ SweepStage → (content : List ℕ) → old.disk.content ≡ Some content → HoldsAt SweepStage at.index s.held content b
+  holds_sweep sweeps content is = subst (λ (st : Stage). HoldsAt st at.index s.held content b) sweeps (holds_at content is)
+
+  -- each source came before
+  sources_old : b.stage ≡ SweepStage → (id : ℕ) → b.snapshot ≤ id → Contains b.sweep.sources.items id → ⊥
+  sources_old sweeps id above source =
+      let below : get_or b.sweep.sources.items source.0 0 < b.snapshot = (holds_sweep sweeps image told).0.old source.0 source.1 in
+      let here : get_or b.sweep.sources.items source.0 0 ≡ id = sym (get_or_default_zero b.sweep.sources.items source.0 id source.1) ∙ source.2 in
+      omega (arith, above, below, here)
+
+  -- a container that came after the collection began stands on
+  newer_then : (changes : List StoreChange) (key : List ℕ) → ((sources : List ℕ) → (b.stage ≡ SweepStage → sources ≡ b.sweep.sources.items) → Sweeps b.snapshot sources changes s t) → IsSettled s b key
+      → HoldsNewer t.held b.snapshot key
+  newer_then changes key sweeps settled =
+      newer_on b.snapshot b.sweep.sources.items changes s t key (sweeps b.sweep.sources.items (λ stage. refl)) (sources_old settled.sweeps) settled.newer
+
+  -- but for its live keys it is as it was
+  unchanged : (changes : List StoreChange) → AreChangesBy f.event.step f.event.answer changes → ChangesTo changes s t → ((sources : List ℕ) → Adds Copies b.snapshot sources changes s t) → Stays old new b ran
+      → Goes among f b s stored old new
+  unchanged changes are chain adds on = record {
+    a = record b { live = on.0 };
+    runs = on.1;
+    store = t;
+    is_at = leads.next.is_at;
+    changes = changes;
+    changes_are = are;
+    chain = chain;
+    sweeps = λ sources chosen. (adds sources).sweeps;
+    copies = (adds []).none_copied;
+    counts = record {
+      on = record { freed_on = omega (arith, (adds []).freed_is); copied_on = omega (arith, (adds []).copied_is) };
+      quiet = quiet;
+    };
+    keeps = record { snapshot_is = refl; percent_is = refl; chosen = λ stage. (stage, refl) };
+    counted = λ counted. counted;
+    records = records_same s b (record b { live = on.0 }) refl refl;
+    once = subst (IsDistinct bytes_eq) (sym (adds []).no_keys) none_distinct;
+    others = λ key settled. (
+      subst (λ (keys : List (List ℕ)). IsNoneOf keys key) (sym (adds []).no_keys) tt,
+      (let now : IsSettled t (record b { live = on.0 }) key = record {
+        sweeps = settled.sweeps;
+        newer = newer_then changes key (λ sources chosen. (adds sources).sweeps) settled;
+        unfilled = settled.unfilled;
+      } in now),
+    );
+    settles = λ key has. absurd (let wrong : false ≡ true = ap (λ (keys : List (List ℕ)). listed keys key) (sym (adds []).no_keys) ∙ has in cc);
+  }
+
+  -- ---- of another kind
+
+  other_goes : IsNoGcStep f.event.step → Goes among f b s stored old new
+  other_goes other =
+      let steps : Steps f.event old new = running_step old new f.event (was_running old.stop f.event old new refl step.made stays) step.made in
+      let same : leads.changes ≡ changes_by f.event.step f.event.answer = changes_only f.event.step f.event.answer leads.changes other leads.changes_are in
+      unchanged leads.changes leads.changes_are leads.next.chain
+      (λ sources. subst (λ (changes : List StoreChange). Adds Copies b.snapshot sources changes s t) (sym same)
+      (adds Copies b.snapshot sources s t old new f.event.actor f.event.buf under.began f.event.step f.event.answer other steps.made.row
+      (subst (λ (changes : List StoreChange). ChangesTo changes s t) same leads.next.chain)))
+      (other_stays old new b ran f.event.actor f.event.buf f.event.step f.event.answer other steps.made.row steps.collects)
+
+  -- ---- of a collection
+
+  module _ (is : f.event.step ≡ asked.GcStep) where
+    gc_steps : Steps (with_step f asked.GcStep).event old new
+    gc_steps = subst (λ (st : StepValue). Steps (with_step f st).event old new) is (running_step old new f.event (was_running old.stop f.event old new refl step.made stays) step.made)
+
+    -- the files are those of before
+    after_gc : IsAt (IsIn among) t stored new
+    after_gc = subst (λ (x : Stored). IsAt (IsIn among) t x new) (ap (λ (st : StepValue). stored_with st f.event.answer f.bytes stored) is) leads.next.is_at
+
+    changes_so : (changes : List StoreChange) → AreChangesBy asked.GcStep f.event.answer changes → AreChangesBy f.event.step f.event.answer changes
+    changes_so changes are = subst (λ (st : StepValue). AreChangesBy st f.event.answer changes) (sym is) are
+
+    -- what the next stage of it makes of the store, by changes that it counts
+    record Makes (stage : Stage) (next : Next) : Type 0 where
+      id : ℕ
+      changes_are : AreChangesBy asked.GcStep (Ok (answers.Did (phase_at stage next))) (changed_by stage next b.sweep id)
+      chain : ChangesTo (changed_by stage next b.sweep id) s t
+      sweeps : (sources : List ℕ) → (b.stage ≡ SweepStage → sources ≡ b.sweep.sources.items) → Sweeps b.snapshot sources (changed_by stage next b.sweep id) s t
+      copies : AllByRecursion (IsOfCopies Copies) (changed_by stage next b.sweep id)
+
+    copied_here : b.stage ≡ SweepStage → Copies b.sweep.buffer.kind b.sweep.buffer.segments
+    copied_here sweeps = record {
+      store = s;
+      stored = stored;
+      is_at = at;
+      collection = b;
+      runs = ran;
+      each = λ content is. (holds_sweep sweeps content is).1.copied;
+      once = (holds_sweep sweeps image told).1.once;
+    }
+
+    makes : (stage : Stage) (next : Next) → b.stage ≡ stage → IsStoreAfter stage next b.snapshot b.sweep at.index s t at.stands.known.0 → Makes stage next
+    makes (Mark level slot) next stage_is same = record { id = 0; changes_are = refl; chain = same; sweeps = λ sources chosen. same; copies = tt }
+    makes (Filter slot) next stage_is same = record { id = 0; changes_are = refl; chain = same; sweeps = λ sources chosen. same; copies = tt }
+    makes Select next stage_is same = record { id = 0; changes_are = refl; chain = same; sweeps = λ sources chosen. same; copies = tt }
+    makes SweepStage (Copy source entry) stage_is same = record { id = 0; changes_are = refl; chain = same; sweeps = λ sources chosen. same; copies = tt }
+    makes SweepStage (Flush source entry) stage_is flushes = record {
+      id = flushes.id;
+      changes_are = (flushes.id, b.sweep.buffer.kind, b.sweep.buffer.segments, refl);
+      chain = (flushes.can, flushes.now_is);
+      sweeps = λ sources chosen. ((flushes.new, omega (arith, flushes.can.slot)), flushes.now_is);
+      copies = (copied_here stage_is, tt);
+    }
+    makes SweepStage (Release source entry) stage_is frees = record {
+      id = 0;
+      changes_are = (slot_in_turn b.sweep, refl);
+      chain = ((frees.header, frees.there), frees.now_is);
+      sweeps = λ sources chosen. (
+        (
+          frees.header,
+          (
+            frees.there,
+            subst (λ (ids : List ℕ). Contains ids frees.header.id) (sym (chosen stage_is))
+                (subst (Contains b.sweep.sources.items) (sym frees.id_is) (Contains-get_or b.sweep.sources.items frees.number 0 frees.within)),
+          ),
+        ),
+        frees.now_is,
+      );
+      copies = (tt, tt);
+    }
+    makes SweepStage End stage_is same = record { id = 0; changes_are = refl; chain = same; sweeps = λ sources chosen. same; copies = tt }
+
+    -- what it does to the keys that are copied
+    record Keys (changes : List StoreChange) (a : Collection) : Type 0 where
+      once : IsDistinct bytes_eq (copied_keys changes)
+      others : (key : List ℕ) → IsSettled s b key → IsNoneOf (copied_keys changes) key
+      newer : (key : List ℕ) → listed (copied_keys changes) key ≡ true → (b.stage ≡ SweepStage) × HoldsNewer t.held b.snapshot key
+      unfilled : (key : List ℕ) → listed (copied_keys changes) key ≡ true → has_key a.sweep.buffer key ≡ true → ⊥
+
+    no_keys : (changes : List StoreChange) (a : Collection) → copied_keys changes ≡ [] → Keys changes a
+    no_keys changes a none = record {
+      once = subst (IsDistinct bytes_eq) (sym none) none_distinct;
+      others = λ key settled. subst (λ (keys : List (List ℕ)). IsNoneOf keys key) (sym none) tt;
+      newer = λ key has. absurd (let wrong : false ≡ true = ap (λ (keys : List (List ℕ)). listed keys key) (sym none) ∙ has in cc);
+      unfilled = λ key has filled. (let wrong : false ≡ true = ap (λ (keys : List (List ℕ)). listed keys key) (sym none) ∙ has in cc);
+    }
+
+    keys_by : (a : Collection) (id : ℕ) (stage : Stage) (next : Next) → b.stage ≡ stage → StepsTo stage next (at_moment old b) (at_moment new a) → ChangesTo (changed_by stage next b.sweep id) s t
+        → Sweeps b.snapshot b.sweep.sources.items (changed_by stage next b.sweep id) s t → Keys (changed_by stage next b.sweep id) a
+    keys_by a id (Mark level slot) next stage_is steps chain sweeps = no_keys [] a refl
+    keys_by a id (Filter slot) next stage_is steps chain sweeps = no_keys [] a refl
+    keys_by a id Select next stage_is steps chain sweeps = no_keys [] a refl
+    keys_by a id SweepStage (Copy source entry) stage_is steps chain sweeps = no_keys [] a refl
+    keys_by a id SweepStage (Flush source entry) stage_is steps chain sweeps =
+        let keys : List (List ℕ) = keys_of b.sweep.buffer in
+        let whole : keys ++ [] ≡ keys = append-nil keys in
+        record {
+          once = subst (IsDistinct bytes_eq) (sym whole) (holds_sweep stage_is image told).1.once;
+          others = λ key settled. subst (λ (ks : List (List ℕ)). IsNoneOf ks key) (sym whole) (none_listed keys key settled.unfilled);
+          newer = λ key has.
+              let entry = listed_found b.sweep.buffer.kind 0 b.sweep.buffer.segments key (ap (λ (ks : List (List ℕ)). listed ks key) (sym whole) ∙ has) in
+              let h : HeaderValue = header_of id b.sweep.buffer.kind b.sweep.buffer.segments in (
+                stage_is,
+                subst (λ (x : Store). HoldsNewer x.held b.snapshot key) (sym sweeps.1) (record {
+                  slot = first_free s.held;
+                  header = h;
+                  there = first_with h s.held sweeps.0.1;
+                  new = sweeps.0.0;
+                  entry = entry.0;
+                  found = entry.1;
+                }),
+              );
+          unfilled = λ key has filled. no_key a.sweep.buffer key steps.flushed.emptied filled;
+        }
+    keys_by a id SweepStage (Release source entry) stage_is steps chain sweeps = no_keys (FreeContainer (slot_in_turn b.sweep) ∷ []) a refl
+    keys_by a id SweepStage End stage_is steps chain sweeps = no_keys [] a refl
+
+    well : (a : Collection) → StepsTo b.stage b.sweep.next (at_moment old b) (at_moment new a) → GoesWell at.index s.held b a
+    well a steps =
+        goes_well old.tables new.tables at.index s.held image new.known old.disk new.disk b a at.represents.slots_hold at.valid.different (at.stands.each image (old.disk.as_read image told)).holds.right.slots_are
+        (at.invariant image told).index_is_newest told under (holds_at image told)
+        (subst (λ (k : Option PlaceMap). StepsTo b.stage b.sweep.next (moment old.tables k old.disk b) (at_moment new a)) at.index_known steps)
+
+    no_sweep : (a : Collection) (stage : Stage) → b.stage ≡ stage → IsToChoose stage → IsToChoose a.stage → Records s b a
+    no_sweep a stage is early now = record { early = λ was. inl now; late = λ sweeps. absurd (let wrong : ⊥ = subst IsToChoose (sym is ∙ sweeps) early in wrong) }
+
+    records_by : (a : Collection) (stage : Stage) (next : Next) → b.stage ≡ stage → StepsTo stage next (at_moment old b) (at_moment new a) → Records s b a
+    records_by a (Mark level slot) next is steps =
+        no_sweep a (Mark level slot) is tt (subst IsToChoose (sym (ap (λ (x : Collection). x.stage) steps.0.collection_is)) (mark_early b.snapshot old.tables.held level (slot + 1)))
+    records_by a (Filter slot) next is steps =
+        no_sweep a (Filter slot) is tt
+        (subst IsToChoose (sym (ap (λ (x : Collection). x.stage) steps.0.collection_is)) (filter_early (first_slot old.tables.held (is_old_slot b.snapshot old.tables.held) (slot + 1))))
+    records_by a Select next is steps = record {
+      early = λ was. inr (
+        ap (λ (x : Collection). x.stage) steps.0.collection_is,
+        ap (λ (x : Collection). ids_of x.liveness) steps.0.collection_is ∙ whole old.tables.held b [] (subst (HasStage old.tables.held b) is under.stage_is).0
+            ∙ ap (old_ids b.snapshot) at.represents.slots_hold.ids_are,
+      );
+      late = λ sweeps. ap (λ (x : Collection). x.liveness) steps.0.collection_is;
+    }
+    records_by a SweepStage (Copy source entry) is steps = records_same s b a (ap (λ (x : Collection). x.stage) steps.1) (ap (λ (x : Collection). x.liveness) steps.1)
+    records_by a SweepStage (Flush source entry) is steps = records_same s b a (ap (λ (x : Collection). x.stage) steps.sweeps) (ap (λ (x : Collection). x.liveness) steps.sweeps)
+    records_by a SweepStage (Release source entry) is steps = records_same s b a (ap (λ (x : Collection). x.stage) steps.1) (ap (λ (x : Collection). x.liveness) steps.1)
+    records_by a SweepStage End is steps = records_same s b a (ap (λ (x : Collection). x.stage) steps.0) (ap (λ (x : Collection). x.liveness) steps.0)
+
+    -- one was made
+    did_goes : (phase : Phase) → f.event.answer ≡ Ok (answers.Did phase) → GoesOn phase old new → TouchesBy old.collection (Ok (answers.Did phase)) old new.disk → IsLater old.disk new.disk → Goes among f b s stored old new
+    did_goes phase answer_is goes touches later =
+        by_before goes.before (same_some goes.before b old.collection goes.ran ran) goes.steps (phase_of goes.before phase goes.phase_is)
+        (led_to among s stored old new at t after_gc phase goes touches later)
+      where
+        by_before : (c : Collection) → c ≡ b → StepsTo c.stage c.sweep.next (at_moment old c) (at_moment new goes.after) → phase_at c.stage c.sweep.next ≡ phase
+            → IsStoreAfter c.stage c.sweep.next c.snapshot c.sweep at.index s t at.stands.known.0 → Goes among f b s stored old new
+        by_before c same steps phase_is led =
+            let steps_here = subst (λ (x : Collection). StepsTo x.stage x.sweep.next (at_moment old x) (at_moment new goes.after)) same steps in
+            let phase_here = subst (λ (x : Collection). phase_at x.stage x.sweep.next ≡ phase) same phase_is in
+            let made = makes b.stage b.sweep.next refl (subst (λ (x : Collection). IsStoreAfter x.stage x.sweep.next x.snapshot x.sweep at.index s t at.stands.known.0) same led) in
+            let changes : List StoreChange = changed_by b.stage b.sweep.next b.sweep made.id in
+            let keeps : KeepsOn b goes.after = keeps_step old new b goes.after b.stage b.sweep.next refl steps_here in
+            let keys : Keys changes goes.after = keys_by goes.after made.id b.stage b.sweep.next refl steps_here made.chain (made.sweeps b.sweep.sources.items (λ stage. refl)) in
+            let here : GoesWell at.index s.held b goes.after = well goes.after steps_here in
+            let settled : (key : List ℕ) → b.stage ≡ SweepStage → HoldsNewer t.held b.snapshot key → (has_key goes.after.sweep.buffer key ≡ true → ⊥) → IsSettled t goes.after key =
+            λ key stage newer unfilled. (let now : IsSettled t goes.after key = record {
+              sweeps = (keeps.chosen stage).0;
+              newer = subst (λ (n : ℕ). HoldsNewer t.held n key) (sym keeps.snapshot_is) newer;
+              unfilled = unfilled;
+            } in now) in
+            record {
+              a = goes.after;
+              runs = goes.runs;
+              store = t;
+              is_at = leads.next.is_at;
+              changes = changed_by b.stage b.sweep.next b.sweep made.id;
+              changes_are = changes_so (changed_by b.stage b.sweep.next b.sweep made.id)
+                  (subst (λ (answer : Result Answer Refusal). AreChangesBy asked.GcStep answer (changed_by b.stage b.sweep.next b.sweep made.id)) (ap (λ (p : Phase). Ok (answers.Did p)) phase_here ∙ sym answer_is) made.changes_are);
+              chain = made.chain;
+              sweeps = made.sweeps;
+              copies = made.copies;
+              counts = counts_step old new b goes.after quiet made.id b.stage b.sweep.next refl steps_here;
+              keeps = keeps;
+              counted = here.counted;
+              records = records_by goes.after b.stage b.sweep.next refl steps_here;
+              once = keys.once;
+              others = λ key was. (
+                keys.others key was,
+                settled key was.sweeps (newer_then changes key made.sweeps was)
+                    (λ filled. elim (here.filled key filled) [
+                      | inl before ↦ was.unfilled before
+                      | inr old_one ↦ not_old s.held at.index key b.snapshot (at.invariant image told).index_is_newest was.newer old_one
+                    ]),
+              );
+              settles = λ key has. let is = keys.newer key has in settled key is.0 is.1 (keys.unfilled key has);
+            }
+
+    -- one was refused
+    refused_goes : (refusal : Refusal) → leads.changes ≡ [] → IsNotMade refusal old new → Goes among f b s stored old new
+    refused_goes refusal none row =
+        let same = same_some row.before b old.collection row.ran ran in
+        let live = refused_live old new b b.stage b.sweep.next refusal row.after (subst (λ (x : Collection). Keeps x.stage x.sweep.next (at_moment old x) (at_moment new row.after) refusal) same row.kept) in
+        let stands : t ≡ s = subst (λ (changes : List StoreChange). ChangesTo changes s t) none leads.next.chain in
+        unchanged leads.changes leads.changes_are leads.next.chain
+        (λ sources. subst (λ (changes : List StoreChange). Adds Copies b.snapshot sources changes s t) (sym none) (record { sweeps = stands; none_copied = tt; freed_is = refl; copied_is = refl; no_keys = refl }))
+        (live.0, row.runs ∙ ap Some live.1)
+
+    gc_by : (answer : Result Answer Refusal) → f.event.answer ≡ answer → IsNoEnd answer → GcRow answer old new → GcEffect answer old new → AreChangesBy asked.GcStep answer leads.changes → Goes among f b s stored old new
+    gc_by (Ok (answers.Did phase)) answer_is goes_on row effect are = did_goes phase answer_is row.0 effect.touches effect.later
+    gc_by (Ok (answers.Done freed copied)) answer_is goes_on row effect are = absurd goes_on
+    gc_by (Err refusals.NotCollecting) answer_is goes_on row effect are = absurd (let wrong : None ≡ Some b = sym row.0.none_ran ∙ ran in cc)
+    gc_by (Err refusal) answer_is goes_on row effect are = refused_goes refusal are row.0
+    gc_by answer answer_is goes_on row effect are = absurd row
+
+    gc_goes : IsNoEnd f.event.answer → Goes among f b s stored old new
+    gc_goes goes_on =
+        gc_by f.event.answer refl goes_on gc_steps.made.row gc_steps.made.effect (subst (λ (st : StepValue). AreChangesBy st f.event.answer leads.changes) is leads.changes_are)
+
+  step_goes : IsNoEnd f.event.answer → Goes among f b s stored old new
+  step_goes goes_on = elim (gc_or_not f.event.step) [
+    | inl gc ↦ gc_goes gc goes_on
+    | inr other ↦ other_goes other
+  ]
+
+-- ---- steps, one after the other
+
+module _ (C : Type 0) (state : C → CoreState) where
+  record Went (among : ByteSet) (steps : List FileEvent) (b c : Collection) (s : Store) (stored : Stored) (mid new : C) (run : FileRun C state (IsIn among) steps mid new) : Type 0 where
+    store : Store
+    is_at : IsAt (IsIn among) store (stored_after steps stored) (state new)
+    changes : List StoreChange
+    changes_are : AreChangesOf steps changes
+    chain : ChangesTo changes s store
+    sweeps : Sweeps c.snapshot c.sweep.sources.items changes s store
+    copies : AllByRecursion (IsOfCopies (WereCopies C state (IsIn among) steps mid new run)) changes
+    on : CountsOn changes b.sweep c.sweep
+    keeps : KeepsOn b c
+    counted : IsCounted b.sweep → IsCounted c.sweep
+    recorded : IsToChoose b.stage → c.stage ≡ SweepStage → ids_of c.liveness ≡ old_ids b.snapshot (ids_held s.held)
+    recorded_still : b.stage ≡ SweepStage → c.liveness ≡ b.liveness
+    once : IsDistinct bytes_eq (copied_keys changes)
+    others : (key : List ℕ) → IsSettled s b key → IsNoneOf (copied_keys changes) key
+
+  went : (among : ByteSet) (steps : List FileEvent) (s : Store) (stored : Stored) (mid new : C) (b c : Collection) → HasNoCollisions (IsIn among) → IsAt (IsIn among) s stored (state mid)
+      → (run : FileRun C state (IsIn among) steps mid new) → NoneEnds (events_of steps) → (state new).stop ≡ None → (state mid).collection ≡ Some b → (state new).collection ≡ Some c → IsQuiet b
+      → Went among steps b c s stored mid new run
+  went among [] s stored mid new b c distinct at run ends stays ran runs quiet =
+      let same : c ≡ b = same_some c b (state new).collection runs (ap (λ (x : C). (state x).collection) run ∙ ran) in
+      record {
+        store = s;
+        is_at = subst (λ (x : C). IsAt (IsIn among) s stored (state x)) (sym run) at;
+        changes = [];
+        changes_are = refl;
+        chain = refl;
+        sweeps = refl;
+        copies = tt;
+        on = counts_same b.sweep c.sweep (ap (λ (x : Collection). x.sweep) same);
+        keeps = keeps_same b c same;
+        counted = λ counted. subst (λ (x : Collection). IsCounted x.sweep) (sym same) counted;
+        recorded = λ early sweeps. absurd (let wrong : ⊥ = subst IsToChoose (sym (ap (λ (x : Collection). x.stage) same) ∙ sweeps) early in wrong);
+        recorded_still = λ stage. ap (λ (x : Collection). x.liveness) same;
+        once = none_distinct;
+        others = λ key settled. tt;
+      }
+  went among (f ∷ fs) s stored mid new b c distinct at run ends stays ran runs quiet =
+      let on : (state run.0).stop ≡ None = run_running C state among fs run.0 new run.1.1 stays in
+      let one = step_goes among distinct f s stored (state mid) (state run.0) run.1.0 at on b ran quiet ends.0 in
+      let rest = went among fs one.store (stored_by f stored) run.0 new one.a c distinct one.is_at run.1.1 ends.1 stays one.runs runs one.counts.quiet in
+      let keeps : KeepsOn b c = keeps_then b one.a c one.keeps rest.keeps in
+      record {
+        store = rest.store;
+        is_at = rest.is_at;
+        changes = one.changes ++ rest.changes;
+        changes_are = (one.changes, rest.changes, refl, one.changes_are, rest.changes_are);
+        chain = chain_on one.changes rest.changes s one.store rest.store one.chain rest.chain;
+        sweeps = sweeps_then c.snapshot c.sweep.sources.items one.changes rest.changes s one.store rest.store
+            (subst (λ (n : ℕ). Sweeps n c.sweep.sources.items one.changes s one.store) (sym keeps.snapshot_is) (one.sweeps c.sweep.sources.items (λ stage. (keeps.chosen stage).1))) rest.sweeps;
+        copies = all_then (IsOfCopies (WereCopies C state (IsIn among) (f ∷ fs) mid new run)) one.changes rest.changes
+            (each_so (IsOfCopies (AreCopiesOf (IsIn among) (state mid))) (IsOfCopies (WereCopies C state (IsIn among) (f ∷ fs) mid new run)) one.changes
+            (λ change is. copies_so (AreCopiesOf (IsIn among) (state mid)) (WereCopies C state (IsIn among) (f ∷ fs) mid new run)
+            (λ kind segments copies. (let were : WereCopies C state (IsIn among) (f ∷ fs) mid new run kind segments = record { here = mid; on_run = inl refl; copies = copies } in were)) change is) one.copies)
+            (each_so (IsOfCopies (WereCopies C state (IsIn among) fs run.0 new run.1.1)) (IsOfCopies (WereCopies C state (IsIn among) (f ∷ fs) mid new run)) rest.changes
+            (λ change is. copies_so (WereCopies C state (IsIn among) fs run.0 new run.1.1) (WereCopies C state (IsIn among) (f ∷ fs) mid new run)
+            (λ kind segments were. (let now : WereCopies C state (IsIn among) (f ∷ fs) mid new run kind segments = record { here = were.here; on_run = inr were.on_run; copies = were.copies } in now)) change is) rest.copies);
+        on = counts_then one.changes rest.changes b.sweep one.a.sweep c.sweep one.counts.on rest.on;
+        keeps = keeps;
+        counted = λ counted. rest.counted (one.counted counted);
+        recorded = λ early sweeps. elim (one.records.early early) [
+          | inl still ↦
+              rest.recorded still sweeps ∙ ap (λ (n : ℕ). old_ids n (ids_held one.store.held)) one.keeps.snapshot_is
+              ∙ old_same b.snapshot one.changes s one.store (one.sweeps [] (λ stage. absurd (let wrong : ⊥ = subst IsToChoose stage early in wrong)))
+          | inr now ↦ ap ids_of (rest.recorded_still now.0) ∙ now.1
+        ];
+        recorded_still = λ stage. rest.recorded_still (one.keeps.chosen stage).0 ∙ one.records.late stage;
+        once = subst (IsDistinct bytes_eq) (sym (keys_then one.changes rest.changes))
+            (distinct_then (copied_keys one.changes) (copied_keys rest.changes) one.once rest.once (λ key has. rest.others key (one.settles key has)));
+        others = λ key settled.
+            let now = one.others key settled in
+            subst (λ (keys : List (List ℕ)). IsNoneOf keys key) (sym (keys_then one.changes rest.changes))
+            (all_then (λ k. bytes_eq key k ≡ false) (copied_keys one.changes) (copied_keys rest.changes) now.0 (rest.others key now.1));
+      }
+
+  -- a core that ends a collection isn't stopped
+  pub ended_runs : (stop : Option Stop) (e : Event) (freed copied : ℕ) (old new : CoreState) → old.stop ≡ stop → e.answer ≡ Ok (answers.Done freed copied) → StepsOr stop e old new → old.stop ≡ None
+  ended_runs None e freed copied old new is answer_is steps = is
+  ended_runs (Some stop) e freed copied old new is answer_is steps = absurd (let wrong = sym answer_is ∙ steps.answer_is in cc)
+
+  pub collects_in_all : CollectsInAll C state
+  collects_in_all among actor last_actor percent snapshot freed copied buf last_buf steps s stored old begun new last distinct at began run none_ends ended =
+      let first : FileEvent = record { event = starts actor percent snapshot buf; bytes = [] } in
+      let final : FileEvent = record { event = ends_with last_actor freed copied last_buf; bytes = [] } in
+      let stays : (state new).stop ≡ None = ended_runs (state new).stop final.event freed copied (state new) (state last) refl refl ended in
+      let on : (state begun).stop ≡ None = run_running C state among steps begun new run stays in
+      let begins : Steps first.event (state old) (state begun) = running_step (state old) (state begun) first.event (was_running (state old).stop first.event (state old) (state begun) refl began on) began in
+      let led = any_step among distinct first s stored (state old) (state begun) (record { asked = tt; given = tt; made = began }) at on in
+      let same_first : led.next.store ≡ s = subst (λ (changes : List StoreChange). ChangesTo changes s led.next.store) led.changes_are led.next.chain in
+      let row_first : Begins percent snapshot (state old) (state begun) = begins.made.row.0 in
+      let b : Collection = row_first.collection in
+      let ends : Steps final.event (state new) (state last) = running_step (state new) (state last) final.event stays ended in
+      let row : HasEnded freed copied (state new) (state last) = ends.made.row.0 in
+      let c : Collection = row.before in
+      let none = counts_none (state old).tables.held [] b.sweep row_first.nothing_yet.1 in
+      let all = went among steps s stored begun new b c distinct (subst (λ (x : Store). IsAt (IsIn among) x stored (state begun)) same_first led.next.is_at) run none_ends stays row_first.runs row.ran (λ early. none) in
+      let over = any_step among distinct final all.store (stored_after steps stored) (state new) (state last) (record { asked = tt; given = tt; made = ended }) all.is_at ends.stops in
+      let same_last : over.next.store ≡ all.store = subst (λ (changes : List StoreChange). ChangesTo changes all.store over.next.store) over.changes_are over.next.chain in
+      let under : IsUnderWay (state new).tables.held c = subst (IsUnderWayIn (state new).tables.held) row.ran all.is_at.under_way in
+      let sweeping : IsSweeping (state new).tables.held c.snapshot c.sweep = subst (HasStage (state new).tables.held c) row.at_end.0 under.stage_is in
+      let has : HasNext (state new).tables.held c.sweep End = subst (HasNext (state new).tables.held c.sweep) row.at_end.1 sweeping.next_is in
+      let written : unwritten c.sweep ≡ 0 = ap length has.1 in
+      let image : List ℕ = all.is_at.stands.known.0 in
+      let holds : HoldsAt SweepStage all.is_at.index all.store.held image c =
+      subst (λ (st : Stage). HoldsAt st all.is_at.index all.store.held image c) row.at_end.0
+      (held_at all.is_at.index all.store (state new).parts image c (subst (IsSafeIn all.is_at.index all.store (state new).parts image) row.ran (all.is_at.safe image all.is_at.stands.known.1))) in
+      let snapshot_is : c.snapshot ≡ snapshot = all.keeps.snapshot_is ∙ sym row_first.snapshot_is in
+      let percent_is : c.percent ≡ percent = all.keeps.percent_is ∙ row_first.percent_is in
+      let chosen : c.sweep.sources.items ≡ sources_of (selected c.snapshot c.percent c.liveness) = subst (λ (st : Stage). HasChosen st c) row.at_end.0 under.sources_are in
+      let sources : c.sweep.sources.items ≡ sources_of (selected snapshot percent c.liveness) =
+      subst (λ (n : ℕ). c.sweep.sources.items ≡ sources_of (selected n percent c.liveness)) snapshot_is
+      (subst (λ (p : ℕ). c.sweep.sources.items ≡ sources_of (selected c.snapshot p c.liveness)) percent_is chosen) in
+      let which = chosen_which snapshot percent c.liveness c.sweep.sources.items sources in
+      let sweeps : Sweeps snapshot c.sweep.sources.items all.changes s all.store = subst (λ (n : ℕ). Sweeps n c.sweep.sources.items all.changes s all.store) snapshot_is all.sweeps in
+      record {
+        collection = c;
+        ran = row.ran;
+        snapshot_is = snapshot_is;
+        percent_is = percent_is;
+        recorded =
+            all.recorded (subst IsToChoose (sym row_first.stage_is) (level_early b.snapshot (state old).tables.held MOST_LEVEL)) row.at_end.0
+            ∙ ap (λ (n : ℕ). old_ids n (ids_held s.held)) (sym row_first.snapshot_is);
+        sources_are = sources;
+        store = all.store;
+        is_at = subst (λ (x : Store). IsAt (IsIn among) x (stored_after steps stored) (state last)) same_last over.next.is_at;
+        changes = all.changes;
+        changes_are = all.changes_are;
+        chain = all.chain;
+        gone = λ slot h there is_selected.
+            let source = (which h.id).1 is_selected in
+            none_left (state new).tables.held all.is_at.index all.store.held image c.live c.snapshot c.sweep sweeping row.at_end.1 holds.1 source.0 source.1 slot h there
+            (sym source.2 ∙ get_or_default_zero c.sweep.sources.items source.0 h.id source.1);
+        stands = λ slot h there other. stands_on snapshot c.sweep.sources.items all.changes s all.store slot h sweeps (λ source. other ((which h.id).0 source)) there;
+        added = λ h is. added_stands snapshot c.sweep.sources.items
+            (λ id above source.
+            let below : get_or c.sweep.sources.items source.0 0 < c.snapshot = holds.0.old source.0 source.1 in
+            let here : get_or c.sweep.sources.items source.0 0 ≡ id = sym (get_or_default_zero c.sweep.sources.items source.0 id source.1) ∙ source.2 in
+            omega (arith, above, below, here, snapshot_is)) all.changes s all.store h sweeps is;
+        no_other = λ slot h there. stood snapshot c.sweep.sources.items all.changes s all.store slot h sweeps there;
+        copies = all.copies;
+        once = all.once;
+        freed_is =
+            let counted : IsCounted c.sweep = all.counted (begun_counted (state old).tables.held [] b.sweep row_first.nothing_yet.1) in
+            omega (arith, counted, row.freed_is, ap (sources_before c.sweep) row.at_end.1, ap length (sweeping.waits has.1), ap length has.0);
+        given_back = omega (arith, all.on.freed_on, none.none_freed, row.freed_is);
+        copied_is = omega (arith, all.on.copied_on, none.none_copied, none.none_unwritten, written, row.copied_is);
+      }

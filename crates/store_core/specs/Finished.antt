@@ -1,0 +1,133 @@
+-- What a collection has done once it has ended, whatever steps of others came between its own (docs/MODEL.md, 'The core').
+use Rattle.std.specs.Prelude.{◌≡◌, ◌⊎◌, ℕ, ◌≤◌, List, [], ◌∷◌, map, slice_get, Some, ◌++◌, length, Option, option_map}
+use Rattle.std.specs.List.{AllByRecursion, IsDistinct}
+use Rattle.std.specs.Str.{bytes_eq}
+use Rattle.base_model.specs.Known.{Known}
+use Rattle.container_meta.specs.declared.kind.Kind.{Kind}
+use Rattle.container_meta.specs.Segments.{Segment, segment_key}
+use Rattle.container_meta.specs.Spelling.{HeaderValue, header_of}
+use Rattle.gc_select.specs.Selecting.{IsSelectedId, ids_of, selected, sources_of}
+use Rattle.gc_steps.specs.declared.collection.Collection.{Collection}
+use Rattle.gc_steps.specs.Roots.{IsActorKey}
+use Rattle.gc_steps.specs.UnderWay.{old_ids}
+use Rattle.gc_sweep.specs.Holding.{IsCopied}
+use Rattle.store_model.specs.Collisions.{HasNoCollisions, ByteSet, IsIn}
+use Rattle.store_model.specs.Files.{Files, Stored}
+use Rattle.store_model.specs.Image.{Store}
+use Rattle.store_model.specs.Indexing.{entry_key}
+use Rattle.store_model.specs.Reserve.{IsReachable}
+use Rattle.store_model.specs.Slots.{Copy, ids_of as ids_held, newest, place_of}
+use Rattle.store_model.specs.Steps.{StoreChange, SealContainer, FlushContainer}
+use Rattle.store_core.specs.Bounds.{NoneEnds, starts}
+use Rattle.store_core.specs.Core.{CoreStep}
+use Rattle.store_core.specs.Releases.{AreGcSteps, copied_in, ends_with, freed_in}
+use Rattle.store_core.specs.Runs.{AreChangesOf, ChangesTo, FileEvent, FileRun, IsAt, events_of, stored_after}
+use Rattle.store_core.specs.State.{CoreState}
+
+-- a core of a run: the first, or that after one of its steps
+abbrev pub IsOnRun : (C : Type 0) (state : C → CoreState) (S : List ℕ → Type 0) (steps : List FileEvent) (old new : C)
+    → FileRun C state S steps old new → C → Type 0
+IsOnRun C state S [] old new run here = here ≡ old
+IsOnRun C state S (f ∷ fs) old new run here = (here ≡ old) ⊎ IsOnRun C state S fs run.0 new run.1.1 here
+
+-- the container is one that these changes seal or write
+abbrev pub IsAdded : List StoreChange → HeaderValue → Type 0
+IsAdded [] h = ⊥
+IsAdded (SealContainer id kind segments ∷ more) h = (h ≡ header_of id kind segments) ⊎ IsAdded more h
+IsAdded (FlushContainer id kind segments ∷ more) h = (h ≡ header_of id kind segments) ⊎ IsAdded more h
+IsAdded (change ∷ more) h = IsAdded more h
+
+-- Segments that are about to be written by a core at a store, where a collection runs: no key comes twice among them; of each the key is live,
+-- and the newest copy of it that the store holds has the same level and the same bytes.
+pub record AreCopiesOf (S : List ℕ → Type 0) (c : CoreState) (kind : Kind) (segments : List Segment) : Type 0 where
+  pub store : Store
+  pub stored : Stored
+  pub is_at : IsAt S store stored c
+  pub collection : Collection
+  pub runs : c.collection ≡ Some collection
+  pub each : Known c.disk.content (λ image. AllByRecursion (IsCopied is_at.index collection.live store.held image kind) segments)
+  pub once : IsDistinct bytes_eq (map (segment_key kind) segments)
+
+-- and so they were at a moment of the run
+pub record WereCopies (C : Type 0) (state : C → CoreState) (S : List ℕ → Type 0) (steps : List FileEvent) (old new : C)
+    (run : FileRun C state S steps old new) (kind : Kind) (segments : List Segment) : Type 0 where
+  pub here : C
+  pub on_run : IsOnRun C state S steps old new run here
+  pub copies : AreCopiesOf S (state here) kind segments
+
+-- P holds of the kind and the segments of a container, if that is one of copies that the change writes
+abbrev pub IsOfCopies : (Kind → List Segment → Type 0) → StoreChange → Type 0
+IsOfCopies P (FlushContainer id kind segments) = P kind segments
+IsOfCopies P change = Unit {0}
+
+-- the keys of the copies that changes write, one after the other
+abbrev pub copied_keys : List StoreChange → List (List ℕ)
+copied_keys [] = []
+copied_keys (FlushContainer id kind segments ∷ more) = map (segment_key kind) segments ++ copied_keys more
+copied_keys (change ∷ more) = copied_keys more
+
+-- The collection that ended, and what the steps of its run made of the store that it began at.
+pub record Collected (C : Type 0) (state : C → CoreState) (S : List ℕ → Type 0) (percent snapshot freed copied : ℕ) (steps : List FileEvent)
+    (s : Store) (stored : Stored) (begun new last : C) (run : FileRun C state S steps begun new) : Type 0 where
+  -- It ran up to its end, with the snapshot and the percentage that it began with.
+  pub collection : Collection
+  pub ran : (state new).collection ≡ Some collection
+  pub snapshot_is : collection.snapshot ≡ snapshot
+  pub percent_is : collection.percent ≡ percent
+  -- It recorded each container that was there when it began, once, in the order of their slots.
+  pub recorded : ids_of collection.liveness ≡ old_ids snapshot (ids_held s.held)
+  -- Its sources were the containers that are selected by what it recorded, in their order.
+  pub sources_are : collection.sweep.sources.items ≡ sources_of (selected snapshot percent collection.liveness)
+  -- The core is at a store, to which the steps led by these changes; that the collection ended changed nothing.
+  pub store : Store
+  pub is_at : IsAt S store (stored_after steps stored) (state last)
+  pub changes : List StoreChange
+  pub changes_are : AreChangesOf steps changes
+  pub chain : ChangesTo changes s store
+  -- No container of a selected id stands.
+  pub gone : (slot : ℕ) (h : HeaderValue) → slice_get store.held slot ≡ Some (Some h)
+      → ¬ (IsSelectedId snapshot percent collection.liveness h.id)
+  -- Each other container that was there when it began stands in its slot, with the same header.
+  pub stands : (slot : ℕ) (h : HeaderValue) → slice_get s.held slot ≡ Some (Some h)
+      → ¬ (IsSelectedId snapshot percent collection.liveness h.id) → slice_get store.held slot ≡ Some (Some h)
+  -- Each container that was sealed, or written with copies, since then stands too, and has an id from the snapshot on.
+  pub added : (h : HeaderValue) → IsAdded changes h → (snapshot ≤ h.id) × ((slot : ℕ) × (slice_get store.held slot ≡ Some (Some h)))
+  -- No other container stands.
+  pub no_other : (slot : ℕ) (h : HeaderValue) → slice_get store.held slot ≡ Some (Some h)
+      → (slice_get s.held slot ≡ Some (Some h)) ⊎ IsAdded changes h
+  -- What was written with copies were live segments, as the store held them; and no key was copied twice.
+  pub copies : AllByRecursion (IsOfCopies (WereCopies C state S steps begun new run)) changes
+  pub once : IsDistinct bytes_eq (copied_keys changes)
+  -- It answered how many sources there were, each of which was given back, and how many segments those containers have that it wrote.
+  pub freed_is : freed ≡ length collection.sweep.sources.items
+  pub given_back : freed ≡ freed_in changes
+  pub copied_is : copied ≡ copied_in changes
+
+-- A collection that began at a store and came to its end has collected, whatever steps of any actors were made between, where no other one
+-- ended meanwhile.
+abbrev pub CollectsInAll : (C : Type 0) → (C → CoreState) → Type 0
+CollectsInAll C state = (among : ByteSet) (actor last_actor percent snapshot freed copied : ℕ) (buf last_buf : List ℕ)
+    (steps : List FileEvent) (s : Store) (stored : Stored) (old begun new last : C)
+    → HasNoCollisions (IsIn among) → IsAt (IsIn among) s stored (state old)
+    → CoreStep (state old) (starts actor percent snapshot buf) (state begun)
+    → (run : FileRun C state (IsIn among) steps begun new) → NoneEnds (events_of steps)
+    → CoreStep (state new) (ends_with last_actor freed copied last_buf) (state last)
+    → Collected C state (IsIn among) percent snapshot freed copied steps s stored begun new last run
+
+-- The containers hold just what the files need, and each key of that once: each entry of each container is the newest copy of such a key, and of
+-- each such key there is a copy.
+pub record HoldsJustNeeded (files : Files) (held : List (Option HeaderValue)) : Type 0 where
+  pub each : (slot : ℕ) (h : HeaderValue) → slice_get held slot ≡ Some (Some h)
+      → AllByRecursion (λ e. IsReachable files (entry_key h.kind e)
+      × (option_map (λ c. c.place) (newest 0 held (entry_key h.kind e)) ≡ Some (place_of slot e))) h.entries
+  pub all : (key : List ℕ) → IsReachable files key → (copy : Copy) × (newest 0 held key ≡ Some copy)
+
+-- So it is where one of the percentage 100 began while no actor held a key, and came to its end with no other steps between.
+abbrev pub LeavesJustNeeded : (C : Type 0) → (C → CoreState) → Type 0
+LeavesJustNeeded C state = (among : ByteSet) (actor last_actor snapshot freed copied : ℕ) (buf last_buf : List ℕ)
+    (steps : List FileEvent) (s t : Store) (stored : Stored) (old begun new last : C)
+    → HasNoCollisions (IsIn among) → IsAt (IsIn among) s stored (state old) → ((key : List ℕ) → ¬ (IsActorKey (state old).parts key))
+    → CoreStep (state old) (starts actor 100 snapshot buf) (state begun)
+    → FileRun C state (IsIn among) steps begun new → AreGcSteps steps
+    → CoreStep (state new) (ends_with last_actor freed copied last_buf) (state last)
+    → IsAt (IsIn among) t stored (state last) → HoldsJustNeeded stored.files t.held

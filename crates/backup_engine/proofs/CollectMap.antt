@@ -54,6 +54,9 @@ use Rattle.store_core.proofs.Crashes.{leaves_on_the_way}
 use Rattle.store_core.proofs.Damage.{never_damaged}
 use Rattle.store_core.proofs.GcSteps.{end_reads}
 use Rattle.store_core.proofs.Leading.{Leads}
+use Rattle.store_core.specs.Bounds as bounds
+use Rattle.store_core.specs.Finished.{HoldsJustNeeded}
+use Rattle.store_core.proofs.JustNeeded.{leaves_just_needed}
 use Rattle.store_core.proofs.Releasing.{leaves_none_spare}
 use Rattle.store_core.proofs.Rooms.{free_held, room_ended}
 use Rattle.backup_engine.specs.Collected.{Collected, CollectedAll, HasNoIdLeft, collected_line}
@@ -349,8 +352,8 @@ module _ (C : Type 0) (state : C → CoreState) (v w : DiskView) (old new : C) (
           pub gave_some : (store : Store) → Encodes image store → KnownWith w.content (Collected m.files (freed_in so.changes) (copied_in so.changes) store image)
           gave_some store right = (content_now.0, content_now.1.0, gave_one store right)
 
-          pub gave_all : ((slot : ℕ) → ¬ (IsSpare Needs so.after.held slot)) → (store : Store) → Encodes image store → KnownWith w.content (CollectedAll m.files (freed_in so.changes) (copied_in so.changes) store image)
-          gave_all none store right = (content_now.0, content_now.1.0, record { collected = gave_one store right; none_spare = none })
+          pub gave_all : ((slot : ℕ) → ¬ (IsSpare Needs so.after.held slot)) → (percent ≡ 100 → HoldsJustNeeded m.files so.after.held) → (store : Store) → Encodes image store → KnownWith w.content (CollectedAll m.files percent (freed_in so.changes) (copied_in so.changes) store image)
+          gave_all none full store right = (content_now.0, content_now.1.0, record { collected = gave_one store right; none_spare = none; full = full })
 
       -- ---- it came to its end
 
@@ -390,13 +393,20 @@ module _ (C : Type 0) (state : C → CoreState) (v w : DiskView) (old new : C) (
             leaves_none_spare C state among 0 0 percent snapshot freed copied start.0 collects.0 did.steps at.store so.after m old mid sweeps.1.0 new distinct at.is_at (none_held (state old).parts called.opened.parts_are)
             called.opened.stop_is start.1 did.run did.all so.stop_is (subst (λ (a : Result Answer Refusal). CoreStep (state sweeps.1.0) (gc_event a collects.0) (state new)) done collects.1) far.is_at
 
+        -- one of 100 leaves just what the files need
+        full_now : percent ≡ 100 → HoldsJustNeeded m.files so.after.held
+        full_now full =
+            leaves_just_needed C state among 0 0 snapshot freed copied start.0 collects.0 did.steps at.store so.after m old mid sweeps.1.0 new distinct at.is_at (none_held (state old).parts called.opened.parts_are)
+            (subst (λ (p : ℕ). CoreStep (state old) (bounds.starts 0 p snapshot start.0) (state mid)) full start.1) did.run did.all
+            (subst (λ (a : Result Answer Refusal). CoreStep (state sweeps.1.0) (gc_event a collects.0) (state new)) done collects.1) (at_last only_done runs_done)
+
         pub done_left : IsLeftWith m w.content (λ store. Unit {0})
         done_left = left_now only_done runs_done room_done
 
-        pub done_gave : (store : Store) → Encodes image store → KnownWith w.content (CollectedAll m.files freed copied store image)
+        pub done_gave : (store : Store) → Encodes image store → KnownWith w.content (CollectedAll m.files percent freed copied store image)
         done_gave store right =
-            subst (λ (n : ℕ). KnownWith w.content (CollectedAll m.files n copied store image)) (sym row_done.1)
-            (subst (λ (n : ℕ). KnownWith w.content (CollectedAll m.files (freed_in so.changes) n store image)) (sym row_done.2) (gave_all only_done runs_done kept_done none_before store right))
+            subst (λ (n : ℕ). KnownWith w.content (CollectedAll m.files percent n copied store image)) (sym row_done.1)
+            (subst (λ (n : ℕ). KnownWith w.content (CollectedAll m.files percent (freed_in so.changes) n store image)) (sym row_done.2) (gave_all only_done runs_done kept_done none_before full_now store right))
 
       -- ---- it was refused
 
@@ -493,7 +503,7 @@ module _ (C : Type 0) (state : C → CoreState) (v w : DiskView) (old new : C) (
       done = Ok (answers.Done freed copied)
 
       module _ (among : ByteSet) (m : Stored) (distinct : HasNoCollisions (IsIn among)) (image : List ℕ) (told : v.content ≡ Some image) (is : IsOf (IsIn among) m image) where
-        all_gave : (store : Store) → Encodes image store → KnownWith w.content (CollectedAll m.files freed copied store image)
+        all_gave : (store : Store) → Encodes image store → KnownWith w.content (CollectedAll m.files percent freed copied store image)
         all_gave = done_gave snapshot mid start done sweeps among m distinct image told is freed copied refl
 
         done_answer : (ending : Option Ending) (sink sink_now : SinkView) → IsDone ending → WroteReply (collected_line freed copied) ending sink sink_now → KeepsMap (IsIn among) (Collect percent) [] ending m v w sink sink_now

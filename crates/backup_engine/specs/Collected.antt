@@ -6,6 +6,7 @@ use Rattle.disk_format.specs.declared.numbers.TheConstants.{LAST_ID, SLOT_BYTES}
 use Rattle.disk_format.specs.Layout.{slot_at}
 use Rattle.script_lines.specs.ReplyText.{reply_line}
 use Rattle.script_lines.specs.ReplyValue as replies
+use Rattle.store_core.specs.Finished.{HoldsJustNeeded}
 use Rattle.store_core.specs.Releases.{SweepsSpare, copied_in, freed_in}
 use Rattle.store_model.specs.Files.{Files}
 use Rattle.store_model.specs.Image.{Store, Encodes}
@@ -43,10 +44,12 @@ pub record Collected (files : Files) (freed copied : ℕ) (store : Store) (old n
       → ((slice_get store.held slot ≡ Some (Some h)) × (range (slot_at slot) SLOT_BYTES new ≡ range (slot_at slot) SLOT_BYTES old))
       ⊎ (last_id store.held < h.id)
 
--- And none is left that holds the newest copy of no such key: so all were given back that the files don't need.
-pub record CollectedAll (files : Files) (freed copied : ℕ) (store : Store) (old new : List ℕ) : Type 0 where
+-- And none is left that holds the newest copy of no such key: so all were given back that the files don't need. Where the percentage was 100
+-- the containers hold just what the files need, and each key of that once.
+pub record CollectedAll (files : Files) (percent freed copied : ℕ) (store : Store) (old new : List ℕ) : Type 0 where
   pub collected : Collected files freed copied store old new
   pub none_spare : (slot : ℕ) → ¬ (IsSpare (IsReachable files) collected.after.held slot)
+  pub full : percent ≡ 100 → HoldsJustNeeded files collected.after.held
 
 -- No id is left for a container of copies more, where the content that was is a store which such changes lead to this one: its last id, and
 -- one for each container that they write, come to the last that there is.

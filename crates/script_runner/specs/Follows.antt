@@ -130,8 +130,8 @@ abbrev pub FollowsCollection : Option Collecting → CoreState → Type 0
 FollowsCollection None c = c.collection ≡ None
 FollowsCollection (Some k) c = FollowsCollecting k c
 
--- Only keys that the files need are live, and it spares the containers that hold copies of these; one of the percentage 100 takes of them
--- too each that holds anything else.
+-- Only keys that the files need are live, and it spares the containers that hold copies of these; one of the percentage 100 takes of them too
+-- each that holds anything else.
 abbrev pub SparesNeeded : Files → Store → (percent : ℕ) → PlaceMap → Collection → Type 0
 SparesNeeded files store percent index c = Spares (IsReachable files) index store.held c × (percent ≡ 100 → TakesAll index store.held c)
 

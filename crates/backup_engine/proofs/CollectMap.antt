@@ -35,7 +35,7 @@ use Rattle.segment_index.specs.Changes.{SameBefore}
 use Rattle.store_model.specs.Collisions.{ByteSet, HasNoCollisions, IsIn, IsOf, OpensAs}
 use Rattle.store_model.specs.Files.{Stored}
 use Rattle.store_model.specs.Image.{Encodes, Store}
-use Rattle.store_model.specs.Reserve.{IsReachable, IsSpare}
+use Rattle.store_model.specs.Reserve.{HoldsJustNeeded, IsReachable, IsSpare}
 use Rattle.store_model.specs.Slots.{free_slots, last_id}
 use Rattle.store_model.specs.Standing.{IsStoreOf}
 use Rattle.store_model.specs.Steps.{StoreChange}
@@ -55,7 +55,6 @@ use Rattle.store_core.proofs.Damage.{never_damaged}
 use Rattle.store_core.proofs.GcSteps.{end_reads}
 use Rattle.store_core.proofs.Leading.{Leads}
 use Rattle.store_core.specs.Bounds as bounds
-use Rattle.store_core.specs.Finished.{HoldsJustNeeded}
 use Rattle.store_core.proofs.JustNeeded.{leaves_just_needed}
 use Rattle.store_core.proofs.Releasing.{leaves_none_spare}
 use Rattle.store_core.proofs.Rooms.{free_held, room_ended}

@@ -6,11 +6,10 @@ use Rattle.disk_format.specs.declared.numbers.TheConstants.{LAST_ID, SLOT_BYTES}
 use Rattle.disk_format.specs.Layout.{slot_at}
 use Rattle.script_lines.specs.ReplyText.{reply_line}
 use Rattle.script_lines.specs.ReplyValue as replies
-use Rattle.store_core.specs.Finished.{HoldsJustNeeded}
 use Rattle.store_core.specs.Releases.{SweepsSpare, copied_in, freed_in}
 use Rattle.store_model.specs.Files.{Files}
 use Rattle.store_model.specs.Image.{Store, Encodes}
-use Rattle.store_model.specs.Reserve.{IsReachable, IsSpare}
+use Rattle.store_model.specs.Reserve.{HoldsJustNeeded, IsReachable, IsSpare}
 use Rattle.store_model.specs.Slots.{last_id}
 use Rattle.store_model.specs.Steps.{StoreChange, FlushContainer, FreeContainer}
 

@@ -55,6 +55,7 @@ use Rattle.gc_steps.specs.declared.collection.Collection.{Collection}
 use Rattle.gc_steps.specs.Filtering.{recorded, recorded_by}
 use Rattle.gc_steps.specs.Sparing.{CopiesAlone, IsSpared, IsSparedAt, IsToBeFreed, IsToBeTaken}
 use Rattle.gc_steps.specs.Stages.{filter_at, filter_from, first_slot, is_old_slot, is_tree_slot, mark_at, mark_from, mark_level, mark_on}
+use Rattle.gc_steps.specs.Taking.{IsSourceId}
 use Rattle.gc_steps.proofs.FirstStage.{first_there}
 
 -- ---- up to the choice
@@ -193,10 +194,6 @@ module _ (index : PlaceMap) (t : SlotTable) (c d : Collection) (slot live : ℕ)
       (more_selected c.snapshot c.percent g.id c.liveness (recorded t slot live) selected))))
 
 -- ---- from the choice on
-
--- an id is that of a source
-abbrev pub IsSourceId : List ℕ → ℕ → Type 0
-IsSourceId sources id = (i : ℕ) × ((i < length sources) × (get_or sources i 0 ≡ id))
 
 -- what a sweep says of a container
 abbrev pub IsSweptSo : PlaceMap → LiveKeys → Sweep → ℕ → HeaderValue → Type 0

@@ -16,9 +16,10 @@ use Rattle.container_meta.specs.Spelling.{Follow, HeaderValue, IsHeader, bytes_o
 use Rattle.copy_forward.specs.Entries.{IsLiveCopy, SumsLive}
 use Rattle.dd_disk.specs.View.{DiskView}
 use Rattle.dd_disk.proofs.Shows.{shown_content}
+use Rattle.disk_format.specs.declared.numbers.TheConstants.{MOST_LEVEL}
 use Rattle.gc_enumerate.specs.Live.{LiveKeys}
 use Rattle.gc_select.specs.declared.liveness.ContainerLiveness.{ContainerLiveness}
-use Rattle.gc_select.specs.Selecting.{IsSelectedId, is_selected}
+use Rattle.gc_select.specs.Selecting.{is_selected}
 use Rattle.gc_sweep.specs.declared.sweep.Next.{Next}
 use Rattle.gc_sweep.specs.declared.sweep.Next.TheVariants.{Copy as CopyNext, Flush, Release, End}
 use Rattle.gc_sweep.specs.Copying.{CopiesSource}
@@ -32,7 +33,7 @@ use Rattle.gc_sweep.proofs.SourceRead.{header_in}
 use Rattle.store_model.specs.Files.{Files}
 use Rattle.store_model.specs.Image.{IsValidFor, Store}
 use Rattle.store_model.specs.Indexing.{entry_key, with_entries}
-use Rattle.store_model.specs.Slots.{HasFree, HoldsSlot, IsPartialIndexOf, first_free, newest, place_of, with_slot, without_slot}
+use Rattle.store_model.specs.Slots.{HasFree, HoldSlots, HoldsSlot, IsPartialIndexOf, first_free, last_id, newest, place_of, with_slot, without_slot}
 use Rattle.store_model.specs.Standing.{IsStoreOf}
 use Rattle.store_model.proofs.Copies.{length_within, some_same}
 use Rattle.store_model.proofs.Free.{as_many}
@@ -52,32 +53,13 @@ use Rattle.gc_steps.specs.Sparing.{CopiesAlone, IsSparedAt, IsWithin, Spares}
 use Rattle.gc_steps.specs.Stages.{filter_at, filter_from, first_slot, is_old_slot, is_tree_slot, mark_at, mark_from, mark_level, mark_on}
 use Rattle.gc_steps.specs.Stepping.{Flushes, StepsTo, moment}
 use Rattle.gc_steps.specs.SweepIsSafe.{HoldsAt}
+use Rattle.gc_steps.specs.Taking.{IsAllLive, IsSourceId, IsTakenAt, IsTakenOrLive, TakesAll}
 use Rattle.gc_steps.specs.UnderWay.{IsUnderWay}
-use Rattle.gc_steps.proofs.FirstStage.{first_there, old_there}
+use Rattle.gc_steps.proofs.FirstStage.{first_there, id_below, old_there}
 use Rattle.gc_steps.proofs.Sparing.{held_within}
-use Rattle.gc_steps.proofs.SparingStages.{AreAlone, IsSourceId, alone_source, entry_none, last_selected, more_selected, recorded_id_by, recorded_live_by, with_place}
+use Rattle.gc_steps.proofs.SparingStages.{AreAlone, alone_source, entry_none, last_selected, more_selected, recorded_id_by, recorded_live_by, with_place}
 use Rattle.gc_steps.proofs.StepSafe.{IsStoreAfter}
 use Rattle.gc_steps.proofs.UnderWay.{at_stage}
-
--- each entry of the container in the slot is a live copy
-abbrev pub IsAllLive : PlaceMap → LiveKeys → ℕ → HeaderValue → Type 0
-IsAllLive index live slot h = AllByRecursion (IsLiveCopy index live h.kind slot) h.entries
-
--- it is selected, or so
-abbrev pub IsTakenOrLive : PlaceMap → Collection → ℕ → HeaderValue → Type 0
-IsTakenOrLive index c slot h = IsSelectedId c.snapshot c.percent c.liveness h.id ⊎ IsAllLive index c.live slot h
-
--- once it was recorded; and while it sweeps it is a source, or so
-abbrev pub IsTakenAt : Stage → PlaceMap → Collection → ℕ → HeaderValue → Type 0
-IsTakenAt (Mark level at) index c slot h = Unit {0}
-IsTakenAt (Filter at) index c slot h = slot < at → IsTakenOrLive index c slot h
-IsTakenAt Select index c slot h = IsTakenOrLive index c slot h
-IsTakenAt SweepStage index c slot h = IsSourceId c.sweep.sources.items h.id ⊎ IsAllLive index c.live slot h
-
--- A collection of all that isn't live takes each container that has something dead.
-pub record TakesAll (index : PlaceMap) (held : List (Option HeaderValue)) (c : Collection) : Type 0 where
-  pub percent_is : c.percent ≡ 100
-  pub each : (slot : ℕ) (h : HeaderValue) → slice_get held slot ≡ Some (Some h) → IsTakenAt c.stage index c slot h
 
 -- ---- sums
 
@@ -184,11 +166,13 @@ count_there (x ∷ xs) (suc slot) h there = count_there xs slot h there
 -- ---- as it begins, and step by step
 
 -- nothing was recorded
-pub begun_takes : (index : PlaceMap) (store : Store) (image : List ℕ) (t : SlotTable) (c : Collection) (level : ℕ) → c.percent ≡ 100 → c.stage ≡ mark_level c.snapshot t level
-    → ((slot : ℕ) (h : HeaderValue) → slice_get store.held slot ≡ Some (Some h) → (slot < length t.ids.items) × (is_old_slot c.snapshot t slot ≡ true)) → TakesAll index store.held c
-begun_takes index store image t c level full stage_is there = record {
+pub begun_takes : (index : PlaceMap) (store : Store) (image : List ℕ) (t : SlotTable) (c : Collection) → HoldSlots 0 store.held image → RepresentsSlots store.held t → c.percent ≡ 100
+    → c.stage ≡ mark_level c.snapshot t MOST_LEVEL → last_id store.held < c.snapshot → TakesAll index store.held c
+begun_takes index store image t c holds slots full stage_is above = record {
   percent_is = full;
-  each = λ slot h is. let at = there slot h is in subst (λ (s : Stage). IsTakenAt s index c slot h) (sym stage_is) (level_taken index t c.snapshot c slot h at.0 at.1 level);
+  each = λ slot h there. subst (λ (s : Stage). IsTakenAt s index c slot h) (sym stage_is)
+      (level_taken index t c.snapshot c slot h (omega (arith, held_within store.held slot h there, ap length slots.ids_are, as_many store.held))
+      (old_there store.held image t c.snapshot holds slots slot h there (omega (arith, id_below store.held slot h there, above))) MOST_LEVEL);
 }
 
 module _ (P : List ℕ → Type 0) (index : PlaceMap) (store : Store) (files : Files) (image : List ℕ) (t : Tables) (known : Option PlaceMap) (old new : DiskView) (c d : Collection)

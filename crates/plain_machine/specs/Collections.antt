@@ -9,7 +9,7 @@ use Rattle.refusals.specs.declared.refusal.Phase.TheVariants.{Copy, End, Filter,
 use Rattle.refusals.specs.declared.refusal.Refusal.{Refusal}
 use Rattle.refusals.specs.declared.refusal.Refusal.TheVariants.{Memory, NotCollecting, DiskRead, DiskWrite, Numbers}
 use Rattle.disk_format.specs.declared.numbers.TheConstants.{LAST_ID}
-use Rattle.store_model.specs.Reserve.{IsReachable, IsSpare}
+use Rattle.store_model.specs.Reserve.{HoldsJustNeeded, IsReachable, IsSpare}
 use Rattle.plain_machine.specs.Content.{AddsCopies, BreaksCopies, BreaksGate, FreesContainer, OfStore, SameStore}
 use Rattle.plain_machine.specs.Machine.{Collecting, Machine, Marking, Progress, Recording, Stopped, Sweeping, are_idle}
 use Rattle.plain_machine.specs.Turns.{Stays}
@@ -38,13 +38,21 @@ most_steps held = 6 * trees_in held + 6 * containers_in held + 3
 -- ---- what it does
 
 -- One begins where none ran. Its snapshot is the next id.
-pub record BeginsCollection (snapshot : ℕ) (m n : Machine) : Type 0 where
+pub record BeginsCollection (percent snapshot : ℕ) (m n : Machine) : Type 0 where
   pub none_ran : m.collecting ≡ None
   pub snapshot_is : snapshot ≡ suc m.last_id
   pub most : ℕ
   pub most_is : OfStore m.content (λ store. most ≡ most_steps store.held)
   pub others : n ≡ record m {
-    collecting = Some (record { snapshot = snapshot; progress = Marking; to_come = most; freed = 0; copied = 0; alone = are_idle m.parts });
+    collecting = Some (record {
+      percent = percent;
+      snapshot = snapshot;
+      progress = Marking;
+      to_come = most;
+      freed = 0;
+      copied = 0;
+      alone = are_idle m.parts;
+    });
   }
 
 -- what a step changes: a flush adds a container of so many copies, a release gives a container back that came before the snapshot and that no
@@ -99,19 +107,28 @@ pub record StepsCollection (phase : Phase) (m n : Machine) : Type 0 where
   pub progress : Progress
   pub next : Progress
   pub goes : GoesTo phase progress next
+  pub percent : ℕ
   pub snapshot : ℕ
   pub left : ℕ
   pub freed : ℕ
   pub copied : ℕ
   pub alone : Bool
-  pub ran : m.collecting
-      ≡ Some (record { snapshot = snapshot; progress = progress; to_come = suc left; freed = freed; copied = copied; alone = alone })
+  pub ran : m.collecting ≡ Some (record {
+    percent = percent;
+    snapshot = snapshot;
+    progress = progress;
+    to_come = suc left;
+    freed = freed;
+    copied = copied;
+    alone = alone;
+  })
   pub copies : ℕ
   pub changes : ChangesBy phase snapshot copies m n.content
   pub others : n ≡ record m {
     content = n.content;
     last_id = last_by phase m.last_id;
     collecting = Some (record {
+      percent = percent;
       snapshot = snapshot;
       progress = next;
       to_come = left;
@@ -129,14 +146,23 @@ CollectionSteps (phase ∷ phases) m n = (mid : Machine) × (StepsCollection pha
 
 -- It ends, where the sources were chosen, none is ready and nothing is to be written, and tells how many containers it gave back and how many
 -- segments it copied. One that ran alone leaves no container that holds the newest copy of no key that a file needs: so it gave back all of
--- these.
+-- these. One of the percentage 100 that ran alone leaves just what the files need.
 pub record EndsCollection (freed copied : ℕ) (m n : Machine) : Type 0 where
+  pub percent : ℕ
   pub snapshot : ℕ
   pub left : ℕ
   pub alone : Bool
-  pub ran : m.collecting
-      ≡ Some (record { snapshot = snapshot; progress = Sweeping false false; to_come = left; freed = freed; copied = copied; alone = alone })
+  pub ran : m.collecting ≡ Some (record {
+    percent = percent;
+    snapshot = snapshot;
+    progress = Sweeping false false;
+    to_come = left;
+    freed = freed;
+    copied = copied;
+    alone = alone;
+  })
   pub none_spare : alone ≡ true → OfStore m.content (λ store. (slot : ℕ) → ¬ (IsSpare (IsReachable m.stored.files) store.held slot))
+  pub full : alone ≡ true → percent ≡ 100 → OfStore m.content (λ store. HoldsJustNeeded m.stored.files store.held)
   pub others : n ≡ record m { collecting = None }
 
 -- it goes on to its end

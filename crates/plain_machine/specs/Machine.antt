@@ -57,9 +57,10 @@ abbrev pub stopped_by : RunState → RunState
 stopped_by Running = Stopped None
 stopped_by (Stopped other) = Stopped other
 
--- A collection that runs: only containers of ids below its snapshot are given back; so far it has come, so many steps of it may come at most
--- before its end, and so many containers were given back and so many segments copied and written.
+-- A collection that runs, of this percentage: only containers of ids below its snapshot are given back; so far it has come, so many steps
+-- of it may come at most before its end, and so many containers were given back and so many segments copied and written.
 pub record Collecting : Type 0 where
+  pub percent : ℕ
   pub snapshot : ℕ
   pub progress : Progress
   pub to_come : ℕ

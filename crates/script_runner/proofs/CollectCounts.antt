@@ -1,4 +1,4 @@
--- The snapshot of a collection, how many containers it gave back and how many copies it wrote, by the machine, after a step of it.
+-- The snapshot and the percentage of a collection, how many containers it gave back and how many copies it wrote, by the machine, after a step of it.
 use Rattle.std.proofs.Common.{◌≡◌, inl, inr, ◌+◌, ℕ, List, length, Option, Some, None, refl, sym, ◌∙◌, ap, subst, arith}
 use Rattle.container_meta.specs.declared.kind.Kind.{Kind}
 use Rattle.container_meta.specs.Segments.{Contents, Segment}
@@ -78,6 +78,16 @@ module _ (old new : Moment) (freed copied : ℕ) where
   snapshot_on Sweep (Flush source entry) steps = ap (λ (c : Collection). c.snapshot) steps.sweeps
   snapshot_on Sweep (Release source entry) steps = ap (λ (c : Collection). c.snapshot) steps.1
   snapshot_on Sweep End steps = ap (λ (c : Collection). c.snapshot) steps.0
+
+  -- and so does the percentage
+  pub percent_on : (stage : Stage) (next : Next) → StepsTo stage next old new → after.percent ≡ before.percent
+  percent_on (Mark level slot) next steps = ap (λ (c : Collection). c.percent) steps.0.collection_is
+  percent_on (Filter slot) next steps = ap (λ (c : Collection). c.percent) steps.0.collection_is
+  percent_on Select next steps = ap (λ (c : Collection). c.percent) steps.0.collection_is
+  percent_on Sweep (Copy source entry) steps = ap (λ (c : Collection). c.percent) steps.1
+  percent_on Sweep (Flush source entry) steps = ap (λ (c : Collection). c.percent) steps.sweeps
+  percent_on Sweep (Release source entry) steps = ap (λ (c : Collection). c.percent) steps.1
+  percent_on Sweep End steps = ap (λ (c : Collection). c.percent) steps.0
 
   pub counted_on : (stage : Stage) (next : Next) → before.stage ≡ stage → before.sweep.next ≡ next → HasCounted stage before.sweep freed copied → StepsTo stage next old new → (phase_at stage next ≡ phase_at Sweep End → ⊥) → Counted stage next
   counted_on (Mark level slot) next is next_is counted steps other =

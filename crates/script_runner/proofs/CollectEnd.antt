@@ -18,18 +18,19 @@ use Rattle.gc_sweep.specs.declared.sweep.Next.{Next}
 use Rattle.gc_sweep.specs.declared.sweep.Next.TheVariants.{End}
 use Rattle.store_model.specs.Collisions.{HasNoCollisions, ByteSet, IsIn}
 use Rattle.store_model.specs.Image.{Store}
-use Rattle.store_model.specs.Reserve.{IsReachable, IsSpare}
+use Rattle.store_model.specs.Reserve.{HoldsJustNeeded, IsReachable, IsSpare}
 use Rattle.store_model.specs.Steps.{StoreChange}
 use Rattle.store_state.specs.declared.tables.Tables.{Tables}
 use Rattle.store_core.specs.Collecting.{HasEnded, NoneRuns, TouchesBy}
 use Rattle.store_core.specs.Core.{CoreStep, IndexesAll}
 use Rattle.store_core.specs.Runs.{ChangesTo, IsAt}
 use Rattle.store_core.specs.State.{CoreState}
+use Rattle.store_core.proofs.JustNeeded.{just_needed}
 use Rattle.store_core.proofs.Leading.{Leads}
 use Rattle.plain_machine.specs.Collections.{EndsCollection, RefusesCollectionStep}
 use Rattle.plain_machine.specs.Content.{OfStore}
 use Rattle.plain_machine.specs.Machine.{Collecting, Machine, Progress, Sweeping}
-use Rattle.script_runner.specs.Follows.{FollowsCollection, HasCounted, IsAtProgress, IsAtStage, SparesAlone, is_filled}
+use Rattle.script_runner.specs.Follows.{FollowsCollection, HasCounted, IsAtProgress, IsAtStage, SparesAlone, SparesNeeded, is_filled}
 use Rattle.script_runner.specs.Sessions.{Sessions}
 use Rattle.script_runner.proofs.CollectNeeds.{told_here}
 use Rattle.script_runner.proofs.CollectParts.{gc_event}
@@ -103,11 +104,25 @@ module _ (C : Type 0) (state : C → CoreState) (among : ByteSet) (apart : HasNo
         sparing.spares_ended (IsReachable m.stored.files) ended_at.index at.running.begins.store (state old).tables.held ended.before (under C state among apart m sessions old new at done buf made ended.before ended.ran) ended.at_end.0 ended.at_end.1 spares
         ((told_here (IsIn among) at.running.begins.store m.stored (state old) ended_at).index_is_newest ended_at.index refl)
 
-    -- where it ran alone, each container that is left is needed
-    none_spare : has_ended.collecting.alone ≡ true → OfStore m.content (λ store. (slot : ℕ) → ¬ (IsSpare (IsReachable m.stored.files) store.held slot))
-    none_spare alone =
+    -- where it ran alone
+    spared_alone : has_ended.collecting.alone ≡ true → SparesNeeded m.stored.files at.running.begins.store has_ended.collecting.percent ended_at.index ended.before
+    spared_alone alone =
         let spares = subst (λ (o : Option Collecting). SparesAlone m.stored.files at.running.begins.store o (state old)) has_ended.is at.running.begins.spares in
-        (at.running.begins.store, (right C state among apart m sessions old new at done buf made, spares_ended (spares alone ended_at.index ended.before ended_at.index_known ended.ran)))
+        spares alone ended_at.index ended.before ended_at.index_known ended.ran
+
+    -- each container that is left is needed
+    none_spare : has_ended.collecting.alone ≡ true → OfStore m.content (λ store. (slot : ℕ) → ¬ (IsSpare (IsReachable m.stored.files) store.held slot))
+    none_spare alone = (at.running.begins.store, (right C state among apart m sessions old new at done buf made, spares_ended (spared_alone alone).0))
+
+    -- and, of the percentage 100, all that they hold
+    full : has_ended.collecting.alone ≡ true → has_ended.collecting.percent ≡ 100 → OfStore m.content (λ store. HoldsJustNeeded m.stored.files store.held)
+    full alone all = (
+      at.running.begins.store,
+      (
+        right C state among apart m sessions old new at done buf made,
+        just_needed (IsIn among) at.running.begins.store m.stored (state old) ended_at ended.before ended.ran ended.at_end.0 ended.at_end.1 (spared_alone alone).0 ((spared_alone alone).1 all),
+      ),
+    )
 
     -- the index has all that it had
     all_still : m.collected ≡ false → IndexesAll (leads C state among apart m sessions old new at done buf made (steps C state among apart m sessions old new at done buf made).stops).next.store (state new).known
@@ -120,14 +135,16 @@ module _ (C : Type 0) (state : C → CoreState) (among : ByteSet) (apart : HasNo
     ended_step = record {
       next = record m { collecting = None };
       is = record {
+        percent = has_ended.collecting.percent;
         snapshot = has_ended.collecting.snapshot;
         left = has_ended.collecting.to_come;
         alone = has_ended.collecting.alone;
         ran = has_ended.is
-            ∙ ap (λ (n : ℕ). let k : Collecting = record { snapshot = has_ended.collecting.snapshot; progress = has_ended.collecting.progress; to_come = has_ended.collecting.to_come; freed = n; copied = has_ended.collecting.copied; alone = has_ended.collecting.alone } in Some k) freed_same
-            ∙ ap (λ (n : ℕ). let k : Collecting = record { snapshot = has_ended.collecting.snapshot; progress = has_ended.collecting.progress; to_come = has_ended.collecting.to_come; freed = freed; copied = n; alone = has_ended.collecting.alone } in Some k) copied_same
-            ∙ ap (λ (p : Progress). let k : Collecting = record { snapshot = has_ended.collecting.snapshot; progress = p; to_come = has_ended.collecting.to_come; freed = freed; copied = copied; alone = has_ended.collecting.alone } in Some k) at_last;
+            ∙ ap (λ (n : ℕ). let k : Collecting = record { percent = has_ended.collecting.percent; snapshot = has_ended.collecting.snapshot; progress = has_ended.collecting.progress; to_come = has_ended.collecting.to_come; freed = n; copied = has_ended.collecting.copied; alone = has_ended.collecting.alone } in Some k) freed_same
+            ∙ ap (λ (n : ℕ). let k : Collecting = record { percent = has_ended.collecting.percent; snapshot = has_ended.collecting.snapshot; progress = has_ended.collecting.progress; to_come = has_ended.collecting.to_come; freed = freed; copied = n; alone = has_ended.collecting.alone } in Some k) copied_same
+            ∙ ap (λ (p : Progress). let k : Collecting = record { percent = has_ended.collecting.percent; snapshot = has_ended.collecting.snapshot; progress = p; to_come = has_ended.collecting.to_come; freed = freed; copied = copied; alone = has_ended.collecting.alone } in Some k) at_last;
         none_spare = none_spare;
+        full = full;
         others = refl;
       };
       at = runs_then C state among apart m sessions old new at done buf made (steps C state among apart m sessions old new at done buf made).stops m.content m.faults m.last_id None m.collected content_same

@@ -13,16 +13,21 @@ use Rattle.gc_steps.specs.declared.collection.Stage.TheVariants.{Mark, Filter, S
 use Rattle.gc_steps.specs.Safety.{IsSafe}
 use Rattle.gc_steps.specs.Sparing.{Spares}
 use Rattle.gc_steps.specs.Stepping.{StepsTo, TablesAfter, Touches, moment, phase_at}
+use Rattle.gc_steps.specs.SweepIsSafe.{HoldsAt}
+use Rattle.gc_steps.specs.Taking.{TakesAll}
 use Rattle.gc_steps.specs.UnderWay.{IsUnderWay}
 use Rattle.gc_steps.proofs.Sparing as sparing
 use Rattle.gc_steps.proofs.StepSafe.{IsStoreAfter, LeavesSafe, step_safe}
+use Rattle.gc_steps.proofs.WholeCopies.{takes_step}
 use Rattle.gc_sweep.specs.declared.sweep.Next.{Next}
 use Rattle.gc_sweep.specs.declared.sweep.Next.TheVariants.{Copy, Flush, Release, End}
 use Rattle.store_model.specs.Collisions.{HasNoCollisions, ByteSet, IsIn}
 use Rattle.store_model.specs.Image.{Encodes, Store}
 use Rattle.store_model.specs.Reserve.{IsReachable}
+use Rattle.store_model.specs.Standing.{IsStoreOf}
 use Rattle.store_model.proofs.Once.{store_once}
 use Rattle.store_state.specs.Invariant.{CoreInvariant}
+use Rattle.store_state.specs.Tables.{Represents}
 use Rattle.store_core.specs.Collecting.{GoesOn, at_moment}
 use Rattle.store_core.specs.Core.{CoreStep, IndexesAll}
 use Rattle.store_core.specs.Runs.{IsAt, IsSafeIn}
@@ -31,11 +36,11 @@ use Rattle.store_core.proofs.Leading.{Leads}
 use Rattle.plain_machine.specs.Collections.{ChangesBy, GoesTo, StepsCollection, forgets_by, freed_by, last_by}
 use Rattle.plain_machine.specs.Content.{SameStore}
 use Rattle.plain_machine.specs.Machine.{Collecting, Machine}
-use Rattle.script_runner.specs.Follows.{FollowsCollecting, HasCounted, IsAtProgress, SparesAlone}
+use Rattle.script_runner.specs.Follows.{FollowsCollecting, HasCounted, IsAtProgress, SparesAlone, SparesNeeded}
 use Rattle.script_runner.specs.Sessions.{Sessions}
 use Rattle.script_runner.proofs.CollectBytes.{GivesNothing}
 use Rattle.script_runner.proofs.CollectCauses.{no_end, phase_is}
-use Rattle.script_runner.proofs.CollectCounts.{copies_by, counted_on, snapshot_on}
+use Rattle.script_runner.proofs.CollectCounts.{copies_by, counted_on, percent_on, snapshot_on}
 use Rattle.script_runner.proofs.CollectNeeds.{needs_closed, needs_here, told_here}
 use Rattle.script_runner.proofs.CollectParts.{gc_event}
 use Rattle.script_runner.proofs.CollectProgress.{Progresses, progresses}
@@ -93,6 +98,9 @@ module _ (C : Type 0) (state : C → CoreState) (among : ByteSet) (apart : HasNo
   snapshot_before : goes.before.snapshot ≡ has.collecting.snapshot
   snapshot_before = subst (λ (c : Collection). c.snapshot ≡ has.collecting.snapshot) same has.follows.snapshot_is
 
+  percent_before : goes.before.percent ≡ has.collecting.percent
+  percent_before = subst (λ (c : Collection). c.percent ≡ has.collecting.percent) same has.follows.percent_is
+
   counted_before : HasCounted goes.before.stage goes.before.sweep has.collecting.freed has.collecting.copied
   counted_before = subst (λ (c : Collection). HasCounted c.stage c.sweep has.collecting.freed has.collecting.copied) same has.follows.counted
 
@@ -103,7 +111,7 @@ module _ (C : Type 0) (state : C → CoreState) (among : ByteSet) (apart : HasNo
   copies = copies_by goes.before.stage goes.before.sweep.next goes.before.sweep
 
   abbrev goes_so : Collecting
-  goes_so = record { snapshot = has.collecting.snapshot; progress = leads_on.next; to_come = left; freed = has.collecting.freed + freed_by phase; copied = has.collecting.copied + copies; alone = has.collecting.alone }
+  goes_so = record { percent = has.collecting.percent; snapshot = has.collecting.snapshot; progress = leads_on.next; to_come = left; freed = has.collecting.freed + freed_by phase; copied = has.collecting.copied + copies; alone = has.collecting.alone }
 
   counted_now : HasCounted goes.after.stage goes.after.sweep (has.collecting.freed + freed_by phase) (has.collecting.copied + copies)
   counted_now =
@@ -114,6 +122,7 @@ module _ (C : Type 0) (state : C → CoreState) (among : ByteSet) (apart : HasNo
   now = record {
     collection = goes.after;
     runs = goes.runs;
+    percent_is = percent_on (at_moment (state old) goes.before) (at_moment (state new) goes.after) has.collecting.freed has.collecting.copied goes.before.stage goes.before.sweep.next goes.steps ∙ percent_before;
     snapshot_is = snapshot_on (at_moment (state old) goes.before) (at_moment (state new) goes.after) has.collecting.freed has.collecting.copied goes.before.stage goes.before.sweep.next goes.steps ∙ snapshot_before;
     progress_is = leads_on.is_at;
     counted = counted_now;
@@ -122,8 +131,8 @@ module _ (C : Type 0) (state : C → CoreState) (among : ByteSet) (apart : HasNo
     nears = omega (arith, fewer, ap (left_by has.follows.most (state new).tables.held) goes.runs);
   }
 
-  ran : m.collecting ≡ Some (record { snapshot = has.collecting.snapshot; progress = has.collecting.progress; to_come = suc left; freed = has.collecting.freed; copied = has.collecting.copied; alone = has.collecting.alone })
-  ran = has.is ∙ ap (λ (n : ℕ). let k : Collecting = record { snapshot = has.collecting.snapshot; progress = has.collecting.progress; to_come = n; freed = has.collecting.freed; copied = has.collecting.copied; alone = has.collecting.alone } in Some k) (let e : has.collecting.to_come ≡ suc left = omega (arith, fewer) in e)
+  ran : m.collecting ≡ Some (record { percent = has.collecting.percent; snapshot = has.collecting.snapshot; progress = has.collecting.progress; to_come = suc left; freed = has.collecting.freed; copied = has.collecting.copied; alone = has.collecting.alone })
+  ran = has.is ∙ ap (λ (n : ℕ). let k : Collecting = record { percent = has.collecting.percent; snapshot = has.collecting.snapshot; progress = has.collecting.progress; to_come = n; freed = has.collecting.freed; copied = has.collecting.copied; alone = has.collecting.alone } in Some k) (let e : has.collecting.to_come ≡ suc left = omega (arith, fewer) in e)
 
   -- ---- the last id
 
@@ -189,24 +198,44 @@ module _ (C : Type 0) (state : C → CoreState) (among : ByteSet) (apart : HasNo
   led_is : leaves.store_now ≡ led_to
   led_is = store_once image_now leaves.store_now led_to encodes_now (right_here S led_to m.stored (state new) led.next.is_at image_now told_now)
 
-  spared : has.collecting.alone ≡ true → Spares Needs begins.index at.running.begins.store.held goes.before
+  spared : has.collecting.alone ≡ true → SparesNeeded m.stored.files at.running.begins.store has.collecting.percent begins.index goes.before
   spared alone =
       let spares = subst (λ (o : Option Collecting). SparesAlone m.stored.files at.running.begins.store o (state old)) has.is at.running.begins.spares in
       spares alone begins.index goes.before begins.index_known goes.ran
 
+  abbrev needs : IsStoreOf at.running.begins.store m.stored.files m.content
+  needs = needs_here S at.running.begins.store m.stored (state old) begins m.content at.content_is
+
+  abbrev shows : Represents at.running.begins.store (Some begins.index) (state old).tables
+  shows = told_here S at.running.begins.store m.stored (state old) begins
+
+  held_before : HoldsAt goes.before.stage begins.index at.running.begins.store.held m.content goes.before
+  held_before = sparing.held_at begins.index at.running.begins.store (state old).parts m.content goes.before safe_before
+
   spares_step : Spares Needs begins.index at.running.begins.store.held goes.before → Spares Needs leaves.later leaves.store_now.held goes.after
   spares_step spares =
       sparing.spares_step Needs begins.index at.running.begins.store m.stored.files m.content (state old).tables (state new).known (state old).disk (state new).disk goes.before goes.after
-      (needs_here S at.running.begins.store m.stored (state old) begins m.content at.content_is) (told_here S at.running.begins.store m.stored (state old) begins) at.content_is (needs_closed S at.running.begins.store m.stored (state old) begins m.content at.content_is) spares
-      begins.valid invariant.has_free (under C state among apart m sessions old new at did buf made goes.before goes.ran) (state new).tables
-      (sparing.held_at begins.index at.running.begins.store (state old).parts m.content goes.before safe_before) steps_known
+      needs shows at.content_is (needs_closed S at.running.begins.store m.stored (state old) begins m.content at.content_is) spares
+      begins.valid invariant.has_free (under C state among apart m sessions old new at did buf made goes.before goes.ran) (state new).tables held_before steps_known
       leaves.later leaves.known_is leaves.store_now image_now leaves.store_is (sparing.held_at leaves.later leaves.store_now (state old).parts image_now goes.after leaves.safe)
+
+  takes_on : Spares Needs begins.index at.running.begins.store.held goes.before → TakesAll begins.index at.running.begins.store.held goes.before → TakesAll leaves.later leaves.store_now.held goes.after
+  takes_on spares takes =
+      takes_step Needs begins.index at.running.begins.store m.stored.files m.content (state old).tables (state new).known (state old).disk (state new).disk goes.before goes.after
+      needs shows at.content_is spares takes begins.valid invariant.has_free (under C state among apart m sessions old new at did buf made goes.before goes.ran) (state new).tables held_before steps_known
+      leaves.later leaves.known_is leaves.store_now leaves.store_is
+
+  abbrev NeededAs : Store → PlaceMap → Collection → Type 0
+  NeededAs s index c = SparesNeeded m.stored.files s has.collecting.percent index c
+
+  needed_step : NeededAs at.running.begins.store begins.index goes.before → NeededAs leaves.store_now leaves.later goes.after
+  needed_step was = (spares_step was.0, λ full. takes_on was.0 (was.1 full))
 
   spares_now : SparesAlone m.stored.files led_to (Some goes_so) (state new)
   spares_now = λ alone index collection known runs.
-      subst (λ (s : Store). Spares Needs index s.held collection) led_is
-      (subst (λ (i : PlaceMap). Spares Needs i leaves.store_now.held collection) (same_index leaves.later index (state new).known leaves.known_is known)
-      (subst (λ (c : Collection). Spares Needs leaves.later leaves.store_now.held c) (same_some goes.after collection (state new).collection goes.runs runs) (spares_step (spared alone))))
+      subst (λ (s : Store). NeededAs s index collection) led_is
+      (subst (λ (i : PlaceMap). NeededAs leaves.store_now i collection) (same_index leaves.later index (state new).known leaves.known_is known)
+      (subst (λ (c : Collection). NeededAs leaves.store_now leaves.later c) (same_some goes.after collection (state new).collection goes.runs runs) (needed_step (spared alone))))
 
   -- ---- the content
 
@@ -264,6 +293,7 @@ module _ (C : Type 0) (state : C → CoreState) (among : ByteSet) (apart : HasNo
       progress = has.collecting.progress;
       next = leads_on.next;
       goes = subst (λ (p : Phase). GoesTo p has.collecting.progress leads_on.next) stage_phase leads_on.goes;
+      percent = has.collecting.percent;
       snapshot = has.collecting.snapshot;
       left = left;
       freed = has.collecting.freed;

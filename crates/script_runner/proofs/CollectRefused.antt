@@ -12,7 +12,6 @@ use Rattle.refusals.specs.declared.refusal.Refusal.TheVariants as refusals
 use Rattle.gc_steps.specs.declared.collection.Collection.{Collection}
 use Rattle.gc_steps.specs.declared.collection.Stage.{Stage}
 use Rattle.gc_steps.specs.declared.collection.Stage.TheVariants.{Mark, Filter, Select, Sweep}
-use Rattle.gc_steps.specs.Sparing.{Spares}
 use Rattle.gc_steps.specs.Stepping.{Keeps, Touches, moment, phase_at}
 use Rattle.gc_steps.proofs.Sparing as sparing
 use Rattle.gc_sweep.specs.declared.sweep.Next.{Next}
@@ -28,10 +27,11 @@ use Rattle.store_core.specs.Collecting.{IsNotMade, at_moment}
 use Rattle.store_core.specs.Core.{CoreStep, IndexesAll, Steps}
 use Rattle.store_core.specs.Runs.{ChangesTo, IsAt}
 use Rattle.store_core.specs.State.{CoreState}
+use Rattle.store_core.proofs.JustNeeded.{kept_takes}
 use Rattle.plain_machine.specs.Collections.{BreaksBy, BreaksStep, IsCollecting, MayCome, RefusesCollectionStep}
 use Rattle.plain_machine.specs.Content.{SameStore}
 use Rattle.plain_machine.specs.Machine.{Collecting, Machine, Stopped}
-use Rattle.script_runner.specs.Follows.{Follows, IsAtProgress, IsOfFound, SparesAlone}
+use Rattle.script_runner.specs.Follows.{Follows, IsAtProgress, IsOfFound, SparesAlone, SparesNeeded}
 use Rattle.script_runner.specs.Sessions.{Sessions}
 use Rattle.script_runner.proofs.CollectBytes.{GivesNothing, IsRest}
 use Rattle.script_runner.proofs.CollectCauses.{IsCauseAt, IsCollectCause, IsReadCause, IsRestCause, cause_at, collect_cause}
@@ -122,13 +122,15 @@ module _ (C : Type 0) (state : C → CoreState) (among : ByteSet) (apart : HasNo
     begins_then = at.running.begins.is_at
 
     abbrev SparesAt : Collection → Type 0
-    SparesAt c = Spares (IsReachable m.stored.files) begins_then.index at.running.begins.store.held c
+    SparesAt c = SparesNeeded m.stored.files at.running.begins.store has_some.collecting.percent begins_then.index c
 
     spares_after : SparesAt row.before → SparesAt row.after
-    spares_after spares =
-        sparing.spares_refused (IsReachable m.stored.files) begins_then.index at.running.begins.store m.stored.files m.content (state old).tables (state new).known (state old).disk (state new).disk row.before row.after
-        (needs_here (IsIn among) at.running.begins.store m.stored (state old) begins_then m.content at.content_is) (told_here (IsIn among) at.running.begins.store m.stored (state old) begins_then) at.content_is (needs_closed (IsIn among) at.running.begins.store m.stored (state old) begins_then m.content at.content_is) spares (state new).tables refusal
-        (subst (λ (known : Option PlaceMap). Keeps row.before.stage row.before.sweep.next (moment (state old).tables known (state old).disk row.before) (at_moment (state new) row.after) refusal) begins_then.index_known row.kept)
+    spares_after was = (
+      sparing.spares_refused (IsReachable m.stored.files) begins_then.index at.running.begins.store m.stored.files m.content (state old).tables (state new).known (state old).disk (state new).disk row.before row.after
+          (needs_here (IsIn among) at.running.begins.store m.stored (state old) begins_then m.content at.content_is) (told_here (IsIn among) at.running.begins.store m.stored (state old) begins_then) at.content_is (needs_closed (IsIn among) at.running.begins.store m.stored (state old) begins_then m.content at.content_is) was.0 (state new).tables refusal
+          (subst (λ (known : Option PlaceMap). Keeps row.before.stage row.before.sweep.next (moment (state old).tables known (state old).disk row.before) (at_moment (state new) row.after) refusal) begins_then.index_known row.kept),
+      λ full. kept_takes (state old) (state new) begins_then.index at.running.begins.store.held row.before row.after (was.1 full) row.before.stage row.before.sweep.next refusal refl row.kept,
+    )
 
     index_then : IsRestCause refusal → (state new).known ≡ (state old).known
     index_then rests =
@@ -139,7 +141,7 @@ module _ (C : Type 0) (state : C → CoreState) (among : ByteSet) (apart : HasNo
         subst (λ (o : Option Collecting). SparesAlone m.stored.files at.running.begins.store o (state new)) (sym has_some.is)
         (λ alone index collection known runs.
         let before = subst (λ (o : Option Collecting). SparesAlone m.stored.files at.running.begins.store o (state old)) has_some.is at.running.begins.spares in
-        subst (λ (i : PlaceMap). Spares (IsReachable m.stored.files) i at.running.begins.store.held collection)
+        subst (λ (i : PlaceMap). SparesNeeded m.stored.files at.running.begins.store has_some.collecting.percent i collection)
         (same_index begins_then.index index (state new).known (index_then rests ∙ begins_then.index_known) known)
         (subst SparesAt (same_some row.after collection (state new).collection row.runs runs) (spares_after (before alone begins_then.index row.before begins_then.index_known row.ran))))
 

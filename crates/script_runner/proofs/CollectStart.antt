@@ -10,20 +10,20 @@ use Rattle.actor_parts.specs.StepValue as asked
 use Rattle.refusals.specs.declared.refusal.Refusal.{Refusal}
 use Rattle.refusals.specs.declared.refusal.Refusal.TheVariants as refusals
 use Rattle.container_meta.specs.Places.{PlaceMap}
-use Rattle.gc_steps.specs.declared.collection.Collection.{Collection}
 use Rattle.gc_steps.specs.FewSources.{HasFewSources}
 use Rattle.gc_steps.specs.Roots.{IsRoot}
-use Rattle.gc_steps.specs.Sparing.{Spares}
 use Rattle.gc_steps.specs.StepsToCome.{old_from, steps_to_come}
 use Rattle.gc_steps.proofs.FewSources.{few_begun}
 use Rattle.gc_steps.proofs.Sparing as sparing
 use Rattle.gc_steps.proofs.Safe.{early_level}
+use Rattle.gc_steps.proofs.WholeCopies.{begun_takes}
 use Rattle.gc_steps.specs.FewSources.{IsToChoose}
 use Rattle.disk_format.specs.declared.numbers.TheConstants.{MOST_LEVEL}
 use Rattle.namespace.specs.Names.{NameMap}
 use Rattle.store_model.specs.Collisions.{HasNoCollisions, ByteSet, IsIn, OpensAs}
-use Rattle.store_model.specs.Image.{Store, names_of}
+use Rattle.store_model.specs.Image.{Encodes, Store, names_of}
 use Rattle.store_model.specs.Reserve.{IsReachable}
+use Rattle.store_model.specs.Slots.{last_id}
 use Rattle.store_state.specs.declared.slot_table.SlotTable.{SlotTable}
 use Rattle.store_state.specs.declared.tables.Tables.{Tables}
 use Rattle.store_core.specs.declared.stop.Stop.{Stop}
@@ -40,7 +40,7 @@ use Rattle.store_core.proofs.RunningOn.{step_runs}
 use Rattle.store_core.proofs.Stepping.{step_later}
 use Rattle.plain_machine.specs.Collections.{BeginsCollection, most_steps}
 use Rattle.plain_machine.specs.Machine.{Collecting, Machine, Marking, are_idle, part_in}
-use Rattle.script_runner.specs.Follows.{FollowsCollecting, FollowsCollection, FollowsPart, SparesAlone}
+use Rattle.script_runner.specs.Follows.{FollowsCollecting, FollowsCollection, FollowsPart, SparesAlone, SparesNeeded}
 use Rattle.script_runner.specs.Sessions.{Sessions, session_of}
 use Rattle.script_runner.proofs.CollectCounts.{early_counted}
 use Rattle.script_runner.proofs.CollectStep.{none_collecting, same_some}
@@ -163,7 +163,7 @@ module _ (C : Type 0) (state : C → CoreState) (among : ByteSet) (apart : HasNo
     slots_same = same_slots C state among apart m sessions old new at percent started buf made
 
     abbrev begins_so : Collecting
-    begins_so = record { snapshot = snapshot; progress = Marking; to_come = most_steps held.held; freed = 0; copied = 0; alone = are_idle m.parts }
+    begins_so = record { percent = percent; snapshot = snapshot; progress = Marking; to_come = most_steps held.held; freed = 0; copied = 0; alone = are_idle m.parts }
 
     -- the sources are still to be chosen
     early : IsToChoose begun.collection.stage
@@ -173,6 +173,7 @@ module _ (C : Type 0) (state : C → CoreState) (among : ByteSet) (apart : HasNo
     now = record {
       collection = begun.collection;
       runs = begun.runs;
+      percent_is = begun.percent_is;
       snapshot_is = sym begun.snapshot_is;
       progress_is = early;
       counted = early_counted begun.collection.stage begun.collection.sweep 0 0 early refl refl;
@@ -190,20 +191,28 @@ module _ (C : Type 0) (state : C → CoreState) (among : ByteSet) (apart : HasNo
     roots_needed idle =
         roots_reachable held m.stored.files m.content (state old) (store_here (IsIn among) held m.stored (state old) at.running.begins.is_at m.content at.content_is) (none_at (IsIn among) m sessions (state old) at.running idle)
 
-    needed_alone : ((key : List ℕ) → IsRoot (names_of held) (state old).parts key → Needs key) → (index : PlaceMap) → (state new).known ≡ Some index → Spares Needs index held.held begun.collection
-    needed_alone roots index known =
-        sparing.spares_begun Needs index held m.content (state old).tables.held begun.collection (right_here (IsIn among) held m.stored (state old) at.running.begins.is_at m.content at.content_is).slots_are
-        at.running.begins.is_at.represents.slots_hold begun.stage_is (omega (arith, begun.next_is, at.running.begins.last_id_is, at.running.begins.low, at.running.begins.is_at.represents.slots_hold.last_id_is))
-        (λ key place is. roots key (subst (λ (names : NameMap). IsRoot names (state old).parts key) at.running.begins.is_at.represents.names_are.names_are ((begun.live key place).0 is)))
+    above : last_id held.held < begun.collection.snapshot
+    above = omega (arith, begun.next_is, at.running.begins.last_id_is, at.running.begins.low, at.running.begins.is_at.represents.slots_hold.last_id_is)
+
+    right : Encodes m.content held
+    right = right_here (IsIn among) held m.stored (state old) at.running.begins.is_at m.content at.content_is
+
+    needed_alone : ((key : List ℕ) → IsRoot (names_of held) (state old).parts key → Needs key) → (index : PlaceMap) → (state new).known ≡ Some index → SparesNeeded m.stored.files held percent index begun.collection
+    needed_alone roots index known = (
+      sparing.spares_begun Needs index held m.content (state old).tables.held begun.collection right.slots_are at.running.begins.is_at.represents.slots_hold begun.stage_is above
+          (λ key place is. roots key (subst (λ (names : NameMap). IsRoot names (state old).parts key) at.running.begins.is_at.represents.names_are.names_are ((begun.live key place).0 is))),
+      λ full.
+          begun_takes index held m.content (state old).tables.held begun.collection right.slots_are at.running.begins.is_at.represents.slots_hold (begun.percent_is ∙ full) begun.stage_is above,
+    )
 
     spares_begun : SparesAlone m.stored.files held (Some begins_so) (state new)
     spares_begun = λ idle index collection known runs.
-        subst (λ (c : Collection). Spares Needs index held.held c) (same_some begun.collection collection (state new).collection begun.runs runs) (needed_alone (roots_needed idle) index known)
+        subst (SparesNeeded m.stored.files held percent index) (same_some begun.collection collection (state new).collection begun.runs runs) (needed_alone (roots_needed idle) index known)
 
     -- where it leads
     pub record Started : Type 0 where
       pub next : Machine
-      pub is : BeginsCollection snapshot m next
+      pub is : BeginsCollection percent snapshot m next
       pub at_next : RunsAt (IsIn among) next sessions (state new)
 
     pub started_step : Started
@@ -213,7 +222,7 @@ module _ (C : Type 0) (state : C → CoreState) (among : ByteSet) (apart : HasNo
         none_ran = none_collecting m (state old) begun.none_ran at.running.begins.collects;
         snapshot_is = omega (arith, begun.snapshot_is, begun.next_is, at.running.begins.last_id_is, at.running.begins.low);
         most = most_steps held.held;
-        most_is = (held, (right_here (IsIn among) held m.stored (state old) at.running.begins.is_at m.content at.content_is, refl));
+        most_is = (held, (right, refl));
         others = refl;
       };
       at_next = runs_then C state among apart m sessions old new at percent started buf made made_so.stops (Some begins_so) made_so.made.effect.disk.faults_are made_so.counted_is now spares_begun;

@@ -87,6 +87,7 @@ module _ (old new : CoreState) where
         collection = record c { live = is.0 };
         runs = is.1;
         progress_is = follows.progress_is;
+        percent_is = follows.percent_is;
         snapshot_is = follows.snapshot_is;
         counted = follows.counted;
         most = follows.most;

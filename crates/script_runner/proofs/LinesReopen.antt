@@ -109,6 +109,7 @@ module _ (old new : CoreState) (reads : OnlyReads old.disk new.disk) (tables_are
   still_follows (Some k) follows = record {
     collection = follows.collection;
     runs = collection_is ∙ follows.runs;
+    percent_is = follows.percent_is;
     snapshot_is = follows.snapshot_is;
     counted = follows.counted;
     progress_is = follows.progress_is;

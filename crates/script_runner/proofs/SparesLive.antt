@@ -1,5 +1,6 @@
 -- A collection spares the same containers where the same keys are live.
 use Rattle.std.proofs.Common.{ℕ, ◌≡◌, ◌⊎◌, inl, inr, List, [], ◌∷◌, Option, Some, None, refl, sym, ◌∙◌, subst}
+use Rattle.std.specs.List.{AllByRecursion}
 use Rattle.container_meta.specs.declared.entry.Entry.{Entry}
 use Rattle.container_meta.specs.declared.kind.Kind.{Kind}
 use Rattle.container_meta.specs.declared.place.Place.{Place}
@@ -9,8 +10,9 @@ use Rattle.gc_enumerate.specs.Live.{IsLiveAt, LiveKeys}
 use Rattle.gc_steps.specs.declared.collection.Collection.{Collection}
 use Rattle.gc_steps.specs.declared.collection.Stage.{Stage}
 use Rattle.gc_steps.specs.declared.collection.Stage.TheVariants.{Mark, Filter, Select, Sweep}
-use Rattle.copy_forward.specs.Entries.{HasLiveCopy}
+use Rattle.copy_forward.specs.Entries.{HasLiveCopy, IsLiveCopy}
 use Rattle.gc_steps.specs.Sparing.{CopiesAlone, IsSpared, IsSparedAt, Spares}
+use Rattle.gc_steps.specs.Taking.{IsTakenAt, TakesAll}
 use Rattle.store_model.specs.Files.{Files}
 use Rattle.store_model.specs.Image.{Store}
 use Rattle.store_model.specs.Indexing.{entry_key}
@@ -19,7 +21,7 @@ use Rattle.store_model.specs.Slots.{place_of}
 use Rattle.store_core.specs.Collecting.{MarksIn}
 use Rattle.store_core.specs.State.{CoreState}
 use Rattle.plain_machine.specs.Machine.{Collecting, disturbed}
-use Rattle.script_runner.specs.Follows.{FollowsCollection, SparesAlone}
+use Rattle.script_runner.specs.Follows.{FollowsCollection, SparesAlone, SparesNeeded}
 
 -- ---- by which keys are live
 
@@ -56,12 +58,32 @@ module _ (index : PlaceMap) (c : Collection) (live : LiveKeys) (more : IsLiveIn 
   alone_at Select held alone = tt
   alone_at Sweep held alone = alone
 
-  pub spares_live : (P : List ℕ → Type 0) (held : List (Option HeaderValue)) → IsLiveIn live c.live → Spares P index held c → Spares P index held d
+  spares_live : (P : List ℕ → Type 0) (held : List (Option HeaderValue)) → IsLiveIn live c.live → Spares P index held c → Spares P index held d
   spares_live P held back spares = record {
     within = λ key place is. spares.within key place (back key place is);
     spared = λ slot h there. spared_at c.stage slot h (spares.spared slot h there);
     alone = alone_at c.stage held spares.alone;
   }
+
+  -- what is taken is so still
+  all_live : (kind : Kind) (slot : ℕ) (es : List Entry) → AllByRecursion (IsLiveCopy index c.live kind slot) es → AllByRecursion (IsLiveCopy index live kind slot) es
+  all_live kind slot [] all = tt
+  all_live kind slot (e ∷ es) all = ((all.0.0, more (entry_key kind e) (place_of slot e) all.0.1), all_live kind slot es all.1)
+
+  taken_at : (stage : Stage) (slot : ℕ) (h : HeaderValue) → IsTakenAt stage index c slot h → IsTakenAt stage index d slot h
+  taken_at (Mark level at) slot h is = tt
+  taken_at (Filter at) slot h is = λ before. either (all_live h.kind slot h.entries) (is before)
+  taken_at Select slot h is = either (all_live h.kind slot h.entries) is
+  taken_at Sweep slot h is = either (all_live h.kind slot h.entries) is
+
+  takes_live : (held : List (Option HeaderValue)) → TakesAll index held c → TakesAll index held d
+  takes_live held takes = record {
+    percent_is = takes.percent_is;
+    each = λ slot h there. taken_at c.stage slot h (takes.each slot h there);
+  }
+
+  pub needed_live : (files : Files) (store : Store) (percent : ℕ) → IsLiveIn live c.live → SparesNeeded files store percent index c → SparesNeeded files store percent index d
+  needed_live files store percent back was = (spares_live (IsReachable files) store.held back was.0, λ full. takes_live store.held (was.1 full))
 
 -- ---- the collection of a core
 
@@ -89,18 +111,17 @@ none_marked P (Some c) now none marks = (
 )
 
 module _ (old new : CoreState) (files : Files) (store : Store) (index_is : new.known ≡ old.known) (goes : GoesAsLive old.collection new.collection) where
-  by_running : (was : Option Collection) → old.collection ≡ was → GoesAsLive was new.collection
-      → ((index : PlaceMap) (c : Collection) → old.known ≡ Some index → old.collection ≡ Some c → Spares (IsReachable files) index store.held c)
-      → (index : PlaceMap) (c : Collection) → new.known ≡ Some index → new.collection ≡ Some c → Spares (IsReachable files) index store.held c
-  by_running None is none before index c known runs = absurd (let wrong : None ≡ Some c = sym none ∙ runs in cc)
-  by_running (Some b) is on before index c known runs =
+  by_running : (percent : ℕ) (was : Option Collection) → old.collection ≡ was → GoesAsLive was new.collection
+      → ((index : PlaceMap) (c : Collection) → old.known ≡ Some index → old.collection ≡ Some c → SparesNeeded files store percent index c)
+      → (index : PlaceMap) (c : Collection) → new.known ≡ Some index → new.collection ≡ Some c → SparesNeeded files store percent index c
+  by_running percent None is none before index c known runs = absurd (let wrong : None ≡ Some c = sym none ∙ runs in cc)
+  by_running percent (Some b) is on before index c known runs =
       let same : record b { live = on.0 } ≡ c = let both : Some (record b { live = on.0 }) ≡ Some c = sym on.1.0 ∙ runs in cc in
-      subst (λ (x : Collection). Spares (IsReachable files) index store.held x) same
-      (spares_live index b on.0 on.1.1.0 (IsReachable files) store.held on.1.1.1 (before index b (sym index_is ∙ known) is))
+      subst (SparesNeeded files store percent index) same (needed_live index b on.0 on.1.1.0 files store percent on.1.1.1 (before index b (sym index_is ∙ known) is))
 
   pub spares_still : (collecting : Option Collecting) → SparesAlone files store collecting old → SparesAlone files store collecting new
   spares_still None spares = tt
-  spares_still (Some k) spares = λ alone. by_running old.collection refl goes (spares alone)
+  spares_still (Some k) spares = λ alone. by_running k.percent old.collection refl goes (spares alone)
 
 -- ---- one that was disturbed
 
@@ -114,6 +135,7 @@ follows_disturbed (Some k) c follows = record {
   collection = follows.collection;
   runs = follows.runs;
   progress_is = follows.progress_is;
+  percent_is = follows.percent_is;
   snapshot_is = follows.snapshot_is;
   counted = follows.counted;
   most = follows.most;

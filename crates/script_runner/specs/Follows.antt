@@ -17,6 +17,7 @@ use Rattle.actor_parts.specs.Segments.{pin_by}
 use Rattle.gc_steps.specs.FewSources.{HasFewSources, IsToChoose}
 use Rattle.gc_steps.specs.Sparing.{Spares}
 use Rattle.gc_steps.specs.StepsToCome.{steps_to_come}
+use Rattle.gc_steps.specs.Taking.{TakesAll}
 use Rattle.gc_steps.specs.declared.collection.Collection.{Collection}
 use Rattle.gc_steps.specs.declared.collection.Stage.{Stage}
 use Rattle.gc_steps.specs.declared.collection.Stage.TheVariants as stages
@@ -112,10 +113,12 @@ abbrev pub HasCounted : Stage → SweepValue → ℕ → ℕ → Type 0
 HasCounted stages.Sweep s freed copied = (s.freed ≡ freed) × (s.copied ≡ copied + length s.buffer.segments)
 HasCounted stage s freed copied = (freed ≡ 0) × (copied ≡ 0)
 
--- One runs, from that snapshot, that has come so far, gave so many containers back and wrote so many copies, and no more steps of it come.
+-- One runs, of that percentage and from that snapshot, that has come so far, gave so many containers back and wrote so many copies, and no
+-- more steps of it come.
 pub record FollowsCollecting (k : Collecting) (c : CoreState) : Type 0 where
   pub collection : Collection
   pub runs : c.collection ≡ Some collection
+  pub percent_is : collection.percent ≡ k.percent
   pub snapshot_is : collection.snapshot ≡ k.snapshot
   pub progress_is : IsAtProgress k.progress collection
   pub counted : HasCounted collection.stage collection.sweep k.freed k.copied
@@ -127,11 +130,16 @@ abbrev pub FollowsCollection : Option Collecting → CoreState → Type 0
 FollowsCollection None c = c.collection ≡ None
 FollowsCollection (Some k) c = FollowsCollecting k c
 
--- Of one that runs alone: only keys that files need are live, and it spares the containers that hold copies of these.
+-- Only keys that the files need are live, and it spares the containers that hold copies of these; one of the percentage 100 takes of them too
+-- each that holds anything else.
+abbrev pub SparesNeeded : Files → Store → (percent : ℕ) → PlaceMap → Collection → Type 0
+SparesNeeded files store percent index c = Spares (IsReachable files) index store.held c × (percent ≡ 100 → TakesAll index store.held c)
+
+-- so it is of one that runs alone
 abbrev pub SparesAlone : Files → Store → Option Collecting → CoreState → Type 0
 SparesAlone files store None c = Unit {0}
 SparesAlone files store (Some k) c = k.alone ≡ true → (index : PlaceMap) (collection : Collection) → c.known ≡ Some index
-    → c.collection ≡ Some collection → Spares (IsReachable files) index store.held collection
+    → c.collection ≡ Some collection → SparesNeeded files store k.percent index collection
 
 -- The core is at a store of these files, and its disk is settled. The last id is this one; the collection that runs, if one does, is this
 -- one; and where no key left the index since the opening, it has each that the store holds.

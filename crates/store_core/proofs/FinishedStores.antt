@@ -54,7 +54,7 @@ module _ (held : List (Option HeaderValue)) (h : HeaderValue) (some : 1 ≤ free
   still_there : (slot : ℕ) (g : HeaderValue) → slice_get held slot ≡ Some (Some g) → slice_get (with_slot (first_free held) h held) slot ≡ Some (Some g)
   still_there slot g there = other_with slot h held (was_closed slot g there) ∙ there
 
-  was_or_is : (slot : ℕ) (g : HeaderValue) → slice_get (with_slot (first_free held) h held) slot ≡ Some (Some g) → (slice_get held slot ≡ Some (Some g)) ⊎ (g ≡ h)
+  pub was_or_is : (slot : ℕ) (g : HeaderValue) → slice_get (with_slot (first_free held) h held) slot ≡ Some (Some g) → (slice_get held slot ≡ Some (Some g)) ⊎ (g ≡ h)
   was_or_is slot g there = elim (eqb_tells slot (first_free held)) [
     | inl is ↦
         inr (some_same g h (some_same (Some g) (Some h) (sym there ∙ ap (slice_get (with_slot (first_free held) h held)) is.1 ∙ first_with h held some)))

@@ -1,5 +1,5 @@
 -- A collection of all that isn't live, which runs alone, leaves just what the files need.
-use Rattle.std.proofs.Common.{◌≡◌, inl, inr, ℕ, ◌<◌, List, [], ◌∷◌, length, Option, Some, None, Result, Ok, Err, refl, sym, ◌∙◌, ap, subst, arith}
+use Rattle.std.proofs.Common.{◌≡◌, inl, inr, ℕ, ◌<◌, List, [], ◌∷◌, Option, Some, None, Result, Ok, Err, refl, sym, ◌∙◌, ap, subst, arith}
 use Rattle.actor_parts.specs.declared.step.Answer.{Answer}
 use Rattle.actor_parts.specs.declared.step.Answer.TheVariants as answers
 use Rattle.actor_parts.specs.StepValue as asked
@@ -15,9 +15,9 @@ use Rattle.gc_steps.specs.Sparing.{Spares}
 use Rattle.gc_steps.specs.Stages.{mark_level}
 use Rattle.gc_steps.specs.Stepping.{Keeps, StepsTo, moment}
 use Rattle.gc_steps.specs.SweepIsSafe.{HoldsAt}
-use Rattle.gc_steps.proofs.FirstStage.{id_below, old_there}
-use Rattle.gc_steps.proofs.Sparing.{held_at, held_within}
-use Rattle.gc_steps.proofs.WholeCopies.{TakesAll, begun_takes, ended_whole, takes_live, takes_step}
+use Rattle.gc_steps.specs.Taking.{TakesAll}
+use Rattle.gc_steps.proofs.Sparing.{held_at}
+use Rattle.gc_steps.proofs.WholeCopies.{begun_takes, ended_whole, takes_live, takes_step}
 use Rattle.gc_sweep.specs.declared.sweep.Next.{Next}
 use Rattle.gc_sweep.specs.declared.sweep.Next.TheVariants.{Copy, Flush, Release, End}
 use Rattle.gc_sweep.proofs.InSlots.{copy_of}
@@ -27,12 +27,11 @@ use Rattle.refusals.specs.declared.refusal.Refusal.TheVariants as refusals
 use Rattle.store_model.specs.Collisions.{HasNoCollisions, ByteSet, IsIn}
 use Rattle.store_model.specs.Files.{Stored}
 use Rattle.store_model.specs.Image.{Store}
-use Rattle.store_model.specs.Reserve.{IsReachable}
+use Rattle.store_model.specs.Reserve.{HoldsJustNeeded, IsReachable}
 use Rattle.store_model.specs.Slots.{last_id}
 use Rattle.store_model.specs.Standing.{IsStoreOf}
 use Rattle.store_model.specs.Steps.{StoreChange}
 use Rattle.store_model.proofs.Copies.{headers_of_right}
-use Rattle.store_model.proofs.Free.{as_many}
 use Rattle.store_model.proofs.Once.{store_once}
 use Rattle.store_model.proofs.Sound.{last_within}
 use Rattle.store_state.specs.declared.tables.Tables.{Tables}
@@ -40,7 +39,7 @@ use Rattle.store_state.specs.Tables.{Represents}
 use Rattle.store_core.specs.Bounds.{starts}
 use Rattle.store_core.specs.Collecting.{Begins, GcEffect, GcRow, GoesOn, HasEnded, IsNotMade, TouchesBy, at_moment}
 use Rattle.store_core.specs.Core.{Steps, StopsAfter}
-use Rattle.store_core.specs.Finished.{HoldsJustNeeded, LeavesJustNeeded}
+use Rattle.store_core.specs.Finished.{LeavesJustNeeded}
 use Rattle.store_core.specs.Releases.{AreGcSteps, ends_with}
 use Rattle.store_core.specs.Runs.{AreChangesBy, ChangesTo, FileEvent, FileRun, FileStep, IsAt, IsSafeIn}
 use Rattle.store_core.specs.State.{CoreState, IsUnderWayIn}
@@ -62,7 +61,7 @@ module _ (old new : CoreState) (index : PlaceMap) (held : List (Option HeaderVal
   same_takes : d ≡ c → TakesAll index held d
   same_takes same = subst (TakesAll index held) (sym same) takes
 
-  kept_takes : (stage : Stage) (next : Next) (refusal : Refusal) → c.stage ≡ stage → Keeps stage next (at_moment old c) (at_moment new d) refusal → TakesAll index held d
+  pub kept_takes : (stage : Stage) (next : Next) (refusal : Refusal) → c.stage ≡ stage → Keeps stage next (at_moment old c) (at_moment new d) refusal → TakesAll index held d
   kept_takes (Mark level slot) next refusals.Memory is (inl same, known) = same_takes same
   kept_takes (Mark level slot) next refusals.Memory is (inr only, known) = subst (TakesAll index held) (sym only.collection_is) (takes_live index held c level slot d.live is takes)
   kept_takes (Mark level slot) next refusal is keeps = same_takes keeps.0
@@ -145,6 +144,24 @@ module _ (among : ByteSet) (distinct : HasNoCollisions (IsIn among)) (f : FileEv
   takes_on : TakesIn Needs at.index s old.collection → TakesIn Needs then.index t new.collection
   takes_on = takes_by f.event.answer are steps.made.row steps.made.effect steps.stops
 
+-- ---- at its end
+
+module _ (S : List ℕ → Type 0) (store : Store) (stored : Stored) (core : CoreState) (at : IsAt S store stored core) (c : Collection) (runs : core.collection ≡ Some c) (sweeps : c.stage ≡ SweepStage) (ended : c.sweep.next ≡ End) where
+  pub just_needed : Spares (IsReachable stored.files) at.index store.held c → TakesAll at.index store.held c → HoldsJustNeeded stored.files store.held
+  just_needed spares takes =
+      let image : List ℕ = at.stands.known.0 in
+      let told : core.disk.content ≡ Some image = at.stands.known.1 in
+      let invariant = at.invariant image told in
+      let holds : HoldsAt SweepStage at.index store.held image c =
+      subst (λ (st : Stage). HoldsAt st at.index store.held image c) sweeps
+      (held_at at.index store core.parts image c (subst (IsSafeIn at.index store core.parts image) runs (at.safe image told))) in
+      record {
+        each = ended_whole (IsReachable stored.files) at.index store.held image core.tables.held c (subst (IsUnderWayIn core.tables.held) runs at.under_way) sweeps ended holds.1 spares.within invariant.index_is_newest takes;
+        all = λ key needed.
+            let has = invariant.files_are_indexed key needed in
+            let copy = copy_of store.held at.index invariant.index_is_newest key has.0 has.1 in (copy.0, copy.1.0);
+      }
+
 -- ---- steps, one after the other
 
 module _ (C : Type 0) (state : C → CoreState) where
@@ -165,12 +182,8 @@ module _ (C : Type 0) (state : C → CoreState) where
   begun_all : (S : List ℕ → Type 0) (store : Store) (stored : Stored) (old new : CoreState) (at : IsAt S store stored new) (snapshot : ℕ) (begun : Begins 100 snapshot old new) → new.tables ≡ old.tables
       → TakesAll at.index store.held begun.collection
   begun_all S store stored old new at snapshot begun tables =
-      begun_takes at.index store image new.tables.held begun.collection MOST_LEVEL begun.percent_is
-      (subst (λ (t : Tables). begun.collection.stage ≡ mark_level begun.collection.snapshot t.held MOST_LEVEL) (sym tables) begun.stage_is)
-      (λ slot h there. (
-        omega (arith, held_within store.held slot h there, ap length at.represents.slots_hold.ids_are, as_many store.held),
-        old_there store.held image new.tables.held begun.collection.snapshot holds.right.slots_are at.represents.slots_hold slot h there (omega (arith, id_below store.held slot h there, above)),
-      ))
+      begun_takes at.index store image new.tables.held begun.collection holds.right.slots_are at.represents.slots_hold begun.percent_is
+      (subst (λ (t : Tables). begun.collection.stage ≡ mark_level begun.collection.snapshot t.held MOST_LEVEL) (sym tables) begun.stage_is) above
     where
       image : List ℕ
       image = at.stands.known.0
@@ -205,18 +218,6 @@ module _ (C : Type 0) (state : C → CoreState) where
       let same : over.next.store ≡ t =
       store_once last_image over.next.store t (over.next.is_at.stands.each last_image ((state last).disk.as_read last_image last_told)).holds.right
       (there.stands.each last_image ((state last).disk.as_read last_image last_told)).holds.right in
-      let image : List ℕ = so.is_at.stands.known.0 in
-      let told : (state new).disk.content ≡ Some image = so.is_at.stands.known.1 in
-      let invariant = so.is_at.invariant image told in
-      let holds : HoldsAt SweepStage so.is_at.index so.store.held image c =
-      subst (λ (st : Stage). HoldsAt st so.is_at.index so.store.held image c) row.at_end.0
-      (held_at so.is_at.index so.store (state new).parts image c (subst (IsSafeIn so.is_at.index so.store (state new).parts image) row.ran (so.is_at.safe image told))) in
       let took = subst (TakesIn (IsReachable stored.files) so.is_at.index so.store) row.ran so.takes in
-      let just : HoldsJustNeeded stored.files so.store.held = record {
-        each = ended_whole (IsReachable stored.files) so.is_at.index so.store.held image (state new).tables.held c (subst (IsUnderWayIn (state new).tables.held) row.ran so.is_at.under_way) row.at_end.0 row.at_end.1 holds.1
-            took.0.within invariant.index_is_newest took.1;
-        all = λ key needed.
-            let has = invariant.files_are_indexed key needed in
-            let copy = copy_of so.store.held so.is_at.index invariant.index_is_newest key has.0 has.1 in (copy.0, copy.1.0);
-      } in
+      let just : HoldsJustNeeded stored.files so.store.held = just_needed (IsIn among) so.store stored (state new) so.is_at c row.ran row.at_end.0 row.at_end.1 took.0 took.1 in
       subst (λ (x : Store). HoldsJustNeeded stored.files x.held) (sym same_last ∙ same) just

@@ -271,7 +271,7 @@ module _ (among : ByteSet) (s : Store) (stored later : Stored) (old new : CoreSt
   step_kept step answer row = λ next then then_is after is effect right given. tt
 
 -- a disk that was settled is settled, whatever the step
-settled_step : (among : ByteSet) (distinct : HasNoCollisions (IsIn among)) (f : FileEvent) (s : Store) (stored : Stored) (old new : CoreState) → IsAt (IsIn among) s stored old → IsSettled old.tables.slots old.disk
+pub settled_step : (among : ByteSet) (distinct : HasNoCollisions (IsIn among)) (f : FileEvent) (s : Store) (stored : Stored) (old new : CoreState) → IsAt (IsIn among) s stored old → IsSettled old.tables.slots old.disk
     → FileStep (IsIn among) f old new → (leads : Leads (IsIn among) s f (stored_by f stored) old new) → old.stop ≡ None → new.stop ≡ None → IsSettled new.tables.slots new.disk
 settled_step among distinct f s stored old new at settled step leads runs stays =
     let steps = running_step old new f.event runs step.made in

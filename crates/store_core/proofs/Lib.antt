@@ -31,5 +31,6 @@ pub mod Rooms
 pub mod SafeSteps
 pub mod Sealing
 pub mod SparedRest
+pub mod Standing
 pub mod Stepping
 pub mod Tallied

@@ -1,5 +1,5 @@
 -- What a collection has done once it has ended, whatever steps of others came between its own (docs/MODEL.md, 'The core').
-use Rattle.std.specs.Prelude.{◌≡◌, ◌⊎◌, ℕ, ◌≤◌, List, [], ◌∷◌, map, slice_get, Some, ◌++◌, length, Option, option_map}
+use Rattle.std.specs.Prelude.{◌≡◌, ◌⊎◌, ℕ, ◌≤◌, List, [], ◌∷◌, map, slice_get, Some, ◌++◌, length}
 use Rattle.std.specs.List.{AllByRecursion, IsDistinct}
 use Rattle.std.specs.Str.{bytes_eq}
 use Rattle.base_model.specs.Known.{Known}
@@ -12,11 +12,10 @@ use Rattle.gc_steps.specs.Roots.{IsActorKey}
 use Rattle.gc_steps.specs.UnderWay.{old_ids}
 use Rattle.gc_sweep.specs.Holding.{IsCopied}
 use Rattle.store_model.specs.Collisions.{HasNoCollisions, ByteSet, IsIn}
-use Rattle.store_model.specs.Files.{Files, Stored}
+use Rattle.store_model.specs.Files.{Stored}
 use Rattle.store_model.specs.Image.{Store}
-use Rattle.store_model.specs.Indexing.{entry_key}
-use Rattle.store_model.specs.Reserve.{IsReachable}
-use Rattle.store_model.specs.Slots.{Copy, ids_of as ids_held, newest, place_of}
+use Rattle.store_model.specs.Reserve.{HoldsJustNeeded}
+use Rattle.store_model.specs.Slots.{ids_of as ids_held}
 use Rattle.store_model.specs.Steps.{StoreChange, SealContainer, FlushContainer}
 use Rattle.store_core.specs.Bounds.{NoneEnds, starts}
 use Rattle.store_core.specs.Core.{CoreStep}
@@ -113,14 +112,6 @@ CollectsInAll C state = (among : ByteSet) (actor last_actor percent snapshot fre
     → (run : FileRun C state (IsIn among) steps begun new) → NoneEnds (events_of steps)
     → CoreStep (state new) (ends_with last_actor freed copied last_buf) (state last)
     → Collected C state (IsIn among) percent snapshot freed copied steps s stored begun new last run
-
--- The containers hold just what the files need, and each key of that once: each entry of each container is the newest copy of such a key, and of
--- each such key there is a copy.
-pub record HoldsJustNeeded (files : Files) (held : List (Option HeaderValue)) : Type 0 where
-  pub each : (slot : ℕ) (h : HeaderValue) → slice_get held slot ≡ Some (Some h)
-      → AllByRecursion (λ e. IsReachable files (entry_key h.kind e)
-      × (option_map (λ c. c.place) (newest 0 held (entry_key h.kind e)) ≡ Some (place_of slot e))) h.entries
-  pub all : (key : List ℕ) → IsReachable files key → (copy : Copy) × (newest 0 held key ≡ Some copy)
 
 -- So it is where one of the percentage 100 began while no actor held a key, and came to its end with no other steps between.
 abbrev pub LeavesJustNeeded : (C : Type 0) → (C → CoreState) → Type 0

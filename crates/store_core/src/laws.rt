@@ -1,7 +1,7 @@
 //! Laws of steps of a core, one after the other (docs/MODEL.md, 'The core').
 ghost use Rattle.store_core.specs.Bounds.{BoundsSteps};
 ghost use Rattle.store_core.specs.Finished.{CollectsInAll, LeavesJustNeeded};
-ghost use Rattle.store_core.specs.Frame.{AddsAlone, ReserveStays, WrittenStays};
+ghost use Rattle.store_core.specs.Frame.{AddsAlone, ContainersStay, ReserveStays, WrittenStays};
 ghost use Rattle.store_core.specs.Keeping.{KeepsSegments, StaysHeld, StaysSettled};
 ghost use Rattle.store_core.specs.Opening.{IsNewAt};
 ghost use Rattle.store_core.specs.Releases.{CollectsAsAnswered, LeavesNoneSpare, ReleasesSpare};
@@ -63,6 +63,12 @@ pub fn a_core_keeps_segments<C: HasState>()
 pub fn a_core_keeps_what_is_held<C: HasState>()
     ensures held { StaysHeld C C.state }
     ensures settled { StaysSettled C C.state }
+{}
+
+/// Of such a core: a container that stands in its slot at the beginning of a run and at its end has the same bytes, whatever the
+/// steps are, those of collections among them. The function does nothing.
+pub fn a_core_keeps_what_stands<C: HasState>()
+    ensures { ContainersStay C C.state }
 {}
 
 /// A file that was opened is given as it was then, whatever steps others make. The function does nothing.

@@ -72,11 +72,11 @@ next_before t sources s buffer source entry End same most is = omega (arith, is.
 
 -- ---- a source is copied
 
-keys_so : (P : List ℕ → Type 0) (kind : Kind) (xs : List Segment) → AllByRecursion (λ x. P (segment_key kind x)) xs → AllByRecursion P (map (segment_key kind) xs)
+pub keys_so : (P : List ℕ → Type 0) (kind : Kind) (xs : List Segment) → AllByRecursion (λ x. P (segment_key kind x)) xs → AllByRecursion P (map (segment_key kind) xs)
 keys_so P kind [] all = tt
 keys_so P kind (x ∷ xs) all = (all.0, keys_so P kind xs all.1)
 
-live_so : (index : PlaceMap) (live : LiveKeys) (held : List (Option HeaderValue)) (image : List ℕ) (kind : Kind) (xs : List Segment) → AllByRecursion (IsCopied index live held image kind) xs
+pub live_so : (index : PlaceMap) (live : LiveKeys) (held : List (Option HeaderValue)) (image : List ℕ) (kind : Kind) (xs : List Segment) → AllByRecursion (IsCopied index live held image kind) xs
     → AllByRecursion (λ x. IsLive index live (segment_key kind x)) xs
 live_so index live held image kind [] all = tt
 live_so index live held image kind (x ∷ xs) all = (all.0.is_live, live_so index live held image kind xs all.1)

@@ -14,6 +14,7 @@ pub mod GainedPins
 pub mod ListedKeys
 pub mod MakesSteps
 pub mod MapKept
+pub mod Lone
 pub mod Marked
 pub mod MarkedAll
 pub mod Nearer

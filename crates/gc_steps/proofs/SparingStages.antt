@@ -302,13 +302,13 @@ module _ (t : SlotTable) (index : PlaceMap) (held : List (Option HeaderValue)) (
   abbrev h : HeaderValue
   h = copies.plans.header
 
-  read : IsReadOf index held snapshot source entry s copies.slot copies.kind copies.filling h
+  pub read : IsReadOf index held snapshot source entry s copies.slot copies.kind copies.filling h
   read =
       read_of t index held image live snapshot source entry s slots differ stand under stage holds copies.slot copies.kind copies.filling copies.is_source h
       (shown_content old new (λ (i : List ℕ). HoldsSlot i copies.slot (Some h)) image copies.plans.shown content)
 
   -- a key that was copied is one from before, or has its copy in the source
-  came : (key : List ℕ) (place : Place) → finite.get index key ≡ Some place → has_key s'.buffer key ≡ true → (has_key s.buffer key ≡ true) ⊎ (place.slot ≡ copies.slot)
+  pub came : (key : List ℕ) (place : Place) → finite.get index key ≡ Some place → has_key s'.buffer key ≡ true → (has_key s.buffer key ≡ true) ⊎ (place.slot ≡ copies.slot)
   came key place found has = by_found copies.found copies.plans.plans copies.takes
     where
       by_found : (o : Option Plan) → PlansBy (source_of (Some index) live copies.slot h.kind) (Shows old new) h entry copies.filling o → TakesBy t copies.slot source o s s'

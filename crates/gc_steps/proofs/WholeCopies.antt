@@ -158,7 +158,7 @@ each_placed : (kind : Kind) (slot : ℕ) (index : PlaceMap) (all es : List Entry
 each_placed kind slot index all [] follow found = tt
 each_placed kind slot index all (e ∷ es) follow found = (put_some kind slot [] all index (entry_key kind e) e follow found.0, each_placed kind slot index all es follow found.1)
 
-count_there : (held : List (Option HeaderValue)) (slot : ℕ) (h : HeaderValue) → slice_get held slot ≡ Some (Some h) → slice_get (map count_of held) slot ≡ Some (count_of (Some h))
+pub count_there : (held : List (Option HeaderValue)) (slot : ℕ) (h : HeaderValue) → slice_get held slot ≡ Some (Some h) → slice_get (map count_of held) slot ≡ Some (count_of (Some h))
 count_there [] slot h there = absurd cc
 count_there (x ∷ xs) zero h there = ap (λ (y : Option HeaderValue). Some (count_of y)) (some_same x (Some h) there)
 count_there (x ∷ xs) (suc slot) h there = count_there xs slot h there

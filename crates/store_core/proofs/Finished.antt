@@ -1,6 +1,6 @@
 -- What a collection has done once it has ended, whatever steps of others came between its own.
-use Rattle.std.proofs.Common.{◌≡◌, inl, inr, ℕ, ◌<◌, ◌≤◌, true, false, List, [], ◌∷◌, ◌++◌, append-nil, length, get_or, Option, Some, None, Result, Ok, Err, Vec, Global, refl, sym, ◌∙◌, ap, subst, arith, ◌⊎◌, ◌+◌}
-use Rattle.store_core.proofs.RecordedAll.{filter_early, level_early, mark_early, old_same}
+use Rattle.std.proofs.Common.{◌≡◌, inl, inr, ℕ, ◌<◌, ◌≤◌, true, false, List, [], ◌∷◌, ◌++◌, append-nil, append_assoc, length, get_or, Option, Some, None, Result, Ok, Err, Vec, Global, refl, sym, ◌∙◌, ap, subst, arith, ◌⊎◌, ◌+◌}
+use Rattle.store_core.proofs.RecordedAll.{old_same}
 use Rattle.disk_format.specs.declared.numbers.TheConstants.{MOST_LEVEL}
 use Rattle.gc_steps.specs.Stages.{first_slot, is_old_slot}
 use Rattle.container_meta.specs.Spelling.{HeaderValue, header_of}
@@ -28,6 +28,7 @@ use Rattle.gc_steps.specs.SweepIsSafe.{HoldsAt}
 use Rattle.gc_steps.specs.UnderWay.{HasChosen, HasStage, IsUnderWay, old_ids}
 use Rattle.gc_steps.proofs.Chosen.{chosen_which, whole}
 use Rattle.gc_steps.proofs.CopiedOn.{GoesWell, IsCounted, begun_counted, goes_well}
+use Rattle.gc_steps.proofs.Lone.{filter_early, level_early, mark_early}
 use Rattle.gc_steps.proofs.Sparing.{held_at}
 use Rattle.gc_steps.proofs.StepSafe.{IsStoreAfter}
 use Rattle.gc_sweep.specs.declared.sweep.Next.{Next}
@@ -47,9 +48,9 @@ use Rattle.store_model.specs.Steps.{StoreChange, SealContainer, ChangeName, Flus
 use Rattle.store_core.specs.declared.stop.Stop.{Stop}
 use Rattle.store_core.specs.Bounds.{IsNoEnd, NoneEnds, starts}
 use Rattle.store_core.specs.Collecting.{Begins, Collects, GcEffect, GcRow, GoesOn, HasEnded, IsKeptKey, IsNotMade, MarksIn, StartRow, TouchesBy, at_moment}
-use Rattle.store_core.specs.Core.{Row, Steps, StepsOr, next_id}
-use Rattle.store_core.specs.Finished.{AreCopiesOf, CollectsInAll, IsOfCopies, WereCopies, copied_keys}
-use Rattle.store_core.specs.Releases.{copied_in, ends_with, freed_in}
+use Rattle.store_core.specs.Core.{CoreStep, Row, Steps, StepsOr, next_id}
+use Rattle.store_core.specs.Finished.{AreCopiesOf, Collected, CollectsInAll, IsOfCopies, WereCopies, copied_keys}
+use Rattle.store_core.specs.Releases.{AreGcSteps, copied_in, ends_with, freed_in}
 use Rattle.store_core.specs.Runs.{AreChangesBy, AreChangesOf, ChangesTo, FileEvent, FileRun, FileStep, IsAt, IsNoGcStep, IsSafeIn, changes_by, events_of, stored_after, stored_by, stored_with}
 use Rattle.store_core.specs.State.{CoreState, Event, IsUnderWayIn}
 use Rattle.store_core.proofs.AnySteps.{any_step, changes_only, gc_or_not, with_step}
@@ -73,10 +74,10 @@ copies_so P Q so (FreeContainer slot) is = tt
 -- ---- what stays of a collection
 
 -- Snapshot and percentage; and its sources, once they are chosen.
-record KeepsOn (b a : Collection) : Type 0 where
-  snapshot_is : a.snapshot ≡ b.snapshot
-  percent_is : a.percent ≡ b.percent
-  chosen : b.stage ≡ SweepStage → (a.stage ≡ SweepStage) × (a.sweep.sources.items ≡ b.sweep.sources.items)
+pub record KeepsOn (b a : Collection) : Type 0 where
+  pub snapshot_is : a.snapshot ≡ b.snapshot
+  pub percent_is : a.percent ≡ b.percent
+  pub chosen : b.stage ≡ SweepStage → (a.stage ≡ SweepStage) × (a.sweep.sources.items ≡ b.sweep.sources.items)
 
 keeps_same : (b a : Collection) → a ≡ b → KeepsOn b a
 keeps_same b a is = record {
@@ -123,37 +124,42 @@ module _ (old new : CoreState) (b a : Collection) where
 -- ---- a step
 
 -- A key is copied no more: a container that came after the collection began holds it, and it is none of those that are filled.
-record IsSettled (s : Store) (c : Collection) (key : List ℕ) : Type 0 where
-  sweeps : c.stage ≡ SweepStage
-  newer : HoldsNewer s.held c.snapshot key
-  unfilled : has_key c.sweep.buffer key ≡ true → ⊥
+pub record IsSettled (s : Store) (c : Collection) (key : List ℕ) : Type 0 where
+  pub sweeps : c.stage ≡ SweepStage
+  pub newer : HoldsNewer s.held c.snapshot key
+  pub unfilled : has_key c.sweep.buffer key ≡ true → ⊥
 
 -- Its sources are still to be chosen, or each container that is there was recorded; and once they are, what was recorded stays.
-record Records (s : Store) (b a : Collection) : Type 0 where
-  early : IsToChoose b.stage → IsToChoose a.stage ⊎ ((a.stage ≡ SweepStage) × (ids_of a.liveness ≡ old_ids b.snapshot (ids_held s.held)))
-  late : b.stage ≡ SweepStage → a.liveness ≡ b.liveness
+pub record Records (s : Store) (b a : Collection) : Type 0 where
+  pub early : IsToChoose b.stage → IsToChoose a.stage ⊎ ((a.stage ≡ SweepStage) × (ids_of a.liveness ≡ old_ids b.snapshot (ids_held s.held)))
+  pub late : b.stage ≡ SweepStage → a.liveness ≡ b.liveness
 
 records_same : (s : Store) (b a : Collection) → a.stage ≡ b.stage → a.liveness ≡ b.liveness → Records s b a
 records_same s b a stage liveness = record { early = λ early. inl (subst IsToChoose (sym stage) early); late = λ sweeps. liveness }
 
+-- Nothing was changed, or what the stage of the collection changes.
+abbrev pub IsOfStage : Collection → List StoreChange → Type 0
+IsOfStage b changes = (changes ≡ []) ⊎ ((id : ℕ) × (changes ≡ changed_by b.stage b.sweep.next b.sweep id))
+
 -- What a step leaves of a collection that runs, and of the containers.
-record Goes (among : ByteSet) (f : FileEvent) (b : Collection) (s : Store) (stored : Stored) (old new : CoreState) : Type 0 where
-  a : Collection
-  runs : new.collection ≡ Some a
-  store : Store
-  is_at : IsAt (IsIn among) store (stored_by f stored) new
-  changes : List StoreChange
-  changes_are : AreChangesBy f.event.step f.event.answer changes
-  chain : ChangesTo changes s store
-  sweeps : (sources : List ℕ) → (b.stage ≡ SweepStage → sources ≡ b.sweep.sources.items) → Sweeps b.snapshot sources changes s store
-  copies : AllByRecursion (IsOfCopies (AreCopiesOf (IsIn among) old)) changes
-  counts : Counts changes b a
-  keeps : KeepsOn b a
-  counted : IsCounted b.sweep → IsCounted a.sweep
-  records : Records s b a
-  once : IsDistinct bytes_eq (copied_keys changes)
-  others : (key : List ℕ) → IsSettled s b key → IsNoneOf (copied_keys changes) key × IsSettled store a key
-  settles : (key : List ℕ) → listed (copied_keys changes) key ≡ true → IsSettled store a key
+pub record Goes (among : ByteSet) (f : FileEvent) (b : Collection) (s : Store) (stored : Stored) (old new : CoreState) : Type 0 where
+  pub a : Collection
+  pub runs : new.collection ≡ Some a
+  pub store : Store
+  pub is_at : IsAt (IsIn among) store (stored_by f stored) new
+  pub changes : List StoreChange
+  pub changes_are : AreChangesBy f.event.step f.event.answer changes
+  pub made : f.event.step ≡ asked.GcStep → IsOfStage b changes
+  pub chain : ChangesTo changes s store
+  pub sweeps : (sources : List ℕ) → (b.stage ≡ SweepStage → sources ≡ b.sweep.sources.items) → Sweeps b.snapshot sources changes s store
+  pub copies : AllByRecursion (IsOfCopies (AreCopiesOf (IsIn among) old)) changes
+  pub counts : Counts changes b a
+  pub keeps : KeepsOn b a
+  pub counted : IsCounted b.sweep → IsCounted a.sweep
+  pub records : Records s b a
+  pub once : IsDistinct bytes_eq (copied_keys changes)
+  pub others : (key : List ℕ) → IsSettled s b key → IsNoneOf (copied_keys changes) key × IsSettled store a key
+  pub settles : (key : List ℕ) → listed (copied_keys changes) key ≡ true → IsSettled store a key
 
 module _ (old new : CoreState) (b : Collection) (ran : old.collection ≡ Some b) where
   -- it is as it was, but for its live keys
@@ -261,14 +267,15 @@ module _ (among : ByteSet) (distinct : HasNoCollisions (IsIn among)) (f : FileEv
 
   -- but for its live keys it is as it was
   unchanged : (changes : List StoreChange) → AreChangesBy f.event.step f.event.answer changes → ChangesTo changes s t → ((sources : List ℕ) → Adds Copies b.snapshot sources changes s t) → Stays old new b ran
-      → Goes among f b s stored old new
-  unchanged changes are chain adds on = record {
+      → (f.event.step ≡ asked.GcStep → IsOfStage b changes) → Goes among f b s stored old new
+  unchanged changes are chain adds on made = record {
     a = record b { live = on.0 };
     runs = on.1;
     store = t;
     is_at = leads.next.is_at;
     changes = changes;
     changes_are = are;
+    made = made;
     chain = chain;
     sweeps = λ sources chosen. (adds sources).sweeps;
     copies = (adds []).none_copied;
@@ -302,6 +309,7 @@ module _ (among : ByteSet) (distinct : HasNoCollisions (IsIn among)) (f : FileEv
       (adds Copies b.snapshot sources s t old new f.event.actor f.event.buf under.began f.event.step f.event.answer other steps.made.row
       (subst (λ (changes : List StoreChange). ChangesTo changes s t) same leads.next.chain)))
       (other_stays old new b ran f.event.actor f.event.buf f.event.step f.event.answer other steps.made.row steps.collects)
+      (λ is. absurd (let wrong : ⊥ = subst IsNoGcStep is other in wrong))
 
   -- ---- of a collection
 
@@ -469,6 +477,7 @@ module _ (among : ByteSet) (distinct : HasNoCollisions (IsIn among)) (f : FileEv
               changes = changed_by b.stage b.sweep.next b.sweep made.id;
               changes_are = changes_so (changed_by b.stage b.sweep.next b.sweep made.id)
                   (subst (λ (answer : Result Answer Refusal). AreChangesBy asked.GcStep answer (changed_by b.stage b.sweep.next b.sweep made.id)) (ap (λ (p : Phase). Ok (answers.Did p)) phase_here ∙ sym answer_is) made.changes_are);
+              made = λ gc. inr (made.id, refl);
               chain = made.chain;
               sweeps = made.sweeps;
               copies = made.copies;
@@ -496,7 +505,7 @@ module _ (among : ByteSet) (distinct : HasNoCollisions (IsIn among)) (f : FileEv
         let stands : t ≡ s = subst (λ (changes : List StoreChange). ChangesTo changes s t) none leads.next.chain in
         unchanged leads.changes leads.changes_are leads.next.chain
         (λ sources. subst (λ (changes : List StoreChange). Adds Copies b.snapshot sources changes s t) (sym none) (record { sweeps = stands; none_copied = tt; freed_is = refl; copied_is = refl; no_keys = refl }))
-        (live.0, row.runs ∙ ap Some live.1)
+        (live.0, row.runs ∙ ap Some live.1) (λ gc. inl none)
 
     gc_by : (answer : Result Answer Refusal) → f.event.answer ≡ answer → IsNoEnd answer → GcRow answer old new → GcEffect answer old new → AreChangesBy asked.GcStep answer leads.changes → Goes among f b s stored old new
     gc_by (Ok (answers.Did phase)) answer_is goes_on row effect are = did_goes phase answer_is row.0 effect.touches effect.later
@@ -517,8 +526,13 @@ module _ (among : ByteSet) (distinct : HasNoCollisions (IsIn among)) (f : FileEv
 
 -- ---- steps, one after the other
 
+-- What steps of a collection keep of the changes so far, of the collection, and of what the core is at.
+abbrev pub IsKept : ByteSet → (List StoreChange → Collection → Store → Stored → CoreState → Type 0) → Type 1
+IsKept among Inv = (f : FileEvent) (s : Store) (stored : Stored) (old new : CoreState) (b : Collection) (before : List StoreChange) → FileStep (IsIn among) f old new → new.stop ≡ None
+    → old.collection ≡ Some b → f.event.step ≡ asked.GcStep → (one : Goes among f b s stored old new) → Inv before b s stored old → Inv (before ++ one.changes) one.a one.store (stored_by f stored) new
+
 module _ (C : Type 0) (state : C → CoreState) where
-  record Went (among : ByteSet) (steps : List FileEvent) (b c : Collection) (s : Store) (stored : Stored) (mid new : C) (run : FileRun C state (IsIn among) steps mid new) : Type 0 where
+  record Went (among : ByteSet) (Inv : List StoreChange → Collection → Store → Stored → CoreState → Type 0) (steps : List FileEvent) (b c : Collection) (s : Store) (stored : Stored) (mid new : C) (run : FileRun C state (IsIn among) steps mid new) : Type 0 where
     store : Store
     is_at : IsAt (IsIn among) store (stored_after steps stored) (state new)
     changes : List StoreChange
@@ -533,11 +547,12 @@ module _ (C : Type 0) (state : C → CoreState) where
     recorded_still : b.stage ≡ SweepStage → c.liveness ≡ b.liveness
     once : IsDistinct bytes_eq (copied_keys changes)
     others : (key : List ℕ) → IsSettled s b key → IsNoneOf (copied_keys changes) key
+    along : (before : List StoreChange) → AreGcSteps steps → Inv before b s stored (state mid) → Inv (before ++ changes) c store (stored_after steps stored) (state new)
 
-  went : (among : ByteSet) (steps : List FileEvent) (s : Store) (stored : Stored) (mid new : C) (b c : Collection) → HasNoCollisions (IsIn among) → IsAt (IsIn among) s stored (state mid)
+  went : (among : ByteSet) (Inv : List StoreChange → Collection → Store → Stored → CoreState → Type 0) → IsKept among Inv → (steps : List FileEvent) (s : Store) (stored : Stored) (mid new : C) (b c : Collection) → HasNoCollisions (IsIn among) → IsAt (IsIn among) s stored (state mid)
       → (run : FileRun C state (IsIn among) steps mid new) → NoneEnds (events_of steps) → (state new).stop ≡ None → (state mid).collection ≡ Some b → (state new).collection ≡ Some c → IsQuiet b
-      → Went among steps b c s stored mid new run
-  went among [] s stored mid new b c distinct at run ends stays ran runs quiet =
+      → Went among Inv steps b c s stored mid new run
+  went among Inv kept [] s stored mid new b c distinct at run ends stays ran runs quiet =
       let same : c ≡ b = same_some c b (state new).collection runs (ap (λ (x : C). (state x).collection) run ∙ ran) in
       record {
         store = s;
@@ -554,11 +569,14 @@ module _ (C : Type 0) (state : C → CoreState) where
         recorded_still = λ stage. ap (λ (x : Collection). x.liveness) same;
         once = none_distinct;
         others = λ key settled. tt;
+        along = λ before all inv.
+            subst (λ (changes : List StoreChange). Inv changes c s stored (state new)) (sym (append-nil before))
+            (subst (λ (x : Collection). Inv before x s stored (state new)) (sym same) (subst (λ (x : C). Inv before b s stored (state x)) (sym run) inv));
       }
-  went among (f ∷ fs) s stored mid new b c distinct at run ends stays ran runs quiet =
+  went among Inv kept (f ∷ fs) s stored mid new b c distinct at run ends stays ran runs quiet =
       let on : (state run.0).stop ≡ None = run_running C state among fs run.0 new run.1.1 stays in
       let one = step_goes among distinct f s stored (state mid) (state run.0) run.1.0 at on b ran quiet ends.0 in
-      let rest = went among fs one.store (stored_by f stored) run.0 new one.a c distinct one.is_at run.1.1 ends.1 stays one.runs runs one.counts.quiet in
+      let rest = went among Inv kept fs one.store (stored_by f stored) run.0 new one.a c distinct one.is_at run.1.1 ends.1 stays one.runs runs one.counts.quiet in
       let keeps : KeepsOn b c = keeps_then b one.a c one.keeps rest.keeps in
       record {
         store = rest.store;
@@ -591,6 +609,9 @@ module _ (C : Type 0) (state : C → CoreState) where
             let now = one.others key settled in
             subst (λ (keys : List (List ℕ)). IsNoneOf keys key) (sym (keys_then one.changes rest.changes))
             (all_then (λ k. bytes_eq key k ≡ false) (copied_keys one.changes) (copied_keys rest.changes) now.0 (rest.others key now.1));
+        along = λ before all inv.
+            subst (λ (changes : List StoreChange). Inv changes c rest.store (stored_after fs (stored_by f stored)) (state new)) (append_assoc before one.changes rest.changes)
+            (rest.along (before ++ one.changes) all.1 (kept f s stored (state mid) (state run.0) b before run.1.0 on ran all.0 one inv));
       }
 
   -- a core that ends a collection isn't stopped
@@ -598,8 +619,18 @@ module _ (C : Type 0) (state : C → CoreState) where
   ended_runs None e freed copied old new is answer_is steps = is
   ended_runs (Some stop) e freed copied old new is answer_is steps = absurd (let wrong = sym answer_is ∙ steps.answer_is in cc)
 
-  pub collects_in_all : CollectsInAll C state
-  collects_in_all among actor last_actor percent snapshot freed copied buf last_buf steps s stored old begun new last distinct at began run none_ends ended =
+  -- it collected, and what its steps keep is kept, where no others came between
+  pub record CollectedSo (among : ByteSet) (Inv : List StoreChange → Collection → Store → Stored → CoreState → Type 0) (percent snapshot freed copied : ℕ) (steps : List FileEvent) (s : Store) (stored : Stored)
+      (begun new last : C) (run : FileRun C state (IsIn among) steps begun new) : Type 0 where
+    pub collected : Collected C state (IsIn among) percent snapshot freed copied steps s stored begun new last run
+    pub along : (b : Collection) → (state begun).collection ≡ Some b → AreGcSteps steps → Inv [] b s stored (state begun)
+        → Inv collected.changes collected.collection collected.store (stored_after steps stored) (state new)
+
+  pub collects_so : (among : ByteSet) (Inv : List StoreChange → Collection → Store → Stored → CoreState → Type 0) → IsKept among Inv → (actor last_actor percent snapshot freed copied : ℕ) (buf last_buf : List ℕ)
+      (steps : List FileEvent) (s : Store) (stored : Stored) (old begun new last : C) → HasNoCollisions (IsIn among) → IsAt (IsIn among) s stored (state old)
+      → CoreStep (state old) (starts actor percent snapshot buf) (state begun) → (run : FileRun C state (IsIn among) steps begun new) → NoneEnds (events_of steps)
+      → CoreStep (state new) (ends_with last_actor freed copied last_buf) (state last) → CollectedSo among Inv percent snapshot freed copied steps s stored begun new last run
+  collects_so among Inv kept actor last_actor percent snapshot freed copied buf last_buf steps s stored old begun new last distinct at began run none_ends ended =
       let first : FileEvent = record { event = starts actor percent snapshot buf; bytes = [] } in
       let final : FileEvent = record { event = ends_with last_actor freed copied last_buf; bytes = [] } in
       let stays : (state new).stop ≡ None = ended_runs (state new).stop final.event freed copied (state new) (state last) refl refl ended in
@@ -613,7 +644,7 @@ module _ (C : Type 0) (state : C → CoreState) where
       let row : HasEnded freed copied (state new) (state last) = ends.made.row.0 in
       let c : Collection = row.before in
       let none = counts_none (state old).tables.held [] b.sweep row_first.nothing_yet.1 in
-      let all = went among steps s stored begun new b c distinct (subst (λ (x : Store). IsAt (IsIn among) x stored (state begun)) same_first led.next.is_at) run none_ends stays row_first.runs row.ran (λ early. none) in
+      let all = went among Inv kept steps s stored begun new b c distinct (subst (λ (x : Store). IsAt (IsIn among) x stored (state begun)) same_first led.next.is_at) run none_ends stays row_first.runs row.ran (λ early. none) in
       let over = any_step among distinct final all.store (stored_after steps stored) (state new) (state last) (record { asked = tt; given = tt; made = ended }) all.is_at ends.stops in
       let same_last : over.next.store ≡ all.store = subst (λ (changes : List StoreChange). ChangesTo changes all.store over.next.store) over.changes_are over.next.chain in
       let under : IsUnderWay (state new).tables.held c = subst (IsUnderWayIn (state new).tables.held) row.ran all.is_at.under_way in
@@ -633,35 +664,43 @@ module _ (C : Type 0) (state : C → CoreState) where
       let which = chosen_which snapshot percent c.liveness c.sweep.sources.items sources in
       let sweeps : Sweeps snapshot c.sweep.sources.items all.changes s all.store = subst (λ (n : ℕ). Sweeps n c.sweep.sources.items all.changes s all.store) snapshot_is all.sweeps in
       record {
-        collection = c;
-        ran = row.ran;
-        snapshot_is = snapshot_is;
-        percent_is = percent_is;
-        recorded =
-            all.recorded (subst IsToChoose (sym row_first.stage_is) (level_early b.snapshot (state old).tables.held MOST_LEVEL)) row.at_end.0
-            ∙ ap (λ (n : ℕ). old_ids n (ids_held s.held)) (sym row_first.snapshot_is);
-        sources_are = sources;
-        store = all.store;
-        is_at = subst (λ (x : Store). IsAt (IsIn among) x (stored_after steps stored) (state last)) same_last over.next.is_at;
-        changes = all.changes;
-        changes_are = all.changes_are;
-        chain = all.chain;
-        gone = λ slot h there is_selected.
-            let source = (which h.id).1 is_selected in
-            none_left (state new).tables.held all.is_at.index all.store.held image c.live c.snapshot c.sweep sweeping row.at_end.1 holds.1 source.0 source.1 slot h there
-            (sym source.2 ∙ get_or_default_zero c.sweep.sources.items source.0 h.id source.1);
-        stands = λ slot h there other. stands_on snapshot c.sweep.sources.items all.changes s all.store slot h sweeps (λ source. other ((which h.id).0 source)) there;
-        added = λ h is. added_stands snapshot c.sweep.sources.items
-            (λ id above source.
-            let below : get_or c.sweep.sources.items source.0 0 < c.snapshot = holds.0.old source.0 source.1 in
-            let here : get_or c.sweep.sources.items source.0 0 ≡ id = sym (get_or_default_zero c.sweep.sources.items source.0 id source.1) ∙ source.2 in
-            omega (arith, above, below, here, snapshot_is)) all.changes s all.store h sweeps is;
-        no_other = λ slot h there. stood snapshot c.sweep.sources.items all.changes s all.store slot h sweeps there;
-        copies = all.copies;
-        once = all.once;
-        freed_is =
-            let counted : IsCounted c.sweep = all.counted (begun_counted (state old).tables.held [] b.sweep row_first.nothing_yet.1) in
-            omega (arith, counted, row.freed_is, ap (sources_before c.sweep) row.at_end.1, ap length (sweeping.waits has.1), ap length has.0);
-        given_back = omega (arith, all.on.freed_on, none.none_freed, row.freed_is);
-        copied_is = omega (arith, all.on.copied_on, none.none_copied, none.none_unwritten, written, row.copied_is);
+        collected = record {
+          collection = c;
+          ran = row.ran;
+          snapshot_is = snapshot_is;
+          percent_is = percent_is;
+          recorded =
+              all.recorded (subst IsToChoose (sym row_first.stage_is) (level_early b.snapshot (state old).tables.held MOST_LEVEL)) row.at_end.0
+              ∙ ap (λ (n : ℕ). old_ids n (ids_held s.held)) (sym row_first.snapshot_is);
+          sources_are = sources;
+          store = all.store;
+          is_at = subst (λ (x : Store). IsAt (IsIn among) x (stored_after steps stored) (state last)) same_last over.next.is_at;
+          changes = all.changes;
+          changes_are = all.changes_are;
+          chain = all.chain;
+          gone = λ slot h there is_selected.
+              let source = (which h.id).1 is_selected in
+              none_left (state new).tables.held all.is_at.index all.store.held image c.live c.snapshot c.sweep sweeping row.at_end.1 holds.1 source.0 source.1 slot h there
+              (sym source.2 ∙ get_or_default_zero c.sweep.sources.items source.0 h.id source.1);
+          stands = λ slot h there other. stands_on snapshot c.sweep.sources.items all.changes s all.store slot h sweeps (λ source. other ((which h.id).0 source)) there;
+          added = λ h is. added_stands snapshot c.sweep.sources.items
+              (λ id above source.
+              let below : get_or c.sweep.sources.items source.0 0 < c.snapshot = holds.0.old source.0 source.1 in
+              let here : get_or c.sweep.sources.items source.0 0 ≡ id = sym (get_or_default_zero c.sweep.sources.items source.0 id source.1) ∙ source.2 in
+              omega (arith, above, below, here, snapshot_is)) all.changes s all.store h sweeps is;
+          no_other = λ slot h there. stood snapshot c.sweep.sources.items all.changes s all.store slot h sweeps there;
+          copies = all.copies;
+          once = all.once;
+          freed_is =
+              let counted : IsCounted c.sweep = all.counted (begun_counted (state old).tables.held [] b.sweep row_first.nothing_yet.1) in
+              omega (arith, counted, row.freed_is, ap (sources_before c.sweep) row.at_end.1, ap length (sweeping.waits has.1), ap length has.0);
+          given_back = omega (arith, all.on.freed_on, none.none_freed, row.freed_is);
+          copied_is = omega (arith, all.on.copied_on, none.none_copied, none.none_unwritten, written, row.copied_is);
+        };
+        along = λ first_one runs gc inv. all.along [] gc (subst (λ (x : Collection). Inv [] x s stored (state begun)) (same_some first_one b (state begun).collection runs row_first.runs) inv);
       }
+
+  pub collects_in_all : CollectsInAll C state
+  collects_in_all among actor last_actor percent snapshot freed copied buf last_buf steps s stored old begun new last distinct at began run none_ends ended =
+      (collects_so among (λ changes c t files core. Unit {0}) (λ f t files before after b changes step stays ran is one inv. tt) actor last_actor percent snapshot freed copied buf last_buf steps s stored old begun new last
+      distinct at began run none_ends ended).collected

@@ -1,5 +1,6 @@
 pub mod AnySteps
 pub mod Bounded
+pub mod ByNeed
 pub mod CheckedReads
 pub mod Committing
 pub mod CopiesOnce
@@ -17,6 +18,7 @@ pub mod JustNeeded
 pub mod KeepingFiles
 pub mod KeepingSegments
 pub mod Leading
+pub mod LoneRun
 pub mod Making
 pub mod MakingGc
 pub mod MarkedSteps

@@ -1,38 +1,14 @@
 -- What a collection recorded: each container that was there when it began.
-use Rattle.std.proofs.Common.{◌≡◌, ℕ, zero, suc, ◌≤◌, Bool, true, false, cond, List, [], ◌∷◌, Option, Some, None, refl, ◌∙◌, ap, arith, ◌-◌}
+use Rattle.std.proofs.Common.{◌≡◌, ℕ, ◌≤◌, Bool, true, false, cond, List, [], ◌∷◌, Option, Some, None, refl, ◌∙◌, ap, arith}
 use Rattle.std.specs.Prelude.{◌&&◌, ◌==◌, nat_lt, not}
 use Rattle.std.proofs.lemmas.Bool.{ltb-true}
 use Rattle.container_meta.specs.Spelling.{HeaderValue, header_of}
-use Rattle.gc_steps.specs.FewSources.{IsToChoose}
-use Rattle.gc_steps.specs.Stages.{filter_at, first_slot, is_old_slot, is_tree_slot, mark_at, mark_from, mark_level, mark_on}
 use Rattle.gc_steps.specs.UnderWay.{old_ids}
 use Rattle.gc_sweep.specs.UnderWay.{is_old}
 use Rattle.store_model.specs.Image.{Store}
 use Rattle.store_model.specs.Slots.{first_free, ids_of, with_slot}
 use Rattle.store_model.specs.Steps.{StoreChange, SealContainer, ChangeName, FlushContainer, FreeContainer, with_change, with_sealed}
-use Rattle.store_state.specs.declared.slot_table.SlotTable.{SlotTable}
 use Rattle.store_core.proofs.FinishedStores.{Sweeps}
-
--- ---- it doesn't sweep yet
-
-pub filter_early : (found : Option ℕ) → IsToChoose (filter_at found)
-filter_early None = tt
-filter_early (Some slot) = tt
-
-pub level_early : (snapshot : ℕ) (t : SlotTable) (level : ℕ) → IsToChoose (mark_level snapshot t level)
-level_early snapshot t zero = filter_early (first_slot t (is_old_slot snapshot t) 0)
-level_early snapshot t (suc level) = by_found (first_slot t (is_tree_slot snapshot t) 0)
-  where
-    by_found : (found : Option ℕ) → IsToChoose (mark_at snapshot t (suc level) found)
-    by_found None = filter_early (first_slot t (is_old_slot snapshot t) 0)
-    by_found (Some slot) = tt
-
-pub mark_early : (snapshot : ℕ) (t : SlotTable) (level from : ℕ) → IsToChoose (mark_from snapshot t level from)
-mark_early snapshot t level from = by_found (first_slot t (is_tree_slot snapshot t) from)
-  where
-    by_found : (found : Option ℕ) → IsToChoose (mark_on snapshot t level found)
-    by_found None = level_early snapshot t (level - 1)
-    by_found (Some slot) = tt
 
 -- ---- the containers that were there
 

@@ -32,7 +32,7 @@ module _ (C : Type 0) (state : C → CoreState) where
     on : CountsOn changes b.sweep c.sweep
 
   -- none runs once it has ended
-  idle_run : (among : ByteSet) (steps : List FileEvent) (s : Store) (stored : Stored) (mid new : C) → HasNoCollisions (IsIn among) → IsAt (IsIn among) s stored (state mid) → FileRun C state (IsIn among) steps mid new
+  pub idle_run : (among : ByteSet) (steps : List FileEvent) (s : Store) (stored : Stored) (mid new : C) → HasNoCollisions (IsIn among) → IsAt (IsIn among) s stored (state mid) → FileRun C state (IsIn among) steps mid new
       → AreGcSteps steps → (state new).stop ≡ None → (state mid).collection ≡ None → (state new).collection ≡ None
   idle_run among [] s stored mid new distinct at run all stays none = ap (λ (x : C). (state x).collection) run ∙ none
   idle_run among (f ∷ fs) s stored mid new distinct at run all stays none =

@@ -1,4 +1,5 @@
 pub mod Bounds
+pub mod Chosen
 pub mod Collecting
 pub mod Core
 pub mod Finished

@@ -1,5 +1,6 @@
 //! Laws of steps of a core, one after the other (docs/MODEL.md, 'The core').
 ghost use Rattle.store_core.specs.Bounds.{BoundsSteps};
+ghost use Rattle.store_core.specs.Chosen.{CollectsByNeed};
 ghost use Rattle.store_core.specs.Finished.{CollectsInAll, LeavesJustNeeded};
 ghost use Rattle.store_core.specs.Frame.{AddsAlone, ContainersStay, ReserveStays, WrittenStays};
 ghost use Rattle.store_core.specs.Keeping.{KeepsSegments, StaysHeld, StaysSettled};
@@ -38,12 +39,15 @@ pub fn a_core_collects_the_rest<C: HasState>()
     ensures answered { CollectsAsAnswered C C.state }
 {}
 
-/// Over data without collisions, of a core that began at a store: a collection that ended has given back each container that it selected and no
-/// other, whatever steps were made between its own; it has written only live segments, as they were held. Where one of the percentage 100
-/// ran alone, while no actor held a key, the containers hold just what the files need, each key once. The function does nothing.
+/// Over data without collisions, of a core that began at a store: a collection that ended has given back each container that it selected
+/// and no other, whatever steps were made between its own; it has written only live segments, as they were held. Where one ran alone, while
+/// no actor held a key, it has given back just the containers of which less than the percentage was needed, or nothing, and has written just
+/// the needed keys that had their newest copies in these, each once; at the percentage 100 the containers hold just what the files need,
+/// each key once. The function does nothing.
 pub fn a_core_collects_what_it_selected<C: HasState>()
     ensures selected { CollectsInAll C C.state }
     ensures needed { LeavesJustNeeded C C.state }
+    ensures by_need { CollectsByNeed C C.state }
 {}
 
 /// Over data without collisions, a core that began at a store and isn't stopped has made exactly the commits, the deletes and

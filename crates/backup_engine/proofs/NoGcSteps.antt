@@ -5,7 +5,8 @@ use Rattle.actor_parts.specs.StepValue as asked
 use Rattle.actor_parts.specs.StepValue.{StepValue}
 use Rattle.store_core.specs.Runs.{AreChangesOf, AreNoGcSteps, FileEvent, IsNoGcStep, changes_by, changes_of, events_of}
 use Rattle.store_core.proofs.AnySteps.{changes_told}
-use Rattle.store_model.specs.Steps.{FlushContainer, StoreChange}
+use Rattle.store_core.proofs.Reserves.{NoneFlushed}
+use Rattle.store_model.specs.Steps.{StoreChange}
 use Rattle.actor_parts.specs.declared.step.Answer.{Answer}
 use Rattle.actor_parts.specs.declared.step.Answer.TheVariants as answers
 use Rattle.refusals.specs.declared.refusal.Refusal.{Refusal}
@@ -29,11 +30,6 @@ no_gc_then [] f before here = (here, tt)
 no_gc_then (g ∷ gs) f before here = (before.0, no_gc_then gs f before.1 here)
 
 -- ---- no container of copies is written by such steps
-
-abbrev pub NoneFlushed : List StoreChange → Type 0
-NoneFlushed [] = Unit {0}
-NoneFlushed (FlushContainer id kind segments ∷ rest) = ⊥
-NoneFlushed (change ∷ rest) = NoneFlushed rest
 
 none_by : (step : StepValue) (answer : Result Answer Refusal) (more : List StoreChange) → NoneFlushed more → NoneFlushed (changes_by step answer ++ more)
 none_by (asked.Seal filled) (Ok (answers.Sealed id)) more none = none

@@ -21,7 +21,7 @@ use std::alloc::Global;
 use store_core::{Core, HasState};
 use summary_vector::NoSummary;
 
-/// Begins a collection, makes all of its steps, and writes how many containers were given back.
+/// Begins a collection, makes all of its steps, and writes how many containers were given back and how many segments copied.
 pub(crate) fn collect_all<C: HasState, K: Sink>(
     alloc: Global,
     core: &mut C,

@@ -142,7 +142,7 @@ free_more (suc slot) (None ∷ cs) = omega (arith, free_more slot cs)
 free_more (suc slot) (Some h ∷ cs) = free_more slot cs
 
 -- no container of copies is written
-abbrev NoneFlushed : List StoreChange → Type 0
+abbrev pub NoneFlushed : List StoreChange → Type 0
 NoneFlushed [] = Unit {0}
 NoneFlushed (FlushContainer id kind segments ∷ rest) = ⊥
 NoneFlushed (change ∷ rest) = NoneFlushed rest

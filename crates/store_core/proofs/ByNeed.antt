@@ -41,6 +41,7 @@ use Rattle.store_model.specs.Collisions.{HasNoCollisions, ByteSet, IsIn}
 use Rattle.store_model.specs.Files.{Stored}
 use Rattle.store_model.specs.Image.{Store}
 use Rattle.store_model.specs.Indexing.{entry_key}
+use Rattle.store_model.specs.Needed.{IsNeededCopy, Needs, SumsNeeded}
 use Rattle.store_model.specs.Reserve.{IsReachable}
 use Rattle.store_model.specs.Slots.{Copy, DifferentIds, HasKey, IsPartialIndexOf, ids_of as ids_held, newest, place_of}
 use Rattle.store_model.specs.Standing.{IsStoreOf}
@@ -50,7 +51,7 @@ use Rattle.store_model.proofs.Sound.{last_within}
 use Rattle.store_state.specs.Invariant.{CoreInvariant}
 use Rattle.store_state.specs.declared.tables.Tables.{Tables}
 use Rattle.store_core.specs.Bounds.{IsNoEnd, NoneEnds, starts}
-use Rattle.store_core.specs.Chosen.{Chooses, CollectsByNeed, IsChosen, IsLittle, IsNeededCopy, Needs, SumsNeeded}
+use Rattle.store_core.specs.Chosen.{Chooses, CollectsByNeed, IsChosen, IsLittle}
 use Rattle.store_core.specs.Collecting.{Begins, GcRow, HasEnded}
 use Rattle.store_core.specs.Core.{Steps}
 use Rattle.store_core.specs.Finished.{Collected, copied_keys}

@@ -1,17 +1,15 @@
 -- Which containers a collection that ran alone gave back and copied from, by what files need (docs/MODEL.md, 'The core').
-use Rattle.std.specs.Prelude.{◌≡◌, ◌⊎◌, ℕ, ◌+◌, ◌*◌, ◌<◌, List, [], ◌∷◌, Contains, Option, Some, option_map, slice_get}
+use Rattle.std.specs.Prelude.{◌≡◌, ◌⊎◌, ℕ, ◌*◌, ◌<◌, List, Contains, Option, Some, slice_get}
 use Rattle.std.specs.List.{IsDistinct}
 use Rattle.std.specs.Str.{bytes_eq}
-use Rattle.container_meta.specs.declared.entry.Entry.{Entry}
-use Rattle.container_meta.specs.declared.kind.Kind.{Kind}
 use Rattle.container_meta.specs.Spelling.{HeaderValue, bytes_of}
 use Rattle.gc_steps.specs.Roots.{IsActorKey}
 use Rattle.store_model.specs.Collisions.{HasNoCollisions, ByteSet, IsIn}
 use Rattle.store_model.specs.Files.{Stored}
 use Rattle.store_model.specs.Image.{Store}
-use Rattle.store_model.specs.Indexing.{entry_key}
+use Rattle.store_model.specs.Needed.{Needs}
 use Rattle.store_model.specs.Reserve.{IsReachable}
-use Rattle.store_model.specs.Slots.{Copy, newest, place_of}
+use Rattle.store_model.specs.Slots.{Copy, newest}
 use Rattle.store_model.specs.Steps.{StoreChange}
 use Rattle.store_core.specs.Bounds.{starts}
 use Rattle.store_core.specs.Core.{CoreStep}
@@ -20,27 +18,11 @@ use Rattle.store_core.specs.Releases.{AreGcSteps, HasCollected, ends_with}
 use Rattle.store_core.specs.Runs.{FileRun, FileEvent, IsAt}
 use Rattle.store_core.specs.State.{CoreState}
 
--- ---- how much of a container is needed: of the keys of which P holds
-
--- the entry is the newest copy of such a key
-abbrev pub IsNeededCopy : (List ℕ → Type 0) → List (Option HeaderValue) → Kind → ℕ → Entry → Type 0
-IsNeededCopy P held kind slot e =
-    P (entry_key kind e) × (option_map (λ c. c.place) (newest 0 held (entry_key kind e)) ≡ Some (place_of slot e))
-
--- the sum of the lengths of those entries that are
-abbrev pub SumsNeeded : (List ℕ → Type 0) → List (Option HeaderValue) → Kind → ℕ → List Entry → ℕ → Type 0
-SumsNeeded P held kind slot [] sum = sum ≡ 0
-SumsNeeded P held kind slot (e ∷ es) sum =
-    (IsNeededCopy P held kind slot e × ((rest : ℕ) × (sum ≡ e.length + rest) × SumsNeeded P held kind slot es rest))
-    ⊎ ((¬ (IsNeededCopy P held kind slot e)) × SumsNeeded P held kind slot es sum)
+-- ---- which containers
 
 -- less of a container than the percentage is needed, or nothing is
 abbrev pub IsLittle : (percent needed all : ℕ) → Type 0
 IsLittle percent needed all = (needed * 100 < percent * all) ⊎ (needed ≡ 0)
-
--- so many bytes of the container in the slot are needed
-abbrev pub Needs : (List ℕ → Type 0) → List (Option HeaderValue) → ℕ → HeaderValue → ℕ → Type 0
-Needs P held slot h needed = SumsNeeded P held h.kind slot h.entries needed
 
 -- of the container in the slot little is needed
 pub record IsChosen (P : List ℕ → Type 0) (percent : ℕ) (held : List (Option HeaderValue)) (slot : ℕ) : Type 0 where

@@ -4,6 +4,7 @@ pub mod Freeing
 pub mod Image
 pub mod Indexing
 pub mod Journal
+pub mod Needed
 pub mod Refusals
 pub mod Reserve
 pub mod Slots

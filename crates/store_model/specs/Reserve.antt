@@ -1,5 +1,5 @@
 -- Which containers may be given back, and what reserve of slots an image has (docs/MODEL.md, 'The reserve').
-use Rattle.std.specs.Prelude.{◌≡◌, ◌≢◌, ◌⊎◌, ◌<◌, ℕ, List, [], ◌∷◌, ◌++◌, slice_get, Bool, Option, option_map, Some, None}
+use Rattle.std.specs.Prelude.{◌≡◌, ◌≢◌, ◌⊎◌, ◌<◌, ℕ, List, [], ◌∷◌, ◌++◌, slice_get, Bool, Option, Some, None}
 use Rattle.std.specs.FinMap as finite
 use Rattle.std.specs.List.{AllByRecursion, Contains, list_any}
 use Rattle.std.specs.Str.{bytes_eq}
@@ -8,8 +8,8 @@ use Rattle.merkle_file.specs.Tree as tree
 use Rattle.merkle_file.specs.Tree.{Tree, Trees}
 use Rattle.merkle_file.specs.Walk.{contents_of}
 use Rattle.store_model.specs.Files.{Files}
-use Rattle.store_model.specs.Indexing.{entry_key}
-use Rattle.store_model.specs.Slots.{Copy, newest, place_of}
+use Rattle.store_model.specs.Needed.{IsNeededCopy}
+use Rattle.store_model.specs.Slots.{Copy, newest}
 use Rattle.store_model.specs.Trees.{HoldsTree, file_tree, leaf_key, node_key}
 
 -- ---- what files need
@@ -47,8 +47,7 @@ IsReachable files key =
 -- and of each such key there is a copy.
 pub record HoldsJustNeeded (files : Files) (held : List (Option HeaderValue)) : Type 0 where
   pub each : (slot : ℕ) (h : HeaderValue) → slice_get held slot ≡ Some (Some h)
-      → AllByRecursion (λ e. IsReachable files (entry_key h.kind e)
-      × (option_map (λ c. c.place) (newest 0 held (entry_key h.kind e)) ≡ Some (place_of slot e))) h.entries
+      → AllByRecursion (IsNeededCopy (IsReachable files) held h.kind slot) h.entries
   pub all : (key : List ℕ) → IsReachable files key → (copy : Copy) × (newest 0 held key ≡ Some copy)
 
 -- ---- slots, by the keys that are needed: those of which P holds

@@ -18,6 +18,7 @@ pub mod JustNeeded
 pub mod KeepingFiles
 pub mod KeepingSegments
 pub mod Leading
+pub mod KeyFates
 pub mod LoneRun
 pub mod Making
 pub mod MakingGc
@@ -28,6 +29,7 @@ pub mod OwnParts
 pub mod RunningOn
 pub mod Releasing
 pub mod RecordedAll
+pub mod RecordedSums
 pub mod Reserves
 pub mod Rooms
 pub mod SafeSteps

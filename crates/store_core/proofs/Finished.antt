@@ -21,7 +21,7 @@ use Rattle.container_meta.specs.Segments.{Segment, has_key, keys_of}
 use Rattle.dd_disk.specs.View.{IsLater}
 use Rattle.gc_enumerate.specs.Live.{IsLiveAt, LiveKeys}
 use Rattle.gc_select.specs.declared.liveness.ContainerLiveness.{ContainerLiveness}
-use Rattle.gc_select.specs.Selecting.{selected, sources_of, ids_of}
+use Rattle.gc_select.specs.Selecting.{IsSelectedId, selected, sources_of, ids_of}
 use Rattle.gc_steps.specs.declared.collection.Collection.{Collection}
 use Rattle.gc_steps.specs.declared.collection.Stage.{Stage}
 use Rattle.gc_steps.specs.declared.collection.Stage.TheVariants.{Filter, Mark, Select, Sweep as SweepStage}
@@ -57,6 +57,7 @@ use Rattle.store_core.specs.Releases.{AreGcSteps, copied_in, ends_with, freed_in
 use Rattle.store_core.specs.Runs.{AreChangesBy, AreChangesOf, ChangesTo, FileEvent, FileRun, FileStep, IsAt, IsNoGcStep, IsSafeIn, changes_by, events_of, stored_after, stored_by, stored_with}
 use Rattle.store_core.specs.State.{CoreState, Event, IsUnderWayIn}
 use Rattle.store_core.proofs.AnySteps.{any_step, changes_only, gc_or_not, with_step}
+use Rattle.store_core.proofs.CopiedFrom.{CopiesAllFrom, CopiesFrom, from_left, from_made, from_then, source_first}
 use Rattle.store_core.proofs.CopiesOnce.{HoldsNewer, IsNoneOf, distinct_then, keys_then, listed_found, newer_on, none_listed, not_old}
 use Rattle.store_core.proofs.CoreRuns.{running_step, was_running}
 use Rattle.store_core.proofs.Counted.{Counts, CountsOn, IsQuiet, changed_by, counts_none, counts_same, counts_step, counts_then, refused_live, unwritten}
@@ -162,6 +163,7 @@ pub record Goes (among : ByteSet) (f : FileEvent) (b : Collection) (s : Store) (
   pub records : Records s b a
   pub recorded_on : RecordsOn (IsIn among) old s.held b a
   pub fates : KeepsFates changes b a s store old new
+  pub from : CopiesFrom changes b a s store old new
   pub once : IsDistinct bytes_eq (copied_keys changes)
   pub others : (key : List ℕ) → IsSettled s b key → IsNoneOf (copied_keys changes) key × IsSettled store a key
   pub settles : (key : List ℕ) → listed (copied_keys changes) key ≡ true → IsSettled store a key
@@ -293,6 +295,7 @@ module _ (among : ByteSet) (distinct : HasNoCollisions (IsIn among)) (f : FileEv
     records = records_same s b (record b { live = on.0 }) refl refl;
     recorded_on = inl refl;
     fates = fates_left changes b on.0 s t old new keys (adds []).sweeps;
+    from = from_left changes b on.0 s t old new keys (adds []).sweeps (adds []).no_keys;
     once = subst (IsDistinct bytes_eq) (sym (adds []).no_keys) none_distinct;
     others = λ key settled. (
       subst (λ (keys : List (List ℕ)). IsNoneOf keys key) (sym (adds []).no_keys) tt,
@@ -498,6 +501,7 @@ module _ (among : ByteSet) (distinct : HasNoCollisions (IsIn among)) (f : FileEv
               records = records_by goes.after b.stage b.sweep.next refl steps_here;
               recorded_on = records_on among s stored old new at b goes.after ran b.stage b.sweep.next refl under.stage_is steps_here;
               fates = fates_made among s stored old new at t b goes.after under made.id (holds_at image told) steps_here led_here;
+              from = from_made among s stored old new at t b goes.after under made.id (holds_at image told) steps_here led_here;
               once = keys.once;
               others = λ key was. (
                 keys.others key was,
@@ -573,6 +577,7 @@ module _ (C : Type 0) (state : C → CoreState) where
     recorded_still : b.stage ≡ SweepStage → c.liveness ≡ b.liveness
     records : RecordsAll C state (IsIn among) steps mid new run s.held b c
     fates : KeepsFates changes b c s store (state mid) (state new)
+    from : CopiesAllFrom changes b c s (state mid)
     once : IsDistinct bytes_eq (copied_keys changes)
     others : (key : List ℕ) → IsSettled s b key → IsNoneOf (copied_keys changes) key
     along : (before : List StoreChange) → AreGcSteps steps → Inv before b s stored (state mid) → Inv (before ++ changes) c store (stored_after steps stored) (state new)
@@ -597,6 +602,7 @@ module _ (C : Type 0) (state : C → CoreState) where
         recorded_still = λ stage. ap (λ (x : Collection). x.liveness) same;
         records = record { more = []; adds = ap (λ (x : Collection). x.liveness) same ∙ sym (append-nil b.liveness); each = tt; low = tt };
         fates = fates_none b c s (state mid) (state new) same (ap (λ (x : C). (state x).known) run);
+        from = λ index key index_is there. absurd (omega (arith, there.1));
         once = none_distinct;
         others = λ key settled. tt;
         along = λ before all inv.
@@ -636,6 +642,10 @@ module _ (C : Type 0) (state : C → CoreState) where
         records = records_then C state (IsIn among) f fs mid new run b one.a c c.sweep.sources.items one.changes s one.store one.keeps.snapshot_is
             (one.sweeps c.sweep.sources.items (λ stage. (keeps.chosen stage).1)) one.recorded_on rest.records;
         fates = fates_then one.changes rest.changes b one.a c s one.store rest.store (state mid) (state run.0) (state new) one.is_at.index one.is_at.index_known one.fates rest.fates;
+        from = from_then one.changes rest.changes b one.a c s one.store (state mid) (state run.0) one.is_at.index one.is_at.index_known
+            (one.is_at.invariant one.is_at.stands.known.0 one.is_at.stands.known.1).index_is_newest keeps.snapshot_is (λ stage. (keeps.chosen stage).1) c.sweep.sources.items
+            (subst (λ (n : ℕ). Sweeps n c.sweep.sources.items one.changes s one.store) (sym keeps.snapshot_is) (one.sweeps c.sweep.sources.items (λ stage. (keeps.chosen stage).1)))
+            one.from rest.from;
         once = subst (IsDistinct bytes_eq) (sym (keys_then one.changes rest.changes))
             (distinct_then (copied_keys one.changes) (copied_keys rest.changes) one.once rest.once (λ key has. rest.others key (one.settles key has)));
         others = λ key settled.
@@ -734,6 +744,10 @@ module _ (C : Type 0) (state : C → CoreState) where
                   | inr out ↦ absurd (out.dead live)
                 ]
               ];
+          from_sources = λ key there. elim (all.from begun_at.index key begun_at.index_known there) [
+            | inl filled ↦ absurd (no_key b.sweep.buffer key row_first.nothing_yet.1.empty filled)
+            | inr from ↦ source_first (IsIn among) s stored (state begun) begun_at key c.snapshot c.sweep.sources.items (IsSelectedId snapshot percent c.liveness) (λ id. (which id).0) from
+          ];
           freed_is =
               let counted : IsCounted c.sweep = all.counted (begun_counted (state old).tables.held [] b.sweep row_first.nothing_yet.1) in
               omega (arith, counted, row.freed_is, ap (sources_before c.sweep) row.at_end.1, ap length (sweeping.waits has.1), ap length has.0);

@@ -75,7 +75,7 @@ use Rattle.store_core.proofs.SparedRest.{same_some}
 -- ---- keys
 
 -- the key is that of one of the segments, or of none
-tells : (kind : Kind) (segments : List Segment) (key : List ℕ)
+pub tells : (kind : Kind) (segments : List Segment) (key : List ℕ)
     → Contains (map (segment_key kind) segments) key ⊎ ((listed (map (segment_key kind) segments) key ≡ false) × AllByRecursion (λ s. segment_key kind s ≢ key) segments)
 tells kind [] key = inr (refl, tt)
 tells kind (x ∷ xs) key = by_test (bytes_eq (segment_key kind x) key) refl (tells kind xs key)

@@ -3,6 +3,7 @@ pub mod Bounded
 pub mod ByNeed
 pub mod CheckedReads
 pub mod Committing
+pub mod CopiedFrom
 pub mod CopiesOnce
 pub mod CoreRuns
 pub mod Counted

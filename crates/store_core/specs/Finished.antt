@@ -139,6 +139,9 @@ pub record Collected (C : Type 0) (state : C → CoreState) (S : List ℕ → Ty
   pub all_copied : (key : List ℕ) (copy : Copy) (h : HeaderValue) → newest 0 s.held key ≡ Some copy
       → slice_get s.held copy.place.slot ≡ Some (Some h) → IsSelectedId snapshot percent collection.liveness h.id
       → IsLiveAt collection.live key copy.place → Contains (copied_keys changes) key ⊎ Contains (sealed_keys changes) key
+  -- And each key that was copied had its newest copy in such a container then.
+  pub from_sources : (key : List ℕ) → Contains (copied_keys changes) key → (copy : Copy) × ((newest 0 s.held key ≡ Some copy)
+      × ((h : HeaderValue) × ((slice_get s.held copy.place.slot ≡ Some (Some h)) × IsSelectedId snapshot percent collection.liveness h.id)))
   -- It answered how many sources there were, each of which was given back, and how many segments those containers have that it wrote.
   pub freed_is : freed ≡ length collection.sweep.sources.items
   pub given_back : freed ≡ freed_in changes

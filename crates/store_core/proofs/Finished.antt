@@ -1,6 +1,6 @@
 -- What a collection has done once it has ended, whatever steps of others came between its own.
 use Rattle.std.proofs.Common.{◌≡◌, inl, inr, ℕ, ◌<◌, ◌≤◌, true, false, List, [], ◌∷◌, ◌++◌, append-nil, append_assoc, length, get_or, Option, Some, None, Result, Ok, Err, Vec, Global, refl, sym, ◌∙◌, ap, subst, arith, ◌⊎◌, ◌+◌}
-use Rattle.store_core.proofs.KeyFates.{KeepsFates, KeepsKeys, fates_left, fates_made, fates_none, fates_then, keys_other, keys_same, lies_first, none_selected, refused_unmarked}
+use Rattle.store_core.proofs.KeyFates.{KeepsFates, KeepsKeys, fates_left, fates_made, fates_none, fates_then, keys_other, keys_same, lies_first, none_selected, refused_unmarked, written_at_end}
 use Rattle.store_core.proofs.RecordedAll.{old_same}
 use Rattle.store_core.proofs.RecordedSums.{RecordsAll, RecordsOn, records_on, records_then}
 use Rattle.disk_format.specs.declared.numbers.TheConstants.{MOST_LEVEL}
@@ -737,13 +737,8 @@ module _ (C : Type 0) (state : C → CoreState) where
           copies = all.copies;
           once = all.once;
           all_copied = λ key copy h copy_is there is_selected live.
-              elim (all.fates begun_at.index all.is_at.index key copy.place h begun_at.index_known all.is_at.index_known (lies_from key copy h copy_is there)) [
-                | inl written ↦ written
-                | inr lies ↦ elim lies [
-                  | inl still ↦ absurd (gone copy.place.slot h still.1 is_selected)
-                  | inr out ↦ absurd (out.dead live)
-                ]
-              ];
+              written_at_end all.changes b c s all.store (state begun) (state new) begun_at.index all.is_at.index key copy.place h all.fates begun_at.index_known all.is_at.index_known
+              (lies_from key copy h copy_is there) (λ still. gone copy.place.slot h still is_selected) live;
           from_sources = λ key there. elim (all.from begun_at.index key begun_at.index_known there) [
             | inl filled ↦ absurd (no_key b.sweep.buffer key row_first.nothing_yet.1.empty filled)
             | inr from ↦ source_first (IsIn among) s stored (state begun) begun_at key c.snapshot c.sweep.sources.items (IsSelectedId snapshot percent c.liveness) (λ id. (which id).0) from

@@ -501,6 +501,17 @@ module _ (S : List ℕ → Type 0) (s : Store) (stored : Stored) (core : CoreSta
 
 -- ---- as it ends
 
+-- a key that is live, and lay in a container that stands no more, was written
+pub written_at_end : (changes : List StoreChange) (b c : Collection) (s t : Store) (old new : CoreState) (index later : PlaceMap) (key : List ℕ) (place : Place) (h : HeaderValue) → KeepsFates changes b c s t old new
+    → old.known ≡ Some index → new.known ≡ Some later → Lies index s.held b key place h → (slice_get t.held place.slot ≡ Some (Some h) → ⊥) → IsLiveAt c.live key place → IsWritten changes key
+written_at_end changes b c s t old new index later key place h fates index_is later_is lies gone is_live = elim (fates index later key place h index_is later_is lies) [
+  | inl written ↦ written
+  | inr now ↦ elim now [
+    | inl still ↦ absurd (gone still.1)
+    | inr out ↦ absurd (out.dead is_live)
+  ]
+]
+
 -- no container of a selected id stands
 pub none_selected : (snapshot percent : ℕ) (c : Collection) (t : SlotTable) (index : PlaceMap) (held : List (Option HeaderValue)) (image : List ℕ) → c.sweep.sources.items ≡ sources_of (selected snapshot percent c.liveness)
     → IsSweeping t c.snapshot c.sweep → c.sweep.next ≡ End → HoldsSweep index held image c.live c.snapshot c.sweep → (slot : ℕ) (h : HeaderValue) → slice_get held slot ≡ Some (Some h)

@@ -1,15 +1,11 @@
 -- Which containers a collection that ran alone gave back and copied from, by what files need.
-use Rattle.std.proofs.Common.{◌≡◌, ◌⊎◌, inl, inr, ℕ, zero, suc, ◌*◌, ◌<◌, ◌≤◌, Bool, true, false, List, [], ◌∷◌, length, get_or, Option, Some, None, Result, Ok, refl, sym, ◌∙◌, ap, subst, arith}
+use Rattle.std.proofs.Common.{◌≡◌, ◌⊎◌, inl, inr, ℕ, zero, suc, ◌*◌, ◌<◌, ◌≤◌, Bool, true, false, List, [], ◌∷◌, length, get_or, Option, Some, None, refl, sym, ◌∙◌, ap, subst, arith}
 use Rattle.std.specs.Prelude.{◌||◌, ◌==◌, nat_lt, filter, if◌then◌else◌, slice_get, Contains}
 use Rattle.std.specs.List.{AllByRecursion}
 use Rattle.std.specs.Str.{bytes_eq}
 use Rattle.std.proofs.lemmas.Bool.{eq-eqb, eqb-true, lt-ltb, ltb-true}
 use Rattle.std.proofs.lemmas.Bool.Decides.{eqb_tells, leb_tells}
 use Rattle.std.proofs.lemmas.Slice.Eq.{bytes_eq-Decides}
-use Rattle.actor_parts.specs.declared.step.Answer.{Answer}
-use Rattle.actor_parts.specs.declared.step.Answer.TheVariants as answers
-use Rattle.actor_parts.specs.StepValue as asked
-use Rattle.actor_parts.specs.StepValue.{StepValue}
 use Rattle.base_model.proofs.Checks.{both, both_true}
 use Rattle.container_meta.specs.declared.entry.Entry.{Entry}
 use Rattle.container_meta.specs.declared.kind.Kind.{Kind}
@@ -36,8 +32,7 @@ use Rattle.gc_sweep.specs.Holding.{IsLive}
 use Rattle.gc_sweep.specs.UnderWay.{is_old}
 use Rattle.gc_sweep.proofs.InSlots.{at_copy, copy_at, copy_of, id_at, live_anywhere, of_each, one_header, one_slot}
 use Rattle.gc_sweep.proofs.KeyLists.{listed, listed_left, listed_one, listed_right}
-use Rattle.refusals.specs.declared.refusal.Refusal.{Refusal}
-use Rattle.store_model.specs.Collisions.{HasNoCollisions, ByteSet, IsIn}
+use Rattle.store_model.specs.Collisions.{ByteSet, IsIn}
 use Rattle.store_model.specs.Files.{Stored}
 use Rattle.store_model.specs.Image.{Store}
 use Rattle.store_model.specs.Indexing.{entry_key}
@@ -50,22 +45,21 @@ use Rattle.store_model.proofs.Copies.{headers_of_right, some_same}
 use Rattle.store_model.proofs.Sound.{last_within}
 use Rattle.store_state.specs.Invariant.{CoreInvariant}
 use Rattle.store_state.specs.declared.tables.Tables.{Tables}
-use Rattle.store_core.specs.Bounds.{IsNoEnd, NoneEnds, starts}
+use Rattle.store_core.specs.Bounds.{starts}
 use Rattle.store_core.specs.Chosen.{Chooses, CollectsByNeed, IsChosen, IsLittle}
-use Rattle.store_core.specs.Collecting.{Begins, GcRow, HasEnded}
+use Rattle.store_core.specs.Collecting.{Begins, HasEnded}
 use Rattle.store_core.specs.Core.{Steps}
 use Rattle.store_core.specs.Finished.{Collected, copied_keys}
-use Rattle.store_core.specs.Releases.{AreGcSteps, ends_with}
-use Rattle.store_core.specs.Runs.{ChangesTo, FileEvent, FileRun, IsAt, IsSafeIn, events_of, stored_after, stored_by, stored_with}
+use Rattle.store_core.specs.Releases.{ends_with}
+use Rattle.store_core.specs.Runs.{ChangesTo, FileEvent, FileRun, IsAt, IsSafeIn, stored_after}
 use Rattle.store_core.specs.State.{CoreState}
-use Rattle.store_core.proofs.AnySteps.{any_step, with_step}
+use Rattle.store_core.proofs.AnySteps.{any_step}
 use Rattle.store_core.proofs.CoreRuns.{running_step, was_running}
 use Rattle.store_core.proofs.Finished.{CollectedSo, collects_so, ended_runs}
 use Rattle.store_core.proofs.KeepingFiles.{run_running}
 use Rattle.store_core.proofs.LoneRun.{IsAlone, alone_kept}
-use Rattle.store_core.proofs.Releasing.{after, leads}
 use Rattle.store_core.proofs.SparedRest.{begun_spares, same_some}
-use Rattle.store_core.proofs.Tallied.{idle_run}
+use Rattle.store_core.proofs.Tallied.{none_ended, stored_same}
 
 -- ---- lists
 
@@ -237,38 +231,7 @@ module _ (P : List ℕ → Type 0) (index : PlaceMap) (held : List (Option Heade
 
 -- ---- steps, one after the other
 
-stored_same : (steps : List FileEvent) (stored : Stored) → AreGcSteps steps → stored_after steps stored ≡ stored
-stored_same [] stored all = refl
-stored_same (f ∷ fs) stored all =
-    stored_same fs (stored_by f stored) all.1 ∙ ap (λ (st : StepValue). stored_with st f.event.answer f.bytes stored) all.0
-
 module _ (C : Type 0) (state : C → CoreState) where
-  -- where one runs at the end, none ended
-  none_ended : (among : ByteSet) (steps : List FileEvent) (s : Store) (stored : Stored) (mid new : C) (c : Collection) → HasNoCollisions (IsIn among) → IsAt (IsIn among) s stored (state mid)
-      → FileRun C state (IsIn among) steps mid new → AreGcSteps steps → (state new).stop ≡ None → (state new).collection ≡ Some c → NoneEnds (events_of steps)
-  none_ended among [] s stored mid new c distinct at run all stays runs = tt
-  none_ended among (f ∷ fs) s stored mid new c distinct at run all stays runs =
-      (by_answer f.event.answer made.made.row, none_ended among fs t stored run.0 new c distinct now run.1.1 all.1 stays runs)
-    where
-      on : (state run.0).stop ≡ None
-      on = run_running C state among fs run.0 new run.1.1 stays
-
-      t : Store
-      t = (leads among distinct f s stored (state mid) (state run.0) all.0 run.1.0 at on).next.store
-
-      now : IsAt (IsIn among) t stored (state run.0)
-      now = after among distinct f s stored (state mid) (state run.0) all.0 run.1.0 at on
-
-      made : Steps (with_step f asked.GcStep).event (state mid) (state run.0)
-      made =
-          subst (λ (st : StepValue). Steps (with_step f st).event (state mid) (state run.0)) all.0
-          (running_step (state mid) (state run.0) f.event (was_running (state mid).stop f.event (state mid) (state run.0) refl run.1.0.made on) run.1.0.made)
-
-      by_answer : (answer : Result Answer Refusal) → GcRow answer (state mid) (state run.0) → IsNoEnd answer
-      by_answer (Ok (answers.Done freed copied)) row =
-          absurd (let wrong : None ≡ Some c = sym (idle_run C state among fs t stored run.0 new distinct now run.1.1 all.1 stays row.0.ended) ∙ runs in cc)
-      by_answer answer row = tt
-
   -- what the whole made of the store it began at
   module _ (among : ByteSet) (percent snapshot freed copied : ℕ) (steps : List FileEvent) (s : Store) (stored : Stored) (old begun new last : C) (run : FileRun C state (IsIn among) steps begun new)
       (at : IsAt (IsIn among) s stored (state begun)) (began : Begins percent snapshot (state old) (state begun)) (tables : (state begun).tables ≡ (state old).tables)
@@ -408,7 +371,7 @@ module _ (C : Type 0) (state : C → CoreState) where
       let row : HasEnded freed copied (state new) (state last) = ends.made.row.0 in
       let so : CollectedSo C state among (IsAlone among s here.index) percent snapshot freed copied steps s stored begun new last run =
       collects_so C state among (IsAlone among s here.index) (alone_kept among s here.index) actor last_actor percent snapshot freed copied buf last_buf steps s stored old begun new last distinct at began run
-      (none_ended among steps s stored begun new row.before distinct here run all stays row.ran) ended in
+      (none_ended C state among steps s stored begun new row.before distinct here run all stays row.ran) ended in
       let did = so.collected in
       let same : stored_after steps stored ≡ stored = stored_same steps stored all in
       let early : IsToChoose b.stage = subst IsToChoose (sym row_first.stage_is) (level_early b.snapshot (state old).tables.held MOST_LEVEL) in

@@ -160,11 +160,3 @@ refused_live old new b SweepStage (Copy source entry) refusal a keeps = (b.live,
 refused_live old new b SweepStage (Flush source entry) refusal a keeps = (b.live, keeps.0)
 refused_live old new b SweepStage (Release source entry) refusal a keeps = (b.live, keeps)
 refused_live old new b SweepStage End refusal a keeps = (b.live, keeps.0)
-
-pub counts_refused : (old new : CoreState) (b a : Collection) (refusal : Refusal) → IsQuiet b → Keeps b.stage b.sweep.next (at_moment old b) (at_moment new a) refusal → Counts [] b a
-counts_refused old new b a refusal quiet keeps =
-    let live = refused_live old new b b.stage b.sweep.next refusal a keeps in
-    record {
-      on = counts_same b.sweep a.sweep (ap (λ (x : Collection). x.sweep) live.1);
-      quiet = λ now. subst (λ (x : Collection). CountsNone x.sweep) (sym live.1) (quiet (subst IsToChoose (ap (λ (x : Collection). x.stage) live.1) now));
-    }

@@ -1,6 +1,8 @@
 -- What a collection has done once it has ended, whatever steps of others came between its own.
 use Rattle.std.proofs.Common.{◌≡◌, inl, inr, ℕ, ◌<◌, ◌≤◌, true, false, List, [], ◌∷◌, ◌++◌, append-nil, append_assoc, length, get_or, Option, Some, None, Result, Ok, Err, Vec, Global, refl, sym, ◌∙◌, ap, subst, arith, ◌⊎◌, ◌+◌}
+use Rattle.store_core.proofs.KeyFates.{KeepsFates, KeepsKeys, fates_left, fates_made, fates_none, fates_then, keys_other, keys_same, lies_first, none_selected, refused_unmarked, written_at_end}
 use Rattle.store_core.proofs.RecordedAll.{old_same}
+use Rattle.store_core.proofs.RecordedSums.{RecordsAll, RecordsOn, records_on, records_then}
 use Rattle.disk_format.specs.declared.numbers.TheConstants.{MOST_LEVEL}
 use Rattle.gc_steps.specs.Stages.{first_slot, is_old_slot}
 use Rattle.container_meta.specs.Spelling.{HeaderValue, header_of}
@@ -17,8 +19,9 @@ use Rattle.actor_parts.specs.StepValue.{StepValue}
 use Rattle.container_meta.specs.declared.kind.Kind.{Kind}
 use Rattle.container_meta.specs.Segments.{Segment, has_key, keys_of}
 use Rattle.dd_disk.specs.View.{IsLater}
-use Rattle.gc_enumerate.specs.Live.{LiveKeys}
-use Rattle.gc_select.specs.Selecting.{selected, sources_of, ids_of}
+use Rattle.gc_enumerate.specs.Live.{IsLiveAt, LiveKeys}
+use Rattle.gc_select.specs.declared.liveness.ContainerLiveness.{ContainerLiveness}
+use Rattle.gc_select.specs.Selecting.{IsSelectedId, selected, sources_of, ids_of}
 use Rattle.gc_steps.specs.declared.collection.Collection.{Collection}
 use Rattle.gc_steps.specs.declared.collection.Stage.{Stage}
 use Rattle.gc_steps.specs.declared.collection.Stage.TheVariants.{Filter, Mark, Select, Sweep as SweepStage}
@@ -35,7 +38,7 @@ use Rattle.gc_sweep.specs.declared.sweep.Next.{Next}
 use Rattle.gc_sweep.specs.declared.sweep.Next.TheVariants.{Copy, Flush, Release, End}
 use Rattle.gc_sweep.specs.InTurn.{slot_in_turn}
 use Rattle.gc_sweep.specs.UnderWay.{HasNext, IsSweeping, sources_before}
-use Rattle.gc_sweep.proofs.Holds.{no_key, none_left}
+use Rattle.gc_sweep.proofs.Holds.{no_key}
 use Rattle.gc_sweep.proofs.KeyLists.{each_so, listed, none_distinct}
 use Rattle.refusals.specs.declared.refusal.Phase.{Phase}
 use Rattle.refusals.specs.declared.refusal.Refusal.{Refusal}
@@ -48,12 +51,13 @@ use Rattle.store_model.specs.Steps.{StoreChange, SealContainer, ChangeName, Flus
 use Rattle.store_core.specs.declared.stop.Stop.{Stop}
 use Rattle.store_core.specs.Bounds.{IsNoEnd, NoneEnds, starts}
 use Rattle.store_core.specs.Collecting.{Begins, Collects, GcEffect, GcRow, GoesOn, HasEnded, IsKeptKey, IsNotMade, MarksIn, StartRow, TouchesBy, at_moment}
-use Rattle.store_core.specs.Core.{CoreStep, Row, Steps, StepsOr, next_id}
-use Rattle.store_core.specs.Finished.{AreCopiesOf, Collected, CollectsInAll, IsOfCopies, WereCopies, copied_keys}
+use Rattle.store_core.specs.Core.{CoreStep, Row, Steps, StepsOr, StopsAfter, next_id}
+use Rattle.store_core.specs.Finished.{AreCopiesOf, Collected, CollectsInAll, IsOfCopies, WasRecorded, WereCopies, copied_keys}
 use Rattle.store_core.specs.Releases.{AreGcSteps, copied_in, ends_with, freed_in}
 use Rattle.store_core.specs.Runs.{AreChangesBy, AreChangesOf, ChangesTo, FileEvent, FileRun, FileStep, IsAt, IsNoGcStep, IsSafeIn, changes_by, events_of, stored_after, stored_by, stored_with}
 use Rattle.store_core.specs.State.{CoreState, Event, IsUnderWayIn}
 use Rattle.store_core.proofs.AnySteps.{any_step, changes_only, gc_or_not, with_step}
+use Rattle.store_core.proofs.CopiedFrom.{CopiesAllFrom, CopiesFrom, from_left, from_made, from_then, source_first}
 use Rattle.store_core.proofs.CopiesOnce.{HoldsNewer, IsNoneOf, distinct_then, keys_then, listed_found, newer_on, none_listed, not_old}
 use Rattle.store_core.proofs.CoreRuns.{running_step, was_running}
 use Rattle.store_core.proofs.Counted.{Counts, CountsOn, IsQuiet, changed_by, counts_none, counts_same, counts_step, counts_then, refused_live, unwritten}
@@ -62,7 +66,7 @@ use Rattle.store_core.proofs.Frames.{first_with}
 use Rattle.store_core.proofs.GcSteps.{phase_of}
 use Rattle.store_core.proofs.KeepingFiles.{chain_on, run_running}
 use Rattle.store_core.proofs.Leading.{Leads}
-use Rattle.store_core.proofs.SparedRest.{led_to, same_some}
+use Rattle.store_core.proofs.SparedRest.{led_to, refused_known, same_some}
 
 -- what one container of copies was, another may be called
 copies_so : (P Q : Kind → List Segment → Type 0) → ((kind : Kind) (segments : List Segment) → P kind segments → Q kind segments) → (change : StoreChange) → IsOfCopies P change → IsOfCopies Q change
@@ -157,6 +161,9 @@ pub record Goes (among : ByteSet) (f : FileEvent) (b : Collection) (s : Store) (
   pub keeps : KeepsOn b a
   pub counted : IsCounted b.sweep → IsCounted a.sweep
   pub records : Records s b a
+  pub recorded_on : RecordsOn (IsIn among) old s.held b a
+  pub fates : KeepsFates changes b a s store old new
+  pub from : CopiesFrom changes b a s store old new
   pub once : IsDistinct bytes_eq (copied_keys changes)
   pub others : (key : List ℕ) → IsSettled s b key → IsNoneOf (copied_keys changes) key × IsSettled store a key
   pub settles : (key : List ℕ) → listed (copied_keys changes) key ≡ true → IsSettled store a key
@@ -266,9 +273,9 @@ module _ (among : ByteSet) (distinct : HasNoCollisions (IsIn among)) (f : FileEv
       newer_on b.snapshot b.sweep.sources.items changes s t key (sweeps b.sweep.sources.items (λ stage. refl)) (sources_old settled.sweeps) settled.newer
 
   -- but for its live keys it is as it was
-  unchanged : (changes : List StoreChange) → AreChangesBy f.event.step f.event.answer changes → ChangesTo changes s t → ((sources : List ℕ) → Adds Copies b.snapshot sources changes s t) → Stays old new b ran
-      → (f.event.step ≡ asked.GcStep → IsOfStage b changes) → Goes among f b s stored old new
-  unchanged changes are chain adds on made = record {
+  unchanged : (changes : List StoreChange) → AreChangesBy f.event.step f.event.answer changes → ChangesTo changes s t → ((sources : List ℕ) → Adds Copies b.snapshot sources changes s t)
+      → (on : Stays old new b ran) → KeepsKeys changes b on.0 old new → (f.event.step ≡ asked.GcStep → IsOfStage b changes) → Goes among f b s stored old new
+  unchanged changes are chain adds on keys made = record {
     a = record b { live = on.0 };
     runs = on.1;
     store = t;
@@ -286,6 +293,9 @@ module _ (among : ByteSet) (distinct : HasNoCollisions (IsIn among)) (f : FileEv
     keeps = record { snapshot_is = refl; percent_is = refl; chosen = λ stage. (stage, refl) };
     counted = λ counted. counted;
     records = records_same s b (record b { live = on.0 }) refl refl;
+    recorded_on = inl refl;
+    fates = fates_left changes b on.0 s t old new keys (adds []).sweeps;
+    from = from_left changes b on.0 s t old new keys (adds []).sweeps (adds []).no_keys;
     once = subst (IsDistinct bytes_eq) (sym (adds []).no_keys) none_distinct;
     others = λ key settled. (
       subst (λ (keys : List (List ℕ)). IsNoneOf keys key) (sym (adds []).no_keys) tt,
@@ -304,11 +314,14 @@ module _ (among : ByteSet) (distinct : HasNoCollisions (IsIn among)) (f : FileEv
   other_goes other =
       let steps : Steps f.event old new = running_step old new f.event (was_running old.stop f.event old new refl step.made stays) step.made in
       let same : leads.changes ≡ changes_by f.event.step f.event.answer = changes_only f.event.step f.event.answer leads.changes other leads.changes_are in
+      let on : Stays old new b ran = other_stays old new b ran f.event.actor f.event.buf f.event.step f.event.answer other steps.made.row steps.collects in
       unchanged leads.changes leads.changes_are leads.next.chain
       (λ sources. subst (λ (changes : List StoreChange). Adds Copies b.snapshot sources changes s t) (sym same)
       (adds Copies b.snapshot sources s t old new f.event.actor f.event.buf under.began f.event.step f.event.answer other steps.made.row
       (subst (λ (changes : List StoreChange). ChangesTo changes s t) same leads.next.chain)))
-      (other_stays old new b ran f.event.actor f.event.buf f.event.step f.event.answer other steps.made.row steps.collects)
+      on
+      (subst (λ (changes : List StoreChange). KeepsKeys changes b on.0 old new) (sym same)
+      (keys_other old new b on.0 ran on.1 stays f.event.actor old.acknowledged f.event.buf f.event.step f.event.answer other steps.made.row steps.made.effect steps.collects steps.stops))
       (λ is. absurd (let wrong : ⊥ = subst IsNoGcStep is other in wrong))
 
   -- ---- of a collection
@@ -458,7 +471,8 @@ module _ (among : ByteSet) (distinct : HasNoCollisions (IsIn among)) (f : FileEv
         by_before c same steps phase_is led =
             let steps_here = subst (λ (x : Collection). StepsTo x.stage x.sweep.next (at_moment old x) (at_moment new goes.after)) same steps in
             let phase_here = subst (λ (x : Collection). phase_at x.stage x.sweep.next ≡ phase) same phase_is in
-            let made = makes b.stage b.sweep.next refl (subst (λ (x : Collection). IsStoreAfter x.stage x.sweep.next x.snapshot x.sweep at.index s t at.stands.known.0) same led) in
+            let led_here = subst (λ (x : Collection). IsStoreAfter x.stage x.sweep.next x.snapshot x.sweep at.index s t at.stands.known.0) same led in
+            let made = makes b.stage b.sweep.next refl led_here in
             let changes : List StoreChange = changed_by b.stage b.sweep.next b.sweep made.id in
             let keeps : KeepsOn b goes.after = keeps_step old new b goes.after b.stage b.sweep.next refl steps_here in
             let keys : Keys changes goes.after = keys_by goes.after made.id b.stage b.sweep.next refl steps_here made.chain (made.sweeps b.sweep.sources.items (λ stage. refl)) in
@@ -485,6 +499,9 @@ module _ (among : ByteSet) (distinct : HasNoCollisions (IsIn among)) (f : FileEv
               keeps = keeps;
               counted = here.counted;
               records = records_by goes.after b.stage b.sweep.next refl steps_here;
+              recorded_on = records_on among s stored old new at b goes.after ran b.stage b.sweep.next refl under.stage_is steps_here;
+              fates = fates_made among s stored old new at t b goes.after under made.id (holds_at image told) steps_here led_here;
+              from = from_made among s stored old new at t b goes.after under made.id (holds_at image told) steps_here led_here;
               once = keys.once;
               others = λ key was. (
                 keys.others key was,
@@ -498,25 +515,38 @@ module _ (among : ByteSet) (distinct : HasNoCollisions (IsIn among)) (f : FileEv
             }
 
     -- one was refused
-    refused_goes : (refusal : Refusal) → leads.changes ≡ [] → IsNotMade refusal old new → Goes among f b s stored old new
-    refused_goes refusal none row =
+    unbroken : (refusal : Refusal) → StopsAfter asked.GcStep (Err refusal) old.acknowledged new.stop → refusal ≡ refusals.DiskWrite → ⊥
+    unbroken refusal stops same = broken (subst (λ (r : Refusal). StopsAfter asked.GcStep (Err r) old.acknowledged new.stop) same stops)
+      where
+        broken : StopsAfter asked.GcStep (Err refusals.DiskWrite) old.acknowledged new.stop → ⊥
+        broken stops = let both = sym stays ∙ stops in cc
+
+    refused_goes : (refusal : Refusal) → leads.changes ≡ [] → IsNotMade refusal old new → StopsAfter asked.GcStep (Err refusal) old.acknowledged new.stop → Goes among f b s stored old new
+    refused_goes refusal none row stops =
         let same = same_some row.before b old.collection row.ran ran in
-        let live = refused_live old new b b.stage b.sweep.next refusal row.after (subst (λ (x : Collection). Keeps x.stage x.sweep.next (at_moment old x) (at_moment new row.after) refusal) same row.kept) in
+        let keeps : Keeps b.stage b.sweep.next (at_moment old b) (at_moment new row.after) refusal =
+        subst (λ (x : Collection). Keeps x.stage x.sweep.next (at_moment old x) (at_moment new row.after) refusal) same row.kept in
+        let live = refused_live old new b b.stage b.sweep.next refusal row.after keeps in
+        let known : new.known ≡ old.known = refused_known among s stored old new at refusal row (unbroken refusal stops) ∙ sym at.index_known in
         let stands : t ≡ s = subst (λ (changes : List StoreChange). ChangesTo changes s t) none leads.next.chain in
         unchanged leads.changes leads.changes_are leads.next.chain
         (λ sources. subst (λ (changes : List StoreChange). Adds Copies b.snapshot sources changes s t) (sym none) (record { sweeps = stands; none_copied = tt; freed_is = refl; copied_is = refl; no_keys = refl }))
-        (live.0, row.runs ∙ ap Some live.1) (λ gc. inl none)
+        (live.0, row.runs ∙ ap Some live.1)
+        (keys_same old new b live.0 ran (row.runs ∙ ap Some live.1) stays leads.changes known
+        (λ index key place index_is lacks is_live. refused_unmarked old new b row.after index index_is b.stage b.sweep.next refusal keeps key place lacks (subst (λ (x : Collection). IsLiveAt x.live key place) (sym live.1) is_live)))
+        (λ gc. inl none)
 
-    gc_by : (answer : Result Answer Refusal) → f.event.answer ≡ answer → IsNoEnd answer → GcRow answer old new → GcEffect answer old new → AreChangesBy asked.GcStep answer leads.changes → Goes among f b s stored old new
-    gc_by (Ok (answers.Did phase)) answer_is goes_on row effect are = did_goes phase answer_is row.0 effect.touches effect.later
-    gc_by (Ok (answers.Done freed copied)) answer_is goes_on row effect are = absurd goes_on
-    gc_by (Err refusals.NotCollecting) answer_is goes_on row effect are = absurd (let wrong : None ≡ Some b = sym row.0.none_ran ∙ ran in cc)
-    gc_by (Err refusal) answer_is goes_on row effect are = refused_goes refusal are row.0
-    gc_by answer answer_is goes_on row effect are = absurd row
+    gc_by : (answer : Result Answer Refusal) → f.event.answer ≡ answer → IsNoEnd answer → GcRow answer old new → GcEffect answer old new → AreChangesBy asked.GcStep answer leads.changes
+        → StopsAfter asked.GcStep answer old.acknowledged new.stop → Goes among f b s stored old new
+    gc_by (Ok (answers.Did phase)) answer_is goes_on row effect are stops = did_goes phase answer_is row.0 effect.touches effect.later
+    gc_by (Ok (answers.Done freed copied)) answer_is goes_on row effect are stops = absurd goes_on
+    gc_by (Err refusals.NotCollecting) answer_is goes_on row effect are stops = absurd (let wrong : None ≡ Some b = sym row.0.none_ran ∙ ran in cc)
+    gc_by (Err refusal) answer_is goes_on row effect are stops = refused_goes refusal are row.0 stops
+    gc_by answer answer_is goes_on row effect are stops = absurd row
 
     gc_goes : IsNoEnd f.event.answer → Goes among f b s stored old new
     gc_goes goes_on =
-        gc_by f.event.answer refl goes_on gc_steps.made.row gc_steps.made.effect (subst (λ (st : StepValue). AreChangesBy st f.event.answer leads.changes) is leads.changes_are)
+        gc_by f.event.answer refl goes_on gc_steps.made.row gc_steps.made.effect (subst (λ (st : StepValue). AreChangesBy st f.event.answer leads.changes) is leads.changes_are) gc_steps.stops
 
   step_goes : IsNoEnd f.event.answer → Goes among f b s stored old new
   step_goes goes_on = elim (gc_or_not f.event.step) [
@@ -545,6 +575,9 @@ module _ (C : Type 0) (state : C → CoreState) where
     counted : IsCounted b.sweep → IsCounted c.sweep
     recorded : IsToChoose b.stage → c.stage ≡ SweepStage → ids_of c.liveness ≡ old_ids b.snapshot (ids_held s.held)
     recorded_still : b.stage ≡ SweepStage → c.liveness ≡ b.liveness
+    records : RecordsAll C state (IsIn among) steps mid new run s.held b c
+    fates : KeepsFates changes b c s store (state mid) (state new)
+    from : CopiesAllFrom changes b c s (state mid)
     once : IsDistinct bytes_eq (copied_keys changes)
     others : (key : List ℕ) → IsSettled s b key → IsNoneOf (copied_keys changes) key
     along : (before : List StoreChange) → AreGcSteps steps → Inv before b s stored (state mid) → Inv (before ++ changes) c store (stored_after steps stored) (state new)
@@ -567,6 +600,9 @@ module _ (C : Type 0) (state : C → CoreState) where
         counted = λ counted. subst (λ (x : Collection). IsCounted x.sweep) (sym same) counted;
         recorded = λ early sweeps. absurd (let wrong : ⊥ = subst IsToChoose (sym (ap (λ (x : Collection). x.stage) same) ∙ sweeps) early in wrong);
         recorded_still = λ stage. ap (λ (x : Collection). x.liveness) same;
+        records = record { more = []; adds = ap (λ (x : Collection). x.liveness) same ∙ sym (append-nil b.liveness); each = tt; low = tt };
+        fates = fates_none b c s (state mid) (state new) same (ap (λ (x : C). (state x).known) run);
+        from = λ index key index_is there. absurd (omega (arith, there.1));
         once = none_distinct;
         others = λ key settled. tt;
         along = λ before all inv.
@@ -603,6 +639,13 @@ module _ (C : Type 0) (state : C → CoreState) where
           | inr now ↦ ap ids_of (rest.recorded_still now.0) ∙ now.1
         ];
         recorded_still = λ stage. rest.recorded_still (one.keeps.chosen stage).0 ∙ one.records.late stage;
+        records = records_then C state (IsIn among) f fs mid new run b one.a c c.sweep.sources.items one.changes s one.store one.keeps.snapshot_is
+            (one.sweeps c.sweep.sources.items (λ stage. (keeps.chosen stage).1)) one.recorded_on rest.records;
+        fates = fates_then one.changes rest.changes b one.a c s one.store rest.store (state mid) (state run.0) (state new) one.is_at.index one.is_at.index_known one.fates rest.fates;
+        from = from_then one.changes rest.changes b one.a c s one.store (state mid) (state run.0) one.is_at.index one.is_at.index_known
+            (one.is_at.invariant one.is_at.stands.known.0 one.is_at.stands.known.1).index_is_newest keeps.snapshot_is (λ stage. (keeps.chosen stage).1) c.sweep.sources.items
+            (subst (λ (n : ℕ). Sweeps n c.sweep.sources.items one.changes s one.store) (sym keeps.snapshot_is) (one.sweeps c.sweep.sources.items (λ stage. (keeps.chosen stage).1)))
+            one.from rest.from;
         once = subst (IsDistinct bytes_eq) (sym (keys_then one.changes rest.changes))
             (distinct_then (copied_keys one.changes) (copied_keys rest.changes) one.once rest.once (λ key has. rest.others key (one.settles key has)));
         others = λ key settled.
@@ -644,7 +687,9 @@ module _ (C : Type 0) (state : C → CoreState) where
       let row : HasEnded freed copied (state new) (state last) = ends.made.row.0 in
       let c : Collection = row.before in
       let none = counts_none (state old).tables.held [] b.sweep row_first.nothing_yet.1 in
-      let all = went among Inv kept steps s stored begun new b c distinct (subst (λ (x : Store). IsAt (IsIn among) x stored (state begun)) same_first led.next.is_at) run none_ends stays row_first.runs row.ran (λ early. none) in
+      let begun_at : IsAt (IsIn among) s stored (state begun) = subst (λ (x : Store). IsAt (IsIn among) x stored (state begun)) same_first led.next.is_at in
+      let lies_from = lies_first (IsIn among) s stored (state begun) begun_at b row_first.runs (state old) at.represents.names_are.names_are begins.made.row.1 (λ key place. (row_first.live key place).0) in
+      let all = went among Inv kept steps s stored begun new b c distinct begun_at run none_ends stays row_first.runs row.ran (λ early. none) in
       let over = any_step among distinct final all.store (stored_after steps stored) (state new) (state last) (record { asked = tt; given = tt; made = ended }) all.is_at ends.stops in
       let same_last : over.next.store ≡ all.store = subst (λ (changes : List StoreChange). ChangesTo changes all.store over.next.store) over.changes_are over.next.chain in
       let under : IsUnderWay (state new).tables.held c = subst (IsUnderWayIn (state new).tables.held) row.ran all.is_at.under_way in
@@ -663,6 +708,7 @@ module _ (C : Type 0) (state : C → CoreState) where
       (subst (λ (p : ℕ). c.sweep.sources.items ≡ sources_of (selected c.snapshot p c.liveness)) percent_is chosen) in
       let which = chosen_which snapshot percent c.liveness c.sweep.sources.items sources in
       let sweeps : Sweeps snapshot c.sweep.sources.items all.changes s all.store = subst (λ (n : ℕ). Sweeps n c.sweep.sources.items all.changes s all.store) snapshot_is all.sweeps in
+      let gone = none_selected snapshot percent c (state new).tables.held all.is_at.index all.store.held image sources sweeping row.at_end.1 holds.1 in
       record {
         collected = record {
           collection = c;
@@ -672,16 +718,15 @@ module _ (C : Type 0) (state : C → CoreState) where
           recorded =
               all.recorded (subst IsToChoose (sym row_first.stage_is) (level_early b.snapshot (state old).tables.held MOST_LEVEL)) row.at_end.0
               ∙ ap (λ (n : ℕ). old_ids n (ids_held s.held)) (sym row_first.snapshot_is);
+          records = subst (AllByRecursion (WasRecorded C state (IsIn among) steps begun new run s.held))
+              (sym (all.records.adds ∙ ap (λ (rs : List ContainerLiveness). rs ++ all.records.more) row_first.nothing_yet.0)) all.records.each;
           sources_are = sources;
           store = all.store;
           is_at = subst (λ (x : Store). IsAt (IsIn among) x (stored_after steps stored) (state last)) same_last over.next.is_at;
           changes = all.changes;
           changes_are = all.changes_are;
           chain = all.chain;
-          gone = λ slot h there is_selected.
-              let source = (which h.id).1 is_selected in
-              none_left (state new).tables.held all.is_at.index all.store.held image c.live c.snapshot c.sweep sweeping row.at_end.1 holds.1 source.0 source.1 slot h there
-              (sym source.2 ∙ get_or_default_zero c.sweep.sources.items source.0 h.id source.1);
+          gone = gone;
           stands = λ slot h there other. stands_on snapshot c.sweep.sources.items all.changes s all.store slot h sweeps (λ source. other ((which h.id).0 source)) there;
           added = λ h is. added_stands snapshot c.sweep.sources.items
               (λ id above source.
@@ -691,6 +736,13 @@ module _ (C : Type 0) (state : C → CoreState) where
           no_other = λ slot h there. stood snapshot c.sweep.sources.items all.changes s all.store slot h sweeps there;
           copies = all.copies;
           once = all.once;
+          all_copied = λ key copy h copy_is there is_selected live.
+              written_at_end all.changes b c s all.store (state begun) (state new) begun_at.index all.is_at.index key copy.place h all.fates begun_at.index_known all.is_at.index_known
+              (lies_from key copy h copy_is there) (λ still. gone copy.place.slot h still is_selected) live;
+          from_sources = λ key there. elim (all.from begun_at.index key begun_at.index_known there) [
+            | inl filled ↦ absurd (no_key b.sweep.buffer key row_first.nothing_yet.1.empty filled)
+            | inr from ↦ source_first (IsIn among) s stored (state begun) begun_at key c.snapshot c.sweep.sources.items (IsSelectedId snapshot percent c.liveness) (λ id. (which id).0) from
+          ];
           freed_is =
               let counted : IsCounted c.sweep = all.counted (begun_counted (state old).tables.held [] b.sweep row_first.nothing_yet.1) in
               omega (arith, counted, row.freed_is, ap (sources_before c.sweep) row.at_end.1, ap length (sweeping.waits has.1), ap length has.0);

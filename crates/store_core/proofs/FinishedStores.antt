@@ -51,7 +51,7 @@ module _ (held : List (Option HeaderValue)) (h : HeaderValue) (some : 1 ≤ free
   was_closed : (slot : ℕ) (g : HeaderValue) → slice_get held slot ≡ Some (Some g) → slot ≢ first_free held
   was_closed slot g there is = let wrong : None ≡ Some g = some_same None (Some g) (sym (first_none held some) ∙ ap (slice_get held) (sym is) ∙ there) in cc
 
-  still_there : (slot : ℕ) (g : HeaderValue) → slice_get held slot ≡ Some (Some g) → slice_get (with_slot (first_free held) h held) slot ≡ Some (Some g)
+  pub still_there : (slot : ℕ) (g : HeaderValue) → slice_get held slot ≡ Some (Some g) → slice_get (with_slot (first_free held) h held) slot ≡ Some (Some g)
   still_there slot g there = other_with slot h held (was_closed slot g there) ∙ there
 
   pub was_or_is : (slot : ℕ) (g : HeaderValue) → slice_get (with_slot (first_free held) h held) slot ≡ Some (Some g) → (slice_get held slot ≡ Some (Some g)) ⊎ (g ≡ h)

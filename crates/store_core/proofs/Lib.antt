@@ -3,6 +3,7 @@ pub mod Bounded
 pub mod ByNeed
 pub mod CheckedReads
 pub mod Committing
+pub mod CopiedFrom
 pub mod CopiesOnce
 pub mod CoreRuns
 pub mod Counted
@@ -18,6 +19,7 @@ pub mod JustNeeded
 pub mod KeepingFiles
 pub mod KeepingSegments
 pub mod Leading
+pub mod KeyFates
 pub mod LoneRun
 pub mod Making
 pub mod MakingGc
@@ -28,6 +30,7 @@ pub mod OwnParts
 pub mod RunningOn
 pub mod Releasing
 pub mod RecordedAll
+pub mod RecordedSums
 pub mod Reserves
 pub mod Rooms
 pub mod SafeSteps

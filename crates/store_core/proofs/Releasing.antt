@@ -13,7 +13,7 @@ use Rattle.gc_sweep.specs.declared.sweep.Next.{Next}
 use Rattle.gc_sweep.specs.declared.sweep.Next.TheVariants.{Copy, Flush, Release, End}
 use Rattle.gc_sweep.specs.InTurn.{slot_in_turn}
 use Rattle.gc_steps.specs.Sparing.{Spares}
-use Rattle.gc_steps.specs.Stepping.{Keeps, phase_at}
+use Rattle.gc_steps.specs.Stepping.{phase_at}
 use Rattle.gc_steps.proofs.Sparing.{ready_is_spare}
 use Rattle.gc_steps.proofs.StepSafe.{IsStoreAfter}
 use Rattle.refusals.specs.declared.refusal.Phase.{Phase}
@@ -27,13 +27,13 @@ use Rattle.store_model.specs.Image.{Store}
 use Rattle.store_model.specs.Reserve.{IsReachable, IsSpare}
 use Rattle.store_model.specs.Steps.{StoreChange, SealContainer, ChangeName, FlushContainer, FreeContainer, with_sealed}
 use Rattle.store_core.specs.Bounds.{starts}
-use Rattle.store_core.specs.Collecting.{GcEffect, GcRow, GoesOn, HasEnded, IsNotMade, TouchesBy, at_moment}
+use Rattle.store_core.specs.Collecting.{GcEffect, GcRow, GoesOn, HasEnded, IsNotMade, TouchesBy}
 use Rattle.store_core.specs.Core.{Steps, StopsAfter}
 use Rattle.store_core.specs.Releases.{AreGcSteps, LeavesNoneSpare, ReleasesSpare, SweepsSpare, ends_with, freed_in, released_by}
 use Rattle.store_core.specs.Runs.{AreChangesBy, ChangesTo, FileEvent, FileRun, FileStep, IsAt, stored_by, stored_with}
 use Rattle.store_core.specs.State.{CoreState}
 use Rattle.store_core.proofs.AnySteps.{any_step, with_step}
-use Rattle.store_core.proofs.Counted.{Counts, IsQuiet, changed_by, counts_refused, counts_step, freed_then}
+use Rattle.store_core.proofs.Counted.{freed_then}
 use Rattle.store_core.proofs.CoreRuns.{running_step, was_running}
 use Rattle.store_core.proofs.KeepingFiles.{run_running}
 use Rattle.store_core.proofs.SafeSteps.{one_map_at}
@@ -41,7 +41,7 @@ use Rattle.store_model.proofs.Once.{store_once}
 use Rattle.store_state.specs.Invariant.{CoreInvariant}
 use Rattle.store_core.proofs.GcSteps.{phase_of}
 use Rattle.store_core.proofs.Leading.{Leads}
-use Rattle.store_core.proofs.SparedRest.{same_some, begun_spares, did_spares, ended_spares, led_to, refused_known, refused_spares}
+use Rattle.store_core.proofs.SparedRest.{begun_spares, did_spares, ended_spares, led_to, refused_known, refused_spares}
 
 -- ---- what a collection changes alone
 
@@ -54,16 +54,11 @@ sweeps_then P (FreeContainer slot ∷ changes) more s t u first rest = (first.0,
 
 -- ---- a step
 
--- the collection that runs, if one does, counts these changes
-abbrev pub CountsIn : List StoreChange → Option Collection → Option Collection → Type 0
-CountsIn changes was now = (before after : Collection) → was ≡ Some before → now ≡ Some after → IsQuiet before → Counts changes before after
-
--- What a step of a collection changed: it gave a container back, or wrote one, or nothing; and the collection counts it.
-pub record Gives (P : List ℕ → Type 0) (answer : Result Answer Refusal) (s t : Store) (was now : Option Collection) : Type 0 where
+-- What a step of a collection changed: it gave a container back, or wrote one, or nothing.
+pub record Gives (P : List ℕ → Type 0) (answer : Result Answer Refusal) (s t : Store) : Type 0 where
   pub changes : List StoreChange
   pub many : freed_in changes ≡ released_by answer
   pub chain : SweepsSpare P changes s t
-  pub counts : CountsIn changes was now
 
 -- the collection that runs, if one does, spares what is needed
 abbrev SparesIn : (List ℕ → Type 0) → PlaceMap → Store → Option Collection → Type 0
@@ -101,76 +96,47 @@ module _ (among : ByteSet) (distinct : HasNoCollisions (IsIn among)) (f : FileEv
     abbrev c : Collection
     c = goes.before
 
-    counted : (id : ℕ) → CountsIn (changed_by c.stage c.sweep.next c.sweep id) old.collection new.collection
-    counted id b a ran runs quiet =
-        let same_before : c ≡ b = same_some c b old.collection goes.ran ran in
-        let same_after : goes.after ≡ a = same_some goes.after a new.collection goes.runs runs in
-        subst (λ (x : Collection). Counts (changed_by c.stage c.sweep.next c.sweep id) x a) same_before
-        (subst (λ (x : Collection). Counts (changed_by c.stage c.sweep.next c.sweep id) c x) same_after
-        (counts_step old new c goes.after (subst IsQuiet (sym same_before) quiet) id c.stage c.sweep.next refl goes.steps))
-
     abbrev Given : Stage → Next → Type 0
-    Given stage next = ((id : ℕ) → CountsIn (changed_by stage next c.sweep id) old.collection new.collection) → Gives Needs (Ok (answers.Did (phase_at stage next))) s t old.collection new.collection
+    Given stage next = Gives Needs (Ok (answers.Did (phase_at stage next))) s t
 
-    none_given : (phase : Phase) → released_by (Ok (answers.Did phase)) ≡ 0 → t ≡ s → CountsIn [] old.collection new.collection → Gives Needs (Ok (answers.Did phase)) s t old.collection new.collection
-    none_given phase none same counts = record { changes = []; many = sym none; chain = same; counts = counts }
+    none_given : (phase : Phase) → released_by (Ok (answers.Did phase)) ≡ 0 → t ≡ s → Gives Needs (Ok (answers.Did phase)) s t
+    none_given phase none same = record { changes = []; many = sym none; chain = same }
 
     by_stage : (stage : Stage) (next : Next) → IsStoreAfter stage next c.snapshot c.sweep at.index s t at.stands.known.0 → Given stage next
-    by_stage (Mark level slot) next same counts = none_given phases.Mark refl same (counts 0)
-    by_stage (Filter slot) next same counts = none_given phases.Filter refl same (counts 0)
-    by_stage Select next same counts = none_given phases.Select refl same (counts 0)
-    by_stage SweepStage (Copy source entry) same counts = none_given phases.Copy refl same (counts 0)
-    by_stage SweepStage (Flush source entry) flushes counts = record {
+    by_stage (Mark level slot) next same = none_given phases.Mark refl same
+    by_stage (Filter slot) next same = none_given phases.Filter refl same
+    by_stage Select next same = none_given phases.Select refl same
+    by_stage SweepStage (Copy source entry) same = none_given phases.Copy refl same
+    by_stage SweepStage (Flush source entry) flushes = record {
       changes = FlushContainer flushes.id c.sweep.buffer.kind c.sweep.buffer.segments ∷ [];
       many = refl;
       chain = (flushes.can, flushes.now_is);
-      counts = counts flushes.id;
     }
-    by_stage SweepStage (Release source entry) frees counts = record {
+    by_stage SweepStage (Release source entry) frees = record {
       changes = FreeContainer (slot_in_turn c.sweep) ∷ [];
       many = refl;
       chain = (ready_is_spare at.index s stored.files (slot_in_turn c.sweep) frees.header frees.there was.index_is_newest was.files_are_indexed frees.none, frees.now_is);
-      counts = counts 0;
     }
-    by_stage SweepStage End same counts = none_given phases.End refl same (counts 0)
+    by_stage SweepStage End same = none_given phases.End refl same
 
-    did_gives : Gives Needs (Ok (answers.Did phase)) s t old.collection new.collection
+    did_gives : Gives Needs (Ok (answers.Did phase)) s t
     did_gives =
-        subst (λ (p : Phase). Gives Needs (Ok (answers.Did p)) s t old.collection new.collection) (phase_of c phase goes.phase_is)
-        (by_stage c.stage c.sweep.next (led_to among s stored old new at t after phase goes touches later) counted)
+        subst (λ (p : Phase). Gives Needs (Ok (answers.Did p)) s t) (phase_of c phase goes.phase_is)
+        (by_stage c.stage c.sweep.next (led_to among s stored old new at t after phase goes touches later))
 
     did_on : SparesIn Needs at.index s old.collection → SparesIn Needs after.index t new.collection
     did_on spares =
         subst (SparesIn Needs after.index t) (sym goes.runs)
         (did_spares among s stored old new at t after phase goes touches later after.index after.index_known (subst (SparesIn Needs at.index s) goes.ran spares))
 
-  -- that was refused, where one runs
-  refused_counts : (refusal : Refusal) → IsNotMade refusal old new → CountsIn [] old.collection new.collection
-  refused_counts refusal row b a ran runs quiet =
-      let same_before : row.before ≡ b = same_some row.before b old.collection row.ran ran in
-      let same_after : row.after ≡ a = same_some row.after a new.collection row.runs runs in
-      counts_refused old new b a refusal quiet
-      (subst (λ (x : Collection). Keeps b.stage b.sweep.next (at_moment old b) (at_moment new x) refusal) same_after
-      (subst (λ (x : Collection). Keeps x.stage x.sweep.next (at_moment old x) (at_moment new row.after) refusal) same_before row.kept))
-
-  gives_by : (a : Result Answer Refusal) → AreChangesBy asked.GcStep a leads.changes → GcRow a old new → GcEffect a old new → Gives Needs a s t old.collection new.collection
+  gives_by : (a : Result Answer Refusal) → AreChangesBy asked.GcStep a leads.changes → GcRow a old new → GcEffect a old new → Gives Needs a s t
   gives_by (Ok (answers.Did phase)) are row effect = did_gives phase row.0 effect.touches effect.later
-  gives_by (Ok (answers.Done freed copied)) are row effect = record {
-    changes = [];
-    many = refl;
-    chain = same_store are;
-    counts = λ b a ran runs. absurd (let wrong : None ≡ Some a = sym row.0.ended ∙ runs in cc);
-  }
-  gives_by (Err refusals.NotCollecting) are row effect = record {
-    changes = [];
-    many = refl;
-    chain = same_store are;
-    counts = λ b a ran runs. absurd (let wrong : None ≡ Some b = sym row.0.none_ran ∙ ran in cc);
-  }
-  gives_by (Err refusal) are row effect = record { changes = []; many = refl; chain = same_store are; counts = refused_counts refusal row.0 }
+  gives_by (Ok (answers.Done freed copied)) are row effect = record { changes = []; many = refl; chain = same_store are }
+  gives_by (Err refusals.NotCollecting) are row effect = record { changes = []; many = refl; chain = same_store are }
+  gives_by (Err refusal) are row effect = record { changes = []; many = refl; chain = same_store are }
   gives_by a are row effect = absurd row
 
-  pub gives : Gives Needs f.event.answer s t old.collection new.collection
+  gives : Gives Needs f.event.answer s t
   gives = gives_by f.event.answer told steps.made.row steps.made.effect
 
   -- where none runs, none does

@@ -34,8 +34,8 @@ abbrev pub NoneEnds : List Event → Type 0
 NoneEnds events = AllByRecursion (λ e. IsNoEnd e.answer) events
 
 -- Once a collection began, and until it ends, so many of its steps are made at most, whatever steps come between them and whatever the disk
--- holds: for each of six levels one for each tree container, one for each container, the choice, and four for each source. The one that ends
--- it comes after these. Counted are the containers below the snapshot, as it began, and the sources that are chosen by then.
+-- holds: for each of six levels one for each tree container, one for each container, the choice, and four for each source. The one that
+-- ends it comes after these. Counted are the containers below the snapshot, as it began, and the sources that are chosen by then.
 abbrev pub BoundsSteps : (C : Type 0) → (C → CoreState) → Type 0
 BoundsSteps C state = (actor percent snapshot : ℕ) (buf : List ℕ) (events : List Event) (old mid new : C) (c : Collection)
     → IsRunning (state old) → (state old).stop ≡ None → CoreStep (state old) (starts actor percent snapshot buf) (state mid)

@@ -1,13 +1,17 @@
 -- What a collection has done once it has ended, whatever steps of others came between its own (docs/MODEL.md, 'The core').
-use Rattle.std.specs.Prelude.{◌≡◌, ◌⊎◌, ℕ, ◌≤◌, List, [], ◌∷◌, map, slice_get, Some, ◌++◌, length}
+use Rattle.std.specs.Prelude.{◌≡◌, ◌⊎◌, ℕ, ◌≤◌, List, [], ◌∷◌, map, slice_get, Option, Some, ◌++◌, length, Contains}
 use Rattle.std.specs.List.{AllByRecursion, IsDistinct}
 use Rattle.std.specs.Str.{bytes_eq}
 use Rattle.base_model.specs.Known.{Known}
 use Rattle.container_meta.specs.declared.kind.Kind.{Kind}
 use Rattle.container_meta.specs.Segments.{Segment, segment_key}
-use Rattle.container_meta.specs.Spelling.{HeaderValue, header_of}
+use Rattle.container_meta.specs.Spelling.{HeaderValue, bytes_of, header_of}
+use Rattle.copy_forward.specs.Entries.{SumsLive}
+use Rattle.gc_enumerate.specs.Live.{IsLiveAt}
+use Rattle.gc_select.specs.declared.liveness.ContainerLiveness.{ContainerLiveness}
 use Rattle.gc_select.specs.Selecting.{IsSelectedId, ids_of, selected, sources_of}
 use Rattle.gc_steps.specs.declared.collection.Collection.{Collection}
+use Rattle.gc_steps.specs.declared.collection.Stage.TheVariants.{Filter}
 use Rattle.gc_steps.specs.Roots.{IsActorKey}
 use Rattle.gc_steps.specs.UnderWay.{old_ids}
 use Rattle.gc_sweep.specs.Holding.{IsCopied}
@@ -15,7 +19,7 @@ use Rattle.store_model.specs.Collisions.{HasNoCollisions, ByteSet, IsIn}
 use Rattle.store_model.specs.Files.{Stored}
 use Rattle.store_model.specs.Image.{Store}
 use Rattle.store_model.specs.Reserve.{HoldsJustNeeded}
-use Rattle.store_model.specs.Slots.{ids_of as ids_held}
+use Rattle.store_model.specs.Slots.{Copy, ids_of as ids_held, newest}
 use Rattle.store_model.specs.Steps.{StoreChange, SealContainer, FlushContainer}
 use Rattle.store_core.specs.Bounds.{NoneEnds, starts}
 use Rattle.store_core.specs.Core.{CoreStep}
@@ -29,6 +33,31 @@ abbrev pub IsOnRun : (C : Type 0) (state : C → CoreState) (S : List ℕ → Ty
 IsOnRun C state S [] old new run here = here ≡ old
 IsOnRun C state S (f ∷ fs) old new run here = (here ≡ old) ⊎ IsOnRun C state S fs run.0 new run.1.1 here
 
+-- What a core at a store, where a collection filters, records of the container of a slot: its id and its kind, the bytes of all its
+-- entries, and of those whose keys are live and whose copies the index has.
+pub record IsRecordOf (S : List ℕ → Type 0) (c : CoreState) (r : ContainerLiveness) : Type 0 where
+  pub store : Store
+  pub stored : Stored
+  pub is_at : IsAt S store stored c
+  pub collection : Collection
+  pub runs : c.collection ≡ Some collection
+  pub slot : ℕ
+  pub stage_is : collection.stage ≡ Filter slot
+  pub header : HeaderValue
+  pub there : slice_get store.held slot ≡ Some (Some header)
+  pub id_is : r.id ≡ header.id
+  pub kind_is : r.kind ≡ header.kind
+  pub all_is : r.all ≡ bytes_of header.entries
+  pub live_is : SumsLive is_at.index collection.live header.kind slot header.entries r.live
+
+-- and so it did at a moment of the run, of a container that stood there already when the run began
+pub record WasRecorded (C : Type 0) (state : C → CoreState) (S : List ℕ → Type 0) (steps : List FileEvent) (old new : C)
+    (run : FileRun C state S steps old new) (held : List (Option HeaderValue)) (r : ContainerLiveness) : Type 0 where
+  pub here : C
+  pub on_run : IsOnRun C state S steps old new run here
+  pub record_is : IsRecordOf S (state here) r
+  pub stood : slice_get held record_is.slot ≡ Some (Some record_is.header)
+
 -- the container is one that these changes seal or write
 abbrev pub IsAdded : List StoreChange → HeaderValue → Type 0
 IsAdded [] h = ⊥
@@ -36,8 +65,8 @@ IsAdded (SealContainer id kind segments ∷ more) h = (h ≡ header_of id kind s
 IsAdded (FlushContainer id kind segments ∷ more) h = (h ≡ header_of id kind segments) ⊎ IsAdded more h
 IsAdded (change ∷ more) h = IsAdded more h
 
--- Segments that are about to be written by a core at a store, where a collection runs: no key comes twice among them; of each the key is live,
--- and the newest copy of it that the store holds has the same level and the same bytes.
+-- Segments that are about to be written by a core at a store, where a collection runs: no key comes twice among them; of each the key is
+-- live, and the newest copy of it that the store holds has the same level and the same bytes.
 pub record AreCopiesOf (S : List ℕ → Type 0) (c : CoreState) (kind : Kind) (segments : List Segment) : Type 0 where
   pub store : Store
   pub stored : Stored
@@ -65,6 +94,12 @@ copied_keys [] = []
 copied_keys (FlushContainer id kind segments ∷ more) = map (segment_key kind) segments ++ copied_keys more
 copied_keys (change ∷ more) = copied_keys more
 
+-- the keys of what others seal
+abbrev pub sealed_keys : List StoreChange → List (List ℕ)
+sealed_keys [] = []
+sealed_keys (SealContainer id kind segments ∷ more) = map (segment_key kind) segments ++ sealed_keys more
+sealed_keys (change ∷ more) = sealed_keys more
+
 -- The collection that ended, and what the steps of its run made of the store that it began at.
 pub record Collected (C : Type 0) (state : C → CoreState) (S : List ℕ → Type 0) (percent snapshot freed copied : ℕ) (steps : List FileEvent)
     (s : Store) (stored : Stored) (begun new last : C) (run : FileRun C state S steps begun new) : Type 0 where
@@ -75,6 +110,8 @@ pub record Collected (C : Type 0) (state : C → CoreState) (S : List ℕ → Ty
   pub percent_is : collection.percent ≡ percent
   -- It recorded each container that was there when it began, once, in the order of their slots.
   pub recorded : ids_of collection.liveness ≡ old_ids snapshot (ids_held s.held)
+  -- What it recorded of each was so at a moment of the run.
+  pub records : AllByRecursion (WasRecorded C state S steps begun new run s.held) collection.liveness
   -- Its sources were the containers that are selected by what it recorded, in their order.
   pub sources_are : collection.sweep.sources.items ≡ sources_of (selected snapshot percent collection.liveness)
   -- The core is at a store, to which the steps led by these changes; that the collection ended changed nothing.
@@ -97,6 +134,14 @@ pub record Collected (C : Type 0) (state : C → CoreState) (S : List ℕ → Ty
   -- What was written with copies were live segments, as the store held them; and no key was copied twice.
   pub copies : AllByRecursion (IsOfCopies (WereCopies C state S steps begun new run)) changes
   pub once : IsDistinct bytes_eq (copied_keys changes)
+  -- Each key that is live at the end, and whose newest copy lay in a container of a selected id when it began, was copied, or was sealed
+  -- since then.
+  pub all_copied : (key : List ℕ) (copy : Copy) (h : HeaderValue) → newest 0 s.held key ≡ Some copy
+      → slice_get s.held copy.place.slot ≡ Some (Some h) → IsSelectedId snapshot percent collection.liveness h.id
+      → IsLiveAt collection.live key copy.place → Contains (copied_keys changes) key ⊎ Contains (sealed_keys changes) key
+  -- And each key that was copied had its newest copy in such a container then.
+  pub from_sources : (key : List ℕ) → Contains (copied_keys changes) key → (copy : Copy) × ((newest 0 s.held key ≡ Some copy)
+      × ((h : HeaderValue) × ((slice_get s.held copy.place.slot ≡ Some (Some h)) × IsSelectedId snapshot percent collection.liveness h.id)))
   -- It answered how many sources there were, each of which was given back, and how many segments those containers have that it wrote.
   pub freed_is : freed ≡ length collection.sweep.sources.items
   pub given_back : freed ≡ freed_in changes

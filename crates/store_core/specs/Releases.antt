@@ -18,8 +18,8 @@ use Rattle.store_core.specs.Core.{CoreStep}
 use Rattle.store_core.specs.Runs.{FileEvent, FileRun, IsAt}
 use Rattle.store_core.specs.State.{CoreState, Event}
 
--- What a collection changes alone, one after the other: a container is given back that holds the newest copy of no key of which P holds, or one
--- of copies is written beside a slot to spare.
+-- What a collection changes alone, one after the other: a container is given back that holds the newest copy of no key of which P holds, or
+-- one of copies is written beside a slot to spare.
 abbrev pub SweepsSpare : (List ℕ → Type 0) → List StoreChange → Store → Store → Type 0
 SweepsSpare P [] s t = t ≡ s
 SweepsSpare P (FreeContainer slot ∷ more) s t = IsSpare P s.held slot × SweepsSpare P more (with_freed slot s) t
@@ -85,8 +85,8 @@ pub record HasCollected (S : List ℕ → Type 0) (stored : Stored) (freed copie
   pub released : HasReleased S stored freed s c
   pub written : copied_in released.changes ≡ copied
 
--- So it is where one began, and came to its end with no other steps between: it answers how many containers it gave back, and how many segments
--- those have that it wrote.
+-- So it is where one began, and came to its end with no other steps between: it answers how many containers it gave back, and how many
+-- segments those have that it wrote.
 abbrev pub CollectsAsAnswered : (C : Type 0) → (C → CoreState) → Type 0
 CollectsAsAnswered C state = (among : ByteSet) (actor last_actor percent snapshot freed copied : ℕ) (buf last_buf : List ℕ)
     (steps : List FileEvent) (s : Store) (stored : Stored) (old mid new last : C)

@@ -227,7 +227,8 @@ abbrev pub stored_tried_by : List FileEvent → Stored → Stored
 stored_tried_by [] stored = stored
 stored_tried_by (f ∷ fs) stored = stored_tried_by fs (stored_tried f.event.step f.event.answer f.bytes stored)
 
--- At the end each image can be opened as the files after all commands that were acknowledged, or after these and the one whose write failed.
+-- At the end each image can be opened as the files after all commands that were acknowledged, or after these and the one whose write
+-- failed.
 abbrev pub EndsWithAll : (C : Type 0) → (C → CoreState) → Type 0
 EndsWithAll C state = (among : ByteSet) (steps : List FileEvent) (s : Store) (stored : Stored) (old new : C)
     → HasNoCollisions (IsIn among) → IsAt (IsIn among) s stored (state old) → FileRun C state (IsIn among) steps old new

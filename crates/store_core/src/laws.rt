@@ -40,10 +40,11 @@ pub fn a_core_collects_the_rest<C: HasState>()
 {}
 
 /// Over data without collisions, of a core that began at a store: a collection that ended has given back each container that it selected
-/// and no other, whatever steps were made between its own; it has written only live segments, as they were held. Where one ran alone, while
-/// no actor held a key, it has given back just the containers of which less than the percentage was needed, or nothing, and has written just
-/// the needed keys that had their newest copies in these, each once; at the percentage 100 the containers hold just what the files need,
-/// each key once. The function does nothing.
+/// and no other, whatever steps were made between its own. What it recorded of each container was so as it recorded it. It has written only
+/// live segments, as they were held, of keys that had their newest copies in such containers as it began; and each such key that is live at
+/// the end, but for those that others sealed meanwhile. Where one ran alone, while no actor held a key, it has given back just the
+/// containers of which less than the percentage was needed, or nothing, and has written just the needed keys that had their newest copies
+/// in these, each once; at the percentage 100 the containers hold just what the files need, each key once. The function does nothing.
 pub fn a_core_collects_what_it_selected<C: HasState>()
     ensures selected { CollectsInAll C C.state }
     ensures needed { LeavesJustNeeded C C.state }
@@ -57,7 +58,8 @@ pub fn a_core_keeps_files<C: HasState>()
 {}
 
 /// Over data without collisions, and of a core that began settled at a store and isn't stopped at the end, where no step is one of a
-/// collection: the segments that the steps of a run kept, claimed and held or sealed, are held then, bytes and all, in each image. The function does nothing.
+/// collection: the segments that the steps of a run kept, claimed and held or sealed, are held then, bytes and all, in each image. The
+/// function does nothing.
 pub fn a_core_keeps_segments<C: HasState>()
     ensures { KeepsSegments C C.state }
 {}
@@ -97,8 +99,8 @@ pub fn a_core_survives_crashes<C: HasState>()
     ensures end { EndsWithAll C C.state }
 {}
 
-/// Whatever the disk of a core holds, a run without steps of a collection adds records and containers to it: no other byte before the end of the slots
-/// changes, but those of the journal where a checkpoint is made. At any moment of a run, also where a write fails, what was
+/// Whatever the disk of a core holds, a run without steps of a collection adds records and containers to it: no other byte before the end
+/// of the slots changes, but those of the journal where a checkpoint is made. At any moment of a run, also where a write fails, what was
 /// written before it stays: the containers, and the journal where its half has a cell for each command. Where two slots were closed, two
 /// are at its end. The function does nothing.
 pub fn a_core_keeps_what_is_written<C: HasState>()

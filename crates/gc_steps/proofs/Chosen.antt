@@ -90,6 +90,12 @@ are_sources containers = record {
   trees_rising = rising_order (ids_of (of_kind Tree containers));
 }
 
+-- there are as many as containers
+pub sources_many : (containers : List ContainerLiveness) → length (sources_of containers) ≡ length containers
+sources_many containers =
+    let moved : IsPermutation (ids_of containers) (sources_of containers) = sources_moved containers (sources_of containers) (are_sources containers) in
+    omega (arith, length_permutation (ids_of containers) (sources_of containers) moved, ids_many containers)
+
 -- an id is a source's just where that of a container that is selected is it
 pub chosen_which : (snapshot percent : ℕ) (containers : List ContainerLiveness) (sources : List ℕ) → sources ≡ sources_of (selected snapshot percent containers)
     → (id : ℕ) → Contains sources id ↔ IsSelectedId snapshot percent containers id

@@ -27,6 +27,7 @@ pub mod NoneMissing
 pub mod OtherSteps
 pub mod PinnedTrees
 pub mod ReaderNeeds
+pub mod RecordOf
 pub mod Recorded
 pub mod RefusedSafe
 pub mod RootTrees

@@ -10,7 +10,6 @@ use Rattle.container_meta.specs.Segments.{Contents, entries_from, has_key, keys_
 use Rattle.container_meta.specs.Spelling.{HeaderValue, bytes_of, header_of}
 use Rattle.copy_forward.specs.Entries.{SumsLive}
 use Rattle.dd_disk.specs.View.{DiskView}
-use Rattle.dd_disk.proofs.Shows.{shown_content}
 use Rattle.gc_enumerate.specs.Live.{LiveKeys, IsLiveAt}
 use Rattle.gc_select.specs.declared.liveness.ContainerLiveness.{ContainerLiveness}
 use Rattle.gc_sweep.specs.declared.sweep.Next.{Next}
@@ -22,37 +21,35 @@ use Rattle.gc_sweep.specs.InTurn.{HasReleased, slot_in_turn}
 use Rattle.gc_sweep.specs.UnderWay.{HasNext, IsSweeping}
 use Rattle.gc_sweep.proofs.Holds.{no_key}
 use Rattle.gc_sweep.proofs.HoldsCopied.{LeavesHeld}
-use Rattle.gc_sweep.proofs.InSlots.{id_at, lies_at}
+use Rattle.gc_sweep.proofs.InSlots.{lies_at}
 use Rattle.gc_sweep.proofs.KeyLists.{both_so, listed, listed_either, listed_left, listed_right, listed_so}
-use Rattle.gc_sweep.proofs.SourceRead.{IsReadOf, header_in}
+use Rattle.gc_sweep.proofs.SourceRead.{IsReadOf}
 use Rattle.store_model.specs.Files.{Files}
 use Rattle.store_model.specs.Image.{IsValidFor, Store}
 use Rattle.store_model.specs.Indexing.{with_entries}
-use Rattle.store_model.specs.Slots.{HasFree, HoldsSlot, IsPartialIndexOf, first_free, with_slot, without_slot}
+use Rattle.store_model.specs.Slots.{HasFree, IsPartialIndexOf, first_free, with_slot, without_slot}
 use Rattle.store_model.specs.Standing.{IsStoreOf}
 use Rattle.store_model.proofs.Copies.{some_same}
-use Rattle.store_model.proofs.Free.{as_many}
 use Rattle.store_model.proofs.Freed.{other_there, there_before}
 use Rattle.store_model.proofs.Indexing.{put_none}
-use Rattle.store_state.specs.Tables.{Represents, RepresentsSlots, count_of}
-use Rattle.store_state.specs.declared.slot_table.SlotCount.{SlotCount}
+use Rattle.store_state.specs.Tables.{Represents, RepresentsSlots}
 use Rattle.store_state.specs.declared.slot_table.SlotTable.{SlotTable}
 use Rattle.store_state.specs.declared.tables.Tables.{Tables}
 use Rattle.gc_steps.specs.declared.collection.Collection.{Collection}
 use Rattle.gc_steps.specs.declared.collection.Stage.{Stage}
 use Rattle.gc_steps.specs.declared.collection.Stage.TheVariants.{Filter, Mark, Select, Sweep as SweepStage}
 use Rattle.gc_steps.specs.FewSources.{IsToChoose}
-use Rattle.gc_steps.specs.Filtering.{Chooses, Records, recorded, recorded_by}
+use Rattle.gc_steps.specs.Filtering.{Chooses, Records, recorded}
 use Rattle.gc_steps.specs.Marking.{Scans}
 use Rattle.gc_steps.specs.Stages.{filter_at, filter_from, first_slot, is_old_slot, is_tree_slot, mark_at, mark_from, mark_level, mark_on}
 use Rattle.gc_steps.specs.Stepping.{Flushes, StepsTo, moment}
 use Rattle.gc_steps.specs.SweepIsSafe.{HoldsAt}
 use Rattle.gc_steps.specs.UnderWay.{IsUnderWay}
 use Rattle.gc_steps.proofs.CopiedOn.{keys_so, live_so}
-use Rattle.gc_steps.proofs.SparingStages.{came, copied_leaves, entry_none, read, recorded_id_by, recorded_live_by, with_place}
+use Rattle.gc_steps.proofs.RecordOf.{record_of}
+use Rattle.gc_steps.proofs.SparingStages.{came, copied_leaves, entry_none, read, with_place}
 use Rattle.gc_steps.proofs.StepSafe.{IsFreeing, IsStoreAfter}
 use Rattle.gc_steps.proofs.UnderWay.{at_stage}
-use Rattle.gc_steps.proofs.WholeCopies.{count_there}
 
 -- ---- it doesn't sweep yet
 
@@ -198,34 +195,13 @@ module _ (index : PlaceMap) (held : List (Option HeaderValue)) (m : PlaceMap) (s
   -- ---- a record
 
   module _ (at : ℕ) (stage_is : c.stage ≡ Filter at) (within : at < length t.held.ids.items) (records : Records t.held (Some m) old new at c d) where
-    shown : HoldsSlot image at (Some records.header)
-    shown = shown_content old new (λ (i : List ℕ). HoldsSlot i at (Some records.header)) image records.shown content
-
-    here : slice_get store.held at ≡ Some (Some records.header)
-    here = header_in store.held image at records.header holds.right.slots_are (omega (arith, within, ap length slots.ids_are, as_many store.held)) shown
-
-    count_is : slice_get t.held.counts.items at ≡ Some (count_of (Some records.header))
-    count_is = ap (λ (counts : List SlotCount). slice_get counts at) slots.counts_are ∙ count_there store.held at records.header here
-
     abbrev one : ContainerLiveness
     one = recorded t.held at records.live
 
-    all_is : one.all ≡ records.header.data_length
-    all_is = ap (λ (count : Option SlotCount). (recorded_by (get_or t.held.ids.items at 0) count records.live).all) count_is
-
-    live_is : one.live ≡ records.live
-    live_is = recorded_live_by (get_or t.held.ids.items at 0) (slice_get t.held.counts.items at) records.live
-
     told_here : IsTold m c.live store.held one
-    told_here = record {
-      slot = at;
-      header = records.header;
-      there = here;
-      id_is = recorded_id_by (get_or t.held.ids.items at 0) (slice_get t.held.counts.items at) records.live
-          ∙ ap (λ (ids : List ℕ). get_or ids at 0) slots.ids_are ∙ id_at store.held at records.header here;
-      all_is = all_is ∙ sym records.right.whole;
-      sums = subst (SumsLive m c.live records.header.kind at records.header.entries) (sym live_is) (records.live_is m refl);
-    }
+    told_here =
+        let is = record_of m store files image t old new c d holds represents content at within records in
+        record { slot = at; header = is.header; there = is.there; id_is = is.id_is; all_is = is.all_is; sums = is.sums }
 
     recorded_lone : IsLone index m held store.held d keys
     recorded_lone =

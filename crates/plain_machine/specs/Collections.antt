@@ -1,14 +1,20 @@
--- Collections: segments are copied, and containers that no file needs are given back, step by step (docs/MODEL.md, 'The plain machine').
-use Rattle.std.specs.Prelude.{◌≡◌, ℕ, suc, ◌+◌, ◌*◌, ◌<◌, ◌≤◌, Bool, true, false, List, [], ◌∷◌, Option, None, Some, IsSome}
+-- Collections: it is recorded how much of each container is live, segments of those that are chosen are copied, and these are given back,
+-- step by step (docs/MODEL.md, 'The plain machine').
+use Rattle.std.specs.Prelude.{◌≡◌, ℕ, suc, ◌+◌, ◌*◌, ◌<◌, ◌≤◌, Bool, true, false, if◌then◌else◌, nat_lt, List, [], ◌∷◌, ◌++◌, length, slice_get, Option, None, Some, IsSome}
 use Rattle.base_model.specs.Fault.{Rose}
 use Rattle.container_meta.specs.declared.kind.Kind.{Kind}
 use Rattle.container_meta.specs.declared.kind.Kind.TheVariants.{Leaf, Tree}
-use Rattle.container_meta.specs.Spelling.{HeaderValue}
+use Rattle.container_meta.specs.Spelling.{HeaderValue, bytes_of}
+use Rattle.gc_select.specs.declared.liveness.ContainerLiveness.{ContainerLiveness}
+use Rattle.gc_select.specs.Selecting.{IsSelectedId, ids_of, selected}
 use Rattle.refusals.specs.declared.refusal.Phase.{Phase}
 use Rattle.refusals.specs.declared.refusal.Phase.TheVariants.{Copy, End, Filter, Flush, Mark, Release, Select}
 use Rattle.refusals.specs.declared.refusal.Refusal.{Refusal}
 use Rattle.refusals.specs.declared.refusal.Refusal.TheVariants.{Memory, NotCollecting, DiskRead, DiskWrite, Numbers}
 use Rattle.disk_format.specs.declared.numbers.TheConstants.{LAST_ID}
+use Rattle.store_model.specs.Files.{Files}
+use Rattle.store_model.specs.Image.{Encodes, Store}
+use Rattle.store_model.specs.Needed.{Needs}
 use Rattle.store_model.specs.Reserve.{HoldsJustNeeded, IsReachable, IsSpare}
 use Rattle.plain_machine.specs.Content.{AddsCopies, BreaksCopies, BreaksGate, FreesContainer, OfStore, SameStore}
 use Rattle.plain_machine.specs.Machine.{Collecting, Machine, Marking, Progress, Recording, Stopped, Sweeping, are_idle}
@@ -20,6 +26,12 @@ abbrev pub containers_in : List (Option HeaderValue) → ℕ
 containers_in [] = 0
 containers_in (None ∷ cs) = containers_in cs
 containers_in (Some h ∷ cs) = suc (containers_in cs)
+
+-- the ids below the snapshot of the containers in the slots, in their order
+abbrev pub ids_before : ℕ → List (Option HeaderValue) → List ℕ
+ids_before snapshot [] = []
+ids_before snapshot (None ∷ cs) = ids_before snapshot cs
+ids_before snapshot (Some h ∷ cs) = if nat_lt h.id snapshot then h.id ∷ ids_before snapshot cs else ids_before snapshot cs
 
 -- one for a container of nodes
 abbrev pub one_tree : Kind → ℕ
@@ -51,16 +63,44 @@ pub record BeginsCollection (percent snapshot : ℕ) (m n : Machine) : Type 0 wh
       to_come = most;
       freed = 0;
       copied = 0;
+      recorded = [];
       alone = are_idle m.parts;
     });
   }
 
--- what a step changes: a flush adds a container of so many copies, a release gives a container back that came before the snapshot and that no
--- file needs, and no other step anything
-abbrev pub ChangesBy : Phase → (snapshot copies : ℕ) → Machine → List ℕ → Type 0
-ChangesBy Flush snapshot copies m new = AddsCopies m.last_id copies m.content new
-ChangesBy Release snapshot copies m new = (copies ≡ 0) × FreesContainer (IsReachable m.stored.files) snapshot m.content new
-ChangesBy phase snapshot copies m new = (copies ≡ 0) × SameStore m.content new
+-- What is recorded of a container that came before the snapshot: its id, its kind, all bytes of its entries, and how many of these count
+-- as live: no fewer than the files need, and just so many where the collection runs alone.
+pub record IsRecordOf (alone : Bool) (files : Files) (snapshot : ℕ) (content : List ℕ) (r : ContainerLiveness) : Type 0 where
+  pub store : Store
+  pub right : Encodes content store
+  pub slot : ℕ
+  pub header : HeaderValue
+  pub there : slice_get store.held slot ≡ Some (Some header)
+  pub before : header.id < snapshot
+  pub id_is : r.id ≡ header.id
+  pub kind_is : r.kind ≡ header.kind
+  pub all_is : r.all ≡ bytes_of header.entries
+  pub needed : ℕ
+  pub sums : Needs (IsReachable files) store.held slot header needed
+  pub at_least : needed ≤ r.live
+  pub at_most : r.live ≤ r.all
+  pub exact : alone ≡ true → r.live ≡ needed
+
+-- What a step records: a filter step of one container, behind those of before. For the choice each container that came before the snapshot
+-- was recorded, once, in the order of their slots. No other step records.
+abbrev pub RecordsBy : Phase → (alone : Bool) → (snapshot : ℕ) → Machine → (recorded next : List ContainerLiveness) → Type 0
+RecordsBy Filter alone snapshot m recorded next =
+    (r : ContainerLiveness) × ((next ≡ recorded ++ r ∷ []) × IsRecordOf alone m.stored.files snapshot m.content r)
+RecordsBy Select alone snapshot m recorded next =
+    (next ≡ recorded) × OfStore m.content (λ store. ids_of recorded ≡ ids_before snapshot store.held)
+RecordsBy phase alone snapshot m recorded next = next ≡ recorded
+
+-- What a step changes: a flush adds a container of so many copies; a release gives a container back that came before the snapshot, whose
+-- id is chosen, and that no file needs; and no other step anything.
+abbrev pub ChangesBy : Phase → (Chosen : ℕ → Type 0) → (snapshot copies : ℕ) → Machine → List ℕ → Type 0
+ChangesBy Flush Chosen snapshot copies m new = AddsCopies m.last_id copies m.content new
+ChangesBy Release Chosen snapshot copies m new = (copies ≡ 0) × FreesContainer (IsReachable m.stored.files) Chosen snapshot m.content new
+ChangesBy phase Chosen snapshot copies m new = (copies ≡ 0) × SameStore m.content new
 
 -- the last id is another after a flush
 abbrev pub last_by : Phase → ℕ → ℕ
@@ -112,6 +152,7 @@ pub record StepsCollection (phase : Phase) (m n : Machine) : Type 0 where
   pub left : ℕ
   pub freed : ℕ
   pub copied : ℕ
+  pub recorded : List ContainerLiveness
   pub alone : Bool
   pub ran : m.collecting ≡ Some (record {
     percent = percent;
@@ -120,10 +161,13 @@ pub record StepsCollection (phase : Phase) (m n : Machine) : Type 0 where
     to_come = suc left;
     freed = freed;
     copied = copied;
+    recorded = recorded;
     alone = alone;
   })
   pub copies : ℕ
-  pub changes : ChangesBy phase snapshot copies m n.content
+  pub changes : ChangesBy phase (IsSelectedId snapshot percent recorded) snapshot copies m n.content
+  pub recorded_now : List ContainerLiveness
+  pub records : RecordsBy phase alone snapshot m recorded recorded_now
   pub others : n ≡ record m {
     content = n.content;
     last_id = last_by phase m.last_id;
@@ -134,6 +178,7 @@ pub record StepsCollection (phase : Phase) (m n : Machine) : Type 0 where
       to_come = left;
       freed = freed + freed_by phase;
       copied = copied + copies;
+      recorded = recorded_now;
       alone = alone;
     });
     collected = forgets_by phase m.collected;
@@ -144,13 +189,15 @@ abbrev pub CollectionSteps : List Phase → Machine → Machine → Type 0
 CollectionSteps [] m n = n ≡ m
 CollectionSteps (phase ∷ phases) m n = (mid : Machine) × (StepsCollection phase m mid × CollectionSteps phases mid n)
 
--- It ends, where the sources were chosen, none is ready and nothing is to be written, and tells how many containers it gave back and how many
--- segments it copied. One that ran alone leaves no container that holds the newest copy of no key that a file needs: so it gave back all of
--- these. One of the percentage 100 that ran alone leaves just what the files need.
+-- It ends, where the sources were chosen, none is ready and nothing is to be written, and tells how many containers it gave back and how
+-- many segments it copied. It gave back so many as are selected by what it recorded, and no container has the id of one of these any more.
+-- One that ran alone leaves no container that holds the newest copy of no key that a file needs: so it gave back all of these. One of the
+-- percentage 100 that ran alone leaves just what the files need.
 pub record EndsCollection (freed copied : ℕ) (m n : Machine) : Type 0 where
   pub percent : ℕ
   pub snapshot : ℕ
   pub left : ℕ
+  pub recorded : List ContainerLiveness
   pub alone : Bool
   pub ran : m.collecting ≡ Some (record {
     percent = percent;
@@ -159,8 +206,12 @@ pub record EndsCollection (freed copied : ℕ) (m n : Machine) : Type 0 where
     to_come = left;
     freed = freed;
     copied = copied;
+    recorded = recorded;
     alone = alone;
   })
+  pub freed_is : freed ≡ length (selected snapshot percent recorded)
+  pub gone : OfStore m.content (λ store. (slot : ℕ) (h : HeaderValue) → slice_get store.held slot ≡ Some (Some h)
+      → ¬ (IsSelectedId snapshot percent recorded h.id))
   pub none_spare : alone ≡ true → OfStore m.content (λ store. (slot : ℕ) → ¬ (IsSpare (IsReachable m.stored.files) store.held slot))
   pub full : alone ≡ true → percent ≡ 100 → OfStore m.content (λ store. HoldsJustNeeded m.stored.files store.held)
   pub others : n ≡ record m { collecting = None }
@@ -172,11 +223,11 @@ Sweeps freed copied m n = (phases : List Phase) × ((mid : Machine) × (Collecti
 -- ---- what is refused
 
 -- what a write that failed leaves of the content, by the step that had it; other steps write nothing
-abbrev pub BreaksBy : Phase → ℕ → Machine → List ℕ → Type 0
-BreaksBy Copy snapshot m new = SameStore m.content new
-BreaksBy Flush snapshot m new = (m.last_id < LAST_ID) × BreaksCopies m.content new
-BreaksBy Release snapshot m new = BreaksGate (IsReachable m.stored.files) snapshot m.content new
-BreaksBy phase snapshot m new = ⊥
+abbrev pub BreaksBy : Phase → (Chosen : ℕ → Type 0) → ℕ → Machine → List ℕ → Type 0
+BreaksBy Copy Chosen snapshot m new = SameStore m.content new
+BreaksBy Flush Chosen snapshot m new = (m.last_id < LAST_ID) × BreaksCopies m.content new
+BreaksBy Release Chosen snapshot m new = BreaksGate (IsReachable m.stored.files) Chosen snapshot m.content new
+BreaksBy phase Chosen snapshot m new = ⊥
 
 -- A step of the collection that runs, one that may come, broke off.
 pub record BreaksStep (m : Machine) (new : List ℕ) : Type 0 where
@@ -184,7 +235,7 @@ pub record BreaksStep (m : Machine) (new : List ℕ) : Type 0 where
   pub ran : m.collecting ≡ Some running
   pub phase : Phase
   pub may : MayCome phase running.progress
-  pub breaks : BreaksBy phase running.snapshot m new
+  pub breaks : BreaksBy phase (IsSelectedId running.snapshot running.percent running.recorded) running.snapshot m new
 
 -- Why no step is made. Copies are not written where no id is left. Where a write or a sync failed the store is stopped.
 abbrev pub RefusesCollectionStep : Refusal → Machine → Machine → Type 0

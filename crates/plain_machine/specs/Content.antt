@@ -146,14 +146,15 @@ pub record SameButGate (slot slots : ℕ) (old new : List ℕ) : Type 0 where
   pub rest : SameBut (Unit {0}) (λ half cell. ⊥) (λ other. other ≡ slot) slots old new
   pub slot_is : range (slot_at slot + 1) (SLOT_BYTES - 1) new ≡ range (slot_at slot + 1) (SLOT_BYTES - 1) old
 
--- A container of an id below this one is given back that holds the newest copy of no key of which P holds: the gate of its slot is closed, and
--- all else is as it was.
-pub record FreesContainer (P : List ℕ → Type 0) (snapshot : ℕ) (old new : List ℕ) : Type 0 where
+-- A container of an id below this one, and of one that is chosen, is given back that holds the newest copy of no key of which P holds: the
+-- gate of its slot is closed, and all else is as it was.
+pub record FreesContainer (P : List ℕ → Type 0) (Chosen : ℕ → Type 0) (snapshot : ℕ) (old new : List ℕ) : Type 0 where
   pub store : Store
   pub was : Encodes old store
   pub slot : ℕ
   pub spare : IsSpare P store.held slot
   pub came_before : spare.header.id < snapshot
+  pub chosen : Chosen spare.header.id
   pub now : Encodes new (with_freed slot store)
   pub rest : SameButGate slot store.slots old new
 
@@ -165,14 +166,15 @@ pub record BreaksCopies (old new : List ℕ) : Type 0 where
   pub slot : 1 < free_slots store.held
   pub rest : SameBut (Unit {0}) (λ half cell. ⊥) (λ slot. slot ≡ first_free store.held) store.slots old new
 
--- A container of an id below this one was not given back, as the write broke off: all is as it was, but perhaps for its gate. It holds the newest
--- copy of no key of which P holds.
-pub record BreaksGate (P : List ℕ → Type 0) (snapshot : ℕ) (old new : List ℕ) : Type 0 where
+-- A container of an id below this one, and of one that is chosen, was not given back, as the write broke off: all is as it was, but
+-- perhaps for its gate. It holds the newest copy of no key of which P holds.
+pub record BreaksGate (P : List ℕ → Type 0) (Chosen : ℕ → Type 0) (snapshot : ℕ) (old new : List ℕ) : Type 0 where
   pub store : Store
   pub was : Encodes old store
   pub slot : ℕ
   pub spare : IsSpare P store.held slot
   pub came_before : spare.header.id < snapshot
+  pub chosen : Chosen spare.header.id
   pub rest : SameButGate slot store.slots old new
 
 -- A write broke off: each container that was there is as it was; and so is each record, where the half had cells for so many more.

@@ -2,6 +2,7 @@
 use Rattle.std.specs.Prelude.{Bool, true, false, ◌&&◌, ◌≡◌, ℕ, ◌+◌, ◌-◌, ◌^◌, List, [], ◌∷◌, min, replicate, slice_index_or, slice_set, Option, Some, None, ◌⊎◌}
 use Rattle.actor_parts.specs.declared.actor.TheConstants.{ACTORS}
 use Rattle.actor_parts.specs.declared.step.Answer.{Answer}
+use Rattle.gc_select.specs.declared.liveness.ContainerLiveness.{ContainerLiveness}
 use Rattle.refusals.specs.declared.refusal.PartKind.{PartKind}
 use Rattle.refusals.specs.declared.refusal.PartKind.TheVariants as kinds
 use Rattle.store_model.specs.Files.{Stored}
@@ -66,6 +67,8 @@ pub record Collecting : Type 0 where
   pub to_come : ℕ
   pub freed : ℕ
   pub copied : ℕ
+  -- what it recorded of each container, one after the other: which are chosen goes by these
+  pub recorded : List ContainerLiveness
   -- no actor was at anything when it began, and since then no turn was answered, and no name has changed
   pub alone : Bool
 

@@ -1,21 +1,30 @@
 -- The end of a collection is that of the machine's, and the runner follows it; and where none runs no step is made.
 use Rattle.std.proofs.Common.{◌≡◌, ℕ, List, [], ◌∷◌, length, Option, Some, None, Result, Ok, Err, refl, sym, ◌∙◌, ap, subst, arith, true, false}
-use Rattle.std.specs.Prelude.{nat_lt}
+use Rattle.std.specs.Prelude.{nat_lt, slice_get}
 use Rattle.std.proofs.lemmas.Bool.{lt-ltb}
+use Rattle.std.proofs.lemmas.Grind.{get_or_default_zero}
 use Rattle.dd_disk.specs.Ending.{Done}
 use Rattle.actor_parts.specs.declared.step.Answer.{Answer}
 use Rattle.actor_parts.specs.declared.step.Answer.TheVariants as answers
 use Rattle.refusals.specs.declared.refusal.Refusal.{Refusal}
 use Rattle.refusals.specs.declared.refusal.Refusal.TheVariants as refusals
 use Rattle.container_meta.specs.Segments.{Contents, Segment}
+use Rattle.container_meta.specs.Spelling.{HeaderValue}
+use Rattle.gc_select.specs.declared.liveness.ContainerLiveness.{ContainerLiveness}
+use Rattle.gc_select.specs.Selecting.{IsSelectedId, selected, sources_of}
 use Rattle.gc_steps.specs.declared.collection.Collection.{Collection}
 use Rattle.gc_steps.specs.declared.collection.Stage.{Stage}
 use Rattle.gc_steps.specs.declared.collection.Stage.TheVariants.{Sweep}
 use Rattle.gc_steps.specs.Sparing.{Spares}
 use Rattle.gc_steps.specs.Stepping.{Touches}
+use Rattle.gc_steps.specs.SweepIsSafe.{HoldsAt}
+use Rattle.gc_steps.specs.UnderWay.{HasChosen, HasStage, IsUnderWay}
+use Rattle.gc_steps.proofs.Chosen.{chosen_which, sources_many}
 use Rattle.gc_steps.proofs.Sparing as sparing
 use Rattle.gc_sweep.specs.declared.sweep.Next.{Next}
 use Rattle.gc_sweep.specs.declared.sweep.Next.TheVariants.{End}
+use Rattle.gc_sweep.specs.UnderWay.{HasNext, IsSweeping, sources_before}
+use Rattle.gc_sweep.proofs.Holds.{none_left as none_stands}
 use Rattle.store_model.specs.Collisions.{HasNoCollisions, ByteSet, IsIn}
 use Rattle.store_model.specs.Image.{Store}
 use Rattle.store_model.specs.Reserve.{HoldsJustNeeded, IsReachable, IsSpare}
@@ -23,14 +32,14 @@ use Rattle.store_model.specs.Steps.{StoreChange}
 use Rattle.store_state.specs.declared.tables.Tables.{Tables}
 use Rattle.store_core.specs.Collecting.{HasEnded, NoneRuns, TouchesBy}
 use Rattle.store_core.specs.Core.{CoreStep, IndexesAll}
-use Rattle.store_core.specs.Runs.{ChangesTo, IsAt}
+use Rattle.store_core.specs.Runs.{ChangesTo, IsAt, IsSafeIn}
 use Rattle.store_core.specs.State.{CoreState}
 use Rattle.store_core.proofs.JustNeeded.{just_needed}
 use Rattle.store_core.proofs.Leading.{Leads}
 use Rattle.plain_machine.specs.Collections.{EndsCollection, RefusesCollectionStep}
 use Rattle.plain_machine.specs.Content.{OfStore}
 use Rattle.plain_machine.specs.Machine.{Collecting, Machine, Progress, Sweeping}
-use Rattle.script_runner.specs.Follows.{FollowsCollection, HasCounted, IsAtProgress, IsAtStage, SparesAlone, SparesNeeded, is_filled}
+use Rattle.script_runner.specs.Follows.{CountsEach, FollowsCollection, HasCounted, IsAtProgress, IsAtStage, SparesAlone, SparesNeeded, is_filled}
 use Rattle.script_runner.specs.Sessions.{Sessions}
 use Rattle.script_runner.proofs.CollectNeeds.{told_here}
 use Rattle.script_runner.proofs.CollectParts.{gc_event}
@@ -104,6 +113,69 @@ module _ (C : Type 0) (state : C → CoreState) (among : ByteSet) (apart : HasNo
         sparing.spares_ended (IsReachable m.stored.files) ended_at.index at.running.begins.store (state old).tables.held ended.before (under C state among apart m sessions old new at done buf made ended.before ended.ran) ended.at_end.0 ended.at_end.1 spares
         ((told_here (IsIn among) at.running.begins.store m.stored (state old) ended_at).index_is_newest ended_at.index refl)
 
+    -- ---- its sources
+
+    abbrev Selected : ℕ → Type 0
+    Selected = IsSelectedId has_ended.collecting.snapshot has_ended.collecting.percent has_ended.collecting.recorded
+
+    snapshot_before : ended.before.snapshot ≡ has_ended.collecting.snapshot
+    snapshot_before = subst (λ (c : Collection). c.snapshot ≡ has_ended.collecting.snapshot) same has_ended.follows.snapshot_is
+
+    percent_before : ended.before.percent ≡ has_ended.collecting.percent
+    percent_before = subst (λ (c : Collection). c.percent ≡ has_ended.collecting.percent) same has_ended.follows.percent_is
+
+    recorded_before : ended.before.liveness ≡ has_ended.collecting.recorded
+    recorded_before = subst (λ (c : Collection). c.liveness ≡ has_ended.collecting.recorded) same has_ended.follows.recorded_is
+
+    abbrev sources : List ℕ
+    sources = ended.before.sweep.sources.items
+
+    under_last : IsUnderWay (state old).tables.held ended.before
+    under_last = under C state among apart m sessions old new at done buf made ended.before ended.ran
+
+    sources_are : sources ≡ sources_of (selected has_ended.collecting.snapshot has_ended.collecting.percent has_ended.collecting.recorded)
+    sources_are =
+        subst (λ (n : ℕ). sources ≡ sources_of (selected n has_ended.collecting.percent has_ended.collecting.recorded)) snapshot_before
+        (subst (λ (n : ℕ). sources ≡ sources_of (selected ended.before.snapshot n has_ended.collecting.recorded)) percent_before
+        (subst (λ (rs : List ContainerLiveness). sources ≡ sources_of (selected ended.before.snapshot ended.before.percent rs)) recorded_before
+        (subst (λ (stage : Stage). HasChosen stage ended.before) ended.at_end.0 under_last.sources_are)))
+
+    sweeping : IsSweeping (state old).tables.held ended.before.snapshot ended.before.sweep
+    sweeping = subst (HasStage (state old).tables.held ended.before) ended.at_end.0 under_last.stage_is
+
+    next_has : HasNext (state old).tables.held ended.before.sweep End
+    next_has = subst (HasNext (state old).tables.held ended.before.sweep) ended.at_end.1 sweeping.next_is
+
+    each_last : CountsEach ended.before.sweep
+    each_last = subst (λ (c : Collection). CountsEach c.sweep) same has_ended.follows.each
+
+    -- each was given back
+    freed_chosen : freed ≡ length (selected has_ended.collecting.snapshot has_ended.collecting.percent has_ended.collecting.recorded)
+    freed_chosen =
+        omega (
+          arith,
+          each_last,
+          ended.freed_is,
+          ap (sources_before ended.before.sweep) ended.at_end.1,
+          ap length (sweeping.waits next_has.1),
+          ap length next_has.0,
+          ap length sources_are,
+          sources_many (selected has_ended.collecting.snapshot has_ended.collecting.percent has_ended.collecting.recorded),
+        )
+
+    -- and none is there
+    gone_now : (slot : ℕ) (h : HeaderValue) → slice_get at.running.begins.store.held slot ≡ Some (Some h) → ¬ (Selected h.id)
+    gone_now slot h there is_selected =
+        let source = (chosen_which has_ended.collecting.snapshot has_ended.collecting.percent has_ended.collecting.recorded sources sources_are h.id).1 is_selected in
+        none_stands (state old).tables.held ended_at.index at.running.begins.store.held m.content ended.before.live ended.before.snapshot ended.before.sweep sweeping ended.at_end.1 held_last.1 source.0 source.1 slot h there
+        (sym source.2 ∙ get_or_default_zero sources source.0 h.id source.1)
+      where
+        held_last : HoldsAt Sweep ended_at.index at.running.begins.store.held m.content ended.before
+        held_last =
+            subst (λ (stage : Stage). HoldsAt stage ended_at.index at.running.begins.store.held m.content ended.before) ended.at_end.0
+            (sparing.held_at ended_at.index at.running.begins.store (state old).parts m.content ended.before
+            (subst (IsSafeIn ended_at.index at.running.begins.store (state old).parts m.content) ended.ran (ended_at.safe m.content at.content_is)))
+
     -- where it ran alone
     spared_alone : has_ended.collecting.alone ≡ true → SparesNeeded m.stored.files at.running.begins.store has_ended.collecting.percent ended_at.index ended.before
     spared_alone alone =
@@ -138,11 +210,14 @@ module _ (C : Type 0) (state : C → CoreState) (among : ByteSet) (apart : HasNo
         percent = has_ended.collecting.percent;
         snapshot = has_ended.collecting.snapshot;
         left = has_ended.collecting.to_come;
+        recorded = has_ended.collecting.recorded;
         alone = has_ended.collecting.alone;
         ran = has_ended.is
-            ∙ ap (λ (n : ℕ). let k : Collecting = record { percent = has_ended.collecting.percent; snapshot = has_ended.collecting.snapshot; progress = has_ended.collecting.progress; to_come = has_ended.collecting.to_come; freed = n; copied = has_ended.collecting.copied; alone = has_ended.collecting.alone } in Some k) freed_same
-            ∙ ap (λ (n : ℕ). let k : Collecting = record { percent = has_ended.collecting.percent; snapshot = has_ended.collecting.snapshot; progress = has_ended.collecting.progress; to_come = has_ended.collecting.to_come; freed = freed; copied = n; alone = has_ended.collecting.alone } in Some k) copied_same
-            ∙ ap (λ (p : Progress). let k : Collecting = record { percent = has_ended.collecting.percent; snapshot = has_ended.collecting.snapshot; progress = p; to_come = has_ended.collecting.to_come; freed = freed; copied = copied; alone = has_ended.collecting.alone } in Some k) at_last;
+            ∙ ap (λ (n : ℕ). let k : Collecting = record { percent = has_ended.collecting.percent; snapshot = has_ended.collecting.snapshot; progress = has_ended.collecting.progress; to_come = has_ended.collecting.to_come; freed = n; copied = has_ended.collecting.copied; recorded = has_ended.collecting.recorded; alone = has_ended.collecting.alone } in Some k) freed_same
+            ∙ ap (λ (n : ℕ). let k : Collecting = record { percent = has_ended.collecting.percent; snapshot = has_ended.collecting.snapshot; progress = has_ended.collecting.progress; to_come = has_ended.collecting.to_come; freed = freed; copied = n; recorded = has_ended.collecting.recorded; alone = has_ended.collecting.alone } in Some k) copied_same
+            ∙ ap (λ (p : Progress). let k : Collecting = record { percent = has_ended.collecting.percent; snapshot = has_ended.collecting.snapshot; progress = p; to_come = has_ended.collecting.to_come; freed = freed; copied = copied; recorded = has_ended.collecting.recorded; alone = has_ended.collecting.alone } in Some k) at_last;
+        freed_is = freed_chosen;
+        gone = (at.running.begins.store, (right C state among apart m sessions old new at done buf made, gone_now));
         none_spare = none_spare;
         full = full;
         others = refl;

@@ -7,15 +7,18 @@ use Rattle.actor_parts.specs.declared.step.Answer.{Answer}
 use Rattle.actor_parts.specs.declared.step.Answer.TheVariants as answers
 use Rattle.refusals.specs.declared.refusal.Phase.{Phase}
 use Rattle.refusals.specs.declared.refusal.Refusal.{Refusal}
+use Rattle.gc_select.specs.declared.liveness.ContainerLiveness.{ContainerLiveness}
+use Rattle.gc_select.specs.Selecting.{IsSelectedId}
 use Rattle.gc_steps.specs.declared.collection.Collection.{Collection}
 use Rattle.gc_steps.specs.declared.collection.Stage.{Stage}
 use Rattle.gc_steps.specs.declared.collection.Stage.TheVariants.{Mark, Filter, Select, Sweep}
 use Rattle.gc_steps.specs.Safety.{IsSafe}
-use Rattle.gc_steps.specs.Sparing.{Spares}
+use Rattle.gc_steps.specs.Sparing.{IsWithin, Spares}
 use Rattle.gc_steps.specs.Stepping.{StepsTo, TablesAfter, Touches, moment, phase_at}
 use Rattle.gc_steps.specs.SweepIsSafe.{HoldsAt}
 use Rattle.gc_steps.specs.Taking.{TakesAll}
 use Rattle.gc_steps.specs.UnderWay.{IsUnderWay}
+use Rattle.gc_steps.proofs.CopiedOn.{goes_well}
 use Rattle.gc_steps.proofs.Sparing as sparing
 use Rattle.gc_steps.proofs.StepSafe.{IsStoreAfter, LeavesSafe, step_safe}
 use Rattle.gc_steps.proofs.WholeCopies.{takes_step}
@@ -33,10 +36,10 @@ use Rattle.store_core.specs.Core.{CoreStep, IndexesAll}
 use Rattle.store_core.specs.Runs.{IsAt, IsSafeIn}
 use Rattle.store_core.specs.State.{CoreState, IsUnderWayIn}
 use Rattle.store_core.proofs.Leading.{Leads}
-use Rattle.plain_machine.specs.Collections.{ChangesBy, GoesTo, StepsCollection, forgets_by, freed_by, last_by}
+use Rattle.plain_machine.specs.Collections.{ChangesBy, GoesTo, RecordsBy, StepsCollection, forgets_by, freed_by, last_by}
 use Rattle.plain_machine.specs.Content.{SameStore}
 use Rattle.plain_machine.specs.Machine.{Collecting, Machine}
-use Rattle.script_runner.specs.Follows.{FollowsCollecting, HasCounted, IsAtProgress, SparesAlone, SparesNeeded}
+use Rattle.script_runner.specs.Follows.{CountsEach, FollowsCollecting, HasCounted, IsAtProgress, SparesAlone, SparesNeeded}
 use Rattle.script_runner.specs.Sessions.{Sessions}
 use Rattle.script_runner.proofs.CollectBytes.{GivesNothing}
 use Rattle.script_runner.proofs.CollectCauses.{no_end, phase_is}
@@ -44,6 +47,7 @@ use Rattle.script_runner.proofs.CollectCounts.{copies_by, counted_on, percent_on
 use Rattle.script_runner.proofs.CollectNeeds.{needs_closed, needs_here, told_here}
 use Rattle.script_runner.proofs.CollectParts.{gc_event}
 use Rattle.script_runner.proofs.CollectProgress.{Progresses, progresses}
+use Rattle.script_runner.proofs.CollectRecords.{records_on}
 use Rattle.script_runner.proofs.CollectStep.{HasCollecting, Stepped, image, last_after, leads, low_after, runs_then, same_index, same_so, same_some, some_collecting, steps, told, touched, under}
 use Rattle.script_runner.proofs.SweepContent.{copies_added, freed}
 use Rattle.script_runner.proofs.Sweeping.{IsFewIn, few_after, few_by, left_by, left_on}
@@ -111,28 +115,18 @@ module _ (C : Type 0) (state : C → CoreState) (among : ByteSet) (apart : HasNo
   copies = copies_by goes.before.stage goes.before.sweep.next goes.before.sweep
 
   abbrev goes_so : Collecting
-  goes_so = record { percent = has.collecting.percent; snapshot = has.collecting.snapshot; progress = leads_on.next; to_come = left; freed = has.collecting.freed + freed_by phase; copied = has.collecting.copied + copies; alone = has.collecting.alone }
+  goes_so = record { percent = has.collecting.percent; snapshot = has.collecting.snapshot; progress = leads_on.next; to_come = left; freed = has.collecting.freed + freed_by phase; copied = has.collecting.copied + copies; recorded = goes.after.liveness; alone = has.collecting.alone }
+
+  recorded_before : goes.before.liveness ≡ has.collecting.recorded
+  recorded_before = subst (λ (c : Collection). c.liveness ≡ has.collecting.recorded) same has.follows.recorded_is
 
   counted_now : HasCounted goes.after.stage goes.after.sweep (has.collecting.freed + freed_by phase) (has.collecting.copied + copies)
   counted_now =
       subst (λ (p : Phase). HasCounted goes.after.stage goes.after.sweep (has.collecting.freed + freed_by p) (has.collecting.copied + copies)) stage_phase
       (counted_on (at_moment (state old) goes.before) (at_moment (state new) goes.after) has.collecting.freed has.collecting.copied goes.before.stage goes.before.sweep.next refl refl counted_before goes.steps not_end)
 
-  now : FollowsCollecting goes_so (state new)
-  now = record {
-    collection = goes.after;
-    runs = goes.runs;
-    percent_is = percent_on (at_moment (state old) goes.before) (at_moment (state new) goes.after) has.collecting.freed has.collecting.copied goes.before.stage goes.before.sweep.next goes.steps ∙ percent_before;
-    snapshot_is = snapshot_on (at_moment (state old) goes.before) (at_moment (state new) goes.after) has.collecting.freed has.collecting.copied goes.before.stage goes.before.sweep.next goes.steps ∙ snapshot_before;
-    progress_is = leads_on.is_at;
-    counted = counted_now;
-    most = has.follows.most;
-    few = few_after has.follows.most phase (state old) (state new) at.running.up.under_way few goes;
-    nears = omega (arith, fewer, ap (left_by has.follows.most (state new).tables.held) goes.runs);
-  }
-
-  ran : m.collecting ≡ Some (record { percent = has.collecting.percent; snapshot = has.collecting.snapshot; progress = has.collecting.progress; to_come = suc left; freed = has.collecting.freed; copied = has.collecting.copied; alone = has.collecting.alone })
-  ran = has.is ∙ ap (λ (n : ℕ). let k : Collecting = record { percent = has.collecting.percent; snapshot = has.collecting.snapshot; progress = has.collecting.progress; to_come = n; freed = has.collecting.freed; copied = has.collecting.copied; alone = has.collecting.alone } in Some k) (let e : has.collecting.to_come ≡ suc left = omega (arith, fewer) in e)
+  ran : m.collecting ≡ Some (record { percent = has.collecting.percent; snapshot = has.collecting.snapshot; progress = has.collecting.progress; to_come = suc left; freed = has.collecting.freed; copied = has.collecting.copied; recorded = has.collecting.recorded; alone = has.collecting.alone })
+  ran = has.is ∙ ap (λ (n : ℕ). let k : Collecting = record { percent = has.collecting.percent; snapshot = has.collecting.snapshot; progress = has.collecting.progress; to_come = n; freed = has.collecting.freed; copied = has.collecting.copied; recorded = has.collecting.recorded; alone = has.collecting.alone } in Some k) (let e : has.collecting.to_come ≡ suc left = omega (arith, fewer) in e)
 
   -- ---- the last id
 
@@ -212,6 +206,28 @@ module _ (C : Type 0) (state : C → CoreState) (among : ByteSet) (apart : HasNo
   held_before : HoldsAt goes.before.stage begins.index at.running.begins.store.held m.content goes.before
   held_before = sparing.held_at begins.index at.running.begins.store (state old).parts m.content goes.before safe_before
 
+  -- each source that came to its end is counted still
+  each_now : CountsEach goes.after.sweep
+  each_now =
+      (goes_well (state old).tables (state new).tables begins.index at.running.begins.store.held m.content (state new).known (state old).disk (state new).disk goes.before goes.after shows.slots_hold begins.valid.different
+      needs.right.slots_are invariant.index_is_newest at.content_is (under C state among apart m sessions old new at did buf made goes.before goes.ran) held_before steps_known).counted
+      (subst (λ (c : Collection). CountsEach c.sweep) same has.follows.each)
+
+  now : FollowsCollecting goes_so (state new)
+  now = record {
+    collection = goes.after;
+    runs = goes.runs;
+    percent_is = percent_on (at_moment (state old) goes.before) (at_moment (state new) goes.after) has.collecting.freed has.collecting.copied goes.before.stage goes.before.sweep.next goes.steps ∙ percent_before;
+    snapshot_is = snapshot_on (at_moment (state old) goes.before) (at_moment (state new) goes.after) has.collecting.freed has.collecting.copied goes.before.stage goes.before.sweep.next goes.steps ∙ snapshot_before;
+    progress_is = leads_on.is_at;
+    recorded_is = refl;
+    counted = counted_now;
+    each = each_now;
+    most = has.follows.most;
+    few = few_after has.follows.most phase (state old) (state new) at.running.up.under_way few goes;
+    nears = omega (arith, fewer, ap (left_by has.follows.most (state new).tables.held) goes.runs);
+  }
+
   spares_step : Spares Needs begins.index at.running.begins.store.held goes.before → Spares Needs leaves.later leaves.store_now.held goes.after
   spares_step spares =
       sparing.spares_step Needs begins.index at.running.begins.store m.stored.files m.content (state old).tables (state new).known (state old).disk (state new).disk goes.before goes.after
@@ -245,8 +261,12 @@ module _ (C : Type 0) (state : C → CoreState) (among : ByteSet) (apart : HasNo
   nothing : (stage : Stage) (next : Next) → GivesNothing stage next → Touched stage next → SameStore m.content image_now
   nothing stage next none touch = same_so C state among apart m sessions old new at did buf made goes.before goes.ran stage next Done none touch
 
+  -- the ids that are chosen by what was recorded
+  abbrev Chosen : ℕ → Type 0
+  Chosen = IsSelectedId has.collecting.snapshot has.collecting.percent has.collecting.recorded
+
   changes_at : (stage : Stage) (next : Next) → goes.before.stage ≡ stage → goes.before.sweep.next ≡ next → Touched stage next → TablesAfter stage next (at_moment (state old) goes.before) (at_moment (state new) goes.after)
-      → (phase_at stage next ≡ phase_at Sweep End → ⊥) → ChangesBy (phase_at stage next) has.collecting.snapshot (copies_by stage next goes.before.sweep) m image_now
+      → (phase_at stage next ≡ phase_at Sweep End → ⊥) → ChangesBy (phase_at stage next) Chosen has.collecting.snapshot (copies_by stage next goes.before.sweep) m image_now
   changes_at (Mark level slot) next is next_is touch tables other = (refl, nothing (Mark level slot) next tt touch)
   changes_at (Filter slot) next is next_is touch tables other = (refl, nothing (Filter slot) next tt touch)
   changes_at Select next is next_is touch tables other = (refl, nothing Select next tt touch)
@@ -254,13 +274,31 @@ module _ (C : Type 0) (state : C → CoreState) (among : ByteSet) (apart : HasNo
   changes_at Sweep (Flush source entry) is next_is touch tables other =
       copies_added among at.running.begins.store m.stored (state old) (state new) begins at.running.begins.settled m.content image_now at.content_is told_now goes.before goes.ran is source entry next_is tables.0 tables.1
       touch m.last_id at.running.begins.last_id_is
-  changes_at Sweep (Release source entry) is next_is touch tables other =
-      (refl, freed among at.running.begins.store m.stored (state old) (state new) begins at.running.begins.settled m.content image_now at.content_is told_now goes.before goes.ran is source entry next_is touch has.collecting.snapshot snapshot_before)
+  changes_at Sweep (Release source entry) is next_is touch tables other = (
+    refl,
+    freed among at.running.begins.store m.stored (state old) (state new) begins at.running.begins.settled m.content image_now at.content_is told_now goes.before goes.ran is source entry next_is has.collecting.snapshot has.collecting.percent has.collecting.recorded snapshot_before
+        percent_before recorded_before touch,
+  )
   changes_at Sweep End is next_is touch tables other = absurd (other refl)
 
-  changes : ChangesBy phase has.collecting.snapshot copies m image_now
+  changes : ChangesBy phase Chosen has.collecting.snapshot copies m image_now
   changes =
-      subst (λ (p : Phase). ChangesBy p has.collecting.snapshot copies m image_now) stage_phase (changes_at goes.before.stage goes.before.sweep.next refl refl touches goes.tables not_end)
+      subst (λ (p : Phase). ChangesBy p Chosen has.collecting.snapshot copies m image_now) stage_phase (changes_at goes.before.stage goes.before.sweep.next refl refl touches goes.tables not_end)
+
+  -- ---- what it records
+
+  within_alone : has.collecting.alone ≡ true → IsWithin Needs goes.before.live
+  within_alone alone = (spared alone).0.within
+
+  records : RecordsBy phase has.collecting.alone has.collecting.snapshot m has.collecting.recorded goes.after.liveness
+  records =
+      subst (λ (p : Phase). RecordsBy p has.collecting.alone has.collecting.snapshot m has.collecting.recorded goes.after.liveness) stage_phase
+      (subst (λ (n : ℕ). RecordsBy here has.collecting.alone n m has.collecting.recorded goes.after.liveness) snapshot_before
+      (subst (λ (rs : List ContainerLiveness). RecordsBy here has.collecting.alone goes.before.snapshot m rs goes.after.liveness) recorded_before
+      (records_on among at.running.begins.store m.stored (state old) (state new) begins m.content at.content_is goes.before goes.after goes.ran has.collecting.alone within_alone m refl refl steps_known)))
+    where
+      here : Phase
+      here = phase_at goes.before.stage goes.before.sweep.next
 
   -- ---- the index
 
@@ -298,10 +336,13 @@ module _ (C : Type 0) (state : C → CoreState) (among : ByteSet) (apart : HasNo
       left = left;
       freed = has.collecting.freed;
       copied = has.collecting.copied;
+      recorded = has.collecting.recorded;
       alone = has.collecting.alone;
       ran = ran;
       copies = copies;
       changes = changes;
+      recorded_now = goes.after.liveness;
+      records = records;
       others = refl;
     };
     at = runs_then C state among apart m sessions old new at did buf made (steps C state among apart m sessions old new at did buf made).stops image_now m.faults (last_by phase m.last_id)

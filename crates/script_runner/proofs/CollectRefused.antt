@@ -9,6 +9,7 @@ use Rattle.refusals.specs.declared.refusal.Phase.{Phase}
 use Rattle.refusals.specs.declared.refusal.Phase.TheVariants as phases
 use Rattle.refusals.specs.declared.refusal.Refusal.{Refusal}
 use Rattle.refusals.specs.declared.refusal.Refusal.TheVariants as refusals
+use Rattle.gc_select.specs.Selecting.{IsSelectedId}
 use Rattle.gc_steps.specs.declared.collection.Collection.{Collection}
 use Rattle.gc_steps.specs.declared.collection.Stage.{Stage}
 use Rattle.gc_steps.specs.declared.collection.Stage.TheVariants.{Mark, Filter, Select, Sweep}
@@ -86,6 +87,15 @@ module _ (C : Type 0) (state : C → CoreState) (among : ByteSet) (apart : HasNo
 
     snapshot_before : row.before.snapshot ≡ has_some.collecting.snapshot
     snapshot_before = subst (λ (c : Collection). c.snapshot ≡ has_some.collecting.snapshot) (same_some has_some.follows.collection row.before (state old).collection has_some.follows.runs row.ran) has_some.follows.snapshot_is
+
+    percent_before : row.before.percent ≡ has_some.collecting.percent
+    percent_before = subst (λ (c : Collection). c.percent ≡ has_some.collecting.percent) (same_some has_some.follows.collection row.before (state old).collection has_some.follows.runs row.ran) has_some.follows.percent_is
+
+    recorded_before : row.before.liveness ≡ has_some.collecting.recorded
+    recorded_before = subst (λ (c : Collection). c.liveness ≡ has_some.collecting.recorded) (same_some has_some.follows.collection row.before (state old).collection has_some.follows.runs row.ran) has_some.follows.recorded_is
+
+    abbrev Chosen : ℕ → Type 0
+    Chosen = IsSelectedId has_some.collecting.snapshot has_some.collecting.percent has_some.collecting.recorded
 
     collects_as : (phase : Phase) → phase_at row.before.stage row.before.sweep.next ≡ phase → IsCollecting phase m.collecting
     collects_as phase is =
@@ -167,7 +177,7 @@ module _ (C : Type 0) (state : C → CoreState) (among : ByteSet) (apart : HasNo
         no_read : IsReadCause refusal → ⊥
         no_read reads = subst IsReadCause is reads
 
-        by_step : (stage : Stage) (next : Next) → row.before.stage ≡ stage → row.before.sweep.next ≡ next → BreaksBy (phase_at stage next) has_some.collecting.snapshot m image_then → BreaksStep m image_then
+        by_step : (stage : Stage) (next : Next) → row.before.stage ≡ stage → row.before.sweep.next ≡ next → BreaksBy (phase_at stage next) Chosen has_some.collecting.snapshot m image_then → BreaksStep m image_then
         by_step stage next stage_is next_is breaks = record {
           running = has_some.collecting;
           ran = has_some.is;
@@ -191,7 +201,7 @@ module _ (C : Type 0) (state : C → CoreState) (among : ByteSet) (apart : HasNo
         by_stage Sweep (Release source entry) stage_is next_is at_stage touches =
             by_step Sweep (Release source entry) stage_is next_is
             (freeing_broke among at.running.begins.store m.stored (state old) (state new) begins_then at.running.begins.settled m.content image_then at.content_is told_then row.before row.ran stage_is source entry next_is
-            (broken_as Sweep (Release source entry) touches) has_some.collecting.snapshot snapshot_before)
+            has_some.collecting.snapshot has_some.collecting.percent has_some.collecting.recorded snapshot_before percent_before recorded_before (broken_as Sweep (Release source entry) touches))
         by_stage Sweep End stage_is next_is at_stage touches = absurd at_stage
 
     -- ---- no id is left

@@ -13,6 +13,7 @@ use Rattle.container_meta.specs.Places.{PlaceMap}
 use Rattle.gc_steps.specs.FewSources.{HasFewSources}
 use Rattle.gc_steps.specs.Roots.{IsRoot}
 use Rattle.gc_steps.specs.StepsToCome.{old_from, steps_to_come}
+use Rattle.gc_steps.proofs.CopiedOn.{begun_counted}
 use Rattle.gc_steps.proofs.FewSources.{few_begun}
 use Rattle.gc_steps.proofs.Sparing as sparing
 use Rattle.gc_steps.proofs.Safe.{early_level}
@@ -163,7 +164,7 @@ module _ (C : Type 0) (state : C → CoreState) (among : ByteSet) (apart : HasNo
     slots_same = same_slots C state among apart m sessions old new at percent started buf made
 
     abbrev begins_so : Collecting
-    begins_so = record { percent = percent; snapshot = snapshot; progress = Marking; to_come = most_steps held.held; freed = 0; copied = 0; alone = are_idle m.parts }
+    begins_so = record { percent = percent; snapshot = snapshot; progress = Marking; to_come = most_steps held.held; freed = 0; copied = 0; recorded = []; alone = are_idle m.parts }
 
     -- the sources are still to be chosen
     early : IsToChoose begun.collection.stage
@@ -176,7 +177,9 @@ module _ (C : Type 0) (state : C → CoreState) (among : ByteSet) (apart : HasNo
       percent_is = begun.percent_is;
       snapshot_is = sym begun.snapshot_is;
       progress_is = early;
+      recorded_is = begun.nothing_yet.0;
       counted = early_counted begun.collection.stage begun.collection.sweep 0 0 early refl refl;
+      each = begun_counted (state old).tables.held [] begun.collection.sweep begun.nothing_yet.1;
       most = most;
       few = subst (λ (t : SlotTable). HasFewSources most t begun.collection) (sym slots_same) (few_begun (state old).tables.held begun.collection begun.nothing_yet.1.sources_are);
       nears = subst (λ (t : SlotTable). steps_to_come most t begun.collection ≤ most_steps held.held) (sym slots_same)

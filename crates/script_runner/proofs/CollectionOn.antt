@@ -89,7 +89,9 @@ module _ (old new : CoreState) where
         progress_is = follows.progress_is;
         percent_is = follows.percent_is;
         snapshot_is = follows.snapshot_is;
+        recorded_is = follows.recorded_is;
         counted = follows.counted;
+        each = follows.each;
         most = follows.most;
         few = with_live follows.most now c is.0 still.0;
         nears = omega (arith, follows.nears, still.1);

@@ -9,6 +9,7 @@ pub mod CollectMade
 pub mod CollectNeeds
 pub mod CollectParts
 pub mod CollectProgress
+pub mod CollectRecords
 pub mod CollectRefused
 pub mod CollectStart
 pub mod CollectStep
@@ -48,6 +49,7 @@ pub mod NamedLines
 pub mod NamedNames
 pub mod NamedSteps
 pub mod NamedTaking
+pub mod NeedsLive
 pub mod Numbered
 pub mod OneRead
 pub mod OneStep

@@ -111,7 +111,9 @@ module _ (old new : CoreState) (reads : OnlyReads old.disk new.disk) (tables_are
     runs = collection_is ∙ follows.runs;
     percent_is = follows.percent_is;
     snapshot_is = follows.snapshot_is;
+    recorded_is = follows.recorded_is;
     counted = follows.counted;
+    each = follows.each;
     progress_is = follows.progress_is;
     most = follows.most;
     few = subst (λ (tables : Tables). HasFewSources follows.most tables.held follows.collection) (sym tables_are) follows.few;

@@ -1,7 +1,8 @@
 -- What a sweep leaves of the content, by the machine: copies that it writes, and a container that it gives back.
 use Rattle.std.proofs.Common.{◌≡◌, ◌∙◌, inr, ◌+◌, ◌<◌, ◌≤◌, ℕ, suc, List, length, Some, refl, sym, ap, subst, arith}
-use Rattle.std.specs.Prelude.{count_by, ◌==◌}
+use Rattle.std.specs.Prelude.{count_by, ◌==◌, Contains}
 use Rattle.std.specs.List.{AllByRecursion}
+use Rattle.std.proofs.lemmas.List.Elements.{Contains-get_or}
 use Rattle.container_meta.specs.Places.{PlaceMap}
 use Rattle.container_meta.specs.Segments.{Contents, segment_key}
 use Rattle.container_meta.specs.Spelling.{HeaderValue}
@@ -14,6 +15,8 @@ use Rattle.gc_steps.specs.declared.collection.Stage.TheVariants.{Sweep}
 use Rattle.gc_steps.specs.Safety.{IsSafeAt}
 use Rattle.gc_steps.specs.Stepping.{Touches}
 use Rattle.gc_steps.specs.SweepIsSafe.{HoldsAt, SweepIsSafe}
+use Rattle.gc_steps.specs.UnderWay.{HasChosen}
+use Rattle.gc_steps.proofs.Chosen.{chosen_which}
 use Rattle.gc_steps.proofs.Sparing.{held_within, ready_is_spare}
 use Rattle.gc_steps.proofs.UnderWay.{at_stage}
 use Rattle.gc_sweep.specs.declared.sweep.Next.{Next}
@@ -22,6 +25,8 @@ use Rattle.gc_sweep.specs.Flushing.{WritesCopies}
 use Rattle.gc_sweep.specs.Holding.{HoldsSweep, SourcesStand}
 use Rattle.gc_sweep.specs.InTurn.{slot_in_turn}
 use Rattle.gc_sweep.specs.UnderWay.{IsSweeping, free_in, taken_from}
+use Rattle.gc_select.specs.declared.liveness.ContainerLiveness.{ContainerLiveness}
+use Rattle.gc_select.specs.Selecting.{IsSelectedId, selected, sources_of}
 use Rattle.gc_sweep.proofs.Holds.{IsInTurn, in_turn}
 use Rattle.gc_sweep.proofs.HoldsRoom.{are_newest, may_flush}
 use Rattle.gc_sweep.proofs.KeyLists.{each_so}
@@ -171,29 +176,51 @@ module _ (among : ByteSet) (store : Store) (stored : Stored) (old new : CoreStat
     there : turned < store.slots
     there = omega (arith, held_within store.held turned turn.stands.header turn.stands.there, at.valid.many)
 
-    before_now : (snapshot : ℕ) → c.snapshot ≡ snapshot → spare.header.id < snapshot
-    before_now snapshot is =
-        let same : turn.stands.header ≡ spare.header = (let both : Some (Some turn.stands.header) ≡ Some (Some spare.header) = sym turn.stands.there ∙ spare.holds in cc) in
-        subst (λ (n : ℕ). spare.header.id < n) is (subst (λ (h : HeaderValue). h.id < c.snapshot) same turn.stands.old)
+    -- its header is that of the source in turn
+    same_header : turn.stands.header ≡ spare.header
+    same_header = let both : Some (Some turn.stands.header) ≡ Some (Some spare.header) = sym turn.stands.there ∙ spare.holds in cc
 
-    pub freed : Touches Sweep (Release source entry) c.sweep old.tables Done old.disk new.disk → (snapshot : ℕ) → c.snapshot ≡ snapshot → FreesContainer (IsReachable stored.files) snapshot content image
-    freed touches snapshot is = record {
-      store = store;
-      was = right;
-      slot = turned;
-      spare = spare;
-      came_before = before_now snapshot is;
-      now = right_now (with_freed turned store) (touches.1.moves among store index stored.files represents invariant.files_are_indexed turn.none at.stands).arrives;
-      rest = gate_changed store.slots old.tables c.sweep old.disk new.disk content image here told at.valid.size_is source entry there touches;
-    }
+    -- which is selected by what was recorded
+    is_source : Contains c.sweep.sources.items turn.stands.header.id
+    is_source =
+        subst (Contains c.sweep.sources.items) (sym turn.stands.id_is)
+        (Contains-get_or c.sweep.sources.items turn.stands.number 0 (omega (arith, turn.stands.below, sweeping.before)))
 
-    -- where a write broke off
-    pub freeing_broke : Touches Sweep (Release source entry) c.sweep old.tables Broken old.disk new.disk → (snapshot : ℕ) → c.snapshot ≡ snapshot → BreaksGate (IsReachable stored.files) snapshot content image
-    freeing_broke touches snapshot is = record {
-      store = store;
-      was = right;
-      slot = turned;
-      spare = spare;
-      came_before = before_now snapshot is;
-      rest = gate_broke store.slots old.tables c.sweep old.disk new.disk content image here told at.valid.size_is source entry there settled_so touches;
-    }
+    sources_are : c.sweep.sources.items ≡ sources_of (selected c.snapshot c.percent c.liveness)
+    sources_are = subst (λ (stage : Stage). HasChosen stage c) stage_is (subst (IsUnderWayIn old.tables.held) runs at.under_way).sources_are
+
+    module _ (snapshot percent : ℕ) (recorded : List ContainerLiveness) (snapshot_is : c.snapshot ≡ snapshot) (percent_is : c.percent ≡ percent) (recorded_is : c.liveness ≡ recorded) where
+      before_now : spare.header.id < snapshot
+      before_now = subst (λ (n : ℕ). spare.header.id < n) snapshot_is (subst (λ (h : HeaderValue). h.id < c.snapshot) same_header turn.stands.old)
+
+      chosen_now : IsSelectedId snapshot percent recorded spare.header.id
+      chosen_now =
+          subst (λ (n : ℕ). IsSelectedId n percent recorded spare.header.id) snapshot_is
+          (subst (λ (n : ℕ). IsSelectedId c.snapshot n recorded spare.header.id) percent_is
+          (subst (λ (rs : List ContainerLiveness). IsSelectedId c.snapshot c.percent rs spare.header.id) recorded_is
+          (subst (λ (h : HeaderValue). IsSelectedId c.snapshot c.percent c.liveness h.id) same_header
+          ((chosen_which c.snapshot c.percent c.liveness c.sweep.sources.items sources_are turn.stands.header.id).0 is_source))))
+
+      pub freed : Touches Sweep (Release source entry) c.sweep old.tables Done old.disk new.disk → FreesContainer (IsReachable stored.files) (IsSelectedId snapshot percent recorded) snapshot content image
+      freed touches = record {
+        store = store;
+        was = right;
+        slot = turned;
+        spare = spare;
+        came_before = before_now;
+        chosen = chosen_now;
+        now = right_now (with_freed turned store) (touches.1.moves among store index stored.files represents invariant.files_are_indexed turn.none at.stands).arrives;
+        rest = gate_changed store.slots old.tables c.sweep old.disk new.disk content image here told at.valid.size_is source entry there touches;
+      }
+
+      -- where a write broke off
+      pub freeing_broke : Touches Sweep (Release source entry) c.sweep old.tables Broken old.disk new.disk → BreaksGate (IsReachable stored.files) (IsSelectedId snapshot percent recorded) snapshot content image
+      freeing_broke touches = record {
+        store = store;
+        was = right;
+        slot = turned;
+        spare = spare;
+        came_before = before_now;
+        chosen = chosen_now;
+        rest = gate_broke store.slots old.tables c.sweep old.disk new.disk content image here told at.valid.size_is source entry there settled_so touches;
+      }

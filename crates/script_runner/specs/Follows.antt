@@ -24,6 +24,7 @@ use Rattle.gc_steps.specs.declared.collection.Stage.TheVariants as stages
 use Rattle.gc_sweep.specs.declared.sweep.Next.{Next}
 use Rattle.gc_sweep.specs.declared.sweep.Next.TheVariants.{Copy, Flush, Release, End}
 use Rattle.gc_sweep.specs.declared.sweep.Sweep.{Sweep as SweepValue}
+use Rattle.gc_sweep.specs.UnderWay.{sources_before}
 use Rattle.ingest_session.specs.Facts.{IsKept}
 use Rattle.ingest_session.specs.History.{History, HasHistory}
 use Rattle.ingest_session.specs.State.{SessionState}
@@ -113,15 +114,21 @@ abbrev pub HasCounted : Stage → SweepValue → ℕ → ℕ → Type 0
 HasCounted stages.Sweep s freed copied = (s.freed ≡ freed) × (s.copied ≡ copied + length s.buffer.segments)
 HasCounted stage s freed copied = (freed ≡ 0) × (copied ≡ 0)
 
--- One runs, of that percentage and from that snapshot, that has come so far, gave so many containers back and wrote so many copies, and no
--- more steps of it come.
+-- each source that came to its end was given back, waits, or is ready
+abbrev pub CountsEach : SweepValue → Type 0
+CountsEach s = s.freed + length s.waiting.items + length s.ready.items ≡ sources_before s s.next
+
+-- One runs, of that percentage and from that snapshot, that has come so far, recorded the same, gave so many containers back and wrote so
+-- many copies, and no more steps of it come.
 pub record FollowsCollecting (k : Collecting) (c : CoreState) : Type 0 where
   pub collection : Collection
   pub runs : c.collection ≡ Some collection
   pub percent_is : collection.percent ≡ k.percent
   pub snapshot_is : collection.snapshot ≡ k.snapshot
   pub progress_is : IsAtProgress k.progress collection
+  pub recorded_is : collection.liveness ≡ k.recorded
   pub counted : HasCounted collection.stage collection.sweep k.freed k.copied
+  pub each : CountsEach collection.sweep
   pub most : ℕ
   pub few : HasFewSources most c.tables.held collection
   pub nears : steps_to_come most c.tables.held collection ≤ k.to_come

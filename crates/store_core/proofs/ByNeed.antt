@@ -134,7 +134,7 @@ selected_little snapshot percent r passes =
 -- ---- how much of a container is needed
 
 -- the sum is one
-sum_once : (P : List ℕ → Type 0) (held : List (Option HeaderValue)) (kind : Kind) (slot : ℕ) (es : List Entry) (a b : ℕ) → SumsNeeded P held kind slot es a → SumsNeeded P held kind slot es b → a ≡ b
+pub sum_once : (P : List ℕ → Type 0) (held : List (Option HeaderValue)) (kind : Kind) (slot : ℕ) (es : List Entry) (a b : ℕ) → SumsNeeded P held kind slot es a → SumsNeeded P held kind slot es b → a ≡ b
 sum_once P held kind slot [] a b one other = one ∙ sym other
 sum_once P held kind slot (e ∷ es) a b (inl one) (inl other) = omega (arith, one.1.1, other.1.1, sum_once P held kind slot es one.1.0 other.1.0 one.1.2 other.1.2)
 sum_once P held kind slot (e ∷ es) a b (inl one) (inr other) = absurd (other.0 one.0)
@@ -153,7 +153,7 @@ module _ (P : List ℕ → Type 0) (index : PlaceMap) (held : List (Option Heade
       let same : has.0 ≡ place_of slot e = some_same has.0 (place_of slot e) (sym (partial (entry_key kind e) has.0 has.1) ∙ is.1) in
       (at_copy index kind slot e (has.1 ∙ ap Some same), marked (entry_key kind e) (place_of slot e) is.0)
 
-  sums_needed : (kind : Kind) (slot : ℕ) (es : List Entry) (sum : ℕ) → SumsLive index live kind slot es sum → SumsNeeded P held kind slot es sum
+  pub sums_needed : (kind : Kind) (slot : ℕ) (es : List Entry) (sum : ℕ) → SumsLive index live kind slot es sum → SumsNeeded P held kind slot es sum
   sums_needed kind slot [] sum sums = sums
   sums_needed kind slot (e ∷ es) sum (inl here) = inl (needed_of kind slot e here.0, (here.1.0, here.1.1, sums_needed kind slot es here.1.0 here.1.2))
   sums_needed kind slot (e ∷ es) sum (inr dead) = inr ((λ needed. dead.0 (live_of kind slot e needed)), sums_needed kind slot es sum dead.1)

@@ -1,0 +1,71 @@
+-- What a collection records of a container: its id, its kind, all its bytes, and the sum of its live copies.
+use Rattle.std.proofs.Common.{◌≡◌, ℕ, ◌<◌, List, length, get_or, Option, Some, refl, sym, ◌∙◌, ap, subst, arith}
+use Rattle.std.specs.Prelude.{slice_get}
+use Rattle.container_meta.specs.Places.{PlaceMap}
+use Rattle.container_meta.specs.Spelling.{HeaderValue, bytes_of}
+use Rattle.copy_forward.specs.Entries.{SumsLive}
+use Rattle.dd_disk.specs.View.{DiskView}
+use Rattle.dd_disk.proofs.Shows.{shown_content}
+use Rattle.gc_enumerate.specs.Live.{LiveKeys}
+use Rattle.gc_select.specs.declared.liveness.ContainerLiveness.{ContainerLiveness}
+use Rattle.gc_sweep.proofs.InSlots.{id_at}
+use Rattle.gc_sweep.proofs.SourceRead.{header_in}
+use Rattle.store_model.specs.Image.{Store}
+use Rattle.store_model.specs.Files.{Files}
+use Rattle.store_model.specs.Slots.{HoldsSlot}
+use Rattle.store_model.specs.Standing.{IsStoreOf}
+use Rattle.store_model.proofs.Free.{as_many}
+use Rattle.store_state.specs.Tables.{Represents, RepresentsSlots, count_of}
+use Rattle.store_state.specs.declared.slot_table.SlotCount.{SlotCount}
+use Rattle.store_state.specs.declared.tables.Tables.{Tables}
+use Rattle.gc_steps.specs.declared.collection.Collection.{Collection}
+use Rattle.gc_steps.specs.Filtering.{Records, recorded, recorded_by}
+use Rattle.gc_steps.proofs.SparingStages.{recorded_id_by, recorded_live_by}
+use Rattle.gc_steps.proofs.WholeCopies.{count_there}
+
+-- so it is of the container in the slot
+pub record IsOfSlot (index : PlaceMap) (live : LiveKeys) (held : List (Option HeaderValue)) (slot : ℕ) (r : ContainerLiveness) : Type 0 where
+  pub header : HeaderValue
+  pub there : slice_get held slot ≡ Some (Some header)
+  pub id_is : r.id ≡ header.id
+  pub kind_is : r.kind ≡ header.kind
+  pub all_is : r.all ≡ bytes_of header.entries
+  pub sums : SumsLive index live header.kind slot header.entries r.live
+
+module _ (m : PlaceMap) (store : Store) (files : Files) (image : List ℕ) (t : Tables) (old new : DiskView) (c d : Collection) (holds : IsStoreOf store files image) (represents : Represents store (Some m) t)
+    (content : old.content ≡ Some image) (at : ℕ) (within : at < length t.held.ids.items) (records : Records t.held (Some m) old new at c d) where
+  abbrev slots : RepresentsSlots store.held t.held
+  slots = represents.slots_hold
+
+  shown : HoldsSlot image at (Some records.header)
+  shown = shown_content old new (λ (i : List ℕ). HoldsSlot i at (Some records.header)) image records.shown content
+
+  here : slice_get store.held at ≡ Some (Some records.header)
+  here = header_in store.held image at records.header holds.right.slots_are (omega (arith, within, ap length slots.ids_are, as_many store.held)) shown
+
+  count_is : slice_get t.held.counts.items at ≡ Some (count_of (Some records.header))
+  count_is = ap (λ (counts : List SlotCount). slice_get counts at) slots.counts_are ∙ count_there store.held at records.header here
+
+  abbrev one : ContainerLiveness
+  one = recorded t.held at records.live
+
+  -- as the table has it
+  abbrev as_counted : Option SlotCount → ContainerLiveness
+  as_counted count = recorded_by (get_or t.held.ids.items at 0) count records.live
+
+  all_is : one.all ≡ records.header.data_length
+  all_is = ap (λ (count : Option SlotCount). (as_counted count).all) count_is
+
+  live_is : one.live ≡ records.live
+  live_is = recorded_live_by (get_or t.held.ids.items at 0) (slice_get t.held.counts.items at) records.live
+
+  pub record_of : IsOfSlot m c.live store.held at one
+  record_of = record {
+    header = records.header;
+    there = here;
+    id_is = recorded_id_by (get_or t.held.ids.items at 0) (slice_get t.held.counts.items at) records.live
+        ∙ ap (λ (ids : List ℕ). get_or ids at 0) slots.ids_are ∙ id_at store.held at records.header here;
+    kind_is = ap (λ (count : Option SlotCount). (as_counted count).kind) count_is;
+    all_is = all_is ∙ sym records.right.whole;
+    sums = subst (SumsLive m c.live records.header.kind at records.header.entries) (sym live_is) (records.live_is m refl);
+  }

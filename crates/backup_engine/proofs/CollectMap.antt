@@ -1,5 +1,5 @@
 -- What a `collect` keeps of the map: all of it; and which containers it gives back.
-use Rattle.std.proofs.Common.{◌≡◌, ◌⊎◌, inl, ◌+◌, ◌<◌, ◌≤◌, ℕ, List, [], ◌∷◌, ◌++◌, Option, None, Some, Result, Ok, Err, refl, sym, ◌∙◌, subst, arith}
+use Rattle.std.proofs.Common.{◌≡◌, ◌⊎◌, inl, ◌+◌, ◌<◌, ◌≤◌, ℕ, List, [], ◌∷◌, ◌++◌, length, Option, None, Some, Result, Ok, Err, refl, sym, ◌∙◌, subst, arith}
 use Rattle.std.specs.Prelude.{IfErr, slice_get}
 use Rattle.base_model.specs.Bytes.{range}
 use Rattle.base_model.specs.Known.{KnownWith}
@@ -39,6 +39,7 @@ use Rattle.store_model.specs.Reserve.{HoldsJustNeeded, IsReachable, IsSpare}
 use Rattle.store_model.specs.Slots.{free_slots, last_id}
 use Rattle.store_model.specs.Standing.{IsStoreOf}
 use Rattle.store_model.specs.Steps.{StoreChange}
+use Rattle.store_model.proofs.Copies.{headers_of_right}
 use Rattle.store_model.proofs.Once.{store_once}
 use Rattle.store_state.specs.Refused.{blames}
 use Rattle.store_state.specs.declared.tables.Tables.{Tables}
@@ -55,10 +56,12 @@ use Rattle.store_core.proofs.Damage.{never_damaged}
 use Rattle.store_core.proofs.GcSteps.{end_reads}
 use Rattle.store_core.proofs.Leading.{Leads}
 use Rattle.store_core.specs.Bounds as bounds
+use Rattle.store_core.specs.Chosen.{Chooses, HasChosen}
+use Rattle.store_core.proofs.ByNeed.{collects_by_need}
 use Rattle.store_core.proofs.JustNeeded.{leaves_just_needed}
 use Rattle.store_core.proofs.Releasing.{leaves_none_spare}
 use Rattle.store_core.proofs.Rooms.{free_held, room_ended}
-use Rattle.backup_engine.specs.Collected.{Collected, CollectedAll, HasNoIdLeft, collected_line}
+use Rattle.backup_engine.specs.Collected.{Collected, CollectedAll, HasNoIdLeft, collected_line, written_in}
 use Rattle.backup_engine.specs.Frame.{SameButSlotsOf}
 use Rattle.backup_engine.specs.Line.{Collect}
 use Rattle.backup_engine.specs.Promise.{EndsBy, EndsFrom, GivesSlotsBack, IsLeftAs, IsLeftWith, KeepsEachMap, KeepsMap, MayBeMeanwhile, WroteReply}
@@ -67,8 +70,9 @@ use Rattle.backup_engine.proofs.Called.{Called, Starts as StartsAt, starts}
 use Rattle.backup_engine.proofs.CollectKept.{begun_is, ends, index, since_old, sized, so_begun, start_event, store}
 use Rattle.backup_engine.proofs.CollectMaps.{AreQuiet, DidSteps, MapSoFar, all_maps, did_steps, gc_file, none_held, quiet_then, run_then, start_file, still_on_the_way}
 use Rattle.backup_engine.proofs.CollectStays.{stays}
-use Rattle.backup_engine.proofs.CollectSteps.{CollectedSoFar, ended, gc_event, same_collection, under_way}
+use Rattle.backup_engine.proofs.CollectSteps.{CollectedSoFar, ended, few_so, gc_event, same_collection, under_way}
 use Rattle.backup_engine.proofs.DeleteMap.{IsDone}
+use Rattle.backup_engine.proofs.Moved.{all_moved, moved, none_copied}
 use Rattle.backup_engine.proofs.NotDone.{left_with, not_sink}
 use Rattle.backup_engine.proofs.Reading.{reads_map, wrote_nothing}
 use Rattle.backup_engine.proofs.SweptBytes.{but_before, content_framed}
@@ -308,13 +312,16 @@ module _ (C : Type 0) (state : C → CoreState) (v w : DiskView) (old new : C) (
           pub left_now : IsLeftWith m w.content (λ store. Unit {0})
           left_now = (so.after, (content_now.0, content_now.1.0, holds_last), enough, tt)
 
+          few_here : written_in so.changes < length opened.held
+          few_here = few_so opened (index C state v w old new called percent) v (sized C state v w old new called percent) C state sweeps.1.0 so called.opened.valid.many
+
           -- no id was left by the tables
           pub no_id_left : LAST_ID ≤ (state sweeps.1.0).tables.held.last_id → IsLeftWith m w.content (λ store. KnownWith v.content (HasNoIdLeft m.files store))
           no_id_left over = (
             so.after,
             (content_now.0, content_now.1.0, holds_last),
             enough,
-            (image, told, record { store = opened; was = opened_right; changes = so.changes; chain = far.chain; ids = omega (arith, over, so.ids) }),
+            (image, told, record { store = opened; was = opened_right; changes = so.changes; chain = far.chain; ids = omega (arith, over, so.ids); few = few_here }),
           )
 
         -- and what was there before
@@ -334,25 +341,48 @@ module _ (C : Type 0) (state : C → CoreState) (v w : DiskView) (old new : C) (
           all_stay : (store : Store) → Encodes image store → StaysFrom store
           all_stay store right = subst StaysFrom (one_store store right) (stays opened so.after so.freed so.filled image content_now.0 so.slots opened_right holds_last.right but_now)
 
-          all_chained : (store : Store) → Encodes image store → SweepsSpare Needs so.changes store so.after
-          all_chained store right = subst (λ (s : Store). SweepsSpare Needs so.changes s so.after) (one_store store right) far.chain
-
-          abbrev gave_one : (store : Store) → Encodes image store → Collected m.files (freed_in so.changes) (copied_in so.changes) store image content_now.0
-          gave_one store right = record {
-            changes = so.changes;
-            freed_are = refl;
-            copied_are = refl;
+          -- by changes that led to it
+          abbrev gave_along : (freed copied : ℕ) (changes : List StoreChange) (s store : Store) → freed ≡ freed_in changes → copied ≡ copied_in changes → s ≡ store → SweepsSpare Needs changes s so.after → Encodes image store
+              → Collected m.files freed copied store image content_now.0
+          gave_along freed copied changes s store freed_are copied_are same chain right = record {
+            changes = changes;
+            freed_are = freed_are;
+            copied_are = copied_are;
             after = so.after;
-            chain = all_chained store right;
+            chain = subst (λ (x : Store). SweepsSpare Needs changes x so.after) same chain;
             right = holds_last.right;
             stays = all_stay store right;
           }
 
           pub gave_some : (store : Store) → Encodes image store → KnownWith w.content (Collected m.files (freed_in so.changes) (copied_in so.changes) store image)
-          gave_some store right = (content_now.0, content_now.1.0, gave_one store right)
+          gave_some store right =
+              (content_now.0, content_now.1.0, gave_along (freed_in so.changes) (copied_in so.changes) so.changes opened store refl refl (one_store store right) far.chain right)
 
-          pub gave_all : ((slot : ℕ) → ¬ (IsSpare Needs so.after.held slot)) → (percent ≡ 100 → HoldsJustNeeded m.files so.after.held) → (store : Store) → Encodes image store → KnownWith w.content (CollectedAll m.files percent (freed_in so.changes) (copied_in so.changes) store image)
-          gave_all none full store right = (content_now.0, content_now.1.0, record { collected = gave_one store right; none_spare = none; full = full })
+          pub gave_all : (freed copied : ℕ) → HasChosen S m percent freed copied at.store (state new) → ((slot : ℕ) → ¬ (IsSpare Needs so.after.held slot)) → (percent ≡ 100 → HoldsJustNeeded m.files so.after.held)
+              → (store : Store) → Encodes image store → KnownWith w.content (CollectedAll m.files percent freed copied store image)
+          gave_all freed copied chosen none full store right =
+              let released = chosen.collected.released in
+              let same : at.store ≡ store = store_once image at.store store at.stands.holds.right right in
+              let same_now : released.store ≡ so.after =
+              store_once content_now.0 released.store so.after (released.is_at.stands.each content_now.0 ((state new).disk.as_read content_now.0 content_now.1.1)).holds.right holds_last.right in
+              let chain : SweepsSpare Needs released.changes at.store so.after = subst (λ (x : Store). SweepsSpare Needs released.changes at.store x) same_now released.chain in
+              let chooses : Chooses Needs percent store.held so.after.held released.changes =
+              subst (λ (x : Store). Chooses Needs percent x.held so.after.held released.changes) same
+              (subst (λ (x : Store). Chooses Needs percent at.store.held x.held released.changes) same_now chosen.chooses) in
+              let collected = gave_along freed copied released.changes at.store store (sym released.many) (sym chosen.collected.written) same chain right in (
+                content_now.0,
+                content_now.1.0,
+                record {
+                  collected = collected;
+                  chooses = chooses;
+                  moved = moved Needs percent store so.after released.changes collected.chain chooses;
+                  all_moved = all_moved Needs percent store so.after released.changes collected.chain chooses
+                      (subst (λ (x : Store). (slot : ℕ) (h : HeaderValue) → slice_get so.after.held slot ≡ Some (Some h) → (slice_get x.held slot ≡ Some (Some h)) ⊎ (last_id x.held < h.id)) (one_store store right) so.slots.there);
+                  none_copied = λ zero_is. collected.copied_are ∙ none_copied Needs percent store so.after released.changes (headers_of_right image store right) chooses zero_is;
+                  none_spare = none;
+                  full = full;
+                },
+              )
 
       -- ---- it came to its end
 
@@ -402,10 +432,14 @@ module _ (C : Type 0) (state : C → CoreState) (v w : DiskView) (old new : C) (
         pub done_left : IsLeftWith m w.content (λ store. Unit {0})
         done_left = left_now only_done runs_done room_done
 
+        -- it chose by what the files need
+        chosen_now : HasChosen S m percent freed copied at.store (state new)
+        chosen_now =
+            collects_by_need C state among 0 0 percent snapshot freed copied start.0 collects.0 did.steps at.store m old mid sweeps.1.0 new distinct at.is_at (none_held (state old).parts called.opened.parts_are)
+            start.1 did.run did.all (subst (λ (a : Result Answer Refusal). CoreStep (state sweeps.1.0) (gc_event a collects.0) (state new)) done collects.1)
+
         pub done_gave : (store : Store) → Encodes image store → KnownWith w.content (CollectedAll m.files percent freed copied store image)
-        done_gave store right =
-            subst (λ (n : ℕ). KnownWith w.content (CollectedAll m.files percent n copied store image)) (sym row_done.1)
-            (subst (λ (n : ℕ). KnownWith w.content (CollectedAll m.files percent (freed_in so.changes) n store image)) (sym row_done.2) (gave_all only_done runs_done kept_done none_before full_now store right))
+        done_gave = gave_all only_done runs_done kept_done freed copied chosen_now none_before full_now
 
       -- ---- it was refused
 

@@ -1,5 +1,5 @@
 -- The steps of a collection, one after the other, whatever the disk holds: what they changed of the store so far.
-use Rattle.std.proofs.Common.{◌≡◌, ◌≢◌, inl, inr, ◌+◌, ◌≤◌, ℕ, List, [], ◌∷◌, ◌++◌, length, get_or, Option, Some, None, Result, Ok, refl, sym, ◌∙◌, ap, subst, arith}
+use Rattle.std.proofs.Common.{◌≡◌, ◌≢◌, inl, inr, ◌+◌, ◌<◌, ◌≤◌, ℕ, List, [], ◌∷◌, ◌++◌, length, get_or, Option, Some, None, Result, Ok, refl, sym, ◌∙◌, ap, subst, arith}
 use Rattle.std.specs.Prelude.{Contains, slice_get}
 use Rattle.std.specs.List.{AllByRecursion}
 use Rattle.std.proofs.lemmas.List.Elements.{Contains-append_right, Contains-get_or}
@@ -59,6 +59,7 @@ use Rattle.store_core.proofs.RunningOn.{step_runs}
 use Rattle.gc_steps.proofs.UnderWay.{at_stage}
 use Rattle.backup_engine.specs.Collected.{IsOfCollection, written_in}
 use Rattle.backup_engine.proofs.FirstActor.{up_of}
+use Rattle.backup_engine.proofs.NewContainers.{new_few, new_in, new_with, new_without}
 use Rattle.backup_engine.proofs.Returned.{one_later}
 use Rattle.backup_engine.specs.Frame.{MayFill, SameButSlotsOf}
 use Rattle.backup_engine.proofs.SweptBytes.{IsFramed, filled_with, freed_with, stage_so}
@@ -143,6 +144,7 @@ module _ (s after : Store) (freed filled : List ℕ) (slots : SweptSlots s after
     pub filled_is : filled_with stage next after filled ≡ filled_now
     pub swept : SweptSlots s store_now freed_now filled_now
     pub ids_now : new.tables.held.last_id ≡ old.tables.held.last_id + written_in changes
+    pub new_now : new_in (last_id s.held) store_now.held ≡ new_in (last_id s.held) after.held + written_in changes
 
   changed_none : (stage : Stage) (next : Next) → freed_by (phase_at stage next) ≡ 0 → copies_by stage next c.sweep ≡ 0 → freed_with stage next c.sweep freed ≡ freed → filled_with stage next after filled ≡ filled
       → IsChangeOf stage next c.sweep old.tables.held.last_id after [] after → new.tables ≡ old.tables → Changed stage next
@@ -163,6 +165,7 @@ module _ (s after : Store) (freed filled : List ℕ) (slots : SweptSlots s after
     filled_is = filled_same;
     swept = slots;
     ids_now = omega (arith, ap (λ (t : Tables). t.held.last_id) same);
+    new_now = omega arith;
   }
 
   pub changed_by : (stage : Stage) (next : Next) → c.stage ≡ stage → c.sweep.next ≡ next → TablesAfter stage next old new → Changed stage next
@@ -191,6 +194,7 @@ module _ (s after : Store) (freed filled : List ℕ) (slots : SweptSlots s after
         filled_is = refl;
         swept = slots_filled s after freed filled slots h has_free (omega (arith, above));
         ids_now = omega (arith, writes.written.last_is);
+        new_now = omega (arith, new_with (last_id s.held) h after.held has_free (omega (arith, above)));
       }
   changed_by SweepStage (Release source entry) is next_is gives =
       let slot : ℕ = slot_in_turn c.sweep in
@@ -211,6 +215,7 @@ module _ (s after : Store) (freed filled : List ℕ) (slots : SweptSlots s after
         filled_is = refl;
         swept = slots_freed s after freed filled slots slot (had_in_turn source entry is next_is);
         ids_now = omega (arith, gives.last_stays);
+        new_now = let in_turn = stands source entry is next_is in omega (arith, new_without (last_id s.held) slot in_turn.header after.held in_turn.there (omega (arith, in_turn.old, began)));
       }
   changed_by SweepStage End is next_is same = changed_none SweepStage End refl refl refl refl (refl, refl) same
 
@@ -308,6 +313,7 @@ pub record CollectedSoFar (s : Store) (index : PlaceMap) (v : DiskView) (c : Cor
   pub slots : SweptSlots s after freed filled
   pub framed : (base : List ℕ) → v.content ≡ Some base → IsFramed s freed filled base c.disk
   pub ids : c.tables.held.last_id ≡ last_id s.held + written_in changes
+  pub written_new : new_in (last_id s.held) after.held ≡ written_in changes
   pub collection : Collection
   pub runs : c.collection ≡ Some collection
   pub began : collection.snapshot ≤ last_id s.held + 1
@@ -355,6 +361,10 @@ module _ (s : Store) (index : PlaceMap) (v : DiskView) (sized : v.size ≡ size_
     pub free_so : HasFree so.after.held
     free_so =
         has_free s so.after so.freed so.filled so.slots (at_moment (state c) so.collection) (at_moment (state c) so.collection) so.represents valid_so runs_so (under_way c so) so.began above_so
+
+    -- it wrote fewer containers than there are slots
+    pub few_so : length s.held ≡ s.slots → written_in so.changes < length s.held
+    few_so many = omega (arith, many, so.valid.many, so.slots_are, so.written_new, new_few (last_id s.held) so.after.held, free_so)
 
     pub had_so : (source entry : ℕ) → so.collection.stage ≡ SweepStage → so.collection.sweep.next ≡ Release source entry → HadContainer s (slot_in_turn so.collection.sweep)
     had_so =
@@ -441,6 +451,7 @@ module _ (s : Store) (index : PlaceMap) (v : DiskView) (sized : v.size ≡ size_
           slots = changed.swept;
           framed = framed_now;
           ids = omega (arith, changed.ids_now, so.ids, written-append so.changes changed.changes);
+          written_new = omega (arith, changed.new_now, so.written_new, written-append so.changes changed.changes);
           collection = goes.after;
           runs = goes.runs;
           began = omega (arith, so.began, ap (λ (c : Collection). c.snapshot) same, snapshot_on was now (freed_in so.changes) (copied_in so.changes) before.stage before.sweep.next goes.steps);

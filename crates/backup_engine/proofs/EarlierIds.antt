@@ -1,5 +1,5 @@
 -- A collection that ran out of ids once room was made: so it is from the store on of which room was made.
-use Rattle.std.proofs.Common.{◌≡◌, ◌+◌, ◌≤◌, ℕ, List, [], ◌∷◌, ◌++◌, Option, Some, sym, ◌∙◌, subst, arith}
+use Rattle.std.proofs.Common.{◌≡◌, ◌+◌, ◌≤◌, ℕ, List, [], ◌∷◌, ◌++◌, length, Option, Some, refl, sym, ◌∙◌, ap, subst, arith}
 use Rattle.base_model.specs.Known.{KnownWith}
 use Rattle.dd_disk.specs.View.{DiskView}
 use Rattle.dd_disk.proofs.Shows.{shown_content}
@@ -15,6 +15,7 @@ use Rattle.store_model.specs.Freeing.{FreesTo, with_all_freed, with_freed}
 use Rattle.store_model.specs.Image.{Store, Encodes}
 use Rattle.store_model.specs.Slots.{last_id}
 use Rattle.store_model.specs.Steps.{FreeContainer, StoreChange}
+use Rattle.store_model.proofs.Freed.{length-without_slot}
 use Rattle.store_model.proofs.Once.{store_once}
 use Rattle.store_state.proofs.Taken.{last_without}
 use Rattle.backup_engine.specs.Collected.{HasNoIdLeft, written_in}
@@ -46,6 +47,11 @@ module _ (P : List ℕ → Type 0) where
   sweeps_from (slot ∷ slots) more s t u frees_to sweeps =
       (record { header = frees_to.1.header; holds = frees_to.1.holds; none = frees_to.1.none }, sweeps_from slots more (with_freed slot s) t u frees_to.2 sweeps)
 
+-- the slots are as many
+slots_freed : (slots : List ℕ) (s : Store) → length (with_all_freed slots s).held ≡ length s.held
+slots_freed [] s = refl
+slots_freed (slot ∷ slots) s = slots_freed slots (with_freed slot s) ∙ length-without_slot slot s.held
+
 same_list : (a b : List ℕ) → Some a ≡ Some b → a ≡ b
 same_list a b is = cc
 
@@ -65,6 +71,7 @@ module _ (v mid : DiskView) (made : RoomMade v mid) (old : List ℕ) (told : v.c
           changes = frees made.freed ++ none.changes;
           chain = sweeps_from _ made.freed none.changes made.short.store (with_all_freed made.freed made.short.store) after spares
               (subst (λ (s : Store). SweepsSpare _ none.changes s after) same none.chain);
+          few = omega (arith, slots_freed made.freed made.short.store, ap (λ (s : Store). length s.held) same, none.few, written_frees made.freed none.changes);
           ids = omega (arith, first, written_frees made.freed none.changes, last_freed _ made.freed made.short.store (with_all_freed made.freed made.short.store) spares);
         },
       )

@@ -40,8 +40,10 @@ pub mod LinesRun
 pub mod ListKept
 pub mod Lists
 pub mod ListsFormat
+pub mod Moved
 pub mod NameLines
 pub mod NamesKept
+pub mod NewContainers
 pub mod NoGcSteps
 pub mod NotDone
 pub mod NotOpened

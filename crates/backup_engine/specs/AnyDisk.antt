@@ -1,5 +1,5 @@
 -- What the top call promises over any disk, also one that tells nothing, or lies (docs/MODEL.md, 'The promise').
-use Rattle.std.specs.Prelude.{◌≡◌, ◌≢◌, ◌⊎◌, ℕ, ◌+◌, ◌≤◌, List, [], length, Contains, sum_by, is_some, Option, None, Some}
+use Rattle.std.specs.Prelude.{◌≡◌, ◌≢◌, ◌⊎◌, ℕ, ◌+◌, ◌<◌, ◌≤◌, List, [], length, Contains, sum_by, is_some, Option, None, Some}
 use Rattle.std.specs.FinMap as finite
 use Rattle.std.specs.List.{AllByRecursion, concat}
 use Rattle.base_model.specs.Bytes.{byte_at}
@@ -187,11 +187,12 @@ pub record IsUncopied (disk disk_now : DiskView) (refusal : Refusal) : Type 0 wh
   pub cause : IsCopyRefusal (ShownSince disk disk_now) (place_of slot entry) entry.digest refusal
 
 -- Copies were not written, as no id is left for their container: the last id of the store, and one for each container of copies that was
--- written, come to the last that there is.
+-- written, come to the last that there is; and these are fewer than the slots.
 pub record IsUnwritten (store : Store) : Type 0 where
   pub changes : List StoreChange
   pub sweeps : SweepsTo store changes
   pub ids : LAST_ID ≤ last_id store.held + written_in changes
+  pub few : written_in changes < length store.held
 
 -- Why a collection of the store that the disk holds went no further. The index, while it marks, is that of the store.
 abbrev pub IsUncollected : {disk disk_now : DiskView} → Holds disk disk_now → Refusal → Type 0

@@ -49,7 +49,7 @@ use Rattle.store_model.specs.Collisions.{HasNoCollisions, ByteSet, IsIn}
 use Rattle.store_model.specs.Files.{Stored}
 use Rattle.store_model.specs.Image.{Store}
 use Rattle.store_model.specs.Slots.{first_free, ids_of as ids_held}
-use Rattle.store_model.specs.Steps.{StoreChange, SealContainer, ChangeName, FlushContainer, FreeContainer}
+use Rattle.store_model.specs.Steps.{StoreChange, FreeContainer}
 use Rattle.store_core.specs.declared.stop.Stop.{Stop}
 use Rattle.store_core.specs.Bounds.{IsNoEnd, NoneEnds, starts}
 use Rattle.store_core.specs.Collecting.{Begins, Collects, GcEffect, GcRow, GoesOn, HasEnded, IsKeptKey, IsNotMade, MarksIn, StartRow, TouchesBy, at_moment}

@@ -31,7 +31,7 @@ use Rattle.gc_steps.proofs.NeededKeys.{reachable_has}
 use Rattle.gc_sweep.specs.Holding.{IsLive}
 use Rattle.gc_sweep.specs.UnderWay.{is_old}
 use Rattle.gc_sweep.proofs.InSlots.{at_copy, copy_at, copy_of, id_at, live_anywhere, of_each, one_header, one_slot}
-use Rattle.gc_sweep.proofs.KeyLists.{listed, listed_left, listed_one, listed_right}
+use Rattle.gc_sweep.proofs.KeyLists.{listed}
 use Rattle.store_model.specs.Collisions.{ByteSet, IsIn}
 use Rattle.store_model.specs.Files.{Stored}
 use Rattle.store_model.specs.Image.{Store}
@@ -54,6 +54,7 @@ use Rattle.store_core.specs.Releases.{ends_with}
 use Rattle.store_core.specs.Runs.{ChangesTo, FileEvent, FileRun, IsAt, IsSafeIn, stored_after}
 use Rattle.store_core.specs.State.{CoreState}
 use Rattle.store_core.proofs.AnySteps.{any_step}
+use Rattle.store_core.proofs.CopiesOnce.{listed_of}
 use Rattle.store_core.proofs.CoreRuns.{running_step, was_running}
 use Rattle.store_core.proofs.Finished.{CollectedSo, collects_so, ended_runs}
 use Rattle.store_core.proofs.KeepingFiles.{run_running}
@@ -72,11 +73,6 @@ contains_filter test (y ∷ ys) x (suc k) below is passes = by_test (test y) (co
     by_test : (b : Bool) → Contains (filter test ys) x → Contains (if b then y ∷ filter test ys else filter test ys) x
     by_test true there = (suc there.0, omega (arith, there.1), there.2)
     by_test false there = there
-
-listed_of : (keys : List (List ℕ)) (key : List ℕ) → Contains keys key → listed keys key ≡ true
-listed_of [] key (k, below, is) = absurd (omega (arith, below))
-listed_of (x ∷ xs) key (zero, below, is) = listed_left (x ∷ []) xs key (subst (λ (y : List ℕ). listed (y ∷ []) key ≡ true) (sym is) (listed_one key))
-listed_of (x ∷ xs) key (suc k, below, is) = listed_right (x ∷ []) xs key (listed_of xs key (k, omega (arith, below), is))
 
 or_cases : (a b : Bool) → (a || b) ≡ true → (a ≡ true) ⊎ (b ≡ true)
 or_cases true b is = inl refl

@@ -1,5 +1,5 @@
 -- Where a collection copies from, step by step: each key that it copies had its copy in one of its sources when it began.
-use Rattle.std.proofs.Common.{◌≡◌, ◌⊎◌, inl, inr, ℕ, zero, suc, ◌<◌, ◌≤◌, true, List, [], ◌∷◌, ◌++◌, map, Option, Some, refl, sym, ◌∙◌, ap, subst, arith}
+use Rattle.std.proofs.Common.{◌≡◌, ◌⊎◌, inl, inr, ℕ, ◌<◌, ◌≤◌, true, List, [], ◌∷◌, ◌++◌, map, Option, Some, refl, sym, ◌∙◌, ap, subst, arith}
 use Rattle.std.specs.Prelude.{slice_get, Contains}
 use Rattle.std.specs.FinMap as finite
 use Rattle.std.proofs.lemmas.List.Elements.{Contains-append_cases, Contains-get_or}
@@ -29,7 +29,7 @@ use Rattle.gc_sweep.specs.UnderWay.{HasNext, IsSweeping}
 use Rattle.gc_sweep.proofs.Holds.{no_key}
 use Rattle.gc_sweep.proofs.HoldsCopied.{LeavesHeld}
 use Rattle.gc_sweep.proofs.InSlots.{copy_of}
-use Rattle.gc_sweep.proofs.KeyLists.{listed, listed_left, listed_one, listed_right, listed_so}
+use Rattle.gc_sweep.proofs.KeyLists.{listed_so}
 use Rattle.gc_sweep.proofs.SourceRead.{IsReadOf}
 use Rattle.store_model.specs.Collisions.{ByteSet, IsIn}
 use Rattle.store_model.specs.Files.{Stored}
@@ -46,7 +46,7 @@ use Rattle.store_core.specs.Finished.{copied_keys, sealed_keys}
 use Rattle.store_core.specs.Runs.{IsAt}
 use Rattle.store_core.specs.State.{CoreState}
 use Rattle.store_core.proofs.Counted.{changed_by}
-use Rattle.store_core.proofs.CopiesOnce.{HoldsNewer, keys_then, listed_found, newer_on, not_old}
+use Rattle.store_core.proofs.CopiesOnce.{HoldsNewer, keys_then, listed_found, listed_of, newer_on, not_old}
 use Rattle.store_core.proofs.FinishedStores.{Sweeps}
 use Rattle.store_core.proofs.Frames.{first_with}
 use Rattle.store_core.proofs.KeyFates.{IsWritten, KeepsKeys, tells}
@@ -78,16 +78,11 @@ CopiesFrom changes b a s t old new = (index later : PlaceMap) → old.known ≡ 
 none_in : (keys : List (List ℕ)) (key : List ℕ) → keys ≡ [] → Contains keys key → ⊥
 none_in keys key none there = let at : Contains [] key = subst (λ (ks : List (List ℕ)). Contains ks key) none there in omega (arith, at.1)
 
-lists : (keys : List (List ℕ)) (key : List ℕ) → Contains keys key → listed keys key ≡ true
-lists [] key (k, below, is) = absurd (omega (arith, below))
-lists (x ∷ xs) key (zero, below, is) = listed_left (x ∷ []) xs key (subst (λ (y : List ℕ). listed (y ∷ []) key ≡ true) (sym is) (listed_one key))
-lists (x ∷ xs) key (suc k, below, is) = listed_right (x ∷ []) xs key (lists xs key (k, omega (arith, below), is))
-
 -- a container that is written holds the keys of its segments
 newer_in : (snapshot id : ℕ) (kind : Kind) (segments : List Segment) (s : Store) (key : List ℕ) → snapshot ≤ id → 1 ≤ free_slots s.held → Contains (map (segment_key kind) segments) key
     → HoldsNewer (with_sealed id kind segments s).held snapshot key
 newer_in snapshot id kind segments s key new_id free there =
-    let entry = listed_found kind 0 segments key (lists (map (segment_key kind) segments) key there) in
+    let entry = listed_found kind 0 segments key (listed_of (map (segment_key kind) segments) key there) in
     record {
       slot = first_free s.held;
       header = header_of id kind segments;
@@ -237,7 +232,7 @@ module _ (among : ByteSet) (s : Store) (stored : Stored) (old new : CoreState) (
         ];
         filled = λ key has. absurd (no_key a.sweep.buffer key flushes.flushed.emptied has);
         copied = λ key there. elim (Contains-append_cases keys [] key there) [
-          | inl filled ↦ lists keys key filled
+          | inl filled ↦ listed_of keys key filled
           | inr none ↦ absurd (none_in [] key refl none)
         ];
       })

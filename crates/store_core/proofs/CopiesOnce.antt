@@ -39,6 +39,12 @@ keys_then (FlushContainer id kind segments ∷ changes) more =
     ∙ append_more (map (segment_key kind) segments) (copied_keys changes) (copied_keys more)
 keys_then (FreeContainer slot ∷ changes) more = keys_then changes more
 
+-- a key that a list contains is found in it
+pub listed_of : (keys : List (List ℕ)) (key : List ℕ) → Contains keys key → listed keys key ≡ true
+listed_of [] key (k, below, is) = absurd (omega (arith, below))
+listed_of (x ∷ xs) key (zero, below, is) = listed_left (x ∷ []) xs key (subst (λ (y : List ℕ). listed (y ∷ []) key ≡ true) (sym is) (listed_one key))
+listed_of (x ∷ xs) key (suc k, below, is) = listed_right (x ∷ []) xs key (listed_of xs key (k, omega (arith, below), is))
+
 -- a key is none of these
 abbrev pub IsNoneOf : List (List ℕ) → List ℕ → Type 0
 IsNoneOf keys key = AllByRecursion (λ k. bytes_eq key k ≡ false) keys

@@ -3,6 +3,7 @@ use Rattle.std.proofs.Common.{◌≡◌, inl, inr, ℕ, ◌<◌, ◌≤◌, true
 use Rattle.store_core.proofs.KeyFates.{KeepsFates, KeepsKeys, fates_left, fates_made, fates_none, fates_then, keys_other, keys_same, lies_first, none_selected, refused_unmarked, written_at_end}
 use Rattle.store_core.proofs.RecordedAll.{old_same}
 use Rattle.store_core.proofs.RecordedSums.{RecordsAll, RecordsOn, records_on, records_then}
+use Rattle.store_core.proofs.WrittenCopies.{WritesCopies, copies_then}
 use Rattle.disk_format.specs.declared.numbers.TheConstants.{MOST_LEVEL}
 use Rattle.gc_steps.specs.Stages.{first_slot, is_old_slot}
 use Rattle.container_meta.specs.Spelling.{HeaderValue, header_of}
@@ -39,20 +40,21 @@ use Rattle.gc_sweep.specs.declared.sweep.Next.TheVariants.{Copy, Flush, Release,
 use Rattle.gc_sweep.specs.InTurn.{slot_in_turn}
 use Rattle.gc_sweep.specs.UnderWay.{HasNext, IsSweeping, sources_before}
 use Rattle.gc_sweep.proofs.Holds.{no_key}
-use Rattle.gc_sweep.proofs.KeyLists.{each_so, listed, none_distinct}
+use Rattle.gc_sweep.proofs.KeyLists.{listed, none_distinct}
 use Rattle.refusals.specs.declared.refusal.Phase.{Phase}
+use Rattle.refusals.specs.declared.refusal.Phase.TheVariants as phases
 use Rattle.refusals.specs.declared.refusal.Refusal.{Refusal}
 use Rattle.refusals.specs.declared.refusal.Refusal.TheVariants as refusals
 use Rattle.store_model.specs.Collisions.{HasNoCollisions, ByteSet, IsIn}
 use Rattle.store_model.specs.Files.{Stored}
 use Rattle.store_model.specs.Image.{Store}
 use Rattle.store_model.specs.Slots.{first_free, ids_of as ids_held}
-use Rattle.store_model.specs.Steps.{StoreChange, SealContainer, ChangeName, FlushContainer, FreeContainer}
+use Rattle.store_model.specs.Steps.{StoreChange, FreeContainer}
 use Rattle.store_core.specs.declared.stop.Stop.{Stop}
 use Rattle.store_core.specs.Bounds.{IsNoEnd, NoneEnds, starts}
 use Rattle.store_core.specs.Collecting.{Begins, Collects, GcEffect, GcRow, GoesOn, HasEnded, IsKeptKey, IsNotMade, MarksIn, StartRow, TouchesBy, at_moment}
 use Rattle.store_core.specs.Core.{CoreStep, Row, Steps, StepsOr, StopsAfter, next_id}
-use Rattle.store_core.specs.Finished.{AreCopiesOf, Collected, CollectsInAll, IsOfCopies, WasRecorded, WereCopies, copied_keys}
+use Rattle.store_core.specs.Finished.{AreCopiesOf, Collected, CollectsInAll, IsDid, IsOfCopies, WasRecorded, WereCopies, copied_keys}
 use Rattle.store_core.specs.Releases.{AreGcSteps, copied_in, ends_with, freed_in}
 use Rattle.store_core.specs.Runs.{AreChangesBy, AreChangesOf, ChangesTo, FileEvent, FileRun, FileStep, IsAt, IsNoGcStep, IsSafeIn, changes_by, events_of, stored_after, stored_by, stored_with}
 use Rattle.store_core.specs.State.{CoreState, Event, IsUnderWayIn}
@@ -67,13 +69,6 @@ use Rattle.store_core.proofs.GcSteps.{phase_of}
 use Rattle.store_core.proofs.KeepingFiles.{chain_on, run_running}
 use Rattle.store_core.proofs.Leading.{Leads}
 use Rattle.store_core.proofs.SparedRest.{led_to, refused_known, same_some}
-
--- what one container of copies was, another may be called
-copies_so : (P Q : Kind → List Segment → Type 0) → ((kind : Kind) (segments : List Segment) → P kind segments → Q kind segments) → (change : StoreChange) → IsOfCopies P change → IsOfCopies Q change
-copies_so P Q so (SealContainer id kind segments) is = tt
-copies_so P Q so (ChangeName name change) is = tt
-copies_so P Q so (FlushContainer id kind segments) is = so kind segments is
-copies_so P Q so (FreeContainer slot) is = tt
 
 -- ---- what stays of a collection
 
@@ -156,12 +151,12 @@ pub record Goes (among : ByteSet) (f : FileEvent) (b : Collection) (s : Store) (
   pub made : f.event.step ≡ asked.GcStep → IsOfStage b changes
   pub chain : ChangesTo changes s store
   pub sweeps : (sources : List ℕ) → (b.stage ≡ SweepStage → sources ≡ b.sweep.sources.items) → Sweeps b.snapshot sources changes s store
-  pub copies : AllByRecursion (IsOfCopies (AreCopiesOf (IsIn among) old)) changes
+  pub copies : AllByRecursion (IsOfCopies (WritesCopies (IsIn among) f old)) changes
   pub counts : Counts changes b a
   pub keeps : KeepsOn b a
   pub counted : IsCounted b.sweep → IsCounted a.sweep
   pub records : Records s b a
-  pub recorded_on : RecordsOn (IsIn among) old s.held b a
+  pub recorded_on : RecordsOn (IsIn among) f old s.held b a
   pub fates : KeepsFates changes b a s store old new
   pub from : CopiesFrom changes b a s store old new
   pub once : IsDistinct bytes_eq (copied_keys changes)
@@ -241,7 +236,7 @@ module _ (among : ByteSet) (distinct : HasNoCollisions (IsIn among)) (f : FileEv
   t = leads.next.store
 
   abbrev Copies : Kind → List Segment → Type 0
-  Copies = AreCopiesOf (IsIn among) old
+  Copies = WritesCopies (IsIn among) f old
 
   under : IsUnderWay old.tables.held b
   under = subst (IsUnderWayIn old.tables.held) ran at.under_way
@@ -345,7 +340,7 @@ module _ (among : ByteSet) (distinct : HasNoCollisions (IsIn among)) (f : FileEv
       sweeps : (sources : List ℕ) → (b.stage ≡ SweepStage → sources ≡ b.sweep.sources.items) → Sweeps b.snapshot sources (changed_by stage next b.sweep id) s t
       copies : AllByRecursion (IsOfCopies Copies) (changed_by stage next b.sweep id)
 
-    copied_here : b.stage ≡ SweepStage → Copies b.sweep.buffer.kind b.sweep.buffer.segments
+    copied_here : b.stage ≡ SweepStage → AreCopiesOf (IsIn among) old b.sweep.buffer.kind b.sweep.buffer.segments
     copied_here sweeps = record {
       store = s;
       stored = stored;
@@ -356,19 +351,23 @@ module _ (among : ByteSet) (distinct : HasNoCollisions (IsIn among)) (f : FileEv
       once = (holds_sweep sweeps image told).1.once;
     }
 
-    makes : (stage : Stage) (next : Next) → b.stage ≡ stage → IsStoreAfter stage next b.snapshot b.sweep at.index s t at.stands.known.0 → Makes stage next
-    makes (Mark level slot) next stage_is same = record { id = 0; changes_are = refl; chain = same; sweeps = λ sources chosen. same; copies = tt }
-    makes (Filter slot) next stage_is same = record { id = 0; changes_are = refl; chain = same; sweeps = λ sources chosen. same; copies = tt }
-    makes Select next stage_is same = record { id = 0; changes_are = refl; chain = same; sweeps = λ sources chosen. same; copies = tt }
-    makes SweepStage (Copy source entry) stage_is same = record { id = 0; changes_are = refl; chain = same; sweeps = λ sources chosen. same; copies = tt }
-    makes SweepStage (Flush source entry) stage_is flushes = record {
+    written_here : b.stage ≡ SweepStage → IsDid phases.Flush f → Copies b.sweep.buffer.kind b.sweep.buffer.segments
+    unfolding copied_here
+    written_here sweeps did = record { did = did; copies = copied_here sweeps; kind_is = refl; segments_are = refl }
+
+    makes : (stage : Stage) (next : Next) → b.stage ≡ stage → IsDid (phase_at stage next) f → IsStoreAfter stage next b.snapshot b.sweep at.index s t at.stands.known.0 → Makes stage next
+    makes (Mark level slot) next stage_is did same = record { id = 0; changes_are = refl; chain = same; sweeps = λ sources chosen. same; copies = tt }
+    makes (Filter slot) next stage_is did same = record { id = 0; changes_are = refl; chain = same; sweeps = λ sources chosen. same; copies = tt }
+    makes Select next stage_is did same = record { id = 0; changes_are = refl; chain = same; sweeps = λ sources chosen. same; copies = tt }
+    makes SweepStage (Copy source entry) stage_is did same = record { id = 0; changes_are = refl; chain = same; sweeps = λ sources chosen. same; copies = tt }
+    makes SweepStage (Flush source entry) stage_is did flushes = record {
       id = flushes.id;
       changes_are = (flushes.id, b.sweep.buffer.kind, b.sweep.buffer.segments, refl);
       chain = (flushes.can, flushes.now_is);
       sweeps = λ sources chosen. ((flushes.new, omega (arith, flushes.can.slot)), flushes.now_is);
-      copies = (copied_here stage_is, tt);
+      copies = (written_here stage_is did, tt);
     }
-    makes SweepStage (Release source entry) stage_is frees = record {
+    makes SweepStage (Release source entry) stage_is did frees = record {
       id = 0;
       changes_are = (slot_in_turn b.sweep, refl);
       chain = ((frees.header, frees.there), frees.now_is);
@@ -385,7 +384,7 @@ module _ (among : ByteSet) (distinct : HasNoCollisions (IsIn among)) (f : FileEv
       );
       copies = (tt, tt);
     }
-    makes SweepStage End stage_is same = record { id = 0; changes_are = refl; chain = same; sweeps = λ sources chosen. same; copies = tt }
+    makes SweepStage End stage_is did same = record { id = 0; changes_are = refl; chain = same; sweeps = λ sources chosen. same; copies = tt }
 
     -- what it does to the keys that are copied
     record Keys (changes : List StoreChange) (a : Collection) : Type 0 where
@@ -472,7 +471,8 @@ module _ (among : ByteSet) (distinct : HasNoCollisions (IsIn among)) (f : FileEv
             let steps_here = subst (λ (x : Collection). StepsTo x.stage x.sweep.next (at_moment old x) (at_moment new goes.after)) same steps in
             let phase_here = subst (λ (x : Collection). phase_at x.stage x.sweep.next ≡ phase) same phase_is in
             let led_here = subst (λ (x : Collection). IsStoreAfter x.stage x.sweep.next x.snapshot x.sweep at.index s t at.stands.known.0) same led in
-            let made = makes b.stage b.sweep.next refl led_here in
+            let did : IsDid (phase_at b.stage b.sweep.next) f = (is, answer_is ∙ ap (λ (p : Phase). Ok (answers.Did p)) (sym phase_here)) in
+            let made = makes b.stage b.sweep.next refl did led_here in
             let changes : List StoreChange = changed_by b.stage b.sweep.next b.sweep made.id in
             let keeps : KeepsOn b goes.after = keeps_step old new b goes.after b.stage b.sweep.next refl steps_here in
             let keys : Keys changes goes.after = keys_by goes.after made.id b.stage b.sweep.next refl steps_here made.chain (made.sweeps b.sweep.sources.items (λ stage. refl)) in
@@ -499,7 +499,7 @@ module _ (among : ByteSet) (distinct : HasNoCollisions (IsIn among)) (f : FileEv
               keeps = keeps;
               counted = here.counted;
               records = records_by goes.after b.stage b.sweep.next refl steps_here;
-              recorded_on = records_on among s stored old new at b goes.after ran b.stage b.sweep.next refl under.stage_is steps_here;
+              recorded_on = records_on among f s stored old new at b goes.after ran b.stage b.sweep.next refl under.stage_is steps_here did;
               fates = fates_made among s stored old new at t b goes.after under made.id (holds_at image told) steps_here led_here;
               from = from_made among s stored old new at t b goes.after under made.id (holds_at image told) steps_here led_here;
               once = keys.once;
@@ -622,13 +622,7 @@ module _ (C : Type 0) (state : C → CoreState) where
         chain = chain_on one.changes rest.changes s one.store rest.store one.chain rest.chain;
         sweeps = sweeps_then c.snapshot c.sweep.sources.items one.changes rest.changes s one.store rest.store
             (subst (λ (n : ℕ). Sweeps n c.sweep.sources.items one.changes s one.store) (sym keeps.snapshot_is) (one.sweeps c.sweep.sources.items (λ stage. (keeps.chosen stage).1))) rest.sweeps;
-        copies = all_then (IsOfCopies (WereCopies C state (IsIn among) (f ∷ fs) mid new run)) one.changes rest.changes
-            (each_so (IsOfCopies (AreCopiesOf (IsIn among) (state mid))) (IsOfCopies (WereCopies C state (IsIn among) (f ∷ fs) mid new run)) one.changes
-            (λ change is. copies_so (AreCopiesOf (IsIn among) (state mid)) (WereCopies C state (IsIn among) (f ∷ fs) mid new run)
-            (λ kind segments copies. (let were : WereCopies C state (IsIn among) (f ∷ fs) mid new run kind segments = record { here = mid; on_run = inl refl; copies = copies } in were)) change is) one.copies)
-            (each_so (IsOfCopies (WereCopies C state (IsIn among) fs run.0 new run.1.1)) (IsOfCopies (WereCopies C state (IsIn among) (f ∷ fs) mid new run)) rest.changes
-            (λ change is. copies_so (WereCopies C state (IsIn among) fs run.0 new run.1.1) (WereCopies C state (IsIn among) (f ∷ fs) mid new run)
-            (λ kind segments were. (let now : WereCopies C state (IsIn among) (f ∷ fs) mid new run kind segments = record { here = were.here; on_run = inr were.on_run; copies = were.copies } in now)) change is) rest.copies);
+        copies = copies_then C state (IsIn among) f fs mid new run one.changes rest.changes one.copies rest.copies;
         on = counts_then one.changes rest.changes b.sweep one.a.sweep c.sweep one.counts.on rest.on;
         keeps = keeps;
         counted = λ counted. rest.counted (one.counted counted);
@@ -639,7 +633,7 @@ module _ (C : Type 0) (state : C → CoreState) where
           | inr now ↦ ap ids_of (rest.recorded_still now.0) ∙ now.1
         ];
         recorded_still = λ stage. rest.recorded_still (one.keeps.chosen stage).0 ∙ one.records.late stage;
-        records = records_then C state (IsIn among) f fs mid new run b one.a c c.sweep.sources.items one.changes s one.store one.keeps.snapshot_is
+        records = records_then C state (IsIn among) f fs mid new run b one.a c c.sweep.sources.items one.changes s one.store one.runs one.keeps.snapshot_is
             (one.sweeps c.sweep.sources.items (λ stage. (keeps.chosen stage).1)) one.recorded_on rest.records;
         fates = fates_then one.changes rest.changes b one.a c s one.store rest.store (state mid) (state run.0) (state new) one.is_at.index one.is_at.index_known one.fates rest.fates;
         from = from_then one.changes rest.changes b one.a c s one.store (state mid) (state run.0) one.is_at.index one.is_at.index_known

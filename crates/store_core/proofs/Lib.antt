@@ -39,3 +39,4 @@ pub mod SparedRest
 pub mod Standing
 pub mod Stepping
 pub mod Tallied
+pub mod WrittenCopies

@@ -10,7 +10,7 @@ use Rattle.gc_steps.specs.declared.collection.Collection.{Collection}
 use Rattle.gc_steps.specs.declared.collection.Stage.{Stage}
 use Rattle.gc_steps.specs.declared.collection.Stage.TheVariants.{Filter, Mark, Select, Sweep as SweepStage}
 use Rattle.gc_steps.specs.Filtering.{Records, recorded, recorded_by}
-use Rattle.gc_steps.specs.Stepping.{StepsTo}
+use Rattle.gc_steps.specs.Stepping.{StepsTo, phase_at}
 use Rattle.gc_steps.specs.UnderWay.{HasStage}
 use Rattle.gc_steps.proofs.SparingStages.{recorded_id_by, recorded_live_by}
 use Rattle.gc_steps.proofs.WholeCopies.{count_there}
@@ -18,6 +18,7 @@ use Rattle.gc_sweep.specs.declared.sweep.Next.{Next}
 use Rattle.gc_sweep.specs.declared.sweep.Next.TheVariants.{Copy, Flush, Release, End}
 use Rattle.gc_sweep.proofs.InSlots.{id_at, old_id}
 use Rattle.gc_sweep.proofs.SourceRead.{header_in}
+use Rattle.refusals.specs.declared.refusal.Phase.TheVariants as phases
 use Rattle.store_model.specs.Collisions.{ByteSet, IsIn}
 use Rattle.store_model.specs.Files.{Stored}
 use Rattle.store_model.specs.Freeing.{with_freed}
@@ -29,22 +30,24 @@ use Rattle.store_model.proofs.Free.{as_many}
 use Rattle.store_state.specs.Tables.{RepresentsSlots, count_of}
 use Rattle.store_state.specs.declared.slot_table.SlotCount.{SlotCount}
 use Rattle.store_core.specs.Collecting.{at_moment}
-use Rattle.store_core.specs.Finished.{IsAdded, IsRecordOf, WasRecorded}
+use Rattle.store_core.specs.Finished.{IsAdded, IsDid, IsRecordOf, WasRecorded}
 use Rattle.store_core.specs.Runs.{FileEvent, FileRun, IsAt}
 use Rattle.store_core.specs.State.{CoreState}
 use Rattle.store_core.proofs.FinishedStores.{Sweeps, stood}
 
 -- ---- a step
 
--- It is so of one of these containers, which was there when the collection began.
-pub record RecordsOne (S : List ℕ → Type 0) (old : CoreState) (held : List (Option HeaderValue)) (snapshot : ℕ) (r : ContainerLiveness) : Type 0 where
+-- It is so of one of these containers, which was there when the collection began, as this step records it.
+pub record RecordsOne (S : List ℕ → Type 0) (f : FileEvent) (old : CoreState) (held : List (Option HeaderValue)) (b a : Collection) (r : ContainerLiveness) : Type 0 where
+  pub did : IsDid phases.Filter f
   pub record_is : IsRecordOf S old r
+  pub adds : a.liveness ≡ record_is.collection.liveness ++ r ∷ []
   pub there : slice_get held record_is.slot ≡ Some (Some record_is.header)
-  pub low : r.id < snapshot
+  pub low : r.id < b.snapshot
 
 -- It adds nothing to what was recorded, or one such container.
-abbrev pub RecordsOn : (List ℕ → Type 0) → CoreState → List (Option HeaderValue) → Collection → Collection → Type 0
-RecordsOn S old held b a = (a.liveness ≡ b.liveness) ⊎ ((r : ContainerLiveness) × ((a.liveness ≡ b.liveness ++ r ∷ []) × RecordsOne S old held b.snapshot r))
+abbrev pub RecordsOn : (List ℕ → Type 0) → FileEvent → CoreState → List (Option HeaderValue) → Collection → Collection → Type 0
+RecordsOn S f old held b a = (a.liveness ≡ b.liveness) ⊎ ((r : ContainerLiveness) × ((a.liveness ≡ b.liveness ++ r ∷ []) × RecordsOne S f old held b a r))
 
 kind_by : (id : ℕ) (count : SlotCount) (live : ℕ) (found : Option SlotCount) → found ≡ Some count → (recorded_by id found live).kind ≡ count.kind
 kind_by id count live found is = ap (λ (o : Option SlotCount). (recorded_by id o live).kind) is
@@ -52,7 +55,7 @@ kind_by id count live found is = ap (λ (o : Option SlotCount). (recorded_by id 
 all_by : (id : ℕ) (count : SlotCount) (live : ℕ) (found : Option SlotCount) → found ≡ Some count → (recorded_by id found live).all ≡ count.bytes
 all_by id count live found is = ap (λ (o : Option SlotCount). (recorded_by id o live).all) is
 
-module _ (among : ByteSet) (s : Store) (stored : Stored) (old new : CoreState) (at : IsAt (IsIn among) s stored old) (b a : Collection) (ran : old.collection ≡ Some b) where
+module _ (among : ByteSet) (f : FileEvent) (s : Store) (stored : Stored) (old new : CoreState) (at : IsAt (IsIn among) s stored old) (b a : Collection) (ran : old.collection ≡ Some b) where
   module _ (slot : ℕ) (stage_is : b.stage ≡ Filter slot) (has : HasStage old.tables.held b (Filter slot)) (records : Records old.tables.held old.known old.disk new.disk slot b a) where
     slots : RepresentsSlots s.held old.tables.held
     slots = at.represents.slots_hold
@@ -99,20 +102,27 @@ module _ (among : ByteSet) (s : Store) (stored : Stored) (old new : CoreState) (
           (sym (recorded_live_by id (slice_get old.tables.held.counts.items slot) records.live)) (records.live_is at.index at.index_known);
     }
 
-    record_here : RecordsOne (IsIn among) old s.held b.snapshot one
+    record_here : IsDid phases.Filter f → RecordsOne (IsIn among) f old s.held b a one
     unfolding recorded_here
-    record_here = record { record_is = recorded_here; there = here; low = subst (λ (n : ℕ). n < b.snapshot) (sym told_id) (old_id b.snapshot id has.0.1).1 }
+    record_here did = record {
+      did = did;
+      record_is = recorded_here;
+      adds = ap (λ (x : Collection). x.liveness) records.collection_is;
+      there = here;
+      low = subst (λ (n : ℕ). n < b.snapshot) (sym told_id) (old_id b.snapshot id has.0.1).1;
+    }
 
   -- by the next stage
-  pub records_on : (stage : Stage) (next : Next) → b.stage ≡ stage → HasStage old.tables.held b stage → StepsTo stage next (at_moment old b) (at_moment new a) → RecordsOn (IsIn among) old s.held b a
-  records_on (Mark level slot) next is has steps = inl (ap (λ (x : Collection). x.liveness) steps.0.collection_is)
-  records_on (Filter slot) next is has steps =
-      inr (one slot is has steps.0, (ap (λ (x : Collection). x.liveness) steps.0.collection_is, record_here slot is has steps.0))
-  records_on Select next is has steps = inl (ap (λ (x : Collection). x.liveness) steps.0.collection_is)
-  records_on SweepStage (Copy source entry) is has steps = inl (ap (λ (x : Collection). x.liveness) steps.1)
-  records_on SweepStage (Flush source entry) is has steps = inl (ap (λ (x : Collection). x.liveness) steps.sweeps)
-  records_on SweepStage (Release source entry) is has steps = inl (ap (λ (x : Collection). x.liveness) steps.1)
-  records_on SweepStage End is has steps = inl (ap (λ (x : Collection). x.liveness) steps.0)
+  pub records_on : (stage : Stage) (next : Next) → b.stage ≡ stage → HasStage old.tables.held b stage → StepsTo stage next (at_moment old b) (at_moment new a) → IsDid (phase_at stage next) f
+      → RecordsOn (IsIn among) f old s.held b a
+  records_on (Mark level slot) next is has steps did = inl (ap (λ (x : Collection). x.liveness) steps.0.collection_is)
+  records_on (Filter slot) next is has steps did =
+      inr (one slot is has steps.0, (ap (λ (x : Collection). x.liveness) steps.0.collection_is, record_here slot is has steps.0 did))
+  records_on Select next is has steps did = inl (ap (λ (x : Collection). x.liveness) steps.0.collection_is)
+  records_on SweepStage (Copy source entry) is has steps did = inl (ap (λ (x : Collection). x.liveness) steps.1)
+  records_on SweepStage (Flush source entry) is has steps did = inl (ap (λ (x : Collection). x.liveness) steps.sweeps)
+  records_on SweepStage (Release source entry) is has steps did = inl (ap (λ (x : Collection). x.liveness) steps.1)
+  records_on SweepStage End is has steps did = inl (ap (λ (x : Collection). x.liveness) steps.0)
 
 -- ---- steps, one after the other
 
@@ -142,7 +152,7 @@ stood_low snapshot sources changes s t slot h sweeps low there = elim (stood sna
 ]
 
 module _ (C : Type 0) (state : C → CoreState) (S : List ℕ → Type 0) (f : FileEvent) (fs : List FileEvent) (mid new : C) (run : FileRun C state S (f ∷ fs) mid new) (b a c : Collection) (sources : List ℕ) (changes : List StoreChange)
-    (s t : Store) (snapshot_is : a.snapshot ≡ b.snapshot) (sweeps : Sweeps b.snapshot sources changes s t) where
+    (s t : Store) (runs : (state run.0).collection ≡ Some a) (snapshot_is : a.snapshot ≡ b.snapshot) (sweeps : Sweeps b.snapshot sources changes s t) where
   abbrev Was : ContainerLiveness → Type 0
   Was = WasRecorded C state S (f ∷ fs) mid new run s.held
 
@@ -151,8 +161,12 @@ module _ (C : Type 0) (state : C → CoreState) (S : List ℕ → Type 0) (f : F
   later (r ∷ rs) (was, each) (low, old) = (
     (let now : Was r = record {
       here = was.here;
+      next = was.next;
       on_run = inr was.on_run;
       record_is = was.record_is;
+      after = was.after;
+      runs = was.runs;
+      adds = was.adds;
       stood = stood_low b.snapshot sources changes s t was.record_is.slot was.record_is.header sweeps (omega (arith, low, snapshot_is, was.record_is.id_is)) was.stood;
     } in now),
     later rs each old,
@@ -161,7 +175,7 @@ module _ (C : Type 0) (state : C → CoreState) (S : List ℕ → Type 0) (f : F
   still_low : (more : List ContainerLiveness) → AllByRecursion (λ r. r.id < a.snapshot) more → AllByRecursion (λ r. r.id < b.snapshot) more
   still_low more old = subst (λ (n : ℕ). AllByRecursion (λ r. r.id < n) more) snapshot_is old
 
-  pub records_then : RecordsOn S (state mid) s.held b a → RecordsAll C state S fs run.0 new run.1.1 t.held a c → RecordsAll C state S (f ∷ fs) mid new run s.held b c
+  pub records_then : RecordsOn S f (state mid) s.held b a → RecordsAll C state S fs run.0 new run.1.1 t.held a c → RecordsAll C state S (f ∷ fs) mid new run s.held b c
   records_then (inl same) rest = record {
     more = rest.more;
     adds = rest.adds ∙ ap (λ (rs : List ContainerLiveness). rs ++ rest.more) same;
@@ -171,6 +185,18 @@ module _ (C : Type 0) (state : C → CoreState) (S : List ℕ → Type 0) (f : F
   records_then (inr (r, (adds, one))) rest = record {
     more = r ∷ rest.more;
     adds = rest.adds ∙ ap (λ (rs : List ContainerLiveness). rs ++ rest.more) adds ∙ append_assoc b.liveness (r ∷ []) rest.more;
-    each = ((let now : Was r = record { here = mid; on_run = inl refl; record_is = one.record_is; stood = one.there } in now), later rest.more rest.each rest.low);
+    each = (
+      (let now : Was r = record {
+        here = mid;
+        next = run.0;
+        on_run = inl (one.did, (refl, refl));
+        record_is = one.record_is;
+        after = a;
+        runs = runs;
+        adds = one.adds;
+        stood = one.there;
+      } in now),
+      later rest.more rest.each rest.low,
+    );
     low = (one.low, still_low rest.more rest.low);
   }

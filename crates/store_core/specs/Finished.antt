@@ -1,7 +1,9 @@
 -- What a collection has done once it has ended, whatever steps of others came between its own (docs/MODEL.md, 'The core').
-use Rattle.std.specs.Prelude.{◌≡◌, ◌⊎◌, ℕ, ◌≤◌, List, [], ◌∷◌, map, slice_get, Option, Some, ◌++◌, length, Contains}
+use Rattle.std.specs.Prelude.{◌≡◌, ◌⊎◌, ℕ, ◌≤◌, List, [], ◌∷◌, map, slice_get, Option, Some, Ok, ◌++◌, length, Contains}
 use Rattle.std.specs.List.{AllByRecursion, IsDistinct}
 use Rattle.std.specs.Str.{bytes_eq}
+use Rattle.actor_parts.specs.declared.step.Answer.TheVariants as answers
+use Rattle.actor_parts.specs.StepValue as asked
 use Rattle.base_model.specs.Known.{Known}
 use Rattle.container_meta.specs.declared.kind.Kind.{Kind}
 use Rattle.container_meta.specs.Segments.{Segment, segment_key}
@@ -15,6 +17,8 @@ use Rattle.gc_steps.specs.declared.collection.Stage.TheVariants.{Filter}
 use Rattle.gc_steps.specs.Roots.{IsActorKey}
 use Rattle.gc_steps.specs.UnderWay.{old_ids}
 use Rattle.gc_sweep.specs.Holding.{IsCopied}
+use Rattle.refusals.specs.declared.refusal.Phase.{Phase}
+use Rattle.refusals.specs.declared.refusal.Phase.TheVariants as phases
 use Rattle.store_model.specs.Collisions.{HasNoCollisions, ByteSet, IsIn}
 use Rattle.store_model.specs.Files.{Stored}
 use Rattle.store_model.specs.Image.{Store}
@@ -27,11 +31,16 @@ use Rattle.store_core.specs.Releases.{AreGcSteps, copied_in, ends_with, freed_in
 use Rattle.store_core.specs.Runs.{AreChangesOf, ChangesTo, FileEvent, FileRun, IsAt, events_of, stored_after}
 use Rattle.store_core.specs.State.{CoreState}
 
--- a core of a run: the first, or that after one of its steps
-abbrev pub IsOnRun : (C : Type 0) (state : C → CoreState) (S : List ℕ → Type 0) (steps : List FileEvent) (old new : C)
-    → FileRun C state S steps old new → C → Type 0
-IsOnRun C state S [] old new run here = here ≡ old
-IsOnRun C state S (f ∷ fs) old new run here = (here ≡ old) ⊎ IsOnRun C state S fs run.0 new run.1.1 here
+-- a step that led a collection on, and answered that it did so by this phase
+abbrev pub IsDid : Phase → FileEvent → Type 0
+IsDid phase f = (f.event.step ≡ asked.GcStep) × (f.event.answer ≡ Ok (answers.Did phase))
+
+-- such a step of a run: these were the core before it and the core after it
+abbrev pub IsDidOnRun : (C : Type 0) (state : C → CoreState) (S : List ℕ → Type 0) (steps : List FileEvent) (old new : C)
+    → FileRun C state S steps old new → Phase → C → C → Type 0
+IsDidOnRun C state S [] old new run phase here next = ⊥
+IsDidOnRun C state S (f ∷ fs) old new run phase here next =
+    (IsDid phase f × ((here ≡ old) × (next ≡ run.0))) ⊎ IsDidOnRun C state S fs run.0 new run.1.1 phase here next
 
 -- What a core at a store, where a collection filters, records of the container of a slot: its id and its kind, the bytes of all its
 -- entries, and of those whose keys are live and whose copies the index has.
@@ -50,12 +59,17 @@ pub record IsRecordOf (S : List ℕ → Type 0) (c : CoreState) (r : ContainerLi
   pub all_is : r.all ≡ bytes_of header.entries
   pub live_is : SumsLive is_at.index collection.live header.kind slot header.entries r.live
 
--- and so it did at a moment of the run, of a container that stood there already when the run began
+-- And so did the core before a step of the run, and the step put this behind what was recorded so far. The container stood there already
+-- when the run began.
 pub record WasRecorded (C : Type 0) (state : C → CoreState) (S : List ℕ → Type 0) (steps : List FileEvent) (old new : C)
     (run : FileRun C state S steps old new) (held : List (Option HeaderValue)) (r : ContainerLiveness) : Type 0 where
   pub here : C
-  pub on_run : IsOnRun C state S steps old new run here
+  pub next : C
+  pub on_run : IsDidOnRun C state S steps old new run phases.Filter here next
   pub record_is : IsRecordOf S (state here) r
+  pub after : Collection
+  pub runs : (state next).collection ≡ Some after
+  pub adds : after.liveness ≡ record_is.collection.liveness ++ r ∷ []
   pub stood : slice_get held record_is.slot ≡ Some (Some record_is.header)
 
 -- the container is one that these changes seal or write
@@ -76,12 +90,15 @@ pub record AreCopiesOf (S : List ℕ → Type 0) (c : CoreState) (kind : Kind) (
   pub each : Known c.disk.content (λ image. AllByRecursion (IsCopied is_at.index collection.live store.held image kind) segments)
   pub once : IsDistinct bytes_eq (map (segment_key kind) segments)
 
--- and so they were at a moment of the run
+-- And so they were to the core before a step of the run, which wrote the buffer of its collection; and that held just these.
 pub record WereCopies (C : Type 0) (state : C → CoreState) (S : List ℕ → Type 0) (steps : List FileEvent) (old new : C)
     (run : FileRun C state S steps old new) (kind : Kind) (segments : List Segment) : Type 0 where
   pub here : C
-  pub on_run : IsOnRun C state S steps old new run here
+  pub next : C
+  pub on_run : IsDidOnRun C state S steps old new run phases.Flush here next
   pub copies : AreCopiesOf S (state here) kind segments
+  pub kind_is : copies.collection.sweep.buffer.kind ≡ kind
+  pub segments_are : copies.collection.sweep.buffer.segments ≡ segments
 
 -- P holds of the kind and the segments of a container, if that is one of copies that the change writes
 abbrev pub IsOfCopies : (Kind → List Segment → Type 0) → StoreChange → Type 0
@@ -100,7 +117,8 @@ sealed_keys [] = []
 sealed_keys (SealContainer id kind segments ∷ more) = map (segment_key kind) segments ++ sealed_keys more
 sealed_keys (change ∷ more) = sealed_keys more
 
--- The collection that ended, and what the steps of its run made of the store that it began at.
+-- The collection that ended, and what the steps of its run made of the store that it began at. Of the containers that stand it tells the
+-- slots and the headers. Their bytes stay, on a settled disk, by `ContainersStay`, the law of `a_core_keeps_what_stands` (Frame.antt).
 pub record Collected (C : Type 0) (state : C → CoreState) (S : List ℕ → Type 0) (percent snapshot freed copied : ℕ) (steps : List FileEvent)
     (s : Store) (stored : Stored) (begun new last : C) (run : FileRun C state S steps begun new) : Type 0 where
   -- It ran up to its end, with the snapshot and the percentage that it began with.
@@ -110,7 +128,7 @@ pub record Collected (C : Type 0) (state : C → CoreState) (S : List ℕ → Ty
   pub percent_is : collection.percent ≡ percent
   -- It recorded each container that was there when it began, once, in the order of their slots.
   pub recorded : ids_of collection.liveness ≡ old_ids snapshot (ids_held s.held)
-  -- What it recorded of each was so at a moment of the run.
+  -- What it recorded of each was so at the step that recorded it.
   pub records : AllByRecursion (WasRecorded C state S steps begun new run s.held) collection.liveness
   -- Its sources were the containers that are selected by what it recorded, in their order.
   pub sources_are : collection.sweep.sources.items ≡ sources_of (selected snapshot percent collection.liveness)
@@ -131,7 +149,7 @@ pub record Collected (C : Type 0) (state : C → CoreState) (S : List ℕ → Ty
   -- No other container stands.
   pub no_other : (slot : ℕ) (h : HeaderValue) → slice_get store.held slot ≡ Some (Some h)
       → (slice_get s.held slot ≡ Some (Some h)) ⊎ IsAdded changes h
-  -- What was written with copies were live segments, as the store held them; and no key was copied twice.
+  -- What was written with copies were live segments, as the store held them at the step that wrote them; and no key was copied twice.
   pub copies : AllByRecursion (IsOfCopies (WereCopies C state S steps begun new run)) changes
   pub once : IsDistinct bytes_eq (copied_keys changes)
   -- Each key that is live at the end, and whose newest copy lay in a container of a selected id when it began, was copied, or was sealed
@@ -139,7 +157,7 @@ pub record Collected (C : Type 0) (state : C → CoreState) (S : List ℕ → Ty
   pub all_copied : (key : List ℕ) (copy : Copy) (h : HeaderValue) → newest 0 s.held key ≡ Some copy
       → slice_get s.held copy.place.slot ≡ Some (Some h) → IsSelectedId snapshot percent collection.liveness h.id
       → IsLiveAt collection.live key copy.place → Contains (copied_keys changes) key ⊎ Contains (sealed_keys changes) key
-  -- And each key that was copied had its newest copy in such a container then.
+  -- And each key that was copied had its newest copy in such a container as it began.
   pub from_sources : (key : List ℕ) → Contains (copied_keys changes) key → (copy : Copy) × ((newest 0 s.held key ≡ Some copy)
       × ((h : HeaderValue) × ((slice_get s.held copy.place.slot ≡ Some (Some h)) × IsSelectedId snapshot percent collection.liveness h.id)))
   -- It answered how many sources there were, each of which was given back, and how many segments those containers have that it wrote.

@@ -129,6 +129,7 @@ module _ (C : Type 0) (state : C → CoreState) (v w : DiskView) (old new : C) (
       framed = λ base told. framed_reads store [] [] base (state old).disk (state mid).disk (first_framed base told) rested.disk.only;
       ids = omega (arith, called.opened.last_id_is, ap (λ (t : Tables). t.held.last_id) rested.tables.tables_are);
       written_new = none_new (last_id store.held) store.held (omega arith);
+      frees_old = tt;
       collection = begins.collection;
       runs = begins.runs;
       began = omega (arith, begins.next_is, called.opened.last_id_is);
@@ -310,7 +311,7 @@ module _ (C : Type 0) (state : C → CoreState) (v w : DiskView) (old new : C) (
       no_id none = omega (arith, none, so_far.ids)
 
       unwritten : LAST_ID ≤ at.tables.held.last_id → IsUnwritten store
-      unwritten none = record { changes = so_far.changes; sweeps = record { each = so_far.each; after = so_far.after; chain = so_far.chain }; ids = no_id none; few = few_so store index v sized C state sweeps.1.0 so_far called.opened.valid.many }
+      unwritten none = record { changes = so_far.changes; sweeps = record { each = so_far.each; after = so_far.after; chain = so_far.chain }; ids = no_id none; earlier = so_far.frees_old; few = few_so store index v sized C state sweeps.1.0 so_far called.opened.valid.many }
 
       slots_many : length at.tables.held.ids.items ≡ store.slots
       slots_many = omega (arith, ap (λ (ids : List ℕ). length ids) so_far.represents.slots_hold.ids_are, as_many_ids so_far.after.held, so_far.valid.many, so_far.slots_are)

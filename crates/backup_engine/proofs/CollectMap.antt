@@ -321,7 +321,7 @@ module _ (C : Type 0) (state : C → CoreState) (v w : DiskView) (old new : C) (
             so.after,
             (content_now.0, content_now.1.0, holds_last),
             enough,
-            (image, told, record { store = opened; was = opened_right; changes = so.changes; chain = far.chain; ids = omega (arith, over, so.ids); few = few_here }),
+            (image, told, record { store = opened; was = opened_right; changes = so.changes; chain = far.chain; ids = omega (arith, over, so.ids); earlier = so.frees_old; few = few_here }),
           )
 
         -- and what was there before

@@ -39,6 +39,7 @@ use Rattle.store_model.specs.Freeing.{with_freed}
 use Rattle.store_model.specs.Image.{IsValidFor, Store}
 use Rattle.store_model.specs.Slots.{HasFree, first_free, last_id}
 use Rattle.store_model.specs.Steps.{FlushContainer, FreeContainer, StoreChange, with_sealed}
+use Rattle.store_model.proofs.Copies.{some_same}
 use Rattle.store_model.proofs.Free.{first_closed, same_free, some_free}
 use Rattle.store_model.proofs.Freed.{valid_freed}
 use Rattle.store_model.proofs.Valid.{valid_sealed}
@@ -57,7 +58,8 @@ use Rattle.store_core.proofs.KeepingFiles.{chain_on}
 use Rattle.store_core.proofs.Opened.{durable_settled}
 use Rattle.store_core.proofs.RunningOn.{step_runs}
 use Rattle.gc_steps.proofs.UnderWay.{at_stage}
-use Rattle.backup_engine.specs.Collected.{IsOfCollection, written_in}
+use Rattle.backup_engine.specs.Collected.{FreesUpTo, IsOfCollection, written_in}
+use Rattle.backup_engine.proofs.EarlierFrees.{frees_on}
 use Rattle.backup_engine.proofs.FirstActor.{up_of}
 use Rattle.backup_engine.proofs.NewContainers.{new_few, new_in, new_with, new_without}
 use Rattle.backup_engine.proofs.Returned.{one_later}
@@ -123,6 +125,12 @@ module _ (s after : Store) (freed filled : List ℕ) (slots : SweptSlots s after
       | inr later ↦ absurd (omega (arith, later, stands.old, began))
     ]
 
+    -- under an id of before
+    pub old_in_turn : (h : HeaderValue) → slice_get after.held turn ≡ Some (Some h) → h.id ≤ last_id s.held
+    old_in_turn h there =
+        let same : h ≡ stands.header = some_same h stands.header (some_same (Some h) (Some stands.header) (sym there ∙ stands.there)) in
+        omega (arith, stands.old, began, ap (λ (x : HeaderValue). x.id) same)
+
     pub free_in_turn : (h : HeaderValue) × (slice_get after.held turn ≡ Some (Some h))
     free_in_turn = (stands.header, stands.there)
 
@@ -145,6 +153,7 @@ module _ (s after : Store) (freed filled : List ℕ) (slots : SweptSlots s after
     pub swept : SweptSlots s store_now freed_now filled_now
     pub ids_now : new.tables.held.last_id ≡ old.tables.held.last_id + written_in changes
     pub new_now : new_in (last_id s.held) store_now.held ≡ new_in (last_id s.held) after.held + written_in changes
+    pub frees_now : FreesUpTo (last_id s.held) changes after
 
   changed_none : (stage : Stage) (next : Next) → freed_by (phase_at stage next) ≡ 0 → copies_by stage next c.sweep ≡ 0 → freed_with stage next c.sweep freed ≡ freed → filled_with stage next after filled ≡ filled
       → IsChangeOf stage next c.sweep old.tables.held.last_id after [] after → new.tables ≡ old.tables → Changed stage next
@@ -166,6 +175,7 @@ module _ (s after : Store) (freed filled : List ℕ) (slots : SweptSlots s after
     swept = slots;
     ids_now = omega (arith, ap (λ (t : Tables). t.held.last_id) same);
     new_now = omega arith;
+    frees_now = tt;
   }
 
   pub changed_by : (stage : Stage) (next : Next) → c.stage ≡ stage → c.sweep.next ≡ next → TablesAfter stage next old new → Changed stage next
@@ -195,6 +205,7 @@ module _ (s after : Store) (freed filled : List ℕ) (slots : SweptSlots s after
         swept = slots_filled s after freed filled slots h has_free (omega (arith, above));
         ids_now = omega (arith, writes.written.last_is);
         new_now = omega (arith, new_with (last_id s.held) h after.held has_free (omega (arith, above)));
+        frees_now = tt;
       }
   changed_by SweepStage (Release source entry) is next_is gives =
       let slot : ℕ = slot_in_turn c.sweep in
@@ -216,6 +227,7 @@ module _ (s after : Store) (freed filled : List ℕ) (slots : SweptSlots s after
         swept = slots_freed s after freed filled slots slot (had_in_turn source entry is next_is);
         ids_now = omega (arith, gives.last_stays);
         new_now = let in_turn = stands source entry is next_is in omega (arith, new_without (last_id s.held) slot in_turn.header after.held in_turn.there (omega (arith, in_turn.old, began)));
+        frees_now = (old_in_turn source entry is next_is, tt);
       }
   changed_by SweepStage End is next_is same = changed_none SweepStage End refl refl refl refl (refl, refl) same
 
@@ -314,6 +326,7 @@ pub record CollectedSoFar (s : Store) (index : PlaceMap) (v : DiskView) (c : Cor
   pub framed : (base : List ℕ) → v.content ≡ Some base → IsFramed s freed filled base c.disk
   pub ids : c.tables.held.last_id ≡ last_id s.held + written_in changes
   pub written_new : new_in (last_id s.held) after.held ≡ written_in changes
+  pub frees_old : FreesUpTo (last_id s.held) changes s
   pub collection : Collection
   pub runs : c.collection ≡ Some collection
   pub began : collection.snapshot ≤ last_id s.held + 1
@@ -452,6 +465,7 @@ module _ (s : Store) (index : PlaceMap) (v : DiskView) (sized : v.size ≡ size_
           framed = framed_now;
           ids = omega (arith, changed.ids_now, so.ids, written-append so.changes changed.changes);
           written_new = omega (arith, changed.new_now, so.written_new, written-append so.changes changed.changes);
+          frees_old = frees_on (last_id s.held) so.changes changed.changes s so.after so.chain so.frees_old changed.frees_now;
           collection = goes.after;
           runs = goes.runs;
           began = omega (arith, so.began, ap (λ (c : Collection). c.snapshot) same, snapshot_on was now (freed_in so.changes) (copied_in so.changes) before.stage before.sweep.next goes.steps);

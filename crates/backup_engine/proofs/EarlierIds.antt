@@ -4,6 +4,7 @@ use Rattle.base_model.specs.Known.{KnownWith}
 use Rattle.dd_disk.specs.View.{DiskView}
 use Rattle.dd_disk.proofs.Shows.{shown_content}
 use Rattle.disk_format.specs.declared.numbers.TheConstants.{LAST_ID}
+use Rattle.gc_steps.proofs.FirstStage.{id_below}
 use Rattle.recovery.specs.Room.{RoomMade}
 use Rattle.refusals.specs.declared.refusal.Refusal.TheVariants.{Numbers}
 use Rattle.reply_text.specs.declared.ending.Ending.{Ending}
@@ -18,9 +19,10 @@ use Rattle.store_model.specs.Steps.{FreeContainer, StoreChange}
 use Rattle.store_model.proofs.Freed.{length-without_slot}
 use Rattle.store_model.proofs.Once.{store_once}
 use Rattle.store_state.proofs.Taken.{last_without}
-use Rattle.backup_engine.specs.Collected.{HasNoIdLeft, written_in}
+use Rattle.backup_engine.specs.Collected.{FreesUpTo, HasNoIdLeft, written_in}
 use Rattle.backup_engine.specs.Line.{CommandLine, Collect}
 use Rattle.backup_engine.specs.Promise.{EndsFrom}
+use Rattle.backup_engine.proofs.EarlierFrees.{frees_later}
 
 -- containers that were given back, as changes of a store
 frees : List ℕ → List StoreChange
@@ -52,6 +54,13 @@ slots_freed : (slots : List ℕ) (s : Store) → length (with_all_freed slots s)
 slots_freed [] s = refl
 slots_freed (slot ∷ slots) s = slots_freed slots (with_freed slot s) ∙ length-without_slot slot s.held
 
+-- what was given back was there before
+frees_from : (P : List ℕ → Type 0) (last : ℕ) (slots : List ℕ) (more : List StoreChange) (s t : Store) → FreesTo P slots s t → last_id s.held ≤ last → FreesUpTo last more t → FreesUpTo last (frees slots ++ more) s
+unfolding frees
+frees_from P last [] more s t frees_to low ups = subst (λ (x : Store). FreesUpTo last more x) frees_to.0 ups
+frees_from P last (slot ∷ slots) more s t frees_to low ups =
+    (λ h there. omega (arith, id_below s.held slot h there, low), frees_from P last slots more (with_freed slot s) t frees_to.2 (omega (arith, last_without slot s.held, low)) ups)
+
 same_list : (a b : List ℕ) → Some a ≡ Some b → a ≡ b
 same_list a b is = cc
 
@@ -62,6 +71,7 @@ module _ (v mid : DiskView) (made : RoomMade v mid) (old : List ℕ) (told : v.c
       let right : Encodes now made.after = subst (λ (b : List ℕ). Encodes b made.after) (same_list content.0 now (sym content.1 ∙ now_told)) content.2.0 in
       let spares = content.2.2.spares among m opens in
       let same : none.store ≡ with_all_freed made.freed made.short.store = store_once now none.store made.after none.was right ∙ all_freed _ made.freed made.short.store made.after made.frees in
+      let low : last_id none.store.held ≤ last_id made.short.store.held = omega (arith, ap (λ (s : Store). last_id s.held) same, last_freed _ made.freed made.short.store (with_all_freed made.freed made.short.store) spares) in
       let first : LAST_ID ≤ last_id (with_all_freed made.freed made.short.store).held + written_in none.changes = subst (λ (s : Store). LAST_ID ≤ last_id s.held + written_in none.changes) same none.ids in (
         old,
         told,
@@ -71,6 +81,9 @@ module _ (v mid : DiskView) (made : RoomMade v mid) (old : List ℕ) (told : v.c
           changes = frees made.freed ++ none.changes;
           chain = sweeps_from _ made.freed none.changes made.short.store (with_all_freed made.freed made.short.store) after spares
               (subst (λ (s : Store). SweepsSpare _ none.changes s after) same none.chain);
+          earlier = frees_from _ (last_id made.short.store.held) made.freed none.changes made.short.store (with_all_freed made.freed made.short.store) spares (omega arith)
+              (frees_later (last_id none.store.held) (last_id made.short.store.held) none.changes (with_all_freed made.freed made.short.store) low
+              (subst (λ (x : Store). FreesUpTo (last_id none.store.held) none.changes x) same none.earlier));
           few = omega (arith, slots_freed made.freed made.short.store, ap (λ (s : Store). length s.held) same, none.few, written_frees made.freed none.changes);
           ids = omega (arith, first, written_frees made.freed none.changes, last_freed _ made.freed made.short.store (with_all_freed made.freed made.short.store) spares);
         },

@@ -18,6 +18,7 @@ pub mod Commanded
 pub mod Committed
 pub mod DeleteKept
 pub mod DeleteMap
+pub mod EarlierFrees
 pub mod EarlierIds
 pub mod FedOpens
 pub mod Feds

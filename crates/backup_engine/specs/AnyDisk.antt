@@ -52,7 +52,7 @@ use Rattle.read_steps.specs.Walking.{GivesAll, IsNextRefusal}
 use Rattle.store_core.specs.Releases.{copied_in, freed_in}
 use Rattle.store_core.specs.Runs.{ChangesTo}
 use Rattle.backup_engine.specs.Adding.{AddsOnce}
-use Rattle.backup_engine.specs.Collected.{IsOfCollection, collected_line, written_in}
+use Rattle.backup_engine.specs.Collected.{FreesUpTo, IsOfCollection, collected_line, written_in}
 use Rattle.backup_engine.specs.Line.{CommandLine, Format, Ingest, Restore, Delete, Collect, name_of}
 use Rattle.backup_engine.specs.Line as table
 use Rattle.backup_engine.specs.PlainMap.{HasNumbers, Room, room, RefusesIngest, RefusesRestore, RefusesDelete, MayDelete, HasAll}
@@ -187,11 +187,12 @@ pub record IsUncopied (disk disk_now : DiskView) (refusal : Refusal) : Type 0 wh
   pub cause : IsCopyRefusal (ShownSince disk disk_now) (place_of slot entry) entry.digest refusal
 
 -- Copies were not written, as no id is left for their container: the last id of the store, and one for each container of copies that was
--- written, come to the last that there is; and these are fewer than the slots.
+-- written, come to the last that there is. Only containers that were there before were given back, and fewer written than there are slots.
 pub record IsUnwritten (store : Store) : Type 0 where
   pub changes : List StoreChange
   pub sweeps : SweepsTo store changes
   pub ids : LAST_ID ≤ last_id store.held + written_in changes
+  pub earlier : FreesUpTo (last_id store.held) changes store
   pub few : written_in changes < length store.held
 
 -- Why a collection of the store that the disk holds went no further. The index, while it marks, is that of the store.

@@ -12,12 +12,13 @@ use Rattle.script_lines.specs.ReplyValue as replies
 use Rattle.store_core.specs.Chosen.{Chooses, IsChosen}
 use Rattle.store_core.specs.Releases.{SweepsSpare, copied_in, freed_in}
 use Rattle.store_model.specs.Files.{Files}
+use Rattle.store_model.specs.Freeing.{with_freed}
 use Rattle.store_model.specs.Image.{Store, Encodes}
 use Rattle.store_model.specs.Indexing.{entry_key}
 use Rattle.store_model.specs.Needed.{IsNeededCopy}
 use Rattle.store_model.specs.Reserve.{HoldsJustNeeded, IsReachable, IsSpare}
 use Rattle.store_model.specs.Slots.{Copy, last_id, newest}
-use Rattle.store_model.specs.Steps.{StoreChange, FlushContainer, FreeContainer}
+use Rattle.store_model.specs.Steps.{StoreChange, FlushContainer, FreeContainer, changed}
 
 -- `collected freed F copied C`
 abbrev pub collected_line : ℕ → ℕ → List ℕ
@@ -35,6 +36,13 @@ written_in [] = 0
 written_in (FlushContainer id kind segments ∷ more) = 1 + written_in more
 written_in (change ∷ more) = written_in more
 
+-- each container that these changes give back has an id up to this one
+abbrev pub FreesUpTo : ℕ → List StoreChange → Store → Type 0
+FreesUpTo last [] s = Unit {0}
+FreesUpTo last (FreeContainer slot ∷ more) s =
+    ((h : HeaderValue) → slice_get s.held slot ≡ Some (Some h) → h.id ≤ last) × FreesUpTo last more (with_freed slot s)
+FreesUpTo last (change ∷ more) s = FreesUpTo last more (changed change s)
+
 -- The content that was a store is one to which such changes lead: containers of copies were written, with so many segments in all, and so
 -- many containers given back, each of which held, in its turn, the newest copy of no key that these files need. All else of the store is as
 -- it was: each container that is there now was there before, in the same slot, byte for byte, or came since, under an id above all of before.
@@ -49,7 +57,8 @@ pub record Collected (files : Files) (freed copied : ℕ) (store : Store) (old n
       → ((slice_get store.held slot ≡ Some (Some h)) × (range (slot_at slot) SLOT_BYTES new ≡ range (slot_at slot) SLOT_BYTES old))
       ⊎ (last_id store.held < h.id)
 
--- The entry is the newest copy of a key of which P holds, and before that lay in a container of which little is needed.
+-- The entry is the newest copy of a key of which P holds. The newest copy that the key had before lay in a container of which little is
+-- needed.
 abbrev pub IsMoved : (List ℕ → Type 0) → ℕ → List (Option HeaderValue) → List (Option HeaderValue) → Kind → ℕ → Entry → Type 0
 IsMoved P percent held held_now kind slot e =
     IsNeededCopy P held_now kind slot e
@@ -58,8 +67,8 @@ IsMoved P percent held held_now kind slot e =
 -- Of each container that was there it is known how many of its bytes the files need: where that is less than the percentage, or nothing,
 -- it is gone, and else it stands. Copied were just the keys that the files need whose newest copies lay in those that are gone, each once:
 -- each entry of each container that came since is now the newest copy of such a key, and each such key has its newest copy in one of these.
--- At the percentage 0 nothing was copied. None is left that holds the newest copy of no key that the files need. At 100 the containers hold
--- just what the files need, and each key of that once.
+-- At the percentage 0 nothing was copied. Each container that is left holds the newest copy of some key that the files need. At 100 they
+-- hold just what the files need, and each key of that once.
 pub record CollectedAll (files : Files) (percent freed copied : ℕ) (store : Store) (old new : List ℕ) : Type 0 where
   pub collected : Collected files freed copied store old new
   pub chooses : Chooses (IsReachable files) percent store.held collected.after.held collected.changes
@@ -73,11 +82,13 @@ pub record CollectedAll (files : Files) (percent freed copied : ℕ) (store : St
   pub full : percent ≡ 100 → HoldsJustNeeded files collected.after.held
 
 -- No id is left for a container of copies more, where the content that was is a store which such changes lead to this one: its last id, and
--- one for each container that they write, come to the last that there is; and these are fewer than the slots.
+-- one for each container that they write, come to the last that there is. They give back only containers that were there before, and write
+-- fewer than there are slots.
 pub record HasNoIdLeft (files : Files) (after : Store) (old : List ℕ) : Type 0 where
   pub store : Store
   pub was : Encodes old store
   pub changes : List StoreChange
   pub chain : SweepsSpare (IsReachable files) changes store after
   pub ids : LAST_ID ≤ last_id store.held + written_in changes
+  pub earlier : FreesUpTo (last_id store.held) changes store
   pub few : written_in changes < length store.held

@@ -105,12 +105,14 @@ Wrote (Collect percent) given m ending sink sink_now = (freed copied : ℕ) × W
 
 -- ---- what a collection gave back
 
--- A `collect` that was done, but perhaps for its reply, gave back containers that no file needs, also such as it had copied from, and left
--- no other such; `collect 100` left just what the files need. Its reply says how many, and how many segments it copied. One that was refused may have given back some of them; of a
--- write or a sync that failed this says nothing (what is left of the files is said below, and of the bytes in Frame.antt).
+-- A `collect` that was done, but perhaps for its reply, gave back just the containers of which the files need less than the percentage, or
+-- nothing, and copied just what they need of these. Its reply says how many there were, and how many segments it copied. One that was
+-- refused may have given back some that no file needs, also such as it had copied from; of a write or a sync that failed this says nothing
+-- (what is left of the files is said below, and of the bytes in Frame.antt).
 abbrev pub GivesSlotsBack : CommandLine → Option Ending → Files → Store → List ℕ → Option (List ℕ) → SinkView → SinkView → Type 0
 GivesSlotsBack (Collect percent) None files store old content sink sink_now =
-    (freed copied : ℕ) × (KnownWith content (CollectedAll files percent freed copied store old) × WroteReply (collected_line freed copied) None sink sink_now)
+    (freed copied : ℕ) × (KnownWith content (CollectedAll files percent freed copied store old)
+    × WroteReply (collected_line freed copied) None sink sink_now)
 GivesSlotsBack (Collect percent) (Some Sink) files store old content sink sink_now =
     (freed copied : ℕ) × (KnownWith content (CollectedAll files percent freed copied store old)
     × WroteReply (collected_line freed copied) (Some Sink) sink sink_now)

@@ -16,7 +16,7 @@ use Rattle.store_model.specs.Files.{Files}
 use Rattle.store_model.specs.Image.{Encodes, Store}
 use Rattle.store_model.specs.Needed.{Needs}
 use Rattle.store_model.specs.Reserve.{HoldsJustNeeded, IsReachable, IsSpare}
-use Rattle.plain_machine.specs.Content.{AddsCopies, BreaksCopies, BreaksGate, FreesContainer, OfStore, SameStore}
+use Rattle.plain_machine.specs.Content.{AddsCopies, BreaksCopies, BreaksGate, FreesContainer, IsToCopy, OfStore, SameStore}
 use Rattle.plain_machine.specs.Machine.{Collecting, Machine, Marking, Progress, Recording, Stopped, Sweeping, are_idle}
 use Rattle.plain_machine.specs.Turns.{Stays}
 
@@ -95,12 +95,14 @@ RecordsBy Select alone snapshot m recorded next =
     (next ≡ recorded) × OfStore m.content (λ store. ids_of recorded ≡ ids_before snapshot store.held)
 RecordsBy phase alone snapshot m recorded next = next ≡ recorded
 
--- What a step changes: a flush adds a container of so many copies; a release gives a container back that came before the snapshot, whose
--- id is chosen, and that no file needs; and no other step anything.
-abbrev pub ChangesBy : Phase → (Chosen : ℕ → Type 0) → (snapshot copies : ℕ) → Machine → List ℕ → Type 0
-ChangesBy Flush Chosen snapshot copies m new = AddsCopies m.last_id copies m.content new
-ChangesBy Release Chosen snapshot copies m new = (copies ≡ 0) × FreesContainer (IsReachable m.stored.files) Chosen snapshot m.content new
-ChangesBy phase Chosen snapshot copies m new = (copies ≡ 0) × SameStore m.content new
+-- What a step changes: a flush adds a container of so many copies, where it runs alone of keys that files need, from containers whose ids
+-- are chosen; a release gives a container back that came before the snapshot, whose id is chosen, and that no file needs; and no other
+-- step anything.
+abbrev pub ChangesBy : Phase → (alone : Bool) → (Chosen : ℕ → Type 0) → (snapshot copies : ℕ) → Machine → List ℕ → Type 0
+ChangesBy Flush alone Chosen snapshot copies m new = AddsCopies alone (IsReachable m.stored.files) Chosen m.last_id copies m.content new
+ChangesBy Release alone Chosen snapshot copies m new =
+    (copies ≡ 0) × FreesContainer (IsReachable m.stored.files) Chosen snapshot m.content new
+ChangesBy phase alone Chosen snapshot copies m new = (copies ≡ 0) × SameStore m.content new
 
 -- the last id is another after a flush
 abbrev pub last_by : Phase → ℕ → ℕ
@@ -142,6 +144,12 @@ abbrev pub IsCollecting : Phase → Option Collecting → Type 0
 IsCollecting phase None = ⊥
 IsCollecting phase (Some running) = MayCome phase running.progress
 
+-- where it runs alone, there is a key that is to be copied
+abbrev pub HasToCopy : Option Collecting → Machine → Type 0
+HasToCopy None m = ⊥
+HasToCopy (Some running) m = running.alone ≡ true → OfStore m.content (λ store. (key : List ℕ)
+    × IsToCopy (IsReachable m.stored.files) (IsSelectedId running.snapshot running.percent running.recorded) store.held key)
+
 -- A step is made, of those that may come.
 pub record StepsCollection (phase : Phase) (m n : Machine) : Type 0 where
   pub progress : Progress
@@ -165,7 +173,7 @@ pub record StepsCollection (phase : Phase) (m n : Machine) : Type 0 where
     alone = alone;
   })
   pub copies : ℕ
-  pub changes : ChangesBy phase (IsSelectedId snapshot percent recorded) snapshot copies m n.content
+  pub changes : ChangesBy phase alone (IsSelectedId snapshot percent recorded) snapshot copies m n.content
   pub recorded_now : List ContainerLiveness
   pub records : RecordsBy phase alone snapshot m recorded recorded_now
   pub others : n ≡ record m {
@@ -237,11 +245,13 @@ pub record BreaksStep (m : Machine) (new : List ℕ) : Type 0 where
   pub may : MayCome phase running.progress
   pub breaks : BreaksBy phase (IsSelectedId running.snapshot running.percent running.recorded) running.snapshot m new
 
--- Why no step is made. Copies are not written where no id is left. Where a write or a sync failed the store is stopped.
+-- Why no step is made. Copies are not written where no id is left; where it runs alone there are some to be written then. Where a write or
+-- a sync failed the store is stopped.
 abbrev pub RefusesCollectionStep : Refusal → Machine → Machine → Type 0
 RefusesCollectionStep NotCollecting m n = (m.collecting ≡ None) × (n ≡ m)
 RefusesCollectionStep Memory m n = IsSome m.collecting × Stays m n
-RefusesCollectionStep Numbers m n = IsCollecting Flush m.collecting × (LAST_ID ≤ m.last_id) × Stays m n
+RefusesCollectionStep Numbers m n =
+    IsCollecting Flush m.collecting × (LAST_ID ≤ m.last_id) × HasToCopy m.collecting m × Stays m n
 RefusesCollectionStep DiskRead m n = IsSome m.collecting × Rose m.faults n.faults × SameStore m.content n.content
     × (n ≡ record m { content = n.content; faults = n.faults })
 RefusesCollectionStep DiskWrite m n = BreaksStep m n.content × Rose m.faults n.faults

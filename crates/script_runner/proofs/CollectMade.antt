@@ -49,7 +49,7 @@ use Rattle.script_runner.proofs.CollectParts.{gc_event}
 use Rattle.script_runner.proofs.CollectProgress.{Progresses, progresses}
 use Rattle.script_runner.proofs.CollectRecords.{records_on}
 use Rattle.script_runner.proofs.CollectStep.{HasCollecting, Stepped, image, last_after, leads, low_after, runs_then, same_index, same_so, same_some, some_collecting, steps, told, touched, under}
-use Rattle.script_runner.proofs.SweepContent.{copies_added, freed}
+use Rattle.script_runner.proofs.SweepContent.{copies_added, filled_to_copy, freed}
 use Rattle.script_runner.proofs.Sweeping.{IsFewIn, few_after, few_by, left_by, left_on}
 use Rattle.script_runner.proofs.TurnHolds.{right_here}
 use Rattle.script_runner.proofs.TurnRunning.{RunsAt}
@@ -266,14 +266,16 @@ module _ (C : Type 0) (state : C → CoreState) (among : ByteSet) (apart : HasNo
   Chosen = IsSelectedId has.collecting.snapshot has.collecting.percent has.collecting.recorded
 
   changes_at : (stage : Stage) (next : Next) → goes.before.stage ≡ stage → goes.before.sweep.next ≡ next → Touched stage next → TablesAfter stage next (at_moment (state old) goes.before) (at_moment (state new) goes.after)
-      → (phase_at stage next ≡ phase_at Sweep End → ⊥) → ChangesBy (phase_at stage next) Chosen has.collecting.snapshot (copies_by stage next goes.before.sweep) m image_now
+      → (phase_at stage next ≡ phase_at Sweep End → ⊥) → ChangesBy (phase_at stage next) has.collecting.alone Chosen has.collecting.snapshot (copies_by stage next goes.before.sweep) m image_now
   changes_at (Mark level slot) next is next_is touch tables other = (refl, nothing (Mark level slot) next tt touch)
   changes_at (Filter slot) next is next_is touch tables other = (refl, nothing (Filter slot) next tt touch)
   changes_at Select next is next_is touch tables other = (refl, nothing Select next tt touch)
   changes_at Sweep (Copy source entry) is next_is touch tables other = (refl, nothing Sweep (Copy source entry) tt touch)
   changes_at Sweep (Flush source entry) is next_is touch tables other =
       copies_added among at.running.begins.store m.stored (state old) (state new) begins at.running.begins.settled m.content image_now at.content_is told_now goes.before goes.ran is source entry next_is tables.0 tables.1
-      touch m.last_id at.running.begins.last_id_is
+      touch has.collecting.alone Chosen m.last_id at.running.begins.last_id_is
+      (λ alone. filled_to_copy among at.running.begins.store m.stored (state old) (state new) begins at.running.begins.settled m.content image_now at.content_is told_now goes.before goes.ran is has.collecting.snapshot has.collecting.percent has.collecting.recorded snapshot_before
+      percent_before recorded_before (spared alone).0)
   changes_at Sweep (Release source entry) is next_is touch tables other = (
     refl,
     freed among at.running.begins.store m.stored (state old) (state new) begins at.running.begins.settled m.content image_now at.content_is told_now goes.before goes.ran is source entry next_is has.collecting.snapshot has.collecting.percent has.collecting.recorded snapshot_before
@@ -281,9 +283,9 @@ module _ (C : Type 0) (state : C → CoreState) (among : ByteSet) (apart : HasNo
   )
   changes_at Sweep End is next_is touch tables other = absurd (other refl)
 
-  changes : ChangesBy phase Chosen has.collecting.snapshot copies m image_now
+  changes : ChangesBy phase has.collecting.alone Chosen has.collecting.snapshot copies m image_now
   changes =
-      subst (λ (p : Phase). ChangesBy p Chosen has.collecting.snapshot copies m image_now) stage_phase (changes_at goes.before.stage goes.before.sweep.next refl refl touches goes.tables not_end)
+      subst (λ (p : Phase). ChangesBy p has.collecting.alone Chosen has.collecting.snapshot copies m image_now) stage_phase (changes_at goes.before.stage goes.before.sweep.next refl refl touches goes.tables not_end)
 
   -- ---- what it records
 

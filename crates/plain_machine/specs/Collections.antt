@@ -86,11 +86,12 @@ pub record IsRecordOf (alone : Bool) (files : Files) (snapshot : ℕ) (content :
   pub at_most : r.live ≤ r.all
   pub exact : alone ≡ true → r.live ≡ needed
 
--- What a step records: a filter step of one container, behind those of before. For the choice each container that came before the snapshot
--- was recorded, once, in the order of their slots. No other step records.
+-- What a step records: a filter step of one container, behind those of before, which is the next one in the order of their slots that came
+-- before the snapshot. For the choice each of these was recorded, once. No other step records.
 abbrev pub RecordsBy : Phase → (alone : Bool) → (snapshot : ℕ) → Machine → (recorded next : List ContainerLiveness) → Type 0
 RecordsBy Filter alone snapshot m recorded next =
-    (r : ContainerLiveness) × ((next ≡ recorded ++ r ∷ []) × IsRecordOf alone m.stored.files snapshot m.content r)
+    (r : ContainerLiveness) × ((next ≡ recorded ++ r ∷ []) × IsRecordOf alone m.stored.files snapshot m.content r
+    × OfStore m.content (λ store. (rest : List ℕ) × (ids_before snapshot store.held ≡ ids_of next ++ rest)))
 RecordsBy Select alone snapshot m recorded next =
     (next ≡ recorded) × OfStore m.content (λ store. ids_of recorded ≡ ids_before snapshot store.held)
 RecordsBy phase alone snapshot m recorded next = next ≡ recorded
@@ -119,6 +120,13 @@ forgets_by Copy collected = true
 forgets_by Flush collected = true
 forgets_by Release collected = true
 forgets_by phase collected = collected
+
+-- a source is copied or given back, and copies are written, only where not so many were given back yet as were chosen
+abbrev pub IsShort : Phase → (freed : ℕ) → (chosen : List ContainerLiveness) → Type 0
+IsShort Copy freed chosen = freed < length chosen
+IsShort Flush freed chosen = freed < length chosen
+IsShort Release freed chosen = freed < length chosen
+IsShort phase freed chosen = Unit {0}
 
 -- How far it is after a step: first come the marks, then the records, then the choice; and then each source is copied, and given back once it is
 -- ready. It is ready at once where nothing of it was copied, and else once that is written. No other step may come.
@@ -172,6 +180,7 @@ pub record StepsCollection (phase : Phase) (m n : Machine) : Type 0 where
     recorded = recorded;
     alone = alone;
   })
+  pub short : IsShort phase freed (selected snapshot percent recorded)
   pub copies : ℕ
   pub changes : ChangesBy phase alone (IsSelectedId snapshot percent recorded) snapshot copies m n.content
   pub recorded_now : List ContainerLiveness

@@ -156,7 +156,7 @@ collection_keeps (phase ∷ phases) m n steps =
 collection_ends : (Q : Type 0) (refusal : Refusal) (m n : Machine) → RefusesCollectionStep refusal m n → Ends Q (IsLeft refusal) m n
 collection_ends Q refusals.NotCollecting m n is = inr (same m n is.1, λ distinct. tt)
 collection_ends Q refusals.Memory m n is = inr ((ap (λ (x : Machine). x.faults) is.1.1, ap (λ (x : Machine). x.state) is.1.1), λ distinct. tt)
-collection_ends Q refusals.Numbers m n is = inr ((ap (λ (x : Machine). x.faults) is.2.1, ap (λ (x : Machine). x.state) is.2.1), λ distinct. tt)
+collection_ends Q refusals.Numbers m n is = inr ((ap (λ (x : Machine). x.faults) is.3.1, ap (λ (x : Machine). x.state) is.3.1), λ distinct. tt)
 collection_ends Q refusals.DiskRead m n is = inl is.1
 collection_ends Q refusals.DiskWrite m n is = inl is.1
 collection_ends Q refusal m n is = absurd is

@@ -16,7 +16,7 @@ use Rattle.store_model.specs.Files.{Files}
 use Rattle.store_model.specs.Image.{Encodes, Store}
 use Rattle.store_model.specs.Needed.{Needs}
 use Rattle.store_model.specs.Reserve.{HoldsJustNeeded, IsReachable, IsSpare}
-use Rattle.plain_machine.specs.Content.{AddsCopies, BreaksCopies, BreaksGate, FreesContainer, OfStore, SameStore}
+use Rattle.plain_machine.specs.Content.{AddsCopies, BreaksCopies, BreaksGate, FreesContainer, IsToCopy, OfStore, SameStore}
 use Rattle.plain_machine.specs.Machine.{Collecting, Machine, Marking, Progress, Recording, Stopped, Sweeping, are_idle}
 use Rattle.plain_machine.specs.Turns.{Stays}
 
@@ -86,21 +86,24 @@ pub record IsRecordOf (alone : Bool) (files : Files) (snapshot : ℕ) (content :
   pub at_most : r.live ≤ r.all
   pub exact : alone ≡ true → r.live ≡ needed
 
--- What a step records: a filter step of one container, behind those of before. For the choice each container that came before the snapshot
--- was recorded, once, in the order of their slots. No other step records.
+-- What a step records: a filter step of one container, behind those of before, which is the next one in the order of their slots that came
+-- before the snapshot. For the choice each of these was recorded, once. No other step records.
 abbrev pub RecordsBy : Phase → (alone : Bool) → (snapshot : ℕ) → Machine → (recorded next : List ContainerLiveness) → Type 0
 RecordsBy Filter alone snapshot m recorded next =
-    (r : ContainerLiveness) × ((next ≡ recorded ++ r ∷ []) × IsRecordOf alone m.stored.files snapshot m.content r)
+    (r : ContainerLiveness) × ((next ≡ recorded ++ r ∷ []) × IsRecordOf alone m.stored.files snapshot m.content r
+    × OfStore m.content (λ store. (rest : List ℕ) × (ids_before snapshot store.held ≡ ids_of next ++ rest)))
 RecordsBy Select alone snapshot m recorded next =
     (next ≡ recorded) × OfStore m.content (λ store. ids_of recorded ≡ ids_before snapshot store.held)
 RecordsBy phase alone snapshot m recorded next = next ≡ recorded
 
--- What a step changes: a flush adds a container of so many copies; a release gives a container back that came before the snapshot, whose
--- id is chosen, and that no file needs; and no other step anything.
-abbrev pub ChangesBy : Phase → (Chosen : ℕ → Type 0) → (snapshot copies : ℕ) → Machine → List ℕ → Type 0
-ChangesBy Flush Chosen snapshot copies m new = AddsCopies m.last_id copies m.content new
-ChangesBy Release Chosen snapshot copies m new = (copies ≡ 0) × FreesContainer (IsReachable m.stored.files) Chosen snapshot m.content new
-ChangesBy phase Chosen snapshot copies m new = (copies ≡ 0) × SameStore m.content new
+-- What a step changes: a flush adds a container of so many copies, where it runs alone of keys that files need, from containers whose ids
+-- are chosen; a release gives a container back that came before the snapshot, whose id is chosen, and that no file needs; and no other
+-- step anything.
+abbrev pub ChangesBy : Phase → (alone : Bool) → (Chosen : ℕ → Type 0) → (snapshot copies : ℕ) → Machine → List ℕ → Type 0
+ChangesBy Flush alone Chosen snapshot copies m new = AddsCopies alone (IsReachable m.stored.files) Chosen m.last_id copies m.content new
+ChangesBy Release alone Chosen snapshot copies m new =
+    (copies ≡ 0) × FreesContainer (IsReachable m.stored.files) Chosen snapshot m.content new
+ChangesBy phase alone Chosen snapshot copies m new = (copies ≡ 0) × SameStore m.content new
 
 -- the last id is another after a flush
 abbrev pub last_by : Phase → ℕ → ℕ
@@ -117,6 +120,13 @@ forgets_by Copy collected = true
 forgets_by Flush collected = true
 forgets_by Release collected = true
 forgets_by phase collected = collected
+
+-- a source is copied or given back, and copies are written, only where not so many were given back yet as were chosen
+abbrev pub IsShort : Phase → (freed : ℕ) → (chosen : List ContainerLiveness) → Type 0
+IsShort Copy freed chosen = freed < length chosen
+IsShort Flush freed chosen = freed < length chosen
+IsShort Release freed chosen = freed < length chosen
+IsShort phase freed chosen = Unit {0}
 
 -- How far it is after a step: first come the marks, then the records, then the choice; and then each source is copied, and given back once it is
 -- ready. It is ready at once where nothing of it was copied, and else once that is written. No other step may come.
@@ -142,6 +152,12 @@ abbrev pub IsCollecting : Phase → Option Collecting → Type 0
 IsCollecting phase None = ⊥
 IsCollecting phase (Some running) = MayCome phase running.progress
 
+-- where it runs alone, there is a key that is to be copied
+abbrev pub HasToCopy : Option Collecting → Machine → Type 0
+HasToCopy None m = ⊥
+HasToCopy (Some running) m = running.alone ≡ true → OfStore m.content (λ store. (key : List ℕ)
+    × IsToCopy (IsReachable m.stored.files) (IsSelectedId running.snapshot running.percent running.recorded) store.held key)
+
 -- A step is made, of those that may come.
 pub record StepsCollection (phase : Phase) (m n : Machine) : Type 0 where
   pub progress : Progress
@@ -164,8 +180,9 @@ pub record StepsCollection (phase : Phase) (m n : Machine) : Type 0 where
     recorded = recorded;
     alone = alone;
   })
+  pub short : IsShort phase freed (selected snapshot percent recorded)
   pub copies : ℕ
-  pub changes : ChangesBy phase (IsSelectedId snapshot percent recorded) snapshot copies m n.content
+  pub changes : ChangesBy phase alone (IsSelectedId snapshot percent recorded) snapshot copies m n.content
   pub recorded_now : List ContainerLiveness
   pub records : RecordsBy phase alone snapshot m recorded recorded_now
   pub others : n ≡ record m {
@@ -237,11 +254,13 @@ pub record BreaksStep (m : Machine) (new : List ℕ) : Type 0 where
   pub may : MayCome phase running.progress
   pub breaks : BreaksBy phase (IsSelectedId running.snapshot running.percent running.recorded) running.snapshot m new
 
--- Why no step is made. Copies are not written where no id is left. Where a write or a sync failed the store is stopped.
+-- Why no step is made. Copies are not written where no id is left; where it runs alone there are some to be written then. Where a write or
+-- a sync failed the store is stopped.
 abbrev pub RefusesCollectionStep : Refusal → Machine → Machine → Type 0
 RefusesCollectionStep NotCollecting m n = (m.collecting ≡ None) × (n ≡ m)
 RefusesCollectionStep Memory m n = IsSome m.collecting × Stays m n
-RefusesCollectionStep Numbers m n = IsCollecting Flush m.collecting × (LAST_ID ≤ m.last_id) × Stays m n
+RefusesCollectionStep Numbers m n =
+    IsCollecting Flush m.collecting × (LAST_ID ≤ m.last_id) × HasToCopy m.collecting m × Stays m n
 RefusesCollectionStep DiskRead m n = IsSome m.collecting × Rose m.faults n.faults × SameStore m.content n.content
     × (n ≡ record m { content = n.content; faults = n.faults })
 RefusesCollectionStep DiskWrite m n = BreaksStep m n.content × Rose m.faults n.faults

@@ -1,7 +1,7 @@
 -- What lines show of the disk's content, and what they change of it.
 use Rattle.std.specs.Int.{w32, w64}
 use Rattle.base_model.specs.Numbers.{number_at}
-use Rattle.std.specs.Prelude.{◌≡◌, ◌≢◌, ◌⊎◌, ℕ, suc, ◌-◌, ◌<◌, ◌≤◌, List, length, slice_get, Some, None, max, ◌+◌, ◌==◌, if◌then◌else◌, zero}
+use Rattle.std.specs.Prelude.{◌≡◌, ◌≢◌, ◌⊎◌, ℕ, suc, ◌-◌, ◌<◌, ◌≤◌, Bool, true, List, length, slice_get, Option, Some, None, max, ◌+◌, ◌==◌, if◌then◌else◌, zero}
 use Rattle.std.specs.FinMap as finite
 use Rattle.std.specs.List.{AllByRecursion}
 use Rattle.sha2.specs.Sha256.{sha256}
@@ -119,14 +119,23 @@ pub record AddsContainer (last id : ℕ) (filled : Contents) (old new : List ℕ
   pub held : AllByRecursion (λ s. Holds new (record { kind = filled.kind; segment = s })) filled.segments
   pub rest : SameBut (Unit {0}) (λ half cell. ⊥) (λ slot. slot ≡ first_free store.held) store.slots old new
 
--- Copies were written: a container of so many segments, each of which was held, stands in the free slot of least number, under the id after the
--- last one, and all else is as it was.
-pub record AddsCopies (last count : ℕ) (old new : List ℕ) : Type 0 where
+-- A key is to be copied, of those of which P holds: its newest copy is in a container whose id is chosen.
+pub record IsToCopy (P : List ℕ → Type 0) (Chosen : ℕ → Type 0) (held : List (Option HeaderValue)) (key : List ℕ) : Type 0 where
+  pub needed : P key
+  pub copy : Copy
+  pub copy_is : newest 0 held key ≡ Some copy
+  pub chosen : Chosen copy.id
+
+-- Copies were written: a container of so many segments, each of which was held, stands in the free slot of least number, under the id after
+-- the last one, and all else is as it was. Where a collection runs alone the key of each was to be copied. It is so no more, as the id of its
+-- newest copy came after all that are chosen: no key is copied twice.
+pub record AddsCopies (alone : Bool) (P : List ℕ → Type 0) (Chosen : ℕ → Type 0) (last count : ℕ) (old new : List ℕ) : Type 0 where
   pub store : Store
   pub was : Encodes old store
   pub filled : Contents
   pub can : CanFlush (suc last) filled.kind filled.segments store
   pub many : count ≡ length filled.segments
+  pub to_copy : alone ≡ true → AllByRecursion (λ s. IsToCopy P Chosen store.held (segment_key filled.kind s)) filled.segments
   pub were_held : AllByRecursion (λ s. Holds old (record { kind = filled.kind; segment = s })) filled.segments
   pub now : Encodes new (with_sealed (suc last) filled.kind filled.segments store)
   pub held : AllByRecursion (λ s. Holds new (record { kind = filled.kind; segment = s })) filled.segments

@@ -1,9 +1,10 @@
 -- The snapshot and the percentage of a collection, how many containers it gave back and how many copies it wrote, by the machine, after a step of it.
-use Rattle.std.proofs.Common.{◌≡◌, inl, inr, ◌+◌, ℕ, List, length, Option, Some, None, refl, sym, ◌∙◌, ap, subst, arith}
+use Rattle.std.proofs.Common.{◌≡◌, ◌≢◌, inl, inr, ◌+◌, ◌<◌, ℕ, List, [], ◌∷◌, length, Option, Some, None, refl, sym, ◌∙◌, ap, subst, arith}
 use Rattle.container_meta.specs.declared.kind.Kind.{Kind}
 use Rattle.container_meta.specs.Segments.{Contents, Segment}
 use Rattle.copy_forward.specs.declared.plan.Plan.{Plan}
 use Rattle.copy_forward.specs.Copying.{PlansSource}
+use Rattle.gc_select.specs.declared.liveness.ContainerLiveness.{ContainerLiveness}
 use Rattle.gc_steps.specs.declared.collection.Collection.{Collection}
 use Rattle.gc_steps.specs.declared.collection.Stage.{Stage}
 use Rattle.gc_steps.specs.declared.collection.Stage.TheVariants.{Mark, Filter, Select, Sweep}
@@ -15,9 +16,10 @@ use Rattle.gc_sweep.specs.declared.sweep.Next.{Next}
 use Rattle.gc_sweep.specs.declared.sweep.Next.TheVariants.{Copy, Flush, Release, End}
 use Rattle.gc_sweep.specs.declared.sweep.Sweep.{Sweep as SweepValue}
 use Rattle.gc_sweep.specs.Copying.{CopiesSource, IsFilling, TakesBy}
-use Rattle.plain_machine.specs.Collections.{freed_by}
+use Rattle.gc_sweep.specs.UnderWay.{HasNext, IsSweeping, sources_before}
+use Rattle.plain_machine.specs.Collections.{IsShort, freed_by}
 use Rattle.store_state.specs.declared.slot_table.SlotTable.{SlotTable}
-use Rattle.script_runner.specs.Follows.{HasCounted}
+use Rattle.script_runner.specs.Follows.{CountsEach, HasCounted}
 
 -- how many copies a step writes
 abbrev pub copies_by : Stage → Next → SweepValue → ℕ
@@ -121,3 +123,23 @@ module _ (old new : Moment) (freed copied : ℕ) where
       sweeping 1 0 (ap (λ (c : Collection). c.stage) steps.1 ∙ is) (omega (arith, steps.0.freed_is, counted.0))
       (omega (arith, steps.0.copied_is, counted.1, ap (λ (c : Contents). length c.segments) steps.0.buffer_is))
   counted_on Sweep End is next_is counted steps other = absurd (other refl)
+
+-- ---- sources that are left
+
+some_there : (xs : List ℕ) → xs ≢ [] → 0 < length xs
+some_there [] some = absurd (some refl)
+some_there (x ∷ xs) some = omega arith
+
+-- while it sweeps it gave fewer back than there are
+pub short_sweep : (t : SlotTable) (snapshot : ℕ) (s : SweepValue) (freed : ℕ) (chosen : List ContainerLiveness) (next : Next) → IsSweeping t snapshot s → CountsEach s → s.next ≡ next → s.freed ≡ freed
+    → length s.sources.items ≡ length chosen → IsShort (phase_at Sweep next) freed chosen
+short_sweep t snapshot s freed chosen (Copy source entry) under each is freed_is many =
+    let has : HasNext t s (Copy source entry) = subst (HasNext t s) is under.next_is in
+    omega (arith, has.0, each, ap (sources_before s) is, freed_is, many)
+short_sweep t snapshot s freed chosen (Flush source entry) under each is freed_is many =
+    let has : HasNext t s (Flush source entry) = subst (HasNext t s) is under.next_is in
+    omega (arith, some_there s.waiting.items (λ none. has.1 (under.fills none)), each, under.before, freed_is, many)
+short_sweep t snapshot s freed chosen (Release source entry) under each is freed_is many =
+    let has : HasNext t s (Release source entry) = subst (HasNext t s) is under.next_is in
+    omega (arith, some_there s.ready.items has.0, each, under.before, freed_is, many)
+short_sweep t snapshot s freed chosen End under each is freed_is many = tt

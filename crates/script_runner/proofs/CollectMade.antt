@@ -1,5 +1,5 @@
 -- A step of a collection that was made is one of the machine, and the runner follows it.
-use Rattle.std.proofs.Common.{◌≡◌, ◌+◌, ◌-◌, ◌<◌, ◌≤◌, ℕ, suc, List, Option, Some, Result, Ok, refl, sym, ◌∙◌, ap, subst, arith, true, false}
+use Rattle.std.proofs.Common.{◌≡◌, ◌+◌, ◌-◌, ◌<◌, ◌≤◌, ℕ, suc, List, length, Option, Some, Result, Ok, refl, sym, ◌∙◌, ap, subst, arith, true, false}
 use Rattle.container_meta.specs.Places.{PlaceMap}
 use Rattle.dd_disk.specs.Ending.{Done}
 use Rattle.disk_format.specs.declared.numbers.TheConstants.{LAST_ID}
@@ -8,7 +8,7 @@ use Rattle.actor_parts.specs.declared.step.Answer.TheVariants as answers
 use Rattle.refusals.specs.declared.refusal.Phase.{Phase}
 use Rattle.refusals.specs.declared.refusal.Refusal.{Refusal}
 use Rattle.gc_select.specs.declared.liveness.ContainerLiveness.{ContainerLiveness}
-use Rattle.gc_select.specs.Selecting.{IsSelectedId}
+use Rattle.gc_select.specs.Selecting.{IsSelectedId, selected}
 use Rattle.gc_steps.specs.declared.collection.Collection.{Collection}
 use Rattle.gc_steps.specs.declared.collection.Stage.{Stage}
 use Rattle.gc_steps.specs.declared.collection.Stage.TheVariants.{Mark, Filter, Select, Sweep}
@@ -17,10 +17,12 @@ use Rattle.gc_steps.specs.Sparing.{IsWithin, Spares}
 use Rattle.gc_steps.specs.Stepping.{StepsTo, TablesAfter, Touches, moment, phase_at}
 use Rattle.gc_steps.specs.SweepIsSafe.{HoldsAt}
 use Rattle.gc_steps.specs.Taking.{TakesAll}
-use Rattle.gc_steps.specs.UnderWay.{IsUnderWay}
+use Rattle.gc_steps.specs.UnderWay.{HasChosen, IsUnderWay}
+use Rattle.gc_steps.proofs.Chosen.{sources_many}
 use Rattle.gc_steps.proofs.CopiedOn.{goes_well}
 use Rattle.gc_steps.proofs.Sparing as sparing
 use Rattle.gc_steps.proofs.StepSafe.{IsStoreAfter, LeavesSafe, step_safe}
+use Rattle.gc_steps.proofs.UnderWay.{at_stage}
 use Rattle.gc_steps.proofs.WholeCopies.{takes_step}
 use Rattle.gc_sweep.specs.declared.sweep.Next.{Next}
 use Rattle.gc_sweep.specs.declared.sweep.Next.TheVariants.{Copy, Flush, Release, End}
@@ -36,20 +38,20 @@ use Rattle.store_core.specs.Core.{CoreStep, IndexesAll}
 use Rattle.store_core.specs.Runs.{IsAt, IsSafeIn}
 use Rattle.store_core.specs.State.{CoreState, IsUnderWayIn}
 use Rattle.store_core.proofs.Leading.{Leads}
-use Rattle.plain_machine.specs.Collections.{ChangesBy, GoesTo, RecordsBy, StepsCollection, forgets_by, freed_by, last_by}
+use Rattle.plain_machine.specs.Collections.{ChangesBy, GoesTo, IsShort, RecordsBy, StepsCollection, forgets_by, freed_by, last_by}
 use Rattle.plain_machine.specs.Content.{SameStore}
 use Rattle.plain_machine.specs.Machine.{Collecting, Machine}
 use Rattle.script_runner.specs.Follows.{CountsEach, FollowsCollecting, HasCounted, IsAtProgress, SparesAlone, SparesNeeded}
 use Rattle.script_runner.specs.Sessions.{Sessions}
 use Rattle.script_runner.proofs.CollectBytes.{GivesNothing}
 use Rattle.script_runner.proofs.CollectCauses.{no_end, phase_is}
-use Rattle.script_runner.proofs.CollectCounts.{copies_by, counted_on, percent_on, snapshot_on}
+use Rattle.script_runner.proofs.CollectCounts.{copies_by, counted_on, percent_on, short_sweep, snapshot_on}
 use Rattle.script_runner.proofs.CollectNeeds.{needs_closed, needs_here, told_here}
 use Rattle.script_runner.proofs.CollectParts.{gc_event}
 use Rattle.script_runner.proofs.CollectProgress.{Progresses, progresses}
 use Rattle.script_runner.proofs.CollectRecords.{records_on}
 use Rattle.script_runner.proofs.CollectStep.{HasCollecting, Stepped, image, last_after, leads, low_after, runs_then, same_index, same_so, same_some, some_collecting, steps, told, touched, under}
-use Rattle.script_runner.proofs.SweepContent.{copies_added, freed}
+use Rattle.script_runner.proofs.SweepContent.{copies_added, filled_to_copy, freed}
 use Rattle.script_runner.proofs.Sweeping.{IsFewIn, few_after, few_by, left_by, left_on}
 use Rattle.script_runner.proofs.TurnHolds.{right_here}
 use Rattle.script_runner.proofs.TurnRunning.{RunsAt}
@@ -266,14 +268,16 @@ module _ (C : Type 0) (state : C → CoreState) (among : ByteSet) (apart : HasNo
   Chosen = IsSelectedId has.collecting.snapshot has.collecting.percent has.collecting.recorded
 
   changes_at : (stage : Stage) (next : Next) → goes.before.stage ≡ stage → goes.before.sweep.next ≡ next → Touched stage next → TablesAfter stage next (at_moment (state old) goes.before) (at_moment (state new) goes.after)
-      → (phase_at stage next ≡ phase_at Sweep End → ⊥) → ChangesBy (phase_at stage next) Chosen has.collecting.snapshot (copies_by stage next goes.before.sweep) m image_now
+      → (phase_at stage next ≡ phase_at Sweep End → ⊥) → ChangesBy (phase_at stage next) has.collecting.alone Chosen has.collecting.snapshot (copies_by stage next goes.before.sweep) m image_now
   changes_at (Mark level slot) next is next_is touch tables other = (refl, nothing (Mark level slot) next tt touch)
   changes_at (Filter slot) next is next_is touch tables other = (refl, nothing (Filter slot) next tt touch)
   changes_at Select next is next_is touch tables other = (refl, nothing Select next tt touch)
   changes_at Sweep (Copy source entry) is next_is touch tables other = (refl, nothing Sweep (Copy source entry) tt touch)
   changes_at Sweep (Flush source entry) is next_is touch tables other =
       copies_added among at.running.begins.store m.stored (state old) (state new) begins at.running.begins.settled m.content image_now at.content_is told_now goes.before goes.ran is source entry next_is tables.0 tables.1
-      touch m.last_id at.running.begins.last_id_is
+      touch has.collecting.alone Chosen m.last_id at.running.begins.last_id_is
+      (λ alone. filled_to_copy among at.running.begins.store m.stored (state old) (state new) begins at.running.begins.settled m.content image_now at.content_is told_now goes.before goes.ran is has.collecting.snapshot has.collecting.percent has.collecting.recorded snapshot_before
+      percent_before recorded_before (spared alone).0)
   changes_at Sweep (Release source entry) is next_is touch tables other = (
     refl,
     freed among at.running.begins.store m.stored (state old) (state new) begins at.running.begins.settled m.content image_now at.content_is told_now goes.before goes.ran is source entry next_is has.collecting.snapshot has.collecting.percent has.collecting.recorded snapshot_before
@@ -281,9 +285,38 @@ module _ (C : Type 0) (state : C → CoreState) (among : ByteSet) (apart : HasNo
   )
   changes_at Sweep End is next_is touch tables other = absurd (other refl)
 
-  changes : ChangesBy phase Chosen has.collecting.snapshot copies m image_now
+  changes : ChangesBy phase has.collecting.alone Chosen has.collecting.snapshot copies m image_now
   changes =
-      subst (λ (p : Phase). ChangesBy p Chosen has.collecting.snapshot copies m image_now) stage_phase (changes_at goes.before.stage goes.before.sweep.next refl refl touches goes.tables not_end)
+      subst (λ (p : Phase). ChangesBy p has.collecting.alone Chosen has.collecting.snapshot copies m image_now) stage_phase (changes_at goes.before.stage goes.before.sweep.next refl refl touches goes.tables not_end)
+
+  -- ---- the sources that are left
+
+  abbrev Selected : List ContainerLiveness
+  Selected = selected has.collecting.snapshot has.collecting.percent has.collecting.recorded
+
+  under_before : IsUnderWay (state old).tables.held goes.before
+  under_before = under C state among apart m sessions old new at did buf made goes.before goes.ran
+
+  -- there are as many as are selected by what was recorded
+  sources_so : goes.before.stage ≡ Sweep → length goes.before.sweep.sources.items ≡ length Selected
+  sources_so is =
+      subst (λ (n : ℕ). length goes.before.sweep.sources.items ≡ length (selected n has.collecting.percent has.collecting.recorded)) snapshot_before
+      (subst (λ (n : ℕ). length goes.before.sweep.sources.items ≡ length (selected goes.before.snapshot n has.collecting.recorded)) percent_before
+      (subst (λ (rs : List ContainerLiveness). length goes.before.sweep.sources.items ≡ length (selected goes.before.snapshot goes.before.percent rs)) recorded_before
+      (ap (λ (ids : List ℕ). length ids) (subst (λ (stage : Stage). HasChosen stage goes.before) is under_before.sources_are)
+      ∙ sources_many (selected goes.before.snapshot goes.before.percent goes.before.liveness))))
+
+  short_at : (stage : Stage) (next : Next) → goes.before.stage ≡ stage → goes.before.sweep.next ≡ next → IsShort (phase_at stage next) has.collecting.freed Selected
+  short_at (Mark level slot) next is next_is = tt
+  short_at (Filter slot) next is next_is = tt
+  short_at Select next is next_is = tt
+  short_at Sweep next is next_is =
+      short_sweep (state old).tables.held goes.before.snapshot goes.before.sweep has.collecting.freed Selected next (at_stage (state old).tables.held goes.before Sweep under_before is)
+      (subst (λ (c : Collection). CountsEach c.sweep) same has.follows.each) next_is
+      (subst (λ (stage : Stage). HasCounted stage goes.before.sweep has.collecting.freed has.collecting.copied) is counted_before).0 (sources_so is)
+
+  short : IsShort phase has.collecting.freed Selected
+  short = subst (λ (p : Phase). IsShort p has.collecting.freed Selected) stage_phase (short_at goes.before.stage goes.before.sweep.next refl refl)
 
   -- ---- what it records
 
@@ -339,6 +372,7 @@ module _ (C : Type 0) (state : C → CoreState) (among : ByteSet) (apart : HasNo
       recorded = has.collecting.recorded;
       alone = has.collecting.alone;
       ran = ran;
+      short = short;
       copies = copies;
       changes = changes;
       recorded_now = goes.after.liveness;

@@ -1,7 +1,8 @@
 -- What a step of a collection records, by the machine.
-use Rattle.std.proofs.Common.{◌≡◌, ◌∙◌, ℕ, ◌<◌, ◌≤◌, Bool, true, false, cond, List, [], ◌∷◌, ◌++◌, get_or, Option, Some, None, refl, sym, ap, subst, arith}
+use Rattle.std.proofs.Common.{◌≡◌, ◌∙◌, ℕ, zero, suc, ◌<◌, ◌≤◌, Bool, true, false, cond, List, [], ◌∷◌, ◌++◌, length, get_or, take, Option, Some, None, refl, sym, ap, subst, arith}
 use Rattle.std.specs.Prelude.{◌&&◌, ◌==◌, not, nat_lt, nat_le, slice_get}
 use Rattle.std.proofs.lemmas.Bool.{eqb-true, leb-true}
+use Rattle.std.proofs.lemmas.List.{append_assoc, map_push}
 use Rattle.base_model.proofs.Checks.{both}
 use Rattle.container_meta.specs.Format.{is_id}
 use Rattle.container_meta.specs.Places.{PlaceMap}
@@ -65,6 +66,19 @@ old_before snapshot (None ∷ cs) headers = old_before snapshot cs headers
 old_before snapshot (Some h ∷ cs) headers =
     ap (λ (b : Bool). cond b (h.id ∷ old_ids snapshot (ids_held cs)) (old_ids snapshot (ids_held cs))) (old_by snapshot h.id headers.0.id)
     ∙ ap (λ (rest : List ℕ). cond (nat_lt h.id snapshot) (h.id ∷ rest) rest) (old_before snapshot cs headers.1)
+
+-- those in the slots before an old one, that one, and others
+split_old : (snapshot : ℕ) (ids : List ℕ) (slot : ℕ) → slot < length ids → is_old snapshot (get_or ids slot 0) ≡ true
+    → (rest : List ℕ) × (old_ids snapshot ids ≡ old_ids snapshot (take slot ids) ++ get_or ids slot 0 ∷ rest)
+split_old snapshot [] slot within old = absurd (omega (arith, within))
+split_old snapshot (x ∷ ids) zero within old = (old_ids snapshot ids, ap (λ (b : Bool). cond b (x ∷ old_ids snapshot ids) (old_ids snapshot ids)) old)
+split_old snapshot (x ∷ ids) (suc slot) within old =
+    let more = split_old snapshot ids slot (omega (arith, within)) old in
+    (more.0, by_test (old_ids snapshot ids) (old_ids snapshot (take slot ids)) (get_or ids slot 0 ∷ more.0) more.1 (is_old snapshot x))
+  where
+    by_test : (all some rest : List ℕ) → all ≡ some ++ rest → (b : Bool) → cond b (x ∷ all) all ≡ cond b (x ∷ some) some ++ rest
+    by_test all some rest is true = ap (λ (xs : List ℕ). x ∷ xs) is
+    by_test all some rest is false = is
 
 -- ---- a step
 
@@ -135,6 +149,20 @@ module _ (among : ByteSet) (store : Store) (stored : Stored) (old new : CoreStat
       exact = same_alone;
     }
 
+    -- with it the first are recorded, in the order of their slots
+    are_first : (rest : List ℕ) × (ids_before c.snapshot store.held ≡ ids_of (c.liveness ++ r ∷ []) ++ rest)
+    are_first =
+        let ids = old.tables.held.ids.items in
+        let was = at_stage old.tables.held c (Filter slot) under stage_is in
+        let parts = split_old c.snapshot ids slot was.0.0 was.0.1 in (
+          parts.0,
+          sym (old_before c.snapshot store.held at.valid.headers) ∙ ap (old_ids c.snapshot) (sym at.represents.slots_hold.ids_are) ∙ parts.1
+              ∙ ap (λ (xs : List ℕ). xs ++ get_or ids slot 0 ∷ parts.0) (sym was.1)
+              ∙ ap (λ (n : ℕ). ids_of c.liveness ++ n ∷ parts.0) (id_here ∙ sym of.id_is)
+              ∙ sym (append_assoc (ids_of c.liveness) (r.id ∷ []) parts.0)
+              ∙ ap (λ (xs : List ℕ). xs ++ parts.0) (sym (map_push (λ (x : ContainerLiveness). x.id) c.liveness r)),
+        )
+
   -- ---- the choice
 
   all_recorded : c.stage ≡ Select → ids_of c.liveness ≡ ids_before c.snapshot store.held
@@ -155,12 +183,15 @@ module _ (among : ByteSet) (store : Store) (stored : Stored) (old new : CoreStat
     by_stage : (stage : Stage) (next : Next) → c.stage ≡ stage → StepsTo stage next (moment old.tables (Some index) old.disk c) (at_moment new d) → Recorded stage next
     by_stage (Mark level slot) next is steps = ap (λ (x : Collection). x.liveness) steps.0.collection_is
     by_stage (Filter slot) next is steps =
-        let r : ContainerLiveness = recorded old.tables.held slot steps.0.live in (
+        let r : ContainerLiveness = recorded old.tables.held slot steps.0.live in
+        let of = record_of index store stored.files content old.tables old.disk new.disk c d holds (told_here (IsIn among) store stored old at) here slot (at_stage old.tables.held c (Filter slot) under is).0.0 steps.0 in
+        let next_is : d.liveness ≡ c.liveness ++ r ∷ [] = ap (λ (x : Collection). x.liveness) steps.0.collection_is in
+        let first = subst (λ (rs : List ContainerLiveness). (rest : List ℕ) × (ids_before c.snapshot store.held ≡ ids_of rs ++ rest)) (sym next_is) (are_first slot is r of) in (
           r,
           (
-            ap (λ (x : Collection). x.liveness) steps.0.collection_is,
-            of_machine r (record_here slot is r (record_of index store stored.files content old.tables old.disk new.disk c d holds (told_here (IsIn among) store stored old at) here slot
-                (at_stage old.tables.held c (Filter slot) under is).0.0 steps.0)),
+            next_is,
+            of_machine r (record_here slot is r of),
+            subst (λ (bytes : List ℕ). OfStore bytes (λ s. (rest : List ℕ) × (ids_before c.snapshot s.held ≡ ids_of d.liveness ++ rest))) (sym content_is) (store, (right, first)),
           ),
         )
     by_stage Select next is steps = (

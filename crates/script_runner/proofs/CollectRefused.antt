@@ -1,5 +1,5 @@
 -- A step of a collection that was refused is refused by the machine, and the runner follows it.
-use Rattle.std.proofs.Common.{◌≡◌, ◌<◌, ◌≤◌, ℕ, List, Option, Some, None, Result, Err, refl, sym, ◌∙◌, ap, subst}
+use Rattle.std.proofs.Common.{◌≡◌, ◌<◌, ◌≤◌, ℕ, true, List, Option, Some, None, Result, Err, refl, sym, ◌∙◌, ap, subst}
 use Rattle.base_model.specs.Fault.{Rose}
 use Rattle.container_meta.specs.Places.{PlaceMap}
 use Rattle.dd_disk.specs.Ending.{Broken, Ending, ending_of}
@@ -29,7 +29,7 @@ use Rattle.store_core.specs.Core.{CoreStep, IndexesAll, Steps}
 use Rattle.store_core.specs.Runs.{ChangesTo, IsAt}
 use Rattle.store_core.specs.State.{CoreState}
 use Rattle.store_core.proofs.JustNeeded.{kept_takes}
-use Rattle.plain_machine.specs.Collections.{BreaksBy, BreaksStep, IsCollecting, MayCome, RefusesCollectionStep}
+use Rattle.plain_machine.specs.Collections.{BreaksBy, BreaksStep, HasToCopy, IsCollecting, MayCome, RefusesCollectionStep}
 use Rattle.plain_machine.specs.Content.{SameStore}
 use Rattle.plain_machine.specs.Machine.{Collecting, Machine, Stopped}
 use Rattle.script_runner.specs.Follows.{Follows, IsAtProgress, IsOfFound, SparesAlone, SparesNeeded}
@@ -42,9 +42,9 @@ use Rattle.script_runner.proofs.CollectNeeds.{needs_closed, needs_here, told_her
 use Rattle.script_runner.proofs.CollectParts.{gc_event}
 use Rattle.script_runner.proofs.CollectProgress.{may_come}
 use Rattle.script_runner.proofs.CollectIndex.{rest_index}
-use Rattle.script_runner.proofs.CollectStep.{HasCollecting, flush_same, image, is_collecting, keeps, kept_unchanged, leads, runs_then, same_index, same_so, same_some, some_collecting, step, steps, told, touched}
+use Rattle.script_runner.proofs.CollectStep.{HasCollecting, flush_same, image, is_collecting, keeps, kept_unchanged, leads, right, runs_then, same_index, same_so, same_some, some_collecting, step, steps, told, touched}
 use Rattle.script_runner.proofs.Harmless.{is_harmless}
-use Rattle.script_runner.proofs.SweepContent.{copies_broke, freeing_broke}
+use Rattle.script_runner.proofs.SweepContent.{copies_broke, freeing_broke, some_to_copy}
 use Rattle.script_runner.proofs.TurnRunning.{RunsAt, follows_at}
 
 module _ (C : Type 0) (state : C → CoreState) (among : ByteSet) (apart : HasNoCollisions (IsIn among)) (m : Machine) (sessions : Sessions) (old new : C) (at : RunsAt (IsIn among) m sessions (state old)) (buf : List ℕ) where
@@ -134,6 +134,11 @@ module _ (C : Type 0) (state : C → CoreState) (among : ByteSet) (apart : HasNo
     abbrev SparesAt : Collection → Type 0
     SparesAt c = SparesNeeded m.stored.files at.running.begins.store has_some.collecting.percent begins_then.index c
 
+    spared_then : has_some.collecting.alone ≡ true → SparesAt row.before
+    spared_then alone =
+        let before = subst (λ (o : Option Collecting). SparesAlone m.stored.files at.running.begins.store o (state old)) has_some.is at.running.begins.spares in
+        before alone begins_then.index row.before begins_then.index_known row.ran
+
     spares_after : SparesAt row.before → SparesAt row.after
     spares_after was = (
       sparing.spares_refused (IsReachable m.stored.files) begins_then.index at.running.begins.store m.stored.files m.content (state old).tables (state new).known (state old).disk (state new).disk row.before row.after
@@ -150,10 +155,9 @@ module _ (C : Type 0) (state : C → CoreState) (among : ByteSet) (apart : HasNo
     spares_rested rests =
         subst (λ (o : Option Collecting). SparesAlone m.stored.files at.running.begins.store o (state new)) (sym has_some.is)
         (λ alone index collection known runs.
-        let before = subst (λ (o : Option Collecting). SparesAlone m.stored.files at.running.begins.store o (state old)) has_some.is at.running.begins.spares in
         subst (λ (i : PlaceMap). SparesNeeded m.stored.files at.running.begins.store has_some.collecting.percent i collection)
         (same_index begins_then.index index (state new).known (index_then rests ∙ begins_then.index_known) known)
-        (subst SparesAt (same_some row.after collection (state new).collection row.runs runs) (spares_after (before alone begins_then.index row.before begins_then.index_known row.ran))))
+        (subst SparesAt (same_some row.after collection (state new).collection row.runs runs) (spares_after (spared_then alone))))
 
     rested : IsRestCause refusal → (state new).stop ≡ None → (faults : ℕ) → (state new).disk.faults ≡ faults → Follows (IsIn among) (record m { content = image_then; faults = faults }) sessions (state new)
     rested rests stays faults faults_are =
@@ -206,13 +210,25 @@ module _ (C : Type 0) (state : C → CoreState) (among : ByteSet) (apart : HasNo
 
     -- ---- no id is left
 
-    no_id : refusal ≡ refusals.Numbers → IsCollecting phases.Flush m.collecting × (LAST_ID ≤ m.last_id)
+    -- where it runs alone, copies were to be written
+    some_left : (source entry : ℕ) → row.before.stage ≡ Sweep → row.before.sweep.next ≡ Flush source entry → HasToCopy m.collecting m
+    some_left source entry stage_is next_is =
+        subst (λ (o : Option Collecting). HasToCopy o m) (sym has_some.is) (λ alone. (
+          at.running.begins.store,
+          (
+            right C state among apart m sessions old new at err buf made,
+            some_to_copy among at.running.begins.store m.stored (state old) (state new) begins_then at.running.begins.settled m.content image_then at.content_is told_then row.before row.ran stage_is
+                has_some.collecting.snapshot has_some.collecting.percent has_some.collecting.recorded snapshot_before percent_before recorded_before source entry next_is (spared_then alone).0,
+          ),
+        ))
+
+    no_id : refusal ≡ refusals.Numbers → IsCollecting phases.Flush m.collecting × (LAST_ID ≤ m.last_id) × HasToCopy m.collecting m
     no_id is = by_stage row.before.stage row.before.sweep.next refl refl cause
       where
         no_read : IsReadCause refusal → ⊥
         no_read reads = subst IsReadCause is reads
 
-        by_stage : (stage : Stage) (next : Next) → row.before.stage ≡ stage → row.before.sweep.next ≡ next → IsCauseAt stage next (state old).tables refusal → IsCollecting phases.Flush m.collecting × (LAST_ID ≤ m.last_id)
+        by_stage : (stage : Stage) (next : Next) → row.before.stage ≡ stage → row.before.sweep.next ≡ next → IsCauseAt stage next (state old).tables refusal → IsCollecting phases.Flush m.collecting × (LAST_ID ≤ m.last_id) × HasToCopy m.collecting m
         by_stage (Mark level slot) next stage_is next_is at_stage = absurd (no_read at_stage)
         by_stage (Filter slot) next stage_is next_is at_stage = absurd (no_read at_stage)
         by_stage Select next stage_is next_is at_stage = absurd (no_read at_stage)
@@ -220,6 +236,7 @@ module _ (C : Type 0) (state : C → CoreState) (among : ByteSet) (apart : HasNo
         by_stage Sweep (Flush source entry) stage_is next_is at_stage = (
           collects_as phases.Flush (ap (λ (s : Stage). phase_at s row.before.sweep.next) stage_is ∙ ap (phase_at Sweep) next_is),
           subst (λ (n : ℕ). LAST_ID ≤ n) at.running.begins.last_id_is (subst (IsCauseAt Sweep (Flush source entry) (state old).tables) is at_stage),
+          some_left source entry stage_is next_is,
         )
         by_stage Sweep (Release source entry) stage_is next_is at_stage = absurd (let wrong : refusals.Numbers ≡ refusals.DiskWrite = sym is ∙ at_stage in cc)
         by_stage Sweep End stage_is next_is at_stage = absurd at_stage
@@ -263,7 +280,7 @@ module _ (C : Type 0) (state : C → CoreState) (among : ByteSet) (apart : HasNo
       let none = no_id refusals.Numbers made s.made.row.0 refl in
       record {
         next = record m { content = image_then refusals.Numbers made s.made.row.0 };
-        is = (none.0, none.1, (same_so_far refusals.Numbers made s.made.row.0 (λ is. let wrong = is in cc) tt, refl));
+        is = (none.0, none.1, none.2, (same_so_far refusals.Numbers made s.made.row.0 (λ is. let wrong = is in cc) tt, refl));
         follows = rested refusals.Numbers made s.made.row.0 tt s.stops m.faults (s.made.effect.faults_are ∙ at.faults_are);
       }
   refused_step refusals.DiskRead made =

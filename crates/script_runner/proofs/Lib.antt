@@ -68,6 +68,7 @@ pub mod SessionLists
 pub mod SparesLive
 pub mod SweepContent
 pub mod Sweeping
+pub mod ToCopy
 pub mod TurnAsks
 pub mod TurnClashes
 pub mod TurnHolds

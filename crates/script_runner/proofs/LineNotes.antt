@@ -80,7 +80,7 @@ delete_stored name refusal m n is = absurd is
 collect_stored : (refusal : Refusal) (m n : Machine) → RefusesCollectionStep refusal m n → n.stored ≡ m.stored
 collect_stored refusals.NotCollecting m n is = of_same m n is.1
 collect_stored refusals.Memory m n is = ap (λ (x : Machine). x.stored) is.1.1
-collect_stored refusals.Numbers m n is = ap (λ (x : Machine). x.stored) is.2.1
+collect_stored refusals.Numbers m n is = ap (λ (x : Machine). x.stored) is.3.1
 collect_stored refusals.DiskRead m n is = ap (λ (x : Machine). x.stored) is.3
 collect_stored refusals.DiskWrite m n is = ap (λ (x : Machine). x.stored) is.2
 collect_stored refusal m n is = absurd is

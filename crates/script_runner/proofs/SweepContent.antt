@@ -1,5 +1,5 @@
 -- What a sweep leaves of the content, by the machine: copies that it writes, and a container that it gives back.
-use Rattle.std.proofs.Common.{◌≡◌, ◌∙◌, inr, ◌+◌, ◌<◌, ◌≤◌, ℕ, suc, List, length, Some, refl, sym, ap, subst, arith}
+use Rattle.std.proofs.Common.{◌≡◌, ◌∙◌, inr, ◌+◌, ◌<◌, ◌≤◌, ℕ, suc, Bool, true, List, length, Some, refl, sym, ap, subst, arith}
 use Rattle.std.specs.Prelude.{count_by, ◌==◌, Contains}
 use Rattle.std.specs.List.{AllByRecursion}
 use Rattle.std.proofs.lemmas.List.Elements.{Contains-get_or}
@@ -13,6 +13,7 @@ use Rattle.gc_steps.specs.declared.collection.Collection.{Collection}
 use Rattle.gc_steps.specs.declared.collection.Stage.{Stage}
 use Rattle.gc_steps.specs.declared.collection.Stage.TheVariants.{Sweep}
 use Rattle.gc_steps.specs.Safety.{IsSafeAt}
+use Rattle.gc_steps.specs.Sparing.{CopiesAlone, Spares}
 use Rattle.gc_steps.specs.Stepping.{Touches}
 use Rattle.gc_steps.specs.SweepIsSafe.{HoldsAt, SweepIsSafe}
 use Rattle.gc_steps.specs.UnderWay.{HasChosen}
@@ -24,7 +25,7 @@ use Rattle.gc_sweep.specs.declared.sweep.Next.TheVariants.{Flush, Release}
 use Rattle.gc_sweep.specs.Flushing.{WritesCopies}
 use Rattle.gc_sweep.specs.Holding.{HoldsSweep, SourcesStand}
 use Rattle.gc_sweep.specs.InTurn.{slot_in_turn}
-use Rattle.gc_sweep.specs.UnderWay.{IsSweeping, free_in, taken_from}
+use Rattle.gc_sweep.specs.UnderWay.{HasNext, IsSweeping, free_in, taken_from}
 use Rattle.gc_select.specs.declared.liveness.ContainerLiveness.{ContainerLiveness}
 use Rattle.gc_select.specs.Selecting.{IsSelectedId, selected, sources_of}
 use Rattle.gc_sweep.proofs.Holds.{IsInTurn, in_turn}
@@ -45,9 +46,10 @@ use Rattle.store_state.specs.Settled.{IsSettled}
 use Rattle.store_state.specs.Tables.{Represents}
 use Rattle.store_core.specs.Runs.{IsAt, IsSafeIn}
 use Rattle.store_core.specs.State.{CoreState, IsUnderWayIn}
-use Rattle.plain_machine.specs.Content.{AddsCopies, BreaksCopies, BreaksGate, FreesContainer, Holds}
+use Rattle.plain_machine.specs.Content.{AddsCopies, BreaksCopies, BreaksGate, FreesContainer, Holds, IsToCopy}
 use Rattle.script_runner.proofs.CollectBytes.{flush_changes, gate_broke, gate_changed}
 use Rattle.script_runner.proofs.CollectNeeds.{told_here}
+use Rattle.script_runner.proofs.ToCopy.{are_to_copy, first_of}
 use Rattle.script_runner.proofs.TurnHolds.{right_here}
 use Rattle.script_runner.proofs.TurnKept.{of_kind}
 
@@ -90,6 +92,37 @@ module _ (among : ByteSet) (store : Store) (stored : Stored) (old new : CoreStat
   -- an image that is a store of the same files
   right_now : (after : Store) → StandsFor (Stands S after stored.files) new.disk → Encodes image after
   right_now after stands_now = (stands_now.each image (new.disk.as_read image told)).holds.right
+
+  -- ---- what is to be copied
+
+  sources_are : c.sweep.sources.items ≡ sources_of (selected c.snapshot c.percent c.liveness)
+  sources_are = subst (λ (stage : Stage). HasChosen stage c) stage_is (subst (IsUnderWayIn old.tables.held) runs at.under_way).sources_are
+
+  module _ (snapshot percent : ℕ) (recorded : List ContainerLiveness) (snapshot_is : c.snapshot ≡ snapshot) (percent_is : c.percent ≡ percent) (recorded_is : c.liveness ≡ recorded) where
+    abbrev Chosen : ℕ → Type 0
+    Chosen = IsSelectedId snapshot percent recorded
+
+    -- a source is selected by what was recorded
+    chosen_so : (id : ℕ) → Contains c.sweep.sources.items id → Chosen id
+    chosen_so id source =
+        subst (λ (n : ℕ). IsSelectedId n percent recorded id) snapshot_is
+        (subst (λ (n : ℕ). IsSelectedId c.snapshot n recorded id) percent_is
+        (subst (λ (rs : List ContainerLiveness). IsSelectedId c.snapshot c.percent rs id) recorded_is
+        ((chosen_which c.snapshot c.percent c.liveness c.sweep.sources.items sources_are id).0 source)))
+
+    -- where it spares what is needed, all that is filled is to be copied
+    pub filled_to_copy : Spares (IsReachable stored.files) index store.held c
+        → AllByRecursion (λ x. IsToCopy (IsReachable stored.files) Chosen store.held (segment_key c.sweep.buffer.kind x)) c.sweep.buffer.segments
+    filled_to_copy spares =
+        are_to_copy (IsReachable stored.files) Chosen index store.held content old.tables.held c.live c.snapshot c.sweep represents.slots_hold invariant.index_is_newest sweeping was_held chosen_so spares.within
+        (subst (λ (stage : Stage). CopiesAlone stage index store.held c) stage_is spares.alone)
+
+    -- before copies are written something is
+    pub some_to_copy : (source entry : ℕ) → c.sweep.next ≡ Flush source entry → Spares (IsReachable stored.files) index store.held c
+        → (key : List ℕ) × IsToCopy (IsReachable stored.files) Chosen store.held key
+    some_to_copy source entry next_is spares =
+        first_of (IsToCopy (IsReachable stored.files) Chosen store.held) c.sweep.buffer.kind c.sweep.buffer.segments
+        (subst (HasNext old.tables.held c.sweep) next_is sweeping.next_is).1 (filled_to_copy spares)
 
   -- ---- copies that are written
 
@@ -134,13 +167,16 @@ module _ (among : ByteSet) (store : Store) (stored : Stored) (old new : CoreStat
       are_held : AllByRecursion (λ x. Holds image (of_kind filled.kind x)) filled.segments
       are_held = each_so (λ x. HasNewest written.held (segment_key filled.kind x) x.level x.bytes image) (λ x. Holds image (of_kind filled.kind x)) filled.segments (λ x has. (written, (now, has))) newest_now
 
-      pub copies_added : (last : ℕ) → old.tables.held.last_id ≡ last → AddsCopies last (length filled.segments) content image
-      copies_added last last_is = record {
+      pub copies_added : (alone : Bool) (Of : ℕ → Type 0) (last : ℕ) → old.tables.held.last_id ≡ last
+          → (alone ≡ true → AllByRecursion (λ x. IsToCopy (IsReachable stored.files) Of store.held (segment_key filled.kind x)) filled.segments)
+          → AddsCopies alone (IsReachable stored.files) Of last (length filled.segments) content image
+      copies_added alone Of last last_is to_copy = record {
         store = store;
         was = right;
         filled = filled;
         can = subst (λ (n : ℕ). CanFlush n filled.kind filled.segments store) id_is can;
         many = refl;
+        to_copy = to_copy;
         were_held = were_held;
         now = subst (λ (n : ℕ). Encodes image (with_sealed n filled.kind filled.segments store)) id_is now;
         held = are_held;
@@ -186,20 +222,14 @@ module _ (among : ByteSet) (store : Store) (stored : Stored) (old new : CoreStat
         subst (Contains c.sweep.sources.items) (sym turn.stands.id_is)
         (Contains-get_or c.sweep.sources.items turn.stands.number 0 (omega (arith, turn.stands.below, sweeping.before)))
 
-    sources_are : c.sweep.sources.items ≡ sources_of (selected c.snapshot c.percent c.liveness)
-    sources_are = subst (λ (stage : Stage). HasChosen stage c) stage_is (subst (IsUnderWayIn old.tables.held) runs at.under_way).sources_are
-
     module _ (snapshot percent : ℕ) (recorded : List ContainerLiveness) (snapshot_is : c.snapshot ≡ snapshot) (percent_is : c.percent ≡ percent) (recorded_is : c.liveness ≡ recorded) where
       before_now : spare.header.id < snapshot
       before_now = subst (λ (n : ℕ). spare.header.id < n) snapshot_is (subst (λ (h : HeaderValue). h.id < c.snapshot) same_header turn.stands.old)
 
       chosen_now : IsSelectedId snapshot percent recorded spare.header.id
       chosen_now =
-          subst (λ (n : ℕ). IsSelectedId n percent recorded spare.header.id) snapshot_is
-          (subst (λ (n : ℕ). IsSelectedId c.snapshot n recorded spare.header.id) percent_is
-          (subst (λ (rs : List ContainerLiveness). IsSelectedId c.snapshot c.percent rs spare.header.id) recorded_is
-          (subst (λ (h : HeaderValue). IsSelectedId c.snapshot c.percent c.liveness h.id) same_header
-          ((chosen_which c.snapshot c.percent c.liveness c.sweep.sources.items sources_are turn.stands.header.id).0 is_source))))
+          subst (λ (h : HeaderValue). IsSelectedId snapshot percent recorded h.id) same_header
+          (chosen_so snapshot percent recorded snapshot_is percent_is recorded_is turn.stands.header.id is_source)
 
       pub freed : Touches Sweep (Release source entry) c.sweep old.tables Done old.disk new.disk → FreesContainer (IsReachable stored.files) (IsSelectedId snapshot percent recorded) snapshot content image
       freed touches = record {

@@ -96,11 +96,12 @@ RecordsBy Select alone snapshot m recorded next =
     (next ≡ recorded) × OfStore m.content (λ store. ids_of recorded ≡ ids_before snapshot store.held)
 RecordsBy phase alone snapshot m recorded next = next ≡ recorded
 
--- What a step changes: a flush adds a container of so many copies, where it runs alone of keys that files need, from containers whose ids
--- are chosen; a release gives a container back that came before the snapshot, whose id is chosen, and that no file needs; and no other
--- step anything.
+-- What a step changes: a flush adds a container of so many copies, from containers whose ids are chosen or that came since the snapshot,
+-- and where it runs alone just of keys that files need, from those that are chosen; a release gives a container back that came before the
+-- snapshot, whose id is chosen, and that no file needs; and no other step anything.
 abbrev pub ChangesBy : Phase → (alone : Bool) → (Chosen : ℕ → Type 0) → (snapshot copies : ℕ) → Machine → List ℕ → Type 0
-ChangesBy Flush alone Chosen snapshot copies m new = AddsCopies alone (IsReachable m.stored.files) Chosen m.last_id copies m.content new
+ChangesBy Flush alone Chosen snapshot copies m new =
+    AddsCopies alone (IsReachable m.stored.files) Chosen snapshot m.last_id copies m.content new
 ChangesBy Release alone Chosen snapshot copies m new =
     (copies ≡ 0) × FreesContainer (IsReachable m.stored.files) Chosen snapshot m.content new
 ChangesBy phase alone Chosen snapshot copies m new = (copies ≡ 0) × SameStore m.content new

@@ -126,15 +126,24 @@ pub record IsToCopy (P : List ℕ → Type 0) (Chosen : ℕ → Type 0) (held : 
   pub copy_is : newest 0 held key ≡ Some copy
   pub chosen : Chosen copy.id
 
+-- A key that was copied: its newest copy is in a container whose id is chosen, or in one of an id from the snapshot on, since another actor
+-- may have sealed it once more meanwhile.
+pub record IsOfCopied (Chosen : ℕ → Type 0) (snapshot : ℕ) (held : List (Option HeaderValue)) (key : List ℕ) : Type 0 where
+  pub copy : Copy
+  pub copy_is : newest 0 held key ≡ Some copy
+  pub from : Chosen copy.id ⊎ (snapshot ≤ copy.id)
+
 -- Copies were written: a container of so many segments, each of which was held, stands in the free slot of least number, under the id after
--- the last one, and all else is as it was. Where a collection runs alone the key of each was to be copied. It is so no more, as the id of its
--- newest copy came after all that are chosen: no key is copied twice.
-pub record AddsCopies (alone : Bool) (P : List ℕ → Type 0) (Chosen : ℕ → Type 0) (last count : ℕ) (old new : List ℕ) : Type 0 where
+-- the last one, and all else is as it was. The newest copy of the key of each was in a container that is chosen, or in one that came since
+-- the snapshot. Where a collection runs alone the key of each was to be copied. It is so no more, as the id of its newest copy came after
+-- all that are chosen: no key is copied twice.
+pub record AddsCopies (alone : Bool) (P : List ℕ → Type 0) (Chosen : ℕ → Type 0) (snapshot last count : ℕ) (old new : List ℕ) : Type 0 where
   pub store : Store
   pub was : Encodes old store
   pub filled : Contents
   pub can : CanFlush (suc last) filled.kind filled.segments store
   pub many : count ≡ length filled.segments
+  pub from_chosen : AllByRecursion (λ s. IsOfCopied Chosen snapshot store.held (segment_key filled.kind s)) filled.segments
   pub to_copy : alone ≡ true → AllByRecursion (λ s. IsToCopy P Chosen store.held (segment_key filled.kind s)) filled.segments
   pub were_held : AllByRecursion (λ s. Holds old (record { kind = filled.kind; segment = s })) filled.segments
   pub now : Encodes new (with_sealed (suc last) filled.kind filled.segments store)

@@ -46,10 +46,10 @@ use Rattle.store_state.specs.Settled.{IsSettled}
 use Rattle.store_state.specs.Tables.{Represents}
 use Rattle.store_core.specs.Runs.{IsAt, IsSafeIn}
 use Rattle.store_core.specs.State.{CoreState, IsUnderWayIn}
-use Rattle.plain_machine.specs.Content.{AddsCopies, BreaksCopies, BreaksGate, FreesContainer, Holds, IsToCopy}
+use Rattle.plain_machine.specs.Content.{AddsCopies, BreaksCopies, BreaksGate, FreesContainer, Holds, IsOfCopied, IsToCopy}
 use Rattle.script_runner.proofs.CollectBytes.{flush_changes, gate_broke, gate_changed}
 use Rattle.script_runner.proofs.CollectNeeds.{told_here}
-use Rattle.script_runner.proofs.ToCopy.{are_to_copy, first_of}
+use Rattle.script_runner.proofs.ToCopy.{are_of_copied, are_to_copy, first_of}
 use Rattle.script_runner.proofs.TurnHolds.{right_here}
 use Rattle.script_runner.proofs.TurnKept.{of_kind}
 
@@ -110,11 +110,17 @@ module _ (among : ByteSet) (store : Store) (stored : Stored) (old new : CoreStat
         (subst (λ (rs : List ContainerLiveness). IsSelectedId c.snapshot c.percent rs id) recorded_is
         ((chosen_which c.snapshot c.percent c.liveness c.sweep.sources.items sources_are id).0 source)))
 
+    -- all that is filled has its newest copies there, or in containers that came since
+    pub filled_of_copied : AllByRecursion (λ x. IsOfCopied Chosen snapshot store.held (segment_key c.sweep.buffer.kind x)) c.sweep.buffer.segments
+    filled_of_copied =
+        subst (λ (n : ℕ). AllByRecursion (λ x. IsOfCopied Chosen n store.held (segment_key c.sweep.buffer.kind x)) c.sweep.buffer.segments) snapshot_is
+        (are_of_copied Chosen index store.held content old.tables.held c.live c.snapshot c.sweep represents.slots_hold invariant.index_is_newest sweeping was_held chosen_so)
+
     -- where it spares what is needed, all that is filled is to be copied
     pub filled_to_copy : Spares (IsReachable stored.files) index store.held c
         → AllByRecursion (λ x. IsToCopy (IsReachable stored.files) Chosen store.held (segment_key c.sweep.buffer.kind x)) c.sweep.buffer.segments
     filled_to_copy spares =
-        are_to_copy (IsReachable stored.files) Chosen index store.held content old.tables.held c.live c.snapshot c.sweep represents.slots_hold invariant.index_is_newest sweeping was_held chosen_so spares.within
+        are_to_copy Chosen index store.held content old.tables.held c.live c.snapshot c.sweep represents.slots_hold invariant.index_is_newest sweeping was_held chosen_so (IsReachable stored.files) spares.within
         (subst (λ (stage : Stage). CopiesAlone stage index store.held c) stage_is spares.alone)
 
     -- before copies are written something is
@@ -167,15 +173,17 @@ module _ (among : ByteSet) (store : Store) (stored : Stored) (old new : CoreStat
       are_held : AllByRecursion (λ x. Holds image (of_kind filled.kind x)) filled.segments
       are_held = each_so (λ x. HasNewest written.held (segment_key filled.kind x) x.level x.bytes image) (λ x. Holds image (of_kind filled.kind x)) filled.segments (λ x has. (written, (now, has))) newest_now
 
-      pub copies_added : (alone : Bool) (Of : ℕ → Type 0) (last : ℕ) → old.tables.held.last_id ≡ last
+      pub copies_added : (alone : Bool) (Of : ℕ → Type 0) (snapshot last : ℕ) → old.tables.held.last_id ≡ last
+          → AllByRecursion (λ x. IsOfCopied Of snapshot store.held (segment_key filled.kind x)) filled.segments
           → (alone ≡ true → AllByRecursion (λ x. IsToCopy (IsReachable stored.files) Of store.held (segment_key filled.kind x)) filled.segments)
-          → AddsCopies alone (IsReachable stored.files) Of last (length filled.segments) content image
-      copies_added alone Of last last_is to_copy = record {
+          → AddsCopies alone (IsReachable stored.files) Of snapshot last (length filled.segments) content image
+      copies_added alone Of snapshot last last_is from_chosen to_copy = record {
         store = store;
         was = right;
         filled = filled;
         can = subst (λ (n : ℕ). CanFlush n filled.kind filled.segments store) id_is can;
         many = refl;
+        from_chosen = from_chosen;
         to_copy = to_copy;
         were_held = were_held;
         now = subst (λ (n : ℕ). Encodes image (with_sealed n filled.kind filled.segments store)) id_is now;

@@ -66,7 +66,7 @@ IsMoved P percent held held_now kind slot e =
 
 -- Of each container that was there it is known how many of its bytes the files need: where that is less than the percentage, or nothing,
 -- it is gone, and else it stands. Copied were just the keys that the files need whose newest copies lay in those that are gone, each once:
--- each entry of each container that came since is now the newest copy of such a key, and each such key has its newest copy in one of these.
+-- each entry of each container that came since is now the newest copy of such a key, and each such key has its newest copy in one that did.
 -- At the percentage 0 nothing was copied. Each container that is left holds the newest copy of some key that the files need. At 100 they
 -- hold just what the files need, and each key of that once.
 pub record CollectedAll (files : Files) (percent freed copied : ℕ) (store : Store) (old new : List ℕ) : Type 0 where

@@ -1,6 +1,6 @@
--- Collections: it is recorded how much of each container is live, segments of those that are chosen are copied, and these are given back,
--- step by step (docs/MODEL.md, 'The plain machine').
-use Rattle.std.specs.Prelude.{◌≡◌, ℕ, suc, ◌+◌, ◌*◌, ◌<◌, ◌≤◌, Bool, true, false, if◌then◌else◌, nat_lt, List, [], ◌∷◌, ◌++◌, length, slice_get, Option, None, Some, IsSome}
+-- Collections, step by step: it is recorded how much of each container is live, segments of the containers that are chosen by that are
+-- copied, and these containers are given back (docs/MODEL.md, 'The plain machine').
+use Rattle.std.specs.Prelude.{◌≡◌, ◌⊎◌, ℕ, suc, ◌+◌, ◌*◌, ◌<◌, ◌≤◌, Bool, true, false, if◌then◌else◌, nat_lt, List, [], ◌∷◌, ◌++◌, length, slice_get, Option, None, Some, IsSome}
 use Rattle.base_model.specs.Fault.{Rose}
 use Rattle.container_meta.specs.declared.kind.Kind.{Kind}
 use Rattle.container_meta.specs.declared.kind.Kind.TheVariants.{Leaf, Tree}
@@ -63,6 +63,7 @@ pub record BeginsCollection (percent snapshot : ℕ) (m n : Machine) : Type 0 wh
       to_come = most;
       freed = 0;
       copied = 0;
+      written = [];
       recorded = [];
       alone = are_idle m.parts;
     });
@@ -86,8 +87,8 @@ pub record IsRecordOf (alone : Bool) (files : Files) (snapshot : ℕ) (content :
   pub at_most : r.live ≤ r.all
   pub exact : alone ≡ true → r.live ≡ needed
 
--- What a step records: a filter step of one container, behind those of before, which is the next one in the order of their slots that came
--- before the snapshot. For the choice each of these was recorded, once. No other step records.
+-- What a step records: a filter step one container, the next one, in the order of slots, of those that came before the snapshot, behind
+-- what was recorded so far. At the choice each of those containers was recorded, once. No other step records.
 abbrev pub RecordsBy : Phase → (alone : Bool) → (snapshot : ℕ) → Machine → (recorded next : List ContainerLiveness) → Type 0
 RecordsBy Filter alone snapshot m recorded next =
     (r : ContainerLiveness) × ((next ≡ recorded ++ r ∷ []) × IsRecordOf alone m.stored.files snapshot m.content r
@@ -96,15 +97,17 @@ RecordsBy Select alone snapshot m recorded next =
     (next ≡ recorded) × OfStore m.content (λ store. ids_of recorded ≡ ids_before snapshot store.held)
 RecordsBy phase alone snapshot m recorded next = next ≡ recorded
 
--- What a step changes: a flush adds a container of so many copies, from containers whose ids are chosen or that came since the snapshot,
--- and where it runs alone just of keys that files need, from those that are chosen; a release gives a container back that came before the
--- snapshot, whose id is chosen, and that no file needs; and no other step anything.
-abbrev pub ChangesBy : Phase → (alone : Bool) → (Chosen : ℕ → Type 0) → (snapshot copies : ℕ) → Machine → List ℕ → Type 0
-ChangesBy Flush alone Chosen snapshot copies m new =
-    AddsCopies alone (IsReachable m.stored.files) Chosen snapshot m.last_id copies m.content new
-ChangesBy Release alone Chosen snapshot copies m new =
-    (copies ≡ 0) × FreesContainer (IsReachable m.stored.files) Chosen snapshot m.content new
-ChangesBy phase alone Chosen snapshot copies m new = (copies ≡ 0) × SameStore m.content new
+-- What a step changes: a flush adds a container of so many copies, of keys whose newest copies are in containers whose ids are chosen or
+-- that came since the snapshot, none of them a key that the collection wrote before, and where the collection runs alone just of keys that
+-- files need, with newest copies in those that are chosen; a release gives a container back that came before the snapshot, whose id is
+-- chosen, and that no file needs; and no other step changes anything.
+abbrev pub ChangesBy : Phase → (alone : Bool) → (Chosen : ℕ → Type 0) → (snapshot copies : ℕ) → (written later : List (List ℕ)) → Machine
+    → List ℕ → Type 0
+ChangesBy Flush alone Chosen snapshot copies written later m new =
+    AddsCopies alone (IsReachable m.stored.files) Chosen snapshot m.last_id copies written later m.content new
+ChangesBy Release alone Chosen snapshot copies written later m new =
+    (copies ≡ 0) × (later ≡ written) × FreesContainer (IsReachable m.stored.files) Chosen snapshot m.content new
+ChangesBy phase alone Chosen snapshot copies written later m new = (copies ≡ 0) × (later ≡ written) × SameStore m.content new
 
 -- the last id is another after a flush
 abbrev pub last_by : Phase → ℕ → ℕ
@@ -129,16 +132,16 @@ IsShort Flush freed chosen = freed < length chosen
 IsShort Release freed chosen = freed < length chosen
 IsShort phase freed chosen = Unit {0}
 
--- How far it is after a step: first come the marks, then the records, then the choice; and then each source is copied, and given back once it is
--- ready. It is ready at once where nothing of it was copied, and else once that is written. No other step may come.
+-- How far it is after a step: first come the marks, then the records, then the choice; and then each source is copied, and given back once
+-- it is ready. A step that copies leaves one ready, where nothing of it was copied; or something is to be written, and once that is, those
+-- are ready that wait for it. No other step may come.
 abbrev pub GoesTo : Phase → Progress → Progress → Type 0
 GoesTo Mark Marking next = next ≡ Marking
 GoesTo Filter Marking next = next ≡ Recording
 GoesTo Filter Recording next = next ≡ Recording
 GoesTo Select Marking next = next ≡ Sweeping false false
 GoesTo Select Recording next = next ≡ Sweeping false false
-GoesTo Copy (Sweeping false filled) next =
-    (ready : Bool) × ((now : Bool) × ((next ≡ Sweeping ready now) × (filled ≡ true → now ≡ true) × (ready ≡ true → now ≡ filled)))
+GoesTo Copy (Sweeping false filled) next = (next ≡ Sweeping true filled) ⊎ (next ≡ Sweeping false true)
 GoesTo Flush (Sweeping false true) next = next ≡ Sweeping true false
 GoesTo Release (Sweeping true filled) next = (ready : Bool) × (next ≡ Sweeping ready filled)
 GoesTo phase progress next = ⊥
@@ -159,6 +162,11 @@ HasToCopy None m = ⊥
 HasToCopy (Some running) m = running.alone ≡ true → OfStore m.content (λ store. (key : List ℕ)
     × IsToCopy (IsReachable m.stored.files) (IsSelectedId running.snapshot running.percent running.recorded) store.held key)
 
+-- its next step may read the disk: it marks, records, copies, or writes what was copied
+abbrev pub MayRead : Option Collecting → Type 0
+MayRead collecting =
+    IsCollecting Mark collecting ⊎ IsCollecting Filter collecting ⊎ IsCollecting Copy collecting ⊎ IsCollecting Flush collecting
+
 -- A step is made, of those that may come.
 pub record StepsCollection (phase : Phase) (m n : Machine) : Type 0 where
   pub progress : Progress
@@ -169,6 +177,7 @@ pub record StepsCollection (phase : Phase) (m n : Machine) : Type 0 where
   pub left : ℕ
   pub freed : ℕ
   pub copied : ℕ
+  pub written : List (List ℕ)
   pub recorded : List ContainerLiveness
   pub alone : Bool
   pub ran : m.collecting ≡ Some (record {
@@ -178,12 +187,14 @@ pub record StepsCollection (phase : Phase) (m n : Machine) : Type 0 where
     to_come = suc left;
     freed = freed;
     copied = copied;
+    written = written;
     recorded = recorded;
     alone = alone;
   })
   pub short : IsShort phase freed (selected snapshot percent recorded)
   pub copies : ℕ
-  pub changes : ChangesBy phase alone (IsSelectedId snapshot percent recorded) snapshot copies m n.content
+  pub written_now : List (List ℕ)
+  pub changes : ChangesBy phase alone (IsSelectedId snapshot percent recorded) snapshot copies written written_now m n.content
   pub recorded_now : List ContainerLiveness
   pub records : RecordsBy phase alone snapshot m recorded recorded_now
   pub others : n ≡ record m {
@@ -196,6 +207,7 @@ pub record StepsCollection (phase : Phase) (m n : Machine) : Type 0 where
       to_come = left;
       freed = freed + freed_by phase;
       copied = copied + copies;
+      written = written_now;
       recorded = recorded_now;
       alone = alone;
     });
@@ -209,12 +221,13 @@ CollectionSteps (phase ∷ phases) m n = (mid : Machine) × (StepsCollection pha
 
 -- It ends, where the sources were chosen, none is ready and nothing is to be written, and tells how many containers it gave back and how
 -- many segments it copied. It gave back so many as are selected by what it recorded, and no container has the id of one of these any more.
--- One that ran alone leaves no container that holds the newest copy of no key that a file needs: so it gave back all of these. One of the
--- percentage 100 that ran alone leaves just what the files need.
+-- One that ran alone leaves no container that holds the newest copy of no key that a file needs: each such one was given back. One of the
+-- percentage 100 that ran alone leaves just what the files need, each key once.
 pub record EndsCollection (freed copied : ℕ) (m n : Machine) : Type 0 where
   pub percent : ℕ
   pub snapshot : ℕ
   pub left : ℕ
+  pub written : List (List ℕ)
   pub recorded : List ContainerLiveness
   pub alone : Bool
   pub ran : m.collecting ≡ Some (record {
@@ -224,6 +237,7 @@ pub record EndsCollection (freed copied : ℕ) (m n : Machine) : Type 0 where
     to_come = left;
     freed = freed;
     copied = copied;
+    written = written;
     recorded = recorded;
     alone = alone;
   })
@@ -262,7 +276,7 @@ RefusesCollectionStep NotCollecting m n = (m.collecting ≡ None) × (n ≡ m)
 RefusesCollectionStep Memory m n = IsSome m.collecting × Stays m n
 RefusesCollectionStep Numbers m n =
     IsCollecting Flush m.collecting × (LAST_ID ≤ m.last_id) × HasToCopy m.collecting m × Stays m n
-RefusesCollectionStep DiskRead m n = IsSome m.collecting × Rose m.faults n.faults × SameStore m.content n.content
+RefusesCollectionStep DiskRead m n = MayRead m.collecting × Rose m.faults n.faults × SameStore m.content n.content
     × (n ≡ record m { content = n.content; faults = n.faults })
 RefusesCollectionStep DiskWrite m n = BreaksStep m n.content × Rose m.faults n.faults
     × (n ≡ record m { state = Stopped None; content = n.content; faults = n.faults })

@@ -1,7 +1,7 @@
 -- What lines show of the disk's content, and what they change of it.
 use Rattle.std.specs.Int.{w32, w64}
 use Rattle.base_model.specs.Numbers.{number_at}
-use Rattle.std.specs.Prelude.{◌≡◌, ◌≢◌, ◌⊎◌, ℕ, suc, ◌-◌, ◌<◌, ◌≤◌, Bool, true, List, length, slice_get, Option, Some, None, max, ◌+◌, ◌==◌, if◌then◌else◌, zero}
+use Rattle.std.specs.Prelude.{◌≡◌, ◌≢◌, ◌⊎◌, ℕ, suc, ◌-◌, ◌<◌, ◌≤◌, Bool, true, List, ◌++◌, Contains, length, map, slice_get, Option, Some, None, max, ◌+◌, ◌==◌, if◌then◌else◌, zero}
 use Rattle.std.specs.FinMap as finite
 use Rattle.std.specs.List.{AllByRecursion}
 use Rattle.sha2.specs.Sha256.{sha256}
@@ -135,9 +135,11 @@ pub record IsOfCopied (Chosen : ℕ → Type 0) (snapshot : ℕ) (held : List (O
 
 -- Copies were written: a container of so many segments, each of which was held, stands in the free slot of least number, under the id after
 -- the last one, and all else is as it was. The newest copy of the key of each was in a container that is chosen, or in one that came since
--- the snapshot. Where a collection runs alone the key of each was to be copied. It is so no more, as the id of its newest copy came after
--- all that are chosen: no key is copied twice.
-pub record AddsCopies (alone : Bool) (P : List ℕ → Type 0) (Chosen : ℕ → Type 0) (snapshot last count : ℕ) (old new : List ℕ) : Type 0 where
+-- the snapshot; and none of the keys is one that the collection wrote before, to which they are added then. So no key is copied twice.
+-- Where a collection runs alone the key of each was to be copied; and then it is to be copied no more, since its newest copy has an id above
+-- all that are chosen.
+pub record AddsCopies (alone : Bool) (P : List ℕ → Type 0) (Chosen : ℕ → Type 0) (snapshot last count : ℕ)
+    (written later : List (List ℕ)) (old new : List ℕ) : Type 0 where
   pub store : Store
   pub was : Encodes old store
   pub filled : Contents
@@ -145,6 +147,8 @@ pub record AddsCopies (alone : Bool) (P : List ℕ → Type 0) (Chosen : ℕ →
   pub many : count ≡ length filled.segments
   pub from_chosen : AllByRecursion (λ s. IsOfCopied Chosen snapshot store.held (segment_key filled.kind s)) filled.segments
   pub to_copy : alone ≡ true → AllByRecursion (λ s. IsToCopy P Chosen store.held (segment_key filled.kind s)) filled.segments
+  pub new_keys : AllByRecursion (λ s. ¬ (Contains written (segment_key filled.kind s))) filled.segments
+  pub written_is : later ≡ written ++ map (segment_key filled.kind) filled.segments
   pub were_held : AllByRecursion (λ s. Holds old (record { kind = filled.kind; segment = s })) filled.segments
   pub now : Encodes new (with_sealed (suc last) filled.kind filled.segments store)
   pub held : AllByRecursion (λ s. Holds new (record { kind = filled.kind; segment = s })) filled.segments
@@ -164,8 +168,8 @@ pub record SameButGate (slot slots : ℕ) (old new : List ℕ) : Type 0 where
   pub rest : SameBut (Unit {0}) (λ half cell. ⊥) (λ other. other ≡ slot) slots old new
   pub slot_is : range (slot_at slot + 1) (SLOT_BYTES - 1) new ≡ range (slot_at slot + 1) (SLOT_BYTES - 1) old
 
--- A container of an id below this one, and of one that is chosen, is given back that holds the newest copy of no key of which P holds: the
--- gate of its slot is closed, and all else is as it was.
+-- A container is given back whose id is below the snapshot, and chosen, and that holds the newest copy of no key of which P holds: the gate
+-- of its slot is closed, and all else is as it was.
 pub record FreesContainer (P : List ℕ → Type 0) (Chosen : ℕ → Type 0) (snapshot : ℕ) (old new : List ℕ) : Type 0 where
   pub store : Store
   pub was : Encodes old store
@@ -184,8 +188,8 @@ pub record BreaksCopies (old new : List ℕ) : Type 0 where
   pub slot : 1 < free_slots store.held
   pub rest : SameBut (Unit {0}) (λ half cell. ⊥) (λ slot. slot ≡ first_free store.held) store.slots old new
 
--- A container of an id below this one, and of one that is chosen, was not given back, as the write broke off: all is as it was, but
--- perhaps for its gate. It holds the newest copy of no key of which P holds.
+-- A container whose id is below the snapshot, and chosen, was not given back, as the write broke off: all is as it was, but perhaps for its
+-- gate. It holds the newest copy of no key of which P holds.
 pub record BreaksGate (P : List ℕ → Type 0) (Chosen : ℕ → Type 0) (snapshot : ℕ) (old new : List ℕ) : Type 0 where
   pub store : Store
   pub was : Encodes old store

@@ -67,6 +67,8 @@ pub record Collecting : Type 0 where
   pub to_come : ℕ
   pub freed : ℕ
   pub copied : ℕ
+  -- the keys of the copies that it wrote, one after the other
+  pub written : List (List ℕ)
   -- what it recorded of each container, one after the other: which are chosen goes by these
   pub recorded : List ContainerLiveness
   -- no actor was at anything when it began, and since then no turn was answered, and no name has changed

@@ -39,7 +39,7 @@ use Rattle.store_core.proofs.Leading.{Leads}
 use Rattle.plain_machine.specs.Collections.{EndsCollection, RefusesCollectionStep}
 use Rattle.plain_machine.specs.Content.{OfStore}
 use Rattle.plain_machine.specs.Machine.{Collecting, Machine, Progress, Sweeping}
-use Rattle.script_runner.specs.Follows.{CountsEach, FollowsCollection, HasCounted, IsAtProgress, IsAtStage, SparesAlone, SparesNeeded, is_filled}
+use Rattle.script_runner.specs.Follows.{CountsEach, FollowsCollection, HasCounted, IsAtProgress, IsAtStage, HoldsCollection, SparesNeeded, is_filled}
 use Rattle.script_runner.specs.Sessions.{Sessions}
 use Rattle.script_runner.proofs.CollectNeeds.{told_here}
 use Rattle.script_runner.proofs.CollectParts.{gc_event}
@@ -179,8 +179,8 @@ module _ (C : Type 0) (state : C → CoreState) (among : ByteSet) (apart : HasNo
     -- where it ran alone
     spared_alone : has_ended.collecting.alone ≡ true → SparesNeeded m.stored.files at.running.begins.store has_ended.collecting.percent ended_at.index ended.before
     spared_alone alone =
-        let spares = subst (λ (o : Option Collecting). SparesAlone m.stored.files at.running.begins.store o (state old)) has_ended.is at.running.begins.spares in
-        spares alone ended_at.index ended.before ended_at.index_known ended.ran
+        let spares = subst (λ (o : Option Collecting). HoldsCollection m.stored.files at.running.begins.store o (state old)) has_ended.is at.running.begins.spares in
+        spares.0 alone ended_at.index ended.before ended_at.index_known ended.ran
 
     -- each container that is left is needed
     none_spare : has_ended.collecting.alone ≡ true → OfStore m.content (λ store. (slot : ℕ) → ¬ (IsSpare (IsReachable m.stored.files) store.held slot))
@@ -211,11 +211,12 @@ module _ (C : Type 0) (state : C → CoreState) (among : ByteSet) (apart : HasNo
         snapshot = has_ended.collecting.snapshot;
         left = has_ended.collecting.to_come;
         recorded = has_ended.collecting.recorded;
+        written = has_ended.collecting.written;
         alone = has_ended.collecting.alone;
         ran = has_ended.is
-            ∙ ap (λ (n : ℕ). let k : Collecting = record { percent = has_ended.collecting.percent; snapshot = has_ended.collecting.snapshot; progress = has_ended.collecting.progress; to_come = has_ended.collecting.to_come; freed = n; copied = has_ended.collecting.copied; recorded = has_ended.collecting.recorded; alone = has_ended.collecting.alone } in Some k) freed_same
-            ∙ ap (λ (n : ℕ). let k : Collecting = record { percent = has_ended.collecting.percent; snapshot = has_ended.collecting.snapshot; progress = has_ended.collecting.progress; to_come = has_ended.collecting.to_come; freed = freed; copied = n; recorded = has_ended.collecting.recorded; alone = has_ended.collecting.alone } in Some k) copied_same
-            ∙ ap (λ (p : Progress). let k : Collecting = record { percent = has_ended.collecting.percent; snapshot = has_ended.collecting.snapshot; progress = p; to_come = has_ended.collecting.to_come; freed = freed; copied = copied; recorded = has_ended.collecting.recorded; alone = has_ended.collecting.alone } in Some k) at_last;
+            ∙ ap (λ (n : ℕ). let k : Collecting = record { percent = has_ended.collecting.percent; snapshot = has_ended.collecting.snapshot; progress = has_ended.collecting.progress; to_come = has_ended.collecting.to_come; freed = n; copied = has_ended.collecting.copied; recorded = has_ended.collecting.recorded; written = has_ended.collecting.written; alone = has_ended.collecting.alone } in Some k) freed_same
+            ∙ ap (λ (n : ℕ). let k : Collecting = record { percent = has_ended.collecting.percent; snapshot = has_ended.collecting.snapshot; progress = has_ended.collecting.progress; to_come = has_ended.collecting.to_come; freed = freed; copied = n; recorded = has_ended.collecting.recorded; written = has_ended.collecting.written; alone = has_ended.collecting.alone } in Some k) copied_same
+            ∙ ap (λ (p : Progress). let k : Collecting = record { percent = has_ended.collecting.percent; snapshot = has_ended.collecting.snapshot; progress = p; to_come = has_ended.collecting.to_come; freed = freed; copied = copied; recorded = has_ended.collecting.recorded; written = has_ended.collecting.written; alone = has_ended.collecting.alone } in Some k) at_last;
         freed_is = freed_chosen;
         gone = (at.running.begins.store, (right C state among apart m sessions old new at done buf made, gone_now));
         none_spare = none_spare;
@@ -262,6 +263,6 @@ module _ (C : Type 0) (state : C → CoreState) (among : ByteSet) (apart : HasNo
           ((steps C state among apart m sessions old new at no buf made).made.effect.faults_are ∙ at.faults_are)
           (ap (λ (t : Tables). t.held.last_id) none.tables_are ∙ at.running.begins.last_id_is) at.running.begins.low
           (subst (λ (o : Option Collecting). FollowsCollection o (state new)) (sym none_is) none.none_runs)
-          (subst (λ (o : Option Collecting). SparesAlone m.stored.files led.next.store o (state new)) (sym none_is) tt) indexed;
+          (subst (λ (o : Option Collecting). HoldsCollection m.stored.files led.next.store o (state new)) (sym none_is) tt) indexed;
       stored_is = refl;
     }

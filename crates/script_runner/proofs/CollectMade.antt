@@ -1,7 +1,9 @@
 -- A step of a collection that was made is one of the machine, and the runner follows it.
 use Rattle.std.proofs.Common.{◌≡◌, ◌+◌, ◌-◌, ◌<◌, ◌≤◌, ℕ, suc, List, length, Option, Some, Result, Ok, refl, sym, ◌∙◌, ap, subst, arith, true, false}
+use Rattle.std.specs.Prelude.{Contains}
 use Rattle.container_meta.specs.Places.{PlaceMap}
 use Rattle.dd_disk.specs.Ending.{Done}
+use Rattle.dd_disk.proofs.Shows.{shown_content}
 use Rattle.disk_format.specs.declared.numbers.TheConstants.{LAST_ID}
 use Rattle.actor_parts.specs.declared.step.Answer.{Answer}
 use Rattle.actor_parts.specs.declared.step.Answer.TheVariants as answers
@@ -19,16 +21,18 @@ use Rattle.gc_steps.specs.SweepIsSafe.{HoldsAt}
 use Rattle.gc_steps.specs.Taking.{TakesAll}
 use Rattle.gc_steps.specs.UnderWay.{HasChosen, IsUnderWay}
 use Rattle.gc_steps.proofs.Chosen.{sources_many}
-use Rattle.gc_steps.proofs.CopiedOn.{goes_well}
+use Rattle.gc_steps.proofs.CopiedOn.{GoesWell, goes_well}
 use Rattle.gc_steps.proofs.Sparing as sparing
 use Rattle.gc_steps.proofs.StepSafe.{IsStoreAfter, LeavesSafe, step_safe}
 use Rattle.gc_steps.proofs.UnderWay.{at_stage}
 use Rattle.gc_steps.proofs.WholeCopies.{takes_step}
 use Rattle.gc_sweep.specs.declared.sweep.Next.{Next}
 use Rattle.gc_sweep.specs.declared.sweep.Next.TheVariants.{Copy, Flush, Release, End}
+use Rattle.gc_sweep.proofs.SourceRead.{not_other}
 use Rattle.store_model.specs.Collisions.{HasNoCollisions, ByteSet, IsIn}
 use Rattle.store_model.specs.Image.{Encodes, Store}
 use Rattle.store_model.specs.Reserve.{IsReachable}
+use Rattle.store_model.specs.Slots.{HoldsSlot}
 use Rattle.store_model.specs.Standing.{IsStoreOf}
 use Rattle.store_model.proofs.Once.{store_once}
 use Rattle.store_state.specs.Invariant.{CoreInvariant}
@@ -41,20 +45,21 @@ use Rattle.store_core.proofs.Leading.{Leads}
 use Rattle.plain_machine.specs.Collections.{ChangesBy, GoesTo, IsShort, RecordsBy, StepsCollection, forgets_by, freed_by, last_by}
 use Rattle.plain_machine.specs.Content.{SameStore}
 use Rattle.plain_machine.specs.Machine.{Collecting, Machine}
-use Rattle.script_runner.specs.Follows.{CountsEach, FollowsCollecting, HasCounted, IsAtProgress, SparesAlone, SparesNeeded}
+use Rattle.script_runner.specs.Follows.{CountsEach, FollowsCollecting, HasCounted, IsAtProgress, IsWritten, HoldsCollection, SparesNeeded, WroteOnce}
 use Rattle.script_runner.specs.Sessions.{Sessions}
 use Rattle.script_runner.proofs.CollectBytes.{GivesNothing}
 use Rattle.script_runner.proofs.CollectCauses.{no_end, phase_is}
 use Rattle.script_runner.proofs.CollectCounts.{copies_by, counted_on, percent_on, short_sweep, snapshot_on}
 use Rattle.script_runner.proofs.CollectNeeds.{needs_closed, needs_here, told_here}
 use Rattle.script_runner.proofs.CollectParts.{gc_event}
-use Rattle.script_runner.proofs.CollectProgress.{Progresses, progresses}
+use Rattle.script_runner.proofs.CollectProgress.{Progresses, ReadsSame, progresses}
 use Rattle.script_runner.proofs.CollectRecords.{records_on}
 use Rattle.script_runner.proofs.CollectStep.{HasCollecting, Stepped, image, last_after, leads, low_after, runs_then, same_index, same_so, same_some, some_collecting, steps, told, touched, under}
 use Rattle.script_runner.proofs.SweepContent.{copies_added, filled_of_copied, filled_to_copy, freed}
 use Rattle.script_runner.proofs.Sweeping.{IsFewIn, few_after, few_by, left_by, left_on}
 use Rattle.script_runner.proofs.TurnHolds.{right_here}
 use Rattle.script_runner.proofs.TurnRunning.{RunsAt}
+use Rattle.script_runner.proofs.WrittenOnce.{IsEmptied, none_of, written_by, written_on}
 
 module _ (C : Type 0) (state : C → CoreState) (among : ByteSet) (apart : HasNoCollisions (IsIn among)) (m : Machine) (sessions : Sessions) (old new : C) (at : RunsAt (IsIn among) m sessions (state old)) (buf : List ℕ)
     (phase : Phase) (made : CoreStep (state old) (gc_event 0 (Ok (answers.Did phase)) buf).event (state new)) where
@@ -110,14 +115,12 @@ module _ (C : Type 0) (state : C → CoreState) (among : ByteSet) (apart : HasNo
   counted_before : HasCounted goes.before.stage goes.before.sweep has.collecting.freed has.collecting.copied
   counted_before = subst (λ (c : Collection). HasCounted c.stage c.sweep has.collecting.freed has.collecting.copied) same has.follows.counted
 
-  leads_on : Progresses (phase_at goes.before.stage goes.before.sweep.next) has.collecting.progress goes.after
-  leads_on = progresses (state old) (state new) goes.before goes.after has.collecting.progress at_before goes.steps not_end
-
   abbrev copies : ℕ
   copies = copies_by goes.before.stage goes.before.sweep.next goes.before.sweep
 
-  abbrev goes_so : Collecting
-  goes_so = record { percent = has.collecting.percent; snapshot = has.collecting.snapshot; progress = leads_on.next; to_come = left; freed = has.collecting.freed + freed_by phase; copied = has.collecting.copied + copies; recorded = goes.after.liveness; alone = has.collecting.alone }
+  -- the keys that it wrote
+  abbrev written_now : List (List ℕ)
+  written_now = written_by goes.before.stage goes.before.sweep.next goes.before.sweep has.collecting.written
 
   recorded_before : goes.before.liveness ≡ has.collecting.recorded
   recorded_before = subst (λ (c : Collection). c.liveness ≡ has.collecting.recorded) same has.follows.recorded_is
@@ -127,8 +130,8 @@ module _ (C : Type 0) (state : C → CoreState) (among : ByteSet) (apart : HasNo
       subst (λ (p : Phase). HasCounted goes.after.stage goes.after.sweep (has.collecting.freed + freed_by p) (has.collecting.copied + copies)) stage_phase
       (counted_on (at_moment (state old) goes.before) (at_moment (state new) goes.after) has.collecting.freed has.collecting.copied goes.before.stage goes.before.sweep.next refl refl counted_before goes.steps not_end)
 
-  ran : m.collecting ≡ Some (record { percent = has.collecting.percent; snapshot = has.collecting.snapshot; progress = has.collecting.progress; to_come = suc left; freed = has.collecting.freed; copied = has.collecting.copied; recorded = has.collecting.recorded; alone = has.collecting.alone })
-  ran = has.is ∙ ap (λ (n : ℕ). let k : Collecting = record { percent = has.collecting.percent; snapshot = has.collecting.snapshot; progress = has.collecting.progress; to_come = n; freed = has.collecting.freed; copied = has.collecting.copied; recorded = has.collecting.recorded; alone = has.collecting.alone } in Some k) (let e : has.collecting.to_come ≡ suc left = omega (arith, fewer) in e)
+  ran : m.collecting ≡ Some (record { percent = has.collecting.percent; snapshot = has.collecting.snapshot; progress = has.collecting.progress; to_come = suc left; freed = has.collecting.freed; copied = has.collecting.copied; written = has.collecting.written; recorded = has.collecting.recorded; alone = has.collecting.alone })
+  ran = has.is ∙ ap (λ (n : ℕ). let k : Collecting = record { percent = has.collecting.percent; snapshot = has.collecting.snapshot; progress = has.collecting.progress; to_come = n; freed = has.collecting.freed; copied = has.collecting.copied; written = has.collecting.written; recorded = has.collecting.recorded; alone = has.collecting.alone } in Some k) (let e : has.collecting.to_come ≡ suc left = omega (arith, fewer) in e)
 
   -- ---- the last id
 
@@ -196,8 +199,8 @@ module _ (C : Type 0) (state : C → CoreState) (among : ByteSet) (apart : HasNo
 
   spared : has.collecting.alone ≡ true → SparesNeeded m.stored.files at.running.begins.store has.collecting.percent begins.index goes.before
   spared alone =
-      let spares = subst (λ (o : Option Collecting). SparesAlone m.stored.files at.running.begins.store o (state old)) has.is at.running.begins.spares in
-      spares alone begins.index goes.before begins.index_known goes.ran
+      let spares = subst (λ (o : Option Collecting). HoldsCollection m.stored.files at.running.begins.store o (state old)) has.is at.running.begins.spares in
+      spares.0 alone begins.index goes.before begins.index_known goes.ran
 
   abbrev needs : IsStoreOf at.running.begins.store m.stored.files m.content
   needs = needs_here S at.running.begins.store m.stored (state old) begins m.content at.content_is
@@ -207,6 +210,20 @@ module _ (C : Type 0) (state : C → CoreState) (among : ByteSet) (apart : HasNo
 
   held_before : HoldsAt goes.before.stage begins.index at.running.begins.store.held m.content goes.before
   held_before = sparing.held_at begins.index at.running.begins.store (state old).parts m.content goes.before safe_before
+
+  -- what a source is copied from has the header of before
+  reads_same : ReadsSame (state old) (state new) goes.before goes.after
+  reads_same source entry is next_is copied h shown other =
+      not_other (state old).tables.held begins.index at.running.begins.store.held m.content goes.before.live goes.before.snapshot source entry goes.before.sweep shows.slots_hold begins.valid.different needs.right.slots_are
+      (at_stage (state old).tables.held goes.before Sweep (under C state among apart m sessions old new at did buf made goes.before goes.ran) is) next_is
+      (subst (λ (stage : Stage). HoldsAt stage begins.index at.running.begins.store.held m.content goes.before) is held_before).1
+      copied.slot copied.kind copied.filling copied.is_source h (shown_content (state old).disk (state new).disk (λ (image : List ℕ). HoldsSlot image copied.slot (Some h)) m.content shown at.content_is) other
+
+  leads_on : Progresses (phase_at goes.before.stage goes.before.sweep.next) has.collecting.progress goes.after
+  leads_on = progresses (state old) (state new) goes.before goes.after reads_same has.collecting.progress at_before goes.steps not_end
+
+  abbrev goes_so : Collecting
+  goes_so = record { percent = has.collecting.percent; snapshot = has.collecting.snapshot; progress = leads_on.next; to_come = left; freed = has.collecting.freed + freed_by phase; copied = has.collecting.copied + copies; written = written_now; recorded = goes.after.liveness; alone = has.collecting.alone }
 
   -- each source that came to its end is counted still
   each_now : CountsEach goes.after.sweep
@@ -249,11 +266,46 @@ module _ (C : Type 0) (state : C → CoreState) (among : ByteSet) (apart : HasNo
   needed_step : NeededAs at.running.begins.store begins.index goes.before → NeededAs leaves.store_now leaves.later goes.after
   needed_step was = (spares_step was.0, λ full. takes_on was.0 (was.1 full))
 
-  spares_now : SparesAlone m.stored.files led_to (Some goes_so) (state new)
-  spares_now = λ alone index collection known runs.
-      subst (λ (s : Store). NeededAs s index collection) led_is
-      (subst (λ (i : PlaceMap). NeededAs leaves.store_now i collection) (same_index leaves.later index (state new).known leaves.known_is known)
-      (subst (λ (c : Collection). NeededAs leaves.store_now leaves.later c) (same_some goes.after collection (state new).collection goes.runs runs) (needed_step (spared alone))))
+  -- ---- what it wrote
+
+  once_before : (key : List ℕ) → Contains has.collecting.written key → IsWritten at.running.begins.store.held goes.before.snapshot goes.before.sweep.buffer key
+  once_before key there =
+      let spares = subst (λ (o : Option Collecting). HoldsCollection m.stored.files at.running.begins.store o (state old)) has.is at.running.begins.spares in
+      spares.1 key there goes.before goes.ran
+
+  well : GoesWell begins.index at.running.begins.store.held goes.before goes.after
+  well =
+      goes_well (state old).tables (state new).tables begins.index at.running.begins.store.held m.content (state new).known (state old).disk (state new).disk goes.before goes.after shows.slots_hold begins.valid.different
+      needs.right.slots_are invariant.index_is_newest at.content_is (under C state among apart m sessions old new at did buf made goes.before goes.ran) held_before steps_known
+
+  each_written : (key : List ℕ) → Contains written_now key → IsWritten leaves.store_now.held goes.after.snapshot goes.after.sweep.buffer key
+  each_written =
+      written_on begins.index at.running.begins.store leaves.store_now m.content invariant.index_is_newest goes.before goes.after
+      (snapshot_on (at_moment (state old) goes.before) (at_moment (state new) goes.after) has.collecting.freed has.collecting.copied goes.before.stage goes.before.sweep.next goes.steps)
+      well held_before leaves.store_is (emptied_at goes.before.stage goes.before.sweep.next goes.steps) has.collecting.written once_before
+    where
+      emptied_at : (stage : Stage) (next : Next) → StepsTo stage next (at_moment (state old) goes.before) (at_moment (state new) goes.after) → IsEmptied stage next goes.after.sweep
+      emptied_at (Mark level slot) next made_so = tt
+      emptied_at (Filter slot) next made_so = tt
+      emptied_at Select next made_so = tt
+      emptied_at Sweep (Copy source entry) made_so = tt
+      emptied_at Sweep (Flush source entry) made_so = made_so.flushed.emptied
+      emptied_at Sweep (Release source entry) made_so = tt
+      emptied_at Sweep End made_so = tt
+
+  spares_now : HoldsCollection m.stored.files led_to (Some goes_so) (state new)
+  spares_now = (
+    (λ alone index collection known runs.
+        subst (λ (s : Store). NeededAs s index collection) led_is
+        (subst (λ (i : PlaceMap). NeededAs leaves.store_now i collection) (same_index leaves.later index (state new).known leaves.known_is known)
+        (subst (λ (c : Collection). NeededAs leaves.store_now leaves.later c) (same_some goes.after collection (state new).collection goes.runs runs) (needed_step (spared alone))))),
+    once_now,
+  )
+    where
+      once_now : WroteOnce led_to goes_so (state new)
+      once_now key there collection runs =
+          subst (λ (s : Store). IsWritten s.held collection.snapshot collection.sweep.buffer key) led_is
+          (subst (λ (c : Collection). IsWritten leaves.store_now.held c.snapshot c.sweep.buffer key) (same_some goes.after collection (state new).collection goes.runs runs) (each_written key there))
 
   -- ---- the content
 
@@ -268,28 +320,30 @@ module _ (C : Type 0) (state : C → CoreState) (among : ByteSet) (apart : HasNo
   Chosen = IsSelectedId has.collecting.snapshot has.collecting.percent has.collecting.recorded
 
   changes_at : (stage : Stage) (next : Next) → goes.before.stage ≡ stage → goes.before.sweep.next ≡ next → Touched stage next → TablesAfter stage next (at_moment (state old) goes.before) (at_moment (state new) goes.after)
-      → (phase_at stage next ≡ phase_at Sweep End → ⊥) → ChangesBy (phase_at stage next) has.collecting.alone Chosen has.collecting.snapshot (copies_by stage next goes.before.sweep) m image_now
-  changes_at (Mark level slot) next is next_is touch tables other = (refl, nothing (Mark level slot) next tt touch)
-  changes_at (Filter slot) next is next_is touch tables other = (refl, nothing (Filter slot) next tt touch)
-  changes_at Select next is next_is touch tables other = (refl, nothing Select next tt touch)
-  changes_at Sweep (Copy source entry) is next_is touch tables other = (refl, nothing Sweep (Copy source entry) tt touch)
+      → (phase_at stage next ≡ phase_at Sweep End → ⊥) → ChangesBy (phase_at stage next) has.collecting.alone Chosen has.collecting.snapshot (copies_by stage next goes.before.sweep) has.collecting.written (written_by stage next goes.before.sweep has.collecting.written) m image_now
+  changes_at (Mark level slot) next is next_is touch tables other = (refl, refl, nothing (Mark level slot) next tt touch)
+  changes_at (Filter slot) next is next_is touch tables other = (refl, refl, nothing (Filter slot) next tt touch)
+  changes_at Select next is next_is touch tables other = (refl, refl, nothing Select next tt touch)
+  changes_at Sweep (Copy source entry) is next_is touch tables other = (refl, refl, nothing Sweep (Copy source entry) tt touch)
   changes_at Sweep (Flush source entry) is next_is touch tables other =
       copies_added among at.running.begins.store m.stored (state old) (state new) begins at.running.begins.settled m.content image_now at.content_is told_now goes.before goes.ran is source entry next_is tables.0 tables.1
-      touch has.collecting.alone Chosen has.collecting.snapshot m.last_id at.running.begins.last_id_is
+      touch has.collecting.alone Chosen has.collecting.snapshot m.last_id has.collecting.written at.running.begins.last_id_is
       (filled_of_copied among at.running.begins.store m.stored (state old) (state new) begins at.running.begins.settled m.content image_now at.content_is told_now goes.before goes.ran is has.collecting.snapshot has.collecting.percent has.collecting.recorded snapshot_before
       percent_before recorded_before)
       (λ alone. filled_to_copy among at.running.begins.store m.stored (state old) (state new) begins at.running.begins.settled m.content image_now at.content_is told_now goes.before goes.ran is has.collecting.snapshot has.collecting.percent has.collecting.recorded snapshot_before
       percent_before recorded_before (spared alone).0)
+      (none_of has.collecting.written goes.before.sweep.buffer.kind goes.before.sweep.buffer.segments (λ key there filled. (once_before key there).unfilled filled))
   changes_at Sweep (Release source entry) is next_is touch tables other = (
+    refl,
     refl,
     freed among at.running.begins.store m.stored (state old) (state new) begins at.running.begins.settled m.content image_now at.content_is told_now goes.before goes.ran is source entry next_is has.collecting.snapshot has.collecting.percent has.collecting.recorded snapshot_before
         percent_before recorded_before touch,
   )
   changes_at Sweep End is next_is touch tables other = absurd (other refl)
 
-  changes : ChangesBy phase has.collecting.alone Chosen has.collecting.snapshot copies m image_now
+  changes : ChangesBy phase has.collecting.alone Chosen has.collecting.snapshot copies has.collecting.written written_now m image_now
   changes =
-      subst (λ (p : Phase). ChangesBy p has.collecting.alone Chosen has.collecting.snapshot copies m image_now) stage_phase (changes_at goes.before.stage goes.before.sweep.next refl refl touches goes.tables not_end)
+      subst (λ (p : Phase). ChangesBy p has.collecting.alone Chosen has.collecting.snapshot copies has.collecting.written written_now m image_now) stage_phase (changes_at goes.before.stage goes.before.sweep.next refl refl touches goes.tables not_end)
 
   -- ---- the sources that are left
 
@@ -371,6 +425,8 @@ module _ (C : Type 0) (state : C → CoreState) (among : ByteSet) (apart : HasNo
       left = left;
       freed = has.collecting.freed;
       copied = has.collecting.copied;
+      written = has.collecting.written;
+      written_now = written_now;
       recorded = has.collecting.recorded;
       alone = has.collecting.alone;
       ran = ran;

@@ -1,10 +1,11 @@
 -- How far a collection has come, by the machine, after a step of it.
-use Rattle.std.proofs.Common.{◌≡◌, ◌≢◌, inl, inr, ◌+◌, ◌≤◌, ℕ, Bool, true, false, List, [], ◌∷◌, length, Option, Some, None, refl, sym, ◌∙◌, ap, subst, arith}
+use Rattle.std.proofs.Common.{◌≡◌, ◌≢◌, ◌⊎◌, inl, inr, ◌+◌, ◌≤◌, ℕ, Bool, true, false, List, [], ◌∷◌, length, Option, Some, None, refl, sym, ◌∙◌, ap, subst, arith}
 use Rattle.std.specs.Prelude.{nat_lt}
 use Rattle.std.proofs.lemmas.Bool.{eq-eqb, lt-ltb, ltb-true}
 use Rattle.container_meta.specs.declared.entry.Entry.{Entry}
 use Rattle.container_meta.specs.Segments.{Contents, Segment}
-use Rattle.copy_forward.specs.Copying.{PlansSource}
+use Rattle.container_meta.specs.Spelling.{HeaderValue}
+use Rattle.copy_forward.specs.Copying.{IsOther, PlansSource}
 use Rattle.copy_forward.specs.Planning.{IsPlan, Source, source_of}
 use Rattle.copy_forward.specs.declared.plan.Plan.{Plan}
 use Rattle.dd_disk.specs.Shows.{Shows}
@@ -21,6 +22,7 @@ use Rattle.gc_sweep.specs.declared.sweep.Sweep.{Sweep as SweepValue}
 use Rattle.gc_sweep.specs.Copying.{CopiesSource, EndsBy, HasEnded, TakesBy}
 use Rattle.gc_sweep.specs.Next.{IsNext}
 use Rattle.refusals.specs.declared.refusal.Phase.{Phase}
+use Rattle.store_model.specs.Slots.{HoldsSlot}
 use Rattle.store_state.specs.declared.slot_table.SlotTable.{SlotTable}
 use Rattle.store_core.specs.Collecting.{at_moment}
 use Rattle.store_core.specs.State.{CoreState}
@@ -66,12 +68,10 @@ at_sweep ready filled c at = subst (λ (stage : Stage). IsAtStage (Sweeping read
 
 -- ---- a source that was copied
 
--- whether it is ready, and whether something is filled then
-pub record Copied (filled : Bool) (after : SweepValue) : Type 0 where
-  pub ready : Bool
-  pub next_is : IsAtNext ready (is_filled after.buffer) after.next
-  pub stays : filled ≡ true → is_filled after.buffer ≡ true
-  pub at_once : ready ≡ true → is_filled after.buffer ≡ filled
+-- it is ready, and what is filled is as it was; or something is filled
+abbrev pub Copied : Bool → SweepValue → Type 0
+Copied filled after =
+    (IsAtNext true (is_filled after.buffer) after.next × (is_filled after.buffer ≡ filled)) ⊎ (IsAtNext false (is_filled after.buffer) after.next × (is_filled after.buffer ≡ true))
 
 still_filled : (a b : ℕ) → nat_lt 0 a ≡ true → a ≤ b → nat_lt 0 b ≡ true
 still_filled a b is more = lt-ltb 0 b (omega (arith, ltb-true 0 a is, more))
@@ -85,36 +85,33 @@ module _ (t : SlotTable) (slot source : ℕ) (before after : SweepValue) where
     lengths : length after.buffer.segments ≡ length before.buffer.segments + plan.copied
     lengths = ap (λ (c : Contents). length c.segments) buffer_is ∙ many ∙ ap (λ (n : ℕ). n + plan.copied) fills
 
-    still : is_filled before.buffer ≡ true → is_filled after.buffer ≡ true
-    still is = still_filled (length before.buffer.segments) (length after.buffer.segments) is (omega (arith, lengths))
-
     ended : HasEnded t slot source plan before after → Copied (is_filled before.buffer) after
-    ended (inl waits) = record {
-      ready = false;
-      next_is = subst (λ (c : Contents). IsAtNext false (is_filled c) after.next) (sym buffer_is) (next_at t before.sources.items plan.buffer (source + 1) 0 after.next waits.3);
-      stays = still;
-      at_once = λ wrong. absurd (let no : false ≡ true = wrong in cc);
-    }
-    ended (inr ready) = record {
-      ready = true;
-      next_is = as_next true plan.buffer (Release (source + 1) 0) buffer_is ready.3 refl;
-      stays = still;
-      at_once = λ is. ap (λ (n : ℕ). nat_lt 0 n) (let e : length after.buffer.segments ≡ length before.buffer.segments = omega (arith, lengths, ready.0) in e);
-    }
+    ended (inl waits) = inr (
+      subst (λ (c : Contents). IsAtNext false (is_filled c) after.next) (sym buffer_is) (next_at t before.sources.items plan.buffer (source + 1) 0 after.next waits.3),
+      lt-ltb 0 (length after.buffer.segments) (omega (arith, lengths, waits.0)),
+    )
+    ended (inr ready) = inl (
+      as_next true plan.buffer (Release (source + 1) 0) buffer_is ready.3 refl,
+      ap (λ (n : ℕ). nat_lt 0 n) (let e : length after.buffer.segments ≡ length before.buffer.segments = omega (arith, lengths, ready.0) in e),
+    )
 
     full : filling.segments ≢ [] → (after.waiting.items ≡ before.waiting.items) × (after.ready.items ≡ []) × (after.next ≡ Flush source plan.next) → Copied (is_filled before.buffer) after
-    full some stops = record {
-      ready = false;
-      next_is = as_next false plan.buffer (Flush source plan.next) buffer_is stops.2 (refl, still_filled (length filling.segments) (length plan.buffer.segments) (filled_some filling.segments some) (omega (arith, many)));
-      stays = still;
-      at_once = λ wrong. absurd (let no : false ≡ true = wrong in cc);
-    }
+    full some stops =
+        let filled : is_filled plan.buffer ≡ true = still_filled (length filling.segments) (length plan.buffer.segments) (filled_some filling.segments some) (omega (arith, many)) in
+        inr (as_next false plan.buffer (Flush source plan.next) buffer_is stops.2 (refl, filled), ap is_filled buffer_is ∙ filled)
 
     by_end : (b : Bool) → (b ≡ false → filling.segments ≢ []) → EndsBy b t slot source plan before after → Copied (is_filled before.buffer) after
     by_end true some ends = ended ends
     by_end false some ends = full (some refl) ends
 
-module _ (old new : CoreState) (before after : Collection) where
+-- what a source was copied from was the header of before
+abbrev pub ReadsSame : CoreState → CoreState → Collection → Collection → Type 0
+ReadsSame old new before after =
+    (source entry : ℕ) → before.stage ≡ stages.Sweep → before.sweep.next ≡ Copy source entry
+    → (copies : CopiesSource old.tables.held before.live old.known new.known old.disk new.disk source entry before.sweep after.sweep) (h : HeaderValue)
+    → Shows old.disk new.disk (λ image. HoldsSlot image copies.slot (Some h)) → IsOther h entry copies.filling → ⊥
+
+module _ (old new : CoreState) (before after : Collection) (reads_same : ReadsSame old new before after) where
   abbrev Leads : Stage → Next → Progress → Type 0
   Leads stage next progress = Progresses (phase_at stage next) progress after
 
@@ -123,15 +120,11 @@ module _ (old new : CoreState) (before after : Collection) where
   not_empty of shown entries from filling plan is unended empty =
       absurd (let wrong : true ≡ false = sym (eq-eqb plan.next (length entries) (is.whole empty)) ∙ sym is.ended_is ∙ unended in cc)
 
-  module _ (source entry : ℕ) (copies : CopiesSource old.tables.held before.live old.known new.known old.disk new.disk source entry before.sweep after.sweep) where
+  module _ (source entry : ℕ) (is : before.stage ≡ stages.Sweep) (next_is : before.sweep.next ≡ Copy source entry)
+      (copies : CopiesSource old.tables.held before.live old.known new.known old.disk new.disk source entry before.sweep after.sweep) where
     by_found : (found : Option Plan) → PlansSource old.known before.live copies.slot entry copies.filling old.disk new.disk found → TakesBy old.tables.held copies.slot source found before.sweep after.sweep
         → Copied (is_filled before.sweep.buffer) after.sweep
-    by_found None plans takes = record {
-      ready = false;
-      next_is = subst (λ (c : Contents). IsAtNext false (is_filled c) after.sweep.next) (sym takes.0) (next_at old.tables.held before.sweep.sources.items before.sweep.buffer (source + 1) 0 after.sweep.next takes.4);
-      stays = λ is. ap is_filled takes.0 ∙ is;
-      at_once = λ wrong. absurd (let no : false ≡ true = wrong in cc);
-    }
+    by_found None plans takes = absurd (reads_same source entry is next_is copies plans.header plans.shown plans.plans)
     by_found (Some plan) plans takes =
         let is = plans.plans.1 in
         by_end old.tables.held copies.slot source before.sweep after.sweep plan copies.filling (filling_many before.sweep.buffer copies.filling copies.kind copies.is_source.filling_is) is.copied_is takes.0 plan.ended
@@ -158,15 +151,23 @@ module _ (old new : CoreState) (before after : Collection) where
         filled_is = sym none;
       })
 
-  taken : (source entry : ℕ) (filled : Bool) → before.stage ≡ stages.Sweep → filled ≡ is_filled before.sweep.buffer → StepsTo stages.Sweep (Copy source entry) (at_moment old before) (at_moment new after)
-      → Leads stages.Sweep (Copy source entry) (Sweeping false filled)
-  taken source entry filled is filled_is steps =
-      let one = copied source entry steps.0 in
-      record {
-        next = Sweeping one.ready (is_filled after.sweep.buffer);
-        goes = (one.ready, (is_filled after.sweep.buffer, (refl, (λ some. one.stays (sym filled_is ∙ some)), (λ ready. one.at_once ready ∙ sym filled_is))));
-        is_at = at_sweep one.ready (is_filled after.sweep.buffer) after (record { stage_is = ap (λ (c : Collection). c.stage) steps.1 ∙ is; next_is = one.next_is; filled_is = refl });
-      }
+  taken : (source entry : ℕ) (filled : Bool) → before.stage ≡ stages.Sweep → before.sweep.next ≡ Copy source entry → filled ≡ is_filled before.sweep.buffer
+      → StepsTo stages.Sweep (Copy source entry) (at_moment old before) (at_moment new after) → Leads stages.Sweep (Copy source entry) (Sweeping false filled)
+  taken source entry filled is next_is filled_is steps = elim (copied source entry is next_is steps.0) [
+    | inl ready ↦ (let on : Leads stages.Sweep (Copy source entry) (Sweeping false filled) = record {
+      next = Sweeping true (is_filled after.sweep.buffer);
+      goes = inl (ap (λ (b : Bool). Sweeping true b) (ready.1 ∙ sym filled_is));
+      is_at = at_sweep true (is_filled after.sweep.buffer) after (record { stage_is = now; next_is = ready.0; filled_is = refl });
+    } in on)
+    | inr waits ↦ (let on : Leads stages.Sweep (Copy source entry) (Sweeping false filled) = record {
+      next = Sweeping false (is_filled after.sweep.buffer);
+      goes = inr (ap (λ (b : Bool). Sweeping false b) waits.1);
+      is_at = at_sweep false (is_filled after.sweep.buffer) after (record { stage_is = now; next_is = waits.0; filled_is = refl });
+    } in on)
+  ]
+    where
+      now : after.stage ≡ stages.Sweep
+      now = ap (λ (c : Collection). c.stage) steps.1 ∙ is
 
   released : (source entry : ℕ) (filled : Bool) → before.stage ≡ stages.Sweep → filled ≡ is_filled before.sweep.buffer → StepsTo stages.Sweep (Release source entry) (at_moment old before) (at_moment new after)
       → Leads stages.Sweep (Release source entry) (Sweeping true filled)
@@ -209,30 +210,30 @@ module _ (old new : CoreState) (before after : Collection) where
     });
   }
 
-  by_stage : (stage : Stage) (next : Next) (progress : Progress) → before.stage ≡ stage → IsAtStage progress stage next before.sweep.buffer → StepsTo stage next (at_moment old before) (at_moment new after)
+  by_stage : (stage : Stage) (next : Next) (progress : Progress) → before.stage ≡ stage → before.sweep.next ≡ next → IsAtStage progress stage next before.sweep.buffer → StepsTo stage next (at_moment old before) (at_moment new after)
       → (phase_at stage next ≡ phase_at stages.Sweep End → ⊥) → Leads stage next progress
-  by_stage (stages.Mark level slot) next Marking is at steps other = record {
+  by_stage (stages.Mark level slot) next Marking is next_is at steps other = record {
     next = Marking;
     goes = refl;
     is_at = subst IsToChoose (sym (ap (λ (c : Collection). c.stage) steps.0.collection_is)) (early_from before.snapshot old.tables.held level (slot + 1));
   }
-  by_stage (stages.Filter slot) next Marking is at steps other = record { next = Recording; goes = refl; is_at = filtered slot next steps }
-  by_stage (stages.Filter slot) next Recording is at steps other = record { next = Recording; goes = refl; is_at = filtered slot next steps }
-  by_stage stages.Select next Marking is at steps other = record { next = Sweeping false false; goes = refl; is_at = chosen next steps }
-  by_stage stages.Select next Recording is at steps other = record { next = Sweeping false false; goes = refl; is_at = chosen next steps }
-  by_stage stages.Sweep (Copy source entry) (Sweeping false filled) is at steps other = taken source entry filled is at.1 steps
-  by_stage stages.Sweep (Copy source entry) (Sweeping true filled) is at steps other = absurd (let wrong : true ≡ false = at.0 in cc)
-  by_stage stages.Sweep (Flush source entry) (Sweeping false true) is at steps other = flushed source entry is steps
-  by_stage stages.Sweep (Flush source entry) (Sweeping false false) is at steps other = absurd (let wrong : false ≡ true = at.0.1 in cc)
-  by_stage stages.Sweep (Flush source entry) (Sweeping true filled) is at steps other = absurd (let wrong : true ≡ false = at.0.0 in cc)
-  by_stage stages.Sweep (Release source entry) (Sweeping true filled) is at steps other = released source entry filled is at.1 steps
-  by_stage stages.Sweep (Release source entry) (Sweeping false filled) is at steps other = absurd (let wrong : false ≡ true = at.0 in cc)
-  by_stage stages.Sweep End progress is at steps other = absurd (other refl)
-  by_stage stage next progress is at steps other = absurd at
+  by_stage (stages.Filter slot) next Marking is next_is at steps other = record { next = Recording; goes = refl; is_at = filtered slot next steps }
+  by_stage (stages.Filter slot) next Recording is next_is at steps other = record { next = Recording; goes = refl; is_at = filtered slot next steps }
+  by_stage stages.Select next Marking is next_is at steps other = record { next = Sweeping false false; goes = refl; is_at = chosen next steps }
+  by_stage stages.Select next Recording is next_is at steps other = record { next = Sweeping false false; goes = refl; is_at = chosen next steps }
+  by_stage stages.Sweep (Copy source entry) (Sweeping false filled) is next_is at steps other = taken source entry filled is next_is at.1 steps
+  by_stage stages.Sweep (Copy source entry) (Sweeping true filled) is next_is at steps other = absurd (let wrong : true ≡ false = at.0 in cc)
+  by_stage stages.Sweep (Flush source entry) (Sweeping false true) is next_is at steps other = flushed source entry is steps
+  by_stage stages.Sweep (Flush source entry) (Sweeping false false) is next_is at steps other = absurd (let wrong : false ≡ true = at.0.1 in cc)
+  by_stage stages.Sweep (Flush source entry) (Sweeping true filled) is next_is at steps other = absurd (let wrong : true ≡ false = at.0.0 in cc)
+  by_stage stages.Sweep (Release source entry) (Sweeping true filled) is next_is at steps other = released source entry filled is at.1 steps
+  by_stage stages.Sweep (Release source entry) (Sweeping false filled) is next_is at steps other = absurd (let wrong : false ≡ true = at.0 in cc)
+  by_stage stages.Sweep End progress is next_is at steps other = absurd (other refl)
+  by_stage stage next progress is next_is at steps other = absurd at
 
   pub progresses : (progress : Progress) → IsAtProgress progress before → StepsTo before.stage before.sweep.next (at_moment old before) (at_moment new after)
       → (phase_at before.stage before.sweep.next ≡ phase_at stages.Sweep End → ⊥) → Leads before.stage before.sweep.next progress
-  progresses progress at steps other = by_stage before.stage before.sweep.next progress refl at steps other
+  progresses progress at steps other = by_stage before.stage before.sweep.next progress refl refl at steps other
 
 -- one that is at its end has chosen, none is ready, and nothing is to be written
 end_at : (progress : Progress) (buffer : Contents) → IsAtStage progress stages.Sweep End buffer → progress ≡ Sweeping false false
@@ -254,7 +255,7 @@ may_choose stages.Select next early = (Sweeping false false, refl)
 may_choose stages.Sweep next early = absurd early
 
 may_sweep : (ready filled : Bool) (next : Next) → IsAtNext ready filled next → MayCome (phase_at stages.Sweep next) (Sweeping ready filled)
-may_sweep false filled (Copy source entry) at = (Sweeping false filled, (false, (filled, (refl, (λ some. some), (λ wrong. refl)))))
+may_sweep false filled (Copy source entry) at = (Sweeping true filled, inl refl)
 may_sweep true filled (Copy source entry) at = absurd (let wrong : true ≡ false = at in cc)
 may_sweep false true (Flush source entry) at = (Sweeping true false, refl)
 may_sweep false false (Flush source entry) at = absurd (let wrong : false ≡ true = at.1 in cc)

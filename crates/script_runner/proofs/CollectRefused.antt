@@ -1,5 +1,5 @@
 -- A step of a collection that was refused is refused by the machine, and the runner follows it.
-use Rattle.std.proofs.Common.{◌≡◌, ◌<◌, ◌≤◌, ℕ, true, List, Option, Some, None, Result, Err, refl, sym, ◌∙◌, ap, subst}
+use Rattle.std.proofs.Common.{◌≡◌, ◌⊎◌, inl, inr, ◌<◌, ◌≤◌, ℕ, true, List, Option, Some, None, Result, Err, refl, sym, ◌∙◌, ap, subst}
 use Rattle.base_model.specs.Fault.{Rose}
 use Rattle.container_meta.specs.Places.{PlaceMap}
 use Rattle.dd_disk.specs.Ending.{Broken, Ending, ending_of}
@@ -29,10 +29,10 @@ use Rattle.store_core.specs.Core.{CoreStep, IndexesAll, Steps}
 use Rattle.store_core.specs.Runs.{ChangesTo, IsAt}
 use Rattle.store_core.specs.State.{CoreState}
 use Rattle.store_core.proofs.JustNeeded.{kept_takes}
-use Rattle.plain_machine.specs.Collections.{BreaksBy, BreaksStep, HasToCopy, IsCollecting, MayCome, RefusesCollectionStep}
+use Rattle.plain_machine.specs.Collections.{BreaksBy, BreaksStep, HasToCopy, IsCollecting, MayCome, MayRead, RefusesCollectionStep}
 use Rattle.plain_machine.specs.Content.{SameStore}
-use Rattle.plain_machine.specs.Machine.{Collecting, Machine, Stopped}
-use Rattle.script_runner.specs.Follows.{Follows, IsAtProgress, IsOfFound, SparesAlone, SparesNeeded}
+use Rattle.plain_machine.specs.Machine.{Collecting, Machine, Marking, Progress, Recording, Stopped, Sweeping}
+use Rattle.script_runner.specs.Follows.{Follows, IsAtProgress, IsOfFound, HoldsCollection, SparesNeeded, WroteOnce}
 use Rattle.script_runner.specs.Sessions.{Sessions}
 use Rattle.script_runner.proofs.CollectBytes.{GivesNothing, IsRest}
 use Rattle.script_runner.proofs.CollectCauses.{IsCauseAt, IsCollectCause, IsReadCause, IsRestCause, cause_at, collect_cause}
@@ -46,6 +46,17 @@ use Rattle.script_runner.proofs.CollectStep.{HasCollecting, flush_same, image, i
 use Rattle.script_runner.proofs.Harmless.{is_harmless}
 use Rattle.script_runner.proofs.SweepContent.{copies_broke, freeing_broke, some_to_copy}
 use Rattle.script_runner.proofs.TurnRunning.{RunsAt, follows_at}
+use Rattle.script_runner.proofs.WrittenOnce.{once_unchanged}
+
+-- where the sources may be chosen, it may mark or record, too
+chooses_reads : (k : Collecting) → MayCome phases.Select k.progress → MayRead (Some k)
+chooses_reads k may = by_progress k.progress may
+  where
+    by_progress : (progress : Progress) → MayCome phases.Select progress
+        → MayCome phases.Mark progress ⊎ MayCome phases.Filter progress ⊎ MayCome phases.Copy progress ⊎ MayCome phases.Flush progress
+    by_progress Marking may = inl (Marking, refl)
+    by_progress Recording may = inr (inl (Recording, refl))
+    by_progress (Sweeping ready filled) may = absurd may.1
 
 module _ (C : Type 0) (state : C → CoreState) (among : ByteSet) (apart : HasNoCollisions (IsIn among)) (m : Machine) (sessions : Sessions) (old new : C) (at : RunsAt (IsIn among) m sessions (state old)) (buf : List ℕ) where
   -- the machine after it, which the core follows
@@ -136,8 +147,8 @@ module _ (C : Type 0) (state : C → CoreState) (among : ByteSet) (apart : HasNo
 
     spared_then : has_some.collecting.alone ≡ true → SparesAt row.before
     spared_then alone =
-        let before = subst (λ (o : Option Collecting). SparesAlone m.stored.files at.running.begins.store o (state old)) has_some.is at.running.begins.spares in
-        before alone begins_then.index row.before begins_then.index_known row.ran
+        let before = subst (λ (o : Option Collecting). HoldsCollection m.stored.files at.running.begins.store o (state old)) has_some.is at.running.begins.spares in
+        before.0 alone begins_then.index row.before begins_then.index_known row.ran
 
     spares_after : SparesAt row.before → SparesAt row.after
     spares_after was = (
@@ -151,13 +162,20 @@ module _ (C : Type 0) (state : C → CoreState) (among : ByteSet) (apart : HasNo
     index_then rests =
         rest_index (state old) (state new) refusal row rests cause
 
-    spares_rested : IsRestCause refusal → SparesAlone m.stored.files at.running.begins.store m.collecting (state new)
+    once_rested : WroteOnce at.running.begins.store has_some.collecting (state new)
+    once_rested =
+        let before = subst (λ (o : Option Collecting). HoldsCollection m.stored.files at.running.begins.store o (state old)) has_some.is at.running.begins.spares in
+        once_unchanged (state old) (state new) at.running.begins.store at.running.begins.store has_some.collecting (λ slot h there. there) (state old).collection refl (kept_unchanged (state old) (state new) refusal row) before.1
+
+    spares_rested : IsRestCause refusal → HoldsCollection m.stored.files at.running.begins.store m.collecting (state new)
     spares_rested rests =
-        subst (λ (o : Option Collecting). SparesAlone m.stored.files at.running.begins.store o (state new)) (sym has_some.is)
-        (λ alone index collection known runs.
-        subst (λ (i : PlaceMap). SparesNeeded m.stored.files at.running.begins.store has_some.collecting.percent i collection)
-        (same_index begins_then.index index (state new).known (index_then rests ∙ begins_then.index_known) known)
-        (subst SparesAt (same_some row.after collection (state new).collection row.runs runs) (spares_after (spared_then alone))))
+        subst (λ (o : Option Collecting). HoldsCollection m.stored.files at.running.begins.store o (state new)) (sym has_some.is) (
+          (λ alone index collection known runs.
+              subst (λ (i : PlaceMap). SparesNeeded m.stored.files at.running.begins.store has_some.collecting.percent i collection)
+              (same_index begins_then.index index (state new).known (index_then rests ∙ begins_then.index_known) known)
+              (subst SparesAt (same_some row.after collection (state new).collection row.runs runs) (spares_after (spared_then alone)))),
+          once_rested,
+        )
 
     rested : IsRestCause refusal → (state new).stop ≡ None → (faults : ℕ) → (state new).disk.faults ≡ faults → Follows (IsIn among) (record m { content = image_then; faults = faults }) sessions (state new)
     rested rests stays faults faults_are =
@@ -167,7 +185,7 @@ module _ (C : Type 0) (state : C → CoreState) (among : ByteSet) (apart : HasNo
         (runs_then C state among apart m sessions old new at err buf made stays image_then faults m.last_id m.collecting m.collected told_then faults_are
         (ap (λ (t : Tables). t.held.last_id) row.tables_are ∙ at.running.begins.last_id_is) at.running.begins.low
         (by_collection (state old) (state new) m.collecting (same_come (state old) (state new) (ap (λ (t : Tables). t.held) row.tables_are)) (kept_unchanged (state old) (state new) refusal row) at.running.begins.collects)
-        (subst (λ (s : Store). SparesAlone m.stored.files s m.collecting (state new)) (sym same) (spares_rested rests))
+        (subst (λ (s : Store). HoldsCollection m.stored.files s m.collecting (state new)) (sym same) (spares_rested rests))
         (λ un. subst (λ (s : Store). IndexesAll s (state new).known) (sym same) (subst (IndexesAll at.running.begins.store) (sym (index_then rests)) (at.running.begins.whole un))))
 
     -- ---- a write failed
@@ -241,6 +259,24 @@ module _ (C : Type 0) (state : C → CoreState) (among : ByteSet) (apart : HasNo
         by_stage Sweep (Release source entry) stage_is next_is at_stage = absurd (let wrong : refusals.Numbers ≡ refusals.DiskWrite = sym is ∙ at_stage in cc)
         by_stage Sweep End stage_is next_is at_stage = absurd at_stage
 
+    -- ---- a read failed
+
+    may_read : refusal ≡ refusals.DiskRead → MayRead m.collecting
+    may_read is = by_stage row.before.stage row.before.sweep.next refl refl cause
+      where
+        by_stage : (stage : Stage) (next : Next) → row.before.stage ≡ stage → row.before.sweep.next ≡ next → IsCauseAt stage next (state old).tables refusal → MayRead m.collecting
+        by_stage (Mark level slot) next stage_is next_is at_stage = inl (collects_as phases.Mark (ap (λ (s : Stage). phase_at s row.before.sweep.next) stage_is))
+        by_stage (Filter slot) next stage_is next_is at_stage = inr (inl (collects_as phases.Filter (ap (λ (s : Stage). phase_at s row.before.sweep.next) stage_is)))
+        by_stage Select next stage_is next_is at_stage =
+            subst MayRead (sym has_some.is)
+            (chooses_reads has_some.collecting (subst (λ (p : Phase). MayCome p has_some.collecting.progress) (ap (λ (s : Stage). phase_at s row.before.sweep.next) stage_is) next_may))
+        by_stage Sweep (Copy source entry) stage_is next_is at_stage =
+            inr (inr (inl (collects_as phases.Copy (ap (λ (s : Stage). phase_at s row.before.sweep.next) stage_is ∙ ap (phase_at Sweep) next_is))))
+        by_stage Sweep (Flush source entry) stage_is next_is at_stage =
+            inr (inr (inr (collects_as phases.Flush (ap (λ (s : Stage). phase_at s row.before.sweep.next) stage_is ∙ ap (phase_at Sweep) next_is))))
+        by_stage Sweep (Release source entry) stage_is next_is at_stage = absurd (let wrong : refusals.DiskRead ≡ refusals.DiskWrite = sym is ∙ at_stage in cc)
+        by_stage Sweep End stage_is next_is at_stage = absurd at_stage
+
     of_stored : (c : List ℕ) → (state new).disk.images c → IsOfFound (IsIn among) (Stopped None) m.stored c
     of_stored c left = (m.stored, (refl, (keeps C state among apart m sessions old new at err buf made).leaves.now c left))
 
@@ -285,11 +321,10 @@ module _ (C : Type 0) (state : C → CoreState) (among : ByteSet) (apart : HasNo
       }
   refused_step refusals.DiskRead made =
       let s = steps C state among apart m sessions old new at (Err refusals.DiskRead) buf made in
-      let has = has_some refusals.DiskRead made s.made.row.0 in
       record {
         next = record m { content = image_then refusals.DiskRead made s.made.row.0; faults = (state new).disk.faults };
         is = (
-          is_collecting m.collecting has.collecting has.is,
+          may_read refusals.DiskRead made s.made.row.0 refl,
           subst (λ (n : ℕ). Rose n (state new).disk.faults) at.faults_are s.made.effect.faults_are,
           same_so_far refusals.DiskRead made s.made.row.0 (λ is. let wrong = is in cc) tt,
           refl,

@@ -41,7 +41,7 @@ use Rattle.store_core.proofs.RunningOn.{step_runs}
 use Rattle.store_core.proofs.Stepping.{step_later}
 use Rattle.plain_machine.specs.Collections.{BeginsCollection, most_steps}
 use Rattle.plain_machine.specs.Machine.{Collecting, Machine, Marking, are_idle, part_in}
-use Rattle.script_runner.specs.Follows.{FollowsCollecting, FollowsCollection, FollowsPart, SparesAlone, SparesNeeded}
+use Rattle.script_runner.specs.Follows.{FollowsCollecting, FollowsCollection, FollowsPart, HoldsCollection, SparesNeeded}
 use Rattle.script_runner.specs.Sessions.{Sessions, session_of}
 use Rattle.script_runner.proofs.CollectCounts.{early_counted}
 use Rattle.script_runner.proofs.CollectStep.{none_collecting, same_some}
@@ -118,7 +118,7 @@ module _ (C : Type 0) (state : C → CoreState) (among : ByteSet) (apart : HasNo
     then collecting = record m { collecting = collecting }
 
     runs_then : (collecting : Option Collecting) → (state new).disk.faults ≡ (state old).disk.faults → (state new).acknowledged ≡ (state old).acknowledged → FollowsCollection collecting (state new)
-        → SparesAlone m.stored.files store collecting (state new) → RunsAt S (then collecting) sessions (state new)
+        → HoldsCollection m.stored.files store collecting (state new) → RunsAt S (then collecting) sessions (state new)
     runs_then collecting faults counted collects spares = record {
       state_is = at.state_is;
       content_is = rests.disk.only.content_is ∙ at.content_is;
@@ -137,7 +137,7 @@ module _ (C : Type 0) (state : C → CoreState) (among : ByteSet) (apart : HasNo
           last_id_is = ap (λ (t : SlotTable). t.last_id) same_slots ∙ at.running.begins.last_id_is;
           low = at.running.begins.low;
           collects = collects;
-          spares = subst (λ (s : Store). SparesAlone m.stored.files s collecting (state new)) (sym next.next.chain) spares;
+          spares = subst (λ (s : Store). HoldsCollection m.stored.files s collecting (state new)) (sym next.next.chain) spares;
         };
         parts = each;
       };
@@ -164,7 +164,7 @@ module _ (C : Type 0) (state : C → CoreState) (among : ByteSet) (apart : HasNo
     slots_same = same_slots C state among apart m sessions old new at percent started buf made
 
     abbrev begins_so : Collecting
-    begins_so = record { percent = percent; snapshot = snapshot; progress = Marking; to_come = most_steps held.held; freed = 0; copied = 0; recorded = []; alone = are_idle m.parts }
+    begins_so = record { percent = percent; snapshot = snapshot; progress = Marking; to_come = most_steps held.held; freed = 0; copied = 0; written = []; recorded = []; alone = are_idle m.parts }
 
     -- the sources are still to be chosen
     early : IsToChoose begun.collection.stage
@@ -208,9 +208,12 @@ module _ (C : Type 0) (state : C → CoreState) (among : ByteSet) (apart : HasNo
           begun_takes index held m.content (state old).tables.held begun.collection right.slots_are at.running.begins.is_at.represents.slots_hold (begun.percent_is ∙ full) begun.stage_is above,
     )
 
-    spares_begun : SparesAlone m.stored.files held (Some begins_so) (state new)
-    spares_begun = λ idle index collection known runs.
-        subst (SparesNeeded m.stored.files held percent index) (same_some begun.collection collection (state new).collection begun.runs runs) (needed_alone (roots_needed idle) index known)
+    spares_begun : HoldsCollection m.stored.files held (Some begins_so) (state new)
+    spares_begun = (
+      (λ idle index collection known runs.
+          subst (SparesNeeded m.stored.files held percent index) (same_some begun.collection collection (state new).collection begun.runs runs) (needed_alone (roots_needed idle) index known)),
+      λ key none collection runs. absurd (omega (arith, none.1)),
+    )
 
     -- where it leads
     pub record Started : Type 0 where

@@ -41,7 +41,7 @@ use Rattle.store_core.proofs.Stepping.{step_later}
 use Rattle.plain_machine.specs.Collections.{last_by}
 use Rattle.plain_machine.specs.Content.{SameStore}
 use Rattle.plain_machine.specs.Machine.{Collecting, Machine, part_in}
-use Rattle.script_runner.specs.Follows.{FollowsCollecting, FollowsCollection, FollowsPart, SparesAlone}
+use Rattle.script_runner.specs.Follows.{FollowsCollecting, FollowsCollection, FollowsPart, HoldsCollection}
 use Rattle.script_runner.specs.Sessions.{Sessions, session_of}
 use Rattle.script_runner.proofs.CollectBytes.{GivesNothing, flush_rests, IsRest, nothing_changes, same_before}
 use Rattle.script_runner.proofs.CollectParts.{gc_event, part_still}
@@ -212,7 +212,7 @@ module _ (C : Type 0) (state : C → CoreState) (among : ByteSet) (apart : HasNo
     then content faults last collecting collected = record m { content = content; faults = faults; last_id = last; collecting = collecting; collected = collected }
 
     pub runs_then : (content : List ℕ) (faults last : ℕ) (collecting : Option Collecting) (collected : Bool) → (state new).disk.content ≡ Some content → (state new).disk.faults ≡ faults
-        → (state new).tables.held.last_id ≡ last → last ≤ LAST_ID → FollowsCollection collecting (state new) → SparesAlone m.stored.files leads.next.store collecting (state new)
+        → (state new).tables.held.last_id ≡ last → last ≤ LAST_ID → FollowsCollection collecting (state new) → HoldsCollection m.stored.files leads.next.store collecting (state new)
         → (collected ≡ false → IndexesAll leads.next.store (state new).known) → RunsAt S (then content faults last collecting collected) sessions (state new)
     runs_then content faults last collecting collected content_is faults_are last_is low collects spares whole = record {
       state_is = at.state_is;

@@ -1,5 +1,5 @@
 -- What becomes of a collection that runs alone over a step that is none of it: it does so still where the step disturbs nothing.
-use Rattle.std.proofs.Common.{◌≡◌, ◌⊎◌, inl, inr, ℕ, List, [], Option, None, Result, Ok, Err, refl, sym, subst}
+use Rattle.std.proofs.Common.{◌≡◌, ◌⊎◌, inl, inr, ℕ, List, [], Option, Some, None, Result, Ok, Err, refl, sym, subst}
 use Rattle.actor_parts.specs.declared.step.Answer.{Answer}
 use Rattle.actor_parts.specs.StepValue as asked
 use Rattle.actor_parts.specs.StepValue.{StepValue}
@@ -13,9 +13,10 @@ use Rattle.store_core.specs.Runs.{ChangesTo, changes_by, stored_with}
 use Rattle.store_core.specs.State.{CoreState, Event}
 use Rattle.store_core.proofs.RunningOn.{seal_kept}
 use Rattle.plain_machine.specs.Machine.{Collecting, disturbed}
-use Rattle.script_runner.specs.Follows.{FollowsCollection, SparesAlone}
-use Rattle.script_runner.proofs.PlainSteps.{IsPlainStep, collecting_after}
-use Rattle.script_runner.proofs.SparesLive.{GoesAsLive, follows_disturbed, none_marked, same_live, spares_disturbed, spares_still}
+use Rattle.script_runner.specs.Follows.{FollowsCollection, HoldsCollection}
+use Rattle.script_runner.proofs.PlainSteps.{IsPlainStep, collecting_after, goes_unchanged}
+use Rattle.script_runner.proofs.SparesLive.{GoesAsLive, WroteOf, follows_disturbed, none_marked, same_live, spares_disturbed, spares_still}
+use Rattle.script_runner.proofs.WrittenOnce.{once_unchanged, stands_by}
 
 -- it disturbs no collection
 abbrev pub IsQuiet : StepValue → Result Answer Refusal → Type 0
@@ -104,18 +105,24 @@ module _ (old new : CoreState) where
     abbrev later : Stored
     later = stored_with e.step e.answer bytes stored
 
-    quietly : IsQuiet e.step e.answer → SparesAlone stored.files store collecting old → SparesAlone later.files after (collecting_after e.step e.answer collecting) new
+    quietly : IsQuiet e.step e.answer → HoldsCollection stored.files store collecting old → HoldsCollection later.files after (collecting_after e.step e.answer collecting) new
     quietly quiet spares =
         let same_store : after ≡ store = subst (λ (changes : List StoreChange). ChangesTo changes store after) (quiet_changes e.step e.answer quiet) chain in
-        subst (λ (o : Option Collecting). SparesAlone later.files after o new) (sym (quiet_same e.step e.answer collecting quiet))
-        (subst (λ (s : Stored). SparesAlone s.files after collecting new) (sym (quiet_stored e.step e.answer bytes stored quiet))
-        (subst (λ (s : Store). SparesAlone stored.files s collecting new) (sym same_store)
+        subst (λ (o : Option Collecting). HoldsCollection later.files after o new) (sym (quiet_same e.step e.answer collecting quiet))
+        (subst (λ (s : Stored). HoldsCollection s.files after collecting new) (sym (quiet_stored e.step e.answer bytes stored quiet))
+        (subst (λ (s : Store). HoldsCollection stored.files s collecting new) (sym same_store)
         (spares_still old new stored.files store (quiet_keeps e.step e.answer plain quiet stays steps.made.effect steps.stops).index_is (quiet_live e.step e.answer plain quiet steps.collects) collecting spares)))
 
-    pub spares_on : SparesAlone stored.files store collecting old → SparesAlone later.files after (collecting_after e.step e.answer collecting) new
+    -- what was written stands, and is not filled
+    wrote_on : (o : Option Collecting) → HoldsCollection stored.files store o old → WroteOf after o new
+    wrote_on None spares = tt
+    wrote_on (Some k) spares =
+        once_unchanged old new store after k (stands_by store after e.step e.answer chain) old.collection refl (goes_unchanged old new e.step e.answer plain steps.collects) spares.1
+
+    pub spares_on : HoldsCollection stored.files store collecting old → HoldsCollection later.files after (collecting_after e.step e.answer collecting) new
     spares_on spares = elim (quiet_or e.step e.answer collecting) [
       | inl quiet ↦ quietly quiet spares
-      | inr is ↦ subst (λ (o : Option Collecting). SparesAlone later.files after o new) (sym is) (spares_disturbed later.files after collecting new)
+      | inr is ↦ subst (λ (o : Option Collecting). HoldsCollection later.files after o new) (sym is) (spares_disturbed later.files after collecting new (wrote_on collecting spares))
     ]
 
 -- what the machine says of it is so still

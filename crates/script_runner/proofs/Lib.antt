@@ -87,3 +87,4 @@ pub mod TurnRunning
 pub mod TurnTwins
 pub mod TurnsDone
 pub mod TurnsMade
+pub mod WrittenOnce

@@ -9,7 +9,7 @@ use Rattle.store_core.specs.Core.{CoreStep, Rests}
 use Rattle.store_core.specs.Runs.{FileEvent, IsAt, IsGivenRight, stored_with}
 use Rattle.store_core.specs.State.{CoreState, Event}
 use Rattle.plain_machine.specs.Machine.{Collecting, Machine}
-use Rattle.script_runner.specs.Follows.{FollowsCollection, FollowsRunning, SparesAlone}
+use Rattle.script_runner.specs.Follows.{FollowsCollection, FollowsRunning, HoldsCollection}
 use Rattle.script_runner.specs.Sessions.{Sessions}
 use Rattle.script_runner.proofs.OneStep.{stepped}
 use Rattle.script_runner.proofs.PlainSteps.{IsPlainStep, collecting_after}
@@ -34,8 +34,8 @@ module _ (C : Type 0) (state : C → CoreState) (among : ByteSet) (distinct : Ha
           last_id_is = ap (λ (t : Tables). t.held.last_id) rests.tables.tables_are ∙ running.begins.last_id_is;
           low = running.begins.low;
           collects = subst (λ (o : Option Collecting). FollowsCollection o (state new)) quiet then.begins.collects;
-          spares = subst (λ (o : Option Collecting). SparesAlone m.stored.files then.begins.store o (state new)) quiet
-              (subst (λ (stored : Stored). SparesAlone stored.files then.begins.store (collecting_after e.step e.answer m.collecting) (state new)) files then.begins.spares);
+          spares = subst (λ (o : Option Collecting). HoldsCollection m.stored.files then.begins.store o (state new)) quiet
+              (subst (λ (stored : Stored). HoldsCollection stored.files then.begins.store (collecting_after e.step e.answer m.collecting) (state new)) files then.begins.spares);
         };
         held = then.held;
         takes = then.takes;

@@ -35,7 +35,7 @@ use Rattle.store_core.proofs.Making.{up_of}
 use Rattle.store_core.proofs.RunningOn.{step_runs}
 use Rattle.store_core.proofs.Stepping.{row_one}
 use Rattle.plain_machine.specs.Machine.{Collecting, Machine, part_in}
-use Rattle.script_runner.specs.Follows.{FollowsCollection, FollowsPart, FollowsStore, FollowsRunning, SparesAlone, Takes}
+use Rattle.script_runner.specs.Follows.{FollowsCollection, FollowsPart, FollowsStore, FollowsRunning, HoldsCollection, Takes}
 use Rattle.script_runner.specs.Sessions.{Sessions, session_of}
 use Rattle.script_runner.proofs.CollectionOn.{collection_on, last_on, low_on}
 use Rattle.script_runner.proofs.Disturbing.{follows_after, spares_on}
@@ -72,8 +72,8 @@ begins_as S stored later last then collecting goes collected was c stored_is las
   last_id_is = begins.last_id_is ∙ last_is;
   low = subst (λ (n : ℕ). n ≤ LAST_ID) last_is begins.low;
   collects = subst (λ (x : Option Collecting). FollowsCollection x c) goes_is begins.collects;
-  spares = subst (λ (x : Option Collecting). SparesAlone later.files begins.store x c) goes_is
-      (subst (λ (x : Stored). SparesAlone x.files begins.store collecting c) stored_is begins.spares);
+  spares = subst (λ (x : Option Collecting). HoldsCollection later.files begins.store x c) goes_is
+      (subst (λ (x : Stored). HoldsCollection x.files begins.store collecting c) stored_is begins.spares);
 }
 
 -- ---- one step more

@@ -21,7 +21,9 @@ use Rattle.store_model.specs.Slots.{place_of}
 use Rattle.store_core.specs.Collecting.{MarksIn}
 use Rattle.store_core.specs.State.{CoreState}
 use Rattle.plain_machine.specs.Machine.{Collecting, disturbed}
-use Rattle.script_runner.specs.Follows.{FollowsCollection, SparesAlone, SparesNeeded}
+use Rattle.script_runner.specs.Follows.{FollowsCollection, HoldsCollection, SparesNeeded, WroteOnce}
+use Rattle.script_runner.proofs.PlainSteps.{GoesUnchanged}
+use Rattle.script_runner.proofs.WrittenOnce.{once_unchanged}
 
 -- ---- by which keys are live
 
@@ -110,6 +112,10 @@ none_marked P (Some c) now none marks = (
   ),
 )
 
+as_unchanged : (old new : CoreState) (was now : Option Collection) → GoesAsLive was now → GoesUnchanged old new was now
+as_unchanged old new None now goes = goes
+as_unchanged old new (Some c) now goes = (goes.0, goes.1.0)
+
 module _ (old new : CoreState) (files : Files) (store : Store) (index_is : new.known ≡ old.known) (goes : GoesAsLive old.collection new.collection) where
   by_running : (percent : ℕ) (was : Option Collection) → old.collection ≡ was → GoesAsLive was new.collection
       → ((index : PlaceMap) (c : Collection) → old.known ≡ Some index → old.collection ≡ Some c → SparesNeeded files store percent index c)
@@ -119,15 +125,23 @@ module _ (old new : CoreState) (files : Files) (store : Store) (index_is : new.k
       let same : record b { live = on.0 } ≡ c = let both : Some (record b { live = on.0 }) ≡ Some c = sym on.1.0 ∙ runs in cc in
       subst (SparesNeeded files store percent index) same (needed_live index b on.0 on.1.1.0 files store percent on.1.1.1 (before index b (sym index_is ∙ known) is))
 
-  pub spares_still : (collecting : Option Collecting) → SparesAlone files store collecting old → SparesAlone files store collecting new
+  pub spares_still : (collecting : Option Collecting) → HoldsCollection files store collecting old → HoldsCollection files store collecting new
   spares_still None spares = tt
-  spares_still (Some k) spares = λ alone. by_running k.percent old.collection refl goes (spares alone)
+  spares_still (Some k) spares = (
+    (λ alone. by_running k.percent old.collection refl goes (spares.0 alone)),
+    once_unchanged old new store store k (λ slot h there. there) old.collection refl (as_unchanged old new old.collection new.collection goes) spares.1,
+  )
 
 -- ---- one that was disturbed
 
-pub spares_disturbed : (files : Files) (store : Store) (collecting : Option Collecting) (c : CoreState) → SparesAlone files store (disturbed collecting) c
-spares_disturbed files store None c = tt
-spares_disturbed files store (Some k) c = λ wrong. absurd (let no = wrong in cc)
+-- of each key that it wrote
+abbrev pub WroteOf : Store → Option Collecting → CoreState → Type 0
+WroteOf store None c = Unit {0}
+WroteOf store (Some k) c = WroteOnce store k c
+
+pub spares_disturbed : (files : Files) (store : Store) (collecting : Option Collecting) (c : CoreState) → WroteOf store collecting c → HoldsCollection files store (disturbed collecting) c
+spares_disturbed files store None c wrote = tt
+spares_disturbed files store (Some k) c wrote = ((λ wrong. absurd (let no = wrong in cc)), wrote)
 
 pub follows_disturbed : (collecting : Option Collecting) (c : CoreState) → FollowsCollection collecting c → FollowsCollection (disturbed collecting) c
 follows_disturbed None c follows = follows

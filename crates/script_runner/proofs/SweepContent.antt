@@ -1,10 +1,10 @@
 -- What a sweep leaves of the content, by the machine: copies that it writes, and a container that it gives back.
 use Rattle.std.proofs.Common.{◌≡◌, ◌∙◌, inr, ◌+◌, ◌<◌, ◌≤◌, ℕ, suc, Bool, true, List, length, Some, refl, sym, ap, subst, arith}
-use Rattle.std.specs.Prelude.{count_by, ◌==◌, Contains}
+use Rattle.std.specs.Prelude.{count_by, ◌==◌, ◌++◌, Contains}
 use Rattle.std.specs.List.{AllByRecursion}
 use Rattle.std.proofs.lemmas.List.Elements.{Contains-get_or}
 use Rattle.container_meta.specs.Places.{PlaceMap}
-use Rattle.container_meta.specs.Segments.{Contents, segment_key}
+use Rattle.container_meta.specs.Segments.{Contents, keys_of, segment_key}
 use Rattle.container_meta.specs.Spelling.{HeaderValue}
 use Rattle.dd_disk.specs.Ending.{Broken, Done}
 use Rattle.dd_disk.specs.Moves.{StandsFor}
@@ -173,11 +173,12 @@ module _ (among : ByteSet) (store : Store) (stored : Stored) (old new : CoreStat
       are_held : AllByRecursion (λ x. Holds image (of_kind filled.kind x)) filled.segments
       are_held = each_so (λ x. HasNewest written.held (segment_key filled.kind x) x.level x.bytes image) (λ x. Holds image (of_kind filled.kind x)) filled.segments (λ x has. (written, (now, has))) newest_now
 
-      pub copies_added : (alone : Bool) (Of : ℕ → Type 0) (snapshot last : ℕ) → old.tables.held.last_id ≡ last
+      pub copies_added : (alone : Bool) (Of : ℕ → Type 0) (snapshot last : ℕ) (wrote : List (List ℕ)) → old.tables.held.last_id ≡ last
           → AllByRecursion (λ x. IsOfCopied Of snapshot store.held (segment_key filled.kind x)) filled.segments
           → (alone ≡ true → AllByRecursion (λ x. IsToCopy (IsReachable stored.files) Of store.held (segment_key filled.kind x)) filled.segments)
-          → AddsCopies alone (IsReachable stored.files) Of snapshot last (length filled.segments) content image
-      copies_added alone Of snapshot last last_is from_chosen to_copy = record {
+          → AllByRecursion (λ x. ¬ (Contains wrote (segment_key filled.kind x))) filled.segments
+          → AddsCopies alone (IsReachable stored.files) Of snapshot last (length filled.segments) wrote (wrote ++ keys_of filled) content image
+      copies_added alone Of snapshot last wrote last_is from_chosen to_copy new_keys = record {
         store = store;
         was = right;
         filled = filled;
@@ -185,6 +186,8 @@ module _ (among : ByteSet) (store : Store) (stored : Stored) (old new : CoreStat
         many = refl;
         from_chosen = from_chosen;
         to_copy = to_copy;
+        new_keys = new_keys;
+        written_is = refl;
         were_held = were_held;
         now = subst (λ (n : ℕ). Encodes image (with_sealed n filled.kind filled.segments store)) id_is now;
         held = are_held;

@@ -1,11 +1,16 @@
 -- When a runner follows the plain machine, and what its lines do then (docs/MODEL.md, 'Scripts').
-use Rattle.std.specs.Prelude.{◌≡◌, ◌⊎◌, ◌<◌, ◌≤◌, ◌+◌, ℕ, suc, Bool, true, false, nat_lt, List, [], ◌∷◌, ◌++◌, length, Option, Some, None}
+use Rattle.std.specs.Prelude.{◌≡◌, ◌⊎◌, ◌<◌, ◌≤◌, ◌+◌, ℕ, suc, Bool, true, false, nat_lt, List, [], ◌∷◌, ◌++◌, length, Contains, find, slice_get, Option, Some, None}
 use Rattle.std.specs.FinMap as finite
+use Rattle.std.specs.Str.{bytes_eq}
+use Rattle.base_model.specs.Bytes.{key_of}
 use Rattle.dd_disk.specs.View.{CrashLeaves}
 use Rattle.disk_format.specs.declared.numbers.TheConstants.{LAST_ID}
 use Rattle.container_meta.specs.declared.kind.Kind.{Kind}
+use Rattle.container_meta.specs.declared.entry.Entry.{Entry}
+use Rattle.container_meta.specs.Format.{kind_byte}
 use Rattle.container_meta.specs.Places.{PlaceMap}
-use Rattle.container_meta.specs.Segments.{Contents, Segment, segment_key}
+use Rattle.container_meta.specs.Segments.{Contents, Segment, has_key, segment_key}
+use Rattle.container_meta.specs.Spelling.{HeaderValue}
 use Rattle.merkle_file.specs.declared.top.Top.{Top}
 use Rattle.actor_parts.specs.declared.actor.TheConstants.{ACTORS}
 use Rattle.actor_parts.specs.declared.part.Part.TheVariants as core_parts
@@ -143,10 +148,29 @@ abbrev pub SparesNeeded : Files → Store → (percent : ℕ) → PlaceMap → C
 SparesNeeded files store percent index c = Spares (IsReachable files) index store.held c × (percent ≡ 100 → TakesAll index store.held c)
 
 -- so it is of one that runs alone
-abbrev pub SparesAlone : Files → Store → Option Collecting → CoreState → Type 0
-SparesAlone files store None c = Unit {0}
-SparesAlone files store (Some k) c = k.alone ≡ true → (index : PlaceMap) (collection : Collection) → c.known ≡ Some index
+abbrev pub SparesAlone : Files → Store → Collecting → CoreState → Type 0
+SparesAlone files store k c = k.alone ≡ true → (index : PlaceMap) (collection : Collection) → c.known ≡ Some index
     → c.collection ≡ Some collection → SparesNeeded files store k.percent index collection
+
+-- A key that was written: a container of an id from the snapshot on has it, and what is filled doesn't.
+pub record IsWritten (held : List (Option HeaderValue)) (snapshot : ℕ) (buffer : Contents) (key : List ℕ) : Type 0 where
+  pub slot : ℕ
+  pub header : HeaderValue
+  pub there : slice_get held slot ≡ Some (Some header)
+  pub new : snapshot ≤ header.id
+  pub entry : Entry
+  pub found : find (λ e. bytes_eq (key_of (kind_byte header.kind) e.digest) key) header.entries ≡ Some entry
+  pub unfilled : ¬ (has_key buffer key ≡ true)
+
+-- so is each that it wrote
+abbrev pub WroteOnce : Store → Collecting → CoreState → Type 0
+WroteOnce store k c = (key : List ℕ) → Contains k.written key → (collection : Collection) → c.collection ≡ Some collection
+    → IsWritten store.held collection.snapshot collection.sweep.buffer key
+
+-- both, of the collection that runs, if one does
+abbrev pub HoldsCollection : Files → Store → Option Collecting → CoreState → Type 0
+HoldsCollection files store None c = Unit {0}
+HoldsCollection files store (Some k) c = SparesAlone files store k c × WroteOnce store k c
 
 -- The core is at a store of these files, and its disk is settled. The last id is this one; the collection that runs, if one does, is this
 -- one; and where no key left the index since the opening, it has each that the store holds.
@@ -159,7 +183,7 @@ pub record FollowsStore (S : List ℕ → Type 0) (stored : Stored) (last : ℕ)
   pub last_id_is : c.tables.held.last_id ≡ last
   pub low : last ≤ LAST_ID
   pub collects : FollowsCollection collecting c
-  pub spares : SparesAlone stored.files store collecting c
+  pub spares : HoldsCollection stored.files store collecting c
 
 -- those of the machine
 abbrev pub FollowsStoreOf : (List ℕ → Type 0) → Machine → CoreState → Type 0

@@ -38,8 +38,8 @@ pub record IsChosen (P : List ℕ → Type 0) (percent : ℕ) (held : List (Opti
 abbrev pub IsGone : List (Option HeaderValue) → ℕ → Type 0
 IsGone held id = (slot : ℕ) (h : HeaderValue) → slice_get held slot ≡ Some (Some h) → ¬ (h.id ≡ id)
 
--- Of each container it is known how many of its bytes are needed: where that is little it is gone, and else it stands where it stood. Copied
--- were just the keys that are needed whose newest copy lay in one that is gone, each once.
+-- Of each container that was there it is known how many of its bytes are needed: where that is little no container of its id is left, and
+-- else it stands where it stood. Copied were just the needed keys whose newest copies lay in containers of which it is little, each once.
 pub record Chooses (P : List ℕ → Type 0) (percent : ℕ) (held held_now : List (Option HeaderValue)) (changes : List StoreChange)
     : Type 0 where
   pub each : (slot : ℕ) (h : HeaderValue) → slice_get held slot ≡ Some (Some h) → (needed : ℕ) × (Needs P held slot h needed
@@ -51,7 +51,7 @@ pub record Chooses (P : List ℕ → Type 0) (percent : ℕ) (held held_now : Li
       → Contains (copied_keys changes) key
   pub once : IsDistinct bytes_eq (copied_keys changes)
 
--- It has come to it by the changes that it answers, and by what these files need.
+-- The core has come to a store by changes that give back so many containers and write so many copies, chosen by what these files need.
 pub record HasChosen (S : List ℕ → Type 0) (stored : Stored) (percent freed copied : ℕ) (s : Store) (c : CoreState) : Type 0 where
   pub collected : HasCollected S stored freed copied s c
   pub chooses : Chooses (IsReachable stored.files) percent s.held collected.released.store.held collected.released.changes

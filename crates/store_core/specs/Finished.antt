@@ -176,7 +176,8 @@ CollectsInAll C state = (among : ByteSet) (actor last_actor percent snapshot fre
     → CoreStep (state new) (ends_with last_actor freed copied last_buf) (state last)
     → Collected C state (IsIn among) percent snapshot freed copied steps s stored begun new last run
 
--- So it is where one of the percentage 100 began while no actor held a key, and came to its end with no other steps between.
+-- Where one of the percentage 100 began while no actor held a key, and came to its end with no other steps between, the containers hold
+-- just what the files need, each key once.
 abbrev pub LeavesJustNeeded : (C : Type 0) → (C → CoreState) → Type 0
 LeavesJustNeeded C state = (among : ByteSet) (actor last_actor snapshot freed copied : ℕ) (buf last_buf : List ℕ)
     (steps : List FileEvent) (s t : Store) (stored : Stored) (old begun new last : C)

@@ -221,7 +221,7 @@ does_keep (lines.Commit a name) (replies.Committed b sequence) m n is =
     then m is.1.mid n (turns_keep a is.1.turns m is.1.mid is.1.taken) (by is.1.mid n _ is.1.others refl refl)
 does_keep (lines.Abort a) (replies.Aborted b) m n is = by m n _ is.1.1 refl refl
 does_keep (lines.Read a name) (replies.Reading b count) m n is = by m n _ is.1.1.1.2 refl refl
-does_keep (lines.Next a) (replies.Bytes b bytes) m n is = by m n _ is.1.1.1 refl refl
+does_keep (lines.Next a) (replies.Bytes b bytes) m n is = by m n _ is.1.1.1.1 refl refl
 does_keep (lines.Next a) (replies.End b) m n is = same m n is.2
 does_keep (lines.Drop a) (replies.Dropped b) m n is = by m n _ is.1.1 refl refl
 does_keep (lines.Gc percent) (replies.Collecting snapshot) m n is = by m n _ is.others refl refl

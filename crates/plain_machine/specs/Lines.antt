@@ -89,13 +89,14 @@ Aborts actor m n = ((w : Writer) × IsWriter (part_in m actor) w) × (n ≡ put_
 abbrev pub Reads : ℕ → List ℕ → ℕ → Machine → Machine → Type 0
 Reads actor name count m n =
     (part_in m actor ≡ Idle) × ((file : List ℕ) × ((finite.get m.stored.files name ≡ Some file) × (count ≡ length file)
-    × (n ≡ put_at m actor (Reading (segments_of file)))))
+    × (n ≡ put_at m actor (Reading file (segments_of file)))))
 
 abbrev pub GivesSegment : ℕ → List ℕ → Machine → Machine → Type 0
-GivesSegment actor bytes m n = (rest : List (List ℕ)) × ((part_in m actor ≡ Reading (bytes ∷ rest)) × (n ≡ put_at m actor (Reading rest)))
+GivesSegment actor bytes m n =
+    (file : List ℕ) × ((rest : List (List ℕ)) × ((part_in m actor ≡ Reading file (bytes ∷ rest)) × (n ≡ put_at m actor (Reading file rest))))
 
 abbrev pub Drops : ℕ → Machine → Machine → Type 0
-Drops actor m n = ((rest : List (List ℕ)) × (part_in m actor ≡ Reading rest)) × (n ≡ put_at m actor Idle)
+Drops actor m n = ((file : List ℕ) × ((rest : List (List ℕ)) × (part_in m actor ≡ Reading file rest))) × (n ≡ put_at m actor Idle)
 
 -- ---- names
 
@@ -124,7 +125,7 @@ Does (lines.Commit a name) (replies.Committed b sequence) m n = (b ≡ a) × Com
 Does (lines.Abort a) (replies.Aborted b) m n = (b ≡ a) × Aborts a m n
 Does (lines.Read a name) (replies.Reading b count) m n = (b ≡ a) × Reads a name count m n
 Does (lines.Next a) (replies.Bytes b bytes) m n = (b ≡ a) × GivesSegment a bytes m n
-Does (lines.Next a) (replies.End b) m n = (b ≡ a) × (part_in m a ≡ Reading []) × (n ≡ m)
+Does (lines.Next a) (replies.End b) m n = (b ≡ a) × ((file : List ℕ) × (part_in m a ≡ Reading file [])) × (n ≡ m)
 Does (lines.Drop a) (replies.Dropped b) m n = (b ≡ a) × Drops a m n
 Does (lines.Delete name) (replies.Deleted sequence) m n = Deletes name sequence m n
 Does lines.ListNames (replies.Listed files) m n = (files ≡ file_listing m.stored.files) × (n ≡ m)

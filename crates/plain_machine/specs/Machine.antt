@@ -18,14 +18,14 @@ pub data Part : Type 0 where
   Writing : (given : List ℕ) (answers : List Answer) → Part
   -- it has given the whole file
   Finished : (file : List ℕ) (answers : List Answer) → Part
-  -- it takes a file: these segments are to come
-  Reading : (rest : List (List ℕ)) → Part
+  -- it takes a file: this one, of which these segments are to come
+  Reading : (file : List ℕ) (rest : List (List ℕ)) → Part
 
 abbrev pub kind_of : Part → PartKind
 kind_of Idle = kinds.Idle
 kind_of (Writing given answers) = kinds.Writing
 kind_of (Finished file answers) = kinds.Finished
-kind_of (Reading rest) = kinds.Reading
+kind_of (Reading file rest) = kinds.Reading
 
 abbrev pub all_idle : List Part
 all_idle = replicate ACTORS Idle

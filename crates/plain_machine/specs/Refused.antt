@@ -140,7 +140,7 @@ RefusesOn (lines.Read a name) Memory m n = n ≡ m
 RefusesOn (lines.Read a name) BadName m n = ¬ (IsName name) × (n ≡ m)
 RefusesOn (lines.Read a name) NoFile m n = IsName name × (finite.get m.stored.files name ≡ None) × (n ≡ m)
 RefusesOn (lines.Next a) DiskRead m n =
-    ((bytes : List ℕ) × ((rest : List (List ℕ)) × (part_in m a ≡ Reading (bytes ∷ rest)))) × OnlyFails m n
+    ((file : List ℕ) × ((bytes : List ℕ) × ((rest : List (List ℕ)) × (part_in m a ≡ Reading file (bytes ∷ rest))))) × OnlyFails m n
 RefusesOn (lines.Delete name) refusal m n = RefusesDelete name refusal m n
 RefusesOn lines.ListNames Memory m n = n ≡ m
 RefusesOn (lines.Gc percent) Memory m n = (m.collecting ≡ None) × (n ≡ m)

@@ -21,6 +21,7 @@ use Rattle.actor_parts.specs.Segments.{pin_by, pin_of}
 use Rattle.actor_parts.specs.StepValue as asked
 use Rattle.refusals.specs.declared.refusal.Refusal.{Refusal}
 use Rattle.ingest_session.specs.State.{SessionState}
+use Rattle.read_steps.specs.Opening.{top_of}
 use Rattle.read_steps.specs.Walking.{SegmentsAhead}
 use Rattle.read_steps.proofs.Openings.{segments_on}
 use Rattle.gc_steps.specs.LiveTrees.{IsRootOf}
@@ -37,11 +38,11 @@ use Rattle.store_model.specs.Reserve.{HoldsCounted, key_set, tree_keys}
 use Rattle.store_model.specs.Slots.{HasKey}
 use Rattle.store_model.specs.Standing.{IsStoreOf}
 use Rattle.store_model.specs.Steps.{KeepsCopies}
-use Rattle.store_model.specs.Trees.{HasNewest}
-use Rattle.store_model.proofs.Counted.{contained}
+use Rattle.store_model.specs.Trees.{HasNewest, file_tree}
+use Rattle.store_model.proofs.Counted.{contained, in_set, tree_on}
 use Rattle.store_model.proofs.FramedTrees.{newest_framed}
 use Rattle.store_model.proofs.SameIndex.{same_copies}
-use Rattle.store_model.proofs.Unfolding.{trees_agree}
+use Rattle.store_model.proofs.Unfolding.{right_file, root_of_tree, trees_agree}
 use Rattle.store_state.specs.Invariant.{HoldsPart, HoldsRest}
 use Rattle.store_state.specs.Settled.{IsSettled}
 use Rattle.store_core.specs.Keeping.{IsHeldIn}
@@ -210,14 +211,23 @@ module _ (S : List ℕ → Type 0) (s : Store) (stored : Stored) (old new : Core
           let has = contained key keys there in
           leads.copies key image after here told (key_needed key has) at.index at.index_known (key_has key has) level text newest
 
-      takes_still : (rest : List (List ℕ)) → Takes rest reader.cursor old → Takes rest reader.cursor new
-      takes_still rest takes =
+      -- the file's tree is the one that is held whole
+      whole_same : (file : List ℕ) (rest : List (List ℕ)) → Takes file rest reader old → rest_held.whole ≡ file_tree file
+      whole_same file rest takes =
+          trees_agree s.held image rest_held.whole (file_tree file) rest_held.right (right_file file takes.fits) rest_held.is_held.tree_is_held (takes.whole s image at.represents here).tree_is_held
+          (sym rest_held.top_is ∙ ap top_of (takes.root_is ∙ root_of_tree file takes.fits))
+
+      takes_still : (file : List ℕ) (rest : List (List ℕ)) → Takes file rest reader old → Takes file rest reader new
+      takes_still file rest takes =
           let ahead : SegmentsAhead takes.counts s.held image reader.cursor rest = takes.segments s image at.represents here in
           let same : ahead.trees ≡ rest_held.trees =
           same_trees s.held image (IsIn takes.counts) (IsIn (key_set keys)) ahead.trees rest_held.trees (sym ahead.held_ahead.trees.tops ∙ rest_held.ahead.tops) ahead.held_ahead.trees.each rest_held.ahead.each
           ahead.held_ahead.each rest_held.are_held in
           takes_at S leads.next.store stored new then after told (key_set keys)
-          (λ key there. let has = contained key keys there in leads.keys key image here (key_needed key has) at.index then.index at.index_known then.index_known (key_has key has)) rest reader.cursor
+          (λ key there. let has = contained key keys there in leads.keys key image here (key_needed key has) at.index then.index at.index_known then.index_known (key_has key has)) file rest reader takes.fits takes.root_is
+          (subst (HoldsCounted (IsIn (key_set keys)) leads.next.store.held after) (whole_same file rest takes)
+          (tree_on (IsIn (key_set keys)) (IsIn (key_set keys)) s leads.next.store image after goes_on (λ key there. there) rest_held.whole
+          (record { tree_is_held = rest_held.is_held.tree_is_held; count = λ key there. in_set key keys there })))
           (segments_on (key_set keys) s leads.next.store image after goes_on reader.cursor rest
           (record { trees = rest_held.trees; held_ahead = record { trees = rest_held.ahead; each = rest_held.are_held }; segments_are = ahead.segments_are ∙ ap segments_in same }))
 
@@ -226,5 +236,5 @@ module _ (S : List ℕ → Type 0) (s : Store) (stored : Stored) (old new : Core
     part_still Idle None core_parts.Idle is follows = tt
     part_still (Writing given answers_are) (Some t) (core_parts.Writing pins) is follows = gives_still given false answers_are t pins is follows
     part_still (Finished file answers_are) (Some t) (core_parts.Writing pins) is follows = gives_still file true answers_are t pins is follows
-    part_still (Reading rest) None (core_parts.Reading reader) is follows = takes_still reader is rest follows
+    part_still (Reading file rest) None (core_parts.Reading reader) is follows = takes_still reader is file rest follows
     part_still part session core is follows = absurd follows

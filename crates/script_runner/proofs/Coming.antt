@@ -1,19 +1,26 @@
 -- What is to come of a file, by any store that the tables of a core may be of.
 use Rattle.std.proofs.Common.{◌≡◌, ◌∙◌, ℕ, ◌≤◌, List, [], ◌∷◌, ◌++◌, length, Option, Some, refl, sym, subst, arith}
 use Rattle.std.proofs.lemmas.List.Concat.{flat_map-cons}
+use Rattle.disk_format.specs.declared.numbers.TheConstants.{MOST_FILE}
 use Rattle.container_meta.specs.Places.{PlaceMap}
 use Rattle.container_meta.specs.Spelling.{HeaderValue}
 use Rattle.merkle_file.specs.declared.top.Top.{Top}
 use Rattle.merkle_file.specs.Tree as tree
 use Rattle.merkle_file.specs.Tree.{Tree, Trees, children_of, leaves, leaves_below, of_segment}
 use Rattle.merkle_file.specs.Walk.{AreBelow, IsTree, segments_in}
+use Rattle.actor_parts.specs.declared.part.Reader.{Reader}
 use Rattle.store_model.specs.Files.{Stored}
 use Rattle.store_model.specs.Image.{Store}
 use Rattle.store_model.specs.Collisions.{ByteSet, IsIn}
+use Rattle.store_model.specs.Reserve.{HoldsCounted}
 use Rattle.store_model.specs.Slots.{HasKey}
+use Rattle.store_model.specs.Steps.{KeepsCopies}
+use Rattle.store_model.specs.Trees.{file_tree, root_of}
+use Rattle.store_model.proofs.Counted.{tree_on}
 use Rattle.store_model.proofs.SameIndex.{same_copies}
 use Rattle.read_steps.specs.Walking.{HeldAhead, IsIndexed, SegmentsAhead}
 use Rattle.read_steps.proofs.Openings.{segments_on}
+use Rattle.store_state.specs.Tables.{Represents}
 use Rattle.store_core.specs.Runs.{IsAt}
 use Rattle.store_core.specs.State.{CoreState}
 use Rattle.store_core.proofs.Sealing.{one_map}
@@ -27,19 +34,33 @@ module _ (S : List ℕ → Type 0) (s : Store) (stored : Stored) (c : CoreState)
   pub indexed_at : (counts : ByteSet) → AreIndexed counts → IsIndexed counts s.held c.known c.disk.content image
   indexed_at counts has = record { told = told; index = at.index; index_known = at.index_known; index_is_newest = at.represents.index_is_newest at.index at.index_known; has = has }
 
-  pub ahead_at : (rest : List (List ℕ)) (ahead : List Top) (takes : Takes rest ahead c) → SegmentsAhead takes.counts s.held image ahead rest
-  ahead_at rest ahead takes = takes.segments s image at.represents told
+  pub ahead_at : (file : List ℕ) (rest : List (List ℕ)) (reader : Reader) (takes : Takes file rest reader c) → SegmentsAhead takes.counts s.held image reader.cursor rest
+  ahead_at file rest reader takes = takes.segments s image at.represents told
 
-  pub takes_at : (counts : ByteSet) → AreIndexed counts → (rest : List (List ℕ)) (ahead : List Top) → SegmentsAhead counts s.held image ahead rest → Takes rest ahead c
-  takes_at counts has rest ahead is = record {
+  pub whole_at : (file : List ℕ) (rest : List (List ℕ)) (reader : Reader) (takes : Takes file rest reader c) → HoldsCounted (IsIn takes.counts) s.held image (file_tree file)
+  whole_at file rest reader takes = takes.whole s image at.represents told
+
+  pub takes_at : (counts : ByteSet) → AreIndexed counts → (file : List ℕ) (rest : List (List ℕ)) (reader : Reader) → length file ≤ MOST_FILE → reader.root ≡ root_of file → HoldsCounted (IsIn counts) s.held image (file_tree file)
+      → SegmentsAhead counts s.held image reader.cursor rest → Takes file rest reader c
+  takes_at counts has file rest reader fits root whole is = record {
+    fits = fits;
+    root_is = root;
     counts = counts;
     indexed = λ index index_is key there. subst (λ (m : PlaceMap). HasKey m key) (one_map at.index index (sym at.index_known ∙ index_is)) (has key there);
+    whole = λ store now represents told_now.
+        subst (λ (bytes : List ℕ). HoldsCounted (IsIn counts) store.held bytes (file_tree file)) (same_image now told_now)
+        (tree_on (IsIn counts) (IsIn counts) s store image image (goes_on store represents) (λ key there. there) (file_tree file) whole);
     segments = λ store now represents told_now.
-        let same : image ≡ now = let both = sym told ∙ told_now in cc in
-        subst (λ (bytes : List ℕ). SegmentsAhead counts store.held bytes ahead rest) same
-        (segments_on counts s store image image
-        (λ key level bytes there. same_copies s store at.index image (at.represents.index_is_newest at.index at.index_known) (represents.index_is_newest at.index at.index_known) key level bytes (has key there)) ahead rest is);
+        subst (λ (bytes : List ℕ). SegmentsAhead counts store.held bytes reader.cursor rest) (same_image now told_now)
+        (segments_on counts s store image image (goes_on store represents) reader.cursor rest is);
   }
+    where
+      same_image : (now : List ℕ) → c.disk.content ≡ Some now → image ≡ now
+      same_image now told_now = let both = sym told ∙ told_now in cc
+
+      goes_on : (store : Store) → Represents store c.known c.tables → KeepsCopies (IsIn counts) s image store image
+      goes_on store represents key level bytes there =
+          same_copies s store at.index image (at.represents.index_is_newest at.index at.index_known) (represents.index_is_newest at.index at.index_known) key level bytes (has key there)
 
 -- ---- where a tree is to come, a segment is
 

@@ -23,7 +23,7 @@ idle_is : (part : Part) → is_idle part ≡ true → part ≡ Idle
 idle_is Idle is = refl
 idle_is (Writing given answers) is = absurd (let wrong = is in cc)
 idle_is (Finished file answers) is = absurd (let wrong = is in cc)
-idle_is (Reading rest) is = absurd (let wrong = is in cc)
+idle_is (Reading file rest) is = absurd (let wrong = is in cc)
 
 idle_at : (parts : List Part) (actor : ℕ) → are_idle parts ≡ true → slice_index_or parts actor Idle ≡ Idle
 idle_at [] actor idle = refl

@@ -147,7 +147,7 @@ does_number (lines.Commit a name) (replies.Committed b sequence) m n is =
     ap (λ (x : Machine). x.stored.last) is.1.others ∙ ap (λ (stored : Stored). suc stored.last) (turns_stored a is.1.turns m is.1.mid is.1.taken)
 does_number (lines.Abort a) (replies.Aborted b) m n is = ap (λ (x : Machine). x.stored.last) is.1.1
 does_number (lines.Read a name) (replies.Reading b count) m n is = ap (λ (x : Machine). x.stored.last) is.1.1.1.2
-does_number (lines.Next a) (replies.Bytes b bytes) m n is = ap (λ (x : Machine). x.stored.last) is.1.1.1
+does_number (lines.Next a) (replies.Bytes b bytes) m n is = ap (λ (x : Machine). x.stored.last) is.1.1.1.1
 does_number (lines.Next a) (replies.End b) m n is = ap (λ (x : Machine). x.stored.last) is.2
 does_number (lines.Drop a) (replies.Dropped b) m n is = ap (λ (x : Machine). x.stored.last) is.1.1
 does_number (lines.Delete name) (replies.Deleted sequence) m n is = ap (λ (x : Machine). x.stored.last) is.others

@@ -49,7 +49,7 @@ part_kind : (c : CoreState) (p : Part) (s : Option SessionState) (x : core_part.
 part_kind c Idle None core_parts.Idle is = refl
 part_kind c (Writing given answers) (Some s) (core_parts.Writing pins) is = ap (λ (b : Bool). kind_by (Some b) kinds.Writing) is.ended_is
 part_kind c (Finished file answers) (Some s) (core_parts.Writing pins) is = ap (λ (b : Bool). kind_by (Some b) kinds.Writing) is.ended_is
-part_kind c (Reading rest) None (core_parts.Reading reader) is = refl
+part_kind c (Reading file rest) None (core_parts.Reading reader) is = refl
 part_kind c p s x is = absurd is
 
 -- the runner's kind of an actor is the machine's

@@ -72,7 +72,7 @@ core_writes : (a : ℕ) (c : CoreState) (p : Part) (s : Option SessionState) (x 
 core_writes a c (Writing given told) (Some s) (core_parts.Writing pins) taken is = refl
 core_writes a c (Finished file told) (Some s) (core_parts.Writing pins) taken is = refl
 core_writes a c Idle s x taken is = absurd cc
-core_writes a c (Reading rest) s x taken is = absurd cc
+core_writes a c (Reading file rest) s x taken is = absurd cc
 core_writes a c p s x taken is = absurd is
 
 no_wrong : (taken : PartKind) (part : core_part.Part) (refusal : Refusal) → core_kinds.kind_of part ≡ taken → IsWrongPart taken part refusal → ⊥

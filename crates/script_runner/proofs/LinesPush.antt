@@ -44,7 +44,7 @@ use Rattle.script_runner.proofs.TurnsMade.{TurnsMade, follows_mine, turns_made}
 
 unended : (part : Part) (w : Writer) → IsWriter part w → w.ended ≡ false → part ≡ Writing w.given w.answers
 unended Idle w is on = absurd is
-unended (Reading rest) w is on = absurd is
+unended (Reading file rest) w is on = absurd is
 unended (Finished file told) w is on = absurd (let both = sym (ap (λ (x : Writer). x.ended) is) ∙ on in cc)
 unended (Writing given told) w is on = sym (ap (λ (x : Writer). Writing x.given x.answers) is)
 
@@ -52,7 +52,7 @@ push_taken : (a : ℕ) (digits : List ℕ) (part : Part) (w : Writer) → takes 
 push_taken a digits (Writing given told) w taken is = ap (λ (x : Writer). x.ended) is
 push_taken a digits (Finished file told) w taken is = absurd cc
 push_taken a digits Idle w taken is = absurd is
-push_taken a digits (Reading rest) w taken is = absurd is
+push_taken a digits (Reading file rest) w taken is = absurd is
 
 -- of a file that goes on a push is refused where it would be too long
 pub why_long : (s : SessionState) (n : ℕ) (refusal : Refusal) (ended : Bool) → s.ended ≡ false → s.ended ≡ ended → IsPushAnswer s n (Err refusal) → (refusal ≡ refusals.TooLong) × (MOST_FILE < s.count + n)

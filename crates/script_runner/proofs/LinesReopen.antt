@@ -12,9 +12,9 @@ use Rattle.dd_disk.proofs.Shows.{shown_content}
 use Rattle.disk_format.specs.declared.numbers.TheConstants.{LAST_ID}
 use Rattle.container_meta.specs.Places.{PlaceMap}
 use Rattle.container_meta.specs.Segments.{KindSegment}
-use Rattle.merkle_file.specs.declared.top.Top.{Top}
 use Rattle.actor_parts.specs.declared.actor.TheConstants.{ACTORS}
 use Rattle.actor_parts.specs.declared.part.Part as core_part
+use Rattle.actor_parts.specs.declared.part.Reader.{Reader}
 use Rattle.actor_parts.specs.declared.part.Part.TheVariants as core_parts
 use Rattle.actor_parts.specs.declared.step.Answer.TheVariants as answers
 use Rattle.actor_parts.specs.Parts.{part_of}
@@ -142,10 +142,13 @@ module _ (old new : CoreState) (reads : OnlyReads old.disk new.disk) (tables_are
         record { known = (was.known.0, reads.content_is ∙ was.known.1); each = λ image there. was.each image (reads.images_are image there) };
   }
 
-  pub still_takes : (rest : List (List ℕ)) (ahead : List Top) → Takes rest ahead old → Takes rest ahead new
-  still_takes rest ahead takes = record {
+  pub still_takes : (file : List ℕ) (rest : List (List ℕ)) (reader : Reader) → Takes file rest reader old → Takes file rest reader new
+  still_takes file rest reader takes = record {
+    fits = takes.fits;
+    root_is = takes.root_is;
     counts = takes.counts;
     indexed = λ index is. takes.indexed index (sym index_is ∙ is);
+    whole = λ store image is told. takes.whole store image (as_before store is) (sym reads.content_is ∙ told);
     segments = λ store image is told. takes.segments store image (as_before store is) (sym reads.content_is ∙ told);
   }
 

@@ -2,6 +2,7 @@
 use Rattle.std.proofs.Common.{◌≡◌, ◌<◌, ◌∙◌, ℕ, true, List, [], ◌∷◌, length, take, slice_index_or, slice_set, Option, Some, None, Result, Ok, Err, refl, sym, ap, subst, arith}
 use Rattle.base_model.specs.Fault.{Rose}
 use Rattle.dd_disk.specs.View.{DiskView}
+use Rattle.disk_format.specs.Cells.{Root}
 use Rattle.disk_format.specs.declared.why.Why.{Why}
 use Rattle.container_meta.specs.Places.{PlaceMap}
 use Rattle.merkle_file.specs.declared.top.Top.{Top}
@@ -21,8 +22,11 @@ use Rattle.read_steps.specs.Readers as readers
 use Rattle.read_steps.specs.Readers.{IsReading, reading}
 use Rattle.read_steps.specs.Walking.{IsNextRefusal, SegmentsAhead}
 use Rattle.store_model.specs.Reserve.{key_set, tree_keys}
+use Rattle.store_model.specs.Standing.{IsStoreOf}
 use Rattle.store_model.specs.Trees.{file_tree}
-use Rattle.store_model.proofs.Counted.{contained}
+use Rattle.store_model.proofs.Counted.{contained, in_set}
+use Rattle.store_model.proofs.SameFiles.{FitsFile, files_fit}
+use Rattle.segmenter.specs.Segments.{segments_of}
 use Rattle.script_lines.specs.Grammar as lines
 use Rattle.script_lines.specs.ReplyValue as replies
 use Rattle.script_lines.specs.ReplyValue.{ReplyValue}
@@ -41,7 +45,7 @@ use Rattle.script_runner.specs.Acts.{Acts, ActsOrNot, Admits, DoesStep, RefusesS
 use Rattle.script_runner.specs.Follows.{Follows, FollowsPart, FollowsRunning, Takes}
 use Rattle.script_runner.specs.Sessions.{Sessions, session_of}
 use Rattle.script_runner.proofs.Along.{GoesAlong}
-use Rattle.script_runner.proofs.Coming.{ahead_at, indexed_at, some_segment, takes_at}
+use Rattle.script_runner.proofs.Coming.{ahead_at, indexed_at, some_segment, takes_at, whole_at}
 use Rattle.script_runner.proofs.LinesBarred.{each_part, right_part, taken_or_not}
 use Rattle.script_runner.proofs.LinesGiving.{at_idle}
 use Rattle.script_runner.proofs.Lists.{OneSet, one_set, none_set, set_here, some_within}
@@ -55,28 +59,29 @@ idle_taken : (a : ℕ) (name : List ℕ) (p : Part) → takes (lines.Read a name
 idle_taken a name Idle taken = refl
 idle_taken a name p taken = absurd cc
 
-next_taken : (a : ℕ) (p : Part) → takes (lines.Next a) (kind_of p) ≡ true → (rest : List (List ℕ)) × (p ≡ Reading rest)
-next_taken a (Reading rest) taken = (rest, refl)
+next_taken : (a : ℕ) (p : Part) → takes (lines.Next a) (kind_of p) ≡ true → (file : List ℕ) × ((rest : List (List ℕ)) × (p ≡ Reading file rest))
+next_taken a (Reading file rest) taken = (file, (rest, refl))
 next_taken a p taken = absurd cc
 
-drop_taken : (a : ℕ) (p : Part) → takes (lines.Drop a) (kind_of p) ≡ true → (rest : List (List ℕ)) × (p ≡ Reading rest)
-drop_taken a (Reading rest) taken = (rest, refl)
+drop_taken : (a : ℕ) (p : Part) → takes (lines.Drop a) (kind_of p) ≡ true → (file : List ℕ) × ((rest : List (List ℕ)) × (p ≡ Reading file rest))
+drop_taken a (Reading file rest) taken = (file, (rest, refl))
 drop_taken a p taken = absurd cc
 
 -- what the runner has of an actor that takes a file
-pub record AtReading (rest : List (List ℕ)) (s : Option SessionState) (x : core_part.Part) (c : CoreState) : Type 0 where
+pub record AtReading (file : List ℕ) (rest : List (List ℕ)) (s : Option SessionState) (x : core_part.Part) (c : CoreState) : Type 0 where
   pub reader : Reader
   pub none : s ≡ None
   pub part_is : x ≡ reading reader.root reader.cursor
-  pub takes : Takes rest reader.cursor c
+  pub takes : Takes file rest reader c
 
-at_reading : (c : CoreState) (rest : List (List ℕ)) (s : Option SessionState) (x : core_part.Part) → FollowsPart (Reading rest) s x c → AtReading rest s x c
-at_reading c rest None (core_parts.Reading reader) is = record { reader = reader; none = refl; part_is = refl; takes = is }
-at_reading c rest s x is = absurd is
+at_reading : (c : CoreState) (file : List ℕ) (rest : List (List ℕ)) (s : Option SessionState) (x : core_part.Part) → FollowsPart (Reading file rest) s x c → AtReading file rest s x c
+at_reading c file rest None (core_parts.Reading reader) is = record { reader = reader; none = refl; part_is = refl; takes = is }
+at_reading c file rest s x is = absurd is
 
 -- a segment is to come of it
-reads_first : (p : Part) (rest : List (List ℕ)) → p ≡ Reading rest → (bytes : List ℕ) × ((others : List (List ℕ)) × (rest ≡ bytes ∷ others)) → (bytes : List ℕ) × ((others : List (List ℕ)) × (p ≡ Reading (bytes ∷ others)))
-reads_first p rest is some = (some.0, (some.1.0, is ∙ ap Reading some.1.1))
+reads_first : (p : Part) (file : List ℕ) (rest : List (List ℕ)) → p ≡ Reading file rest → (bytes : List ℕ) × ((others : List (List ℕ)) × (rest ≡ bytes ∷ others))
+    → (file : List ℕ) × ((bytes : List ℕ) × ((others : List (List ℕ)) × (p ≡ Reading file (bytes ∷ others))))
+reads_first p file rest is some = (file, (some.0, (some.1.0, is ∙ ap (Reading file) some.1.1)))
 
 -- a read is refused where a tree is to come
 stuck_some : (known : Option PlaceMap) (breaks : ℕ → Why → List ℕ → Type 0) (old new : DiskView) (rest : List Top) (refusal : Refusal) → IsNextRefusal known breaks old new rest refusal
@@ -141,14 +146,19 @@ module _ (C : Type 0) (state : C → CoreState) (among : ByteSet) (distinct : Ha
         let e : Event = record { actor = a; step = asked.OpenRead name; answer = Ok (answers.Opened count); buf = does.0 } in
         let steps = running_step old new e (run is).runs does.1 in
         let onward = read_on C state among distinct m r.sessions r.core s.core running follows.content_is e does.1 tt tt tt refl refl steps.made.effect steps.stops steps.counted_is in
-        let file = steps.made.row.file running.begins.store m.stored.files m.content at.represents.names_are.names_are (at.stands.each m.content (old.disk.as_read m.content follows.content_is)).holds in
+        let holds : IsStoreOf running.begins.store m.stored.files m.content = (at.stands.each m.content (old.disk.as_read m.content follows.content_is)).holds in
+        let file = steps.made.row.file running.begins.store m.stored.files m.content at.represents.names_are.names_are holds in
         let bytes = file.file.bytes in
+        let keys = tree_keys (file_tree bytes) in
+        let reader : Reader = record { root = file.root; cursor = file.ahead } in
         let finds = found e refl does.1 in
         let other : finds.0 ≡ bytes = let both = sym finds.1.0 ∙ file.file.filed in cc in
-        stepped (lines.Read a name) (replies.Reading b count) a is onward steps.made.effect.disk.faults_are sessions core_idle.0 (Reading _) (reading file.root file.ahead)
+        stepped (lines.Read a name) (replies.Reading b count) a is onward steps.made.effect.disk.faults_are sessions core_idle.0 (Reading bytes (segments_of bytes)) (reading file.root file.ahead)
         (λ below. ap (λ (parts : List core_part.Part). part_of parts a) file.parts_are ∙ apart.same old.parts a (reading file.root file.ahead) (omega (arith, below, running.up.many)))
-        (onward.takes _ file.ahead (takes_at S running.begins.store m.stored old at m.content follows.content_is (key_set (tree_keys (file_tree bytes)))
-        (λ key there. (at.invariant m.content follows.content_is).files_are_indexed key (name, (bytes, (file.file.filed, contained key (tree_keys (file_tree bytes)) there)))) _ file.ahead file.file.segments_ahead))
+        (onward.takes bytes (segments_of bytes) reader (takes_at S running.begins.store m.stored old at m.content follows.content_is (key_set keys)
+        (λ key there. (at.invariant m.content follows.content_is).files_are_indexed key (name, (bytes, (file.file.filed, contained key keys there)))) bytes (segments_of bytes) reader
+        (subst FitsFile file.file.filed (files_fit running.begins.store m.stored.files m.content holds name)) file.file.root_is
+        (record { tree_is_held = file.file.tree_is_held; count = λ key there. in_set key keys there }) file.file.segments_ahead))
         (same, (idle, (bytes, (file.file.filed, finds.1.1 ∙ ap length other, refl))))
 
     opening : (refusal : Refusal) → RefusesStep a (asked.OpenRead name) refusal (state r.core) (state s.core) → (buf : List ℕ) × Steps (record { actor = a; step = asked.OpenRead name; answer = Err refusal; buf = buf }) (state r.core) (state s.core)
@@ -191,13 +201,13 @@ module _ (C : Type 0) (state : C → CoreState) (among : ByteSet) (distinct : Ha
 
   -- ---- next
 
-  module _ (a : ℕ) (is : m.state ≡ Running) (rest : List (List ℕ)) (reads : part_in m a ≡ Reading rest) (sessions : s.sessions ≡ r.sessions) where
-    core_reads : AtReading rest (session_of r.sessions a) (part_of old.parts a) old
-    core_reads = at_reading old rest (session_of r.sessions a) (part_of old.parts a)
+  module _ (a : ℕ) (is : m.state ≡ Running) (file : List ℕ) (rest : List (List ℕ)) (reads : part_in m a ≡ Reading file rest) (sessions : s.sessions ≡ r.sessions) where
+    core_reads : AtReading file rest (session_of r.sessions a) (part_of old.parts a) old
+    core_reads = at_reading old file rest (session_of r.sessions a) (part_of old.parts a)
         (subst (λ (p : Part). FollowsPart p (session_of r.sessions a) (part_of old.parts a) old) reads (each_part S m r.sessions old follows (run is) a))
 
     below_parts : a < length (state r.core).parts
-    below_parts = omega (arith, some_within a Idle (Reading rest) m.parts reads (λ same. cc), follows.parts_are, (run is).up.many)
+    below_parts = omega (arith, some_within a Idle (Reading file rest) m.parts reads (λ same. cc), follows.parts_are, (run is).up.many)
 
     -- what is answered, by what is held
     held_by : (result : Result (Option ℕ) Refusal) (buf : List ℕ) → GivesHeld result buf a (state r.core) (state s.core)
@@ -208,22 +218,26 @@ module _ (C : Type 0) (state : C → CoreState) (among : ByteSet) (distinct : Ha
         let cursor = core_reads.reader.cursor in
         gives core_reads.reader.root cursor core_reads.takes.counts running.begins.store.held m.content rest core_reads.part_is
         (indexed_at S running.begins.store m.stored old at m.content follows.content_is core_reads.takes.counts (core_reads.takes.indexed at.index at.index_known))
-        (ahead_at S running.begins.store m.stored old at m.content follows.content_is rest cursor core_reads.takes)
+        (ahead_at S running.begins.store m.stored old at m.content follows.content_is file rest core_reads.reader core_reads.takes)
 
     -- what is to come of it
-    taken_here : (ahead : List Top) (rest_now : List (List ℕ)) → Onward (IsIn among) m a (state r.core) (state s.core) → SegmentsAhead core_reads.takes.counts (run is).begins.store.held m.content ahead rest_now → Takes rest_now ahead (state s.core)
-    taken_here ahead rest_now onward is_ahead =
+    taken_here : (root : Root) (was ahead : List Top) (rest_now : List (List ℕ)) → part_of (state r.core).parts a ≡ reading root was → Onward (IsIn among) m a (state r.core) (state s.core)
+        → SegmentsAhead core_reads.takes.counts (run is).begins.store.held m.content ahead rest_now → Takes file rest_now (record { root = root; cursor = ahead }) (state s.core)
+    taken_here root was ahead rest_now part_is onward is_ahead =
         let at = (run is).begins.is_at in
-        onward.takes rest_now ahead
-        (takes_at S (run is).begins.store m.stored old at m.content follows.content_is core_reads.takes.counts (core_reads.takes.indexed at.index at.index_known) rest_now ahead is_ahead)
+        let reader : Reader = record { root = root; cursor = ahead } in
+        let same : root ≡ core_reads.reader.root = (same_reader root core_reads.reader.root was core_reads.reader.cursor (sym part_is ∙ core_reads.part_is)).0 in
+        onward.takes file rest_now reader
+        (takes_at S (run is).begins.store m.stored old at m.content follows.content_is core_reads.takes.counts (core_reads.takes.indexed at.index at.index_known) file rest_now reader core_reads.takes.fits (same ∙ core_reads.takes.root_is)
+        (whole_at S (run is).begins.store m.stored old at m.content follows.content_is file rest core_reads.reader core_reads.takes) is_ahead)
 
     -- it goes on with what it had
     reads_on : (line : lines.LineValue) (reply : ReplyValue) (faults : ℕ) → Onward (IsIn among) m a (state r.core) (state s.core) → (state s.core).disk.faults ≡ faults → (core : core_part.Part)
-        → part_of (state s.core).parts a ≡ core → FollowsPart (Reading rest) None core (state s.core) → StepRunning line reply m (at_parts m m.parts faults) → GoesAlong C state (IsIn among) line reply m r s
+        → part_of (state s.core).parts a ≡ core → FollowsPart (Reading file rest) None core (state s.core) → StepRunning line reply m (at_parts m m.parts faults) → GoesAlong C state (IsIn among) line reply m r s
     reads_on line reply faults onward faults_are core core_is own step =
         line_on C state S line reply m r s a is follows onward m.parts faults faults_are
         (none_set a Idle m.parts) (subst (OneSet a None r.sessions) (sym sessions) (none_set a None r.sessions))
-        (λ below. part_by new (part_in m a) (Reading rest) (session_of s.sessions a) None (part_of new.parts a) core
+        (λ below. part_by new (part_in m a) (Reading file rest) (session_of s.sessions a) None (part_of new.parts a) core
         reads (ap (λ (now : Sessions). session_of now a) sessions ∙ core_reads.none) core_is own) step
 
     -- the next bytes
@@ -237,10 +251,10 @@ module _ (C : Type 0) (state : C → CoreState) (among : ByteSet) (distinct : Ha
         let held = held_by (Ok (Some count)) buf steps.made.row.held in
         let others = held.given.others in
         let core : core_part.Part = reading held.goes_on.root held.rest in
-        stepped (lines.Next a) (replies.Bytes b bytes) a is onward steps.made.effect.disk.faults_are sessions core_reads.none (Reading others) core
+        stepped (lines.Next a) (replies.Bytes b bytes) a is onward steps.made.effect.disk.faults_are sessions core_reads.none (Reading file others) core
         (λ below. ap (λ (parts : List core_part.Part). part_of parts a) held.goes_on.parts_are ∙ apart.same old.parts a core below_parts)
-        (taken_here held.rest others onward held.given.ahead)
-        (same, (others, (reads ∙ ap Reading (held.given.segments_are ∙ ap (λ (x : List ℕ). x ∷ others) (sym bytes_are)), refl)))
+        (taken_here held.goes_on.root core_reads.reader.cursor held.rest others held.goes_on.part_is onward held.given.ahead)
+        (same, (file, (others, (reads ∙ ap (Reading file) (held.given.segments_are ∙ ap (λ (x : List ℕ). x ∷ others) (sym bytes_are)), refl))))
 
     -- the end
     ended : (b : ℕ) (buf : List ℕ) → b ≡ a → CoreStep (state r.core) (record { actor = a; step = asked.ReadNext; answer = Ok answers.End; buf = buf }) (state s.core)
@@ -255,8 +269,8 @@ module _ (C : Type 0) (state : C → CoreState) (among : ByteSet) (distinct : Ha
         let core : core_part.Part = reading row.goes_on.root row.rest in
         reads_on (lines.Next a) (replies.End b) m.faults onward (steps.made.effect.disk.faults_are ∙ follows.faults_are) core
         (ap (λ (parts : List core_part.Part). part_of parts a) row.goes_on.parts_are ∙ apart.same old.parts a core below_parts)
-        (taken_here row.rest rest onward (record { trees = []; held_ahead = record { trees = record { tops = row.given.1; each = tt }; each = tt }; segments_are = held.given }))
-        (same, reads ∙ ap Reading held.given, refl)
+        (taken_here row.goes_on.root row.was row.rest rest row.goes_on.part_is onward (record { trees = []; held_ahead = record { trees = record { tops = row.given.1; each = tt }; each = tt }; segments_are = held.given }))
+        (same, (file, reads ∙ ap (Reading file) held.given), refl)
 
     -- a read that failed
     failed : (buf : List ℕ) → CoreStep (state r.core) (record { actor = a; step = asked.ReadNext; answer = Err refusals.DiskRead; buf = buf }) (state s.core) → Admits (lines.Next a) r.sessions (state r.core)
@@ -275,9 +289,9 @@ module _ (C : Type 0) (state : C → CoreState) (among : ByteSet) (distinct : Ha
         let first = stuck_some old.known old.breaks old.disk new.disk cause.rest refusals.DiskRead cause.refused.cause in
         let same : held.rest ≡ first.0 ∷ first.1.0 = (same_reader held.goes_on.root cause.goes_on.root held.rest cause.rest (sym core_is ∙ stuck_is)).1 ∙ first.1.1 in
         let some = some_segment core_reads.takes.counts running.begins.store.held m.content first.0 first.1.0 rest (subst (λ (tops : List Top). SegmentsAhead core_reads.takes.counts running.begins.store.held m.content tops rest) same held.given) in
-        reads_on (lines.Next a) (replies.Refused refusals.DiskRead) new.disk.faults onward refl core core_is (taken_here held.rest rest onward held.given) (
+        reads_on (lines.Next a) (replies.Refused refusals.DiskRead) new.disk.faults onward refl core core_is (taken_here held.goes_on.root core_reads.reader.cursor held.rest rest held.goes_on.part_is onward held.given) (
           right_part S m r.sessions old follows running (lines.Next a) admits,
-          (reads_first (part_in m a) rest reads some, (subst (λ (faults : ℕ). Rose faults new.disk.faults) follows.faults_are steps.made.effect.disk.faults_are, refl)),
+          (reads_first (part_in m a) file rest reads some, (subst (λ (faults : ℕ). Rose faults new.disk.faults) follows.faults_are steps.made.effect.disk.faults_are, refl)),
         )
 
     -- it is refused for nothing else
@@ -291,13 +305,13 @@ module _ (C : Type 0) (state : C → CoreState) (among : ByteSet) (distinct : Ha
   next_acts : (a : ℕ) (reply : ReplyValue) → m.state ≡ Running → Admits (lines.Next a) r.sessions (state r.core) → Acts C state (lines.Next a) reply r s → GoesAlong C state (IsIn among) (lines.Next a) reply m r s
   next_acts a (replies.Bytes b bytes) is admits acts =
       let takes = next_taken a (part_in m a) (right_part S m r.sessions old follows (run is) (lines.Next a) admits a refl) in
-      given a is takes.0 takes.1 acts.1.1.1.1.1 b acts.1.0 bytes acts.1.1.0 acts.0 acts.1.1.1.0 acts.1.1.1.1.0
+      given a is takes.0 takes.1.0 takes.1.1 acts.1.1.1.1.1 b acts.1.0 bytes acts.1.1.0 acts.0 acts.1.1.1.0 acts.1.1.1.1.0
   next_acts a (replies.End b) is admits acts =
       let takes = next_taken a (part_in m a) (right_part S m r.sessions old follows (run is) (lines.Next a) admits a refl) in
-      ended a is takes.0 takes.1 acts.1.1.1 b acts.1.0 acts.0 acts.1.1.0
+      ended a is takes.0 takes.1.0 takes.1.1 acts.1.1.1 b acts.1.0 acts.0 acts.1.1.0
   next_acts a (replies.Refused refusal) is admits acts =
       let takes = next_taken a (part_in m a) (right_part S m r.sessions old follows (run is) (lines.Next a) admits a refl) in
-      not_given a is takes.0 takes.1 acts.1.1 refusal acts.0 acts.1.0 admits
+      not_given a is takes.0 takes.1.0 takes.1.1 acts.1.1 refusal acts.0 acts.1.0 admits
   next_acts a reply is admits acts = absurd acts
 
   pub next_line : (a : ℕ) (reply : ReplyValue) → ActsOrNot C state (lines.Next a) reply r s → GoesAlong C state (IsIn among) (lines.Next a) reply m r s
@@ -305,33 +319,33 @@ module _ (C : Type 0) (state : C → CoreState) (among : ByteSet) (distinct : Ha
 
   -- ---- drop
 
-  module _ (a : ℕ) (is : m.state ≡ Running) (rest : List (List ℕ)) (reads : part_in m a ≡ Reading rest) (sessions : s.sessions ≡ r.sessions) where
+  module _ (a : ℕ) (is : m.state ≡ Running) (file : List ℕ) (rest : List (List ℕ)) (reads : part_in m a ≡ Reading file rest) (sessions : s.sessions ≡ r.sessions) where
     dropped : (b : ℕ) (answer : Answer) → b ≡ a → DoesStep a asked.EndRead answer (state r.core) (state s.core) → GoesAlong C state (IsIn among) (lines.Drop a) (replies.Dropped b) m r s
     dropped b answers.Dropped same does =
         let running = run is in
         let e : Event = record { actor = a; step = asked.EndRead; answer = Ok answers.Dropped; buf = does.0 } in
         let steps = running_step old new e (run is).runs does.1 in
         let onward = read_on C state among distinct m r.sessions r.core s.core running follows.content_is e does.1 tt tt tt refl refl steps.made.effect steps.stops steps.counted_is in
-        stepped (lines.Drop a) (replies.Dropped b) a is onward steps.made.effect.disk.faults_are sessions (core_reads a is rest reads sessions).none Idle core_parts.Idle
+        stepped (lines.Drop a) (replies.Dropped b) a is onward steps.made.effect.disk.faults_are sessions (core_reads a is file rest reads sessions).none Idle core_parts.Idle
         (λ below. ap (λ (parts : List core_part.Part). part_of parts a) steps.made.row.parts_are ∙ apart.same old.parts a core_parts.Idle (omega (arith, below, running.up.many))) tt
-        (same, ((rest, reads), refl))
+        (same, ((file, (rest, reads)), refl))
     dropped b answer same does =
         absurd (running_step old new (record { actor = a; step = asked.EndRead; answer = Ok answer; buf = does.0 }) (run is).runs does.1).made.row
 
     not_dropped : (refusal : Refusal) → RefusesStep a asked.EndRead refusal (state r.core) (state s.core) → GoesAlong C state (IsIn among) (lines.Drop a) (replies.Refused refusal) m r s
     not_dropped (refusals.WrongPart kind) refuses =
         let row = (running_step old new (record { actor = a; step = asked.EndRead; answer = Err (refusals.WrongPart kind); buf = refuses.0 }) (run is).runs refuses.1).made.row in
-        absurd (row.differs (subst IsReading (sym (core_reads a is rest reads sessions).part_is) tt))
+        absurd (row.differs (subst IsReading (sym (core_reads a is file rest reads sessions).part_is) tt))
     not_dropped refusal refuses =
         absurd (running_step old new (record { actor = a; step = asked.EndRead; answer = Err refusal; buf = refuses.0 }) (run is).runs refuses.1).made.row
 
   drop_acts : (a : ℕ) (reply : ReplyValue) → m.state ≡ Running → Admits (lines.Drop a) r.sessions (state r.core) → Acts C state (lines.Drop a) reply r s → GoesAlong C state (IsIn among) (lines.Drop a) reply m r s
   drop_acts a (replies.Dropped b) is admits acts =
       let takes = drop_taken a (part_in m a) (right_part S m r.sessions old follows (run is) (lines.Drop a) admits a refl) in
-      dropped a is takes.0 takes.1 acts.1.1 b acts.1.0.0 acts.0 acts.1.0.1
+      dropped a is takes.0 takes.1.0 takes.1.1 acts.1.1 b acts.1.0.0 acts.0 acts.1.0.1
   drop_acts a (replies.Refused refusal) is admits acts =
       let takes = drop_taken a (part_in m a) (right_part S m r.sessions old follows (run is) (lines.Drop a) admits a refl) in
-      not_dropped a is takes.0 takes.1 acts.1 refusal acts.0
+      not_dropped a is takes.0 takes.1.0 takes.1.1 acts.1 refusal acts.0
   drop_acts a reply is admits acts = absurd acts
 
   pub drop_line : (a : ℕ) (reply : ReplyValue) → ActsOrNot C state (lines.Drop a) reply r s → GoesAlong C state (IsIn among) (lines.Drop a) reply m r s

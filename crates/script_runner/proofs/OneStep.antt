@@ -5,9 +5,9 @@ use Rattle.std.specs.List.{AllByRecursion}
 use Rattle.dd_disk.specs.View.{CrashLeaves}
 use Rattle.dd_disk.proofs.Later.{leaves_weaker}
 use Rattle.container_meta.specs.Segments.{KindSegment}
-use Rattle.merkle_file.specs.declared.top.Top.{Top}
 use Rattle.actor_parts.specs.declared.actor.TheConstants.{ACTORS}
 use Rattle.actor_parts.specs.declared.part.Part as core_part
+use Rattle.actor_parts.specs.declared.part.Reader.{Reader}
 use Rattle.actor_parts.specs.declared.step.Answer.{Answer}
 use Rattle.actor_parts.specs.Parts.{part_of}
 use Rattle.actor_parts.specs.StepValue as asked
@@ -56,7 +56,7 @@ pub record Stepped (S : List ℕ → Type 0) (m : Machine) (sessions : Sessions)
       → FollowsPart (part_in m actor) (session_of sessions actor) (part_of new.parts actor) new)
   pub held : (seg : KindSegment) → IsHeldIn seg old → IsHeldIn seg new
   pub kept : AllByRecursion (λ seg. IsHeldIn seg new) (kept_by f.event.step f.event.answer)
-  pub takes : (rest : List (List ℕ)) (ahead : List Top) → Takes rest ahead old → Takes rest ahead new
+  pub takes : (file : List ℕ) (rest : List (List ℕ)) (reader : Reader) → Takes file rest reader old → Takes file rest reader new
   pub counted : new.acknowledged ≡ core_step.counted f.event.answer old.acknowledged
   pub leaves : CrashLeaves (λ image. OpensAs S m.stored image ⊎ OpensAs S (stored_by f m.stored) image) old.disk new.disk
   pub last_is : new.tables.journal.last ≡ (stored_by f m.stored).last
@@ -144,7 +144,7 @@ module _ (C : Type 0) (state : C → CoreState) (among : ByteSet) (apart : HasNo
     kept = subst (AllByRecursion (λ seg. IsHeldIn seg (state new))) (append-nil (kept_by f.event.step f.event.answer))
         (keeps_segments C state among (f ∷ []) store m.stored old new apart running.begins.is_at running.begins.settled run (no_gc, tt) stays)
 
-    takes : (rest : List (List ℕ)) (ahead : List Top) → Takes rest ahead (state old) → Takes rest ahead (state new)
+    takes : (file : List ℕ) (rest : List (List ℕ)) (reader : Reader) → Takes file rest reader (state old) → Takes file rest reader (state new)
     takes = takes_on S store changes_are m.stored (stored_by f m.stored) (state old) (state new) running.begins.is_at next
 
     other : (actor : ℕ) → actor ≢ f.event.actor → part_of (state new).parts actor ≡ part_of (state old).parts actor

@@ -5,9 +5,9 @@ use Rattle.std.proofs.lemmas.Bool.{cases_eq}
 use Rattle.dd_disk.specs.View.{CrashLeaves}
 use Rattle.dd_disk.proofs.Later.{leaves_weaker, reads_here, reads_leave}
 use Rattle.container_meta.specs.Segments.{KindSegment}
-use Rattle.merkle_file.specs.declared.top.Top.{Top}
 use Rattle.actor_parts.specs.declared.actor.TheConstants.{ACTORS}
 use Rattle.actor_parts.specs.declared.part.Part as core_part
+use Rattle.actor_parts.specs.declared.part.Reader.{Reader}
 use Rattle.actor_parts.specs.Parts.{part_of}
 use Rattle.ingest_session.specs.State.{SessionState}
 use Rattle.script_lines.specs.Grammar.{LineValue}
@@ -32,7 +32,7 @@ pub record Onward (S : List ℕ → Type 0) (m : Machine) (actor : ℕ) (old new
   pub up : IsUp new
   pub begins : FollowsStoreOf S m new
   pub held : (seg : KindSegment) → IsHeldIn seg old → IsHeldIn seg new
-  pub takes : (rest : List (List ℕ)) (ahead : List Top) → Takes rest ahead old → Takes rest ahead new
+  pub takes : (file : List ℕ) (rest : List (List ℕ)) (reader : Reader) → Takes file rest reader old → Takes file rest reader new
   pub others : (other : ℕ) → other ≢ actor → other < ACTORS → part_of new.parts other ≡ part_of old.parts other
   pub content_is : new.disk.content ≡ old.disk.content
   pub counted : new.acknowledged ≡ old.acknowledged
@@ -48,7 +48,7 @@ stays S m sessions actor c running = record {
   up = running.up;
   begins = running.begins;
   held = λ seg is. is;
-  takes = λ rest ahead is. is;
+  takes = λ file rest reader is. is;
   others = λ other differs below. refl;
   content_is = refl;
   counted = refl;

@@ -32,7 +32,7 @@ pub record IsGiving (part : Part) (s : SessionState) (core : core_part.Part) (c 
 
 pub giving_of : (part : Part) (s : SessionState) (core : core_part.Part) (c : CoreState) → FollowsPart part (Some s) core c → IsGiving part s core c
 giving_of Idle s core c follows = absurd follows
-giving_of (Reading rest) s core c follows = absurd follows
+giving_of (Reading file rest) s core c follows = absurd follows
 giving_of (Writing given answers) s core_parts.Idle c follows = absurd follows
 giving_of (Writing given answers) s (core_parts.Reading reader) c follows = absurd follows
 giving_of (Writing given answers) s (core_parts.Writing pins) c follows =
@@ -83,7 +83,7 @@ gives_paused m actor s t c follows paused =
 -- and the other way round
 pub follows_giving : (part : Part) (s : SessionState) (pins : PinMap) (c : CoreState) (w : Writer) → IsWriter part w → Gives w.given w.ended w.answers s pins c → FollowsPart part (Some s) (core_parts.Writing pins) c
 follows_giving Idle s pins c w is gives = absurd is
-follows_giving (Reading rest) s pins c w is gives = absurd is
+follows_giving (Reading file rest) s pins c w is gives = absurd is
 follows_giving (Writing given answers) s pins c w is gives = subst (λ (x : Writer). Gives x.given x.ended x.answers s pins c) is gives
 follows_giving (Finished file answers) s pins c w is gives = subst (λ (x : Writer). Gives x.given x.ended x.answers s pins c) is gives
 
@@ -94,14 +94,14 @@ with_answer w answer = record w { answers = w.answers ++ answer ∷ [] }
 
 pub told_writer : (part : Part) (w : Writer) (answer : Answer) → IsWriter part w → IsWriter (told part answer) (with_answer w answer)
 told_writer Idle w answer is = absurd is
-told_writer (Reading rest) w answer is = absurd is
+told_writer (Reading file rest) w answer is = absurd is
 told_writer (Writing given answers) w answer is = ap (λ (x : Writer). with_answer x answer) is
 told_writer (Finished file answers) w answer is = ap (λ (x : Writer). with_answer x answer) is
 
 -- so it was before, but for its answers
 pub was_writer : (part : Part) (v : Writer) (answer : Answer) → IsWriter (told part answer) v → (w : Writer) × IsWriter part w × (v.given ≡ w.given) × (v.ended ≡ w.ended)
 was_writer Idle v answer is = absurd is
-was_writer (Reading rest) v answer is = absurd is
+was_writer (Reading file rest) v answer is = absurd is
 was_writer (Writing given answers) v answer is = (record { given = given; ended = false; answers = answers }, refl, ap (λ (x : Writer). x.given) is, ap (λ (x : Writer). x.ended) is)
 was_writer (Finished file answers) v answer is = (record { given = file; ended = true; answers = answers }, refl, ap (λ (x : Writer). x.given) is, ap (λ (x : Writer). x.ended) is)
 

@@ -91,7 +91,7 @@ pub record IsWhole (m : Machine) (actor : ℕ) (s : SessionState) (c : CoreState
 -- an actor that gave all of its file
 finished : (part : Part) (w : Writer) → IsWriter part w → w.ended ≡ true → part ≡ Finished w.given w.answers
 finished Idle w is ended = absurd is
-finished (Reading rest) w is ended = absurd is
+finished (Reading file rest) w is ended = absurd is
 finished (Writing given answers) w is ended = absurd (let both = sym (ap (λ (x : Writer). x.ended) is) ∙ ended in cc)
 finished (Finished file answers) w is ended = sym (ap (λ (x : Writer). Finished x.given x.answers) is)
 
@@ -146,7 +146,7 @@ module _ (S : List ℕ → Type 0) (m : Machine) (sessions : Sessions) (actor : 
   stored_by : (part : Part) → part_in m actor ≡ part → IsStored part m.content
   stored_by Idle is = tt
   stored_by (Writing given answers) is = tt
-  stored_by (Reading rest) is = tt
+  stored_by (Reading file rest) is = tt
   stored_by (Finished file answers) is =
       let whole = whole_held (gives.at.ended_is ∙ ap (λ (w : Writer). w.ended) (subst (λ (p : Part). IsWriter p gives.w) is gives.at.is_writer)) in
       subst (HoldsFile m.content) (same_file whole.file file whole.answers answers (sym whole.part_is ∙ is)) whole.holds

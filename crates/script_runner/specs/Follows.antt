@@ -4,17 +4,17 @@ use Rattle.std.specs.FinMap as finite
 use Rattle.std.specs.Str.{bytes_eq}
 use Rattle.base_model.specs.Bytes.{key_of}
 use Rattle.dd_disk.specs.View.{CrashLeaves}
-use Rattle.disk_format.specs.declared.numbers.TheConstants.{LAST_ID}
+use Rattle.disk_format.specs.declared.numbers.TheConstants.{LAST_ID, MOST_FILE}
 use Rattle.container_meta.specs.declared.kind.Kind.{Kind}
 use Rattle.container_meta.specs.declared.entry.Entry.{Entry}
 use Rattle.container_meta.specs.Format.{kind_byte}
 use Rattle.container_meta.specs.Places.{PlaceMap}
 use Rattle.container_meta.specs.Segments.{Contents, Segment, has_key, segment_key}
 use Rattle.container_meta.specs.Spelling.{HeaderValue}
-use Rattle.merkle_file.specs.declared.top.Top.{Top}
 use Rattle.actor_parts.specs.declared.actor.TheConstants.{ACTORS}
 use Rattle.actor_parts.specs.declared.part.Part.TheVariants as core_parts
 use Rattle.actor_parts.specs.declared.part.Part as core_part
+use Rattle.actor_parts.specs.declared.part.Reader.{Reader}
 use Rattle.actor_parts.specs.declared.step.Answer.{Answer}
 use Rattle.actor_parts.specs.PinMap.{PinMap}
 use Rattle.actor_parts.specs.Parts as core_parts_of
@@ -40,9 +40,10 @@ use Rattle.store_model.specs.Collisions.{HasNoCollisions, ByteSet, IsIn, OpensAs
 use Rattle.store_model.specs.Files.{Files, Stored}
 use Rattle.segment_index.specs.Places.{KnownMap}
 use Rattle.store_model.specs.Image.{Store}
-use Rattle.store_model.specs.Reserve.{IsReachable}
+use Rattle.store_model.specs.Reserve.{HoldsCounted, IsReachable}
 use Rattle.store_model.specs.Slots.{HasKey}
 use Rattle.store_model.specs.Standing.{IsSegmentOf}
+use Rattle.store_model.specs.Trees.{file_tree, root_of}
 use Rattle.store_state.specs.Settled.{IsSettled}
 use Rattle.store_state.specs.Tables.{Represents}
 use Rattle.store_core.specs.declared.stop.Stop.{Stop}
@@ -75,18 +76,23 @@ pub record Gives (given : List ℕ) (ended : Bool) (answers_are : List Answer) (
   pub kept : (kind : Kind) (x : Segment) → IsKept history kind x → IsHeldIn (record { kind = kind; segment = x }) c
   pub pinned : (kind : Kind) (x : Segment) → IsKept history kind x → HasPinOf history pins (segment_key kind x)
 
--- A file is taken: these are the segments of what is to come, by the copies that the store has, and the index has their keys.
-pub record Takes (rest : List (List ℕ)) (ahead : List Top) (c : CoreState) : Type 0 where
+-- A file is taken: its root is that of the reader; its tree is held, and these are the segments of what is to come, by the copies that the
+-- store has; and the index has their keys.
+pub record Takes (file : List ℕ) (rest : List (List ℕ)) (reader : Reader) (c : CoreState) : Type 0 where
+  pub fits : length file ≤ MOST_FILE
+  pub root_is : reader.root ≡ root_of file
   pub counts : ByteSet
   pub indexed : KnownMap c.known (λ index. (key : List ℕ) → IsIn counts key → HasKey index key)
+  pub whole : (store : Store) (image : List ℕ) → Represents store c.known c.tables → c.disk.content ≡ Some image
+      → HoldsCounted (IsIn counts) store.held image (file_tree file)
   pub segments : (store : Store) (image : List ℕ) → Represents store c.known c.tables → c.disk.content ≡ Some image
-      → SegmentsAhead counts store.held image ahead rest
+      → SegmentsAhead counts store.held image reader.cursor rest
 
 abbrev pub FollowsPart : Part → Option SessionState → core_part.Part → CoreState → Type 0
 FollowsPart Idle None core_parts.Idle c = Unit {0}
 FollowsPart (Writing given answers_are) (Some s) (core_parts.Writing pins) c = Gives given false answers_are s pins c
 FollowsPart (Finished file answers_are) (Some s) (core_parts.Writing pins) c = Gives file true answers_are s pins c
-FollowsPart (Reading rest) None (core_parts.Reading reader) c = Takes rest reader.cursor c
+FollowsPart (Reading file rest) None (core_parts.Reading reader) c = Takes file rest reader c
 FollowsPart part session core c = ⊥
 
 -- ---- the store, and its collection

@@ -179,6 +179,7 @@ module _ (S : List ℕ → Type 0) (s : Store) (stored : Stored) (old new : Core
           let pinned = gives.pinned kind x kept in
           needed_held (record { kind = kind; segment = x }) (pin_needed pins (segment_key kind x) (pin_by pinned.0 pinned.1) is pinned.4) (gives.kept kind x kept);
       pinned = gives.pinned;
+      only = gives.only;
     }
 
     -- ---- a file that is taken

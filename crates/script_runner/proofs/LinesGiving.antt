@@ -41,6 +41,7 @@ use Rattle.script_runner.proofs.Lists.{OneSet, one_set, set_here}
 use Rattle.script_runner.proofs.OneRead.{read_on}
 use Rattle.script_runner.proofs.Onward.{Onward, by_running, line_on, part_by, stays}
 use Rattle.script_runner.proofs.PartsOn.{part_on}
+use Rattle.script_runner.proofs.TurnPins.{none_pinned}
 
 -- ---- what a line that is taken finds
 
@@ -137,6 +138,7 @@ module _ (C : Type 0) (state : C → CoreState) (among : ByteSet) (distinct : Ha
         ended_is = ongoing;
         kept = λ kind x kept. absurd (none_kept kind x kept);
         pinned = λ kind x kept. absurd (none_kept kind x kept);
+        only = λ key pin found. absurd (none_pinned finite.empty refl key pin found);
       }))
       (same, idle_taken a (part_in m a) (right_part S m r.sessions old follows running (lines.Begin a) admits a refl), refl)
   begun a b answer t is admits same does ongoing has sessions =
@@ -195,6 +197,7 @@ module _ (C : Type 0) (state : C → CoreState) (among : ByteSet) (distinct : Ha
         ended_is = ends.3.ended;
         kept = gives.kept;
         pinned = gives.pinned;
+        only = gives.only;
       }))) (
         same,
         record {

@@ -146,6 +146,7 @@ module _ (C : Type 0) (state : C → CoreState) (among : ByteSet) (distinct : Ha
             ended_is = ongoing;
             kept = mine.gives.kept;
             pinned = mine.gives.pinned;
+            only = mine.gives.only;
           }
 
           pushed_follows : Follows S (put_at made.next a part) (with_session now a (Some t)) (state s.core)

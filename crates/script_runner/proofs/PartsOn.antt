@@ -57,6 +57,7 @@ module _ (old new : CoreState) (held : (seg : KindSegment) → IsHeldIn seg old 
     ended_is = gives.ended_is;
     kept = λ kind x is. held (record { kind = kind; segment = x }) (gives.kept kind x is);
     pinned = gives.pinned;
+    only = gives.only;
   }
 
   -- whatever it is at

@@ -9,6 +9,7 @@ use Rattle.container_meta.specs.Spelling.{HeaderValue, header_of}
 use Rattle.actor_parts.specs.declared.actor.TheConstants.{ACTORS}
 use Rattle.actor_parts.specs.declared.part.Part.TheVariants as core_parts
 use Rattle.actor_parts.specs.declared.part.Part as core_part
+use Rattle.actor_parts.specs.declared.pins.Pin.{Pin}
 use Rattle.actor_parts.specs.declared.step.Answer.{Answer}
 use Rattle.actor_parts.specs.declared.step.Answer.TheVariants as answers
 use Rattle.actor_parts.specs.Parts.{part_of, with_part}
@@ -41,7 +42,7 @@ use Rattle.ingest_session.proofs.Members.{IsIn, all_of, one_of}
 use Rattle.plain_machine.specs.Content.{AddsContainer, Holds, SameBut}
 use Rattle.plain_machine.specs.Machine.{Machine, Part, disturbed, part_in, put_at}
 use Rattle.plain_machine.specs.Turns.{LacksIn, Writer, MachineTurn, MayBe, Shows, last_by, told}
-use Rattle.script_runner.specs.Follows.{FollowsPart, Gives, HasPinOf}
+use Rattle.script_runner.specs.Follows.{FollowsPart, Gives, HasKeptKey, HasPinOf}
 use Rattle.script_runner.specs.Sessions.{Sessions, with_session}
 use Rattle.session_turns.specs.Turns.{Asks}
 use Rattle.script_runner.proofs.OneStep.{Stepped}
@@ -53,7 +54,7 @@ use Rattle.script_runner.proofs.TurnHolds.{HasLevel, held_here, piece_level, rig
 use Rattle.script_runner.proofs.TurnKept.{held_kept, item_in, item_is, kept_absent, kept_held, kept_sealed, kept_still, of_kind, one_item, sealed_kept}
 use Rattle.script_runner.proofs.TurnLeaves.{KeepsStored, keeps_step}
 use Rattle.script_runner.proofs.TurnParts.{GivesAt, follows_giving, told_writer, with_answer}
-use Rattle.script_runner.proofs.TurnPins.{last_pin, next_pin, pin_still, pins_more, pins_still, same_pins}
+use Rattle.script_runner.proofs.TurnPins.{key_still, last_pin, next_pin, pin_added, pin_still, pins_added, pins_more, pins_still, same_pins}
 use Rattle.script_runner.proofs.TurnRunning.{RunsAt, runs_on}
 
 -- ---- lists
@@ -118,10 +119,10 @@ module _ (S : List ℕ → Type 0) (m : Machine) (sessions : Sessions) (actor : 
     abbrev g : History
     g = answered answer s h
 
-    -- it gives the same file, and what is kept more is held and pinned
+    -- it gives the same file; what is kept more is held and pinned, and nothing else is pinned
     gives_on : (more : PinMap) → ((kind : Kind) (x : Segment) → IsKept g kind x → IsHeldIn (of_kind kind x) new) → ((kind : Kind) (x : Segment) → IsKept g kind x → HasPinOf g more (segment_key kind x))
-        → Gives w.given w.ended (w.answers ++ answer ∷ []) t more new
-    gives_on more kept pinned = record {
+        → ((key : List ℕ) (pin : Pin) → finite.get more key ≡ Some pin → HasKeptKey g key) → Gives w.given w.ended (w.answers ++ answer ∷ []) t more new
+    gives_on more kept pinned only = record {
       history = g;
       has = history;
       given_is = gives.given_is;
@@ -129,6 +130,7 @@ module _ (S : List ℕ → Type 0) (m : Machine) (sessions : Sessions) (actor : 
       ended_is = ap (λ (u : SessionState). u.ended) told_is ∙ (stays.told answer s).ended ∙ gives.ended_is;
       kept = kept;
       pinned = pinned;
+      only = only;
     }
 
     -- so it was a turn
@@ -202,6 +204,12 @@ module _ (S : List ℕ → Type 0) (m : Machine) (sessions : Sessions) (actor : 
             (ap (λ (k : Kind). segment_key k (item_of s.node s.queue)) (sym item.0) ∙ ap (segment_key kind) (sym item.1))
       ]
 
+      one_only : (key : List ℕ) (pin : Pin) → finite.get held_more key ≡ Some pin → HasKeptKey held_now key
+      one_only key pin found = elim (pin_added pins (segment_key (item_kind s.node) (item_of s.node s.queue)) (pin_by (item_kind s.node) (item_of s.node s.queue)) key pin found) [
+        | inl same ↦ (item_kind s.node, item_of s.node s.queue, item_kept, same)
+        | inr was ↦ key_still h held_now key (λ k y. kept_still s h k y answers.Held) (gives.only key pin was)
+      ]
+
       pub turn_held : Turned S m sessions actor answers.Held t old new
       turn_held =
           let made = running_step old new (event (asked.Claim seg) answers.Held buf).event at.running.runs step in
@@ -216,7 +224,7 @@ module _ (S : List ℕ → Type 0) (m : Machine) (sessions : Sessions) (actor : 
           (part_now (core_parts.Writing (finite.insert claimed.may.pins (key_of_seg seg) (pin_of seg))) claimed.parts_are
           ∙ ap (λ (p : PinMap). core_parts.Writing (finite.insert p (key_of_seg seg) (pin_of seg))) pins_are
           ∙ ap (λ (y : KindSegment). core_parts.Writing (finite.insert pins (key_of_seg y) (pin_of y))) seg_is)
-          (gives_on answers.Held t told_is history held_more one_kept one_pinned)
+          (gives_on answers.Held t told_is history held_more one_kept one_pinned one_only)
 
     module _ (t : SessionState) (told_is : t ≡ told_by answers.Absent s) (history : HasHistory t (answered answers.Absent s h)) (leads : Leads (asked.Claim seg) answers.Absent buf)
         (step : CoreStep old (event (asked.Claim seg) answers.Absent buf).event new) where
@@ -234,7 +242,8 @@ module _ (S : List ℕ → Type 0) (m : Machine) (sessions : Sessions) (actor : 
           (ap (λ (parts : List core_part.Part). part_of parts actor) claimed.parts_are ∙ gives.writing)
           (gives_on answers.Absent t told_is history pins
           (λ kind x is. leads.held (of_kind kind x) (gives.kept kind x (kept_absent s h kind x is)))
-          (λ kind x is. pin_still h (answered answers.Absent s h) pins (segment_key kind x) (λ k y. kept_still s h k y answers.Absent) (gives.pinned kind x (kept_absent s h kind x is))))
+          (λ kind x is. pin_still h (answered answers.Absent s h) pins (segment_key kind x) (λ k y. kept_still s h k y answers.Absent) (gives.pinned kind x (kept_absent s h kind x is)))
+          (λ key pin found. key_still h (answered answers.Absent s h) key (λ k y. kept_still s h k y answers.Absent) (gives.only key pin found)))
 
   -- ---- a seal
 
@@ -271,6 +280,12 @@ module _ (S : List ℕ → Type 0) (m : Machine) (sessions : Sessions) (actor : 
           pins_still sealed_now mine xs pins (segment_key kind x) open_kept
           (pin_still h sealed_now pins (segment_key kind x) (λ k y. kept_still s h k y (answers.Sealed id)) (gives.pinned kind x was))
       | inr now ↦ subst (λ (k : Kind). HasPinOf sealed_now sealed_more (segment_key k x)) (sym now.0) (pins_more sealed_now mine xs pins open_kept x now.1)
+    ]
+
+    all_only : (key : List ℕ) (pin : Pin) → finite.get sealed_more key ≡ Some pin → HasKeptKey sealed_now key
+    all_only key pin found = elim (pins_added mine xs pins key pin found) [
+      | inl now ↦ (mine, now.0, open_kept now.0 now.1, now.2)
+      | inr was ↦ key_still h sealed_now key (λ k y. kept_still s h k y (answers.Sealed id)) (gives.only key pin was)
     ]
 
     open_level : (x : Segment) → IsIn x xs → HasLevel (of_kind mine x)
@@ -313,7 +328,7 @@ module _ (S : List ℕ → Type 0) (m : Machine) (sessions : Sessions) (actor : 
         (part_now (core_parts.Writing (with_pins (open_of s mine).kind xs row.may.pins)) row.parts_are
         ∙ ap (λ (p : PinMap). core_parts.Writing (with_pins (open_of s mine).kind xs p)) pins_are
         ∙ ap (λ (k : Kind). core_parts.Writing (with_pins k xs pins)) kind_is)
-        (gives_on (answers.Sealed id) t told_is history sealed_more all_kept all_pinned)
+        (gives_on (answers.Sealed id) t told_is history sealed_more all_kept all_pinned all_only)
 
   -- ---- any answer
 

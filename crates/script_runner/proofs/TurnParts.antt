@@ -1,5 +1,6 @@
 -- Actors that give files: what the machine says of them, beside their session and what the core has of them.
-use Rattle.std.proofs.Common.{◌≡◌, ◌∙◌, ◌<◌, ℕ, true, false, [], ◌∷◌, ◌++◌, length, Option, Some, None, refl, ap, subst}
+use Rattle.std.proofs.Common.{◌≡◌, ◌∙◌, ◌<◌, ℕ, true, false, List, [], ◌∷◌, ◌++◌, length, Option, Some, None, refl, ap, subst}
+use Rattle.std.specs.FinMap as finite
 use Rattle.std.specs.Prelude.{◌≢◌}
 use Rattle.container_meta.specs.declared.kind.Kind.{Kind}
 use Rattle.container_meta.specs.Segments.{Segment, segment_key}
@@ -10,13 +11,14 @@ use Rattle.store_core.specs.Keeping.{IsHeldIn}
 use Rattle.std.proofs.lemmas.List.{get_or-set_same, get_or-set_other, length-set}
 use Rattle.actor_parts.specs.declared.part.Part.TheVariants as core_parts
 use Rattle.actor_parts.specs.declared.part.Part as core_part
+use Rattle.actor_parts.specs.declared.pins.Pin.{Pin}
 use Rattle.actor_parts.specs.declared.step.Answer.{Answer}
 use Rattle.actor_parts.specs.PinMap.{PinMap}
 use Rattle.ingest_session.specs.State.{SessionState}
 use Rattle.store_core.specs.State.{CoreState}
 use Rattle.plain_machine.specs.Machine.{Machine, Part, Idle, Writing, Finished, Reading, part_in, put_at}
 use Rattle.plain_machine.specs.Turns.{Writer, IsWriter, told}
-use Rattle.script_runner.specs.Follows.{FollowsPart, Gives, HasPinOf}
+use Rattle.script_runner.specs.Follows.{FollowsPart, Gives, HasKeptKey, HasPinOf}
 use Rattle.script_runner.specs.Sessions.{Sessions, session_of, with_session}
 use Rattle.session_turns.specs.Turns.{IsPaused}
 
@@ -52,6 +54,7 @@ pub record GivesAt (m : Machine) (actor : ℕ) (w : Writer) (s : SessionState) (
   pub writing : part_of c.parts actor ≡ core_parts.Writing pins
   pub kept : (kind : Kind) (x : Segment) → IsKept h kind x → IsHeldIn (record { kind = kind; segment = x }) c
   pub pinned : (kind : Kind) (x : Segment) → IsKept h kind x → HasPinOf h pins (segment_key kind x)
+  pub only : (key : List ℕ) (pin : Pin) → finite.get pins key ≡ Some pin → HasKeptKey h key
 
 pub record Giving (m : Machine) (actor : ℕ) (s : SessionState) (c : CoreState) : Type 0 where
   pub w : Writer
@@ -77,6 +80,7 @@ gives_paused m actor s t c follows paused =
         writing = giving.writing;
         kept = giving.gives.kept;
         pinned = giving.gives.pinned;
+        only = giving.gives.only;
       };
     }
 

@@ -136,6 +136,7 @@ module _ (S : List ℕ → Type 0) (m : Machine) (sessions : Sessions) (actor : 
           ended_is = gives.ended_is;
           kept = λ kind x is. leads.held (of_kind kind x) (gives.kept kind x is);
           pinned = gives.pinned;
+          only = gives.only;
         }))
 
     rested_at : RunsAt S (rested leads.content.0) now new

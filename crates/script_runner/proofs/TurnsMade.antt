@@ -69,7 +69,7 @@ module _ (S : List ℕ → Type 0) (m : Machine) (sessions : Sessions) (actor : 
         let g = giving.at in
         subst (λ (core : core_part.Part). FollowsPart (part_in m actor) (Some t) core c) (sym g.writing)
         (follows_giving (part_in m actor) t giving.pins c giving.w g.is_writer
-        (record { history = giving.h; has = g.has; given_is = g.given_is; answered = g.answers_are; ended_is = g.ended_is; kept = g.kept; pinned = g.pinned }))
+        (record { history = giving.h; has = g.has; given_is = g.given_is; answered = g.answers_are; ended_is = g.ended_is; kept = g.kept; pinned = g.pinned; only = g.only }))
 
     abbrev FollowsAt : ℕ → Type 0
     FollowsAt a = FollowsPart (part_in m a) (session_of now a) (part_of c.parts a) c

@@ -15,6 +15,7 @@ use Rattle.actor_parts.specs.declared.actor.TheConstants.{ACTORS}
 use Rattle.actor_parts.specs.declared.part.Part.TheVariants as core_parts
 use Rattle.actor_parts.specs.declared.part.Part as core_part
 use Rattle.actor_parts.specs.declared.part.Reader.{Reader}
+use Rattle.actor_parts.specs.declared.pins.Pin.{Pin}
 use Rattle.actor_parts.specs.declared.step.Answer.{Answer}
 use Rattle.actor_parts.specs.PinMap.{PinMap}
 use Rattle.actor_parts.specs.Parts as core_parts_of
@@ -66,7 +67,12 @@ abbrev pub HasPinOf : History → PinMap → List ℕ → Type 0
 HasPinOf history pins key =
     (kind : Kind) × (x : Segment) × IsKept history kind x × (segment_key kind x ≡ key) × (finite.get pins key ≡ Some (pin_by kind x))
 
--- A file is given: the session has a history of what was given and answered; what that has as kept is held, and pinned.
+-- the key is that of a segment which a history has as kept
+abbrev pub HasKeptKey : History → List ℕ → Type 0
+HasKeptKey history key = (kind : Kind) × (x : Segment) × IsKept history kind x × (segment_key kind x ≡ key)
+
+-- A file is given: the session has a history of what was given and answered; what that has as kept is held, and pinned, and nothing else is
+-- pinned.
 pub record Gives (given : List ℕ) (ended : Bool) (answers_are : List Answer) (s : SessionState) (pins : PinMap) (c : CoreState) : Type 0 where
   pub history : History
   pub has : HasHistory s history
@@ -75,6 +81,7 @@ pub record Gives (given : List ℕ) (ended : Bool) (answers_are : List Answer) (
   pub ended_is : s.ended ≡ ended
   pub kept : (kind : Kind) (x : Segment) → IsKept history kind x → IsHeldIn (record { kind = kind; segment = x }) c
   pub pinned : (kind : Kind) (x : Segment) → IsKept history kind x → HasPinOf history pins (segment_key kind x)
+  pub only : (key : List ℕ) (pin : Pin) → finite.get pins key ≡ Some pin → HasKeptKey history key
 
 -- A file is taken: its root is that of the reader; its tree is held, and these are the segments of what is to come, by the copies that the
 -- store has; and the index has their keys.

@@ -49,7 +49,7 @@ child_below level (tree.Then t ts) right key there =
 -- A tree that is held and has the key of a node that is held has the keys of its children.
 module _ (held : List (Option HeaderValue)) (image : List ℕ) (n : Contents) (copy : Copy) (node : HoldsNode held image n copy) (key : List ℕ) (child : Contains (child_keys n) key) where
   mutual
-    tree_closed : (t : Tree (List ℕ)) → AllByRecursion IsTree (trees_in t) → HoldsTree held image t → Contains (tree_keys t) (node_key n) → Contains (tree_keys t) key
+    pub tree_closed : (t : Tree (List ℕ)) → AllByRecursion IsTree (trees_in t) → HoldsTree held image t → Contains (tree_keys t) (node_key n) → Contains (tree_keys t) key
     tree_closed tree.Empty right holds has = absurd (contains_none (node_key n) has)
     tree_closed (tree.Leaf segment) right holds has = leaf_only (contains_first (leaf_key segment) (node_key n) [] has)
       where
@@ -108,7 +108,7 @@ reachable_closed store files image holds n copy node (name, (bytes, (filed, has)
 -- ---- the keys of names
 
 -- a root's key is one of its tree
-key_of_root : (t : Tree (List ℕ)) (root : Root) (key : List ℕ) → AllByRecursion IsTree (trees_in t) → top_of root ≡ tree.root_of of_segment t → HasRootKey root key → Contains (tree_keys t) key
+pub key_of_root : (t : Tree (List ℕ)) (root : Root) (key : List ℕ) → AllByRecursion IsTree (trees_in t) → top_of root ≡ tree.root_of of_segment t → HasRootKey root key → Contains (tree_keys t) key
 key_of_root tree.Empty root key right top has = absurd (has.0 (ap (λ (x : Top). x.length) top))
 key_of_root (tree.Leaf segment) root key right top has =
     let key_is : key ≡ leaf_key segment = has.1 ∙ ap top_key top in

@@ -80,14 +80,14 @@ module _ (P : List ℕ → Type 0) (index : PlaceMap) (store : Store) (files : F
   of_new : (key : List ℕ) → IsNewKey index live store.held image level key → P key
   of_new key is = closed is.parent is.was_live.copy is.was_live.node (within (node_key is.parent) is.was_live.is_live.0 is.was_live.is_live.1.1) key is.child
 
-  within_scanned : ScansEntries (Some index) old new slot level h live after → IsWithin P after
+  pub within_scanned : ScansEntries (Some index) old new slot level h live after → IsWithin P after
   within_scanned scanned key place is = by_case ((scanned.marks.marks key place).0 is)
     where
       by_case : IsLiveAt live key place ⊎ IsAmong key place scanned.marks.found → P key
       by_case (inl earlier) = within key place earlier
       by_case (inr among) = of_new key (new_key index store files image holds partial old new content level slot h right live after scanned key place among)
 
-  within_some : ScansSome (Some index) old new slot level h live after → IsWithin P after
+  pub within_some : ScansSome (Some index) old new slot level h live after → IsWithin P after
   within_some scanned key place is = by_case ((scanned.marks.1.1.1 key place).0 is)
     where
       by_case : IsLiveAt live key place ⊎ IsAmong key place scanned.marks.0 → P key

@@ -1,7 +1,8 @@
 -- Collections, step by step: it is recorded how much of each container is live, segments of the containers that are chosen by that are
 -- copied, and these containers are given back (docs/MODEL.md, 'The plain machine').
-use Rattle.std.specs.Prelude.{◌≡◌, ◌⊎◌, ℕ, suc, ◌+◌, ◌*◌, ◌<◌, ◌≤◌, Bool, true, false, if◌then◌else◌, nat_lt, List, [], ◌∷◌, ◌++◌, length, slice_get, Option, None, Some, IsSome}
+use Rattle.std.specs.Prelude.{◌≡◌, ◌⊎◌, ℕ, suc, ◌+◌, ◌*◌, ◌<◌, ◌≤◌, Bool, true, false, if◌then◌else◌, nat_lt, List, [], ◌∷◌, ◌++◌, length, slice_get, Contains, Option, None, Some, IsSome}
 use Rattle.base_model.specs.Fault.{Rose}
+use Rattle.container_meta.specs.declared.entry.Entry.{Entry}
 use Rattle.container_meta.specs.declared.kind.Kind.{Kind}
 use Rattle.container_meta.specs.declared.kind.Kind.TheVariants.{Leaf, Tree}
 use Rattle.container_meta.specs.Spelling.{HeaderValue, bytes_of}
@@ -14,10 +15,11 @@ use Rattle.refusals.specs.declared.refusal.Refusal.TheVariants.{Memory, NotColle
 use Rattle.disk_format.specs.declared.numbers.TheConstants.{LAST_ID}
 use Rattle.store_model.specs.Files.{Files}
 use Rattle.store_model.specs.Image.{Encodes, Store}
-use Rattle.store_model.specs.Needed.{Needs}
+use Rattle.store_model.specs.Needed.{IsNeededCopy, Needs}
 use Rattle.store_model.specs.Reserve.{HoldsJustNeeded, IsReachable, IsSpare}
 use Rattle.plain_machine.specs.Content.{AddsCopies, BreaksCopies, BreaksGate, FreesContainer, IsToCopy, OfStore, SameStore}
-use Rattle.plain_machine.specs.Machine.{Collecting, Machine, Marking, Progress, Recording, Stopped, Sweeping, are_idle}
+use Rattle.plain_machine.specs.Machine.{Collecting, Machine, Marking, Progress, Recording, Since, Stopped, Sweeping, WasNeeded, are_idle}
+use Rattle.plain_machine.specs.Needs.{IsActorsNeed}
 use Rattle.plain_machine.specs.Turns.{Stays}
 
 -- ---- how long one takes at most
@@ -49,12 +51,15 @@ most_steps held = 6 * trees_in held + 6 * containers_in held + 3
 
 -- ---- what it does
 
--- One begins where none ran. Its snapshot is the next id.
+-- One begins where none ran. Its snapshot is the next id. Needed are then what the files need that the names have, and these keys, each of
+-- which an actor needs.
 pub record BeginsCollection (percent snapshot : ℕ) (m n : Machine) : Type 0 where
   pub none_ran : m.collecting ≡ None
   pub snapshot_is : snapshot ≡ suc m.last_id
   pub most : ℕ
   pub most_is : OfStore m.content (λ store. most ≡ most_steps store.held)
+  pub kept : List (List ℕ)
+  pub kept_are : (key : List ℕ) → Contains kept key → IsActorsNeed m key
   pub others : n ≡ record m {
     collecting = Some (record {
       percent = percent;
@@ -66,12 +71,22 @@ pub record BeginsCollection (percent snapshot : ℕ) (m n : Machine) : Type 0 wh
       written = [];
       recorded = [];
       alone = are_idle m.parts;
+      since = record { files = m.stored.files; kept = kept };
     });
   }
 
+-- So many bytes are those of some of the entries, each of which is the newest copy of a key of which P holds.
+abbrev pub SumsSome : (List ℕ → Type 0) → List (Option HeaderValue) → Kind → ℕ → List Entry → ℕ → Type 0
+SumsSome P held kind slot [] sum = sum ≡ 0
+SumsSome P held kind slot (e ∷ es) sum =
+    (IsNeededCopy P held kind slot e × ((rest : ℕ) × (sum ≡ e.length + rest) × SumsSome P held kind slot es rest))
+    ⊎ SumsSome P held kind slot es sum
+
 -- What is recorded of a container that came before the snapshot: its id, its kind, all bytes of its entries, and how many of these count
--- as live: no fewer than the files need, and just so many where the collection runs alone.
-pub record IsRecordOf (alone : Bool) (files : Files) (snapshot : ℕ) (content : List ℕ) (r : ContainerLiveness) : Type 0 where
+-- as live: no fewer than the files need, and none but of keys that were needed since the collection began (Was); and just so many as the
+-- files need where it runs alone.
+pub record IsRecordOf (alone : Bool) (files : Files) (Was : List ℕ → Type 0) (snapshot : ℕ) (content : List ℕ) (r : ContainerLiveness)
+    : Type 0 where
   pub store : Store
   pub right : Encodes content store
   pub slot : ℕ
@@ -85,29 +100,31 @@ pub record IsRecordOf (alone : Bool) (files : Files) (snapshot : ℕ) (content :
   pub sums : Needs (IsReachable files) store.held slot header needed
   pub at_least : needed ≤ r.live
   pub at_most : r.live ≤ r.all
+  pub was_needed : SumsSome Was store.held header.kind slot header.entries r.live
   pub exact : alone ≡ true → r.live ≡ needed
 
 -- What a step records: a filter step one container, the next one, in the order of slots, of those that came before the snapshot, behind
 -- what was recorded so far. At the choice each of those containers was recorded, once. No other step records.
-abbrev pub RecordsBy : Phase → (alone : Bool) → (snapshot : ℕ) → Machine → (recorded next : List ContainerLiveness) → Type 0
-RecordsBy Filter alone snapshot m recorded next =
-    (r : ContainerLiveness) × ((next ≡ recorded ++ r ∷ []) × IsRecordOf alone m.stored.files snapshot m.content r
+abbrev pub RecordsBy : Phase → (alone : Bool) → (Was : List ℕ → Type 0) → (snapshot : ℕ) → Machine
+    → (recorded next : List ContainerLiveness) → Type 0
+RecordsBy Filter alone Was snapshot m recorded next =
+    (r : ContainerLiveness) × ((next ≡ recorded ++ r ∷ []) × IsRecordOf alone m.stored.files Was snapshot m.content r
     × OfStore m.content (λ store. (rest : List ℕ) × (ids_before snapshot store.held ≡ ids_of next ++ rest)))
-RecordsBy Select alone snapshot m recorded next =
+RecordsBy Select alone Was snapshot m recorded next =
     (next ≡ recorded) × OfStore m.content (λ store. ids_of recorded ≡ ids_before snapshot store.held)
-RecordsBy phase alone snapshot m recorded next = next ≡ recorded
+RecordsBy phase alone Was snapshot m recorded next = next ≡ recorded
 
--- What a step changes: a flush adds a container of so many copies, of keys whose newest copies are in containers whose ids are chosen or
--- that came since the snapshot, none of them a key that the collection wrote before, and where the collection runs alone just of keys that
--- files need, with newest copies in those that are chosen; a release gives a container back that came before the snapshot, whose id is
--- chosen, and that no file needs; and no other step changes anything.
-abbrev pub ChangesBy : Phase → (alone : Bool) → (Chosen : ℕ → Type 0) → (snapshot copies : ℕ) → (written later : List (List ℕ)) → Machine
-    → List ℕ → Type 0
-ChangesBy Flush alone Chosen snapshot copies written later m new =
-    AddsCopies alone (IsReachable m.stored.files) Chosen snapshot m.last_id copies written later m.content new
-ChangesBy Release alone Chosen snapshot copies written later m new =
+-- What a step changes: a flush adds a container of so many copies, of keys that were needed since it began (Was), whose newest copies are in
+-- containers whose ids are chosen or that came since the snapshot, none of them a key that the collection wrote before; and where it runs
+-- alone just of keys that files need, with newest copies in those that are chosen. A release gives a container back that came before the
+-- snapshot, whose id is chosen, and that no file needs. No other step changes anything.
+abbrev pub ChangesBy : Phase → (alone : Bool) → (Was : List ℕ → Type 0) → (Chosen : ℕ → Type 0) → (snapshot copies : ℕ)
+    → (written later : List (List ℕ)) → Machine → List ℕ → Type 0
+ChangesBy Flush alone Was Chosen snapshot copies written later m new =
+    AddsCopies alone (IsReachable m.stored.files) Was Chosen snapshot m.last_id copies written later m.content new
+ChangesBy Release alone Was Chosen snapshot copies written later m new =
     (copies ≡ 0) × (later ≡ written) × FreesContainer (IsReachable m.stored.files) Chosen snapshot m.content new
-ChangesBy phase alone Chosen snapshot copies written later m new = (copies ≡ 0) × (later ≡ written) × SameStore m.content new
+ChangesBy phase alone Was Chosen snapshot copies written later m new = (copies ≡ 0) × (later ≡ written) × SameStore m.content new
 
 -- the last id is another after a flush
 abbrev pub last_by : Phase → ℕ → ℕ
@@ -180,6 +197,7 @@ pub record StepsCollection (phase : Phase) (m n : Machine) : Type 0 where
   pub written : List (List ℕ)
   pub recorded : List ContainerLiveness
   pub alone : Bool
+  pub since : Since
   pub ran : m.collecting ≡ Some (record {
     percent = percent;
     snapshot = snapshot;
@@ -190,13 +208,14 @@ pub record StepsCollection (phase : Phase) (m n : Machine) : Type 0 where
     written = written;
     recorded = recorded;
     alone = alone;
+    since = since;
   })
   pub short : IsShort phase freed (selected snapshot percent recorded)
   pub copies : ℕ
   pub written_now : List (List ℕ)
-  pub changes : ChangesBy phase alone (IsSelectedId snapshot percent recorded) snapshot copies written written_now m n.content
+  pub changes : ChangesBy phase alone (WasNeeded since) (IsSelectedId snapshot percent recorded) snapshot copies written written_now m n.content
   pub recorded_now : List ContainerLiveness
-  pub records : RecordsBy phase alone snapshot m recorded recorded_now
+  pub records : RecordsBy phase alone (WasNeeded since) snapshot m recorded recorded_now
   pub others : n ≡ record m {
     content = n.content;
     last_id = last_by phase m.last_id;
@@ -210,6 +229,7 @@ pub record StepsCollection (phase : Phase) (m n : Machine) : Type 0 where
       written = written_now;
       recorded = recorded_now;
       alone = alone;
+      since = since;
     });
     collected = forgets_by phase m.collected;
   }
@@ -230,6 +250,7 @@ pub record EndsCollection (freed copied : ℕ) (m n : Machine) : Type 0 where
   pub written : List (List ℕ)
   pub recorded : List ContainerLiveness
   pub alone : Bool
+  pub since : Since
   pub ran : m.collecting ≡ Some (record {
     percent = percent;
     snapshot = snapshot;
@@ -240,6 +261,7 @@ pub record EndsCollection (freed copied : ℕ) (m n : Machine) : Type 0 where
     written = written;
     recorded = recorded;
     alone = alone;
+    since = since;
   })
   pub freed_is : freed ≡ length (selected snapshot percent recorded)
   pub gone : OfStore m.content (λ store. (slot : ℕ) (h : HeaderValue) → slice_get store.held slot ≡ Some (Some h)

@@ -126,26 +126,28 @@ pub record IsToCopy (P : List ℕ → Type 0) (Chosen : ℕ → Type 0) (held : 
   pub copy_is : newest 0 held key ≡ Some copy
   pub chosen : Chosen copy.id
 
--- A key that was copied: its newest copy is in a container whose id is chosen, or in one of an id from the snapshot on, since another actor
--- may have sealed it once more meanwhile.
-pub record IsOfCopied (Chosen : ℕ → Type 0) (snapshot : ℕ) (held : List (Option HeaderValue)) (key : List ℕ) : Type 0 where
+-- A key that was copied, of those of which Was holds: its newest copy is in a container whose id is chosen, or in one of an id from the
+-- snapshot on, since another actor may have sealed it once more meanwhile.
+pub record IsOfCopied (Was : List ℕ → Type 0) (Chosen : ℕ → Type 0) (snapshot : ℕ) (held : List (Option HeaderValue)) (key : List ℕ)
+    : Type 0 where
+  pub needed : Was key
   pub copy : Copy
   pub copy_is : newest 0 held key ≡ Some copy
   pub from : Chosen copy.id ⊎ (snapshot ≤ copy.id)
 
 -- Copies were written: a container of so many segments, each of which was held, stands in the free slot of least number, under the id after
--- the last one, and all else is as it was. The newest copy of the key of each was in a container that is chosen, or in one that came since
--- the snapshot; and none of the keys is one that the collection wrote before, to which they are added then. So no key is copied twice.
+-- the last one, and all else is as it was. Of the key of each Was holds, and its newest copy was in a container that is chosen, or in one that
+-- came since the snapshot; and none of the keys is one that the collection wrote before, to which they are added then. So no key is copied twice.
 -- Where a collection runs alone the key of each was to be copied; and then it is to be copied no more, since its newest copy has an id above
 -- all that are chosen.
-pub record AddsCopies (alone : Bool) (P : List ℕ → Type 0) (Chosen : ℕ → Type 0) (snapshot last count : ℕ)
+pub record AddsCopies (alone : Bool) (P Was : List ℕ → Type 0) (Chosen : ℕ → Type 0) (snapshot last count : ℕ)
     (written later : List (List ℕ)) (old new : List ℕ) : Type 0 where
   pub store : Store
   pub was : Encodes old store
   pub filled : Contents
   pub can : CanFlush (suc last) filled.kind filled.segments store
   pub many : count ≡ length filled.segments
-  pub from_chosen : AllByRecursion (λ s. IsOfCopied Chosen snapshot store.held (segment_key filled.kind s)) filled.segments
+  pub from_chosen : AllByRecursion (λ s. IsOfCopied Was Chosen snapshot store.held (segment_key filled.kind s)) filled.segments
   pub to_copy : alone ≡ true → AllByRecursion (λ s. IsToCopy P Chosen store.held (segment_key filled.kind s)) filled.segments
   pub new_keys : AllByRecursion (λ s. ¬ (Contains written (segment_key filled.kind s))) filled.segments
   pub written_is : later ≡ written ++ map (segment_key filled.kind) filled.segments

@@ -3,6 +3,7 @@ pub mod Complete
 pub mod Content
 pub mod Lines
 pub mod Machine
+pub mod Needs
 pub mod Refused
 pub mod Runs
 pub mod Through

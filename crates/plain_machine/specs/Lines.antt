@@ -76,7 +76,7 @@ pub record Commits (actor : ℕ) (name : List ℕ) (sequence : ℕ) (m n : Machi
     stored = with_stored mid.stored name file;
     acknowledged = one_more mid.acknowledged;
     content = n.content;
-    collecting = disturbed mid.collecting;
+    collecting = disturbed [] mid.collecting;
   }
 
 -- It is given up.
@@ -111,7 +111,7 @@ pub record Deletes (name : List ℕ) (sequence : ℕ) (m n : Machine) : Type 0 w
     stored = without_stored m.stored name;
     acknowledged = one_more m.acknowledged;
     content = n.content;
-    collecting = disturbed m.collecting;
+    collecting = disturbed [] m.collecting;
   }
 
 -- ---- all lines of a store that runs, but `reopen`

@@ -1,11 +1,12 @@
 -- The plain machine (docs/MODEL.md, 'The plain machine'): names with their files, what each actor is at, and the disk's content.
-use Rattle.std.specs.Prelude.{Bool, true, false, ◌&&◌, ◌≡◌, ℕ, ◌+◌, ◌-◌, ◌^◌, List, [], ◌∷◌, min, replicate, slice_index_or, slice_set, Option, Some, None, ◌⊎◌}
+use Rattle.std.specs.Prelude.{Bool, true, false, ◌&&◌, ◌≡◌, ℕ, ◌+◌, ◌-◌, ◌^◌, List, [], ◌∷◌, ◌++◌, min, replicate, slice_index_or, slice_set, Contains, Option, Some, None, ◌⊎◌}
 use Rattle.actor_parts.specs.declared.actor.TheConstants.{ACTORS}
 use Rattle.actor_parts.specs.declared.step.Answer.{Answer}
 use Rattle.gc_select.specs.declared.liveness.ContainerLiveness.{ContainerLiveness}
 use Rattle.refusals.specs.declared.refusal.PartKind.{PartKind}
 use Rattle.refusals.specs.declared.refusal.PartKind.TheVariants as kinds
-use Rattle.store_model.specs.Files.{Stored}
+use Rattle.store_model.specs.Files.{Files, Stored}
+use Rattle.store_model.specs.Reserve.{IsReachable}
 use Rattle.store_model.specs.Standing.{StandsFor}
 use Rattle.plain_machine.specs.Content.{greatest_id}
 
@@ -58,6 +59,16 @@ abbrev pub stopped_by : RunState → RunState
 stopped_by Running = Stopped None
 stopped_by (Stopped other) = Stopped other
 
+-- What was needed at some time since a collection began: what these files need, which the names had then; and these keys, which an actor
+-- needed then, or a turn has kept since.
+pub record Since : Type 0 where
+  pub files : Files
+  pub kept : List (List ℕ)
+
+-- so was the key
+abbrev pub WasNeeded : Since → List ℕ → Type 0
+WasNeeded since key = IsReachable since.files key ⊎ Contains since.kept key
+
 -- A collection that runs, of this percentage: only containers of ids below its snapshot are given back; so far it has come, so many steps
 -- of it may come at most before its end, and so many containers were given back and so many segments copied and written.
 pub record Collecting : Type 0 where
@@ -73,11 +84,13 @@ pub record Collecting : Type 0 where
   pub recorded : List ContainerLiveness
   -- no actor was at anything when it began, and since then no turn was answered, and no name has changed
   pub alone : Bool
+  -- what was needed since it began
+  pub since : Since
 
--- the same, once something else was done beside it
-abbrev pub disturbed : Option Collecting → Option Collecting
-disturbed None = None
-disturbed (Some k) = Some (record k { alone = false })
+-- the same, once something else was done beside it, which kept these keys
+abbrev pub disturbed : List (List ℕ) → Option Collecting → Option Collecting
+disturbed keys None = None
+disturbed keys (Some k) = Some (record k { alone = false; since = record k.since { kept = k.since.kept ++ keys } })
 
 pub record Machine : Type 0 where
   -- names to files, and the last sequence number that was given out

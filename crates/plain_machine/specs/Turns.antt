@@ -1,6 +1,6 @@
 -- Turns: a claim or a seal that is due for the file that an actor gives (docs/MODEL.md, 'Sessions').
 use Rattle.std.specs.FinMap as finite
-use Rattle.std.specs.Prelude.{◌≡◌, ℕ, ◌<◌, ◌≤◌, slice_get, Some, None, Bool, true, false, List, [], ◌∷◌, ◌++◌, ◌≢◌, ◌⊎◌}
+use Rattle.std.specs.Prelude.{◌≡◌, ℕ, ◌<◌, ◌≤◌, slice_get, Some, None, Bool, true, false, List, [], ◌∷◌, ◌++◌, map, ◌≢◌, ◌⊎◌}
 use Rattle.base_model.specs.Fault.{Rose}
 use Rattle.container_meta.specs.Segments.{KindSegment, Segment, segment_key}
 use Rattle.disk_format.specs.declared.numbers.TheConstants.{LAST_ID, RESERVE}
@@ -8,8 +8,9 @@ use Rattle.actor_parts.specs.declared.step.Answer.{Answer}
 use Rattle.actor_parts.specs.declared.step.Answer.TheVariants as answers
 use Rattle.ingest_session.specs.declared.due.Due.{Due}
 use Rattle.ingest_session.specs.declared.due.Due.TheVariants.{Claim, Seal, Nothing}
-use Rattle.ingest_session.specs.Due.{open_of}
+use Rattle.ingest_session.specs.Due.{item_kind, open_of}
 use Rattle.ingest_session.specs.DueFor.{IsDueFor}
+use Rattle.ingest_session.specs.Items.{item_of}
 use Rattle.ingest_session.specs.Moving.{IsOffered}
 use Rattle.ingest_session.specs.State.{SessionState}
 use Rattle.refusals.specs.declared.refusal.Refusal.{Refusal}
@@ -70,6 +71,12 @@ abbrev pub last_by : Answer → ℕ → ℕ
 last_by (answers.Sealed id) last = id
 last_by answer last = last
 
+-- the keys of what an answer keeps: of the segment that was claimed and is held, or of those of a container that was sealed
+abbrev pub kept_by : Due → SessionState → Answer → List (List ℕ)
+kept_by Claim s answers.Held = segment_key (item_kind s.node) (item_of s.node s.queue) ∷ []
+kept_by (Seal kind) s (answers.Sealed id) = map (segment_key kind) (open_of s kind).segments
+kept_by due s answer = []
+
 -- One turn of an actor: what was due for it was answered.
 pub record MachineTurn (actor : ℕ) (answer : Answer) (m n : Machine) : Type 0 where
   pub writer : Writer
@@ -80,7 +87,7 @@ pub record MachineTurn (actor : ℕ) (answer : Answer) (m n : Machine) : Type 0 
   pub others : n ≡ record (put_at m actor (told (part_in m actor) answer)) {
     content = n.content;
     last_id = last_by answer m.last_id;
-    collecting = disturbed m.collecting;
+    collecting = disturbed (kept_by due is_due.session answer) m.collecting;
   }
 
 -- Any number of turns of an actor, one after the other.

@@ -213,10 +213,11 @@ module _ (C : Type 0) (state : C → CoreState) (among : ByteSet) (apart : HasNo
         recorded = has_ended.collecting.recorded;
         written = has_ended.collecting.written;
         alone = has_ended.collecting.alone;
+        since = has_ended.collecting.since;
         ran = has_ended.is
-            ∙ ap (λ (n : ℕ). let k : Collecting = record { percent = has_ended.collecting.percent; snapshot = has_ended.collecting.snapshot; progress = has_ended.collecting.progress; to_come = has_ended.collecting.to_come; freed = n; copied = has_ended.collecting.copied; recorded = has_ended.collecting.recorded; written = has_ended.collecting.written; alone = has_ended.collecting.alone } in Some k) freed_same
-            ∙ ap (λ (n : ℕ). let k : Collecting = record { percent = has_ended.collecting.percent; snapshot = has_ended.collecting.snapshot; progress = has_ended.collecting.progress; to_come = has_ended.collecting.to_come; freed = freed; copied = n; recorded = has_ended.collecting.recorded; written = has_ended.collecting.written; alone = has_ended.collecting.alone } in Some k) copied_same
-            ∙ ap (λ (p : Progress). let k : Collecting = record { percent = has_ended.collecting.percent; snapshot = has_ended.collecting.snapshot; progress = p; to_come = has_ended.collecting.to_come; freed = freed; copied = copied; recorded = has_ended.collecting.recorded; written = has_ended.collecting.written; alone = has_ended.collecting.alone } in Some k) at_last;
+            ∙ ap (λ (n : ℕ). let k : Collecting = record { percent = has_ended.collecting.percent; snapshot = has_ended.collecting.snapshot; progress = has_ended.collecting.progress; to_come = has_ended.collecting.to_come; freed = n; copied = has_ended.collecting.copied; recorded = has_ended.collecting.recorded; written = has_ended.collecting.written; alone = has_ended.collecting.alone; since = has_ended.collecting.since } in Some k) freed_same
+            ∙ ap (λ (n : ℕ). let k : Collecting = record { percent = has_ended.collecting.percent; snapshot = has_ended.collecting.snapshot; progress = has_ended.collecting.progress; to_come = has_ended.collecting.to_come; freed = freed; copied = n; recorded = has_ended.collecting.recorded; written = has_ended.collecting.written; alone = has_ended.collecting.alone; since = has_ended.collecting.since } in Some k) copied_same
+            ∙ ap (λ (p : Progress). let k : Collecting = record { percent = has_ended.collecting.percent; snapshot = has_ended.collecting.snapshot; progress = p; to_come = has_ended.collecting.to_come; freed = freed; copied = copied; recorded = has_ended.collecting.recorded; written = has_ended.collecting.written; alone = has_ended.collecting.alone; since = has_ended.collecting.since } in Some k) at_last;
         freed_is = freed_chosen;
         gone = (at.running.begins.store, (right C state among apart m sessions old new at done buf made, gone_now));
         none_spare = none_spare;

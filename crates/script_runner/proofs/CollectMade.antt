@@ -44,8 +44,8 @@ use Rattle.store_core.specs.State.{CoreState, IsUnderWayIn}
 use Rattle.store_core.proofs.Leading.{Leads}
 use Rattle.plain_machine.specs.Collections.{ChangesBy, GoesTo, IsShort, RecordsBy, StepsCollection, forgets_by, freed_by, last_by}
 use Rattle.plain_machine.specs.Content.{SameStore}
-use Rattle.plain_machine.specs.Machine.{Collecting, Machine}
-use Rattle.script_runner.specs.Follows.{CountsEach, FollowsCollecting, HasCounted, IsAtProgress, IsWritten, HoldsCollection, SparesNeeded, WroteOnce}
+use Rattle.plain_machine.specs.Machine.{Collecting, Machine, WasNeeded}
+use Rattle.script_runner.specs.Follows.{CountsEach, FollowsCollecting, HasCounted, IsAtProgress, IsWritten, HoldsCollection, LivesByNeed, LivesWithin, SparesNeeded, WroteOnce}
 use Rattle.script_runner.specs.Sessions.{Sessions}
 use Rattle.script_runner.proofs.CollectBytes.{GivesNothing}
 use Rattle.script_runner.proofs.CollectCauses.{no_end, phase_is}
@@ -55,6 +55,7 @@ use Rattle.script_runner.proofs.CollectParts.{gc_event}
 use Rattle.script_runner.proofs.CollectProgress.{Progresses, ReadsSame, progresses}
 use Rattle.script_runner.proofs.CollectRecords.{records_on}
 use Rattle.script_runner.proofs.CollectStep.{HasCollecting, Stepped, image, last_after, leads, low_after, runs_then, same_index, same_so, same_some, some_collecting, steps, told, touched, under}
+use Rattle.script_runner.proofs.Lives.{IsSameIn, lives_made}
 use Rattle.script_runner.proofs.SweepContent.{copies_added, filled_of_copied, filled_to_copy, freed}
 use Rattle.script_runner.proofs.Sweeping.{IsFewIn, few_after, few_by, left_by, left_on}
 use Rattle.script_runner.proofs.TurnHolds.{right_here}
@@ -130,8 +131,8 @@ module _ (C : Type 0) (state : C → CoreState) (among : ByteSet) (apart : HasNo
       subst (λ (p : Phase). HasCounted goes.after.stage goes.after.sweep (has.collecting.freed + freed_by p) (has.collecting.copied + copies)) stage_phase
       (counted_on (at_moment (state old) goes.before) (at_moment (state new) goes.after) has.collecting.freed has.collecting.copied goes.before.stage goes.before.sweep.next refl refl counted_before goes.steps not_end)
 
-  ran : m.collecting ≡ Some (record { percent = has.collecting.percent; snapshot = has.collecting.snapshot; progress = has.collecting.progress; to_come = suc left; freed = has.collecting.freed; copied = has.collecting.copied; written = has.collecting.written; recorded = has.collecting.recorded; alone = has.collecting.alone })
-  ran = has.is ∙ ap (λ (n : ℕ). let k : Collecting = record { percent = has.collecting.percent; snapshot = has.collecting.snapshot; progress = has.collecting.progress; to_come = n; freed = has.collecting.freed; copied = has.collecting.copied; written = has.collecting.written; recorded = has.collecting.recorded; alone = has.collecting.alone } in Some k) (let e : has.collecting.to_come ≡ suc left = omega (arith, fewer) in e)
+  ran : m.collecting ≡ Some (record { percent = has.collecting.percent; snapshot = has.collecting.snapshot; progress = has.collecting.progress; to_come = suc left; freed = has.collecting.freed; copied = has.collecting.copied; written = has.collecting.written; recorded = has.collecting.recorded; alone = has.collecting.alone; since = has.collecting.since })
+  ran = has.is ∙ ap (λ (n : ℕ). let k : Collecting = record { percent = has.collecting.percent; snapshot = has.collecting.snapshot; progress = has.collecting.progress; to_come = n; freed = has.collecting.freed; copied = has.collecting.copied; written = has.collecting.written; recorded = has.collecting.recorded; alone = has.collecting.alone; since = has.collecting.since } in Some k) (let e : has.collecting.to_come ≡ suc left = omega (arith, fewer) in e)
 
   -- ---- the last id
 
@@ -223,7 +224,7 @@ module _ (C : Type 0) (state : C → CoreState) (among : ByteSet) (apart : HasNo
   leads_on = progresses (state old) (state new) goes.before goes.after reads_same has.collecting.progress at_before goes.steps not_end
 
   abbrev goes_so : Collecting
-  goes_so = record { percent = has.collecting.percent; snapshot = has.collecting.snapshot; progress = leads_on.next; to_come = left; freed = has.collecting.freed + freed_by phase; copied = has.collecting.copied + copies; written = written_now; recorded = goes.after.liveness; alone = has.collecting.alone }
+  goes_so = record { percent = has.collecting.percent; snapshot = has.collecting.snapshot; progress = leads_on.next; to_come = left; freed = has.collecting.freed + freed_by phase; copied = has.collecting.copied + copies; written = written_now; recorded = goes.after.liveness; alone = has.collecting.alone; since = has.collecting.since }
 
   -- each source that came to its end is counted still
   each_now : CountsEach goes.after.sweep
@@ -293,6 +294,30 @@ module _ (C : Type 0) (state : C → CoreState) (among : ByteSet) (apart : HasNo
       emptied_at Sweep (Release source entry) made_so = tt
       emptied_at Sweep End made_so = tt
 
+  -- ---- what was needed
+
+  -- since it began
+  abbrev Was : List ℕ → Type 0
+  Was = WasNeeded has.collecting.since
+
+  lives_before : LivesWithin Was at.running.begins.store (state old) goes.before
+  lives_before =
+      let spares = subst (λ (o : Option Collecting). HoldsCollection m.stored.files at.running.begins.store o (state old)) has.is at.running.begins.spares in
+      spares.2 goes.before goes.ran
+
+  same_at : (stage : Stage) (next : Next) → Touches stage next goes.before.sweep (state old).tables Done (state old).disk (state new).disk → IsStoreAfter stage next goes.before.snapshot goes.before.sweep begins.index at.running.begins.store leaves.store_now m.content
+      → IsSameIn at.running.begins.store led_to (state old) (state new) stage
+  same_at (Mark level slot) next touch then = (touch.only.content_is, sym led_is ∙ then)
+  same_at (Filter slot) next touch then = tt
+  same_at Select next touch then = tt
+  same_at Sweep next touch then = tt
+
+  lives_now : LivesByNeed led_to goes_so (state new)
+  lives_now collection runs =
+      subst (LivesWithin Was led_to (state new)) (same_some goes.after collection (state new).collection goes.runs runs)
+      (lives_made Was among at.running.begins.store led_to m.stored (state old) (state new) begins m.content at.content_is goes.before goes.after lives_before
+      (same_at goes.before.stage goes.before.sweep.next touches leaves.store_is) steps_known)
+
   spares_now : HoldsCollection m.stored.files led_to (Some goes_so) (state new)
   spares_now = (
     (λ alone index collection known runs.
@@ -300,6 +325,7 @@ module _ (C : Type 0) (state : C → CoreState) (among : ByteSet) (apart : HasNo
         (subst (λ (i : PlaceMap). NeededAs leaves.store_now i collection) (same_index leaves.later index (state new).known leaves.known_is known)
         (subst (λ (c : Collection). NeededAs leaves.store_now leaves.later c) (same_some goes.after collection (state new).collection goes.runs runs) (needed_step (spared alone))))),
     once_now,
+    lives_now,
   )
     where
       once_now : WroteOnce led_to goes_so (state new)
@@ -320,16 +346,16 @@ module _ (C : Type 0) (state : C → CoreState) (among : ByteSet) (apart : HasNo
   Chosen = IsSelectedId has.collecting.snapshot has.collecting.percent has.collecting.recorded
 
   changes_at : (stage : Stage) (next : Next) → goes.before.stage ≡ stage → goes.before.sweep.next ≡ next → Touched stage next → TablesAfter stage next (at_moment (state old) goes.before) (at_moment (state new) goes.after)
-      → (phase_at stage next ≡ phase_at Sweep End → ⊥) → ChangesBy (phase_at stage next) has.collecting.alone Chosen has.collecting.snapshot (copies_by stage next goes.before.sweep) has.collecting.written (written_by stage next goes.before.sweep has.collecting.written) m image_now
+      → (phase_at stage next ≡ phase_at Sweep End → ⊥) → ChangesBy (phase_at stage next) has.collecting.alone Was Chosen has.collecting.snapshot (copies_by stage next goes.before.sweep) has.collecting.written (written_by stage next goes.before.sweep has.collecting.written) m image_now
   changes_at (Mark level slot) next is next_is touch tables other = (refl, refl, nothing (Mark level slot) next tt touch)
   changes_at (Filter slot) next is next_is touch tables other = (refl, refl, nothing (Filter slot) next tt touch)
   changes_at Select next is next_is touch tables other = (refl, refl, nothing Select next tt touch)
   changes_at Sweep (Copy source entry) is next_is touch tables other = (refl, refl, nothing Sweep (Copy source entry) tt touch)
   changes_at Sweep (Flush source entry) is next_is touch tables other =
       copies_added among at.running.begins.store m.stored (state old) (state new) begins at.running.begins.settled m.content image_now at.content_is told_now goes.before goes.ran is source entry next_is tables.0 tables.1
-      touch has.collecting.alone Chosen has.collecting.snapshot m.last_id has.collecting.written at.running.begins.last_id_is
+      touch has.collecting.alone Was Chosen has.collecting.snapshot m.last_id has.collecting.written at.running.begins.last_id_is
       (filled_of_copied among at.running.begins.store m.stored (state old) (state new) begins at.running.begins.settled m.content image_now at.content_is told_now goes.before goes.ran is has.collecting.snapshot has.collecting.percent has.collecting.recorded snapshot_before
-      percent_before recorded_before)
+      percent_before recorded_before Was lives_before.within)
       (λ alone. filled_to_copy among at.running.begins.store m.stored (state old) (state new) begins at.running.begins.settled m.content image_now at.content_is told_now goes.before goes.ran is has.collecting.snapshot has.collecting.percent has.collecting.recorded snapshot_before
       percent_before recorded_before (spared alone).0)
       (none_of has.collecting.written goes.before.sweep.buffer.kind goes.before.sweep.buffer.segments (λ key there filled. (once_before key there).unfilled filled))
@@ -341,9 +367,9 @@ module _ (C : Type 0) (state : C → CoreState) (among : ByteSet) (apart : HasNo
   )
   changes_at Sweep End is next_is touch tables other = absurd (other refl)
 
-  changes : ChangesBy phase has.collecting.alone Chosen has.collecting.snapshot copies has.collecting.written written_now m image_now
+  changes : ChangesBy phase has.collecting.alone Was Chosen has.collecting.snapshot copies has.collecting.written written_now m image_now
   changes =
-      subst (λ (p : Phase). ChangesBy p has.collecting.alone Chosen has.collecting.snapshot copies has.collecting.written written_now m image_now) stage_phase (changes_at goes.before.stage goes.before.sweep.next refl refl touches goes.tables not_end)
+      subst (λ (p : Phase). ChangesBy p has.collecting.alone Was Chosen has.collecting.snapshot copies has.collecting.written written_now m image_now) stage_phase (changes_at goes.before.stage goes.before.sweep.next refl refl touches goes.tables not_end)
 
   -- ---- the sources that are left
 
@@ -379,12 +405,12 @@ module _ (C : Type 0) (state : C → CoreState) (among : ByteSet) (apart : HasNo
   within_alone : has.collecting.alone ≡ true → IsWithin Needs goes.before.live
   within_alone alone = (spared alone).0.within
 
-  records : RecordsBy phase has.collecting.alone has.collecting.snapshot m has.collecting.recorded goes.after.liveness
+  records : RecordsBy phase has.collecting.alone Was has.collecting.snapshot m has.collecting.recorded goes.after.liveness
   records =
-      subst (λ (p : Phase). RecordsBy p has.collecting.alone has.collecting.snapshot m has.collecting.recorded goes.after.liveness) stage_phase
-      (subst (λ (n : ℕ). RecordsBy here has.collecting.alone n m has.collecting.recorded goes.after.liveness) snapshot_before
-      (subst (λ (rs : List ContainerLiveness). RecordsBy here has.collecting.alone goes.before.snapshot m rs goes.after.liveness) recorded_before
-      (records_on among at.running.begins.store m.stored (state old) (state new) begins m.content at.content_is goes.before goes.after goes.ran has.collecting.alone within_alone m refl refl steps_known)))
+      subst (λ (p : Phase). RecordsBy p has.collecting.alone Was has.collecting.snapshot m has.collecting.recorded goes.after.liveness) stage_phase
+      (subst (λ (n : ℕ). RecordsBy here has.collecting.alone Was n m has.collecting.recorded goes.after.liveness) snapshot_before
+      (subst (λ (rs : List ContainerLiveness). RecordsBy here has.collecting.alone Was goes.before.snapshot m rs goes.after.liveness) recorded_before
+      (records_on among at.running.begins.store m.stored (state old) (state new) begins m.content at.content_is goes.before goes.after goes.ran has.collecting.alone within_alone Was lives_before.within m refl refl steps_known)))
     where
       here : Phase
       here = phase_at goes.before.stage goes.before.sweep.next
@@ -429,6 +455,7 @@ module _ (C : Type 0) (state : C → CoreState) (among : ByteSet) (apart : HasNo
       written_now = written_now;
       recorded = has.collecting.recorded;
       alone = has.collecting.alone;
+      since = has.collecting.since;
       ran = ran;
       short = short;
       copies = copies;

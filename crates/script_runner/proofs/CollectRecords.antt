@@ -44,7 +44,7 @@ use Rattle.plain_machine.specs.Collections.{IsRecordOf, RecordsBy, ids_before}
 use Rattle.plain_machine.specs.Content.{OfStore}
 use Rattle.plain_machine.specs.Machine.{Machine}
 use Rattle.script_runner.proofs.CollectNeeds.{needs_here, told_here}
-use Rattle.script_runner.proofs.NeedsLive.{live_within, needs_some}
+use Rattle.script_runner.proofs.NeedsLive.{live_some, live_within, needs_some}
 use Rattle.script_runner.proofs.TurnHolds.{right_here}
 
 -- ---- the ids of containers that came before
@@ -83,7 +83,7 @@ split_old snapshot (x ∷ ids) (suc slot) within old =
 -- ---- a step
 
 module _ (among : ByteSet) (store : Store) (stored : Stored) (old new : CoreState) (at : IsAt (IsIn among) store stored old) (content : List ℕ) (here : old.disk.content ≡ Some content) (c d : Collection) (runs : old.collection ≡ Some c)
-    (alone : Bool) (spares : alone ≡ true → IsWithin (IsReachable stored.files) c.live) where
+    (alone : Bool) (spares : alone ≡ true → IsWithin (IsReachable stored.files) c.live) (Was : List ℕ → Type 0) (within : IsWithin Was c.live) where
   abbrev index : PlaceMap
   index = at.index
 
@@ -131,7 +131,7 @@ module _ (among : ByteSet) (store : Store) (stored : Stored) (old new : CoreStat
         (λ key place needed. let is_live = marked key needed in live_anywhere c.live key is_live.0 place is_live.1.1) of.header.kind slot of.header.entries r.live of.sums)
         needs.1.0
 
-    record_here : IsRecordOf alone stored.files c.snapshot content r
+    record_here : IsRecordOf alone stored.files Was c.snapshot content r
     record_here = record {
       store = store;
       right = right;
@@ -146,6 +146,7 @@ module _ (among : ByteSet) (store : Store) (stored : Stored) (old new : CoreStat
       sums = needs.1.0;
       at_least = needs.1.1;
       at_most = omega (arith, live_within index c.live of.header.kind slot of.header.entries r.live of.sums, of.all_is);
+      was_needed = live_some Was index store.held c.live invariant.index_is_newest within of.header.kind slot of.header.entries r.live of.sums;
       exact = same_alone;
     }
 
@@ -173,12 +174,12 @@ module _ (among : ByteSet) (store : Store) (stored : Stored) (old new : CoreStat
 
   module _ (m : Machine) (stored_is : m.stored ≡ stored) (content_is : m.content ≡ content) where
     abbrev Recorded : Stage → Next → Type 0
-    Recorded stage next = RecordsBy (phase_at stage next) alone c.snapshot m c.liveness d.liveness
+    Recorded stage next = RecordsBy (phase_at stage next) alone Was c.snapshot m c.liveness d.liveness
 
-    of_machine : (r : ContainerLiveness) → IsRecordOf alone stored.files c.snapshot content r → IsRecordOf alone m.stored.files c.snapshot m.content r
+    of_machine : (r : ContainerLiveness) → IsRecordOf alone stored.files Was c.snapshot content r → IsRecordOf alone m.stored.files Was c.snapshot m.content r
     of_machine r is =
-        subst (λ (s : Stored). IsRecordOf alone s.files c.snapshot m.content r) (sym stored_is)
-        (subst (λ (bytes : List ℕ). IsRecordOf alone stored.files c.snapshot bytes r) (sym content_is) is)
+        subst (λ (s : Stored). IsRecordOf alone s.files Was c.snapshot m.content r) (sym stored_is)
+        (subst (λ (bytes : List ℕ). IsRecordOf alone stored.files Was c.snapshot bytes r) (sym content_is) is)
 
     by_stage : (stage : Stage) (next : Next) → c.stage ≡ stage → StepsTo stage next (moment old.tables (Some index) old.disk c) (at_moment new d) → Recorded stage next
     by_stage (Mark level slot) next is steps = ap (λ (x : Collection). x.liveness) steps.0.collection_is

@@ -31,8 +31,8 @@ use Rattle.store_core.specs.State.{CoreState}
 use Rattle.store_core.proofs.JustNeeded.{kept_takes}
 use Rattle.plain_machine.specs.Collections.{BreaksBy, BreaksStep, HasToCopy, IsCollecting, MayCome, MayRead, RefusesCollectionStep}
 use Rattle.plain_machine.specs.Content.{SameStore}
-use Rattle.plain_machine.specs.Machine.{Collecting, Machine, Marking, Progress, Recording, Stopped, Sweeping}
-use Rattle.script_runner.specs.Follows.{Follows, IsAtProgress, IsOfFound, HoldsCollection, SparesNeeded, WroteOnce}
+use Rattle.plain_machine.specs.Machine.{Collecting, Machine, Marking, Progress, Recording, Stopped, Sweeping, WasNeeded}
+use Rattle.script_runner.specs.Follows.{Follows, IsAtProgress, IsOfFound, HoldsCollection, LivesByNeed, LivesWithin, SparesNeeded, WroteOnce}
 use Rattle.script_runner.specs.Sessions.{Sessions}
 use Rattle.script_runner.proofs.CollectBytes.{GivesNothing, IsRest}
 use Rattle.script_runner.proofs.CollectCauses.{IsCauseAt, IsCollectCause, IsReadCause, IsRestCause, cause_at, collect_cause}
@@ -42,6 +42,7 @@ use Rattle.script_runner.proofs.CollectNeeds.{needs_closed, needs_here, told_her
 use Rattle.script_runner.proofs.CollectParts.{gc_event}
 use Rattle.script_runner.proofs.CollectProgress.{may_come}
 use Rattle.script_runner.proofs.CollectIndex.{rest_index}
+use Rattle.script_runner.proofs.Lives.{IsSameIn, lives_kept}
 use Rattle.script_runner.proofs.CollectStep.{HasCollecting, flush_same, image, is_collecting, keeps, kept_unchanged, leads, right, runs_then, same_index, same_so, same_some, some_collecting, step, steps, told, touched}
 use Rattle.script_runner.proofs.Harmless.{is_harmless}
 use Rattle.script_runner.proofs.SweepContent.{copies_broke, freeing_broke, some_to_copy}
@@ -167,6 +168,25 @@ module _ (C : Type 0) (state : C → CoreState) (among : ByteSet) (apart : HasNo
         let before = subst (λ (o : Option Collecting). HoldsCollection m.stored.files at.running.begins.store o (state old)) has_some.is at.running.begins.spares in
         once_unchanged (state old) (state new) at.running.begins.store at.running.begins.store has_some.collecting (λ slot h there. there) (state old).collection refl (kept_unchanged (state old) (state new) refusal row) before.1
 
+    -- only what was needed since it began is live
+    lives_then : LivesWithin (WasNeeded has_some.collecting.since) at.running.begins.store (state old) row.before
+    lives_then =
+        let before = subst (λ (o : Option Collecting). HoldsCollection m.stored.files at.running.begins.store o (state old)) has_some.is at.running.begins.spares in
+        before.2 row.before row.ran
+
+    same_at : (stage : Stage) (next : Next) → Touched stage next → IsSameIn at.running.begins.store at.running.begins.store (state old) (state new) stage
+    same_at (Mark level slot) next touch = (touch.only.content_is, refl)
+    same_at (Filter slot) next touch = tt
+    same_at Select next touch = tt
+    same_at Sweep next touch = tt
+
+    lives_rested : LivesByNeed at.running.begins.store has_some.collecting (state new)
+    lives_rested collection runs =
+        subst (LivesWithin (WasNeeded has_some.collecting.since) at.running.begins.store (state new)) (same_some row.after collection (state new).collection row.runs runs)
+        (lives_kept (WasNeeded has_some.collecting.since) among at.running.begins.store at.running.begins.store m.stored (state old) (state new) begins_then m.content at.content_is row.before row.after lives_then refusal
+        (same_at row.before.stage row.before.sweep.next touches_so)
+        (subst (λ (known : Option PlaceMap). Keeps row.before.stage row.before.sweep.next (moment (state old).tables known (state old).disk row.before) (at_moment (state new) row.after) refusal) begins_then.index_known row.kept))
+
     spares_rested : IsRestCause refusal → HoldsCollection m.stored.files at.running.begins.store m.collecting (state new)
     spares_rested rests =
         subst (λ (o : Option Collecting). HoldsCollection m.stored.files at.running.begins.store o (state new)) (sym has_some.is) (
@@ -175,6 +195,7 @@ module _ (C : Type 0) (state : C → CoreState) (among : ByteSet) (apart : HasNo
               (same_index begins_then.index index (state new).known (index_then rests ∙ begins_then.index_known) known)
               (subst SparesAt (same_some row.after collection (state new).collection row.runs runs) (spares_after (spared_then alone)))),
           once_rested,
+          lives_rested,
         )
 
     rested : IsRestCause refusal → (state new).stop ≡ None → (faults : ℕ) → (state new).disk.faults ≡ faults → Follows (IsIn among) (record m { content = image_then; faults = faults }) sessions (state new)

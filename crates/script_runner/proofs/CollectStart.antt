@@ -40,8 +40,8 @@ use Rattle.store_core.proofs.Making.{up_of}
 use Rattle.store_core.proofs.RunningOn.{step_runs}
 use Rattle.store_core.proofs.Stepping.{step_later}
 use Rattle.plain_machine.specs.Collections.{BeginsCollection, most_steps}
-use Rattle.plain_machine.specs.Machine.{Collecting, Machine, Marking, are_idle, part_in}
-use Rattle.script_runner.specs.Follows.{FollowsCollecting, FollowsCollection, FollowsPart, HoldsCollection, SparesNeeded}
+use Rattle.plain_machine.specs.Machine.{Collecting, Machine, Marking, Since, WasNeeded, are_idle, part_in}
+use Rattle.script_runner.specs.Follows.{FollowsCollecting, FollowsCollection, FollowsPart, HoldsCollection, LivesByNeed, LivesWithin, SparesNeeded}
 use Rattle.script_runner.specs.Sessions.{Sessions, session_of}
 use Rattle.script_runner.proofs.CollectCounts.{early_counted}
 use Rattle.script_runner.proofs.CollectStep.{none_collecting, same_some}
@@ -49,6 +49,8 @@ use Rattle.script_runner.proofs.IdleParts.{none_at, roots_reachable}
 use Rattle.script_runner.proofs.LinesReopen.{still_follows}
 use Rattle.script_runner.proofs.MostSteps.{steps_most}
 use Rattle.script_runner.proofs.PartsOn.{part_on, takes_on}
+use Rattle.script_runner.proofs.Lives.{IsClosed, closed_at, lives_of, lives_still}
+use Rattle.script_runner.proofs.NeededThen.{kept_needed, kept_then, needed_closed, roots_needed}
 use Rattle.script_runner.proofs.SparesLive.{same_live, spares_still}
 use Rattle.script_runner.proofs.TurnHolds.{right_here, store_here}
 use Rattle.script_runner.proofs.TurnLeaves.{KeepsStored}
@@ -163,8 +165,15 @@ module _ (C : Type 0) (state : C → CoreState) (among : ByteSet) (apart : HasNo
     abbrev slots_same : (state new).tables.held ≡ (state old).tables.held
     slots_same = same_slots C state among apart m sessions old new at percent started buf made
 
+    -- what is needed then
+    abbrev kept : List (List ℕ)
+    kept = kept_then among m sessions (state old) at.running.parts held m.stored at.running.begins.is_at m.content at.content_is
+
+    abbrev since_then : Since
+    since_then = record { files = m.stored.files; kept = kept }
+
     abbrev begins_so : Collecting
-    begins_so = record { percent = percent; snapshot = snapshot; progress = Marking; to_come = most_steps held.held; freed = 0; copied = 0; written = []; recorded = []; alone = are_idle m.parts }
+    begins_so = record { percent = percent; snapshot = snapshot; progress = Marking; to_come = most_steps held.held; freed = 0; copied = 0; written = []; recorded = []; alone = are_idle m.parts; since = since_then }
 
     -- the sources are still to be chosen
     early : IsToChoose begun.collection.stage
@@ -190,8 +199,8 @@ module _ (C : Type 0) (state : C → CoreState) (among : ByteSet) (apart : HasNo
     abbrev Needs : List ℕ → Type 0
     Needs = IsReachable m.stored.files
 
-    roots_needed : are_idle m.parts ≡ true → (key : List ℕ) → IsRoot (names_of held) (state old).parts key → Needs key
-    roots_needed idle =
+    roots_alone : are_idle m.parts ≡ true → (key : List ℕ) → IsRoot (names_of held) (state old).parts key → Needs key
+    roots_alone idle =
         roots_reachable held m.stored.files m.content (state old) (store_here (IsIn among) held m.stored (state old) at.running.begins.is_at m.content at.content_is) (none_at (IsIn among) m sessions (state old) at.running idle)
 
     above : last_id held.held < begun.collection.snapshot
@@ -208,11 +217,28 @@ module _ (C : Type 0) (state : C → CoreState) (among : ByteSet) (apart : HasNo
           begun_takes index held m.content (state old).tables.held begun.collection right.slots_are at.running.begins.is_at.represents.slots_hold (begun.percent_is ∙ full) begun.stage_is above,
     )
 
+    -- only what is needed then is live
+    lives_begun : LivesByNeed held begins_so (state new)
+    lives_begun collection runs =
+        subst (LivesWithin (WasNeeded since_then) held (state new)) (same_some begun.collection collection (state new).collection begun.runs runs) (record {
+          within = λ key place is.
+              roots_needed among m sessions (state old) at.running.parts held m.stored at.running.begins.is_at m.content at.content_is key
+              (subst (λ (names : NameMap). IsRoot names (state old).parts key) at.running.begins.is_at.represents.names_are.names_are ((begun.live key place).0 is));
+          closed = λ image told.
+              closed_at (WasNeeded since_then) held image begun.collection.stage
+              (subst (IsClosed (WasNeeded since_then) held) (same_content image told)
+              (needed_closed among m sessions (state old) at.running.parts held m.stored at.running.begins.is_at m.content at.content_is));
+        })
+      where
+        same_content : (image : List ℕ) → (state new).disk.content ≡ Some image → m.content ≡ image
+        same_content image told = let both : Some m.content ≡ Some image = sym at.content_is ∙ sym made_so.made.effect.disk.only.content_is ∙ told in cc
+
     spares_begun : HoldsCollection m.stored.files held (Some begins_so) (state new)
     spares_begun = (
       (λ idle index collection known runs.
-          subst (SparesNeeded m.stored.files held percent index) (same_some begun.collection collection (state new).collection begun.runs runs) (needed_alone (roots_needed idle) index known)),
+          subst (SparesNeeded m.stored.files held percent index) (same_some begun.collection collection (state new).collection begun.runs runs) (needed_alone (roots_alone idle) index known)),
       λ key none collection runs. absurd (omega (arith, none.1)),
+      lives_begun,
     )
 
     -- where it leads
@@ -229,6 +255,8 @@ module _ (C : Type 0) (state : C → CoreState) (among : ByteSet) (apart : HasNo
         snapshot_is = omega (arith, begun.snapshot_is, begun.next_is, at.running.begins.last_id_is, at.running.begins.low);
         most = most_steps held.held;
         most_is = (held, (right, refl));
+        kept = kept;
+        kept_are = kept_needed among m sessions (state old) at.running.parts held m.stored at.running.begins.is_at m.content at.content_is;
         others = refl;
       };
       at_next = runs_then C state among apart m sessions old new at percent started buf made made_so.stops (Some begins_so) made_so.made.effect.disk.faults_are made_so.counted_is now spares_begun;
@@ -240,11 +268,15 @@ module _ (C : Type 0) (state : C → CoreState) (among : ByteSet) (apart : HasNo
       let so = steps C state among apart m sessions old new at percent (Err refusals.Memory) buf made in
       runs_then C state among apart m sessions old new at percent (Err refusals.Memory) buf made so.stops m.collecting so.made.effect.disk.faults_are so.counted_is
       (still_follows (state old) (state new) so.made.effect.disk.only so.made.effect.tables.tables_are so.made.effect.tables.index_is so.made.row.1 m.collecting at.running.begins.collects)
-      (spares_still (state old) (state new) m.stored.files at.running.begins.store so.made.effect.tables.index_is (same_live (state old).collection (state new).collection so.made.row.1) m.collecting at.running.begins.spares)
+      (spares_still (state old) (state new) m.stored.files at.running.begins.store so.made.effect.tables.index_is (same_live (state old).collection (state new).collection so.made.row.1) m.collecting
+      (lives_still (state old) (state new) at.running.begins.store so.made.row.1 so.made.effect.disk.only.content_is m.collecting (lives_of m.stored.files at.running.begins.store m.collecting (state old) at.running.begins.spares))
+      at.running.begins.spares)
 
   pub unstarted_running : (phase : _) (made : CoreStep (state old) (start_event percent (Err (refusals.Collecting phase)) buf).event (state new)) → RunsAt (IsIn among) m sessions (state new)
   unstarted_running phase made =
       let so = steps C state among apart m sessions old new at percent (Err (refusals.Collecting phase)) buf made in
       runs_then C state among apart m sessions old new at percent (Err (refusals.Collecting phase)) buf made so.stops m.collecting so.made.effect.disk.faults_are so.counted_is
       (still_follows (state old) (state new) so.made.effect.disk.only so.made.effect.tables.tables_are so.made.effect.tables.index_is so.made.row.1 m.collecting at.running.begins.collects)
-      (spares_still (state old) (state new) m.stored.files at.running.begins.store so.made.effect.tables.index_is (same_live (state old).collection (state new).collection so.made.row.1) m.collecting at.running.begins.spares)
+      (spares_still (state old) (state new) m.stored.files at.running.begins.store so.made.effect.tables.index_is (same_live (state old).collection (state new).collection so.made.row.1) m.collecting
+      (lives_still (state old) (state new) at.running.begins.store so.made.row.1 so.made.effect.disk.only.content_is m.collecting (lives_of m.stored.files at.running.begins.store m.collecting (state old) at.running.begins.spares))
+      at.running.begins.spares)

@@ -73,7 +73,7 @@ commit_event actor name file buf answer = record { event = record { actor = acto
 -- ---- the machine then
 
 abbrev pub committed : Machine → ℕ → List ℕ → List ℕ → List ℕ → Machine
-committed m actor name file image = record (put_at m actor Idle) { stored = with_stored m.stored name file; acknowledged = one_more m.acknowledged; content = image; collecting = disturbed m.collecting }
+committed m actor name file image = record (put_at m actor Idle) { stored = with_stored m.stored name file; acknowledged = one_more m.acknowledged; content = image; collecting = disturbed [] m.collecting }
 
 pub record CommitMade (S : List ℕ → Type 0) (m : Machine) (sessions : Sessions) (actor : ℕ) (name file : List ℕ) (old new : CoreState) : Type 0 where
   pub image : List ℕ

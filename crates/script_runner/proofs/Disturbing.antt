@@ -14,7 +14,8 @@ use Rattle.store_core.specs.State.{CoreState, Event}
 use Rattle.store_core.proofs.RunningOn.{seal_kept}
 use Rattle.plain_machine.specs.Machine.{Collecting, disturbed}
 use Rattle.script_runner.specs.Follows.{FollowsCollection, HoldsCollection}
-use Rattle.script_runner.proofs.PlainSteps.{IsPlainStep, collecting_after, goes_unchanged}
+use Rattle.script_runner.proofs.Lives.{LivesIn}
+use Rattle.script_runner.proofs.PlainSteps.{IsPlainStep, collecting_after, goes_unchanged, kept_keys}
 use Rattle.script_runner.proofs.SparesLive.{GoesAsLive, WroteOf, follows_disturbed, none_marked, same_live, spares_disturbed, spares_still}
 use Rattle.script_runner.proofs.WrittenOnce.{once_unchanged, stands_by}
 
@@ -27,11 +28,11 @@ IsQuiet (asked.Delete name) (Ok answer) = ⊥
 IsQuiet step answer = Unit {0}
 
 -- the collection after a step is the same, or disturbed
-pub quiet_or : (step : StepValue) (answer : Result Answer Refusal) (collecting : Option Collecting) → IsQuiet step answer ⊎ (collecting_after step answer collecting ≡ disturbed collecting)
-quiet_or (asked.Claim seg) (Ok answer) collecting = inr refl
-quiet_or (asked.Seal filled) (Ok answer) collecting = inr refl
-quiet_or (asked.Commit name root) (Ok answer) collecting = inr refl
-quiet_or (asked.Delete name) (Ok answer) collecting = inr refl
+pub quiet_or : (step : StepValue) (answer : Result Answer Refusal) (collecting : Option Collecting) → IsQuiet step answer ⊎ ((keys : List (List ℕ)) × (collecting_after step answer collecting ≡ disturbed keys collecting))
+quiet_or (asked.Claim seg) (Ok answer) collecting = inr (kept_keys (asked.Claim seg) answer, refl)
+quiet_or (asked.Seal filled) (Ok answer) collecting = inr (kept_keys (asked.Seal filled) answer, refl)
+quiet_or (asked.Commit name root) (Ok answer) collecting = inr ([], refl)
+quiet_or (asked.Delete name) (Ok answer) collecting = inr ([], refl)
 quiet_or step answer collecting = inl tt
 
 quiet_same : (step : StepValue) (answer : Result Answer Refusal) (collecting : Option Collecting) → IsQuiet step answer → collecting_after step answer collecting ≡ collecting
@@ -105,13 +106,16 @@ module _ (old new : CoreState) where
     abbrev later : Stored
     later = stored_with e.step e.answer bytes stored
 
-    quietly : IsQuiet e.step e.answer → HoldsCollection stored.files store collecting old → HoldsCollection later.files after (collecting_after e.step e.answer collecting) new
-    quietly quiet spares =
+    quietly : IsQuiet e.step e.answer → LivesIn after (collecting_after e.step e.answer collecting) new → HoldsCollection stored.files store collecting old
+        → HoldsCollection later.files after (collecting_after e.step e.answer collecting) new
+    quietly quiet lives spares =
         let same_store : after ≡ store = subst (λ (changes : List StoreChange). ChangesTo changes store after) (quiet_changes e.step e.answer quiet) chain in
+        let lives_so : LivesIn store collecting new =
+        subst (λ (s : Store). LivesIn s collecting new) same_store (subst (λ (o : Option Collecting). LivesIn after o new) (quiet_same e.step e.answer collecting quiet) lives) in
         subst (λ (o : Option Collecting). HoldsCollection later.files after o new) (sym (quiet_same e.step e.answer collecting quiet))
         (subst (λ (s : Stored). HoldsCollection s.files after collecting new) (sym (quiet_stored e.step e.answer bytes stored quiet))
         (subst (λ (s : Store). HoldsCollection stored.files s collecting new) (sym same_store)
-        (spares_still old new stored.files store (quiet_keeps e.step e.answer plain quiet stays steps.made.effect steps.stops).index_is (quiet_live e.step e.answer plain quiet steps.collects) collecting spares)))
+        (spares_still old new stored.files store (quiet_keeps e.step e.answer plain quiet stays steps.made.effect steps.stops).index_is (quiet_live e.step e.answer plain quiet steps.collects) collecting lives_so spares)))
 
     -- what was written stands, and is not filled
     wrote_on : (o : Option Collecting) → HoldsCollection stored.files store o old → WroteOf after o new
@@ -119,15 +123,17 @@ module _ (old new : CoreState) where
     wrote_on (Some k) spares =
         once_unchanged old new store after k (stands_by store after e.step e.answer chain) old.collection refl (goes_unchanged old new e.step e.answer plain steps.collects) spares.1
 
-    pub spares_on : HoldsCollection stored.files store collecting old → HoldsCollection later.files after (collecting_after e.step e.answer collecting) new
-    spares_on spares = elim (quiet_or e.step e.answer collecting) [
-      | inl quiet ↦ quietly quiet spares
-      | inr is ↦ subst (λ (o : Option Collecting). HoldsCollection later.files after o new) (sym is) (spares_disturbed later.files after collecting new (wrote_on collecting spares))
+    pub spares_on : LivesIn after (collecting_after e.step e.answer collecting) new → HoldsCollection stored.files store collecting old → HoldsCollection later.files after (collecting_after e.step e.answer collecting) new
+    spares_on lives spares = elim (quiet_or e.step e.answer collecting) [
+      | inl quiet ↦ quietly quiet lives spares
+      | inr is ↦
+          subst (λ (o : Option Collecting). HoldsCollection later.files after o new) (sym is.1)
+          (spares_disturbed is.0 later.files after collecting new (wrote_on collecting spares) (subst (λ (o : Option Collecting). LivesIn after o new) is.1 lives))
     ]
 
 -- what the machine says of it is so still
 pub follows_after : (step : StepValue) (answer : Result Answer Refusal) (collecting : Option Collecting) (c : CoreState) → FollowsCollection collecting c → FollowsCollection (collecting_after step answer collecting) c
 follows_after step answer collecting c follows = elim (quiet_or step answer collecting) [
   | inl quiet ↦ subst (λ (o : Option Collecting). FollowsCollection o c) (sym (quiet_same step answer collecting quiet)) follows
-  | inr is ↦ subst (λ (o : Option Collecting). FollowsCollection o c) (sym is) (follows_disturbed collecting c follows)
+  | inr is ↦ subst (λ (o : Option Collecting). FollowsCollection o c) (sym is.1) (follows_disturbed is.0 collecting c follows)
 ]

@@ -39,6 +39,8 @@ pub mod LinesStat
 pub mod LinesTaking
 pub mod LinesTurn
 pub mod Lists
+pub mod Lives
+pub mod LivesOn
 pub mod MostSteps
 pub mod NameRefused
 pub mod NamedAt
@@ -49,6 +51,7 @@ pub mod NamedLines
 pub mod NamedNames
 pub mod NamedSteps
 pub mod NamedTaking
+pub mod NeededThen
 pub mod NeedsLive
 pub mod Numbered
 pub mod OneRead

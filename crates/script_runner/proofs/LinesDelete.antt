@@ -112,7 +112,7 @@ module _ (C : Type 0) (state : C → CoreState) (among : ByteSet) (distinct : Ha
       image = leads.content.0
 
       abbrev next : Machine
-      next = record m { stored = without_stored m.stored name; acknowledged = one_more m.acknowledged; content = image; collecting = disturbed m.collecting }
+      next = record m { stored = without_stored m.stored name; acknowledged = one_more m.acknowledged; content = image; collecting = disturbed [] m.collecting }
 
       recorded : AddsRecord name Delete m.content image
       recorded = record {

@@ -12,6 +12,7 @@ use Rattle.dd_disk.proofs.Shows.{shown_content}
 use Rattle.disk_format.specs.declared.numbers.TheConstants.{LAST_ID}
 use Rattle.container_meta.specs.Places.{PlaceMap}
 use Rattle.container_meta.specs.Segments.{KindSegment}
+use Rattle.merkle_file.specs.declared.top.Top.{Top}
 use Rattle.actor_parts.specs.declared.actor.TheConstants.{ACTORS}
 use Rattle.actor_parts.specs.declared.part.Part as core_part
 use Rattle.actor_parts.specs.declared.part.Reader.{Reader}
@@ -69,6 +70,7 @@ use Rattle.gc_steps.specs.StepsToCome.{steps_to_come}
 use Rattle.store_core.proofs.SafeSteps.{alone}
 use Rattle.container_meta.specs.Spelling.{HeaderValue}
 use Rattle.script_runner.proofs.CollectionOn.{low_id}
+use Rattle.script_runner.proofs.Lives.{lives_of, lives_still}
 use Rattle.script_runner.proofs.SparesLive.{same_live, spares_still}
 
 -- ---- tables and index that stay, over a disk that is only read
@@ -127,7 +129,8 @@ module _ (old new : CoreState) (reads : OnlyReads old.disk new.disk) (tables_are
     is_at = still_at S begins.store stored parts_are begins.is_at;
     whole = λ none. subst (IndexesAll begins.store) (sym index_is) (begins.whole none);
     collects = still_follows collecting begins.collects;
-    spares = spares_still old new stored.files begins.store index_is (same_live old.collection new.collection collection_is) collecting begins.spares;
+    spares = spares_still old new stored.files begins.store index_is (same_live old.collection new.collection collection_is) collecting
+        (lives_still old new begins.store collection_is reads.content_is collecting (lives_of stored.files begins.store collecting old begins.spares)) begins.spares;
     low = begins.low;
     last_id_is = ap (λ (tables : Tables). tables.held.last_id) tables_are ∙ begins.last_id_is;
     settled = subst (λ (tables : Tables). IsSettled tables.slots new.disk) (sym tables_are)

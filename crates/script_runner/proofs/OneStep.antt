@@ -2,6 +2,7 @@
 use Rattle.std.proofs.Common.{Bool, ◌≡◌, ◌≢◌, ◌⊎◌, inl, inr, ◌<◌, ℕ, List, [], ◌∷◌, ◌++◌, Option, Some, None, Result, Err, refl, sym, ◌∙◌, ap, subst, ◌≤◌}
 use Rattle.std.proofs.lemmas.List.{append-nil}
 use Rattle.std.specs.List.{AllByRecursion}
+use Rattle.base_model.specs.Known.{KnownWith}
 use Rattle.dd_disk.specs.View.{CrashLeaves}
 use Rattle.dd_disk.proofs.Later.{leaves_weaker}
 use Rattle.container_meta.specs.Segments.{KindSegment}
@@ -21,7 +22,7 @@ use Rattle.store_model.specs.Steps.{StoreChange, changed}
 use Rattle.store_core.specs.declared.stop.Stop.{Stop}
 use Rattle.store_core.specs.Core as core_step
 use Rattle.store_core.specs.Core.{Steps, StopsAfter}
-use Rattle.store_core.specs.Frame.{AddsBytes}
+use Rattle.store_core.specs.Frame.{AddsBytes, KeepsStanding}
 use Rattle.store_core.specs.Keeping.{IsHeldIn, kept_by}
 use Rattle.store_core.specs.Runs.{ChangesTo, FileEvent, FileRun, IsAt, FileStep, IsOnTheWay, changes_by, stored_by, stored_tried, stored_with, IsNoGcStep}
 use Rattle.store_core.specs.State.{CoreState, IsUp, UnlessStopped}
@@ -33,12 +34,15 @@ use Rattle.store_core.proofs.KeepingFiles.{NextOn, chain_on, file_step}
 use Rattle.store_core.proofs.KeepingSegments.{keeps_segments, stays_held, stays_settled}
 use Rattle.store_core.proofs.Making.{up_of}
 use Rattle.store_core.proofs.RunningOn.{step_runs}
+use Rattle.store_core.proofs.Standing.{containers_stay}
 use Rattle.store_core.proofs.Stepping.{row_one}
 use Rattle.plain_machine.specs.Machine.{Collecting, Machine, part_in}
 use Rattle.script_runner.specs.Follows.{FollowsCollection, FollowsPart, FollowsStore, FollowsRunning, HoldsCollection, Takes}
 use Rattle.script_runner.specs.Sessions.{Sessions, session_of}
 use Rattle.script_runner.proofs.CollectionOn.{collection_on, last_on, low_on}
 use Rattle.script_runner.proofs.Disturbing.{follows_after, spares_on}
+use Rattle.script_runner.proofs.Lives.{LivesIn, lives_of}
+use Rattle.script_runner.proofs.LivesOn.{lives_on}
 use Rattle.script_runner.proofs.PlainSteps.{IsPlainStep, collecting_after, last_after, plain_no_gc}
 use Rattle.script_runner.proofs.PartsOn.{part_on, takes_on}
 use Rattle.disk_format.specs.declared.numbers.TheConstants.{LAST_ID}
@@ -114,6 +118,16 @@ module _ (C : Type 0) (state : C → CoreState) (among : ByteSet) (apart : HasNo
     next : NextOn S store changes_are (stored_by f m.stored) (state old) (state new)
     next = file_step among apart f store m.stored (state old) (state new) no_gc step running.begins.is_at stays
 
+    -- each container that stands still has the same bytes
+    standing : KnownWith (state new).disk.content (KeepsStanding store next.next.store m.content)
+    standing =
+        containers_stay C state among (f ∷ []) store next.next.store m.stored (stored_by f m.stored) m.content old new apart running.begins.is_at content_is running.begins.settled run stays next.next.is_at
+
+    lives : LivesIn next.next.store (collecting_after f.event.step f.event.answer m.collecting) (state new)
+    lives =
+        lives_on S store next.next.store m.stored (stored_by f m.stored) (state old) (state new) f.event running.begins.is_at next.next.is_at plain steps next.next.chain m.content standing.0 content_is standing.1 standing.2
+        m.collecting (lives_of m.stored.files store m.collecting (state old) running.begins.spares)
+
     begins : FollowsStore S (stored_by f m.stored) (last_after f.event.answer m.last_id) (collecting_after f.event.step f.event.answer m.collecting) m.collected (state new)
     begins = record {
       store = next.next.store;
@@ -123,7 +137,7 @@ module _ (C : Type 0) (state : C → CoreState) (among : ByteSet) (apart : HasNo
       last_id_is = last_on (state old) (state new) S store next.next.store m.stored (stored_by f m.stored) running.begins.is_at next.next.is_at f.event stays no_gc steps ∙ ap (last_after f.event.answer) running.begins.last_id_is;
       collects = follows_after f.event.step f.event.answer m.collecting (state new)
           (collection_on (state old) (state new) S store next.next.store m.stored (stored_by f m.stored) running.begins.is_at next.next.is_at m.collecting f.event stays plain steps next.next.chain running.begins.collects);
-      spares = spares_on (state old) (state new) store next.next.store m.stored f.bytes m.collecting f.event stays plain steps next.next.chain running.begins.spares;
+      spares = spares_on (state old) (state new) store next.next.store m.stored f.bytes m.collecting f.event stays plain steps next.next.chain lives running.begins.spares;
       low = low_on (state old) (state new) S store next.next.store m.stored (stored_by f m.stored) running.begins.is_at next.next.is_at m.last_id f.event no_gc steps next.next.chain running.begins.low;
     }
 

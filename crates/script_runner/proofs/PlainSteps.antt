@@ -1,5 +1,6 @@
 -- Steps that neither begin a collection nor are one of it: what becomes of the table of slots, the last id and the collection that runs.
-use Rattle.std.proofs.Common.{◌≡◌, ℕ, List, Option, Some, None, Result, Ok, Err, refl, ap}
+use Rattle.std.proofs.Common.{◌≡◌, ℕ, List, [], ◌∷◌, map, Option, Some, None, Result, Ok, Err, refl, ap}
+use Rattle.container_meta.specs.Segments.{segment_key}
 use Rattle.actor_parts.specs.declared.step.Answer.{Answer}
 use Rattle.actor_parts.specs.declared.step.Answer.TheVariants as answers
 use Rattle.actor_parts.specs.StepValue as asked
@@ -41,12 +42,18 @@ abbrev pub last_after : Result Answer Refusal → ℕ → ℕ
 last_after (Ok answer) last = last_by answer last
 last_after (Err refusal) last = last
 
+-- the keys that a step keeps: of a segment that was claimed and is held, or of those of a container that was sealed
+abbrev pub kept_keys : StepValue → Answer → List (List ℕ)
+kept_keys (asked.Claim seg) answers.Held = segment_key seg.kind seg.segment ∷ []
+kept_keys (asked.Seal filled) (answers.Sealed id) = map (segment_key filled.kind) filled.segments
+kept_keys step answer = []
+
 -- the machine's collection, after a step: a claim, a seal, a commit or a delete that was done disturbs it
 abbrev pub collecting_after : StepValue → Result Answer Refusal → Option Collecting → Option Collecting
-collecting_after (asked.Claim seg) (Ok answer) collecting = disturbed collecting
-collecting_after (asked.Seal filled) (Ok answer) collecting = disturbed collecting
-collecting_after (asked.Commit name root) (Ok answer) collecting = disturbed collecting
-collecting_after (asked.Delete name) (Ok answer) collecting = disturbed collecting
+collecting_after (asked.Claim seg) (Ok answer) collecting = disturbed (kept_keys (asked.Claim seg) answer) collecting
+collecting_after (asked.Seal filled) (Ok answer) collecting = disturbed (kept_keys (asked.Seal filled) answer) collecting
+collecting_after (asked.Commit name root) (Ok answer) collecting = disturbed [] collecting
+collecting_after (asked.Delete name) (Ok answer) collecting = disturbed [] collecting
 collecting_after step answer collecting = collecting
 
 -- what is refused disturbs none

@@ -22,6 +22,7 @@ use Rattle.store_core.specs.Collecting.{MarksIn}
 use Rattle.store_core.specs.State.{CoreState}
 use Rattle.plain_machine.specs.Machine.{Collecting, disturbed}
 use Rattle.script_runner.specs.Follows.{FollowsCollection, HoldsCollection, SparesNeeded, WroteOnce}
+use Rattle.script_runner.proofs.Lives.{LivesIn}
 use Rattle.script_runner.proofs.PlainSteps.{GoesUnchanged}
 use Rattle.script_runner.proofs.WrittenOnce.{once_unchanged}
 
@@ -125,11 +126,12 @@ module _ (old new : CoreState) (files : Files) (store : Store) (index_is : new.k
       let same : record b { live = on.0 } ≡ c = let both : Some (record b { live = on.0 }) ≡ Some c = sym on.1.0 ∙ runs in cc in
       subst (SparesNeeded files store percent index) same (needed_live index b on.0 on.1.1.0 files store percent on.1.1.1 (before index b (sym index_is ∙ known) is))
 
-  pub spares_still : (collecting : Option Collecting) → HoldsCollection files store collecting old → HoldsCollection files store collecting new
-  spares_still None spares = tt
-  spares_still (Some k) spares = (
+  pub spares_still : (collecting : Option Collecting) → LivesIn store collecting new → HoldsCollection files store collecting old → HoldsCollection files store collecting new
+  spares_still None lives spares = tt
+  spares_still (Some k) lives spares = (
     (λ alone. by_running k.percent old.collection refl goes (spares.0 alone)),
     once_unchanged old new store store k (λ slot h there. there) old.collection refl (as_unchanged old new old.collection new.collection goes) spares.1,
+    lives,
   )
 
 -- ---- one that was disturbed
@@ -139,13 +141,14 @@ abbrev pub WroteOf : Store → Option Collecting → CoreState → Type 0
 WroteOf store None c = Unit {0}
 WroteOf store (Some k) c = WroteOnce store k c
 
-pub spares_disturbed : (files : Files) (store : Store) (collecting : Option Collecting) (c : CoreState) → WroteOf store collecting c → HoldsCollection files store (disturbed collecting) c
-spares_disturbed files store None c wrote = tt
-spares_disturbed files store (Some k) c wrote = ((λ wrong. absurd (let no = wrong in cc)), wrote)
+pub spares_disturbed : (keys : List (List ℕ)) (files : Files) (store : Store) (collecting : Option Collecting) (c : CoreState) → WroteOf store collecting c → LivesIn store (disturbed keys collecting) c
+    → HoldsCollection files store (disturbed keys collecting) c
+spares_disturbed keys files store None c wrote lives = tt
+spares_disturbed keys files store (Some k) c wrote lives = ((λ wrong. absurd (let no = wrong in cc)), wrote, lives)
 
-pub follows_disturbed : (collecting : Option Collecting) (c : CoreState) → FollowsCollection collecting c → FollowsCollection (disturbed collecting) c
-follows_disturbed None c follows = follows
-follows_disturbed (Some k) c follows = record {
+pub follows_disturbed : (keys : List (List ℕ)) (collecting : Option Collecting) (c : CoreState) → FollowsCollection collecting c → FollowsCollection (disturbed keys collecting) c
+follows_disturbed keys None c follows = follows
+follows_disturbed keys (Some k) c follows = record {
   collection = follows.collection;
   runs = follows.runs;
   progress_is = follows.progress_is;

@@ -13,7 +13,7 @@ use Rattle.gc_steps.specs.declared.collection.Collection.{Collection}
 use Rattle.gc_steps.specs.declared.collection.Stage.{Stage}
 use Rattle.gc_steps.specs.declared.collection.Stage.TheVariants.{Sweep}
 use Rattle.gc_steps.specs.Safety.{IsSafeAt}
-use Rattle.gc_steps.specs.Sparing.{CopiesAlone, Spares}
+use Rattle.gc_steps.specs.Sparing.{CopiesAlone, IsWithin, Spares}
 use Rattle.gc_steps.specs.Stepping.{Touches}
 use Rattle.gc_steps.specs.SweepIsSafe.{HoldsAt, SweepIsSafe}
 use Rattle.gc_steps.specs.UnderWay.{HasChosen}
@@ -111,10 +111,11 @@ module _ (among : ByteSet) (store : Store) (stored : Stored) (old new : CoreStat
         ((chosen_which c.snapshot c.percent c.liveness c.sweep.sources.items sources_are id).0 source)))
 
     -- all that is filled has its newest copies there, or in containers that came since
-    pub filled_of_copied : AllByRecursion (λ x. IsOfCopied Chosen snapshot store.held (segment_key c.sweep.buffer.kind x)) c.sweep.buffer.segments
-    filled_of_copied =
-        subst (λ (n : ℕ). AllByRecursion (λ x. IsOfCopied Chosen n store.held (segment_key c.sweep.buffer.kind x)) c.sweep.buffer.segments) snapshot_is
-        (are_of_copied Chosen index store.held content old.tables.held c.live c.snapshot c.sweep represents.slots_hold invariant.index_is_newest sweeping was_held chosen_so)
+    pub filled_of_copied : (Was : List ℕ → Type 0) → IsWithin Was c.live
+        → AllByRecursion (λ x. IsOfCopied Was Chosen snapshot store.held (segment_key c.sweep.buffer.kind x)) c.sweep.buffer.segments
+    filled_of_copied Was within =
+        subst (λ (n : ℕ). AllByRecursion (λ x. IsOfCopied Was Chosen n store.held (segment_key c.sweep.buffer.kind x)) c.sweep.buffer.segments) snapshot_is
+        (are_of_copied Chosen index store.held content old.tables.held c.live c.snapshot c.sweep represents.slots_hold invariant.index_is_newest sweeping was_held chosen_so Was within)
 
     -- where it spares what is needed, all that is filled is to be copied
     pub filled_to_copy : Spares (IsReachable stored.files) index store.held c
@@ -173,12 +174,12 @@ module _ (among : ByteSet) (store : Store) (stored : Stored) (old new : CoreStat
       are_held : AllByRecursion (λ x. Holds image (of_kind filled.kind x)) filled.segments
       are_held = each_so (λ x. HasNewest written.held (segment_key filled.kind x) x.level x.bytes image) (λ x. Holds image (of_kind filled.kind x)) filled.segments (λ x has. (written, (now, has))) newest_now
 
-      pub copies_added : (alone : Bool) (Of : ℕ → Type 0) (snapshot last : ℕ) (wrote : List (List ℕ)) → old.tables.held.last_id ≡ last
-          → AllByRecursion (λ x. IsOfCopied Of snapshot store.held (segment_key filled.kind x)) filled.segments
+      pub copies_added : (alone : Bool) (Was : List ℕ → Type 0) (Of : ℕ → Type 0) (snapshot last : ℕ) (wrote : List (List ℕ)) → old.tables.held.last_id ≡ last
+          → AllByRecursion (λ x. IsOfCopied Was Of snapshot store.held (segment_key filled.kind x)) filled.segments
           → (alone ≡ true → AllByRecursion (λ x. IsToCopy (IsReachable stored.files) Of store.held (segment_key filled.kind x)) filled.segments)
           → AllByRecursion (λ x. ¬ (Contains wrote (segment_key filled.kind x))) filled.segments
-          → AddsCopies alone (IsReachable stored.files) Of snapshot last (length filled.segments) wrote (wrote ++ keys_of filled) content image
-      copies_added alone Of snapshot last wrote last_is from_chosen to_copy new_keys = record {
+          → AddsCopies alone (IsReachable stored.files) Was Of snapshot last (length filled.segments) wrote (wrote ++ keys_of filled) content image
+      copies_added alone Was Of snapshot last wrote last_is from_chosen to_copy new_keys = record {
         store = store;
         was = right;
         filled = filled;

@@ -81,8 +81,9 @@ module _ (Chosen : ℕ → Type 0) (index : PlaceMap) (held : List (Option Heade
     alone_chosen : Contains s.waiting.items place.slot ⊎ ((h : HeaderValue) × IsHalfCopied held s place.slot h) → Chosen found.0.id
     alone_chosen alone = source_chosen (alone_source held t snapshot s under slots place.slot at.header there alone)
 
-    is_of_copied : IsOfCopied Chosen snapshot held key
-    is_of_copied = record {
+    is_of_copied : (Was : List ℕ → Type 0) → IsWithin Was live → IsOfCopied Was Chosen snapshot held key
+    is_of_copied Was within = record {
+      needed = within key place filled_live.1.1;
       copy = found.0;
       copy_is = found.1.0;
       from = by_origin (holds.origin key place has found_at);
@@ -94,8 +95,8 @@ module _ (Chosen : ℕ → Type 0) (index : PlaceMap) (held : List (Option Heade
         by_origin (inr (inr (h, (stands, newer)))) =
             inr (omega (arith, newer, ap (λ (x : HeaderValue). x.id) (one_header held place.slot place.slot h at.header refl stands there), ap (λ (c : Copy). c.id) at.copy_is))
 
-  pub are_of_copied : AllByRecursion (λ x. IsOfCopied Chosen snapshot held (segment_key s.buffer.kind x)) s.buffer.segments
-  are_of_copied = each_listed (IsOfCopied Chosen snapshot held) s.buffer.kind s.buffer.segments is_of_copied
+  pub are_of_copied : (Was : List ℕ → Type 0) → IsWithin Was live → AllByRecursion (λ x. IsOfCopied Was Chosen snapshot held (segment_key s.buffer.kind x)) s.buffer.segments
+  are_of_copied Was within = each_listed (IsOfCopied Was Chosen snapshot held) s.buffer.kind s.buffer.segments (λ key has. is_of_copied key has Was within)
 
   -- ---- where it runs alone all is in sources, and needed
 

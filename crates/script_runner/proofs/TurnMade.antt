@@ -41,7 +41,7 @@ use Rattle.ingest_session.specs.Told.{IsAnswerFor, IsSettled, told_by}
 use Rattle.ingest_session.proofs.Members.{IsIn, all_of, one_of}
 use Rattle.plain_machine.specs.Content.{AddsContainer, Holds, SameBut}
 use Rattle.plain_machine.specs.Machine.{Machine, Part, disturbed, part_in, put_at}
-use Rattle.plain_machine.specs.Turns.{LacksIn, Writer, MachineTurn, MayBe, Shows, last_by, told}
+use Rattle.plain_machine.specs.Turns.{LacksIn, Writer, MachineTurn, MayBe, Shows, kept_by, last_by, told}
 use Rattle.script_runner.specs.Follows.{FollowsPart, Gives, HasKeptKey, HasPinOf}
 use Rattle.script_runner.specs.Sessions.{Sessions, with_session}
 use Rattle.session_turns.specs.Turns.{Asks}
@@ -88,9 +88,9 @@ container_added id filled store old new adds = record {
 
 -- ---- the turn
 
--- the machine after an answer
-abbrev pub after : Machine → ℕ → Part → List ℕ → ℕ → Machine
-after m actor part image last = record (put_at m actor part) { content = image; last_id = last; collecting = disturbed m.collecting }
+-- the machine after an answer, which kept these keys
+abbrev pub after : Machine → ℕ → Part → List ℕ → ℕ → List (List ℕ) → Machine
+after m actor part image last keys = record (put_at m actor part) { content = image; last_id = last; collecting = disturbed keys m.collecting }
 
 -- what a turn was, and where it leads
 pub record Turned (S : List ℕ → Type 0) (m : Machine) (sessions : Sessions) (actor : ℕ) (answer : Answer) (t : SessionState) (old new : CoreState) : Type 0 where
@@ -134,11 +134,11 @@ module _ (S : List ℕ → Type 0) (m : Machine) (sessions : Sessions) (actor : 
     }
 
     -- so it was a turn
-    module _ (step : StepValue) (buf : List ℕ) (leads : Leads step answer buf) (step_is : CoreStep old (event step answer buf).event new) (runs : new.stop ≡ None) (stored : stored_by (event step answer buf) m.stored ≡ m.stored) (disturbs : collecting_after step (Ok answer) m.collecting ≡ disturbed m.collecting) (faults : new.disk.faults ≡ old.disk.faults) (counted : new.acknowledged ≡ old.acknowledged) where
-      turned : (due : Due) → due_in s ≡ due → Shows due s answer m leads.content.0 → (more : PinMap) → part_of new.parts actor ≡ core_parts.Writing more → Gives w.given w.ended (w.answers ++ answer ∷ []) t more new
+    module _ (step : StepValue) (buf : List ℕ) (leads : Leads step answer buf) (step_is : CoreStep old (event step answer buf).event new) (runs : new.stop ≡ None) (stored : stored_by (event step answer buf) m.stored ≡ m.stored) (faults : new.disk.faults ≡ old.disk.faults) (counted : new.acknowledged ≡ old.acknowledged) where
+      turned : (due : Due) → due_in s ≡ due → collecting_after step (Ok answer) m.collecting ≡ disturbed (kept_by due s answer) m.collecting → Shows due s answer m leads.content.0 → (more : PinMap) → part_of new.parts actor ≡ core_parts.Writing more → Gives w.given w.ended (w.answers ++ answer ∷ []) t more new
           → Turned S m sessions actor answer t old new
-      turned due due_is shows more writing gives_now = record {
-        next = after m actor (told (part_in m actor) answer) leads.content.0 (last_by answer m.last_id);
+      turned due due_is disturbs shows more writing gives_now = record {
+        next = after m actor (told (part_in m actor) answer) leads.content.0 (last_by answer m.last_id) (kept_by due s answer);
         turn = record {
           writer = w;
           is_writer = gives.is_writer;
@@ -156,7 +156,7 @@ module _ (S : List ℕ → Type 0) (m : Machine) (sessions : Sessions) (actor : 
           shows = shows;
           others = refl;
         };
-        at = runs_on S m (after m actor (told (part_in m actor) answer) leads.content.0 (last_by answer m.last_id)) sessions old new (event step answer buf) at leads runs at.state_is stored refl disturbs refl leads.content.1 (faults ∙ at.faults_are) (counted ∙ at.counted)
+        at = runs_on S m (after m actor (told (part_in m actor) answer) leads.content.0 (last_by answer m.last_id) (kept_by due s answer)) sessions old new (event step answer buf) at leads runs at.state_is stored refl disturbs refl leads.content.1 (faults ∙ at.faults_are) (counted ∙ at.counted)
             (told (part_in m actor) answer) (Some t) refl
             (subst (λ (core : core_part.Part). FollowsPart (told (part_in m actor) answer) (Some t) core new) (sym writing)
             (follows_giving (told (part_in m actor) answer) t more new (with_answer w answer) (told_writer (part_in m actor) w answer gives.is_writer) gives_now))
@@ -218,7 +218,8 @@ module _ (S : List ℕ → Type 0) (m : Machine) (sessions : Sessions) (actor : 
           let same : image ≡ m.content = same_some image m.content (sym leads.content.1 ∙ made.made.effect.disk.only.content_is ∙ at.content_is) in
           let pins_are : claimed.may.pins ≡ pins = same_pins claimed.may.pins pins (sym claimed.may.writing ∙ gives.writing) in
           let holds : Holds image seg = held_here S leads.begins.store m.stored new leads.begins.is_at image leads.content.1 seg leads.kept.0 seg_level in
-          turned answers.Held t told_is history (asked.Claim seg) buf leads step made.stops refl refl made.made.effect.disk.faults_are made.counted_is Claim due
+          turned answers.Held t told_is history (asked.Claim seg) buf leads step made.stops refl made.made.effect.disk.faults_are made.counted_is Claim due
+          (ap (λ (y : KindSegment). disturbed (segment_key y.kind y.segment ∷ []) m.collecting) seg_is)
           (seg, (offered, subst (λ (l : List ℕ). Holds l seg) same holds, same))
           held_more
           (part_now (core_parts.Writing (finite.insert claimed.may.pins (key_of_seg seg) (pin_of seg))) claimed.parts_are
@@ -236,7 +237,7 @@ module _ (S : List ℕ → Type 0) (m : Machine) (sessions : Sessions) (actor : 
           let same : image ≡ m.content = same_some image m.content (sym leads.content.1 ∙ made.made.effect.disk.only.content_is ∙ at.content_is) in
           let begins = at.running.begins in
           let lacks : LacksIn m seg = lacks_by S begins.store m old begins.is_at at.content_is seg claimed.looked_up begins.whole in
-          turned answers.Absent t told_is history (asked.Claim seg) buf leads step made.stops refl refl made.made.effect.disk.faults_are made.counted_is Claim due
+          turned answers.Absent t told_is history (asked.Claim seg) buf leads step made.stops refl made.made.effect.disk.faults_are made.counted_is Claim due refl
           (seg, (offered, lacks, same))
           pins
           (ap (λ (parts : List core_part.Part). part_of parts actor) claimed.parts_are ∙ gives.writing)
@@ -322,7 +323,8 @@ module _ (S : List ℕ → Type 0) (m : Machine) (sessions : Sessions) (actor : 
         let row = made.made.row in
         let pins_are : row.may.pins ≡ pins = same_pins row.may.pins pins (sym row.may.writing ∙ gives.writing) in
         let id_is : id ≡ suc m.last_id = omega (arith, row.id_is, at.running.begins.last_id_is) in
-        turned (answers.Sealed id) t told_is history (asked.Seal (open_of s mine)) buf leads step made.stops refl refl made.made.effect.disk.faults_are made.counted_is (Seal mine) due
+        turned (answers.Sealed id) t told_is history (asked.Seal (open_of s mine)) buf leads step made.stops refl made.made.effect.disk.faults_are made.counted_is (Seal mine) due
+        (ap (λ (k : Kind). disturbed (map (segment_key k) xs) m.collecting) kind_is)
         (adds id_is)
         sealed_more
         (part_now (core_parts.Writing (with_pins (open_of s mine).kind xs row.may.pins)) row.parts_are

@@ -17,7 +17,7 @@ use Rattle.ingest_session.specs.declared.due.Due.TheVariants.{Claim, Seal, Nothi
 use Rattle.ingest_session.specs.Due.{due_in, open_of}
 use Rattle.ingest_session.specs.State.{SessionState}
 use Rattle.plain_machine.specs.Machine.{Machine, Part, part_in}
-use Rattle.plain_machine.specs.Turns.{Writer, IsWriter, MachineTurns, MayBe, told, last_by}
+use Rattle.plain_machine.specs.Turns.{IsWriter, MachineTurns, MayBe, Writer, kept_by, last_by, told}
 use Rattle.script_runner.specs.Follows.{FollowsPart, IsCut}
 use Rattle.script_runner.specs.Sessions.{Sessions, session_of, with_session}
 use Rattle.session_turns.specs.Turns.{Asks, IsPaused, IsTurn, TurnRun}
@@ -32,9 +32,9 @@ use Rattle.script_runner.proofs.TurnRunning.{RunsAt}
 -- ---- what is cut
 
 -- an answer cuts nothing more
-module _ (m : Machine) (actor : ℕ) (answer : Answer) (image bytes : List ℕ) (last : ℕ) (below : actor < length m.parts) where
+module _ (m : Machine) (actor : ℕ) (answer : Answer) (image bytes : List ℕ) (last : ℕ) (keys : List (List ℕ)) (below : actor < length m.parts) where
   abbrev n : Machine
-  n = after m actor (told (part_in m actor) answer) image last
+  n = after m actor (told (part_in m actor) answer) image last keys
 
   abbrev Goes : Writer → Type 0
   Goes v = (file : List ℕ) → MayBe v file → IsSegmentOf file bytes
@@ -150,7 +150,7 @@ module _ (C : Type 0) (state : C → CoreState) (among : ByteSet) (distinct : Ha
       let now : Sessions = with_session sessions actor (Some mid) in
       let image : List ℕ = one.next.content in
       let before : (bytes : List ℕ) → IsCut one.next bytes → IsCut m bytes = λ bytes is.
-      cut_before m actor answer image bytes (last_by answer m.last_id) (omega (arith, below, at.parts_are)) (subst (λ (n : Machine). IsCut n bytes) one.turn.others is) in
+      cut_before m actor answer image bytes (last_by answer m.last_id) (kept_by one.turn.due one.turn.is_due.session answer) (omega (arith, below, at.parts_are)) (subst (λ (n : Machine). IsCut n bytes) one.turn.others is) in
       let rest = turns_made answers one.next now mid t run.1 new (λ bytes is. cut bytes (before bytes is)) one.at (session_put sessions actor (Some mid) (omega (arith, below, at.sessions_are))) run.3 in
       record {
         next = rest.next;

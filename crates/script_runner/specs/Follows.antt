@@ -11,6 +11,7 @@ use Rattle.container_meta.specs.Format.{kind_byte}
 use Rattle.container_meta.specs.Places.{PlaceMap}
 use Rattle.container_meta.specs.Segments.{Contents, Segment, has_key, segment_key}
 use Rattle.container_meta.specs.Spelling.{HeaderValue}
+use Rattle.merkle_file.specs.Node as node
 use Rattle.actor_parts.specs.declared.actor.TheConstants.{ACTORS}
 use Rattle.actor_parts.specs.declared.part.Part.TheVariants as core_parts
 use Rattle.actor_parts.specs.declared.part.Part as core_part
@@ -21,7 +22,9 @@ use Rattle.actor_parts.specs.PinMap.{PinMap}
 use Rattle.actor_parts.specs.Parts as core_parts_of
 use Rattle.actor_parts.specs.Segments.{pin_by}
 use Rattle.gc_steps.specs.FewSources.{HasFewSources, IsToChoose}
-use Rattle.gc_steps.specs.Sparing.{Spares}
+use Rattle.gc_enumerate.specs.Scanning.{child_keys}
+use Rattle.gc_steps.specs.LiveTrees.{HoldsNode}
+use Rattle.gc_steps.specs.Sparing.{IsWithin, Spares}
 use Rattle.gc_steps.specs.StepsToCome.{steps_to_come}
 use Rattle.gc_steps.specs.Taking.{TakesAll}
 use Rattle.gc_steps.specs.declared.collection.Collection.{Collection}
@@ -42,9 +45,9 @@ use Rattle.store_model.specs.Files.{Files, Stored}
 use Rattle.segment_index.specs.Places.{KnownMap}
 use Rattle.store_model.specs.Image.{Store}
 use Rattle.store_model.specs.Reserve.{HoldsCounted, IsReachable}
-use Rattle.store_model.specs.Slots.{HasKey}
+use Rattle.store_model.specs.Slots.{Copy as HeldCopy, HasKey}
 use Rattle.store_model.specs.Standing.{IsSegmentOf}
-use Rattle.store_model.specs.Trees.{file_tree, root_of}
+use Rattle.store_model.specs.Trees.{file_tree, node_key, root_of}
 use Rattle.store_state.specs.Settled.{IsSettled}
 use Rattle.store_state.specs.Tables.{Represents}
 use Rattle.store_core.specs.declared.stop.Stop.{Stop}
@@ -52,7 +55,7 @@ use Rattle.store_core.specs.Keeping.{IsHeldIn}
 use Rattle.store_core.specs.Core.{IndexesAll}
 use Rattle.store_core.specs.Runs.{IsAt}
 use Rattle.store_core.specs.State.{CoreState, IsUp}
-use Rattle.plain_machine.specs.Machine.{Collecting, Machine, Marking, Part, Idle, Progress, Recording, Sweeping, Writing, Finished, Reading, RunState, Running, Stopped, MayBeFound, part_in}
+use Rattle.plain_machine.specs.Machine.{Collecting, Machine, Marking, Part, Idle, Progress, Recording, Sweeping, Writing, Finished, Reading, RunState, Running, Stopped, MayBeFound, WasNeeded, part_in}
 use Rattle.plain_machine.specs.Refused.{actor_of}
 use Rattle.plain_machine.specs.Runs.{Step}
 use Rattle.plain_machine.specs.Through.{IsOfSome}
@@ -180,10 +183,25 @@ abbrev pub WroteOnce : Store → Collecting → CoreState → Type 0
 WroteOnce store k c = (key : List ℕ) → Contains k.written key → (collection : Collection) → c.collection ≡ Some collection
     → IsWritten store.held collection.snapshot collection.sweep.buffer key
 
--- both, of the collection that runs, if one does
+-- While it marks: of the children of each node that is held P holds, where it does of the node.
+abbrev pub IsClosedAt : Stage → (List ℕ → Type 0) → List (Option HeaderValue) → List ℕ → Type 0
+IsClosedAt (stages.Mark level at) P held image = (n : node.Contents) (copy : HeldCopy) → HoldsNode held image n copy → P (node_key n)
+    → (key : List ℕ) → Contains (child_keys n) key → P key
+IsClosedAt stage P held image = Unit {0}
+
+-- Only keys of which P holds are live; and none more will be by what is marked.
+pub record LivesWithin (P : List ℕ → Type 0) (store : Store) (c : CoreState) (collection : Collection) : Type 0 where
+  pub within : IsWithin P collection.live
+  pub closed : (image : List ℕ) → c.disk.content ≡ Some image → IsClosedAt collection.stage P store.held image
+
+-- only what was needed since it began is live
+abbrev pub LivesByNeed : Store → Collecting → CoreState → Type 0
+LivesByNeed store k c = (collection : Collection) → c.collection ≡ Some collection → LivesWithin (WasNeeded k.since) store c collection
+
+-- all three, of the collection that runs, if one does
 abbrev pub HoldsCollection : Files → Store → Option Collecting → CoreState → Type 0
 HoldsCollection files store None c = Unit {0}
-HoldsCollection files store (Some k) c = SparesAlone files store k c × WroteOnce store k c
+HoldsCollection files store (Some k) c = SparesAlone files store k c × WroteOnce store k c × LivesByNeed store k c
 
 -- The core is at a store of these files, and its disk is settled. The last id is this one; the collection that runs, if one does, is this
 -- one; and where no key left the index since the opening, it has each that the store holds.

@@ -12,7 +12,6 @@ use Rattle.dd_disk.proofs.Shows.{shown_content}
 use Rattle.disk_format.specs.declared.numbers.TheConstants.{LAST_ID}
 use Rattle.container_meta.specs.Places.{PlaceMap}
 use Rattle.container_meta.specs.Segments.{KindSegment}
-use Rattle.merkle_file.specs.declared.top.Top.{Top}
 use Rattle.actor_parts.specs.declared.actor.TheConstants.{ACTORS}
 use Rattle.actor_parts.specs.declared.part.Part as core_part
 use Rattle.actor_parts.specs.declared.part.Reader.{Reader}

@@ -1,16 +1,14 @@
 -- What is live was needed since the collection began: what a step of the collection leaves of that, made or refused.
-use Rattle.std.proofs.Common.{◌≡◌, ◌⊎◌, inl, inr, ℕ, List, ◌+◌, Option, None, Some, refl, sym, ◌∙◌, ap, subst}
+use Rattle.std.proofs.Common.{◌≡◌, inl, inr, ℕ, List, ◌+◌, Option, None, Some, refl, sym, ◌∙◌, ap, subst}
 use Rattle.std.specs.Prelude.{Contains}
-use Rattle.dd_disk.specs.Ending.{Ending}
 use Rattle.gc_enumerate.specs.Scanning.{child_keys}
 use Rattle.gc_steps.specs.declared.collection.Collection.{Collection}
 use Rattle.gc_steps.specs.declared.collection.Stage.{Stage}
 use Rattle.gc_steps.specs.declared.collection.Stage.TheVariants.{Filter, Mark, Select, Sweep}
 use Rattle.gc_steps.specs.LiveTrees.{HoldsNode}
-use Rattle.gc_steps.specs.Marking.{MarksOnly, Scans}
 use Rattle.gc_steps.specs.Sparing.{IsWithin}
 use Rattle.gc_steps.specs.Stages.{filter_at, filter_from, first_slot, is_old_slot}
-use Rattle.gc_steps.specs.Stepping.{Keeps, StepsTo, Touches, moment}
+use Rattle.gc_steps.specs.Stepping.{Keeps, StepsTo, moment}
 use Rattle.gc_steps.proofs.Sparing.{within_scanned, within_some}
 use Rattle.gc_sweep.specs.declared.sweep.Next.{Next}
 use Rattle.gc_sweep.specs.declared.sweep.Next.TheVariants.{Copy as CopyNext, End, Flush, Release}

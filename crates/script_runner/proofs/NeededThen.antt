@@ -1,7 +1,6 @@
 -- What actors need as a collection begins: the keys of its roots, and with a node's key those of its children.
-use Rattle.std.proofs.Common.{◌≡◌, ◌⊎◌, ◌<◌, ◌≤◌, inl, inr, ℕ, zero, suc, List, [], ◌∷◌, ◌++◌, length, map, Option, None, Some, refl, sym, ◌∙◌, ap, subst, arith}
+use Rattle.std.proofs.Common.{◌≡◌, ◌<◌, ◌≤◌, inl, inr, ℕ, zero, suc, List, [], ◌∷◌, ◌++◌, map, Option, None, Some, refl, sym, ◌∙◌, ap, subst, arith}
 use Rattle.std.specs.Prelude.{Contains, slice_get}
-use Rattle.std.specs.FinMap as finite
 use Rattle.std.proofs.lemmas.Bool.Decides.{eqb_tells}
 use Rattle.std.proofs.lemmas.List.Elements.{Contains-append_cases, Contains-append_left, Contains-append_right}
 use Rattle.actor_parts.specs.declared.actor.TheConstants.{ACTORS}
@@ -16,7 +15,7 @@ use Rattle.container_meta.specs.Segments.{Segment, segment_key}
 use Rattle.gc_enumerate.specs.Scanning.{child_keys}
 use Rattle.gc_steps.specs.LiveTrees.{HoldsNode}
 use Rattle.gc_steps.specs.Roots.{IsPartKey, IsRoot}
-use Rattle.gc_steps.proofs.FileKeys.{key_of_root, name_reachable, reachable_closed, tree_closed}
+use Rattle.gc_steps.proofs.FileKeys.{key_of_root, name_reachable, tree_closed}
 use Rattle.gc_steps.proofs.Marked.{contains_first, contains_head, contains_next, contains_none}
 use Rattle.gc_steps.proofs.RootTrees.{top_of}
 use Rattle.ingest_session.specs.Facts.{IsKept, kept}
@@ -26,7 +25,7 @@ use Rattle.merkle_file.specs.Node as node
 use Rattle.store_model.specs.Collisions.{ByteSet, IsIn}
 use Rattle.store_model.specs.Files.{Stored}
 use Rattle.store_model.specs.Image.{Store, names_of}
-use Rattle.store_model.specs.Reserve.{IsReachable, tree_keys}
+use Rattle.store_model.specs.Reserve.{tree_keys}
 use Rattle.store_model.specs.Slots.{Copy, HasKey}
 use Rattle.store_model.specs.Trees.{file_tree, node_key}
 use Rattle.store_model.proofs.Unfolding.{right_file, root_of_tree}
@@ -34,9 +33,9 @@ use Rattle.store_state.specs.Invariant.{HoldsPart}
 use Rattle.store_core.specs.Runs.{IsAt}
 use Rattle.store_core.specs.State.{CoreState}
 use Rattle.store_core.proofs.OwnParts.{all_part}
-use Rattle.plain_machine.specs.Machine.{Finished, Idle, Machine, Part, Reading, Since, WasNeeded, Writing, part_in}
+use Rattle.plain_machine.specs.Machine.{Finished, Idle, Machine, Part, Reading, WasNeeded, Writing, part_in}
 use Rattle.plain_machine.specs.Needs.{IsActorsNeed, IsNeededAt}
-use Rattle.script_runner.specs.Follows.{FollowsPart, HasKeptKey, IsClosedAt}
+use Rattle.script_runner.specs.Follows.{FollowsPart, HasKeptKey}
 use Rattle.script_runner.specs.Sessions.{Sessions, session_of}
 use Rattle.script_runner.proofs.CollectNeeds.{needs_closed, needs_here}
 use Rattle.script_runner.proofs.Lives.{IsClosed}

@@ -120,6 +120,8 @@ pub record LeavesSafe (c : Collection) (index : PlaceMap) (store : Store) (files
   pub core : CoreInvariant later store_now files parts now
   pub safe : IsSafe later store_now parts now d
   pub spares : Spares later store store_now parts image now
+  -- what was live is so still
+  pub lives : (key : List ℕ) → IsLive index c.live key → IsLive later d.live key
 
 -- ---- lists
 
@@ -219,8 +221,8 @@ module _ (index : PlaceMap) (store : Store) (files : Files) (parts : List Part) 
 
   -- Where store, tables and index stay.
   all_kept : IsStoreAfter c.stage c.sweep.next c.snapshot c.sweep index store store image → known ≡ Some index → u ≡ t → new.size ≡ old.size → StandsFor (Stands (IsIn among) store files) new → Newest
-      → IsSafe index store parts now d → LeavesSafe c index store files parts image now among u known new d
-  all_kept store_is known_is same size after keeps safe = record {
+      → IsSafe index store parts now d → ((key : List ℕ) → IsLive index c.live key → IsLive index d.live key) → LeavesSafe c index store files parts image now among u known new d
+  all_kept store_is known_is same size after keeps safe lives = record {
     later = index;
     known_is = known_is;
     store_now = store;
@@ -231,14 +233,23 @@ module _ (index : PlaceMap) (store : Store) (files : Files) (parts : List Part) 
     core = core_kept index store files parts image now core keeps;
     safe = safe;
     spares = λ key needed. (needed_indexed key needed, λ level bytes has. keeps key level bytes has);
+    lives = lives;
   }
 
   all_read : IsStoreAfter c.stage c.sweep.next c.snapshot c.sweep index store store image → known ≡ Some index → u ≡ t → OnlyReads old new → IsSafe index store parts image d
-      → LeavesSafe c index store files parts image now among u known new d
-  all_read store_is known_is same only safe =
+      → ((key : List ℕ) → IsLive index c.live key → IsLive index d.live key) → LeavesSafe c index store files parts image now among u known new d
+  all_read store_is known_is same only safe lives =
       all_kept store_is known_is same only.later.size_is (read_stands store files image now old new among content content_now stands only)
       (read_keeps store files image now old new among content content_now stands only)
-      (subst (λ (i : List ℕ). IsSafe index store parts i d) (sym (read_same store files image now old new among content content_now stands only)) safe)
+      (subst (λ (i : List ℕ). IsSafe index store parts i d) (sym (read_same store files image now old new among content content_now stands only)) safe) lives
+
+  -- the same keys are live
+  same_lives : d.live ≡ c.live → (key : List ℕ) → IsLive index c.live key → IsLive index d.live key
+  same_lives same key is = subst (λ (l : LiveKeys). IsLive index l key) (sym same) is
+
+  -- keys more are
+  more_live : (level slot : ℕ) → Scans t.held (Some index) old new level slot c d → (key : List ℕ) → IsLive index c.live key → IsLive index d.live key
+  more_live level slot scans key is = (is.0, (is.1.0, (scans.scanned.marks.marks key is.0).1 (inl is.1.1)))
 
   abbrev After : Stage → Next → Type 0
   After stage next = IsStoreAfter stage next c.snapshot c.sweep index store store image
@@ -250,6 +261,7 @@ module _ (index : PlaceMap) (store : Store) (files : Files) (parts : List Part) 
       (marks_safe index store parts image d
       (scan_keeps index store files parts image t old new level slot c d holds represents content stage_is marks (at_stage t.held c (Mark level slot) under stage_is).2.0 scans)
       (mark_from c.snapshot t.held level (slot + 1)) (ap (λ (x : Collection). x.stage) scans.collection_is) (early_from c.snapshot t.held level (slot + 1)))
+      (more_live level slot scans)
 
   filter_leaves : (slot : ℕ) (next : Next) → SweepIsSafe index store parts image c → Records t.held (Some index) old new slot c d → known ≡ Some index → u ≡ t → OnlyReads old new → Leaves (Filter slot) next
   filter_leaves slot next safe records known_is same only stage_is next_is =
@@ -259,6 +271,7 @@ module _ (index : PlaceMap) (store : Store) (files : Files) (parts : List Part) 
       (sweep_safe index store parts image d (λ level other is. filter_no_mark found level other (sym stage ∙ is))
       (restaged index store parts image c d (ap (λ (x : Collection). x.live) records.collection_is) (ap (λ (x : Collection). x.snapshot) records.collection_is)
       (subst (λ (s : Stage). HoldsAt s index store.held image d) (sym stage) (filter_holds index store.held image d found)) safe))
+      (same_lives (ap (λ (x : Collection). x.live) records.collection_is))
 
   -- the sweep that there is then holds
   swept : (later : PlaceMap) (store_now : Store) (i : List ℕ) → RepresentsSlots store_now.held u.held → d.stage ≡ Sweep → HoldsSweep later store_now.held i d.live d.snapshot d.sweep
@@ -275,10 +288,11 @@ module _ (index : PlaceMap) (store : Store) (files : Files) (parts : List Part) 
       (restaged index store parts image c d (ap (λ (x : Collection). x.live) chooses.collection_is) (ap (λ (x : Collection). x.snapshot) chooses.collection_is)
       (swept index store image (subst (λ (x : Tables). RepresentsSlots store.held x.held) (sym same) represents.slots_hold) stage
       (begun_holds t.held d.sweep.sources.items d.sweep index store.held image d.live d.snapshot chooses.begins)) safe))
+      (same_lives (ap (λ (x : Collection). x.live) chooses.collection_is))
 
   end_leaves : IsSafe index store parts image c → d ≡ c → known ≡ Some index → u ≡ t → OnlyReads old new → Leaves Sweep End
   end_leaves safe is known_is same only stage_is next_is =
-      all_read (at_stage_next After Sweep End stage_is next_is refl) known_is same only (subst (λ (x : Collection). IsSafe index store parts image x) (sym is) safe)
+      all_read (at_stage_next After Sweep End stage_is next_is refl) known_is same only (subst (λ (x : Collection). IsSafe index store parts image x) (sym is) safe) (same_lives (ap (λ (x : Collection). x.live) is))
 
   -- ---- the sweep
 
@@ -344,6 +358,7 @@ module _ (index : PlaceMap) (store : Store) (files : Files) (parts : List Part) 
         spares = λ key needed.
             let live = needed_live key needed in
             let then = left.stays key live in ((then.0, then.1.0), λ level bytes has. left.copies key level bytes live has);
+        lives = λ key is. subst (λ (l : LiveKeys). IsLive later l key) (sym (ap (λ (x : Collection). x.live) on)) (left.stays key is);
       }
 
     -- live entries stay so

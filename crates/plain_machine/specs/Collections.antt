@@ -1,8 +1,7 @@
 -- Collections, step by step: it is recorded how much of each container is live, segments of the containers that are chosen by that are
 -- copied, and these containers are given back (docs/MODEL.md, 'The plain machine').
-use Rattle.std.specs.Prelude.{◌≡◌, ◌⊎◌, ℕ, suc, ◌+◌, ◌*◌, ◌<◌, ◌≤◌, Bool, true, false, if◌then◌else◌, nat_lt, List, [], ◌∷◌, ◌++◌, length, slice_get, Contains, Option, None, Some, IsSome}
+use Rattle.std.specs.Prelude.{◌≡◌, ◌⊎◌, ℕ, suc, ◌+◌, ◌*◌, ◌<◌, ◌≤◌, Bool, true, false, if◌then◌else◌, nat_lt, List, [], ◌∷◌, ◌++◌, length, slice_get, Option, None, Some, IsSome}
 use Rattle.base_model.specs.Fault.{Rose}
-use Rattle.container_meta.specs.declared.entry.Entry.{Entry}
 use Rattle.container_meta.specs.declared.kind.Kind.{Kind}
 use Rattle.container_meta.specs.declared.kind.Kind.TheVariants.{Leaf, Tree}
 use Rattle.container_meta.specs.Spelling.{HeaderValue, bytes_of}
@@ -15,11 +14,11 @@ use Rattle.refusals.specs.declared.refusal.Refusal.TheVariants.{Memory, NotColle
 use Rattle.disk_format.specs.declared.numbers.TheConstants.{LAST_ID}
 use Rattle.store_model.specs.Files.{Files}
 use Rattle.store_model.specs.Image.{Encodes, Store}
-use Rattle.store_model.specs.Needed.{IsNeededCopy, Needs}
+use Rattle.store_model.specs.Needed.{Needs}
 use Rattle.store_model.specs.Reserve.{HoldsJustNeeded, IsReachable, IsSpare}
-use Rattle.plain_machine.specs.Content.{AddsCopies, BreaksCopies, BreaksGate, FreesContainer, IsToCopy, OfStore, SameStore}
+use Rattle.plain_machine.specs.Content.{AddsCopies, BreaksCopies, BreaksGate, FreesContainer, IsOfCopied, IsToCopy, OfStore, SameStore}
 use Rattle.plain_machine.specs.Machine.{Collecting, Machine, Marking, Progress, Recording, Since, Stopped, Sweeping, WasNeeded, are_idle}
-use Rattle.plain_machine.specs.Needs.{IsActorsNeed}
+use Rattle.plain_machine.specs.Needs.{ActorsNeed}
 use Rattle.plain_machine.specs.Turns.{Stays}
 
 -- ---- how long one takes at most
@@ -51,15 +50,14 @@ most_steps held = 6 * trees_in held + 6 * containers_in held + 3
 
 -- ---- what it does
 
--- One begins where none ran. Its snapshot is the next id. Needed are then what the files need that the names have, and these keys, each of
--- which an actor needs.
+-- One begins where none ran. Its snapshot is the next id. Needed are then what the files need that the names have, and what actors need.
 pub record BeginsCollection (percent snapshot : ℕ) (m n : Machine) : Type 0 where
   pub none_ran : m.collecting ≡ None
   pub snapshot_is : snapshot ≡ suc m.last_id
   pub most : ℕ
   pub most_is : OfStore m.content (λ store. most ≡ most_steps store.held)
-  pub kept : List (List ℕ)
-  pub kept_are : (key : List ℕ) → Contains kept key → IsActorsNeed m key
+  pub needed : List (List ℕ)
+  pub needed_are : ActorsNeed m needed
   pub others : n ≡ record m {
     collecting = Some (record {
       percent = percent;
@@ -71,20 +69,13 @@ pub record BeginsCollection (percent snapshot : ℕ) (m n : Machine) : Type 0 wh
       written = [];
       recorded = [];
       alone = are_idle m.parts;
-      since = record { files = m.stored.files; kept = kept };
+      since = record { files = m.stored.files; keys = needed };
     });
   }
 
--- So many bytes are those of some of the entries, each of which is the newest copy of a key of which P holds.
-abbrev pub SumsSome : (List ℕ → Type 0) → List (Option HeaderValue) → Kind → ℕ → List Entry → ℕ → Type 0
-SumsSome P held kind slot [] sum = sum ≡ 0
-SumsSome P held kind slot (e ∷ es) sum =
-    (IsNeededCopy P held kind slot e × ((rest : ℕ) × (sum ≡ e.length + rest) × SumsSome P held kind slot es rest))
-    ⊎ SumsSome P held kind slot es sum
-
 -- What is recorded of a container that came before the snapshot: its id, its kind, all bytes of its entries, and how many of these count
--- as live: no fewer than the files need, and none but of keys that were needed since the collection began (Was); and just so many as the
--- files need where it runs alone.
+-- as live: those of newest copies of keys that were needed as the collection began, or since (Was). They are no fewer than the files need,
+-- and just so many where it runs alone.
 pub record IsRecordOf (alone : Bool) (files : Files) (Was : List ℕ → Type 0) (snapshot : ℕ) (content : List ℕ) (r : ContainerLiveness)
     : Type 0 where
   pub store : Store
@@ -96,11 +87,11 @@ pub record IsRecordOf (alone : Bool) (files : Files) (Was : List ℕ → Type 0)
   pub id_is : r.id ≡ header.id
   pub kind_is : r.kind ≡ header.kind
   pub all_is : r.all ≡ bytes_of header.entries
+  pub live_is : Needs Was store.held slot header r.live
   pub needed : ℕ
   pub sums : Needs (IsReachable files) store.held slot header needed
   pub at_least : needed ≤ r.live
   pub at_most : r.live ≤ r.all
-  pub was_needed : SumsSome Was store.held header.kind slot header.entries r.live
   pub exact : alone ≡ true → r.live ≡ needed
 
 -- What a step records: a filter step one container, the next one, in the order of slots, of those that came before the snapshot, behind
@@ -114,16 +105,21 @@ RecordsBy Select alone Was snapshot m recorded next =
     (next ≡ recorded) × OfStore m.content (λ store. ids_of recorded ≡ ids_before snapshot store.held)
 RecordsBy phase alone Was snapshot m recorded next = next ≡ recorded
 
--- What a step changes: a flush adds a container of so many copies, of keys that were needed since it began (Was), whose newest copies are in
--- containers whose ids are chosen or that came since the snapshot, none of them a key that the collection wrote before; and where it runs
--- alone just of keys that files need, with newest copies in those that are chosen. A release gives a container back that came before the
--- snapshot, whose id is chosen, and that no file needs. No other step changes anything.
+-- a file needs the key, or it was needed so
+abbrev pub IsNeededOr : Files → (Was : List ℕ → Type 0) → List ℕ → Type 0
+IsNeededOr files Was key = IsReachable files key ⊎ Was key
+
+-- What a step changes: a flush adds a container of so many copies, of keys that were needed as the collection began, or since (Was), whose
+-- newest copies are in containers whose ids are chosen or that came since the snapshot, none of them a key that it wrote before; and where
+-- it runs alone just of keys that files need, with newest copies in those that are chosen. A release gives a container back that came before
+-- the snapshot, whose id is chosen, and that holds the newest copy of no key that a file needs, or that was needed so. No other step changes
+-- anything.
 abbrev pub ChangesBy : Phase → (alone : Bool) → (Was : List ℕ → Type 0) → (Chosen : ℕ → Type 0) → (snapshot copies : ℕ)
     → (written later : List (List ℕ)) → Machine → List ℕ → Type 0
 ChangesBy Flush alone Was Chosen snapshot copies written later m new =
     AddsCopies alone (IsReachable m.stored.files) Was Chosen snapshot m.last_id copies written later m.content new
 ChangesBy Release alone Was Chosen snapshot copies written later m new =
-    (copies ≡ 0) × (later ≡ written) × FreesContainer (IsReachable m.stored.files) Chosen snapshot m.content new
+    (copies ≡ 0) × (later ≡ written) × FreesContainer (IsNeededOr m.stored.files Was) Chosen snapshot m.content new
 ChangesBy phase alone Was Chosen snapshot copies written later m new = (copies ≡ 0) × (later ≡ written) × SameStore m.content new
 
 -- the last id is another after a flush
@@ -173,11 +169,14 @@ abbrev pub IsCollecting : Phase → Option Collecting → Type 0
 IsCollecting phase None = ⊥
 IsCollecting phase (Some running) = MayCome phase running.progress
 
--- where it runs alone, there is a key that is to be copied
+-- there is a key that may be copied, and where it runs alone one that is to be copied
 abbrev pub HasToCopy : Option Collecting → Machine → Type 0
 HasToCopy None m = ⊥
-HasToCopy (Some running) m = running.alone ≡ true → OfStore m.content (λ store. (key : List ℕ)
-    × IsToCopy (IsReachable m.stored.files) (IsSelectedId running.snapshot running.percent running.recorded) store.held key)
+HasToCopy (Some running) m =
+    OfStore m.content (λ store. (key : List ℕ) × IsOfCopied (WasNeeded running.since)
+    (IsSelectedId running.snapshot running.percent running.recorded) running.snapshot store.held key)
+    × (running.alone ≡ true → OfStore m.content (λ store. (key : List ℕ)
+    × IsToCopy (IsReachable m.stored.files) (IsSelectedId running.snapshot running.percent running.recorded) store.held key))
 
 -- its next step may read the disk: it marks, records, copies, or writes what was copied
 abbrev pub MayRead : Option Collecting → Type 0
@@ -277,11 +276,11 @@ Sweeps freed copied m n = (phases : List Phase) × ((mid : Machine) × (Collecti
 -- ---- what is refused
 
 -- what a write that failed leaves of the content, by the step that had it; other steps write nothing
-abbrev pub BreaksBy : Phase → (Chosen : ℕ → Type 0) → ℕ → Machine → List ℕ → Type 0
-BreaksBy Copy Chosen snapshot m new = SameStore m.content new
-BreaksBy Flush Chosen snapshot m new = (m.last_id < LAST_ID) × BreaksCopies m.content new
-BreaksBy Release Chosen snapshot m new = BreaksGate (IsReachable m.stored.files) Chosen snapshot m.content new
-BreaksBy phase Chosen snapshot m new = ⊥
+abbrev pub BreaksBy : Phase → (Was : List ℕ → Type 0) → (Chosen : ℕ → Type 0) → ℕ → Machine → List ℕ → Type 0
+BreaksBy Copy Was Chosen snapshot m new = SameStore m.content new
+BreaksBy Flush Was Chosen snapshot m new = (m.last_id < LAST_ID) × BreaksCopies m.content new
+BreaksBy Release Was Chosen snapshot m new = BreaksGate (IsNeededOr m.stored.files Was) Chosen snapshot m.content new
+BreaksBy phase Was Chosen snapshot m new = ⊥
 
 -- A step of the collection that runs, one that may come, broke off.
 pub record BreaksStep (m : Machine) (new : List ℕ) : Type 0 where
@@ -289,10 +288,10 @@ pub record BreaksStep (m : Machine) (new : List ℕ) : Type 0 where
   pub ran : m.collecting ≡ Some running
   pub phase : Phase
   pub may : MayCome phase running.progress
-  pub breaks : BreaksBy phase (IsSelectedId running.snapshot running.percent running.recorded) running.snapshot m new
+  pub breaks : BreaksBy phase (WasNeeded running.since) (IsSelectedId running.snapshot running.percent running.recorded) running.snapshot m new
 
--- Why no step is made. Copies are not written where no id is left; where it runs alone there are some to be written then. Where a write or
--- a sync failed the store is stopped.
+-- Why no step is made. Copies are not written where no id is left, and there are some to be written. Where a write or a sync failed the store
+-- is stopped.
 abbrev pub RefusesCollectionStep : Refusal → Machine → Machine → Type 0
 RefusesCollectionStep NotCollecting m n = (m.collecting ≡ None) × (n ≡ m)
 RefusesCollectionStep Memory m n = IsSome m.collecting × Stays m n

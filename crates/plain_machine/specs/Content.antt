@@ -126,8 +126,8 @@ pub record IsToCopy (P : List ℕ → Type 0) (Chosen : ℕ → Type 0) (held : 
   pub copy_is : newest 0 held key ≡ Some copy
   pub chosen : Chosen copy.id
 
--- A key that was copied, of those of which Was holds: its newest copy is in a container whose id is chosen, or in one of an id from the
--- snapshot on, since another actor may have sealed it once more meanwhile.
+-- A key that may be copied, of those that were needed as the collection began, or since (Was): its newest copy is in a container whose id is
+-- chosen, or in one of an id from the snapshot on, since another actor may have sealed it once more meanwhile.
 pub record IsOfCopied (Was : List ℕ → Type 0) (Chosen : ℕ → Type 0) (snapshot : ℕ) (held : List (Option HeaderValue)) (key : List ℕ)
     : Type 0 where
   pub needed : Was key
@@ -136,10 +136,9 @@ pub record IsOfCopied (Was : List ℕ → Type 0) (Chosen : ℕ → Type 0) (sna
   pub from : Chosen copy.id ⊎ (snapshot ≤ copy.id)
 
 -- Copies were written: a container of so many segments, each of which was held, stands in the free slot of least number, under the id after
--- the last one, and all else is as it was. Of the key of each Was holds, and its newest copy was in a container that is chosen, or in one that
--- came since the snapshot; and none of the keys is one that the collection wrote before, to which they are added then. So no key is copied twice.
--- Where a collection runs alone the key of each was to be copied; and then it is to be copied no more, since its newest copy has an id above
--- all that are chosen.
+-- the last one, and all else is as it was. The key of each might be copied, and is none that the collection wrote before, to which they are
+-- added then. So no key is copied twice. Where a collection runs alone the key of each was to be copied; and then it is to be copied no more,
+-- since its newest copy has an id above all that are chosen.
 pub record AddsCopies (alone : Bool) (P Was : List ℕ → Type 0) (Chosen : ℕ → Type 0) (snapshot last count : ℕ)
     (written later : List (List ℕ)) (old new : List ℕ) : Type 0 where
   pub store : Store

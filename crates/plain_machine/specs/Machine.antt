@@ -59,15 +59,15 @@ abbrev pub stopped_by : RunState → RunState
 stopped_by Running = Stopped None
 stopped_by (Stopped other) = Stopped other
 
--- What was needed at some time since a collection began: what these files need, which the names had then; and these keys, which an actor
--- needed then, or a turn has kept since.
+-- What was needed as a collection began, or since: what these files need, which the names had as it began; and these keys, which actors needed
+-- as it began, or turns have kept since.
 pub record Since : Type 0 where
   pub files : Files
-  pub kept : List (List ℕ)
+  pub keys : List (List ℕ)
 
--- so was the key
+-- the key was needed as it began, or since
 abbrev pub WasNeeded : Since → List ℕ → Type 0
-WasNeeded since key = IsReachable since.files key ⊎ Contains since.kept key
+WasNeeded since key = IsReachable since.files key ⊎ Contains since.keys key
 
 -- A collection that runs, of this percentage: only containers of ids below its snapshot are given back; so far it has come, so many steps
 -- of it may come at most before its end, and so many containers were given back and so many segments copied and written.
@@ -84,13 +84,13 @@ pub record Collecting : Type 0 where
   pub recorded : List ContainerLiveness
   -- no actor was at anything when it began, and since then no turn was answered, and no name has changed
   pub alone : Bool
-  -- what was needed since it began
+  -- what was needed as it began, or since
   pub since : Since
 
 -- the same, once something else was done beside it, which kept these keys
 abbrev pub disturbed : List (List ℕ) → Option Collecting → Option Collecting
 disturbed keys None = None
-disturbed keys (Some k) = Some (record k { alone = false; since = record k.since { kept = k.since.kept ++ keys } })
+disturbed keys (Some k) = Some (record k { alone = false; since = record k.since { keys = k.since.keys ++ keys } })
 
 pub record Machine : Type 0 where
   -- names to files, and the last sequence number that was given out

@@ -22,8 +22,9 @@ use Rattle.actor_parts.specs.PinMap.{PinMap}
 use Rattle.actor_parts.specs.Parts as core_parts_of
 use Rattle.actor_parts.specs.Segments.{pin_by}
 use Rattle.gc_steps.specs.FewSources.{HasFewSources, IsToChoose}
+use Rattle.gc_enumerate.specs.Live.{LiveKeys}
 use Rattle.gc_enumerate.specs.Scanning.{child_keys}
-use Rattle.gc_steps.specs.LiveTrees.{HoldsNode}
+use Rattle.gc_steps.specs.LiveTrees.{HoldsNode, IsWhole}
 use Rattle.gc_steps.specs.Sparing.{IsWithin, Spares}
 use Rattle.gc_steps.specs.StepsToCome.{steps_to_come}
 use Rattle.gc_steps.specs.Taking.{TakesAll}
@@ -33,6 +34,7 @@ use Rattle.gc_steps.specs.declared.collection.Stage.TheVariants as stages
 use Rattle.gc_sweep.specs.declared.sweep.Next.{Next}
 use Rattle.gc_sweep.specs.declared.sweep.Next.TheVariants.{Copy, Flush, Release, End}
 use Rattle.gc_sweep.specs.declared.sweep.Sweep.{Sweep as SweepValue}
+use Rattle.gc_sweep.specs.Holding.{IsLive}
 use Rattle.gc_sweep.specs.UnderWay.{sources_before}
 use Rattle.ingest_session.specs.Facts.{IsKept}
 use Rattle.ingest_session.specs.History.{History, HasHistory}
@@ -44,7 +46,7 @@ use Rattle.store_model.specs.Collisions.{HasNoCollisions, ByteSet, IsIn, OpensAs
 use Rattle.store_model.specs.Files.{Files, Stored}
 use Rattle.segment_index.specs.Places.{KnownMap}
 use Rattle.store_model.specs.Image.{Store}
-use Rattle.store_model.specs.Reserve.{HoldsCounted, IsReachable}
+use Rattle.store_model.specs.Reserve.{HoldsCounted, IsReachable, tree_keys}
 use Rattle.store_model.specs.Slots.{Copy as HeldCopy, HasKey}
 use Rattle.store_model.specs.Standing.{IsSegmentOf}
 use Rattle.store_model.specs.Trees.{file_tree, node_key, root_of}
@@ -189,14 +191,28 @@ IsClosedAt (stages.Mark level at) P held image = (n : node.Contents) (copy : Hel
     → (key : List ℕ) → Contains (child_keys n) key → P key
 IsClosedAt stage P held image = Unit {0}
 
--- Only keys of which P holds are live; and none more will be by what is marked.
-pub record LivesWithin (P : List ℕ → Type 0) (store : Store) (c : CoreState) (collection : Collection) : Type 0 where
+-- The key is one of the tree of a live key, which is held whole.
+pub record IsBelowLive (index : PlaceMap) (held : List (Option HeaderValue)) (image : List ℕ) (live : LiveKeys) (key : List ℕ) : Type 0 where
+  pub root : List ℕ
+  pub is_live : IsLive index live root
+  pub tree : IsWhole index held image root
+  pub there : Contains (tree_keys tree.whole) key
+
+-- While it marks each key of which P holds is one below a live key; then it is live.
+abbrev pub IsLiveAtStage : Stage → PlaceMap → List (Option HeaderValue) → List ℕ → LiveKeys → List ℕ → Type 0
+IsLiveAtStage (stages.Mark level at) index held image live key = IsBelowLive index held image live key
+IsLiveAtStage stage index held image live key = IsLive index live key
+
+-- Just keys of which P holds are live, once it has marked.
+pub record LivesJust (P : List ℕ → Type 0) (store : Store) (c : CoreState) (collection : Collection) : Type 0 where
   pub within : IsWithin P collection.live
   pub closed : (image : List ℕ) → c.disk.content ≡ Some image → IsClosedAt collection.stage P store.held image
+  pub all : (index : PlaceMap) (image : List ℕ) → c.known ≡ Some index → c.disk.content ≡ Some image → (key : List ℕ) → P key
+      → IsLiveAtStage collection.stage index store.held image collection.live key
 
--- only what was needed since it began is live
+-- just what was needed as it began, or since, is live
 abbrev pub LivesByNeed : Store → Collecting → CoreState → Type 0
-LivesByNeed store k c = (collection : Collection) → c.collection ≡ Some collection → LivesWithin (WasNeeded k.since) store c collection
+LivesByNeed store k c = (collection : Collection) → c.collection ≡ Some collection → LivesJust (WasNeeded k.since) store c collection
 
 -- all three, of the collection that runs, if one does
 abbrev pub HoldsCollection : Files → Store → Option Collecting → CoreState → Type 0
